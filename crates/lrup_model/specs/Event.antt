@@ -1,0 +1,43 @@
+-- Events of the clause map, one for each call of fetch, publish and retire, and histories, which are lists of them (this project's own).
+-- A clause stands in an event as the list in the order in which the map keeps it, and is read as a set.
+use Rattle.std.specs.Prelude.{◌+◌, ◌==◌, ℕ, List, [], ◌∷◌, length}
+use Rattle.std.specs.List.{filter, sum_by}
+use Rattle.lrup_model.specs.Clause.{Clause}
+use Rattle.lrup_model.specs.declared.clause_map.Published.{Published}
+use Rattle.lrup_model.specs.declared.clause_map.Published.TheVariants as publishing
+use Rattle.lrup_model.specs.declared.clause_map.Retired.{Retired}
+
+-- the reply to a fetch
+pub data Reply : Type 0 where
+  vacant : Reply
+  live : Clause → Reply
+  retired : Reply
+
+-- each with the stream that calls and the identity
+pub data Event : Type 0 where
+  fetch : ℕ → ℕ → Reply → Event
+  publish : ℕ → ℕ → Clause → Published → Event
+  retire : ℕ → ℕ → Retired → Event
+
+abbrev pub History : Type 0
+History = List Event
+
+abbrev pub stream_of : Event → ℕ
+stream_of (fetch s id r) = s
+stream_of (publish s id c r) = s
+stream_of (retire s id r) = s
+
+-- the events of one stream, in order
+abbrev pub own : History → ℕ → History
+own h s = filter (λ e. stream_of e == s) h
+
+-- the literals that an event takes of its stream's room
+abbrev pub size_of : Event → ℕ
+size_of (fetch s id r) = 0
+size_of (publish s id c publishing.Done) = length c
+size_of (publish s id c publishing.Taken) = 0
+size_of (retire s id r) = 0
+
+-- the sizes of the clauses that a stream published with Done, added up
+abbrev pub spent : ℕ → History → ℕ
+spent s h = sum_by size_of (own h s)

@@ -1,0 +1,34 @@
+-- Formulas in conjunctive normal form (textbook; the limits are this project's own).
+use Rattle.std.specs.Prelude.{◌≡◌, ◌-◌, ◌≤◌, ℕ, List, [], ◌∷◌, length, slice_index_or}
+use Rattle.std.specs.List.{AllByRecursion, sum_by}
+use Rattle.lrup_model.specs.Literal.{max_variable}
+use Rattle.lrup_model.specs.Clause.{Clause, IsClause}
+
+-- a number of variables, and the clauses in the order of the file
+pub record Cnf : Type 0 where
+  pub vars : ℕ
+  pub clauses : List Clause
+
+-- the greatest count of clauses, and of the literals of one clause
+abbrev pub max_clauses : ℕ
+max_clauses = 16777215
+
+abbrev pub max_clause_literals : ℕ
+max_clause_literals = 1048575
+
+-- a clause that a formula over these variables may have
+abbrev pub IsFormulaClause : ℕ → Clause → Type 0
+IsFormulaClause vars c = IsClause vars c × (length c ≤ max_clause_literals)
+
+pub record IsCnf (f : Cnf) : Type 0 where
+  pub vars : f.vars ≤ max_variable
+  pub count : length f.clauses ≤ max_clauses
+  pub clauses : AllByRecursion (IsFormulaClause f.vars) f.clauses
+
+-- clause i of the formula, for i from 1 on
+abbrev pub clause_at : Cnf → ℕ → Clause
+clause_at f i = slice_index_or f.clauses (i - 1) []
+
+-- the literals of all clauses, repeats inside a clause not counted
+abbrev pub literals_of : Cnf → ℕ
+literals_of f = sum_by length f.clauses

@@ -1,0 +1,61 @@
+-- The numbers of a run and who owns an identity. Identities by residue, and the limits, are this project's own.
+use Rattle.std.specs.Prelude.{◌≡◌, ◌+◌, ◌-◌, ◌*◌, ◌%◌, ◌≤◌, ◌<◌, ◌^◌, ℕ, length, if◌then◌else◌, nat_eq, nat_le}
+use Rattle.lrup_model.specs.Literal.{max_variable}
+use Rattle.lrup_model.specs.Formula.{Cnf, max_clauses, literals_of}
+use Rattle.lrup_model.specs.declared.layout.Owner.{Owner}
+use Rattle.lrup_model.specs.declared.layout.Owner.TheVariants as owners
+
+-- variables, clauses and literals of the formula, streams, identities a stream, and literals that a stream has room for
+pub record Plan : Type 0 where
+  pub vars : ℕ
+  pub clauses : ℕ
+  pub literals : ℕ
+  pub streams : ℕ
+  pub lines : ℕ
+  pub room : ℕ
+
+abbrev pub max_streams : ℕ
+max_streams = 64
+
+abbrev pub max_row_words : ℕ
+max_row_words = 268435456
+
+-- the last identity: the formula's clauses come first, then the streams' by turns
+abbrev pub last_identity : Plan → ℕ
+last_identity p = p.clauses + p.streams * p.lines
+
+-- the words of the shared row: one that stays 0, one an identity, one a literal
+abbrev pub row_words : Plan → ℕ
+row_words p = 1 + last_identity p + p.literals + p.streams * p.room
+
+pub record IsPlan (p : Plan) : Type 0 where
+  pub vars : p.vars ≤ max_variable
+  pub clauses : p.clauses ≤ max_clauses
+  pub some_stream : 0 < p.streams
+  pub streams : p.streams ≤ max_streams
+  pub row : row_words p ≤ max_row_words
+
+-- the layout is one for this formula
+pub record Fits (p : Plan) (f : Cnf) : Type 0 where
+  pub vars : p.vars ≡ f.vars
+  pub clauses : p.clauses ≡ length f.clauses
+  pub literals : p.literals ≡ literals_of f
+
+abbrev pub IsIdentity : Plan → ℕ → Type 0
+IsIdentity p id = (0 < id) × (id ≤ last_identity p)
+
+-- the streams, from 1 on, take the identities behind the formula's by turns
+abbrev pub owner : Plan → ℕ → Owner
+owner p id =
+    if nat_eq id 0 then owners.Outside
+    else if nat_le id p.clauses then owners.Formula
+    else if nat_le id (last_identity p) then owners.Stream ((id - p.clauses - 1) % p.streams + 1)
+    else owners.Outside
+
+-- the identity is the stream's own
+abbrev pub Owns : Plan → ℕ → ℕ → Type 0
+Owns p s id = owner p id ≡ owners.Stream s
+
+-- the stream is one of the layout's
+abbrev pub IsStream : Plan → ℕ → Type 0
+IsStream p s = (0 < s) × (s ≤ p.streams)

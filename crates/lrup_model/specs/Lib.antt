@@ -1,0 +1,13 @@
+pub mod Literal
+pub mod Clause
+pub mod Formula
+pub mod Pieces
+pub mod Entailment
+pub mod Layout
+pub mod Event
+pub mod State
+pub mod History
+pub mod Propagation
+pub mod Place
+pub mod Replies
+pub mod Pass

@@ -1,0 +1,10 @@
+-- Literals, as DIMACS CNF writes them: a nonzero whole number, whose negative is its complement and whose magnitude is its variable.
+use Rattle.std.specs.Prelude.{◌≤◌, ◌<◌, ℕ, ℤ, nat_abs}
+
+-- the greatest variable that a formula may have
+abbrev pub max_variable : ℕ
+max_variable = 16777215
+
+-- a literal over the variables 1 to vars
+abbrev pub IsLiteral : ℕ → ℤ → Type 0
+IsLiteral vars l = (0 < nat_abs l) × (nat_abs l ≤ vars)

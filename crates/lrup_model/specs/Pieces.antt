@@ -1,0 +1,13 @@
+-- A list of literals cut into clauses.
+use Rattle.std.specs.Prelude.{◌≡◌, ◌≤◌, ℕ, List, [], ◌∷◌, slice_range}
+use Rattle.lrup_model.specs.Clause.{Clause}
+
+-- the clauses that end at these places, the first of which begins at from
+abbrev pub pieces : Clause → ℕ → List ℕ → List Clause
+pieces ls from [] = []
+pieces ls from (end ∷ ends) = slice_range ls from end ∷ pieces ls end ends
+
+-- the ends don't decrease, and the last is the list's own
+abbrev pub AreEnds : ℕ → List ℕ → ℕ → Type 0
+AreEnds from [] all = from ≡ all
+AreEnds from (end ∷ ends) all = (from ≤ end) × AreEnds end ends all

@@ -1,0 +1,68 @@
+-- The clause map of one thread: what it has at an identity, and how an event changes it (this project's own).
+use Rattle.std.specs.Prelude.{◌≡◌, ◌≢◌, ◌==◌, ◌&&◌, ℕ, List, [], ◌∷◌, length, if◌then◌else◌, nat_le, nat_lt}
+use Rattle.lrup_model.specs.Clause.{Clause}
+use Rattle.lrup_model.specs.Formula.{Cnf, clause_at}
+use Rattle.lrup_model.specs.Event as events
+use Rattle.lrup_model.specs.Event.{Event, History}
+use Rattle.lrup_model.specs.declared.clause_map.Published.TheVariants as publishing
+use Rattle.lrup_model.specs.declared.clause_map.Retired.TheVariants as retiring
+
+-- what the map has at an identity
+pub data Slot : Type 0 where
+  absent : Slot
+  live : Clause → Slot
+  retired : Clause → Slot
+
+abbrev pub State : Type 0
+State = ℕ → Slot
+
+abbrev pub IsLive : Slot → Type 0
+IsLive absent = ⊥
+IsLive (live c) = Unit {0}
+IsLive (retired c) = ⊥
+
+abbrev pub IsRetired : Slot → Type 0
+IsRetired absent = ⊥
+IsRetired (live c) = ⊥
+IsRetired (retired c) = Unit {0}
+
+-- a live clause is retired, and nothing else changes
+abbrev pub retire_slot : Slot → Slot
+retire_slot absent = absent
+retire_slot (live c) = retired c
+retire_slot (retired c) = retired c
+
+-- the state with another slot at one identity
+abbrev pub put : State → ℕ → Slot → State
+put m id slot = λ j. if j == id then slot else m j
+
+-- identities 1 to m are the formula's clauses, live
+abbrev pub opening : Cnf → State
+opening f = λ id. if nat_lt 0 id && nat_le id (length f.clauses) then live (clause_at f id) else absent
+
+-- the state after an event
+abbrev pub after : State → Event → State
+after m (events.fetch s id r) = m
+after m (events.publish s id c publishing.Done) = put m id (live c)
+after m (events.publish s id c publishing.Taken) = m
+after m (events.retire s id retiring.Done) = put m id (retire_slot (m id))
+after m (events.retire s id retiring.NotLive) = m
+
+-- the state after the events, one after the other
+abbrev pub run : State → History → State
+run m [] = m
+run m (e ∷ es) = run (after m e) es
+
+-- the state that a history leaves
+abbrev pub state : Cnf → History → State
+state f h = run (opening f) h
+
+-- the event has the reply that the map of one thread gives
+abbrev pub Answers : State → Event → Type 0
+Answers m (events.fetch s id events.vacant) = m id ≡ absent
+Answers m (events.fetch s id (events.live c)) = m id ≡ live c
+Answers m (events.fetch s id events.retired) = IsRetired (m id)
+Answers m (events.publish s id c publishing.Done) = m id ≡ absent
+Answers m (events.publish s id c publishing.Taken) = m id ≢ absent
+Answers m (events.retire s id retiring.Done) = IsLive (m id)
+Answers m (events.retire s id retiring.NotLive) = ¬ IsLive (m id)

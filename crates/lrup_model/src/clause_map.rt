@@ -1,0 +1,154 @@
+//! The clause map as one caller sees it.
+ghost use Rattle.std.specs.Prelude.{◌≡◌, ◌↔◌, ◌≤◌, ◌<◌, ℕ, [], ◌∷◌, ◌++◌, IsTrue, Some, length, slice_get};
+ghost use Rattle.lrup_model.specs.Layout.{IsIdentity, Owns};
+ghost use Rattle.lrup_model.specs.State.{Answers, IsLive, absent};
+ghost use Rattle.lrup_model.specs.Event.{History, fetch, publish, retire};
+ghost use Rattle.lrup_model.specs.History.{IsPublishable};
+ghost use Rattle.lrup_model.specs.Place.{Place, Tells, IsKnown, text_of, ClauseName};
+ghost use Rattle.lrup_model.specs.Replies.{IsFetched, reply_of};
+
+use crate::Id;
+use crate::lit::Lit;
+use std::marker::Model;
+
+/// The name of a published clause at one clause map: its identity, the count of its literals and the place of the first.
+#[derive(Clone, Copy, Debug, PartialEq, Eq)]
+pub struct Clip {
+    id: Id,
+    len: u32,
+    start: u32,
+}
+
+impl Model for Clip {
+    ghost use Rattle.lrup_model.specs.Place.{ClauseName};
+
+    ghost Value = { ClauseName };
+
+    ghost view = { λ c. record { id = c.id; len = c.len; start = c.start } };
+
+    ghost inverse = { λ n. record { id = n.id; len = n.len; start = n.start } };
+}
+
+impl Clip {
+    /// A name is used only where it is known, as those are that a fetch gave.
+    pub fn new(id: Id, len: u32, start: u32) -> Clip
+        ensures { result ≡ record { id = id; len = len; start = start } }
+    {
+        Clip { id, len, start }
+    }
+
+    pub fn id(&self) -> Id
+        ensures { result ≡ self.now.id }
+    {
+        self.id
+    }
+
+    /// The count of the clause's literals.
+    pub fn len(&self) -> u32
+        ensures { result ≡ self.now.len }
+    {
+        self.len
+    }
+
+    pub fn is_empty(&self) -> bool
+        ensures { IsTrue result ↔ (self.now.len ≡ 0) }
+    {
+        self.len == 0
+    }
+
+    /// The place of the first literal at the map.
+    pub fn start(&self) -> u32
+        ensures { result ≡ self.now.start }
+    {
+        self.start
+    }
+}
+
+/// What a fetch answers.
+#[derive(Clone, Copy, Debug, PartialEq, Eq)]
+pub enum Fetched {
+    /// Nothing was published under the identity.
+    Vacant,
+    /// A clause of the formula, or one that was published and not retired.
+    Live(Clip),
+    /// The clause was retired.
+    Retired,
+}
+
+/// What a publish answers.
+#[derive(Clone, Copy, Debug, PartialEq, Eq)]
+pub enum Published {
+    Done,
+    /// Something had been published under the identity before; nothing changed.
+    Taken,
+}
+
+/// What a retire answers.
+#[derive(Clone, Copy, Debug, PartialEq, Eq)]
+pub enum Retired {
+    Done,
+    /// The identity isn't live; nothing changed.
+    NotLive,
+}
+
+/// A caller's place at a clause map. Each call of fetch, publish and retire is one event; no call takes memory.
+pub trait ClauseMap {
+    /// What the caller knows here.
+    ghost place: { Self → Place };
+
+    /// The caller's events between two moments.
+    ghost moves: { Self → Self → History → Type 0 };
+
+    /// The caller's stream, from 1 on.
+    fn stream(&self) -> u64
+        ensures { result ≡ (place self.now).stream };
+
+    /// Is this an identity: 1 to the last?
+    fn covers(&self, id: Id) -> bool
+        ensures { IsTrue result ↔ IsIdentity (place self.now).layout id };
+
+    /// Is this identity the caller's own?
+    fn owns(&self, id: Id) -> bool
+        ensures { IsTrue result ↔ Owns (place self.now).layout (place self.now).stream id };
+
+    /// What is left of the caller's room, in literals.
+    fn room(&self) -> u64
+        ensures { result ≡ (place self.now).room };
+
+    /// What the map has under the identity.
+    fn fetch(&mut self, id: Id) -> Fetched
+        requires { IsIdentity (place self.old).layout id }
+        ensures event { moves self.old self.new (fetch (place self.old).stream id (reply_of (place self.new) result) ∷ []) }
+        ensures fetched { IsFetched (place self.new) id result };
+
+    /// Literal `k`, from 0 on, of a clause whose name is known here. The order isn't promised, and stays.
+    fn literal(&mut self, clip: &Clip, k: u32) -> Lit
+        requires known { IsKnown (place self.old) clip.now }
+        requires within { k < clip.now.len }
+        ensures value { slice_get (text_of (place self.old) clip.now) k ≡ Some result }
+        ensures event { moves self.old self.new [] }
+        ensures stays { place self.new ≡ place self.old };
+
+    /// Publishes a clause under an identity of the caller's own.
+    fn publish(&mut self, id: Id, clause: &[Lit]) -> Published
+        requires owns { Owns (place self.old).layout (place self.old).stream id }
+        requires clause { IsPublishable (place self.old).formula clause.now }
+        requires room { length clause.now ≤ (place self.old).room }
+        ensures event { moves self.old self.new (publish (place self.old).stream id clause.now result ∷ []) }
+        ensures done { (result ≡ Published.Done) ↔ ((place self.old).own id ≡ absent) };
+
+    /// Retires a clause of the caller's own.
+    fn retire(&mut self, id: Id) -> Retired
+        requires { Owns (place self.old).layout (place self.old).stream id }
+        ensures event { moves self.old self.new (retire (place self.old).stream id result ∷ []) }
+        ensures done { (result ≡ Retired.Done) ↔ IsLive ((place self.old).own id) };
+
+    /// No events lie between a moment and itself.
+    ghost moves_none: { (a : Self) → moves a a [] };
+
+    /// One call after another.
+    ghost moves_append: { (a b c : Self) (es fs : History) → moves a b es → moves b c fs → moves a c (es ++ fs) };
+
+    /// What the events say of the place.
+    ghost moves_tells: { (a b : Self) (es : History) → moves a b es → Tells (place a) (place b) es };
+}

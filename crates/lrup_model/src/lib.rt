@@ -1,0 +1,18 @@
+//! What the checker is about: literals, clauses, formulas and entailment, identities and their owners, the clause map
+//! of one thread with its events and histories, hinted propagation. The other crates' contracts are stated in these
+//! words. The code here is small: the types, and a plain clause map for one thread.
+#![tactic(auto)]
+
+mod clause_map;
+mod formula;
+mod layout;
+mod lit;
+
+pub use clause_map::{ClauseMap, Clip, Fetched, Published, Retired};
+pub use formula::Formula;
+pub use layout::{Layout, LayoutFault, Owner};
+pub use lit::Lit;
+
+/// A clause's identity: the formula's clauses have 1 to `m` in the order of the file, and the streams own those above by
+/// turns. 0 and what is above the last one is outside.
+pub type Id = u64;
