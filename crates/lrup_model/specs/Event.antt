@@ -1,6 +1,6 @@
 -- Events of the clause map, one for each call of fetch, publish and retire, and histories, which are lists of them (this project's own).
 -- A clause stands in an event as the list in the order in which the map keeps it, and is read as a set.
-use Rattle.std.specs.Prelude.{◌+◌, ◌==◌, ℕ, List, [], ◌∷◌, length}
+use Rattle.std.specs.Prelude.{◌==◌, ℕ, List, length}
 use Rattle.std.specs.List.{filter, sum_by}
 use Rattle.lrup_model.specs.Clause.{Clause}
 use Rattle.lrup_model.specs.declared.clause_map.Published.{Published}

@@ -1,9 +1,11 @@
 -- The numbers of a run and who owns an identity. Identities by residue, and the limits, are this project's own.
-use Rattle.std.specs.Prelude.{◌≡◌, ◌+◌, ◌-◌, ◌*◌, ◌%◌, ◌≤◌, ◌<◌, ◌^◌, ℕ, length, if◌then◌else◌, nat_eq, nat_le}
+use Rattle.std.specs.Prelude.{◌≡◌, ◌⊎◌, ◌+◌, ◌-◌, ◌*◌, ◌%◌, ◌≤◌, ◌<◌, ℕ, length, if◌then◌else◌, nat_eq, nat_le}
 use Rattle.lrup_model.specs.Literal.{max_variable}
 use Rattle.lrup_model.specs.Formula.{Cnf, max_clauses, literals_of}
 use Rattle.lrup_model.specs.declared.layout.Owner.{Owner}
 use Rattle.lrup_model.specs.declared.layout.Owner.TheVariants as owners
+use Rattle.lrup_model.specs.declared.layout.LayoutFault.{LayoutFault}
+use Rattle.lrup_model.specs.declared.layout.LayoutFault.TheVariants as faults
 
 -- variables, clauses and literals of the formula, streams, identities a stream, and literals that a stream has room for
 pub record Plan : Type 0 where
@@ -59,3 +61,10 @@ Owns p s id = owner p id ≡ owners.Stream s
 -- the stream is one of the layout's
 abbrev pub IsStream : Plan → ℕ → Type 0
 IsStream p s = (0 < s) × (s ≤ p.streams)
+
+-- the fault is the first of these numbers, by the order of the limits
+abbrev pub IsFault : Plan → LayoutFault → Type 0
+IsFault p faults.TooManyVariables = max_variable < p.vars
+IsFault p faults.TooManyClauses = (p.vars ≤ max_variable) × (max_clauses < p.clauses)
+IsFault p faults.BadStreamCount = (p.vars ≤ max_variable) × (p.clauses ≤ max_clauses) × ((p.streams ≡ 0) ⊎ (max_streams < p.streams))
+IsFault p faults.RowTooLong = (p.vars ≤ max_variable) × (p.clauses ≤ max_clauses) × (0 < p.streams) × (p.streams ≤ max_streams) × (max_row_words < row_words p)

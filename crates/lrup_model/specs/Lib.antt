@@ -7,7 +7,13 @@ pub mod Layout
 pub mod Event
 pub mod State
 pub mod History
+pub mod Running
 pub mod Propagation
 pub mod Place
 pub mod Replies
 pub mod Pass
+pub mod Plain
+pub mod PlainInside
+pub mod PlainLaws
+pub mod Desk
+pub mod Laws

@@ -1,9 +1,8 @@
 -- A pass: one stream's place at the shared store, and what fairness and moving mean there (this project's own).
-use Rattle.std.specs.Prelude.{◌≡◌, ◌+◌, ◌-◌, ◌*◌, ◌==◌, ◌++◌, ℕ, Bool, true, false, List, [], ◌∷◌, length, take, if◌then◌else◌, nat_le, Option, None, Some}
+use Rattle.std.specs.Prelude.{◌≡◌, ◌+◌, ◌-◌, ◌*◌, ◌==◌, ◌++◌, ℕ, Bool, false, [], ◌∷◌, length, take, if◌then◌else◌, Option, None, Some}
 use Rattle.std.specs.List.{sum_by, AllByRecursion}
-use Rattle.lrup_model.specs.Clause.{Clause}
 use Rattle.lrup_model.specs.Formula.{Cnf}
-use Rattle.lrup_model.specs.Layout.{Plan, last_identity, owner, IsStream}
+use Rattle.lrup_model.specs.Layout.{Plan, last_identity, owner}
 use Rattle.lrup_model.specs.Event as events
 use Rattle.lrup_model.specs.Event.{Event, History, own, spent, stream_of}
 use Rattle.lrup_model.specs.State.{Slot, absent, live, retired, state}

@@ -1,5 +1,5 @@
 -- The clause map of one thread: what it has at an identity, and how an event changes it (this project's own).
-use Rattle.std.specs.Prelude.{◌≡◌, ◌≢◌, ◌==◌, ◌&&◌, ℕ, List, [], ◌∷◌, length, if◌then◌else◌, nat_le, nat_lt}
+use Rattle.std.specs.Prelude.{◌≡◌, ◌≢◌, ◌==◌, ◌&&◌, ℕ, [], ◌∷◌, length, if◌then◌else◌, nat_le, nat_lt}
 use Rattle.lrup_model.specs.Clause.{Clause}
 use Rattle.lrup_model.specs.Formula.{Cnf, clause_at}
 use Rattle.lrup_model.specs.Event as events

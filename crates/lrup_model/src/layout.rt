@@ -1,9 +1,8 @@
 //! The numbers of a run, and who owns an identity.
-ghost use Rattle.std.specs.Prelude.{◌≡◌, ◌↔◌, ◌+◌, ◌*◌, ◌≤◌, ◌<◌, ℕ, IsTrue, IfOk, length};
-ghost use Rattle.std.specs.Result.{IsErrOf};
+ghost use Rattle.std.specs.Prelude.{◌≡◌, ◌↔◌, ◌+◌, ◌*◌, ◌≤◌, ◌<◌, ℕ, IsTrue, IfOk, IfErr, length};
 ghost use Rattle.lrup_model.specs.Literal.{max_variable};
 ghost use Rattle.lrup_model.specs.Formula.{max_clauses};
-ghost use Rattle.lrup_model.specs.Layout.{Plan, IsPlan, Fits, IsIdentity, owner, last_identity, row_words, max_streams, max_row_words};
+ghost use Rattle.lrup_model.specs.Layout.{Plan, IsPlan, IsFault, Fits, IsIdentity, owner, last_identity, row_words, max_streams, max_row_words};
 
 use crate::formula::Formula;
 use std::error::Error;
@@ -68,4 +67,130 @@ impl Model for Layout {
     ghost invariant = { λ l. IsPlan (record { vars = l.vars; clauses = l.clauses; literals = l.literals; streams = l.streams; lines = l.lines; room = l.room }) };
 
     ghost inverse = { λ p. record { vars = p.vars; clauses = p.clauses; literals = p.literals; streams = p.streams; lines = p.lines; room = p.room } };
+}
+
+impl Layout {
+    /// The layout of a formula's numbers of variables, clauses and literals, a number of streams, and for each stream a
+    /// number of identities and a number of literals.
+    pub fn new(
+        vars: u64,
+        clauses: u64,
+        literals: u64,
+        streams: u64,
+        lines: u64,
+        room: u64,
+    ) -> Result<Layout, LayoutFault>
+        ensures layout { let plan : Plan = record { vars = vars; clauses = clauses; literals = literals; streams = streams; lines = lines; room = room } in
+            IfOk result (λ layout. (layout ≡ plan) × IsPlan plan) }
+        // The first that holds, in the order of the list.
+        ensures fault { let plan : Plan = record { vars = vars; clauses = clauses; literals = literals; streams = streams; lines = lines; room = room } in
+            IfErr result (IsFault plan) }
+    {
+        if vars > 16_777_215 {
+            return Err(LayoutFault::TooManyVariables);
+        }
+        if clauses > 16_777_215 {
+            return Err(LayoutFault::TooManyClauses);
+        }
+        if streams == 0 || streams > 64 {
+            return Err(LayoutFault::BadStreamCount);
+        }
+        if !row_fits(clauses, literals, streams, lines, room) {
+            return Err(LayoutFault::RowTooLong);
+        }
+        Ok(Layout {
+            vars: vars as u32,
+            clauses: clauses as u32,
+            literals: literals as u32,
+            streams: streams as u32,
+            lines: lines as u32,
+            room: room as u32,
+        })
+    }
+
+    /// Are the formula's numbers those of this layout?
+    pub fn fits(&self, formula: &Formula) -> bool
+        ensures { IsTrue result ↔ Fits self.now formula.now }
+    {
+        self.vars == formula.vars()
+            && self.clauses as usize == formula.len()
+            && self.literals as usize == formula.literals()
+    }
+
+    /// Whose the identity is.
+    pub fn owner(&self, id: u64) -> Owner
+        ensures { result ≡ owner self.now id }
+    {
+        let clauses = self.clauses as u64;
+        if id == 0 {
+            Owner::Outside
+        } else if id <= clauses {
+            Owner::Formula
+        } else if id <= self.last_identity() {
+            Owner::Stream((id - clauses - 1) % self.streams as u64 + 1)
+        } else {
+            Owner::Outside
+        }
+    }
+
+    /// The number of variables, at most 16,777,215.
+    pub fn vars(&self) -> u32
+        ensures vars { result ≡ self.now.vars }
+        ensures plan { IsPlan self.now }
+    {
+        self.vars
+    }
+
+    /// The number of streams, 1 to 64.
+    pub fn streams(&self) -> u64
+        ensures streams { result ≡ self.now.streams }
+        ensures plan { IsPlan self.now }
+    {
+        self.streams as u64
+    }
+
+    /// The room of each stream, in literals.
+    pub fn room(&self) -> u64
+        ensures room { result ≡ self.now.room }
+        ensures plan { IsPlan self.now }
+    {
+        self.room as u64
+    }
+
+    /// The room of all streams together, in literals, below 2^28.
+    pub fn all_room(&self) -> u64
+        ensures room { result ≡ self.now.streams * self.now.room }
+        ensures plan { IsPlan self.now }
+    {
+        self.streams as u64 * self.room as u64
+    }
+
+    /// The last identity, below 2^28.
+    pub fn last_identity(&self) -> u64
+        ensures last { result ≡ last_identity self.now }
+        ensures plan { IsPlan self.now }
+    {
+        self.clauses as u64 + self.streams as u64 * self.lines as u64
+    }
+
+    /// Is this an identity: 1 to the last?
+    pub fn covers(&self, id: u64) -> bool
+        ensures { IsTrue result ↔ IsIdentity self.now id }
+    {
+        0 < id && id <= self.last_identity()
+    }
+}
+
+/// Has the row at most 2^28 words? No sum here leaves 64 bits, whatever the numbers are.
+fn row_fits(clauses: u64, literals: u64, streams: u64, lines: u64, room: u64) -> bool
+    requires clauses { clauses ≤ max_clauses }
+    requires some_stream { 0 < streams }
+    requires streams { streams ≤ max_streams }
+    ensures { IsTrue result ↔ (1 + (clauses + streams * lines) + literals + streams * room ≤ max_row_words) }
+{
+    const MOST: u64 = 268_435_456;
+    if literals > MOST || lines > MOST || room > MOST {
+        return false;
+    }
+    1 + clauses + streams * lines + literals + streams * room <= MOST
 }

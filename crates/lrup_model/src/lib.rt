@@ -5,13 +5,16 @@
 
 mod clause_map;
 mod formula;
+pub mod laws;
 mod layout;
 mod lit;
+mod plain_map;
 
 pub use clause_map::{ClauseMap, Clip, Fetched, Published, Retired};
 pub use formula::Formula;
 pub use layout::{Layout, LayoutFault, Owner};
 pub use lit::Lit;
+pub use plain_map::PlainMap;
 
 /// A clause's identity: the formula's clauses have 1 to `m` in the order of the file, and the streams own those above by
 /// turns. 0 and what is above the last one is outside.

@@ -1,6 +1,5 @@
 use Rattle.std.proofs.Common.{arith, ◌≡◌, ap, length, ◌∙◌, sym}
 use Rattle.lrup_model.specs.Formula.{Cnf}
-use Rattle.lrup_model.specs.Pieces.{pieces}
 use Rattle.lrup_model.proofs.PieceLemmas.{length-pieces}
 use Rattle.lrup_model.proofs.formula.Formula.clause.Goals as goal
 

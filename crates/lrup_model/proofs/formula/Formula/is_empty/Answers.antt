@@ -1,4 +1,4 @@
-use Rattle.std.proofs.Common.{rules, arith, ◌≡◌, [], ap, sym, ◌∙◌, length, eq-eqb}
+use Rattle.std.proofs.Common.{◌≡◌, ap, sym, ◌∙◌, length, eq-eqb}
 use Rattle.std.proofs.lemmas.Bool.{eqb-true}
 use Rattle.lrup_model.specs.Pieces.{pieces}
 use Rattle.lrup_model.proofs.PieceLemmas.{length-pieces, empty_from_length}

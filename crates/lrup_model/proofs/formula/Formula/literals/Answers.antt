@@ -1,4 +1,4 @@
-use Rattle.std.proofs.Common.{arith, ◌≡◌, ◌+◌, ap, length, ◌∙◌, sym}
+use Rattle.std.proofs.Common.{arith, ◌≡◌, ◌+◌, ap, length, ◌∙◌}
 use Rattle.lrup_model.specs.Formula.{literals_of}
 use Rattle.lrup_model.specs.Pieces.{pieces}
 use Rattle.std.specs.List.{sum_by}

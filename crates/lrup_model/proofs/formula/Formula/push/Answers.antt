@@ -1,4 +1,4 @@
-use Rattle.std.proofs.Common.{◌≡◌, ◌∷◌, ◌++◌, [], List, ℕ, ap, length, ◌∙◌, sym}
+use Rattle.std.proofs.Common.{◌∷◌, ◌++◌, [], List, ℕ, ap, length, ◌∙◌}
 use Rattle.lrup_model.proofs.PieceLemmas.{grown_to, grown_view}
 use Rattle.lrup_model.proofs.formula.Formula.push.Goals as goal
 

@@ -1,0 +1,221 @@
+-- The clause map of one thread as it is opened: the formula's clauses, and nothing else.
+use Rattle.std.proofs.Common.{◌≡◌, ℕ, zero, suc, ℤ, ◌+◌, ◌-◌, ◌*◌, ◌<◌, ◌≤◌, List, [], ◌∷◌, ◌++◌, length, get_or, take, drop, replicate, refl, sym, ap, subst, ◌∙◌, inl, inr, arith, length-append, append_assoc}
+use Rattle.std.specs.Prelude.{map, sum}
+use Rattle.std.specs.List.{sum_by, AllByRecursion}
+use Rattle.std.proofs.Math.Path.{fun_ext}
+use Rattle.std.proofs.lemmas.List.{take_more, map-append, length-replicate, append-nil}
+use Rattle.std.proofs.lemmas.List.Sums.{sum_by-cons, sum_by_more_le}
+use Rattle.std.proofs.lemmas.List.Folds.{sum_by-replicate}
+use Rattle.std.proofs.lemmas.Bool.{cases_lt}
+use Rattle.std.proofs.Math.Seq.{take-append_seam}
+use Rattle.lrup_model.specs.Clause.{Clause, IsClause}
+use Rattle.lrup_model.specs.Formula.{Cnf, IsCnf, IsFormulaClause, literals_of, clause_at}
+use Rattle.lrup_model.specs.Entailment.{Assignment, Satisfies, SatisfiesAll, Follows}
+use Rattle.lrup_model.specs.Layout.{Plan, IsPlan, Fits, last_identity}
+use Rattle.lrup_model.specs.State as slots
+use Rattle.lrup_model.specs.State.{State, opening}
+use Rattle.lrup_model.specs.Plain as plain
+use Rattle.lrup_model.specs.Plain.{Stored, Plain, formula_of, state_of, StoresClause, slot_of, clause_of}
+use Rattle.lrup_model.specs.PlainInside.{stored_in, plain_of, LiesWithin, IsSound, flat, entries_from}
+use Rattle.lrup_model.specs.declared.plain_map.Entry.{Entry}
+use Rattle.lrup_model.specs.declared.plain_map.Entry.TheVariants.{Vacant, Live}
+use Rattle.lrup_model.proofs.PieceLemmas.{slice_range-append, slice_range-end}
+use Rattle.lrup_model.proofs.HistoryLemmas.{opening-formula, opening-above}
+
+-- ---- the loop that keeps the clauses
+
+pub clause_at-suc : (f : Cnf) (i : ℕ) → clause_at f (i + 1) ≡ get_or f.clauses i []
+clause_at-suc f i =
+    let place : i + 1 - 1 ≡ i = omega arith in
+    ap (λ n. get_or f.clauses n []) place
+
+pub length-flat : (cs : List Clause) → length (flat cs) ≡ sum_by length cs
+length-flat [] = refl
+length-flat (c ∷ cs) = length-append c (flat cs) ∙ ap (λ n. length c + n) (length-flat cs) ∙ sym (sum_by-cons length c cs)
+
+pub flat-push : (cs : List Clause) (c : Clause) → flat (cs ++ c ∷ []) ≡ flat cs ++ c
+flat-push [] c = append-nil c
+flat-push (d ∷ cs) c = ap (λ (ls : List ℤ). d ++ ls) (flat-push cs c) ∙ sym (append_assoc d (flat cs) c)
+
+pub entries_from-push : (from : ℕ) (cs : List Clause) (c : Clause) → entries_from from (cs ++ c ∷ []) ≡ entries_from from cs ++ Live (from + length (flat cs)) (length c) ∷ []
+entries_from-push from [] c = ap (λ n. Live n (length c) ∷ []) (omega arith)
+entries_from-push from (d ∷ cs) c =
+    let place : from + length d + length (flat cs) ≡ from + length (d ++ flat cs) = omega (arith, length-append d (flat cs)) in
+    ap (λ (es : List Entry). Live from (length d) ∷ es) (entries_from-push (from + length d) cs c ∙ ap (λ n. entries_from (from + length d) cs ++ Live n (length c) ∷ []) place)
+
+-- one more clause
+pub kept_more : (cs : List Clause) (i : ℕ) (c : Clause) (start : ℕ) (ls more : List ℤ) (es grown first : List Entry) → i < length cs → c ≡ get_or cs i [] → ls ≡ flat (take i cs)
+    → start ≡ length ls → more ≡ ls ++ c → es ≡ first ++ entries_from 0 (take i cs) → grown ≡ es ++ Live start (length c) ∷ []
+    → (grown ≡ first ++ entries_from 0 (take (i + 1) cs)) × (more ≡ flat (take (i + 1) cs))
+kept_more cs i c start ls more es grown first within here lits from grows ents new =
+    let cut : take (i + 1) cs ≡ take i cs ++ c ∷ [] = take_more cs i [] within ∙ ap (λ (d : Clause). take i cs ++ d ∷ []) (sym here) in
+    let place : start ≡ 0 + length (flat (take i cs)) = omega (arith, from, ap length lits) in (
+      new ∙ ap (λ (xs : List Entry). xs ++ Live start (length c) ∷ []) ents ∙ append_assoc first (entries_from 0 (take i cs)) (Live start (length c) ∷ [])
+          ∙ ap (λ (xs : List Entry). first ++ xs) (ap (λ n. entries_from 0 (take i cs) ++ Live n (length c) ∷ []) place ∙ sym (entries_from-push 0 (take i cs) c) ∙ ap (entries_from 0) (sym cut)),
+      grows ∙ ap (λ (xs : List ℤ). xs ++ c) lits ∙ sym (flat-push (take i cs) c) ∙ ap flat (sym cut),
+    )
+
+-- the literals kept so far, with those of the next clause, are no more than all
+pub kept_fits : (cs : List Clause) (i : ℕ) → i < length cs → length (flat (take i cs)) + length (get_or cs i []) ≤ sum_by length cs
+kept_fits cs i within = omega (arith, length-flat (take i cs), sum_by_more_le length cs i [] within)
+
+-- ---- the map that the entries and the literals make
+
+-- the clause that ends a front of the literals is what stands behind the ones before
+entry_is : (front c back : List ℤ) → stored_in (front ++ c ++ back) (Live (length front) (length c)) ≡ plain.live (record { start = length front; literals = c })
+entry_is front c back =
+    let inside : length front + length c ≤ length (front ++ c) = omega (arith, length-append front c) in
+    ap (λ (ls : List ℤ). plain.live (record { start = length front; literals = ls }))
+    (slice_range-append (front ++ c) back (length front) (length front + length c) (omega arith) inside ∙ slice_range-end front c)
+
+-- what is stored under the formula's identities
+stored_from : ℕ → List Clause → List Stored
+stored_from from [] = []
+stored_from from (c ∷ cs) = plain.live (record { start = from; literals = c }) ∷ stored_from (from + length c) cs
+
+entries_stored : (front : List ℤ) (cs : List Clause) → map (stored_in (front ++ flat cs)) (entries_from (length front) cs) ≡ stored_from (length front) cs
+unfolding stored_from
+entries_stored front [] = refl
+entries_stored front (c ∷ cs) =
+    let regrouped : front ++ (c ++ flat cs) ≡ front ++ c ++ flat cs = sym (append_assoc front c (flat cs)) in
+    let here : stored_in (front ++ (c ++ flat cs)) (Live (length front) (length c)) ≡ plain.live (record { start = length front; literals = c }) =
+    ap (λ (ls : List ℤ). stored_in ls (Live (length front) (length c))) regrouped ∙ entry_is front c (flat cs) in
+    let there : map (stored_in (front ++ (c ++ flat cs))) (entries_from (length front + length c) cs) ≡ stored_from (length front + length c) cs =
+    ap (λ (ls : List ℤ). map (stored_in ls) (entries_from (length front + length c) cs)) regrouped
+    ∙ subst (λ n. map (stored_in (front ++ c ++ flat cs)) (entries_from n cs) ≡ stored_from n cs) (length-append front c) (entries_stored (front ++ c) cs) in
+    cc
+
+clauses_stored : (from : ℕ) (cs : List Clause) → map clause_of (stored_from from cs) ≡ cs
+unfolding stored_from
+clauses_stored from [] = refl
+clauses_stored from (c ∷ cs) = ap (λ (ds : List Clause). c ∷ ds) (clauses_stored (from + length c) cs)
+
+length-stored_from : (from : ℕ) (cs : List Clause) → length (stored_from from cs) ≡ length cs
+unfolding stored_from
+length-stored_from from [] = refl
+length-stored_from from (c ∷ cs) = ap suc (length-stored_from (from + length c) cs)
+
+none_there : (n i : ℕ) → get_or (replicate n plain.vacant) i plain.vacant ≡ plain.vacant
+none_there zero i = refl
+none_there (suc n) zero = refl
+none_there (suc n) (suc i) = none_there n i
+
+-- the slot at a place behind identity 0
+slot_here : (from : ℕ) (cs : List Clause) (n i : ℕ) → i < length cs → slot_of (get_or (stored_from from cs ++ replicate n plain.vacant) i plain.vacant) ≡ slots.live (get_or cs i [])
+unfolding stored_from
+slot_here from [] n i lt = absurd (omega (arith, lt))
+slot_here from (c ∷ cs) n zero lt = refl
+slot_here from (c ∷ cs) n (suc i) lt = slot_here (from + length c) cs n i (omega (arith, lt))
+
+slot_past : (from : ℕ) (cs : List Clause) (n i : ℕ) → length cs ≤ i → slot_of (get_or (stored_from from cs ++ replicate n plain.vacant) i plain.vacant) ≡ slots.absent
+unfolding stored_from
+slot_past from [] n i le = ap slot_of (none_there n i)
+slot_past from (c ∷ cs) n zero le = absurd (omega (arith, le))
+slot_past from (c ∷ cs) n (suc i) le = slot_past (from + length c) cs n i (omega (arith, le))
+
+clause_behind : (f : Cnf) (i : ℕ) → clause_at f (suc i) ≡ get_or f.clauses i []
+clause_behind f i =
+    let place : suc i - 1 ≡ i = omega arith in
+    ap (λ n. get_or f.clauses n []) place
+
+-- what the map has at each identity
+opened_slot : (f : Cnf) (n id : ℕ) → slot_of (get_or (plain.vacant ∷ (stored_from 0 f.clauses ++ replicate n plain.vacant)) id plain.vacant) ≡ opening f id
+opened_slot f n zero = refl
+opened_slot f n (suc i) =
+    elim (cases_lt i (length f.clauses)) [
+      | inl lt ↦ slot_here 0 f.clauses n i lt ∙ ap slots.live (sym (clause_behind f i)) ∙ sym (opening-formula f (suc i) (omega arith) (omega (arith, lt)))
+      | inr le ↦ slot_past 0 f.clauses n i le ∙ sym (opening-above f (suc i) (omega (arith, le)))
+    ]
+
+-- ---- the whole map
+
+vacant_stored : (ls : List ℤ) (n : ℕ) → map (stored_in ls) (replicate n Vacant) ≡ replicate n plain.vacant
+vacant_stored ls zero = refl
+vacant_stored ls (suc n) = ap (λ (xs : List Stored). plain.vacant ∷ xs) (vacant_stored ls n)
+
+-- what the entries of an opened map stand for
+opened_entries : (f : Cnf) (n : ℕ) → map (stored_in (flat f.clauses)) (Vacant ∷ (entries_from 0 f.clauses ++ replicate n Vacant)) ≡ plain.vacant ∷ (stored_from 0 f.clauses ++ replicate n plain.vacant)
+opened_entries f n =
+    let clauses : map (stored_in (flat f.clauses)) (entries_from 0 f.clauses) ≡ stored_from 0 f.clauses = entries_stored [] f.clauses in
+    ap (λ (xs : List Stored). plain.vacant ∷ xs)
+    (map-append (stored_in (flat f.clauses)) (entries_from 0 f.clauses) (replicate n Vacant)
+    ∙ ap (λ (xs : List Stored). xs ++ map (stored_in (flat f.clauses)) (replicate n Vacant)) clauses
+    ∙ ap (λ (xs : List Stored). stored_from 0 f.clauses ++ xs) (vacant_stored (flat f.clauses) n))
+
+pub opened_formula : (f : Cnf) (p : Plan) (n : ℕ) (free : List ℕ) → Fits p f → formula_of (plain_of p (Vacant ∷ (entries_from 0 f.clauses ++ replicate n Vacant)) (flat f.clauses) free) ≡ f
+opened_formula f p n free fits =
+    let count : p.clauses ≡ length (stored_from 0 f.clauses) = fits.clauses ∙ sym (length-stored_from 0 f.clauses) in
+    let clauses : map clause_of (take p.clauses (drop 1 (map (stored_in (flat f.clauses)) (Vacant ∷ (entries_from 0 f.clauses ++ replicate n Vacant))))) ≡ f.clauses =
+    ap (λ (xs : List Stored). map clause_of (take p.clauses (drop 1 xs))) (opened_entries f n)
+    ∙ ap (λ k. map clause_of (take k (stored_from 0 f.clauses ++ replicate n plain.vacant))) count
+    ∙ ap (map clause_of) (take-append_seam (stored_from 0 f.clauses) (replicate n plain.vacant))
+    ∙ clauses_stored 0 f.clauses in
+    ap (λ (cs : List Clause). record { vars = p.vars; clauses = cs }) clauses ∙ ap (λ v. record { vars = v; clauses = f.clauses }) fits.vars
+
+pub opened_state : (f : Cnf) (p : Plan) (n : ℕ) (free : List ℕ) → state_of (plain_of p (Vacant ∷ (entries_from 0 f.clauses ++ replicate n Vacant)) (flat f.clauses) free) ≡ opening f
+opened_state f p n free = fun_ext (λ id. ap (λ (xs : List Stored). slot_of (get_or xs id plain.vacant)) (opened_entries f n) ∙ opened_slot f n id)
+
+vacant_within : (all n : ℕ) → AllByRecursion (LiesWithin all) (replicate n Vacant)
+vacant_within all zero = tt
+vacant_within all (suc n) = (tt, vacant_within all n)
+
+entries_within : (from : ℕ) (cs : List Clause) (all n : ℕ) → from + length (flat cs) ≤ all → AllByRecursion (LiesWithin all) (entries_from from cs ++ replicate n Vacant)
+entries_within from [] all n le = vacant_within all n
+entries_within from (c ∷ cs) all n le =
+    let size : length (c ++ flat cs) ≡ length c + length (flat cs) = length-append c (flat cs) in
+    (omega arith, entries_within (from + length c) cs all n (omega arith))
+
+length-entries_from : (from : ℕ) (cs : List Clause) → length (entries_from from cs) ≡ length cs
+length-entries_from from [] = refl
+length-entries_from from (c ∷ cs) = ap suc (length-entries_from (from + length c) cs)
+
+-- each clause of the formula follows from it
+each_follows : (f : Cnf) (cs : List Clause) → AllByRecursion (IsFormulaClause f.vars) cs → ((a : Assignment) → SatisfiesAll a f → AllByRecursion (Satisfies a) cs)
+    → AllByRecursion (λ c. IsClause f.vars c × Follows f c) cs
+each_follows f [] h holds = tt
+each_follows f (c ∷ cs) h holds = ((h.0.0, record { holds = λ a all. (holds a all).0 }), each_follows f cs h.1 (λ a all. (holds a all).1))
+
+vacant_stores : (f : Cnf) (n : ℕ) → AllByRecursion (StoresClause f) (replicate n plain.vacant)
+vacant_stores f zero = tt
+vacant_stores f (suc n) = (tt, vacant_stores f n)
+
+clauses_store : (f : Cnf) (from : ℕ) (cs : List Clause) (n : ℕ) → AllByRecursion (λ c. IsClause f.vars c × Follows f c) cs → AllByRecursion (StoresClause f) (stored_from from cs ++ replicate n plain.vacant)
+unfolding stored_from
+clauses_store f from [] n h = vacant_stores f n
+clauses_store f from (c ∷ cs) n h = (h.0, clauses_store f (from + length c) cs n h.1)
+
+pub opened_sound : (f : Cnf) (p : Plan) (n capacity : ℕ) → IsCnf f → IsPlan p → Fits p f → n ≡ last_identity p - length f.clauses → literals_of f + p.streams * p.room ≤ capacity
+    → IsSound p (Vacant ∷ (entries_from 0 f.clauses ++ replicate n Vacant)) (flat f.clauses) (replicate p.streams p.room) capacity
+opened_sound f p n capacity cnf is fits rest enough =
+    let size : length (flat f.clauses) ≡ literals_of f = length-flat f.clauses in
+    let rooms : sum (replicate p.streams p.room) ≡ p.streams * p.room = sum_by-replicate (λ x. x) p.streams p.room in
+    let entries : length (entries_from 0 f.clauses ++ replicate n Vacant) ≡ length f.clauses + n =
+    length-append (entries_from 0 f.clauses) (replicate n Vacant) ∙ ap (λ k. k + length (replicate n Vacant)) (length-entries_from 0 f.clauses) ∙ ap (λ k. length f.clauses + k) (length-replicate n Vacant) in
+    record {
+      plan = is;
+      count = omega (arith, fits.clauses);
+      streams = length-replicate p.streams p.room;
+      within = (tt, entries_within 0 f.clauses (length (flat f.clauses)) n (omega arith));
+      reserved = omega arith;
+      small = omega (arith, is.row, fits.literals);
+      clauses = subst (λ (g : Cnf). AllByRecursion (StoresClause g) (map (stored_in (flat f.clauses)) (Vacant ∷ (entries_from 0 f.clauses ++ replicate n Vacant)))) (sym (opened_formula f p n (replicate p.streams p.room) fits))
+          (subst (AllByRecursion (StoresClause f)) (sym (opened_entries f n)) (tt, clauses_store f 0 f.clauses n (each_follows f f.clauses cnf.clauses (λ a all. all))));
+    }
+
+-- an opened map, by what it is made of
+abbrev pub IsOpened : Cnf → Plan → ℕ → List Entry → List ℤ → List ℕ → Type 0
+IsOpened f p capacity es ls free = IsSound p es ls free capacity × (formula_of (plain_of p es ls free) ≡ f) × (state_of (plain_of p es ls free) ≡ opening f)
+
+-- the same, where the lists are known by equations
+pub opened : (f : Cnf) (p : Plan) (n capacity : ℕ) (first kept all : List Entry) (ls : List ℤ) (free : List ℕ) → IsCnf f → IsPlan p → Fits p f
+    → n ≡ last_identity p - length f.clauses → literals_of f + p.streams * p.room ≤ capacity
+    → first ≡ Vacant ∷ [] → kept ≡ first ++ entries_from 0 f.clauses → all ≡ kept ++ replicate n Vacant → ls ≡ flat f.clauses → free ≡ replicate p.streams p.room
+    → IsOpened f p capacity all ls free
+opened f p n capacity first kept all ls free cnf is fits rest enough one some whole literals rooms =
+    let whole_map = Vacant ∷ (entries_from 0 f.clauses ++ replicate n Vacant) in
+    let entries : all ≡ whole_map =
+    whole ∙ ap (λ (es : List Entry). es ++ replicate n Vacant) (some ∙ ap (λ (es : List Entry). es ++ entries_from 0 f.clauses) one) in
+    subst (λ (es : List Entry). IsOpened f p capacity es ls free) (sym entries)
+    (subst (λ (l : List ℤ). IsOpened f p capacity whole_map l free) (sym literals)
+    (subst (λ (r : List ℕ). IsOpened f p capacity whole_map (flat f.clauses) r) (sym rooms)
+    (opened_sound f p n capacity cnf is fits rest enough, opened_formula f p n (replicate p.streams p.room) fits, opened_state f p n (replicate p.streams p.room))))

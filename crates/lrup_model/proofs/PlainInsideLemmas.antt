@@ -1,0 +1,282 @@
+-- How the clause map of one thread is kept, through publish and retire.
+use Rattle.std.proofs.Common.{◌≡◌, ◌≢◌, ℕ, zero, suc, ℤ, ◌+◌, ◌-◌, ◌<◌, ◌≤◌, List, [], ◌∷◌, ◌++◌, length, get_or, set, take, drop, Some, None, refl, sym, ap, subst, ◌∙◌, arith, length-append, length-drop, length-take}
+use Rattle.std.specs.Prelude.{pos, map, sum, slice_range, slice_get}
+use Rattle.std.specs.List.{AllByRecursion}
+use Rattle.std.proofs.lemmas.List.{map-set, length-set, get_or-take, get_or-drop, get_or_read, get_or-map, length-map}
+use Rattle.std.proofs.Math.Nat.{min-eq_left}
+use Rattle.std.proofs.lemmas.List.Sums.{sum_by-set}
+use Rattle.std.proofs.lemmas.Option.{slice_get-get_or}
+use Rattle.lrup_model.specs.Clause.{Clause, IsClause}
+use Rattle.lrup_model.specs.Formula.{Cnf}
+use Rattle.lrup_model.specs.Entailment.{Follows}
+use Rattle.lrup_model.specs.Layout.{Plan, Owns, last_identity}
+use Rattle.lrup_model.specs.Place.{Kept, ClauseName, IsKnown, text_of}
+use Rattle.lrup_model.specs.Plain as plain
+use Rattle.lrup_model.specs.Plain.{Stored, Plain, formula_of, StoresClause, kept_of, slot_of, stored_at, place_at, AfterPublish, AfterRetire}
+use Rattle.lrup_model.specs.State.{IsLive}
+use Rattle.lrup_model.specs.History.{IsPublishable}
+use Rattle.lrup_model.specs.declared.clause_map.Published.TheVariants as publishing
+use Rattle.lrup_model.specs.declared.clause_map.Retired.TheVariants as retiring
+use Rattle.lrup_model.specs.PlainInside.{stored_in, plain_of, LiesWithin, IsSound}
+use Rattle.lrup_model.specs.declared.plain_map.Entry.{Entry}
+use Rattle.lrup_model.specs.declared.plain_map.Entry.TheVariants.{Vacant, Live, Retired}
+use Rattle.lrup_model.proofs.PieceLemmas.{slice_range-append, slice_range-end}
+use Rattle.lrup_model.proofs.OwnerLemmas.{owned}
+use Rattle.lrup_model.proofs.PlainLemmas.{formula_of-set}
+
+-- ---- lists
+
+AllByRecursion-set : {X : Type 0} (P : X → Type 0) (xs : List X) (i : ℕ) (v : X) → AllByRecursion P xs → P v → AllByRecursion P (set xs i v)
+AllByRecursion-set P [] i v h p = tt
+AllByRecursion-set P (x ∷ xs) zero v h p = (p, h.1)
+AllByRecursion-set P (x ∷ xs) (suc i) v h p = (h.0, AllByRecursion-set P xs i v h.1 p)
+
+pub AllByRecursion-at : {X : Type 0} (P : X → Type 0) (xs : List X) (i : ℕ) (d : X) → AllByRecursion P xs → i < length xs → P (get_or xs i d)
+AllByRecursion-at P [] i d h lt = absurd (omega (arith, lt))
+AllByRecursion-at P (x ∷ xs) zero d h lt = h.0
+AllByRecursion-at P (x ∷ xs) (suc i) d h lt = AllByRecursion-at P xs i d h.1 (omega (arith, lt))
+
+AllByRecursion-weaker : {X : Type 0} (P Q : X → Type 0) → ((x : X) → P x → Q x) → (xs : List X) → AllByRecursion P xs → AllByRecursion Q xs
+AllByRecursion-weaker P Q f [] h = tt
+AllByRecursion-weaker P Q f (x ∷ xs) h = (f x h.0, AllByRecursion-weaker P Q f xs h.1)
+
+-- ---- entries over a list of literals that has grown at its end
+
+LiesWithin-weaker : (n m : ℕ) → n ≤ m → (e : Entry) → LiesWithin n e → LiesWithin m e
+LiesWithin-weaker n m le Vacant h = tt
+LiesWithin-weaker n m le (Live start len) h = omega (arith, le, h)
+LiesWithin-weaker n m le (Retired start len) h = omega (arith, le, h)
+
+stored_in-append : (ls c : List ℤ) (e : Entry) → LiesWithin (length ls) e → stored_in (ls ++ c) e ≡ stored_in ls e
+stored_in-append ls c Vacant h = refl
+stored_in-append ls c (Live start len) h = ap (λ (t : List ℤ). plain.live (record { start = start; literals = t })) (slice_range-append ls c start (start + len) (omega arith) h)
+stored_in-append ls c (Retired start len) h = ap (λ (t : List ℤ). plain.retired (record { start = start; literals = t })) (slice_range-append ls c start (start + len) (omega arith) h)
+
+map-stored_in-append : (ls c : List ℤ) (es : List Entry) → AllByRecursion (LiesWithin (length ls)) es → map (stored_in (ls ++ c)) es ≡ map (stored_in ls) es
+map-stored_in-append ls c [] h = refl
+map-stored_in-append ls c (e ∷ es) h =
+    let here : stored_in (ls ++ c) e ≡ stored_in ls e = stored_in-append ls c e h.0 in
+    let there : map (stored_in (ls ++ c)) es ≡ map (stored_in ls) es = map-stored_in-append ls c es h.1 in
+    cc
+
+-- ---- publish
+
+pub stored_more : (ls c : List ℤ) (es : List Entry) (id : ℕ) → AllByRecursion (LiesWithin (length ls)) es
+    → map (stored_in (ls ++ c)) (set es id (Live (length ls) (length c))) ≡ set (map (stored_in ls) es) id (plain.live (record { start = length ls; literals = c }))
+stored_more ls c es id h =
+    map-set (stored_in (ls ++ c)) es id (Live (length ls) (length c))
+    ∙ ap (λ (xs : List Stored). set xs id (stored_in (ls ++ c) (Live (length ls) (length c)))) (map-stored_in-append ls c es h)
+    ∙ ap (λ (t : List ℤ). set (map (stored_in ls) es) id (plain.live (record { start = length ls; literals = t }))) (slice_range-end ls c)
+
+pub view_more : (p : Plan) (es : List Entry) (ls c : List ℤ) (free : List ℕ) (id : ℕ) → AllByRecursion (LiesWithin (length ls)) es
+    → plain_of p (set es id (Live (length ls) (length c))) (ls ++ c) free
+    ≡ record { layout = p; stored = set (map (stored_in ls) es) id (plain.live (record { start = length ls; literals = c })); free = free }
+view_more p es ls c free id h = ap (λ (xs : List Stored). record { layout = p; stored = xs; free = free }) (stored_more ls c es id h)
+
+-- the room that a stream has left, with what the others have
+sum-less : (free : List ℕ) (i n : ℕ) → i < length free → n ≤ get_or free i 0 → sum (set free i (get_or free i 0 - n)) + n ≡ sum free
+sum-less free i n within fits =
+    let step : sum (set free i (get_or free i 0 - n)) + get_or free i 0 ≡ sum free + (get_or free i 0 - n) = sum_by-set (λ x. x) free i (get_or free i 0 - n) 0 within in
+    omega arith
+
+pub sound_more : (p : Plan) (es : List Entry) (ls c : List ℤ) (free : List ℕ) (capacity more i id : ℕ) → IsSound p es ls free capacity
+    → p.clauses < id → i < length free → length c ≤ get_or free i 0 → capacity ≤ more
+    → IsClause p.vars c → Follows (formula_of (plain_of p es ls free)) c
+    → IsSound p (set es id (Live (length ls) (length c))) (ls ++ c) (set free i (get_or free i 0 - length c)) more
+sound_more p es ls c free capacity more i id sound derived within fits grows clause follows =
+    let left : sum (set free i (get_or free i 0 - length c)) + length c ≡ sum free = sum-less free i (length c) within fits in
+    let all : length (ls ++ c) ≡ length ls + length c = length-append ls c in
+    let free' = set free i (get_or free i 0 - length c) in
+    let v = plain.live (record { start = length ls; literals = c }) in
+    let stored : map (stored_in (ls ++ c)) (set es id (Live (length ls) (length c))) ≡ set (map (stored_in ls) es) id v = stored_more ls c es id sound.within in
+    let same : formula_of (plain_of p (set es id (Live (length ls) (length c))) (ls ++ c) free') ≡ formula_of (plain_of p es ls free) =
+    ap formula_of (view_more p es ls c free' id sound.within) ∙ formula_of-set (plain_of p es ls free) id v free' derived in
+    record {
+      plan = sound.plan;
+      count = length-set es id (Live (length ls) (length c)) ∙ sound.count;
+      streams = length-set free i (get_or free i 0 - length c) ∙ sound.streams;
+      within = AllByRecursion-set (LiesWithin (length (ls ++ c))) es id (Live (length ls) (length c))
+          (AllByRecursion-weaker (LiesWithin (length ls)) (LiesWithin (length (ls ++ c))) (LiesWithin-weaker (length ls) (length (ls ++ c)) (omega (arith, all))) es sound.within)
+          (omega (arith, all));
+      reserved = omega (arith, all, left, sound.reserved, grows);
+      small = omega (arith, all, left, sound.small);
+      clauses = subst (λ (f : Cnf). AllByRecursion (StoresClause f) (map (stored_in (ls ++ c)) (set es id (Live (length ls) (length c))))) (sym same)
+          (subst (AllByRecursion (StoresClause (formula_of (plain_of p es ls free)))) (sym stored)
+          (AllByRecursion-set (StoresClause (formula_of (plain_of p es ls free))) (map (stored_in ls) es) id v sound.clauses (clause, follows)));
+    }
+
+-- ---- retire
+
+stores_at : (f : Cnf) (ls : List ℤ) (es : List Entry) (id : ℕ) → AllByRecursion (StoresClause f) (map (stored_in ls) es) → id < length es → StoresClause f (stored_in ls (get_or es id Vacant))
+stores_at f ls [] id h lt = absurd (omega (arith, lt))
+stores_at f ls (e ∷ es) zero h lt = h.0
+stores_at f ls (e ∷ es) (suc id) h lt = stores_at f ls es id h.1 (omega (arith, lt))
+
+pub stored_retired : (ls : List ℤ) (es : List Entry) (id start len : ℕ)
+    → map (stored_in ls) (set es id (Retired start len)) ≡ set (map (stored_in ls) es) id (plain.retired (record { start = start; literals = slice_range ls start (start + len) }))
+stored_retired ls es id start len = map-set (stored_in ls) es id (Retired start len)
+
+pub view_retired : (p : Plan) (es : List Entry) (ls : List ℤ) (free : List ℕ) (id start len : ℕ)
+    → plain_of p (set es id (Retired start len)) ls free
+    ≡ record { layout = p; stored = set (map (stored_in ls) es) id (plain.retired (record { start = start; literals = slice_range ls start (start + len) })); free = free }
+view_retired p es ls free id start len = ap (λ (xs : List Stored). record { layout = p; stored = xs; free = free }) (stored_retired ls es id start len)
+
+pub sound_retired : (p : Plan) (es : List Entry) (ls : List ℤ) (free : List ℕ) (capacity id start len : ℕ) → IsSound p es ls free capacity
+    → p.clauses < id → id < length es → get_or es id Vacant ≡ Live start len
+    → IsSound p (set es id (Retired start len)) ls free capacity
+sound_retired p es ls free capacity id start len sound derived within here =
+    let lies : LiesWithin (length ls) (Live start len) = subst (LiesWithin (length ls)) here (AllByRecursion-at (LiesWithin (length ls)) es id Vacant sound.within within) in
+    let text = slice_range ls start (start + len) in
+    let v = plain.retired (record { start = start; literals = text }) in
+    let same : formula_of (plain_of p (set es id (Retired start len)) ls free) ≡ formula_of (plain_of p es ls free) =
+    ap formula_of (view_retired p es ls free id start len) ∙ formula_of-set (plain_of p es ls free) id v free derived in
+    let f = formula_of (plain_of p es ls free) in
+    let kept : StoresClause f (stored_in ls (Live start len)) = subst (λ (e : Entry). StoresClause f (stored_in ls e)) here (stores_at f ls es id sound.clauses within) in
+    record {
+      plan = sound.plan;
+      count = length-set es id (Retired start len) ∙ sound.count;
+      streams = sound.streams;
+      within = AllByRecursion-set (LiesWithin (length ls)) es id (Retired start len) sound.within lies;
+      reserved = sound.reserved;
+      small = sound.small;
+      clauses = subst (λ (g : Cnf). AllByRecursion (StoresClause g) (map (stored_in ls) (set es id (Retired start len)))) (sym same)
+          (subst (AllByRecursion (StoresClause f)) (sym (stored_retired ls es id start len))
+          (AllByRecursion-set (StoresClause f) (map (stored_in ls) es) id v sound.clauses kept));
+    }
+
+-- ---- what lies under an identity
+
+none_kept : (kept : Kept) → None ≡ Some kept → ⊥
+none_kept kept h = cc
+
+some_is : (a b : Kept) → Some a ≡ Some b → a ≡ b
+some_is a b h = cc
+
+-- the text of what is kept lies in the list of literals from its start on
+abbrev LiesAt : List ℤ → Kept → Type 0
+LiesAt ls kept = (len : ℕ) × (kept.start + len ≤ length ls) × (kept.literals ≡ slice_range ls kept.start (kept.start + len))
+
+entry_text : (ls : List ℤ) (es : List Entry) (id : ℕ) (kept : Kept) → AllByRecursion (LiesWithin (length ls)) es
+    → kept_of (get_or (map (stored_in ls) es) id plain.vacant) ≡ Some kept → LiesAt ls kept
+entry_text ls [] id kept h e = absurd (none_kept kept e)
+entry_text ls (Vacant ∷ es) zero kept h e = absurd (none_kept kept e)
+entry_text ls (Live start len ∷ es) zero kept h e = subst (LiesAt ls) (some_is (record { start = start; literals = slice_range ls start (start + len) }) kept e) (len, h.0, refl)
+entry_text ls (Retired start len ∷ es) zero kept h e = subst (LiesAt ls) (some_is (record { start = start; literals = slice_range ls start (start + len) }) kept e) (len, h.0, refl)
+entry_text ls (x ∷ es) (suc id) kept h e = entry_text ls es id kept h.1 e
+
+-- one literal of it
+pub literal_lies : (ls : List ℤ) (es : List Entry) (id k start : ℕ) (text : Clause) → AllByRecursion (LiesWithin (length ls)) es
+    → kept_of (get_or (map (stored_in ls) es) id plain.vacant) ≡ Some (record { start = start; literals = text }) → k < length text
+    → (start + k < length ls) × (slice_get text k ≡ Some (get_or ls (start + k) (pos 0)))
+literal_lies ls es id k start text h e lt =
+    let lies = entry_text ls es id (record { start = start; literals = text }) h e in
+    let width : start + lies.0 - start ≡ lies.0 = omega arith in
+    let is : text ≡ take lies.0 (drop start ls) = lies.2 ∙ ap (λ n. take n (drop start ls)) width in
+    let room : length (drop start ls) ≡ length ls - start = length-drop start ls in
+    let size : length text ≡ lies.0 = ap length is ∙ length-take lies.0 (drop start ls) ∙ min-eq_left (omega arith) in
+    let short : k < lies.0 = omega arith in
+    (omega arith, slice_get-get_or text k (pos 0) lt ∙ ap Some (ap (λ (t : List ℤ). get_or t k (pos 0)) is ∙ get_or-take lies.0 (drop start ls) k (pos 0) short ∙ get_or-drop start ls k (pos 0)))
+
+-- ---- the same of the whole map, where the entry was read
+
+within_count : (p : Plan) (es : List Entry) (id : ℕ) → length es ≡ last_identity p + 1 → id ≤ last_identity p → id < length es
+within_count p es id count le = omega arith
+
+within_stored : (ls : List ℤ) (es : List Entry) (id : ℕ) → id < length es → id < length (map (stored_in ls) es)
+within_stored ls es id h = omega (arith, h, length-map es (stored_in ls))
+
+-- what is stored where this entry was read
+stored_is : (ls : List ℤ) (es : List Entry) (id : ℕ) (e : Entry) → id < length es → e ≡ get_or es id e → get_or (map (stored_in ls) es) id plain.vacant ≡ stored_in ls e
+stored_is ls es id e within read = get_or-map (stored_in ls) es id Vacant plain.vacant within ∙ ap (stored_in ls) (sym (get_or_read es id e within read Vacant))
+
+pub retire_done : (v : Plain) (p : Plan) (es : List Entry) (ls : List ℤ) (free : List ℕ) (capacity s id start len : ℕ) (e : Entry)
+    → plain_of p es ls free ≡ v → IsSound p es ls free capacity → Owns v.layout s id
+    → e ≡ get_or es id e → e ≡ Live start len
+    → IsSound p (set es id (Retired start len)) ls free capacity × AfterRetire v (plain_of p (set es id (Retired start len)) ls free) id retiring.Done
+retire_done v p es ls free capacity s id start len e view sound =
+    subst (λ (w : Plain). Owns w.layout s id → e ≡ get_or es id e → e ≡ Live start len
+    → IsSound p (set es id (Retired start len)) ls free capacity × AfterRetire w (plain_of p (set es id (Retired start len)) ls free) id retiring.Done) view
+    (λ owns read is.
+    let mine = owned p s id sound.plan.some_stream owns in
+    let within : id < length es = within_count p es id sound.count mine.identity in
+    let here : get_or es id Vacant ≡ Live start len = sym (get_or_read es id e within read Vacant) ∙ is in (
+      sound_retired p es ls free capacity id start len sound mine.derived within here,
+      (
+        within_stored ls es id within,
+        record { start = start; literals = slice_range ls start (start + len) },
+        stored_is ls es id e within read ∙ ap (stored_in ls) is,
+        view_retired p es ls free id start len,
+      ),
+    ))
+
+-- an entry that isn't live
+abbrev pub NoLiveEntry : Entry → Type 0
+NoLiveEntry Vacant = Unit {0}
+NoLiveEntry (Live start len) = ⊥
+NoLiveEntry (Retired start len) = Unit {0}
+
+not_live : (ls : List ℤ) (e : Entry) → NoLiveEntry e → ¬ IsLive (slot_of (stored_in ls e))
+not_live ls Vacant h live = live
+not_live ls (Live start len) h live = h
+not_live ls (Retired start len) h live = live
+
+pub retire_not_live : (v : Plain) (p : Plan) (es : List Entry) (ls : List ℤ) (free : List ℕ) (capacity s id : ℕ) (e : Entry)
+    → plain_of p es ls free ≡ v → IsSound p es ls free capacity → Owns v.layout s id
+    → e ≡ get_or es id e → NoLiveEntry e
+    → ¬ IsLive (slot_of (stored_at v id))
+retire_not_live v p es ls free capacity s id e view sound =
+    subst (λ (w : Plain). Owns w.layout s id → e ≡ get_or es id e → NoLiveEntry e → ¬ IsLive (slot_of (stored_at w id))) view
+    (λ owns read none live.
+    let within : id < length es = within_count p es id sound.count (owned p s id sound.plan.some_stream owns).identity in
+    not_live ls e none (subst (λ (s : Stored). IsLive (slot_of s)) (stored_is ls es id e within read) live))
+
+-- an entry under which there is something
+abbrev pub IsTakenEntry : Entry → Type 0
+IsTakenEntry Vacant = ⊥
+IsTakenEntry (Live start len) = Unit {0}
+IsTakenEntry (Retired start len) = Unit {0}
+
+taken : (ls : List ℤ) (e : Entry) → IsTakenEntry e → stored_in ls e ≢ plain.vacant
+taken ls Vacant h is = h
+taken ls (Live start len) h is = cc
+taken ls (Retired start len) h is = cc
+
+pub publish_taken : (v : Plain) (p : Plan) (es : List Entry) (ls : List ℤ) (free : List ℕ) (capacity s id : ℕ) (e : Entry)
+    → plain_of p es ls free ≡ v → IsSound p es ls free capacity → Owns v.layout s id
+    → e ≡ get_or es id e → IsTakenEntry e
+    → stored_at v id ≢ plain.vacant
+publish_taken v p es ls free capacity s id e view sound =
+    subst (λ (w : Plain). Owns w.layout s id → e ≡ get_or es id e → IsTakenEntry e → stored_at w id ≢ plain.vacant) view
+    (λ owns read some is.
+    let within : id < length es = within_count p es id sound.count (owned p s id sound.plan.some_stream owns).identity in
+    taken ls e some (sym (stored_is ls es id e within read) ∙ is))
+
+pub publish_done : (v : Plain) (p : Plan) (es : List Entry) (ls c more : List ℤ) (free : List ℕ) (capacity grown i id n left : ℕ) (e : Entry)
+    → plain_of p es ls free ≡ v → IsSound p es ls free capacity → Owns v.layout (i + 1) id
+    → IsPublishable (formula_of v) c → length c ≤ get_or v.free i 0
+    → e ≡ get_or es id e → e ≡ Vacant → more ≡ ls ++ c → n ≡ length ls → left ≡ get_or free i left → capacity ≤ grown
+    → IsSound p (set es id (Live n (length c))) more (set free i (left - length c)) grown
+    × AfterPublish v (plain_of p (set es id (Live n (length c))) more (set free i (left - length c))) i id c publishing.Done
+publish_done v p es ls c more free capacity grown i id n left e view sound =
+    subst (λ (w : Plain). Owns w.layout (i + 1) id
+    → IsPublishable (formula_of w) c → length c ≤ get_or w.free i 0
+    → e ≡ get_or es id e → e ≡ Vacant → more ≡ ls ++ c → n ≡ length ls → left ≡ get_or free i left → capacity ≤ grown
+    → IsSound p (set es id (Live n (length c))) more (set free i (left - length c)) grown
+    × AfterPublish w (plain_of p (set es id (Live n (length c))) more (set free i (left - length c))) i id c publishing.Done) view
+    (λ owns clause fits read is grows from room bigger.
+    let mine = owned p (i + 1) id sound.plan.some_stream owns in
+    let within : id < length es = within_count p es id sound.count mine.identity in
+    let inside : i < length free = omega (arith, mine.last, sound.streams) in
+    let left_is : left ≡ get_or free i 0 = get_or_read free i left inside room 0 in
+    rw (grows, from, left_is) (
+      sound_more p es ls c free capacity grown i id sound mine.derived inside fits bigger clause.clause clause.follows,
+      (inside, within_stored ls es id within, stored_is ls es id e within read ∙ ap (stored_in ls) is, length ls, view_more p es ls c (set free i (get_or free i 0 - length c)) id sound.within),
+    ))
+
+-- a literal of a known clause lies in the list
+pub known_literal : (v : Plain) (p : Plan) (es : List Entry) (ls : List ℤ) (free : List ℕ) (clip : ClauseName) (k : ℕ)
+    → plain_of p es ls free ≡ v → AllByRecursion (LiesWithin (length ls)) es → IsKnown (place_at v 1) clip → k < clip.len
+    → (clip.start + k < length ls) × (slice_get (text_of (place_at v 1) clip) k ≡ Some (get_or ls (clip.start + k) (pos 0)))
+known_literal v p es ls free clip k view within known lt =
+    subst (λ (w : Plain). IsKnown (place_at w 1) clip → (clip.start + k < length ls) × (slice_get (text_of (place_at w 1) clip) k ≡ Some (get_or ls (clip.start + k) (pos 0)))) view
+    (λ here. literal_lies ls es clip.id k clip.start (text_of (place_at (plain_of p es ls free) 1) clip) within here.kept (omega (arith, lt, here.len))) known

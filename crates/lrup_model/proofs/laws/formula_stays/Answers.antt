@@ -1,0 +1,5 @@
+use Rattle.lrup_model.proofs.HistoryLemmas.{formula_stays}
+use Rattle.lrup_model.proofs.laws.formula_stays.Goals as goal
+
+pub returns : goal.returns
+returns c = formula_stays

@@ -1,0 +1,5 @@
+use Rattle.lrup_model.proofs.HistoryLemmas.{one_owner}
+use Rattle.lrup_model.proofs.laws.one_owner.Goals as goal
+
+pub returns : goal.returns
+returns c = one_owner

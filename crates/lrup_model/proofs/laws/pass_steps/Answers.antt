@@ -1,0 +1,5 @@
+use Rattle.lrup_model.proofs.PassLemmas.{moves_step}
+use Rattle.lrup_model.proofs.laws.pass_steps.Goals as goal
+
+pub returns : goal.returns
+returns c = moves_step

@@ -1,0 +1,5 @@
+use Rattle.lrup_model.proofs.PassLemmas.{spelt_stays}
+use Rattle.lrup_model.proofs.laws.spelt_stays.Goals as goal
+
+pub returns : goal.returns
+returns c = spelt_stays

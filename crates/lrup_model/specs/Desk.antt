@@ -1,0 +1,42 @@
+-- A stream's desk at the clause map of one thread (this project's own).
+use Rattle.std.specs.Prelude.{◌≡◌, ◌+◌, ◌++◌, ℕ, []}
+use Rattle.std.proofs.Common.{refl, subst, sym, ◌∙◌}
+use Rattle.std.specs.Borrow.{MutBor}
+use Rattle.lrup_model.specs.Event.{History}
+use Rattle.lrup_model.specs.Place.{Place, Tells}
+use Rattle.lrup_model.specs.Plain.{Plain, place_at, PlainMoves}
+use Rattle.lrup_model.specs.declared.plain_map.PlainDesk.{PlainDesk}
+use Rattle.lrup_model.specs.PlainLaws.{moves_none, moves_append, moves_tells}
+
+-- the desk's stream, from 1 on
+abbrev pub stream_at : PlainDesk → ℕ
+stream_at d = d.index + 1
+
+-- the desk is a stream's at this map, and holds it
+pub record IsDesk (map : MutBor Plain) (s : ℕ) (d : PlainDesk) : Type 0 where
+  pub map_now : d.map.now ≡ map.now
+  pub same : d.map.ghost_name ≡ map.ghost_name
+  pub stream : stream_at d ≡ s
+
+abbrev pub place_of : PlainDesk → Place
+place_of d = place_at d.map.now (stream_at d)
+
+-- the desk stays at the same map, which moved by these events of its stream
+pub record DeskMoves (old new : PlainDesk) (es : History) : Type 0 where
+  pub same : new.map.ghost_name ≡ old.map.ghost_name
+  pub index : new.index ≡ old.index
+  pub moves : PlainMoves old.map.now new.map.now (stream_at old) es
+
+-- The laws of a place, for a desk.
+pub desk_none : (d : PlainDesk) → DeskMoves d d []
+desk_none d = record { same = refl; index = refl; moves = moves_none d.map.now (stream_at d) }
+
+pub desk_append : (a b c : PlainDesk) (es fs : History) → DeskMoves a b es → DeskMoves b c fs → DeskMoves a c (es ++ fs)
+desk_append a b c es fs h k = record {
+  same = k.same ∙ h.same;
+  index = k.index ∙ h.index;
+  moves = moves_append a.map.now b.map.now c.map.now (stream_at a) es fs h.moves (subst (λ i. PlainMoves b.map.now c.map.now (i + 1) fs) h.index k.moves);
+}
+
+pub desk_tells : (a b : PlainDesk) (es : History) → DeskMoves a b es → Tells (place_of a) (place_of b) es
+desk_tells a b es h = subst (λ i. Tells (place_of a) (place_at b.map.now (i + 1)) es) (sym h.index) (moves_tells a.map.now b.map.now (stream_at a) es h.moves)

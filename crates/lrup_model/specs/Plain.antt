@@ -1,0 +1,106 @@
+-- The clause map of one thread, as its contracts see it, and a stream's desk at it (this project's own).
+use Rattle.std.specs.Prelude.{◌≡◌, ◌≢◌, ◌+◌, ◌-◌, ◌<◌, ℕ, List, [], length, map, take, drop, slice_index, slice_index_or, slice_set, Option, None, Some}
+use Rattle.std.specs.List.{AllByRecursion}
+use Rattle.lrup_model.specs.Clause.{Clause, IsClause}
+use Rattle.lrup_model.specs.Formula.{Cnf}
+use Rattle.lrup_model.specs.Entailment.{Follows}
+use Rattle.lrup_model.specs.Layout.{Plan}
+use Rattle.lrup_model.specs.Event.{History, stream_of, spent}
+use Rattle.lrup_model.specs.State.{Slot, absent, State, run, IsLive}
+use Rattle.lrup_model.specs.State as slots
+use Rattle.lrup_model.specs.History.{LegalFrom}
+use Rattle.lrup_model.specs.Place.{Kept, Place, KeepsSpelt}
+use Rattle.lrup_model.specs.declared.clause_map.Fetched.{Fetched}
+use Rattle.lrup_model.specs.declared.clause_map.Fetched.TheVariants as fetched
+use Rattle.lrup_model.specs.declared.clause_map.Published.{Published}
+use Rattle.lrup_model.specs.declared.clause_map.Published.TheVariants as publishing
+use Rattle.lrup_model.specs.declared.clause_map.Retired.{Retired}
+use Rattle.lrup_model.specs.declared.clause_map.Retired.TheVariants as retiring
+
+-- what is stored under an identity
+pub data Stored : Type 0 where
+  vacant : Stored
+  live : Kept → Stored
+  retired : Kept → Stored
+
+-- stored begins with identity 0, under which there is nothing; free is what is left of each stream's room
+pub record Plain : Type 0 where
+  pub layout : Plan
+  pub stored : List Stored
+  pub free : List ℕ
+
+abbrev pub slot_of : Stored → Slot
+slot_of vacant = absent
+slot_of (live kept) = slots.live kept.literals
+slot_of (retired kept) = slots.retired kept.literals
+
+abbrev pub kept_of : Stored → Option Kept
+kept_of vacant = None
+kept_of (live kept) = Some kept
+kept_of (retired kept) = Some kept
+
+abbrev pub clause_of : Stored → Clause
+clause_of vacant = []
+clause_of (live kept) = kept.literals
+clause_of (retired kept) = kept.literals
+
+abbrev pub stored_at : Plain → ℕ → Stored
+stored_at m id = slice_index_or m.stored id vacant
+
+-- the formula stands under the first identities
+abbrev pub formula_of : Plain → Cnf
+formula_of m = record { vars = m.layout.vars; clauses = map clause_of (take m.layout.clauses (drop 1 m.stored)) }
+
+abbrev pub state_of : Plain → State
+state_of m = λ id. slot_of (stored_at m id)
+
+-- what is left of a stream's room, for streams from 1 on
+abbrev pub free_at : Plain → ℕ → ℕ
+free_at m s = slice_index m.free (s - 1)
+
+-- what a stream's caller knows at the map
+abbrev pub place_at : Plain → ℕ → Place
+place_at m s = record {
+  formula = formula_of m;
+  layout = m.layout;
+  stream = s;
+  own = state_of m;
+  room = free_at m s;
+  spelt = λ id. kept_of (stored_at m id);
+}
+
+-- Between the two moments the map went through these events of the stream: each answered as the map after the events before it.
+pub record PlainMoves (old new : Plain) (s : ℕ) (es : History) : Type 0 where
+  pub layout : new.layout ≡ old.layout
+  pub formula : formula_of new ≡ formula_of old
+  pub callers : AllByRecursion (λ e. stream_of e ≡ s) es
+  pub answers : LegalFrom (formula_of old) old.layout (state_of old) es
+  pub state : state_of new ≡ run (state_of old) es
+  pub room : free_at new s + spent s es ≡ free_at old s
+  pub others : (t : ℕ) → 0 < t → t ≢ s → free_at new t ≡ free_at old t
+  pub spelt : KeepsSpelt (λ id. kept_of (stored_at old id)) (λ id. kept_of (stored_at new id))
+
+-- what a fetch of the identity answers where this is stored
+abbrev pub fetched_of : ℕ → Stored → Fetched
+fetched_of id vacant = fetched.Vacant
+fetched_of id (live kept) = fetched.Live (record { id = id; len = length kept.literals; start = kept.start })
+fetched_of id (retired kept) = fetched.Retired
+
+-- the clause of what is stored follows from the formula
+abbrev pub StoresClause : Cnf → Stored → Type 0
+StoresClause f vacant = Unit {0}
+StoresClause f (live kept) = IsClause f.vars kept.literals × Follows f kept.literals
+StoresClause f (retired kept) = IsClause f.vars kept.literals × Follows f kept.literals
+
+-- the map after a publish, and after a retire, by its answer; i is the stream's place in the list of rooms, from 0 on
+abbrev pub AfterPublish : Plain → Plain → ℕ → ℕ → Clause → Published → Type 0
+AfterPublish old new i id c publishing.Done =
+    (i < length old.free) × (id < length old.stored) × (stored_at old id ≡ vacant)
+    × (start : ℕ) × (new ≡ record { layout = old.layout; stored = slice_set old.stored id (live (record { start = start; literals = c })); free = slice_set old.free i (slice_index old.free i - length c) })
+AfterPublish old new i id c publishing.Taken = (stored_at old id ≢ vacant) × (new ≡ old)
+
+abbrev pub AfterRetire : Plain → Plain → ℕ → Retired → Type 0
+AfterRetire old new id retiring.Done =
+    (id < length old.stored) × (kept : Kept) × (stored_at old id ≡ live kept)
+    × (new ≡ record { layout = old.layout; stored = slice_set old.stored id (retired kept); free = old.free })
+AfterRetire old new id retiring.NotLive = (¬ IsLive (slot_of (stored_at old id))) × (new ≡ old)

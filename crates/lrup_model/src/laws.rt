@@ -1,0 +1,128 @@
+//! Laws of the definitions. Each function does nothing; its contract is the law, which holds of every formula, layout,
+//! history and pass.
+ghost use Rattle.lrup_model.specs.Laws.{RunsInTurn, LegalInTurn, OwnInTurn, SpentInTurn, BeginningsLegal, FormulaStays, OwnCallsDecide, EntriesAdvance, OwnersAct, OneOwner, PropagationSound, EmptyClauseRefutes, ClausesFollow, KnownStays, PassRests, PassMovesInTurn, PassTells, SpeltStays, SpeltFollows, PassLearns, PassSteps, AmongMembers, AmongKeepsOwn, RestrictionLegal, OwnLegal};
+
+/// The state after two histories, one behind the other, is the second's after the first's.
+pub fn runs_in_turn()
+    ensures { RunsInTurn }
+{}
+
+/// Two histories, one behind the other, are legal exactly if each is, the second from the state that the first leaves.
+pub fn legal_in_turn()
+    ensures { LegalInTurn }
+{}
+
+/// A stream's own events of two histories, one behind the other, are those of the first and then those of the second.
+pub fn own_in_turn()
+    ensures { OwnInTurn }
+{}
+
+/// What a stream spent in two histories is what it spent in each, added up.
+pub fn spent_in_turn()
+    ensures { SpentInTurn }
+{}
+
+/// Each beginning of a legal history is legal.
+pub fn beginnings_legal()
+    ensures { BeginningsLegal }
+{}
+
+/// An identity of the formula keeps its clause, live.
+pub fn formula_stays()
+    ensures { FormulaStays }
+{}
+
+/// What a legal history has at a stream's own identity depends on that stream's calls alone.
+pub fn own_calls_decide()
+    ensures { OwnCallsDecide }
+{}
+
+/// An entry goes from absent to live to retired, with one clause.
+pub fn entries_advance()
+    ensures { EntriesAdvance }
+{}
+
+/// In a legal history each publish and each retire is by the stream that owns the identity.
+pub fn owners_act()
+    ensures { OwnersAct }
+{}
+
+/// No identity has two owners.
+pub fn one_owner()
+    ensures { OneOwner }
+{}
+
+/// What clauses that follow show by propagation follows too.
+pub fn propagation_sound()
+    ensures { PropagationSound }
+{}
+
+/// Where the empty clause follows, no assignment makes every clause of the formula true.
+pub fn empty_clause_refutes()
+    ensures { EmptyClauseRefutes }
+{}
+
+/// Every clause that a legal history leaves, live or retired, is a clause that follows from the formula.
+pub fn clauses_follow()
+    ensures { ClausesFollow }
+{}
+
+/// A name that is known at a place stays known, with the same literals, whatever calls follow.
+pub fn known_stays()
+    ensures { KnownStays }
+{}
+
+/// No calls lie between a pass and itself.
+pub fn pass_rests()
+    ensures { PassRests }
+{}
+
+/// A pass that moves by some calls and then by others moves by all of them.
+pub fn pass_moves_in_turn()
+    ensures { PassMovesInTurn }
+{}
+
+/// What a pass's calls say of the caller's place.
+pub fn pass_tells()
+    ensures { PassTells }
+{}
+
+/// What is spelt after a history is spelt the same after any legal one that begins with it.
+pub fn spelt_stays()
+    ensures { SpeltStays }
+{}
+
+/// What is spelt after a legal history is a clause that follows from the formula.
+pub fn spelt_follows()
+    ensures { SpeltFollows }
+{}
+
+/// A pass that sees more events of others has moved by no call.
+pub fn pass_learns()
+    ensures { PassLearns }
+{}
+
+/// A fair pass moves by one call of its own, whatever it saw of others before.
+pub fn pass_steps()
+    ensures { PassSteps }
+{}
+
+/// The events among those of a set of streams are of these streams alone.
+pub fn among_members()
+    ensures { AmongMembers }
+{}
+
+/// The events among those of a set of streams have all events of each of them.
+pub fn among_keeps_own()
+    ensures { AmongKeepsOwn }
+{}
+
+/// The events of streams that find no clause of the others are a legal history by themselves.
+pub fn restriction_legal()
+    ensures { RestrictionLegal }
+{}
+
+/// One stream's events are a legal history by themselves, where it finds no clause of another stream.
+pub fn own_legal()
+    ensures { OwnLegal }
+{}

@@ -1,0 +1,264 @@
+//! The clause map of one thread.
+ghost use Rattle.std.specs.Prelude.{◌≡◌, ◌↔◌, ◌+◌, ◌-◌, ◌^◌, ◌≤◌, ◌<◌, ℕ, Some, [], ◌∷◌, length, IfOk, slice_get, slice_index, replicate, ◌++◌, vec_len, vec_capacity};
+ghost use Rattle.lrup_model.specs.Layout.{IsPlan, Fits, IsStream, Owns, last_identity};
+ghost use Rattle.lrup_model.specs.Formula.{literals_of};
+ghost use Rattle.lrup_model.specs.State.{opening};
+ghost use Rattle.lrup_model.specs.PlainInside.{flat, entries_from};
+ghost use Rattle.lrup_model.specs.Desk.{IsDesk};
+ghost use Rattle.lrup_model.specs.Plain.{Plain, stored_at, formula_of, state_of, free_at, place_at, fetched_of, StoresClause, AfterPublish, AfterRetire};
+ghost use Rattle.lrup_model.specs.History.{IsPublishable};
+ghost use Rattle.lrup_model.specs.Place.{IsKnown, text_of};
+
+use crate::Id;
+use crate::clause_map::{ClauseMap, Clip, Fetched, Published, Retired};
+use crate::formula::Formula;
+use crate::layout::{Layout, Owner};
+use crate::lit::Lit;
+use std::alloc::{AllocError, Global};
+use std::marker::Model;
+
+/// What stands under an identity, with the place of the clause's first literal and their count. 12 bytes.
+#[derive(Clone, Copy)]
+enum Entry {
+    Vacant,
+    Live { start: u32, len: u32 },
+    Retired { start: u32, len: u32 },
+}
+
+/// The clause map of one thread: an entry an identity, and all literals in one list.
+#[derive(Drop)]
+pub struct PlainMap {
+    layout: Layout,
+    entries: Vec<Entry>,
+    literals: Vec<Lit>,
+    free: Vec<u64>,
+}
+
+impl Model for PlainMap {
+    ghost use Rattle.lrup_model.specs.Plain.{Plain};
+    ghost use Rattle.std.specs.Prelude.{vec_capacity};
+
+    ghost Value = { Plain };
+
+    ghost use Rattle.lrup_model.specs.PlainInside.{plain_of, IsSound};
+
+    ghost view = { λ m. plain_of m.layout m.entries.items m.literals.items m.free.items };
+
+    ghost invariant = { λ m. IsSound m.layout m.entries.items m.literals.items m.free.items (vec_capacity m.literals) };
+}
+
+const _: () = prove!(size_of::<Entry>() == 12);
+
+impl PlainMap {
+    /// What a fetch of the identity answers.
+    fn look(&self, id: Id) -> Fetched
+        requires { id ≤ last_identity self.now.layout }
+        ensures answer { result ≡ fetched_of id (stored_at self.now id) }
+        ensures clause { StoresClause (formula_of self.now) (stored_at self.now id) }
+    {
+        match self.entries[id as usize] {
+            Entry::Vacant => Fetched::Vacant,
+            Entry::Live { start, len } => Fetched::Live(Clip::new(id, len, start)),
+            Entry::Retired { .. } => Fetched::Retired,
+        }
+    }
+
+    /// Literal `k` of a clause that is stored under the clip's identity.
+    fn literal_of(&self, clip: &Clip, k: u32) -> Lit
+        requires known { IsKnown (place_at self.now 1) clip.now }
+        requires within { k < clip.now.len }
+        ensures { slice_get (text_of (place_at self.now 1) clip.now) k ≡ Some result }
+    {
+        self.literals[clip.start() as usize + k as usize]
+    }
+
+    /// Stores the clause under an identity of the stream at this place in the list of rooms, where it is vacant.
+    fn publish_at(&mut self, index: u32, id: Id, clause: &[Lit]) -> Published
+        requires owns { Owns self.old.layout (index + 1) id }
+        requires clause { IsPublishable (formula_of self.old) clause.now }
+        requires room { length clause.now ≤ slice_index self.old.free index }
+        ensures { AfterPublish self.old self.new index id clause.now result }
+    {
+        let Entry::Vacant = self.entries[id as usize] else {
+            return Published::Taken;
+        };
+        let start = self.literals.as_slice().len() as u32;
+        let len = clause.len() as u32;
+        let Ok(()) = self.literals.extend_from_slice(clause) else {
+            unreachable!()
+        };
+        self.entries[id as usize] = Entry::Live { start, len };
+        self.free[index as usize] -= len as u64;
+        Published::Done
+    }
+
+    /// Retires what is stored under an identity of the stream at this place, where it is live.
+    fn retire_at(&mut self, index: u32, id: Id) -> Retired
+        requires { Owns self.old.layout (index + 1) id }
+        ensures { AfterRetire self.old self.new id result }
+    {
+        let Entry::Live { start, len } = self.entries[id as usize] else {
+            return Retired::NotLive;
+        };
+        self.entries[id as usize] = Entry::Retired { start, len };
+        Retired::Done
+    }
+}
+
+impl PlainMap {
+    /// The map of a formula's clauses. It reserves all that it will need: 12 bytes for each identity and one more, 4 for
+    /// each literal of the formula and of the streams' room, and 8 a stream. A refusal leaves nothing behind.
+    pub fn open(alloc: Global, formula: &Formula, layout: &Layout) -> Result<PlainMap, AllocError>
+        requires { Fits layout.now formula.now }
+        ensures layout { IfOk result (λ map. map.layout ≡ layout.now) }
+        ensures formula { IfOk result (λ map. formula_of map ≡ formula.now) }
+        ensures state { IfOk result (λ map. state_of map ≡ opening formula.now) }
+        ensures room { IfOk result (λ map. map.free ≡ replicate layout.now.streams layout.now.room) }
+    {
+        let mut literals = Vec::with_capacity(
+            alloc,
+            formula.literals() + layout.all_room() as usize,
+        )?;
+        let mut entries = Vec::with_capacity(alloc, layout.last_identity() as usize + 1)?;
+        entries.push_reserved(Entry::Vacant);
+        keep_clauses(formula, &mut entries, &mut literals);
+        keep_vacant(
+            layout.last_identity() as usize - formula.len(),
+            &mut entries,
+        );
+        let free = rooms(alloc, layout)?;
+        Ok(PlainMap {
+            layout: *layout,
+            entries,
+            literals,
+            free,
+        })
+    }
+
+    /// The numbers of the run.
+    pub fn layout(&self) -> &Layout
+        ensures { result.now ≡ self.now.layout }
+    {
+        &self.layout
+    }
+
+    /// What is left of the room of the stream at this place in the list of rooms; 0 where there is none.
+    fn room_at(&self, index: u32) -> u64
+        ensures { result ≡ slice_index self.now.free index }
+    {
+        self.free.get(index as usize).copied().unwrap_or(0)
+    }
+
+    /// The place of stream `s`, from 1 on, at this map.
+    pub fn desk(&mut self, s: u64) -> PlainDesk<'_>
+        requires { IsStream self.old.layout s }
+        ensures { IsDesk self.entry s result }
+    {
+        let _ = &self.layout;
+        PlainDesk {
+            map: self,
+            index: (s - 1) as u32,
+        }
+    }
+}
+
+/// The whole room of each stream.
+fn rooms(alloc: Global, layout: &Layout) -> Result<Vec<u64>, AllocError>
+    ensures rooms { IfOk result (λ free. free.items ≡ replicate layout.now.streams layout.now.room) }
+    ensures plan { IsPlan layout.now }
+{
+    vec![in alloc; layout.room(); layout.streams() as usize]
+}
+
+/// Keeps the formula's clauses, live.
+fn keep_clauses(formula: &Formula, entries: &mut Vec<Entry>, literals: &mut Vec<Lit>)
+    requires none { literals.old.items ≡ [] }
+    requires entries { vec_len entries.old + length formula.now.clauses ≤ vec_capacity entries.old }
+    requires literals { literals_of formula.now ≤ vec_capacity literals.old }
+    requires small { literals_of formula.now < 2 ^ 32 }
+    ensures entries { entries.new.items ≡ entries.old.items ++ entries_from 0 formula.now.clauses }
+    ensures literals { literals.new.items ≡ flat formula.now.clauses }
+    ensures count { vec_len entries.new ≡ vec_len entries.old + length formula.now.clauses }
+    ensures room { vec_capacity entries.old ≤ vec_capacity entries.new }
+    ensures capacity { vec_capacity literals.old ≤ vec_capacity literals.new }
+{
+    for i in 0..formula.len() {
+        let clause = formula.clause(i + 1);
+        let start = literals.as_slice().len() as u32;
+        let len = clause.len() as u32;
+        let Ok(()) = literals.extend_from_slice(clause) else {
+            unreachable!()
+        };
+        entries.push_reserved(Entry::Live { start, len });
+    }
+}
+
+/// Adds vacant entries.
+fn keep_vacant(count: usize, entries: &mut Vec<Entry>)
+    requires { vec_len entries.old + count ≤ vec_capacity entries.old }
+    ensures { entries.new.items ≡ entries.old.items ++ replicate count Entry.Vacant }
+{
+    for _i in 0..count {
+        entries.push_reserved(Entry::Vacant);
+    }
+}
+
+/// A stream's place at the clause map of one thread.
+pub struct PlainDesk<'a> {
+    map: &'a mut PlainMap,
+    index: u32,
+}
+
+impl Drop for PlainDesk<'_> {
+    fn drop(self)
+        ensures { self.exit.0.now ≡ self.entry.map.now }
+    {
+        let PlainDesk { map: _, index: _ } = self;
+    }
+}
+
+impl ClauseMap for PlainDesk<'_> {
+    ghost use Rattle.lrup_model.specs.Desk.{place_of, DeskMoves, desk_none, desk_append, desk_tells};
+
+    ghost place = { place_of };
+
+    ghost moves = { DeskMoves };
+
+    fn stream(&self) -> u64 {
+        self.index as u64 + 1
+    }
+
+    fn covers(&self, id: Id) -> bool {
+        self.map.layout().covers(id)
+    }
+
+    fn owns(&self, id: Id) -> bool {
+        self.map.layout().owner(id) == Owner::Stream(self.stream())
+    }
+
+    fn room(&self) -> u64 {
+        self.map.room_at(self.index)
+    }
+
+    fn fetch(&mut self, id: Id) -> Fetched {
+        self.map.look(id)
+    }
+
+    fn literal(&mut self, clip: &Clip, k: u32) -> Lit {
+        self.map.literal_of(clip, k)
+    }
+
+    fn publish(&mut self, id: Id, clause: &[Lit]) -> Published {
+        self.map.publish_at(self.index, id, clause)
+    }
+
+    fn retire(&mut self, id: Id) -> Retired {
+        self.map.retire_at(self.index, id)
+    }
+
+    ghost moves_none = { desk_none };
+
+    ghost moves_append = { desk_append };
+
+    ghost moves_tells = { desk_tells };
+}
