@@ -22,7 +22,7 @@ use Rattle.lrup_model.specs.declared.plain_map.Entry.TheVariants.{Vacant, Live}
 use Rattle.lrup_model.proofs.PieceLemmas.{slice_range-append, slice_range-end}
 use Rattle.lrup_model.proofs.HistoryLemmas.{opening-formula, opening-above}
 
--- ---- the loop that keeps the clauses
+-- The loop that keeps the clauses
 
 pub clause_at-suc : (f : Cnf) (i : ℕ) → clause_at f (i + 1) ≡ get_or f.clauses i []
 clause_at-suc f i =
@@ -59,7 +59,7 @@ kept_more cs i c start ls more es grown first within here lits from grows ents n
 pub kept_fits : (cs : List Clause) (i : ℕ) → i < length cs → length (flat (take i cs)) + length (get_or cs i []) ≤ sum_by length cs
 kept_fits cs i within = omega (arith, length-flat (take i cs), sum_by_more_le length cs i [] within)
 
--- ---- the map that the entries and the literals make
+-- The map that the entries and the literals make
 
 -- the clause that ends a front of the literals is what stands behind the ones before
 entry_is : (front c back : List ℤ) → stored_in (front ++ c ++ back) (Live (length front) (length c)) ≡ plain.live (record { start = length front; literals = c })
@@ -127,7 +127,7 @@ opened_slot f n (suc i) =
       | inr le ↦ slot_past 0 f.clauses n i le ∙ sym (opening-above f (suc i) (omega (arith, le)))
     ]
 
--- ---- the whole map
+-- The whole map
 
 vacant_stored : (ls : List ℤ) (n : ℕ) → map (stored_in ls) (replicate n Vacant) ≡ replicate n plain.vacant
 vacant_stored ls zero = refl

@@ -64,16 +64,16 @@ moves_tells a b es moves = record {
   spelt = moves.spelt;
 }
 
-abbrev kept_of : ℕ → Clause → Option Kept
-kept_of start c = Some (record { start = start; literals = c })
+abbrev kept_from : ℕ → Clause → Option Kept
+kept_from start c = Some (record { start = start; literals = c })
 
 -- a name stays known while what is kept for it stays
 pub known_stays : (a b : Place) (es : History) (clip : ClauseName) → Tells a b es → IsKnown a clip → IsKnown b clip × (text_of b clip ≡ text_of a clip)
 known_stays a b es clip tells known =
-    let kept : b.spelt clip.id ≡ kept_of clip.start (text_of a clip) = tells.spelt clip.id (record { start = clip.start; literals = text_of a clip }) known.kept in
+    let kept : b.spelt clip.id ≡ kept_from clip.start (text_of a clip) = tells.spelt clip.id (record { start = clip.start; literals = text_of a clip }) known.kept in
     let text : text_of b clip ≡ text_of a clip = ap literals_in kept in (
       record {
-        kept = kept ∙ ap (kept_of clip.start) (sym text);
+        kept = kept ∙ ap (kept_from clip.start) (sym text);
         len = known.len ∙ ap length (sym text);
         clause = subst₂ (λ (f : Cnf) (c : Clause). IsClause f.vars c) (sym tells.formula) (sym text) known.clause;
         follows = subst₂ (λ (f : Cnf) (c : Clause). Follows f c) (sym tells.formula) (sym text) known.follows;
@@ -117,11 +117,11 @@ start_stays f p seen more id owners.Outside own_opening something = refl
 kept_stays : (i j : ℕ) (old new : Slot) (kept : Kept) → Advances old new → ((old ≡ absent → ⊥) → j ≡ i) → kept_at i old ≡ Some kept → kept_at j new ≡ Some kept
 kept_stays i j absent new kept advances start there = absurd (cc)
 kept_stays i j (live c) absent kept advances start there = absurd advances
-kept_stays i j (live c) (live d) kept advances start there = ap₂ kept_of (start (λ none. cc)) advances ∙ there
-kept_stays i j (live c) (retired d) kept advances start there = ap₂ kept_of (start (λ none. cc)) advances ∙ there
+kept_stays i j (live c) (live d) kept advances start there = ap₂ kept_from (start (λ none. cc)) advances ∙ there
+kept_stays i j (live c) (retired d) kept advances start there = ap₂ kept_from (start (λ none. cc)) advances ∙ there
 kept_stays i j (retired c) absent kept advances start there = absurd advances
 kept_stays i j (retired c) (live d) kept advances start there = absurd advances
-kept_stays i j (retired c) (retired d) kept advances start there = ap₂ kept_of (start (λ none. cc)) advances ∙ there
+kept_stays i j (retired c) (retired d) kept advances start there = ap₂ kept_from (start (λ none. cc)) advances ∙ there
 
 pub spelt_stays : (f : Cnf) (p : Plan) (seen more : History) → Fits p f → IsLegal f p (seen ++ more) → KeepsSpelt (spelt f p seen) (spelt f p (seen ++ more))
 spelt_stays f p seen more fits legal id kept there =

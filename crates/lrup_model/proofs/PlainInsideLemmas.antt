@@ -1,9 +1,10 @@
 -- How the clause map of one thread is kept, through publish and retire.
-use Rattle.std.proofs.Common.{◌≡◌, ◌≢◌, ℕ, zero, suc, ℤ, ◌+◌, ◌-◌, ◌<◌, ◌≤◌, List, [], ◌∷◌, ◌++◌, length, get_or, set, take, drop, Some, None, refl, sym, ap, subst, ◌∙◌, arith, length-append, length-drop, length-take}
+use Rattle.std.proofs.Common.{◌≡◌, ℕ, zero, suc, ℤ, ◌+◌, ◌-◌, ◌<◌, ◌≤◌, List, [], ◌∷◌, ◌++◌, length, get_or, set, take, drop, Some, None, refl, sym, ap, subst, ◌∙◌, arith, length-append, length-drop, length-take}
 use Rattle.std.specs.Prelude.{pos, map, sum, slice_range, slice_get}
 use Rattle.std.specs.List.{AllByRecursion}
 use Rattle.std.proofs.lemmas.List.{map-set, length-set, get_or-take, get_or-drop, get_or_read, get_or-map, length-map}
 use Rattle.std.proofs.Math.Nat.{min-eq_left}
+use Rattle.std.proofs.lemmas.List.Elements.{All-from_recursion}
 use Rattle.std.proofs.lemmas.List.Sums.{sum_by-set}
 use Rattle.std.proofs.lemmas.Option.{slice_get-get_or}
 use Rattle.lrup_model.specs.Clause.{Clause, IsClause}
@@ -13,7 +14,6 @@ use Rattle.lrup_model.specs.Layout.{Plan, Owns, last_identity}
 use Rattle.lrup_model.specs.Place.{Kept, ClauseName, IsKnown, text_of}
 use Rattle.lrup_model.specs.Plain as plain
 use Rattle.lrup_model.specs.Plain.{Stored, Plain, formula_of, StoresClause, kept_of, slot_of, stored_at, place_at, AfterPublish, AfterRetire}
-use Rattle.lrup_model.specs.State.{IsLive}
 use Rattle.lrup_model.specs.History.{IsPublishable}
 use Rattle.lrup_model.specs.declared.clause_map.Published.TheVariants as publishing
 use Rattle.lrup_model.specs.declared.clause_map.Retired.TheVariants as retiring
@@ -24,23 +24,18 @@ use Rattle.lrup_model.proofs.PieceLemmas.{slice_range-append, slice_range-end}
 use Rattle.lrup_model.proofs.OwnerLemmas.{owned}
 use Rattle.lrup_model.proofs.PlainLemmas.{formula_of-set}
 
--- ---- lists
+-- Lists
 
 AllByRecursion-set : {X : Type 0} (P : X → Type 0) (xs : List X) (i : ℕ) (v : X) → AllByRecursion P xs → P v → AllByRecursion P (set xs i v)
 AllByRecursion-set P [] i v h p = tt
 AllByRecursion-set P (x ∷ xs) zero v h p = (p, h.1)
 AllByRecursion-set P (x ∷ xs) (suc i) v h p = (h.0, AllByRecursion-set P xs i v h.1 p)
 
-pub AllByRecursion-at : {X : Type 0} (P : X → Type 0) (xs : List X) (i : ℕ) (d : X) → AllByRecursion P xs → i < length xs → P (get_or xs i d)
-AllByRecursion-at P [] i d h lt = absurd (omega (arith, lt))
-AllByRecursion-at P (x ∷ xs) zero d h lt = h.0
-AllByRecursion-at P (x ∷ xs) (suc i) d h lt = AllByRecursion-at P xs i d h.1 (omega (arith, lt))
-
 AllByRecursion-weaker : {X : Type 0} (P Q : X → Type 0) → ((x : X) → P x → Q x) → (xs : List X) → AllByRecursion P xs → AllByRecursion Q xs
 AllByRecursion-weaker P Q f [] h = tt
 AllByRecursion-weaker P Q f (x ∷ xs) h = (f x h.0, AllByRecursion-weaker P Q f xs h.1)
 
--- ---- entries over a list of literals that has grown at its end
+-- Entries over a list of literals that has grown at its end
 
 LiesWithin-weaker : (n m : ℕ) → n ≤ m → (e : Entry) → LiesWithin n e → LiesWithin m e
 LiesWithin-weaker n m le Vacant h = tt
@@ -59,7 +54,7 @@ map-stored_in-append ls c (e ∷ es) h =
     let there : map (stored_in (ls ++ c)) es ≡ map (stored_in ls) es = map-stored_in-append ls c es h.1 in
     cc
 
--- ---- publish
+-- Publish
 
 pub stored_more : (ls c : List ℤ) (es : List Entry) (id : ℕ) → AllByRecursion (LiesWithin (length ls)) es
     → map (stored_in (ls ++ c)) (set es id (Live (length ls) (length c))) ≡ set (map (stored_in ls) es) id (plain.live (record { start = length ls; literals = c }))
@@ -105,7 +100,7 @@ sound_more p es ls c free capacity more i id sound derived within fits grows cla
           (AllByRecursion-set (StoresClause (formula_of (plain_of p es ls free))) (map (stored_in ls) es) id v sound.clauses (clause, follows)));
     }
 
--- ---- retire
+-- Retire
 
 stores_at : (f : Cnf) (ls : List ℤ) (es : List Entry) (id : ℕ) → AllByRecursion (StoresClause f) (map (stored_in ls) es) → id < length es → StoresClause f (stored_in ls (get_or es id Vacant))
 stores_at f ls [] id h lt = absurd (omega (arith, lt))
@@ -125,7 +120,7 @@ pub sound_retired : (p : Plan) (es : List Entry) (ls : List ℤ) (free : List �
     → p.clauses < id → id < length es → get_or es id Vacant ≡ Live start len
     → IsSound p (set es id (Retired start len)) ls free capacity
 sound_retired p es ls free capacity id start len sound derived within here =
-    let lies : LiesWithin (length ls) (Live start len) = subst (LiesWithin (length ls)) here (AllByRecursion-at (LiesWithin (length ls)) es id Vacant sound.within within) in
+    let lies : LiesWithin (length ls) (Live start len) = subst (LiesWithin (length ls)) here (All-from_recursion (LiesWithin (length ls)) es sound.within id Vacant within) in
     let text = slice_range ls start (start + len) in
     let v = plain.retired (record { start = start; literals = text }) in
     let same : formula_of (plain_of p (set es id (Retired start len)) ls free) ≡ formula_of (plain_of p es ls free) =
@@ -144,7 +139,7 @@ sound_retired p es ls free capacity id start len sound derived within here =
           (AllByRecursion-set (StoresClause f) (map (stored_in ls) es) id v sound.clauses kept));
     }
 
--- ---- what lies under an identity
+-- What lies under an identity
 
 none_kept : (kept : Kept) → None ≡ Some kept → ⊥
 none_kept kept h = cc
@@ -177,7 +172,7 @@ literal_lies ls es id k start text h e lt =
     let short : k < lies.0 = omega arith in
     (omega arith, slice_get-get_or text k (pos 0) lt ∙ ap Some (ap (λ (t : List ℤ). get_or t k (pos 0)) is ∙ get_or-take lies.0 (drop start ls) k (pos 0) short ∙ get_or-drop start ls k (pos 0)))
 
--- ---- the same of the whole map, where the entry was read
+-- The same of the whole map, where the entry was read
 
 within_count : (p : Plan) (es : List Entry) (id : ℕ) → length es ≡ last_identity p + 1 → id ≤ last_identity p → id < length es
 within_count p es id count le = omega arith
@@ -208,48 +203,6 @@ retire_done v p es ls free capacity s id start len e view sound =
         view_retired p es ls free id start len,
       ),
     ))
-
--- an entry that isn't live
-abbrev pub NoLiveEntry : Entry → Type 0
-NoLiveEntry Vacant = Unit {0}
-NoLiveEntry (Live start len) = ⊥
-NoLiveEntry (Retired start len) = Unit {0}
-
-not_live : (ls : List ℤ) (e : Entry) → NoLiveEntry e → ¬ IsLive (slot_of (stored_in ls e))
-not_live ls Vacant h live = live
-not_live ls (Live start len) h live = h
-not_live ls (Retired start len) h live = live
-
-pub retire_not_live : (v : Plain) (p : Plan) (es : List Entry) (ls : List ℤ) (free : List ℕ) (capacity s id : ℕ) (e : Entry)
-    → plain_of p es ls free ≡ v → IsSound p es ls free capacity → Owns v.layout s id
-    → e ≡ get_or es id e → NoLiveEntry e
-    → ¬ IsLive (slot_of (stored_at v id))
-retire_not_live v p es ls free capacity s id e view sound =
-    subst (λ (w : Plain). Owns w.layout s id → e ≡ get_or es id e → NoLiveEntry e → ¬ IsLive (slot_of (stored_at w id))) view
-    (λ owns read none live.
-    let within : id < length es = within_count p es id sound.count (owned p s id sound.plan.some_stream owns).identity in
-    not_live ls e none (subst (λ (s : Stored). IsLive (slot_of s)) (stored_is ls es id e within read) live))
-
--- an entry under which there is something
-abbrev pub IsTakenEntry : Entry → Type 0
-IsTakenEntry Vacant = ⊥
-IsTakenEntry (Live start len) = Unit {0}
-IsTakenEntry (Retired start len) = Unit {0}
-
-taken : (ls : List ℤ) (e : Entry) → IsTakenEntry e → stored_in ls e ≢ plain.vacant
-taken ls Vacant h is = h
-taken ls (Live start len) h is = cc
-taken ls (Retired start len) h is = cc
-
-pub publish_taken : (v : Plain) (p : Plan) (es : List Entry) (ls : List ℤ) (free : List ℕ) (capacity s id : ℕ) (e : Entry)
-    → plain_of p es ls free ≡ v → IsSound p es ls free capacity → Owns v.layout s id
-    → e ≡ get_or es id e → IsTakenEntry e
-    → stored_at v id ≢ plain.vacant
-publish_taken v p es ls free capacity s id e view sound =
-    subst (λ (w : Plain). Owns w.layout s id → e ≡ get_or es id e → IsTakenEntry e → stored_at w id ≢ plain.vacant) view
-    (λ owns read some is.
-    let within : id < length es = within_count p es id sound.count (owned p s id sound.plan.some_stream owns).identity in
-    taken ls e some (sym (stored_is ls es id e within read) ∙ is))
 
 pub publish_done : (v : Plain) (p : Plan) (es : List Entry) (ls c more : List ℤ) (free : List ℕ) (capacity grown i id n left : ℕ) (e : Entry)
     → plain_of p es ls free ≡ v → IsSound p es ls free capacity → Owns v.layout (i + 1) id

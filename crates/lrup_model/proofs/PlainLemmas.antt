@@ -5,11 +5,11 @@ use Rattle.std.specs.List.{sum_by}
 use Rattle.std.proofs.Math.Path.{fun_ext}
 use Rattle.std.proofs.lemmas.Bool.{eqb-true, eqb-false}
 use Rattle.std.proofs.lemmas.List.{get_or-set_other, take-set-le, drop-set-add}
-use Rattle.std.proofs.lemmas.Grind.{get_or-set_at}  -- `grind` does not fit a call that has one variable twice to numbers that are equal by bounds alone. S ..
+use Rattle.std.proofs.lemmas.Grind.{get_or-set_at}
 use Rattle.std.proofs.lemmas.List.Sums.{sum_by-cons}
 use Rattle.std.proofs.Math.Numerals.{one-add}
 use Rattle.lrup_model.specs.Clause.{Clause}
-use Rattle.lrup_model.specs.Layout.{IsIdentity, Owns}
+use Rattle.lrup_model.specs.Layout.{Owns}
 use Rattle.lrup_model.specs.Event as events
 use Rattle.lrup_model.specs.Event.{Event, History, Reply, stream_of, size_of, own, spent}
 use Rattle.lrup_model.specs.State as slots
@@ -20,9 +20,8 @@ use Rattle.lrup_model.proofs.HistoryLemmas.{owned_above}
 use Rattle.lrup_model.specs.Plain.{Stored, vacant, live, retired, Plain, slot_of, kept_of, clause_of, stored_at, formula_of, state_of, free_at, PlainMoves, AfterPublish}
 use Rattle.lrup_model.specs.declared.clause_map.Published.{Published}
 use Rattle.lrup_model.specs.declared.clause_map.Published.TheVariants as publishing
-use Rattle.lrup_model.specs.declared.clause_map.Retired.TheVariants as retiring
 
--- ---- what is stored under one identity is replaced
+-- What is stored under one identity is replaced
 
 at_set : (xs : List Stored) (id j : ℕ) (v : Stored) (b : Bool) → eqb j id ≡ b → id < length xs
     → slot_of (get_or (set xs id v) j vacant) ≡ cond b (slot_of v) (slot_of (get_or xs j vacant))
@@ -56,7 +55,7 @@ pub keeps-set : (m : Plain) (id : ℕ) (v : Stored) (free : List ℕ) → id < l
     → KeepsSpelt (λ j. kept_of (stored_at m j)) (λ j. kept_of (stored_at (record { layout = m.layout; stored = set m.stored id v; free = free }) j))
 keeps-set m id v free h keeps j kept old = kept_at-set m.stored id j v kept (eqb j id) refl h keeps old
 
--- ---- one event
+-- One event
 
 nothing_kept : {kept : Kept} → None ≡ Some kept → ⊥
 nothing_kept h = cc
@@ -80,15 +79,9 @@ stays m s e by size same answers allowed = record {
   spelt = λ id kept old. old;
 }
 
-pub moves_fetch : (m : Plain) (s id : ℕ) (r : Reply) → IsIdentity m.layout id → Answers (state_of m) (events.fetch s id r) → PlainMoves m m s (events.fetch s id r ∷ [])
-moves_fetch m s id r identity answers = stays m s (events.fetch s id r) refl refl refl answers identity
-
 pub moves_taken : (m : Plain) (s id : ℕ) (c : Clause) → Owns m.layout s id → IsPublishable (formula_of m) c → state_of m id ≢ slots.absent
     → PlainMoves m m s (events.publish s id c publishing.Taken ∷ [])
 moves_taken m s id c owns clause taken = stays m s (events.publish s id c publishing.Taken) refl refl refl taken (owns, clause)
-
-pub moves_not_live : (m : Plain) (s id : ℕ) → Owns m.layout s id → ¬ IsLive (state_of m id) → PlainMoves m m s (events.retire s id retiring.NotLive ∷ [])
-moves_not_live m s id owns not_live = stays m s (events.retire s id retiring.NotLive) refl refl refl not_live owns
 
 -- the rooms after a stream took so many literals
 room_left : (free : List ℕ) (i n : ℕ) → i < length free → n ≤ get_or free i 0 → get_or (set free i (get_or free i 0 - n)) i 0 + n ≡ get_or free i 0
@@ -110,20 +103,6 @@ moves_done m s id start c first last derived within owns clause empty fits =
       others = λ t positive other. get_or-set_other m.free (s - 1) (t - 1) _ 0 (omega (arith, first, positive, other));
       spelt = keeps-set m id v free within (λ kept old. absurd (nothing_kept (subst (λ w. kept_of w ≡ Some kept) empty old)));
     }
-
-pub moves_retired : (m : Plain) (s id : ℕ) (kept : Kept) → m.layout.clauses < id → id < length m.stored
-    → Owns m.layout s id → stored_at m id ≡ live kept
-    → PlainMoves m (record { layout = m.layout; stored = set m.stored id (retired kept); free = m.free }) s (events.retire s id retiring.Done ∷ [])
-moves_retired m s id kept derived within owns here = record {
-  layout = refl;
-  formula = formula_of-set m id (retired kept) m.free derived;
-  callers = (refl, tt);
-  answers = (subst (λ w. IsLive (slot_of w)) (sym here) tt, owns, tt);
-  state = state_of-set m id (retired kept) m.free within ∙ ap (λ w. put (state_of m) id (retire_slot (slot_of w))) (sym here);
-  room = omega (arith, spent_one s (events.retire s id retiring.Done) refl);
-  others = λ t positive other. refl;
-  spelt = keeps-set m id (retired kept) m.free within (λ k old. subst (λ w. kept_of w ≡ Some k) here old);
-}
 
 vacant_from : (s : Stored) → slot_of s ≡ slots.absent → s ≡ vacant
 vacant_from vacant h = refl

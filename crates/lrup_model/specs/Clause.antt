@@ -1,4 +1,4 @@
--- Clauses. A clause is a finite set of literals; it is kept as a list that has each of them once, and what is said of it reads the list as a set.
+-- Clauses (textbook). A clause is a finite set of literals; it is kept as a list that has each of them once, and what is said of it reads the list as a set.
 use Rattle.std.specs.Prelude.{◌≡◌, ◌⊎◌, ℕ, ℤ, neg_ℤ, List, [], ◌∷◌}
 use Rattle.std.specs.List.{AllByRecursion}
 use Rattle.lrup_model.specs.Literal.{IsLiteral}

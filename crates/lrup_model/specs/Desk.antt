@@ -12,31 +12,35 @@ use Rattle.lrup_model.specs.PlainLaws.{moves_none, moves_append, moves_tells}
 abbrev pub stream_at : PlainDesk → ℕ
 stream_at d = d.index + 1
 
+-- the map that the desk is at
+abbrev pub map_of : PlainDesk → Plain
+map_of d = d.map.now
+
 -- the desk is a stream's at this map, and holds it
 pub record IsDesk (map : MutBor Plain) (s : ℕ) (d : PlainDesk) : Type 0 where
-  pub map_now : d.map.now ≡ map.now
+  pub map_now : map_of d ≡ map.now
   pub same : d.map.ghost_name ≡ map.ghost_name
   pub stream : stream_at d ≡ s
 
 abbrev pub place_of : PlainDesk → Place
-place_of d = place_at d.map.now (stream_at d)
+place_of d = place_at (map_of d) (stream_at d)
 
 -- the desk stays at the same map, which moved by these events of its stream
 pub record DeskMoves (old new : PlainDesk) (es : History) : Type 0 where
   pub same : new.map.ghost_name ≡ old.map.ghost_name
   pub index : new.index ≡ old.index
-  pub moves : PlainMoves old.map.now new.map.now (stream_at old) es
+  pub moves : PlainMoves (map_of old) (map_of new) (stream_at old) es
 
 -- The laws of a place, for a desk.
 pub desk_none : (d : PlainDesk) → DeskMoves d d []
-desk_none d = record { same = refl; index = refl; moves = moves_none d.map.now (stream_at d) }
+desk_none d = record { same = refl; index = refl; moves = moves_none (map_of d) (stream_at d) }
 
 pub desk_append : (a b c : PlainDesk) (es fs : History) → DeskMoves a b es → DeskMoves b c fs → DeskMoves a c (es ++ fs)
 desk_append a b c es fs h k = record {
   same = k.same ∙ h.same;
   index = k.index ∙ h.index;
-  moves = moves_append a.map.now b.map.now c.map.now (stream_at a) es fs h.moves (subst (λ i. PlainMoves b.map.now c.map.now (i + 1) fs) h.index k.moves);
+  moves = moves_append (map_of a) (map_of b) (map_of c) (stream_at a) es fs h.moves (subst (λ i. PlainMoves (map_of b) (map_of c) (i + 1) fs) h.index k.moves);
 }
 
 pub desk_tells : (a b : PlainDesk) (es : History) → DeskMoves a b es → Tells (place_of a) (place_of b) es
-desk_tells a b es h = subst (λ i. Tells (place_of a) (place_at b.map.now (i + 1)) es) (sym h.index) (moves_tells a.map.now b.map.now (stream_at a) es h.moves)
+desk_tells a b es h = subst (λ i. Tells (place_of a) (place_at (map_of b) (i + 1)) es) (sym h.index) (moves_tells (map_of a) (map_of b) (stream_at a) es h.moves)

@@ -1,5 +1,5 @@
 -- The numbers of a run and who owns an identity. Identities by residue, and the limits, are this project's own.
-use Rattle.std.specs.Prelude.{◌≡◌, ◌⊎◌, ◌+◌, ◌-◌, ◌*◌, ◌%◌, ◌≤◌, ◌<◌, ℕ, length, if◌then◌else◌, nat_eq, nat_le}
+use Rattle.std.specs.Prelude.{◌≡◌, ◌⊎◌, ◌+◌, ◌-◌, ◌*◌, ◌%◌, ◌≤◌, ◌<◌, ℕ, List, length, if◌then◌else◌, nat_eq, nat_le, codes}
 use Rattle.lrup_model.specs.Literal.{max_variable}
 use Rattle.lrup_model.specs.Formula.{Cnf, max_clauses, literals_of}
 use Rattle.lrup_model.specs.declared.layout.Owner.{Owner}
@@ -68,3 +68,10 @@ IsFault p faults.TooManyVariables = max_variable < p.vars
 IsFault p faults.TooManyClauses = (p.vars ≤ max_variable) × (max_clauses < p.clauses)
 IsFault p faults.BadStreamCount = (p.vars ≤ max_variable) × (p.clauses ≤ max_clauses) × ((p.streams ≡ 0) ⊎ (max_streams < p.streams))
 IsFault p faults.RowTooLong = (p.vars ≤ max_variable) × (p.clauses ≤ max_clauses) × (0 < p.streams) × (p.streams ≤ max_streams) × (max_row_words < row_words p)
+
+-- the text of a fault
+abbrev pub fault_text : LayoutFault → List ℕ
+fault_text faults.TooManyVariables = codes "formula refused: limit"
+fault_text faults.TooManyClauses = codes "formula refused: limit"
+fault_text faults.BadStreamCount = codes "stream count"
+fault_text faults.RowTooLong = codes "row too long"

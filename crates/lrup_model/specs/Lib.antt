@@ -17,3 +17,4 @@ pub mod PlainInside
 pub mod PlainLaws
 pub mod Desk
 pub mod Laws
+pub mod Worked

@@ -1,4 +1,4 @@
--- A list of literals cut into clauses.
+-- A list of literals cut into clauses, as a formula is kept (this project's own).
 use Rattle.std.specs.Prelude.{◌≡◌, ◌≤◌, ℕ, List, [], ◌∷◌, slice_range}
 use Rattle.lrup_model.specs.Clause.{Clause}
 

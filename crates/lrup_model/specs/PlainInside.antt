@@ -1,4 +1,4 @@
--- How the clause map of one thread is kept: an entry an identity, and all literals in one list.
+-- How the clause map of one thread is kept: an entry an identity, and all literals in one list (this project's own).
 use Rattle.std.specs.Prelude.{◌≡◌, ◌+◌, ◌≤◌, ℕ, ℤ, List, [], ◌∷◌, ◌++◌, length, map, sum, slice_range}
 use Rattle.std.specs.List.{AllByRecursion}
 use Rattle.lrup_model.specs.Clause.{Clause}

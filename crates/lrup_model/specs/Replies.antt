@@ -1,4 +1,4 @@
--- What a fetch answers, as the reply of its event.
+-- What a fetch answers, as the reply of its event (this project's own).
 use Rattle.std.specs.Prelude.{◌≡◌, ℕ}
 use Rattle.lrup_model.specs.Event.{Reply, vacant, live, retired}
 use Rattle.lrup_model.specs.Place.{Place, text_of, IsKnown}

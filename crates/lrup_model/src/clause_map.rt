@@ -1,17 +1,17 @@
 //! The clause map as one caller sees it.
-ghost use Rattle.std.specs.Prelude.{◌≡◌, ◌↔◌, ◌≤◌, ◌<◌, ℕ, [], ◌∷◌, ◌++◌, IsTrue, Some, length, slice_get};
+ghost use Rattle.std.specs.Prelude.{◌≡◌, ◌↔◌, ◌≤◌, ◌<◌, [], ◌∷◌, ◌++◌, IsTrue, Some, length, slice_get};
 ghost use Rattle.lrup_model.specs.Layout.{IsIdentity, Owns};
-ghost use Rattle.lrup_model.specs.State.{Answers, IsLive, absent};
+ghost use Rattle.lrup_model.specs.State.{IsLive, absent};
 ghost use Rattle.lrup_model.specs.Event.{History, fetch, publish, retire};
 ghost use Rattle.lrup_model.specs.History.{IsPublishable};
-ghost use Rattle.lrup_model.specs.Place.{Place, Tells, IsKnown, text_of, ClauseName};
+ghost use Rattle.lrup_model.specs.Place.{Place, Tells, IsKnown, text_of};
 ghost use Rattle.lrup_model.specs.Replies.{IsFetched, reply_of};
 
 use crate::Id;
 use crate::lit::Lit;
 use std::marker::Model;
 
-/// The name of a published clause at one clause map: its identity, the count of its literals and the place of the first.
+/// The name of a clause at one clause map: its identity, the count of its literals and the place of the first.
 #[derive(Clone, Copy, Debug, PartialEq, Eq)]
 pub struct Clip {
     id: Id,
@@ -30,13 +30,14 @@ impl Model for Clip {
 }
 
 impl Clip {
-    /// A name is used only where it is known, as those are that a fetch gave.
+    /// The name of these three. A name is used only where it is known, as those are that a fetch gave.
     pub fn new(id: Id, len: u32, start: u32) -> Clip
         ensures { result ≡ record { id = id; len = len; start = start } }
     {
         Clip { id, len, start }
     }
 
+    /// The clause's identity.
     pub fn id(&self) -> Id
         ensures { result ≡ self.now.id }
     {
@@ -50,6 +51,7 @@ impl Clip {
         self.len
     }
 
+    /// Is it a name of the empty clause?
     pub fn is_empty(&self) -> bool
         ensures { IsTrue result ↔ (self.now.len ≡ 0) }
     {
@@ -78,6 +80,7 @@ pub enum Fetched {
 /// What a publish answers.
 #[derive(Clone, Copy, Debug, PartialEq, Eq)]
 pub enum Published {
+    /// The clause is live under the identity, and has taken its room.
     Done,
     /// Something had been published under the identity before; nothing changed.
     Taken,
@@ -86,6 +89,7 @@ pub enum Published {
 /// What a retire answers.
 #[derive(Clone, Copy, Debug, PartialEq, Eq)]
 pub enum Retired {
+    /// The clause was live, and is retired from now on.
     Done,
     /// The identity isn't live; nothing changed.
     NotLive,
@@ -111,11 +115,11 @@ pub trait ClauseMap {
     fn owns(&self, id: Id) -> bool
         ensures { IsTrue result ↔ Owns (place self.now).layout (place self.now).stream id };
 
-    /// What is left of the caller's room, in literals.
+    /// What is left of the caller's room, in literals: a publish with Done takes the clause's length, and nothing gives any back.
     fn room(&self) -> u64
         ensures { result ≡ (place self.now).room };
 
-    /// What the map has under the identity.
+    /// What the map has under an identity.
     fn fetch(&mut self, id: Id) -> Fetched
         requires { IsIdentity (place self.old).layout id }
         ensures event { moves self.old self.new (fetch (place self.old).stream id (reply_of (place self.new) result) ∷ []) }
@@ -129,7 +133,7 @@ pub trait ClauseMap {
         ensures event { moves self.old self.new [] }
         ensures stays { place self.new ≡ place self.old };
 
-    /// Publishes a clause under an identity of the caller's own.
+    /// Publishes a clause that follows from the formula, of at most 65,535 literals, under an identity of the caller's own.
     fn publish(&mut self, id: Id, clause: &[Lit]) -> Published
         requires owns { Owns (place self.old).layout (place self.old).stream id }
         requires clause { IsPublishable (place self.old).formula clause.now }
@@ -137,7 +141,7 @@ pub trait ClauseMap {
         ensures event { moves self.old self.new (publish (place self.old).stream id clause.now result ∷ []) }
         ensures done { (result ≡ Published.Done) ↔ ((place self.old).own id ≡ absent) };
 
-    /// Retires a clause of the caller's own.
+    /// Retires the clause under an identity of the caller's own.
     fn retire(&mut self, id: Id) -> Retired
         requires { Owns (place self.old).layout (place self.old).stream id }
         ensures event { moves self.old self.new (retire (place self.old).stream id result ∷ []) }

@@ -1,7 +1,7 @@
 //! Formulas in conjunctive normal form.
-ghost use Rattle.std.specs.Prelude.{◌≡◌, ◌↔◌, ◌+◌, ◌-◌, ◌≤◌, ◌<◌, ℕ, ℤ, [], ◌∷◌, ◌++◌, IsTrue, OnOk, OnErr, length, slice_index, slice_index_or, slice_range};
+ghost use Rattle.std.specs.Prelude.{◌≡◌, ◌↔◌, ◌+◌, ◌-◌, ◌≤◌, ◌<◌, [], ◌∷◌, ◌++◌, IsTrue, OnOk, OnErr, length, slice_index, slice_index_or, slice_range};
 ghost use Rattle.lrup_model.specs.Literal.{max_variable};
-ghost use Rattle.lrup_model.specs.Formula.{Cnf, IsCnf, IsFormulaClause, clause_at, literals_of, max_clauses};
+ghost use Rattle.lrup_model.specs.Formula.{IsCnf, IsFormulaClause, clause_at, literals_of, max_clauses};
 ghost use Rattle.lrup_model.specs.Pieces.{pieces, AreEnds};
 
 use crate::lit::Lit;
@@ -30,7 +30,13 @@ impl Model for Formula {
 }
 
 impl Formula {
-    /// The formula of this many variables, at most 16,777,215, and no clause.
+    /// The greatest count of clauses.
+    pub const MAX_CLAUSES: u32 = 16_777_215;
+
+    /// The greatest count of literals of one clause.
+    pub const MAX_CLAUSE_LITERALS: u32 = 1_048_575;
+
+    /// The formula of this many variables, at most 16,777,215, and no clause. It takes no memory.
     pub fn new(alloc: Global, vars: u32) -> Self
         requires { vars ≤ max_variable }
         ensures { result ≡ record { vars = vars; clauses = [] } }
@@ -42,7 +48,8 @@ impl Formula {
         }
     }
 
-    /// Adds the next clause. A refusal changes nothing.
+    /// Adds the next clause: at most 1,048,575 literals, each once, over the formula's variables. There are at most 16,777,215
+    /// clauses. Want of memory changes nothing.
     pub fn push(&mut self, clause: &[Lit]) -> Result<(), AllocError>
         requires count { length self.old.clauses < max_clauses }
         requires clause { IsFormulaClause self.old.vars clause.now }
@@ -72,6 +79,7 @@ impl Formula {
         self.ends.as_slice().len()
     }
 
+    /// Has the formula no clause?
     pub fn is_empty(&self) -> bool
         ensures { IsTrue result ↔ (self.now.clauses ≡ []) }
     {
@@ -112,6 +120,7 @@ fn part<'a>(literals: &'a [Lit], ends: &[usize], i: usize) -> &'a [Lit]
     between(literals, start(ends, i), ends[i])
 }
 
+/// The literals from one place to before another.
 fn between(literals: &[Lit], from: usize, end: usize) -> &[Lit]
     requires ordered { from ≤ end }
     requires within { end ≤ length literals.now }

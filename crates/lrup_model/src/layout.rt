@@ -1,10 +1,10 @@
 //! The numbers of a run, and who owns an identity.
-ghost use Rattle.std.specs.Prelude.{◌≡◌, ◌↔◌, ◌+◌, ◌*◌, ◌≤◌, ◌<◌, ℕ, IsTrue, IfOk, IfErr, length};
-ghost use Rattle.lrup_model.specs.Literal.{max_variable};
+ghost use Rattle.std.specs.Prelude.{◌≡◌, ◌↔◌, ◌+◌, ◌*◌, ◌≤◌, ◌<◌, IsTrue, IfOk, IfErr, Some};
 ghost use Rattle.lrup_model.specs.Formula.{max_clauses};
-ghost use Rattle.lrup_model.specs.Layout.{Plan, IsPlan, IsFault, Fits, IsIdentity, owner, last_identity, row_words, max_streams, max_row_words};
+ghost use Rattle.lrup_model.specs.Layout.{Plan, IsPlan, IsFault, fault_text, Fits, IsIdentity, owner, last_identity, row_words, max_streams, max_row_words};
 
 use crate::formula::Formula;
+use crate::lit::Lit;
 use std::error::Error;
 use std::fmt;
 use std::marker::Model;
@@ -20,7 +20,7 @@ pub enum Owner {
     Outside,
 }
 
-/// Why there is no layout of these numbers. Where several hold it is the first.
+/// Why there is no layout of some numbers. Where several hold it is the first.
 #[derive(Clone, Copy, Debug, PartialEq, Eq)]
 pub enum LayoutFault {
     /// More than 16,777,215 variables.
@@ -34,6 +34,8 @@ pub enum LayoutFault {
 }
 
 impl fmt::Display for LayoutFault {
+    ghost output = { λ fault. Some (fault_text fault) };
+
     fn fmt<W: fmt::Write>(&self, f: &mut fmt::Formatter<W>) -> fmt::Result {
         f.write_str(match self {
             LayoutFault::TooManyVariables | LayoutFault::TooManyClauses => "formula refused: limit",
@@ -70,8 +72,14 @@ impl Model for Layout {
 }
 
 impl Layout {
+    /// The greatest count of streams.
+    pub const MAX_STREAMS: u64 = 64;
+
+    /// The greatest count of words of the shared row, 2^28.
+    pub const MAX_ROW_WORDS: u64 = 268_435_456;
+
     /// The layout of a formula's numbers of variables, clauses and literals, a number of streams, and for each stream a
-    /// number of identities and a number of literals.
+    /// number of identities and room for a number of literals. The fault is the first that holds, as they are listed.
     pub fn new(
         vars: u64,
         clauses: u64,
@@ -86,13 +94,13 @@ impl Layout {
         ensures fault { let plan : Plan = record { vars = vars; clauses = clauses; literals = literals; streams = streams; lines = lines; room = room } in
             IfErr result (IsFault plan) }
     {
-        if vars > 16_777_215 {
+        if vars > u64::from(Lit::MAX_VARIABLE) {
             return Err(LayoutFault::TooManyVariables);
         }
-        if clauses > 16_777_215 {
+        if clauses > u64::from(Formula::MAX_CLAUSES) {
             return Err(LayoutFault::TooManyClauses);
         }
-        if streams == 0 || streams > 64 {
+        if streams == 0 || streams > Layout::MAX_STREAMS {
             return Err(LayoutFault::BadStreamCount);
         }
         if !row_fits(clauses, literals, streams, lines, room) {
@@ -127,7 +135,9 @@ impl Layout {
         } else if id <= clauses {
             Owner::Formula
         } else if id <= self.last_identity() {
-            Owner::Stream((id - clauses - 1) % self.streams as u64 + 1)
+            // An identity is below 2^28, so that a division of 32 bits serves.
+            let place = id as u32 - self.clauses - 1;
+            Owner::Stream(u64::from(place % self.streams) + 1)
         } else {
             Owner::Outside
         }
@@ -173,6 +183,15 @@ impl Layout {
         self.clauses as u64 + self.streams as u64 * self.lines as u64
     }
 
+    /// The words of the shared row, 1 to 2^28: one that stays 0, one for each identity, one for each literal of the formula
+    /// and of the streams' room.
+    pub fn row_words(&self) -> u64
+        ensures words { result ≡ row_words self.now }
+        ensures plan { IsPlan self.now }
+    {
+        1 + self.last_identity() + self.literals as u64 + self.all_room()
+    }
+
     /// Is this an identity: 1 to the last?
     pub fn covers(&self, id: u64) -> bool
         ensures { IsTrue result ↔ IsIdentity self.now id }
@@ -188,7 +207,7 @@ fn row_fits(clauses: u64, literals: u64, streams: u64, lines: u64, room: u64) ->
     requires streams { streams ≤ max_streams }
     ensures { IsTrue result ↔ (1 + (clauses + streams * lines) + literals + streams * room ≤ max_row_words) }
 {
-    const MOST: u64 = 268_435_456;
+    const MOST: u64 = Layout::MAX_ROW_WORDS;
     if literals > MOST || lines > MOST || room > MOST {
         return false;
     }

@@ -9,12 +9,14 @@ pub mod laws;
 mod layout;
 mod lit;
 mod plain_map;
+#[cfg(test)]
+mod tests;
 
 pub use clause_map::{ClauseMap, Clip, Fetched, Published, Retired};
 pub use formula::Formula;
 pub use layout::{Layout, LayoutFault, Owner};
 pub use lit::Lit;
-pub use plain_map::PlainMap;
+pub use plain_map::{PlainDesk, PlainMap};
 
 /// A clause's identity: the formula's clauses have 1 to `m` in the order of the file, and the streams own those above by
 /// turns. 0 and what is above the last one is outside.

@@ -1,5 +1,6 @@
 //! Literals as DIMACS CNF writes them.
-ghost use Rattle.std.specs.Prelude.{◌≡◌, ◌↔◌, ◌≤◌, ℤ, neg_ℤ, nat_abs, IsSome, IfSome};
+ghost use Rattle.std.specs.Prelude.{◌≡◌, ◌↔◌, ℤ, neg_ℤ, nat_abs, Some, IsSome, IfSome};
+ghost use Rattle.std.specs.Fmt.{signed_decimal};
 ghost use Rattle.lrup_model.specs.Literal.{IsLiteral, max_variable};
 
 use std::fmt;
@@ -26,13 +27,16 @@ impl Model for Lit {
 }
 
 impl Lit {
+    /// The greatest variable, and so the greatest magnitude.
+    pub const MAX_VARIABLE: u32 = 16_777_215;
+
     /// The literal that DIMACS CNF writes as this number. None exactly at 0 and above magnitude 16,777,215.
     pub fn new(value: i64) -> Option<Lit>
         ensures literal { IsSome result ↔ IsLiteral max_variable value }
         ensures value { IfSome result (λ l. l ≡ value) }
     {
         let magnitude = value.unsigned_abs();
-        if magnitude == 0 || magnitude > 16_777_215 {
+        if magnitude == 0 || magnitude > u64::from(Lit::MAX_VARIABLE) {
             return None;
         }
         Some(Lit {
@@ -65,6 +69,8 @@ impl Lit {
 }
 
 impl fmt::Display for Lit {
+    ghost output = { λ l. Some (signed_decimal l) };
+
     fn fmt<W: fmt::Write>(&self, f: &mut fmt::Formatter<W>) -> fmt::Result {
         let value = self.value;
         write!(f, "{value}")

@@ -1,11 +1,11 @@
 //! The clause map of one thread.
-ghost use Rattle.std.specs.Prelude.{◌≡◌, ◌↔◌, ◌+◌, ◌-◌, ◌^◌, ◌≤◌, ◌<◌, ℕ, Some, [], ◌∷◌, length, IfOk, slice_get, slice_index, replicate, ◌++◌, vec_len, vec_capacity};
+ghost use Rattle.std.specs.Prelude.{◌≡◌, ◌+◌, ◌-◌, ◌^◌, ◌≤◌, ◌<◌, Some, [], length, IfOk, slice_get, slice_index, replicate, ◌++◌, vec_len, vec_capacity};
 ghost use Rattle.lrup_model.specs.Layout.{IsPlan, Fits, IsStream, Owns, last_identity};
 ghost use Rattle.lrup_model.specs.Formula.{literals_of};
 ghost use Rattle.lrup_model.specs.State.{opening};
 ghost use Rattle.lrup_model.specs.PlainInside.{flat, entries_from};
 ghost use Rattle.lrup_model.specs.Desk.{IsDesk};
-ghost use Rattle.lrup_model.specs.Plain.{Plain, stored_at, formula_of, state_of, free_at, place_at, fetched_of, StoresClause, AfterPublish, AfterRetire};
+ghost use Rattle.lrup_model.specs.Plain.{stored_at, formula_of, state_of, place_at, fetched_of, StoresClause, AfterPublish, AfterRetire};
 ghost use Rattle.lrup_model.specs.History.{IsPublishable};
 ghost use Rattle.lrup_model.specs.Place.{IsKnown, text_of};
 
@@ -63,7 +63,8 @@ impl PlainMap {
         }
     }
 
-    /// Literal `k` of a clause that is stored under the clip's identity.
+    /// Literal `k` of the clause that is stored under the clip's identity. What is known of a clip is the same for each
+    /// stream, so the contract takes the first.
     fn literal_of(&self, clip: &Clip, k: u32) -> Lit
         requires known { IsKnown (place_at self.now 1) clip.now }
         requires within { k < clip.now.len }
@@ -135,7 +136,7 @@ impl PlainMap {
         })
     }
 
-    /// The numbers of the run.
+    /// The layout that the map was opened with.
     pub fn layout(&self) -> &Layout
         ensures { result.now ≡ self.now.layout }
     {
@@ -203,15 +204,17 @@ fn keep_vacant(count: usize, entries: &mut Vec<Entry>)
     }
 }
 
-/// A stream's place at the clause map of one thread.
+/// A stream's place at the clause map of one thread. It holds the map until it is dropped.
 pub struct PlainDesk<'a> {
     map: &'a mut PlainMap,
     index: u32,
 }
 
 impl Drop for PlainDesk<'_> {
+    ghost use Rattle.lrup_model.specs.Desk.{map_of};
+
     fn drop(self)
-        ensures { self.exit.0.now ≡ self.entry.map.now }
+        ensures { self.exit.0.now ≡ map_of self.entry }
     {
         let PlainDesk { map: _, index: _ } = self;
     }
