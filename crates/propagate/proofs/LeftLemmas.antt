@@ -1,0 +1,71 @@
+-- Lemmas on what is left of a clause as its literals are read.
+use Rattle.std.proofs.Common.{◌≡◌, inl, inr, ℕ, ◌+◌, ℤ, neg_ℤ, List, [], ◌∷◌, ◌++◌, take, drop, Some, sym, ap, subst, ◌∙◌, add-one}
+use Rattle.std.specs.Prelude.{slice_get}
+use Rattle.std.proofs.lemmas.List.{take-append-drop}
+use Rattle.lrup_model.specs.Clause.{Clause, Has, EachOnce}
+use Rattle.lrup_model.specs.Propagation.{IsConflict, IsUnit}
+use Rattle.propagate.specs.Left.{IsLeft}
+use Rattle.propagate.specs.declared.marks.Left.{Left}
+use Rattle.propagate.specs.declared.marks.Left.TheVariants.{Nothing, One, More}
+use Rattle.propagate.proofs.HasLemmas.{Has-append_left, Has-push, Has-push_cases, Has-before, take-next}
+
+-- no literal of a list is left
+pub IsConflict-nil : (n : List ℤ) → IsConflict n []
+IsConflict-nil n = λ l h. absurd h
+
+-- where more than one literal is left, more than one stays
+pub IsLeft-more : (n : List ℤ) (d e : Clause) → IsLeft n d More → IsLeft n (d ++ e) More
+IsLeft-more n d e more = (
+  (λ conflict. more.0 (λ l h. conflict l (Has-append_left d e l h))),
+  (λ l unit.
+      let outside : ¬ Has d l = λ h. more.1 l (record { here = h; not_false = unit.not_false; not_true = unit.not_true; others = λ k g. unit.others k (Has-append_left d e k g) }) in
+      more.0 (λ k h. elim (unit.others k (Has-append_left d e k h)) [ inl same ↦ absurd (outside (subst (Has d) same h)) | inr is_false ↦ is_false ])),
+)
+
+-- a false literal changes nothing
+pub IsLeft-false : (n : List ℤ) (d : Clause) (left : Left) (x : ℤ) → IsLeft n d left → Has n x → IsLeft n (d ++ x ∷ []) left
+IsLeft-false n d Nothing x conflict is_false = λ l h. elim (Has-push_cases d x l h) [ inl t ↦ conflict l t | inr same ↦ subst (Has n) same is_false ]
+IsLeft-false n d (One l) x unit is_false = record {
+  here = Has-append_left d (x ∷ []) l unit.here;
+  not_false = unit.not_false;
+  not_true = unit.not_true;
+  others = λ k h. elim (Has-push_cases d x k h) [ inl t ↦ unit.others k t | inr same ↦ inr (subst (Has n) same is_false) ];
+}
+IsLeft-false n d More x more is_false = IsLeft-more n d (x ∷ []) more
+
+-- a true literal rules both out
+pub IsLeft-true : (n : List ℤ) (d : Clause) (x : ℤ) → (¬ Has n x) → Has n (neg_ℤ x) → IsLeft n (d ++ x ∷ []) More
+IsLeft-true n d x not_false is_true = (
+  (λ conflict. not_false (conflict x (Has-push d x))),
+  (λ l unit. elim (unit.others x (Has-push d x)) [ inl same ↦ unit.not_true (subst (λ k. Has n (neg_ℤ k)) same is_true) | inr is_false ↦ not_false is_false ]),
+)
+
+-- the first literal that is left
+pub IsLeft-one : (n : List ℤ) (d : Clause) (x : ℤ) → IsConflict n d → (¬ Has n x) → (¬ Has n (neg_ℤ x)) → IsUnit n (d ++ x ∷ []) x
+IsLeft-one n d x conflict not_false not_true = record {
+  here = Has-push d x;
+  not_false = not_false;
+  not_true = not_true;
+  others = λ k h. elim (Has-push_cases d x k h) [ inl t ↦ inr (conflict k t) | inr same ↦ inl (sym same) ];
+}
+
+-- a second one
+pub IsLeft-two : (n : List ℤ) (d : Clause) (l x : ℤ) → IsUnit n d l → (¬ Has d x) → (¬ Has n x) → IsLeft n (d ++ x ∷ []) More
+IsLeft-two n d l x unit other not_false = (
+  (λ conflict. not_false (conflict x (Has-push d x))),
+  (λ k both.
+      let first : x ≡ k = elim (both.others x (Has-push d x)) [ inl same ↦ same | inr is_false ↦ absurd (not_false is_false) ] in
+      elim (both.others l (Has-append_left d (x ∷ []) l unit.here)) [
+        | inl same ↦ other (subst (Has d) (same ∙ sym first) unit.here)
+        | inr is_false ↦ unit.not_false is_false
+      ]),
+)
+
+-- one more literal is read, of a clause that has each once
+pub IsLeft-next : (n : List ℤ) (d : Clause) (k : ℕ) (x : ℤ) (left after : Left) → EachOnce d → slice_get d k ≡ Some x → IsLeft n (take k d) left → ((e : Clause) → IsLeft n e left → (¬ Has e x) → IsLeft n (e ++ x ∷ []) after) → IsLeft n (take (k + 1) d) after
+IsLeft-next n d k x left after once at before step =
+    subst (λ e. IsLeft n e after) (sym (ap (λ i. take i d) (add-one k) ∙ take-next d k x at)) (step (take k d) before (Has-before d k x once at))
+
+-- what the first literals rule out, all do
+pub IsLeft-whole : (n : List ℤ) (d : Clause) (k : ℕ) → IsLeft n (take k d) More → IsLeft n d More
+IsLeft-whole n d k more = subst (λ e. IsLeft n e More) (take-append-drop k d) (IsLeft-more n (take k d) (drop k d) more)

@@ -1,0 +1,5 @@
+use Rattle.propagate.proofs.HintLemmas.{leads_on as lemma}
+use Rattle.propagate.proofs.laws.leads_on.Goals as goal
+
+pub returns : goal.returns
+returns c = lemma

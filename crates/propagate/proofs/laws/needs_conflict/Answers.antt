@@ -1,0 +1,5 @@
+use Rattle.propagate.proofs.HintLemmas.{needs_conflict as lemma}
+use Rattle.propagate.proofs.laws.needs_conflict.Goals as goal
+
+pub returns : goal.returns
+returns c = lemma

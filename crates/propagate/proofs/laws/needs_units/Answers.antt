@@ -1,0 +1,5 @@
+use Rattle.propagate.proofs.HintLemmas.{needs_units as lemma}
+use Rattle.propagate.proofs.laws.needs_units.Goals as goal
+
+pub returns : goal.returns
+returns c = lemma

@@ -1,0 +1,6 @@
+pub mod Different
+pub mod Trail
+pub mod Marks
+pub mod Left
+pub mod Hints
+pub mod Laws

@@ -1,0 +1,20 @@
+-- One clause at a time, and what each of its hints does: the idea of Cruz-Filipe et al., Efficient Certified RAT Verification,
+-- CADE 2017, without RAT. That a hint which is neither unit nor a conflict ends it is this project's own.
+use Rattle.std.specs.Prelude.{◌≡◌, ◌++◌, ℕ, ℤ, neg_ℤ, Bool, false, List, [], ◌∷◌}
+use Rattle.lrup_model.specs.Clause.{Clause}
+use Rattle.lrup_model.specs.Propagation.{IsConflict, IsUnit}
+use Rattle.propagate.specs.declared.marks.Step.{Step}
+use Rattle.propagate.specs.declared.marks.Step.TheVariants as steps
+
+-- the variables 1 to vars, the clause that was taken up, the literals that are false, newest last, and whether a hint may come
+pub record Propagation : Type 0 where
+  pub vars : ℕ
+  pub clause : Clause
+  pub falses : List ℤ
+  pub ready : Bool
+
+-- what a hinted clause does
+abbrev pub Steps : Propagation → Clause → Step → Propagation → Type 0
+Steps old d steps.Unit new = (l : ℤ) × IsUnit old.falses d l × (new ≡ record old { falses = old.falses ++ neg_ℤ l ∷ [] })
+Steps old d steps.Conflict new = IsConflict old.falses d × (new ≡ record old { ready = false })
+Steps old d steps.NotUnit new = (¬ IsConflict old.falses d) × ((l : ℤ) → ¬ IsUnit old.falses d l) × (new ≡ record old { ready = false })

@@ -1,0 +1,175 @@
+//! The checking of hints one by one.
+ghost use Rattle.std.specs.Prelude.{◌≡◌, ◌↔◌, ◌≤◌, ◌++◌, List, [], ◌∷◌, ℤ, false, true, IsTrue, IfOk, IsErr, OnOk, OnErr};
+ghost use Rattle.std.specs.List.{AllByRecursion};
+ghost use Rattle.lrup_model.specs.Literal.{IsLiteral, max_variable};
+ghost use Rattle.lrup_model.specs.Clause.{Has, IsClause, IsTautology};
+ghost use Rattle.lrup_model.specs.Place.{IsKnown, text_of};
+ghost use Rattle.lrup_model.specs.Propagation.{IsConflict, IsUnit};
+ghost use Rattle.propagate.specs.Different.{different};
+ghost use Rattle.propagate.specs.Marks.{Propagation, Steps};
+ghost use Rattle.propagate.specs.Left.{IsLeft};
+
+use crate::tautology::Tautology;
+use crate::trail::Trail;
+use lrup_model::{ClauseMap, Clip, Lit};
+use std::alloc::{AllocError, Global};
+use std::marker::Model;
+
+/// What a hinted clause does.
+#[derive(Clone, Copy, Debug, PartialEq, Eq)]
+pub enum Step {
+    /// All its literals but one were false, and that one was neither false nor true: its complement is false now.
+    Unit,
+    /// All its literals are false.
+    Conflict,
+    /// Neither: a literal is true, or two or more are left.
+    NotUnit,
+}
+
+/// What is left of a clause by the literals that are read.
+#[derive(Clone, Copy, Debug, PartialEq, Eq)]
+enum Left {
+    /// All literals are false.
+    Nothing,
+    /// All but this one are false, and this one is neither false nor true.
+    One(Lit),
+    /// More than that: a literal is true, or two are left.
+    More,
+}
+
+/// One clause at a time and the literals that its hints have made false. It takes no memory once it is made.
+#[derive(Drop)]
+pub struct Marks {
+    trail: Trail,
+    clause_len: usize,
+    ready: bool,
+}
+
+impl Model for Marks {
+    ghost use Rattle.propagate.specs.Marks.{Propagation};
+    ghost use Rattle.std.specs.Prelude.{length, take, ◌≤◌};
+
+    ghost Value = { Propagation };
+
+    ghost view = { λ m. record { vars = m.trail.vars; clause = take m.clause_len m.trail.literals; falses = m.trail.literals; ready = m.ready } };
+
+    ghost invariant = { λ m. m.clause_len ≤ length m.trail.literals };
+}
+
+impl Marks {
+    /// Makes all buffers, for clauses over the variables 1 to `vars`, at most 16,777,215: some 6 bytes a variable.
+    pub fn new(alloc: Global, vars: u32) -> Result<Marks, AllocError>
+        requires { vars ≤ max_variable }
+        ensures { IfOk result (λ m. m ≡ record { vars = vars; clause = []; falses = []; ready = false }) }
+    {
+        Ok(Marks {
+            trail: Trail::new(alloc, vars)?,
+            clause_len: 0,
+            ready: false,
+        })
+    }
+
+    /// Takes a clause up and makes its literals, which may repeat, false. It is an error exactly where one stands beside
+    /// its complement; no clause is taken up then.
+    pub fn begin(&mut self, clause: &[Lit]) -> Result<(), Tautology>
+        requires { AllByRecursion (IsLiteral self.old.vars) clause.now }
+        ensures tautology { IsErr result ↔ IsTautology clause.now }
+        ensures ok { OnOk result (self.new ≡ record { vars = self.old.vars; clause = different clause.now; falses = different clause.now; ready = true }) }
+        ensures err { OnErr result (self.new ≡ record { vars = self.old.vars; clause = []; falses = []; ready = false }) }
+
+        // The clause that was taken up is the argument's, each literal once.
+        ensures clause { OnOk result (IsClause self.old.vars self.new.clause) }
+        ensures members { OnOk result ((l : ℤ) → Has self.new.clause l ↔ Has clause.now l) }
+        ensures consistent { OnOk result (¬ IsTautology self.new.clause) }
+    {
+        self.trail.clear();
+        self.clause_len = 0;
+        self.ready = false;
+        if let Err(fault) = self.trail.add_all(clause) {
+            self.trail.clear();
+            return Err(fault);
+        }
+        self.clause_len = self.trail.len();
+        self.ready = true;
+        Ok(())
+    }
+
+    /// The literals of the clause that was taken up, each once, in the order of their first places.
+    pub fn clause(&self) -> &[Lit]
+        ensures { result.now ≡ self.now.clause }
+    {
+        self.trail.first(self.clause_len)
+    }
+
+    /// Is a clause taken up, and was every hint since unit?
+    pub fn ready(&self) -> bool
+        ensures { result ≡ self.now.ready }
+    {
+        self.ready
+    }
+
+    /// Tries the clause of a hint, reading each of its literals at most once.
+    pub fn hint<M: ClauseMap>(&mut self, map: &mut M, clip: &Clip) -> Step
+        requires ready { IsTrue self.old.ready }
+        requires known { IsKnown (M.place map.old) clip.now }
+        requires variables { (M.place map.old).formula.vars ≤ self.old.vars }
+        ensures conflict { (result ≡ Step.Conflict) ↔ IsConflict self.old.falses (text_of (M.place map.old) clip.now) }
+        ensures unit { (result ≡ Step.Unit) ↔ ((l : ℤ) × IsUnit self.old.falses (text_of (M.place map.old) clip.now) l) }
+        ensures step { Steps self.old (text_of (M.place map.old) clip.now) result self.new }
+
+        // At the map it is no event.
+        ensures event { M.moves map.old map.new [] }
+        ensures stays { M.place map.new ≡ M.place map.old }
+    {
+        match rest_of(&self.trail, map, clip) {
+            Left::Nothing => {
+                self.ready = false;
+                Step::Conflict
+            }
+            Left::One(lit) => {
+                self.trail.add(lit.complement());
+                Step::Unit
+            }
+            Left::More => {
+                self.ready = false;
+                Step::NotUnit
+            }
+        }
+    }
+}
+
+/// What is left of the clause. It stops reading where more than one literal is.
+fn rest_of<M: ClauseMap>(falses: &Trail, map: &mut M, clip: &Clip) -> Left
+    requires known { IsKnown (M.place map.old) clip.now }
+    requires variables { (M.place map.old).formula.vars ≤ falses.now.vars }
+    ensures left { IsLeft falses.now.literals (text_of (M.place map.old) clip.now) result }
+    ensures event { M.moves map.old map.new [] }
+    ensures stays { M.place map.new ≡ M.place map.old }
+{
+    let mut left = Left::Nothing;
+    for k in 0..clip.len() {
+        left = left_with(falses, left, map.literal(clip, k));
+        if let Left::More = left {
+            return left;
+        }
+    }
+    left
+}
+
+/// What is left when one more literal is read, which isn't one of those read before.
+#[inline]
+fn left_with(falses: &Trail, left: Left, lit: Lit) -> Left
+    requires { IsLiteral falses.now.vars lit }
+    ensures { (d : List ℤ) → IsLeft falses.now.literals d left → (¬ Has d lit) → IsLeft falses.now.literals (d ++ lit ∷ []) result }
+{
+    if falses.has(lit) {
+        return left;
+    }
+    if falses.has(lit.complement()) {
+        return Left::More;
+    }
+    match left {
+        Left::Nothing => Left::One(lit),
+        Left::One(_) | Left::More => Left::More,
+    }
+}

@@ -1,0 +1,15 @@
+//! The one fault of a clause that is taken up.
+use std::error::Error;
+use std::fmt;
+
+/// A literal of the clause stands beside its complement.
+#[derive(Clone, Copy, Debug, PartialEq, Eq)]
+pub struct Tautology;
+
+impl fmt::Display for Tautology {
+    fn fmt<W: fmt::Write>(&self, f: &mut fmt::Formatter<W>) -> fmt::Result {
+        f.write_str("tautology")
+    }
+}
+
+impl Error for Tautology {}
