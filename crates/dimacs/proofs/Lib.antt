@@ -1,0 +1,11 @@
+pub mod LineLemmas
+pub mod NumeralLemmas
+pub mod TokenLemmas
+pub mod HeaderLemmas
+pub mod SetLemmas
+pub mod BuildLemmas
+pub mod FaultLemmas
+pub mod TallyLemmas
+pub mod LawLemmas
+pub mod UniqueLemmas
+pub mod FormulaLemmas

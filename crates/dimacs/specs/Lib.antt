@@ -1,0 +1,6 @@
+pub mod Lines
+pub mod Numerals
+pub mod FormulaText
+pub mod FormulaFault
+pub mod Places
+pub mod Marks

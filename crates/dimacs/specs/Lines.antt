@@ -1,0 +1,51 @@
+-- A file of DIMACS CNF, cut into lines and tokens (DIMACS CNF; the exact spelling is this project's own).
+use Rattle.std.specs.Prelude.{ℕ, ◌+◌, Bool, true, false, not, ◌||◌, ◌==◌, List, [], ◌∷◌, map, filter, flat_map, if◌then◌else◌}
+use Rattle.std.specs.List.{slice_split}
+
+-- LF
+abbrev pub ends_line : ℕ → Bool
+ends_line b = b == 10
+
+-- space, tab, CR or LF
+abbrev pub is_separator : ℕ → Bool
+is_separator b = b == 32 || b == 9 || b == 13 || b == 10
+
+abbrev pub is_empty : {X : Type 0} → List X → Bool
+is_empty [] = true
+is_empty (x ∷ xs) = false
+
+-- the longest runs without separators
+abbrev pub runs : List ℕ → List (List ℕ)
+runs line = filter (λ run. not (is_empty run)) (slice_split is_separator line)
+
+-- the first byte is `c`
+abbrev pub is_comment : List ℕ → Bool
+is_comment [] = false
+is_comment (b ∷ bs) = b == 99
+
+-- a line with its number and its tokens
+pub record Line : Type 0 where
+  pub number : ℕ
+  pub tokens : List (List ℕ)
+
+-- the lines that are no comments and hold a token, where the first line has number n
+abbrev pub lines_from : ℕ → List (List ℕ) → List Line
+lines_from n [] = []
+lines_from n (line ∷ lines) =
+    if is_comment line || is_empty (runs line) then lines_from (n + 1) lines else record { number = n; tokens = runs line } ∷ lines_from (n + 1) lines
+
+-- those of a whole file
+abbrev pub lines_of : List ℕ → List Line
+lines_of bytes = lines_from 1 (slice_split ends_line bytes)
+
+-- a token with the number of its line
+pub record Token : Type 0 where
+  pub line : ℕ
+  pub text : List ℕ
+
+abbrev pub tokens_of : Line → List Token
+tokens_of l = map (λ text. record { line = l.number; text = text }) l.tokens
+
+-- the tokens of lines, in order
+abbrev pub all_tokens : List Line → List Token
+all_tokens lines = flat_map tokens_of lines

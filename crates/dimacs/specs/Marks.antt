@@ -1,0 +1,26 @@
+-- A mark for each literal of a clause: a bit of a row of words.
+use Rattle.std.specs.Prelude.{◌≡◌, ◌↔◌, ◌+◌, ◌*◌, ◌/◌, ◌%◌, ◌≤◌, ℕ, ℤ, pos, negsuc, Bool, true, false, List, [], length, slice_index}
+use Rattle.std.specs.Int.{bit_at}
+use Rattle.lrup_model.specs.Clause.{Has}
+
+-- the place of a literal's mark
+abbrev pub place_of : ℤ → ℕ
+place_of (pos n) = 2 * n
+place_of (negsuc n) = 2 * n + 3
+
+-- the mark at this place is set
+unfoldable pub IsMarked : List ℕ → ℕ → Type 0
+IsMarked words place = bit_at (slice_index words (place / 64)) (place % 64) ≡ 1
+
+-- just the clause's literals are marked
+abbrev pub MarksAre : List ℕ → List ℤ → Type 0
+MarksAre words clause = (l : ℤ) → IsMarked words (place_of l) ↔ Has clause l
+
+-- the number of words that has a place for each literal
+abbrev pub all_words : ℕ
+all_words = 524288
+
+-- no mark is set, or each literal has a place and just the clause's are marked
+abbrev pub MarksFit : Bool → List ℕ → List ℤ → Type 0
+MarksFit true words clause = MarksAre words clause × (all_words ≤ length words)
+MarksFit false words clause = MarksAre words []

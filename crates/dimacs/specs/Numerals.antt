@@ -1,0 +1,42 @@
+-- Numbers as DIMACS CNF writes them (the exact spelling is this project's own: no plus sign, no leading zero).
+use Rattle.std.specs.Prelude.{ℕ, ◌+◌, ◌-◌, ◌*◌, Bool, true, false, ◌&&◌, ◌||◌, ◌==◌, nat_le, List, [], ◌∷◌, ℤ, pos, neg_ℤ, Option, Some, None, if◌then◌else◌}
+
+abbrev pub is_digit : ℕ → Bool
+is_digit b = nat_le 48 b && nat_le b 57
+
+abbrev pub all_digits : List ℕ → Bool
+all_digits [] = true
+all_digits (b ∷ bs) = is_digit b && all_digits bs
+
+-- the number that digits spell behind digits that spell n
+abbrev pub value_after : ℕ → List ℕ → ℕ
+value_after n [] = n
+value_after n (b ∷ bs) = value_after (10 * n + (b - 48)) bs
+
+abbrev pub value : List ℕ → ℕ
+value text = value_after 0 text
+
+-- digits of which the first is 1 to 9
+abbrev pub is_numeral : List ℕ → Bool
+is_numeral [] = false
+is_numeral (b ∷ bs) = nat_le 49 b && nat_le b 57 && all_digits bs
+
+-- the one digit 0
+abbrev pub is_zero : List ℕ → Bool
+is_zero [] = false
+is_zero (b ∷ []) = b == 48
+is_zero (b ∷ c ∷ bs) = false
+
+-- what the header's two counts look like
+abbrev pub is_count : List ℕ → Bool
+is_count text = is_zero text || is_numeral text
+
+-- a minus sign before such digits, and the number that they spell together
+abbrev pub negative_of : List ℕ → Option ℤ
+negative_of [] = None
+negative_of (b ∷ digits) = if b == 45 && is_numeral digits then Some (neg_ℤ (pos (value digits))) else None
+
+-- the number that a token of a clause spells. None: no clause may have this token
+unfoldable pub number_of : List ℕ → Option ℤ
+number_of text =
+    if is_zero text then Some (pos 0) else (if is_numeral text then Some (pos (value text)) else negative_of text)

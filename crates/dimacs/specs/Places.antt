@@ -1,0 +1,108 @@
+-- What is left of a file at some place: the words of this crate's own functions.
+use Rattle.std.specs.Prelude.{◌≡◌, ◌⊎◌, ◌↔◌, ◌+◌, ◌<◌, ◌≤◌, ℕ, ℤ, pos, nat_abs, true, false, Some, None, List, [], ◌∷◌, ◌++◌, length, if◌then◌else◌}
+use Rattle.std.specs.List.{slice_split}
+use Rattle.lrup_model.specs.Literal.{IsLiteral, max_variable}
+use Rattle.dimacs.specs.declared.tokens.Next.{Next}
+use Rattle.dimacs.specs.declared.tokens.Next.TheVariants.{End, Bad, Range, Zero, Literal}
+use Rattle.dimacs.specs.Lines.{Line, Token, ends_line, is_separator, is_empty, runs, lines_from, all_tokens}
+use Rattle.dimacs.specs.Numerals.{is_numeral, is_count, value, number_of}
+use Rattle.dimacs.specs.FormulaText.{IsHeader, IsRead, IsSetOf, AreSetsOf}
+use Rattle.dimacs.specs.FormulaFault.{IsHeaderFault}
+use Rattle.dimacs.specs.declared.fault.DimacsFault.{DimacsFault}
+use Rattle.lrup_model.specs.Clause.{Has, EachOnce}
+use Rattle.lrup_model.specs.Formula.{Cnf, max_clauses}
+
+-- the lines of what is left at the start of line n
+unfoldable pub lines_at_start : ℕ → List ℕ → List Line
+lines_at_start n bytes = lines_from n (slice_split ends_line bytes)
+
+-- the lines of what is left inside line n, which is no comment, and where no token has begun
+abbrev pub lines_inside : ℕ → List (List ℕ) → List Line
+lines_inside n [] = []
+lines_inside n (line ∷ lines) =
+    if is_empty (runs line) then lines_from (n + 1) lines else record { number = n; tokens = runs line } ∷ lines_from (n + 1) lines
+
+unfoldable pub lines_at : ℕ → List ℕ → List Line
+lines_at n bytes = lines_inside n (slice_split ends_line bytes)
+
+unfoldable pub tokens_at : ℕ → List ℕ → List Token
+tokens_at n bytes = all_tokens (lines_at n bytes)
+
+-- the bytes up to the next separator, and those from it on
+unfoldable pub run : List ℕ → List ℕ
+run [] = []
+run (b ∷ bs) = if is_separator b then [] else b ∷ run bs
+
+unfoldable pub behind : List ℕ → List ℕ
+behind [] = []
+behind (b ∷ bs) = if is_separator b then b ∷ bs else behind bs
+
+-- n is what a reader keeps of the number m: the same, or with it above every variable
+abbrev pub IsCapped : ℕ → ℕ → Type 0
+IsCapped n m = (n ≡ m) ⊎ ((max_variable < n) × (max_variable < m))
+
+-- the text begins with a numeral, up to the next separator: what is kept of its number, and what is left behind it
+pub record ReadsNumeral (text : List ℕ) (n : ℕ) (rest : List ℕ) : Type 0 where
+  pub numeral : is_numeral (run text) ≡ true
+  pub number : IsCapped n (value (run text))
+  pub positive : 0 < n
+  pub rest_is : rest ≡ behind text
+
+-- the run and those behind it, none where it is empty
+abbrev pub with_run : List ℕ → List (List ℕ) → List (List ℕ)
+with_run [] later = []
+with_run (b ∷ bs) later = (b ∷ bs) ∷ later
+
+-- what is kept of a count, where the token spells one
+pub record ReadsCount (text : List ℕ) (n : ℕ) : Type 0 where
+  pub count : is_count text ≡ true
+  pub number : IsCapped n (value text)
+
+-- a header within the limits
+pub record IsSmallHeader (tokens : List (List ℕ)) (vars count : ℕ) : Type 0 where
+  pub spelled : IsHeader tokens vars count
+  pub few_variables : vars ≤ max_variable
+  pub few_clauses : count ≤ max_clauses
+
+-- the fault of a line that begins with its first token, whatever comes behind it
+abbrev pub IsLineFault : List (List ℕ) → DimacsFault → Type 0
+IsLineFault tokens fault = (n : ℕ) (lines : List Line) → IsHeaderFault fault (record { number = n; tokens = tokens } ∷ lines)
+
+-- What was made of these tokens, which have no fault: the formula's clauses, and the set and the count of the literals of
+-- the clause begun.
+pub record IsBuilt (vars count : ℕ) (tokens : List Token) (f : Cnf) (clause : List ℤ) (written : ℕ) : Type 0 where
+  pub closed : List (List ℤ)
+  pub begun : List ℤ
+  pub read : IsRead vars count tokens closed begun
+  pub vars_are : f.vars ≡ vars
+  pub sets : AreSetsOf closed f.clauses
+  pub set : IsSetOf begun clause
+  pub written_is : length begun ≡ written
+  pub size : length clause ≤ written
+
+-- The clause with one literal more.
+pub record AddsLiteral (old new : List ℤ) (l : ℤ) : Type 0 where
+  pub members : (m : ℤ) → Has new m ↔ (Has old m ⊎ (l ≡ m))
+  pub each_once : EachOnce new
+  pub size : length new ≤ length old + 1
+
+-- The formula with one clause more.
+abbrev pub AddsClause : Cnf → Cnf → List ℤ → Type 0
+AddsClause old new clause = (new.vars ≡ old.vars) × (new.clauses ≡ old.clauses ++ clause ∷ [])
+
+-- a token begins here, or the end is reached
+abbrev pub IsAtToken : List ℕ → Type 0
+IsAtToken [] = Unit {0}
+IsAtToken (b ∷ bs) = is_separator b ≡ false
+
+-- the token is the first of the old ones
+abbrev pub Takes : List ℕ → ℕ → List Token → List Token → Type 0
+Takes text line old new = old ≡ record { line = line; text = text } ∷ new
+
+-- what stands next among the tokens, of a formula of so many variables, and which tokens are left behind it
+abbrev pub Finds : ℕ → ℕ → List Token → List Token → Next → Type 0
+Finds vars line old new End = old ≡ []
+Finds vars line old new Bad = (text : List ℕ) × (later : List Token) × Takes text line old later × (number_of text ≡ None)
+Finds vars line old new Range = (text : List ℕ) × (later : List Token) × Takes text line old later × (z : ℤ) × (number_of text ≡ Some z) × (vars < nat_abs z)
+Finds vars line old new Zero = (text : List ℕ) × Takes text line old new × (number_of text ≡ Some (pos 0))
+Finds vars line old new (Literal l) = (text : List ℕ) × Takes text line old new × (number_of text ≡ Some l) × IsLiteral vars l

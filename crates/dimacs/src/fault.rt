@@ -1,0 +1,47 @@
+//! Why a file is no formula.
+ghost use Rattle.std.specs.Prelude.{◌≡◌};
+ghost use Rattle.dimacs.specs.declared.fault.DimacsFault.TheVariants.{Memory};
+
+use std::alloc::AllocError;
+use thiserror::Error;
+
+/// Why a file was refused: its first fault in byte order. The header is judged as a whole line, the tokens behind it one
+/// by one; of several faults of one token, or of the header, the first in this order is given. Lines count from 1.
+#[derive(Clone, Copy, Debug, PartialEq, Eq, Error)]
+pub enum DimacsFault {
+    /// No line has a token, or the first that has one does not begin with the token `p`.
+    #[error("formula refused: no header")]
+    NoHeader,
+    /// The header is not spelled `p cnf V C`, with two numbers that have no sign and no leading zero.
+    #[error("formula refused: bad header")]
+    BadHeader,
+    /// A token in this line is neither 0 nor a number without plus sign and leading zero.
+    #[error("formula refused: bad number in line {0}")]
+    BadNumber(u64),
+    /// A number in this line has a magnitude above the header's number of variables.
+    #[error("formula refused: variable out of range in line {0}")]
+    VariableRange(u64),
+    /// The file ends inside a clause.
+    #[error("formula refused: open clause")]
+    OpenClause,
+    /// The file has fewer clauses than the header says.
+    #[error("formula refused: too few clauses")]
+    TooFew,
+    /// A token in this line stands behind the last clause that the header announces.
+    #[error("formula refused: too many clauses in line {0}")]
+    TooMany(u64),
+    /// More than 16,777,215 variables or clauses, or more than 1,048,575 literals written in one clause.
+    #[error("formula refused: limit")]
+    Limit,
+    /// Memory was refused. The file may well be a formula.
+    #[error("out of memory")]
+    Memory,
+}
+
+impl From<AllocError> for DimacsFault {
+    ghost from_gives = { λ _ fault. fault ≡ Memory };
+
+    fn from(_error: AllocError) -> Self {
+        DimacsFault::Memory
+    }
+}

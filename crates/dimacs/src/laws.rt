@@ -1,0 +1,22 @@
+//! What holds of every file: laws on the words in which `parse` is stated.
+ghost use Rattle.std.specs.Prelude.{◌≡◌, ℕ, List};
+ghost use Rattle.lrup_model.specs.Formula.{Cnf};
+ghost use Rattle.dimacs.specs.declared.fault.DimacsFault.{DimacsFault};
+ghost use Rattle.dimacs.specs.FormulaText.{AreSetsOf, IsTextOf};
+ghost use Rattle.dimacs.specs.FormulaFault.{IsFaultOf};
+
+/// No text of a formula has a fault.
+pub fn formula_or_fault()
+    ensures { (bytes : List ℕ) (f : Cnf) (fault : DimacsFault) → IsTextOf bytes f → ¬ IsFaultOf bytes fault }
+{}
+
+/// No file has two faults.
+pub fn one_fault()
+    ensures { (bytes : List ℕ) (one other : DimacsFault) → IsFaultOf bytes one → IsFaultOf bytes other → one ≡ other }
+{}
+
+/// A text of two formulas gives them the same number of variables, and clause by clause the same literals.
+pub fn one_formula()
+    ensures { (bytes : List ℕ) (one other : Cnf) → IsTextOf bytes one → IsTextOf bytes other →
+        (one.vars ≡ other.vars) × AreSetsOf one.clauses other.clauses }
+{}

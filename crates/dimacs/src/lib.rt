@@ -1,0 +1,36 @@
+//! Reads a formula in DIMACS CNF: what is read is exactly what the text says, and what is refused is refused at its first
+//! fault.
+#![tactic(auto)]
+
+ghost use Rattle.std.specs.Prelude.{◌≢◌, IfOk, IfErr};
+ghost use Rattle.dimacs.specs.FormulaText.{IsTextOf};
+ghost use Rattle.dimacs.specs.FormulaFault.{IsFaultOf};
+ghost use Rattle.dimacs.specs.declared.fault.DimacsFault.TheVariants.{Memory};
+
+mod body;
+mod fault;
+mod header;
+pub mod laws;
+mod marks;
+mod open_clause;
+#[cfg(test)]
+mod tests;
+mod tokens;
+
+pub use fault::DimacsFault;
+use lrup_model::Formula;
+use std::alloc::Global;
+
+/// Reads a whole file. The file is a text of the formula that is given; of a file that is none, the fault is the first in
+/// byte order. `Memory` says nothing of the file.
+pub fn parse(alloc: Global, bytes: &[u8]) -> Result<Formula, DimacsFault>
+    ensures formula { IfOk result (λ f. IsTextOf bytes.now f) }
+    ensures fault { IfErr result (λ fault. fault ≢ Memory → IsFaultOf bytes.now fault) }
+{
+    let mut tokens = tokens::Tokens::new(bytes);
+    let Some(line) = tokens.next_line() else {
+        return Err(DimacsFault::NoHeader);
+    };
+    let header = header::parse_header(line)?;
+    body::read_clauses(alloc, &mut tokens, header)
+}

@@ -1,0 +1,90 @@
+//! A mark for each literal: a bit, 4 MB for all of them.
+ghost use Rattle.std.specs.Prelude.{◌≡◌, ◌↔◌, ◌⊎◌, ◌*◌, ◌<◌, ◌≤◌, ℕ, ℤ, [], IsTrue, OnOk, OnErr, length};
+ghost use Rattle.dimacs.specs.Marks.{place_of, IsMarked, MarksAre, all_words};
+
+use lrup_model::Lit;
+use std::alloc::AllocError;
+
+/// The number of words that has a place for each literal.
+const WORDS: usize = 524_288;
+
+/// The place of a literal's mark.
+fn place(l: Lit) -> usize
+    ensures place { result ≡ place_of l }
+    ensures few { result < 64 * all_words }
+{
+    let place = 2 * l.var() as usize;
+    if l.value() < 0 { place + 1 } else { place }
+}
+
+fn is_marked(words: &[u64], place: usize) -> bool
+    requires { place < 64 * length words.now }
+    ensures { IsTrue result ↔ IsMarked words.now place }
+{
+    words[place / 64] >> (place % 64) & 1 == 1
+}
+
+fn mark(words: &mut [u64], place: usize)
+    requires { place < 64 * length words.old }
+    ensures { (p : ℕ) → IsMarked words.new p ↔ (IsMarked words.old p ⊎ (p ≡ place)) }
+{
+    let i = place / 64;
+    words[i] = words[i] | 1 << (place % 64);
+}
+
+fn unmark(words: &mut [u64], place: usize)
+    requires { place < 64 * length words.old }
+    ensures { (p : ℕ) → IsMarked words.new p ↔ (IsMarked words.old p × (p ≡ place → ⊥)) }
+{
+    let i = place / 64;
+    words[i] = words[i] & !(1 << (place % 64));
+}
+
+/// Is the literal marked?
+pub fn has_mark(words: &[u64], l: Lit) -> bool
+    requires { all_words ≤ length words.now }
+    ensures { IsTrue result ↔ IsMarked words.now (place_of l) }
+{
+    is_marked(words, place(l))
+}
+
+/// Marks one literal more.
+pub fn set_mark(words: &mut [u64], l: Lit)
+    requires { all_words ≤ length words.old }
+    ensures { (m : ℤ) → IsMarked words.new (place_of m) ↔ (IsMarked words.old (place_of m) ⊎ (m ≡ l)) }
+{
+    mark(words, place(l));
+}
+
+/// Marks the literals, where none has a mark yet, and each has a place.
+fn mark_all(words: &mut [u64], literals: &[Lit])
+    requires marks { MarksAre words.old [] }
+    requires words { all_words ≤ length words.old }
+    ensures { MarksAre words.new literals.now }
+{
+    for l in literals {
+        set_mark(words, *l);
+    }
+}
+
+/// Marks the literals, where none has a mark yet.
+pub fn set_marks(words: &mut Vec<u64>, literals: &[Lit]) -> Result<(), AllocError>
+    requires { MarksAre words.old.items [] }
+    ensures ok { OnOk result (MarksAre words.new.items literals.now × (all_words ≤ length words.new.items)) }
+    ensures err { OnErr result (MarksAre words.new.items []) }
+{
+    words.resize(WORDS, 0)?;
+    mark_all(words, literals);
+    Ok(())
+}
+
+/// Takes the literals' marks away.
+pub fn clear_marks(words: &mut [u64], literals: &[Lit])
+    requires marks { MarksAre words.old literals.now }
+    requires words { all_words ≤ length words.old }
+    ensures { MarksAre words.new [] }
+{
+    for l in literals {
+        unmark(words, place(*l));
+    }
+}
