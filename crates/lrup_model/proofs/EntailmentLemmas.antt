@@ -110,10 +110,10 @@ empty_refutes f follows a sat = (follows.holds a sat).1
 -- Every clause of a legal state follows
 
 -- the slot's clause, if any, is one that follows
-abbrev pub IsSound : Cnf → Slot → Type 0
-IsSound f absent = Unit {0}
-IsSound f (live c) = IsClause f.vars c × Follows f c
-IsSound f (retired c) = IsClause f.vars c × Follows f c
+abbrev pub ClauseFollows : Cnf → Slot → Type 0
+ClauseFollows f absent = Unit {0}
+ClauseFollows f (live c) = IsClause f.vars c × Follows f c
+ClauseFollows f (retired c) = IsClause f.vars c × Follows f c
 
 -- a clause of the formula
 pub formula_sound : (f : Cnf) (id : ℕ) → IsCnf f → 0 < id → id ≤ length f.clauses → IsClause f.vars (clause_at f id) × Follows f (clause_at f id)
@@ -123,40 +123,40 @@ formula_sound f id cnf positive within =
       record { holds = λ a sat. All-from_recursion (Satisfies a) f.clauses sat (id - 1) [] inside },
     )
 
-pub opening_sound : (f : Cnf) (id : ℕ) → IsCnf f → IsSound f (opening f id)
+pub opening_sound : (f : Cnf) (id : ℕ) → IsCnf f → ClauseFollows f (opening f id)
 opening_sound f id cnf =
     elim (cases_lt 0 id) [
       | inl positive ↦ elim (cases_lt (length f.clauses) id) [
-        | inl above ↦ subst (IsSound f) (sym (opening-above f id above)) tt
-        | inr within ↦ subst (IsSound f) (sym (opening-formula f id positive within)) (formula_sound f id cnf positive within)
+        | inl above ↦ subst (ClauseFollows f) (sym (opening-above f id above)) tt
+        | inr within ↦ subst (ClauseFollows f) (sym (opening-formula f id positive within)) (formula_sound f id cnf positive within)
       ]
-      | inr nil ↦ subst (IsSound f) (sym (opening-none f id nil)) tt
+      | inr nil ↦ subst (ClauseFollows f) (sym (opening-none f id nil)) tt
     ]
 
-retired_sound : (f : Cnf) (slot : Slot) → IsSound f slot → IsSound f (retire_slot slot)
+retired_sound : (f : Cnf) (slot : Slot) → ClauseFollows f slot → ClauseFollows f (retire_slot slot)
 retired_sound f absent sound = sound
 retired_sound f (live c) sound = sound
 retired_sound f (retired c) sound = sound
 
-put_sound : (f : Cnf) (m : State) (j : ℕ) (slot : Slot) (id : ℕ) → IsSound f (m id) → IsSound f slot → IsSound f (put m j slot id)
+put_sound : (f : Cnf) (m : State) (j : ℕ) (slot : Slot) (id : ℕ) → ClauseFollows f (m id) → ClauseFollows f slot → ClauseFollows f (put m j slot id)
 put_sound f m j slot id old new =
     elim (cases_eq id j) [
-      | inl same ↦ subst (IsSound f) (sym (put-same m j slot id same)) new
-      | inr other ↦ subst (IsSound f) (sym (put-other m j slot id other)) old
+      | inl same ↦ subst (ClauseFollows f) (sym (put-same m j slot id same)) new
+      | inr other ↦ subst (ClauseFollows f) (sym (put-other m j slot id other)) old
     ]
 
-pub after_sound : (f : Cnf) (p : Plan) (m : State) (e : Event) → IsAllowed f p e → ((id : ℕ) → IsSound f (m id)) → (id : ℕ) → IsSound f (after m e id)
+pub after_sound : (f : Cnf) (p : Plan) (m : State) (e : Event) → IsAllowed f p e → ((id : ℕ) → ClauseFollows f (m id)) → (id : ℕ) → ClauseFollows f (after m e id)
 after_sound f p m (events.fetch s j r) allowed sound id = sound id
 after_sound f p m (events.publish s j c publishing.Done) allowed sound id = put_sound f m j (live c) id (sound id) (allowed.1.clause, allowed.1.follows)
 after_sound f p m (events.publish s j c publishing.Taken) allowed sound id = sound id
 after_sound f p m (events.retire s j retiring.Done) allowed sound id = put_sound f m j (retire_slot (m j)) id (sound id) (retired_sound f (m j) (sound j))
 after_sound f p m (events.retire s j retiring.NotLive) allowed sound id = sound id
 
-pub run_sound : (f : Cnf) (p : Plan) (m : State) (h : History) → LegalFrom f p m h → ((id : ℕ) → IsSound f (m id)) → (id : ℕ) → IsSound f (run m h id)
+pub run_sound : (f : Cnf) (p : Plan) (m : State) (h : History) → LegalFrom f p m h → ((id : ℕ) → ClauseFollows f (m id)) → (id : ℕ) → ClauseFollows f (run m h id)
 run_sound f p m [] legal sound id = sound id
 run_sound f p m (e ∷ h) legal sound id = run_sound f p (after m e) h legal.2 (after_sound f p m e legal.1 sound) id
 
-pub clause_of_sound : (f : Cnf) (slot : Slot) (c : Clause) → IsSound f slot → HasClause slot c → IsClause f.vars c × Follows f c
+pub clause_of_sound : (f : Cnf) (slot : Slot) (c : Clause) → ClauseFollows f slot → HasClause slot c → IsClause f.vars c × Follows f c
 clause_of_sound f absent c sound has = absurd has
 clause_of_sound f (live d) c sound has = subst (λ (x : Clause). IsClause f.vars x × Follows f x) has sound
 clause_of_sound f (retired d) c sound has = subst (λ (x : Clause). IsClause f.vars x × Follows f x) has sound

@@ -1,5 +1,5 @@
 -- How the clause map of one thread is kept, through publish and retire.
-use Rattle.std.proofs.Common.{◌≡◌, ℕ, zero, suc, ℤ, ◌+◌, ◌-◌, ◌<◌, ◌≤◌, List, [], ◌∷◌, ◌++◌, length, get_or, set, take, drop, Some, None, refl, sym, ap, subst, ◌∙◌, arith, length-append, length-drop, length-take}
+use Rattle.std.proofs.Common.{◌≡◌, ℕ, zero, suc, ℤ, ◌+◌, ◌-◌, ◌<◌, ◌≤◌, List, [], ◌∷◌, ◌++◌, length, get_or, set, take, drop, Some, refl, sym, ap, subst, ◌∙◌, arith, length-append, length-drop, length-take}
 use Rattle.std.specs.Prelude.{pos, map, sum, slice_range, slice_get}
 use Rattle.std.specs.List.{AllByRecursion}
 use Rattle.std.proofs.lemmas.List.{map-set, length-set, get_or-take, get_or-drop, get_or_read, get_or-map, length-map}
@@ -22,7 +22,7 @@ use Rattle.lrup_model.specs.declared.plain_map.Entry.{Entry}
 use Rattle.lrup_model.specs.declared.plain_map.Entry.TheVariants.{Vacant, Live, Retired}
 use Rattle.lrup_model.proofs.PieceLemmas.{slice_range-append, slice_range-end}
 use Rattle.lrup_model.proofs.OwnerLemmas.{owned}
-use Rattle.lrup_model.proofs.PlainLemmas.{formula_of-set}
+use Rattle.lrup_model.proofs.PlainLemmas.{formula_of-set, nothing_kept}
 
 -- Lists
 
@@ -141,9 +141,6 @@ sound_retired p es ls free capacity id start len sound derived within here =
 
 -- What lies under an identity
 
-none_kept : (kept : Kept) → None ≡ Some kept → ⊥
-none_kept kept h = cc
-
 some_is : (a b : Kept) → Some a ≡ Some b → a ≡ b
 some_is a b h = cc
 
@@ -153,8 +150,8 @@ LiesAt ls kept = (len : ℕ) × (kept.start + len ≤ length ls) × (kept.litera
 
 entry_text : (ls : List ℤ) (es : List Entry) (id : ℕ) (kept : Kept) → AllByRecursion (LiesWithin (length ls)) es
     → kept_of (get_or (map (stored_in ls) es) id plain.vacant) ≡ Some kept → LiesAt ls kept
-entry_text ls [] id kept h e = absurd (none_kept kept e)
-entry_text ls (Vacant ∷ es) zero kept h e = absurd (none_kept kept e)
+entry_text ls [] id kept h e = absurd (nothing_kept e)
+entry_text ls (Vacant ∷ es) zero kept h e = absurd (nothing_kept e)
 entry_text ls (Live start len ∷ es) zero kept h e = subst (LiesAt ls) (some_is (record { start = start; literals = slice_range ls start (start + len) }) kept e) (len, h.0, refl)
 entry_text ls (Retired start len ∷ es) zero kept h e = subst (LiesAt ls) (some_is (record { start = start; literals = slice_range ls start (start + len) }) kept e) (len, h.0, refl)
 entry_text ls (x ∷ es) (suc id) kept h e = entry_text ls es id kept h.1 e

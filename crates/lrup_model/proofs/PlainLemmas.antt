@@ -57,7 +57,7 @@ keeps-set m id v free h keeps j kept old = kept_at-set m.stored id j v kept (eqb
 
 -- One event
 
-nothing_kept : {kept : Kept} → None ≡ Some kept → ⊥
+pub nothing_kept : {kept : Kept} → None ≡ Some kept → ⊥
 nothing_kept h = cc
 
 pub spent_one : (s : ℕ) (e : Event) → stream_of e ≡ s → spent s (e ∷ []) ≡ size_of e

@@ -9,10 +9,11 @@ pub record Cnf : Type 0 where
   pub vars : ℕ
   pub clauses : List Clause
 
--- the greatest count of clauses, and of the literals of one clause
+-- the greatest count of clauses
 abbrev pub max_clauses : ℕ
 max_clauses = 16777215
 
+-- the greatest count of literals of one clause
 abbrev pub max_clause_literals : ℕ
 max_clause_literals = 1048575
 

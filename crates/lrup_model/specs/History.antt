@@ -11,7 +11,7 @@ use Rattle.lrup_model.specs.State.{State, Answers, after, opening}
 abbrev pub max_line_literals : ℕ
 max_line_literals = 65535
 
--- a clause that may be published: it follows from the formula
+-- a clause that may be published: over the formula's variables, of at most 65,535 literals, and it follows from the formula
 pub record IsPublishable (f : Cnf) (c : Clause) : Type 0 where
   pub clause : IsClause f.vars c
   pub length : length c ≤ max_line_literals

@@ -16,6 +16,9 @@ pub record Plan : Type 0 where
   pub lines : ℕ
   pub room : ℕ
 
+abbrev pub plan_of : ℕ → ℕ → ℕ → ℕ → ℕ → ℕ → Plan
+plan_of vars clauses literals streams lines room = record { vars = vars; clauses = clauses; literals = literals; streams = streams; lines = lines; room = room }
+
 abbrev pub max_streams : ℕ
 max_streams = 64
 
@@ -62,7 +65,7 @@ Owns p s id = owner p id ≡ owners.Stream s
 abbrev pub IsStream : Plan → ℕ → Type 0
 IsStream p s = (0 < s) × (s ≤ p.streams)
 
--- the fault is the first of these numbers, by the order of the limits
+-- the fault is that of the first limit that is broken, in the order of the faults
 abbrev pub IsFault : Plan → LayoutFault → Type 0
 IsFault p faults.TooManyVariables = max_variable < p.vars
 IsFault p faults.TooManyClauses = (p.vars ≤ max_variable) × (max_clauses < p.clauses)

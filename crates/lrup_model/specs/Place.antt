@@ -8,7 +8,7 @@ use Rattle.lrup_model.specs.Layout.{Plan, Owns}
 use Rattle.lrup_model.specs.Event.{History, stream_of, spent}
 use Rattle.lrup_model.specs.State.{State, run}
 
--- where a published clause lies, and its literals in the order in which they lie there, each once
+-- where a clause of the formula or a published one lies, and its literals in the order in which they lie there, each once
 pub record Kept : Type 0 where
   pub start : ℕ
   pub literals : Clause
@@ -22,7 +22,7 @@ pub record Place : Type 0 where
   pub room : ℕ
   pub spelt : ℕ → Option Kept
 
--- a name of a published clause: its identity, the count of its literals, its place
+-- a name of a clause of the formula or of a published one: its identity, the count of its literals, its place
 pub record ClauseName : Type 0 where
   pub id : ℕ
   pub len : ℕ

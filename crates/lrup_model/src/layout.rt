@@ -1,7 +1,7 @@
 //! The numbers of a run, and who owns an identity.
 ghost use Rattle.std.specs.Prelude.{◌≡◌, ◌↔◌, ◌+◌, ◌*◌, ◌≤◌, ◌<◌, IsTrue, IfOk, IfErr, Some};
 ghost use Rattle.lrup_model.specs.Formula.{max_clauses};
-ghost use Rattle.lrup_model.specs.Layout.{Plan, IsPlan, IsFault, fault_text, Fits, IsIdentity, owner, last_identity, row_words, max_streams, max_row_words};
+ghost use Rattle.lrup_model.specs.Layout.{plan_of, IsPlan, IsFault, fault_text, Fits, IsIdentity, owner, last_identity, row_words, max_streams, max_row_words};
 
 use crate::formula::Formula;
 use crate::lit::Lit;
@@ -88,11 +88,10 @@ impl Layout {
         lines: u64,
         room: u64,
     ) -> Result<Layout, LayoutFault>
-        ensures layout { let plan : Plan = record { vars = vars; clauses = clauses; literals = literals; streams = streams; lines = lines; room = room } in
+        ensures layout { let plan = plan_of vars clauses literals streams lines room in
             IfOk result (λ layout. (layout ≡ plan) × IsPlan plan) }
         // The first that holds, in the order of the list.
-        ensures fault { let plan : Plan = record { vars = vars; clauses = clauses; literals = literals; streams = streams; lines = lines; room = room } in
-            IfErr result (IsFault plan) }
+        ensures fault { IfErr result (IsFault (plan_of vars clauses literals streams lines room)) }
     {
         if vars > u64::from(Lit::MAX_VARIABLE) {
             return Err(LayoutFault::TooManyVariables);

@@ -107,8 +107,8 @@ impl PlainMap {
 }
 
 impl PlainMap {
-    /// The map of a formula's clauses. It reserves all that it will need: 12 bytes for each identity and one more, 4 for
-    /// each literal of the formula and of the streams' room, and 8 a stream. A refusal leaves nothing behind.
+    /// The map of a formula's clauses. It reserves all that it will need: 12 bytes for each identity and for one entry more,
+    /// 4 for each literal of the formula and of the streams' room, and 8 a stream. A refusal leaves nothing behind.
     pub fn open(alloc: Global, formula: &Formula, layout: &Layout) -> Result<PlainMap, AllocError>
         requires { Fits layout.now formula.now }
         ensures layout { IfOk result (λ map. map.layout ≡ layout.now) }
@@ -155,6 +155,7 @@ impl PlainMap {
         requires { IsStream self.old.layout s }
         ensures { IsDesk self.entry s result }
     {
+        // A look at the layout, which has at most 64 streams, tells the proof that the cast below loses nothing.
         let _ = &self.layout;
         PlainDesk {
             map: self,

@@ -1,5 +1,5 @@
 -- One clause at a time, and what each of its hints does: the idea of Cruz-Filipe et al., Efficient Certified RAT Verification,
--- CADE 2017, without RAT. That a hint which is neither unit nor a conflict ends it is this project's own.
+-- CADE 2017, without RAT. That no hint may come behind one that isn't unit is this project's own.
 use Rattle.std.specs.Prelude.{◌≡◌, ◌++◌, ℕ, ℤ, neg_ℤ, Bool, false, List, [], ◌∷◌}
 use Rattle.lrup_model.specs.Clause.{Clause}
 use Rattle.lrup_model.specs.Propagation.{IsConflict, IsUnit}
