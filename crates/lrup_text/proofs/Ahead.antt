@@ -1,0 +1,161 @@
+-- Literals and items that are read many at once, inside a line that is read in part.
+use Rattle.std.proofs.Common.{◌≡◌, ℕ, ℤ, ◌+◌, ◌<◌, ◌≤◌, inl, inr, Bool, List, [], ◌∷◌, ◌++◌, length, take, refl, sym, ◌∙◌, ap, subst, arith}
+use Rattle.std.specs.Prelude.{Vec}
+use Rattle.std.specs.declared.alloc.Global.{Global}
+use Rattle.std.specs.Fmt.{decimal, signed_decimal}
+use Rattle.std.specs.List.{AllByRecursion, flat_map}
+use Rattle.std.proofs.lemmas.List.{append_assoc, append-nil, length-append, length-take-le, take-take}
+use Rattle.lrup_text.specs.declared.machine.Place.TheVariants as places
+use Rattle.lrup_text.specs.declared.machine.PartialLine.{PartialLine}
+use Rattle.lrup_text.specs.Grammar.{IsDigit, IsNumber, IsLiteral, space, minus}
+use Rattle.lrup_text.specs.Kernel.{ReadsLiterals, ReadsItems, numbers_text}
+use Rattle.lrup_text.specs.Lines.{IsPositive, IsNonzero}
+use Rattle.lrup_text.specs.Reading.{Reads, ReadsAhead, pending, pending_at, spot_at, IsRoomy, literals_text, items_text, clause_front, list_front, literals_of, identities_of}
+use Rattle.lrup_text.specs.Rests.{Spot, BeforeLiteral, AfterMinus, InLiteral, BeforeItem, InItem, Tracks}
+use Rattle.lrup_text.proofs.Steps.{tracks_more, item_digit, number_digit, number_space, body_minus, body_digit, minus_digit, literal_digit, literal_space}
+use Rattle.lrup_text.proofs.TextLaws.{signed_word, decimal_word}
+use Rattle.lrup_text.proofs.WholeLines.{spaces_move}
+
+-- one byte and then others
+tracks_as : {p q : List ℕ} {s t : Spot} → Tracks p s → p ≡ q → s ≡ t → Tracks q t
+tracks_as {p} {q} {s} {t} h e f = subst (λ x. Tracks x t) e (subst (λ x. Tracks p x) f h)
+
+number_digits : (p : List ℕ) (deletes : Bool) (k j : ℕ) (cs : List ℕ) → AllByRecursion IsDigit cs → Tracks p (InItem deletes k j) → Tracks (p ++ cs) (InItem deletes (k + length cs) j)
+number_digits p deletes k j [] h t = tracks_as t (sym (append-nil p)) (ap (λ n. InItem deletes n j) (omega arith))
+number_digits p deletes k j (c ∷ cs) h t =
+    tracks_as (number_digits (p ++ c ∷ []) deletes (k + 1) j cs h.1 (tracks_more p _ _ c t (number_digit deletes k j c h.0)))
+    (append_assoc p (c ∷ []) cs) (ap (λ n. InItem deletes n j) (omega arith))
+
+tracks_number : (p : List ℕ) (deletes : Bool) (j : ℕ) (word : List ℕ) → IsNumber 18 word → Tracks p (BeforeItem deletes j) → Tracks (p ++ (word ++ space ∷ [])) (BeforeItem deletes (j + 1))
+tracks_number p deletes j [] h t = absurd h
+tracks_number p deletes j (c ∷ cs) h t =
+    let first = tracks_more p _ _ c t (item_digit deletes j c h.0 h.1) in
+    let digits = number_digits (p ++ c ∷ []) deletes 1 j cs h.2 first in
+    tracks_as (tracks_more ((p ++ c ∷ []) ++ cs) _ _ space digits (number_space deletes (1 + length cs) j (omega (arith, h.3))))
+    (ap (λ t. t ++ space ∷ []) (append_assoc p (c ∷ []) cs) ∙ append_assoc p (c ∷ cs) (space ∷ [])) refl
+
+tracks_numbers : (p : List ℕ) (deletes : Bool) (j : ℕ) (ns : List ℕ) → AllByRecursion IsPositive ns → Tracks p (BeforeItem deletes j) → Tracks (p ++ numbers_text ns) (BeforeItem deletes (j + length ns))
+unfolding numbers_text
+tracks_numbers p deletes j [] h t = tracks_as t (sym (append-nil p)) (ap (BeforeItem deletes) (omega arith))
+tracks_numbers p deletes j (n ∷ ns) h t =
+    tracks_as (tracks_numbers (p ++ (decimal n ++ space ∷ [])) deletes (j + 1) ns h.1 (tracks_number p deletes j (decimal n) (decimal_word n h.0) t))
+    (append_assoc p (decimal n ++ space ∷ []) (numbers_text ns)) (ap (BeforeItem deletes) (omega arith))
+
+literal_digits : (p : List ℕ) (k n : ℕ) (cs : List ℕ) → AllByRecursion IsDigit cs → Tracks p (InLiteral k n) → Tracks (p ++ cs) (InLiteral (k + length cs) n)
+literal_digits p k n [] h t = tracks_as t (sym (append-nil p)) (ap (λ x. InLiteral x n) (omega arith))
+literal_digits p k n (c ∷ cs) h t =
+    tracks_as (literal_digits (p ++ c ∷ []) (k + 1) n cs h.1 (tracks_more p _ _ c t (literal_digit k n c h.0)))
+    (append_assoc p (c ∷ []) cs) (ap (λ x. InLiteral x n) (omega arith))
+
+-- a literal's digits after the first, and the space
+tracks_rest : (p : List ℕ) (n c : ℕ) (cs : List ℕ) → AllByRecursion IsDigit cs → length cs < 18 → Tracks (p ++ c ∷ []) (InLiteral 1 n) → Tracks (p ++ ((c ∷ cs) ++ space ∷ [])) (BeforeLiteral (n + 1))
+tracks_rest p n c cs h few t =
+    tracks_as (tracks_more ((p ++ c ∷ []) ++ cs) _ _ space (literal_digits (p ++ c ∷ []) 1 n cs h t) (literal_space (1 + length cs) n (omega arith)))
+    (ap (λ t. t ++ space ∷ []) (append_assoc p (c ∷ []) cs) ∙ append_assoc p (c ∷ cs) (space ∷ [])) refl
+
+tracks_literal : (p : List ℕ) (n : ℕ) (word : List ℕ) → IsLiteral 18 word → Tracks p (BeforeLiteral n) → Tracks (p ++ (word ++ space ∷ [])) (BeforeLiteral (n + 1))
+tracks_literal p n [] h t = absurd h
+tracks_literal p n (c ∷ cs) (inl h) t = tracks_rest p n c cs h.2 h.3 (tracks_more p _ _ c t (body_digit n c h.0 h.1))
+tracks_literal p n (c ∷ []) (inr h) t = absurd h.1
+tracks_literal p n (c ∷ d ∷ ds) (inr h) t =
+    let signed : Tracks (p ++ minus ∷ []) (AfterMinus n) = tracks_more p _ _ minus t (body_minus n) in
+    let digits = tracks_rest (p ++ minus ∷ []) n d ds h.1.2 h.1.3 (tracks_more (p ++ minus ∷ []) _ _ d signed (minus_digit n d h.1.0 h.1.1)) in
+    tracks_as digits (append_assoc p (minus ∷ []) ((d ∷ ds) ++ space ∷ []) ∙ ap (λ x. p ++ (x ∷ ((d ∷ ds) ++ space ∷ []))) (sym h.0)) refl
+
+tracks_literals : (p : List ℕ) (n : ℕ) (zs : List ℤ) → AllByRecursion IsNonzero zs → Tracks p (BeforeLiteral n) → Tracks (p ++ literals_text zs) (BeforeLiteral (n + length zs))
+unfolding literals_text
+tracks_literals p n [] h t = tracks_as t (sym (append-nil p)) (ap BeforeLiteral (omega arith))
+tracks_literals p n (z ∷ zs) h t =
+    tracks_as (tracks_literals (p ++ (signed_decimal z ++ space ∷ [])) (n + 1) zs h.1 (tracks_literal p n (signed_decimal z) (signed_word z h.0) t))
+    (append_assoc p (signed_decimal z ++ space ∷ []) (literals_text zs)) (ap BeforeLiteral (omega arith))
+
+-- the texts of two lists
+texts_append : {X : Type 0} (f : X → List ℕ) (xs ys : List X) → flat_map f (xs ++ ys) ≡ flat_map f xs ++ flat_map f ys
+texts_append f [] ys = refl
+texts_append f (x ∷ xs) ys = ap (λ t. f x ++ t) (texts_append f xs ys) ∙ sym (append_assoc (f x) (flat_map f xs) (flat_map f ys))
+
+all_append : {X : Type 0} (P : X → Type 0) (xs ys : List X) → AllByRecursion P xs → AllByRecursion P ys → AllByRecursion P (xs ++ ys)
+all_append P [] ys h k = k
+all_append P (x ∷ xs) ys h k = (h.0, all_append P xs ys h.1 k)
+
+-- how many there are then
+count_is : {X : Type 0} (old new more : List X) (first count : ℕ) → first ≤ length old → count ≤ length new → take count new ≡ take first old ++ more → count ≡ first + length more
+count_is old new more first count first_in count_in is =
+    omega (arith, length-take-le count new count_in, length-take-le first old first_in, ap length is, length-append (take first old) more)
+
+pub items_ahead : (m : PartialLine) (v : Vec ℕ Global) (count used last : ℕ) (ids piece : List ℕ) → Reads m → m.place ≡ places.Item → v.items ≡ ids → length ids ≡ 65536 → last ≤ length piece
+    → ReadsItems (take last piece) 0 m.identities.items m.identity_count ids count used → ReadsAhead m piece used (record m { identities = v; identity_count = count })
+unfolding pending_at spot_at IsRoomy items_text
+items_ahead m v count used last ids piece h at items size inside found =
+    let next : PartialLine = record m { identities = v; identity_count = count; place = places.Item } in
+    let front = list_front m.deletes m.lead (literals_of m) in
+    let few : m.identity_count ≤ length m.identities.items = omega (arith, h.room.identities, h.kept.few_identities) in
+    let lists : identities_of next ≡ identities_of m ++ found.more = ap (take count) items ∙ found.ids in
+    let counted : count ≡ m.identity_count + length found.more = count_is m.identities.items ids found.more m.identity_count count few found.few found.ids in
+    let texts : items_text (identities_of next) ≡ items_text (identities_of m) ++ items_text found.more =
+    ap items_text lists ∙ texts_append (λ n. space ∷ decimal n) (identities_of m) found.more in
+    let here = (front ++ items_text (identities_of m)) ++ space ∷ [] in
+    let grown : pending next ≡ here ++ numbers_text found.more =
+    ap (λ t. (front ++ t) ++ space ∷ []) texts
+    ∙ ap (λ t. t ++ space ∷ []) (sym (append_assoc front (items_text (identities_of m)) (items_text found.more)))
+    ∙ append_assoc (front ++ items_text (identities_of m)) (items_text found.more) (space ∷ [])
+    ∙ ap (λ t. (front ++ items_text (identities_of m)) ++ t) (sym (spaces_move found.more []) ∙ ap (λ t. space ∷ t) (append-nil (numbers_text found.more)))
+    ∙ sym (append_assoc (front ++ items_text (identities_of m)) (space ∷ []) (numbers_text found.more)) in
+    let tracks : Tracks here (BeforeItem m.deletes m.identity_count) = subst (λ p. Tracks (pending_at p m) (spot_at p m)) at h.tracks in
+    let bytes : take used piece ≡ numbers_text found.more = sym (take-take used last piece (omega (arith, found.inside, length-take-le last piece inside))) ∙ found.is in
+    let result : ReadsAhead m piece used next = record {
+      bound = omega (arith, found.inside, length-take-le last piece inside);
+      reads = record {
+        room = record { literals = h.room.literals; identities = ap length items ∙ size };
+        kept = record {
+          lead = h.kept.lead;
+          few_literals = h.kept.few_literals;
+          few_identities = omega (arith, found.few, size);
+          literals = h.kept.literals;
+          identities = subst (AllByRecursion IsPositive) (sym lists) (all_append IsPositive (identities_of m) found.more h.kept.identities found.each);
+        };
+        number = h.number;
+        roomy = tt;
+        tracks = tracks_as (tracks_numbers here m.deletes m.identity_count found.more found.each tracks) (sym grown) (ap (BeforeItem m.deletes) (sym counted));
+      };
+      is = grown ∙ ap (λ p. pending_at p m ++ numbers_text found.more) (sym at) ∙ ap (λ t. pending m ++ t) (sym bytes);
+    } in
+    subst (λ p. ReadsAhead m piece used (record next { place = p })) (sym at) result
+
+pub literals_ahead : (m : PartialLine) (v : Vec ℤ Global) (count used last : ℕ) (lits : List ℤ) (piece : List ℕ) → Reads m → m.place ≡ places.Body → v.items ≡ lits → length lits ≡ 65535 → last ≤ length piece
+    → ReadsLiterals (take last piece) 0 m.literals.items m.literal_count lits count used → ReadsAhead m piece used (record m { literals = v; literal_count = count })
+unfolding pending_at spot_at IsRoomy literals_text
+literals_ahead m v count used last lits piece h at items size inside found =
+    let next : PartialLine = record m { literals = v; literal_count = count; place = places.Body } in
+    let few : m.literal_count ≤ length m.literals.items = omega (arith, h.room.literals, h.kept.few_literals) in
+    let lists : literals_of next ≡ literals_of m ++ found.more = ap (take count) items ∙ found.lits in
+    let counted : count ≡ m.literal_count + length found.more = count_is m.literals.items lits found.more m.literal_count count few found.few found.lits in
+    let texts : literals_text (literals_of next) ≡ literals_text (literals_of m) ++ literals_text found.more =
+    ap literals_text lists ∙ texts_append (λ z. signed_decimal z ++ space ∷ []) (literals_of m) found.more in
+    let here = clause_front m.lead (literals_of m) in
+    let grown : pending next ≡ here ++ literals_text found.more =
+    ap (λ t. decimal m.lead ++ space ∷ t) texts ∙ sym (append_assoc (decimal m.lead) (space ∷ literals_text (literals_of m)) (literals_text found.more)) in
+    let tracks : Tracks here (BeforeLiteral m.literal_count) = subst (λ p. Tracks (pending_at p m) (spot_at p m)) at h.tracks in
+    let bytes : take used piece ≡ literals_text found.more = sym (take-take used last piece (omega (arith, found.inside, length-take-le last piece inside))) ∙ found.is in
+    let result : ReadsAhead m piece used next = record {
+      bound = omega (arith, found.inside, length-take-le last piece inside);
+      reads = record {
+        room = record { literals = ap length items ∙ size; identities = h.room.identities };
+        kept = record {
+          lead = h.kept.lead;
+          few_literals = omega (arith, found.few, size);
+          few_identities = h.kept.few_identities;
+          identities = h.kept.identities;
+          literals = subst (AllByRecursion IsNonzero) (sym lists) (all_append IsNonzero (literals_of m) found.more h.kept.literals found.each);
+        };
+        number = h.number;
+        roomy = subst (λ p. IsRoomy p m) at h.roomy;
+        tracks = tracks_as (tracks_literals here m.literal_count found.more found.each tracks) (sym grown) (ap BeforeLiteral (sym counted));
+      };
+      is = grown ∙ ap (λ p. pending_at p m ++ literals_text found.more) (sym at) ∙ ap (λ t. pending m ++ t) (sym bytes);
+    } in
+    subst (λ p. ReadsAhead m piece used (record next { place = p })) (sym at) result
+
+-- nothing was read
+pub nothing_ahead : (m : PartialLine) (piece : List ℕ) → Reads m → ReadsAhead m piece 0 m
+nothing_ahead m piece h = record { bound = omega arith; reads = h; is = sym (append-nil (pending m)) }

@@ -1,0 +1,570 @@
+-- What a byte does to a line that was read in part, at each place.
+use Rattle.std.proofs.Common.{unsigned_abs, ◌≡◌, ◌≢◌, ℕ, ℤ, ◌+◌, ◌-◌, ◌*◌, ◌^◌, ◌<◌, ◌≤◌, inl, inr, Bool, true, false, List, [], ◌∷◌, ◌++◌, length, take, map, refl, sym, ◌∙◌, ap, subst, arith}
+use Rattle.std.specs.Fmt.{decimal, signed_decimal}
+use Rattle.std.specs.List.{AllByRecursion, flat_map}
+use Rattle.std.specs.Prelude.{Vec, vec_len, slice_set}
+use Rattle.std.specs.declared.alloc.Global.{Global}
+use Rattle.std.proofs.lemmas.List.{append_assoc, append-nil, flat_map_more, take_more_set, length-set, length-take-le}
+use Rattle.std.proofs.lemmas.Bool.{cases_eq}
+use Rattle.lrup_text.specs.declared.LineFault.TheVariants.{Spelling, TooLong, RatHint}
+use Rattle.lrup_text.specs.declared.machine.Place.{Place}
+use Rattle.lrup_text.specs.declared.machine.Place.TheVariants as places
+use Rattle.lrup_text.specs.declared.machine.PartialLine.{PartialLine}
+use Rattle.lrup_text.specs.Grammar.{space, minus, zero_digit, letter_d, line_feed, IsDigit, list_text, clause_text}
+use Rattle.lrup_text.specs.Faults.{Decides}
+use Rattle.lrup_text.specs.Lines.{Fits, IsPositive, IsNonzero, LineText, text_of}
+use Rattle.lrup_text.specs.Rests.{InLead, BeforeLiteral, AfterMinus, InLiteral, BeforeList, BeforeItem, InItem, AtEnd, Tracks, Moves, Blocks, Allows}
+use Rattle.lrup_text.specs.Reading.{HasDigits, IsKept, Reads, pending_at, spot_at, pending, IsRoomy, clause_front, list_front, item_front, literal_front, literals_of, identities_of, literals_text, items_text, read_line, line_of_parts}
+use Rattle.lrup_text.proofs.Decisions.{decides_spelling, decides_long, decides_rat}
+use Rattle.lrup_text.proofs.Numerals.{decimal_one, decimal_byte, power_more, power_below}
+use Rattle.lrup_text.proofs.Steps.{
+  NoFirst,
+  NoDigit,
+  IsBounded,
+  Exceeds,
+  at_start,
+  tracks_more,
+  start_digit,
+  start_blocks,
+  lead_digit,
+  lead_space,
+  lead_blocks,
+  lead_exceeds,
+  body_zero,
+  body_deletion,
+  body_minus,
+  body_digit,
+  body_blocks,
+  body_exceeds_digit,
+  body_exceeds_minus,
+  minus_digit,
+  minus_blocks,
+  literal_digit,
+  literal_space,
+  literal_blocks,
+  literal_exceeds,
+  list_space,
+  list_blocks,
+  item_zero,
+  item_digit,
+  item_blocks,
+  item_exceeds,
+  hint_allows,
+  number_digit,
+  number_space,
+  number_blocks,
+  number_exceeds,
+  end_blocks,
+}
+
+-- what a place holds, at the place
+tracks_at : (m : PartialLine) (place : Place) → m.place ≡ place → Reads m → Tracks (pending_at place m) (spot_at place m)
+tracks_at m place e h = subst (λ p. Tracks (pending_at p m) (spot_at p m)) e h.tracks
+
+bounded_at : (m : PartialLine) (place : Place) → Reads m → IsRoomy place m → IsBounded (spot_at place m)
+unfolding spot_at IsRoomy
+bounded_at m places.Start h roomy = tt
+bounded_at m places.Lead h roomy = h.number.few
+bounded_at m places.Body h roomy = h.kept.few_literals
+bounded_at m places.Minus h roomy = roomy.1
+bounded_at m places.Literal h roomy = (h.number.few, roomy.1)
+bounded_at m places.List h roomy = tt
+bounded_at m places.Item h roomy = h.kept.few_identities
+bounded_at m places.Number h roomy = (h.number.few, roomy)
+bounded_at m places.LineEnd h roomy = tt
+
+-- the counts are within the limits
+pub bounded : (m : PartialLine) → Reads m → IsBounded (spot_at m.place m)
+bounded m h = bounded_at m m.place h h.roomy
+
+module _ (m : PartialLine) (place : Place) (at : m.place ≡ place) (reads : Reads m) (b : ℕ) where
+  pub spelling_at : ((signed : Bool) → Blocks signed (spot_at place m) b) → Decides (pending m) b Spelling
+  spelling_at blocks =
+      decides_spelling (pending m) (spot_at m.place m) b reads.tracks (bounded m reads) (subst (λ p. (signed : Bool) → Blocks signed (spot_at p m) b) (sym at) blocks)
+
+  pub long_at : Exceeds (spot_at place m) b → Decides (pending m) b TooLong
+  long_at exceeds = decides_long (pending m) (spot_at m.place m) b reads.tracks (bounded m reads) (subst (λ p. Exceeds (spot_at p m) b) (sym at) exceeds)
+
+-- the same line elsewhere, after one more byte
+module _ (m next : PartialLine) (place : Place) (at : m.place ≡ place) (reads : Reads m) (b : ℕ) where
+  pub tracks_next : pending next ≡ pending_at place m ++ b ∷ [] → Moves (spot_at place m) b (spot_at next.place next) → Tracks (pending next) (spot_at next.place next)
+  tracks_next is moves =
+      subst (λ t. Tracks t (spot_at next.place next)) (sym is) (tracks_more (pending_at place m) (spot_at place m) (spot_at next.place next) b (tracks_at m place at reads) moves)
+
+  pub pending_next : pending next ≡ pending_at place m ++ b ∷ [] → pending next ≡ pending m ++ b ∷ []
+  pending_next is = is ∙ ap (λ p. pending_at p m ++ b ∷ []) (sym at)
+
+-- a number after its first digit, and after one more
+pub first_digit : (b : ℕ) → 49 ≤ b → b ≤ 57 → HasDigits (b - 48) 1
+first_digit b low high = record { low = omega arith; high = omega arith; few = omega arith }
+
+pub more_digits : (n k b : ℕ) → HasDigits n k → k < 18 → IsDigit b → HasDigits (n * 10 + (b - 48)) (k + 1)
+more_digits n k b h few digit = record { low = omega (arith, h.low); high = power_more k n (b - 48) h.high (omega arith); few = omega arith }
+
+-- it keeps below the limit, and is a word
+pub below_limit : (n k : ℕ) → HasDigits n k → n < 10 ^ 18
+below_limit n k h = omega (arith, h.high, power_below k h.few)
+
+pub decimal_next : (n k b : ℕ) → HasDigits n k → k < 18 → IsDigit b → decimal (n * 10 + (b - 48)) ≡ decimal n ++ b ∷ []
+decimal_next n k b h few digit =
+    decimal_byte n b h.low (below_limit n k h) digit (omega (arith, below_limit (n * 10 + (b - 48)) (k + 1) (more_digits n k b h few digit)))
+
+pub positive : (n k : ℕ) → HasDigits n k → IsPositive n
+positive n k h = (h.low, below_limit n k h)
+
+-- one more element at the end
+pub text_more : {X : Type 0} (f : X → List ℕ) (xs : List X) (x : X) → flat_map f (xs ++ x ∷ []) ≡ flat_map f xs ++ f x
+text_more f xs x = sym (flat_map_more f [] xs x)
+
+pub all_more : {X : Type 0} (P : X → Type 0) (xs : List X) (x : X) → AllByRecursion P xs → P x → AllByRecursion P (xs ++ x ∷ [])
+all_more P [] x all one = (one, tt)
+all_more P (y ∷ ys) x all one = (all.0, all_more P ys x all.1 one)
+
+-- the end of a list, and of a clause
+pub items_end : (ids : List ℕ) → items_text ids ++ space ∷ zero_digit ∷ line_feed ∷ [] ≡ list_text (map decimal ids)
+unfolding items_text
+items_end [] = refl
+items_end (n ∷ ns) = ap (λ t. space ∷ t) (append_assoc (decimal n) (items_text ns) (space ∷ zero_digit ∷ line_feed ∷ []) ∙ ap (λ t. decimal n ++ t) (items_end ns))
+
+pub literals_end : (lits : List ℤ) (after : List ℕ) → literals_text lits ++ zero_digit ∷ after ≡ clause_text (map signed_decimal lits) after
+unfolding literals_text
+literals_end [] after = refl
+literals_end (z ∷ zs) after =
+    append_assoc (signed_decimal z ++ space ∷ []) (literals_text zs) (zero_digit ∷ after)
+    ∙ append_assoc (signed_decimal z) (space ∷ []) (literals_text zs ++ zero_digit ∷ after)
+    ∙ ap (λ t. signed_decimal z ++ space ∷ t) (literals_end zs after)
+
+-- the whole text of a line, from its front
+pub line_end : (deletes : Bool) (lead : ℕ) (lits : List ℤ) (ids : List ℕ)
+    → ((list_front deletes lead lits ++ items_text ids) ++ space ∷ zero_digit ∷ []) ++ line_feed ∷ [] ≡ text_of (line_of_parts deletes lead lits ids)
+line_end deletes lead lits ids =
+    append_assoc (list_front deletes lead lits ++ items_text ids) (space ∷ zero_digit ∷ []) (line_feed ∷ [])
+    ∙ append_assoc (list_front deletes lead lits) (items_text ids) (space ∷ zero_digit ∷ line_feed ∷ [])
+    ∙ ap (λ t. list_front deletes lead lits ++ t) (items_end ids)
+    ∙ front deletes
+  where
+    front : (deletes : Bool) → list_front deletes lead lits ++ list_text (map decimal ids) ≡ text_of (line_of_parts deletes lead lits ids)
+    front true = append_assoc (decimal lead) (space ∷ letter_d ∷ []) (list_text (map decimal ids))
+    front false =
+        append_assoc (clause_front lead lits) (zero_digit ∷ []) (list_text (map decimal ids))
+        ∙ append_assoc (decimal lead) (space ∷ literals_text lits) (zero_digit ∷ list_text (map decimal ids))
+        ∙ ap (λ t. decimal lead ++ space ∷ t) (literals_end lits (list_text (map decimal ids)))
+
+pub line_fits : (deletes : Bool) (lead : ℕ) (lits : List ℤ) (n : ℕ) (ids : List ℕ) (j : ℕ) → IsKept lead lits n ids j → n ≤ length lits → j ≤ length ids
+    → Fits (line_of_parts deletes lead (take n lits) (take j ids))
+line_fits true lead lits n ids j h n_in j_in =
+    (h.lead, record { count = omega (arith, length-take-le j ids j_in, h.few_identities); each = h.identities })
+line_fits false lead lits n ids j h n_in j_in = (
+  h.lead,
+  record { count = omega (arith, length-take-le n lits n_in, h.few_literals); each = h.literals },
+  record { count = omega (arith, length-take-le j ids j_in, h.few_identities); each = h.identities },
+)
+
+-- After the byte the line goes on.
+abbrev pub GoesOn : PartialLine → ℕ → PartialLine → Type 0
+GoesOn m b next = Reads next × (pending next ≡ pending m ++ b ∷ [])
+
+module _ (m : PartialLine) (b : ℕ) (h : Reads m) where
+  -- Start
+
+  pub start_goes_on : m.place ≡ places.Start → 49 ≤ b → b ≤ 57 → GoesOn m b (record m { number = b - 48; digits = 1; place = places.Lead })
+  unfolding pending_at spot_at IsRoomy
+  start_goes_on at low high =
+      let next : PartialLine = record m { number = b - 48; digits = 1; place = places.Lead } in
+      let is : pending next ≡ [] ++ b ∷ [] = decimal_one b (omega arith, high) in (
+        record { room = h.room; kept = h.kept; number = first_digit b low high; roomy = tt; tracks = tracks_next m next places.Start at h b is (start_digit b low high) },
+        pending_next m next places.Start at h b is,
+      )
+
+  pub start_spelling : m.place ≡ places.Start → NoFirst b → Decides (pending m) b Spelling
+  unfolding spot_at
+  start_spelling at never = spelling_at m places.Start at h b (λ signed. start_blocks signed b never)
+
+  -- Lead
+
+  pub lead_digit_goes_on : m.place ≡ places.Lead → IsDigit b → m.digits < 18 → GoesOn m b (record m { number = m.number * 10 + (b - 48); digits = m.digits + 1 })
+  unfolding pending_at spot_at IsRoomy
+  lead_digit_goes_on at digit few =
+      let next : PartialLine = record m { number = m.number * 10 + (b - 48); digits = m.digits + 1; place = places.Lead } in
+      let is : pending next ≡ decimal m.number ++ b ∷ [] = decimal_next m.number m.digits b h.number few digit in
+      let goes : GoesOn m b next = (
+        record { room = h.room; kept = h.kept; number = more_digits m.number m.digits b h.number few digit; roomy = tt; tracks = tracks_next m next places.Lead at h b is (lead_digit m.digits b digit) },
+        pending_next m next places.Lead at h b is,
+      ) in
+      subst (λ p. GoesOn m b (record next { place = p })) (sym at) goes
+
+  pub lead_space_goes_on : m.place ≡ places.Lead → b ≡ space → GoesOn m b (record m { lead = m.number; literal_count = 0; identity_count = 0; place = places.Body })
+  unfolding pending_at spot_at IsRoomy literals_text
+  lead_space_goes_on at e =
+      let next : PartialLine = record m { lead = m.number; literal_count = 0; identity_count = 0; place = places.Body } in
+      let is : pending next ≡ decimal m.number ++ b ∷ [] = ap (λ x. decimal m.number ++ x ∷ []) (sym e) in (
+        record {
+          room = h.room;
+          kept = record { lead = positive m.number m.digits h.number; few_literals = omega arith; few_identities = omega arith; literals = tt; identities = tt };
+          number = h.number;
+          roomy = refl;
+          tracks = tracks_next m next places.Lead at h b is (subst (λ x. Moves (InLead m.digits) x (BeforeLiteral 0)) (sym e) (lead_space m.digits h.number.few));
+        },
+        pending_next m next places.Lead at h b is,
+      )
+
+  pub lead_too_long : m.place ≡ places.Lead → IsDigit b → 18 ≤ m.digits → Decides (pending m) b TooLong
+  unfolding spot_at
+  lead_too_long at digit many =
+      let e : m.digits ≡ 18 = omega (arith, h.number.few) in
+      long_at m places.Lead at h b (subst (λ k. Exceeds (InLead k) b) (sym e) (lead_exceeds b digit))
+
+  pub lead_spelling : m.place ≡ places.Lead → NoDigit b → b ≢ space → Decides (pending m) b Spelling
+  unfolding spot_at
+  lead_spelling at never ne = spelling_at m places.Lead at h b (λ signed. lead_blocks signed m.digits b never ne)
+
+  -- Body
+
+  pub body_zero_goes_on : m.place ≡ places.Body → b ≡ zero_digit → GoesOn m b (record m { deletes = false; place = places.List })
+  unfolding pending_at spot_at IsRoomy
+  body_zero_goes_on at e =
+      let next : PartialLine = record m { deletes = false; place = places.List } in
+      let is : pending next ≡ clause_front m.lead (literals_of m) ++ b ∷ [] = ap (λ x. clause_front m.lead (literals_of m) ++ x ∷ []) (sym e) in (
+        record {
+          room = h.room;
+          kept = h.kept;
+          number = h.number;
+          roomy = subst (λ p. IsRoomy p m) at h.roomy;
+          tracks = tracks_next m next places.Body at h b is (subst (λ x. Moves (BeforeLiteral m.literal_count) x (BeforeList false)) (sym e) (body_zero m.literal_count h.kept.few_literals));
+        },
+        pending_next m next places.Body at h b is,
+      )
+
+  pub body_deletion_goes_on : m.place ≡ places.Body → b ≡ letter_d → m.literal_count ≡ 0 → GoesOn m b (record m { deletes = true; place = places.List })
+  unfolding pending_at spot_at IsRoomy literals_text
+  body_deletion_goes_on at e few =
+      let next : PartialLine = record m { deletes = true; place = places.List } in
+      let empty : literals_of m ≡ [] = ap (λ n. take n m.literals.items) few in
+      let front : clause_front m.lead (literals_of m) ≡ decimal m.lead ++ space ∷ [] = ap (clause_front m.lead) empty in
+      let is : pending next ≡ clause_front m.lead (literals_of m) ++ b ∷ [] =
+      sym (ap (λ t. t ++ b ∷ []) front ∙ append_assoc (decimal m.lead) (space ∷ []) (b ∷ []) ∙ ap (λ x. decimal m.lead ++ space ∷ x ∷ []) e) in (
+        record {
+          room = h.room;
+          kept = h.kept;
+          number = h.number;
+          roomy = subst (λ p. IsRoomy p m) at h.roomy;
+          tracks = tracks_next m next places.Body at h b is
+              (subst (λ n. Moves (BeforeLiteral n) b (BeforeList true)) (sym few) (subst (λ x. Moves (BeforeLiteral 0) x (BeforeList true)) (sym e) body_deletion));
+        },
+        pending_next m next places.Body at h b is,
+      )
+
+  pub body_minus_goes_on : m.place ≡ places.Body → b ≡ minus → m.literal_count < 65535 → GoesOn m b (record m { place = places.Minus })
+  unfolding pending_at spot_at IsRoomy
+  body_minus_goes_on at e few =
+      let next : PartialLine = record m { place = places.Minus } in
+      let is : pending next ≡ clause_front m.lead (literals_of m) ++ b ∷ [] = ap (λ x. clause_front m.lead (literals_of m) ++ x ∷ []) (sym e) in (
+        record {
+          room = h.room;
+          kept = h.kept;
+          number = h.number;
+          roomy = (subst (λ p. IsRoomy p m) at h.roomy, few);
+          tracks = tracks_next m next places.Body at h b is (subst (λ x. Moves (BeforeLiteral m.literal_count) x (AfterMinus m.literal_count)) (sym e) (body_minus m.literal_count));
+        },
+        pending_next m next places.Body at h b is,
+      )
+
+  pub body_digit_goes_on : m.place ≡ places.Body → 49 ≤ b → b ≤ 57 → m.literal_count < 65535 → GoesOn m b (record m { negative = false; number = b - 48; digits = 1; place = places.Literal })
+  unfolding pending_at spot_at IsRoomy
+  body_digit_goes_on at low high few =
+      let next : PartialLine = record m { negative = false; number = b - 48; digits = 1; place = places.Literal } in
+      let is : pending next ≡ clause_front m.lead (literals_of m) ++ b ∷ [] = ap (λ t. clause_front m.lead (literals_of m) ++ t) (decimal_one b (omega arith, high)) in (
+        record {
+          room = h.room;
+          kept = h.kept;
+          number = first_digit b low high;
+          roomy = (subst (λ p. IsRoomy p m) at h.roomy, few);
+          tracks = tracks_next m next places.Body at h b is (body_digit m.literal_count b low high);
+        },
+        pending_next m next places.Body at h b is,
+      )
+
+  pub body_too_long : m.place ≡ places.Body → m.literal_count ≡ 65535 → (b ≢ minus → (49 ≤ b) × (b ≤ 57)) → Decides (pending m) b TooLong
+  unfolding spot_at
+  body_too_long at many kind = long_at m places.Body at h b (subst (λ n. Exceeds (BeforeLiteral n) b) (sym many) (exceeds b kind))
+    where
+      exceeds : (x : ℕ) → (x ≢ minus → (49 ≤ x) × (x ≤ 57)) → Exceeds (BeforeLiteral 65535) x
+      exceeds x kind = elim (cases_eq x minus) [ inl e ↦ subst (Exceeds (BeforeLiteral 65535)) (sym e) body_exceeds_minus | inr ne ↦ body_exceeds_digit x (kind ne).0 (kind ne).1 ]
+
+  pub body_spelling : m.place ≡ places.Body → b ≢ zero_digit → b ≢ minus → NoFirst b → (m.literal_count ≡ 0 → b ≢ letter_d) → Decides (pending m) b Spelling
+  unfolding spot_at
+  body_spelling at not_zero not_minus never not_d = spelling_at m places.Body at h b (λ signed. body_blocks signed m.literal_count b not_zero not_minus never not_d)
+
+  -- Minus
+
+  pub minus_goes_on : m.place ≡ places.Minus → 49 ≤ b → b ≤ 57 → GoesOn m b (record m { negative = true; number = b - 48; digits = 1; place = places.Literal })
+  unfolding pending_at spot_at IsRoomy
+  minus_goes_on at low high =
+      let next : PartialLine = record m { negative = true; number = b - 48; digits = 1; place = places.Literal } in
+      let front = clause_front m.lead (literals_of m) in
+      let is : pending next ≡ (front ++ minus ∷ []) ++ b ∷ [] =
+      ap (λ t. front ++ minus ∷ t) (decimal_one b (omega arith, high)) ∙ sym (append_assoc front (minus ∷ []) (b ∷ [])) in (
+        record {
+          room = h.room;
+          kept = h.kept;
+          number = first_digit b low high;
+          roomy = subst (λ p. IsRoomy p m) at h.roomy;
+          tracks = tracks_next m next places.Minus at h b is (minus_digit m.literal_count b low high);
+        },
+        pending_next m next places.Minus at h b is,
+      )
+
+  pub minus_spelling : m.place ≡ places.Minus → NoFirst b → Decides (pending m) b Spelling
+  unfolding spot_at
+  minus_spelling at never = spelling_at m places.Minus at h b (λ signed. minus_blocks signed m.literal_count b never)
+
+  -- Literal
+
+  -- a literal that grows by a digit
+  literal_more : (negative : Bool) (n k : ℕ) → HasDigits n k → k < 18 → IsDigit b → literal_front negative (n * 10 + (b - 48)) ≡ literal_front negative n ++ b ∷ []
+  literal_more true n k number few digit = ap (λ t. minus ∷ t) (decimal_next n k b number few digit)
+  literal_more false n k number few digit = decimal_next n k b number few digit
+
+  pub literal_digit_goes_on : m.place ≡ places.Literal → IsDigit b → m.digits < 18 → GoesOn m b (record m { number = m.number * 10 + (b - 48); digits = m.digits + 1 })
+  unfolding pending_at spot_at IsRoomy
+  literal_digit_goes_on at digit few =
+      let next : PartialLine = record m { number = m.number * 10 + (b - 48); digits = m.digits + 1; place = places.Literal } in
+      let front = clause_front m.lead (literals_of m) in
+      let is : pending next ≡ (front ++ literal_front m.negative m.number) ++ b ∷ [] =
+      ap (λ t. front ++ t) (literal_more m.negative m.number m.digits h.number few digit) ∙ sym (append_assoc front (literal_front m.negative m.number) (b ∷ [])) in
+      let goes : GoesOn m b next = (
+        record {
+          room = h.room;
+          kept = h.kept;
+          number = more_digits m.number m.digits b h.number few digit;
+          roomy = subst (λ p. IsRoomy p m) at h.roomy;
+          tracks = tracks_next m next places.Literal at h b is (literal_digit m.digits m.literal_count b digit);
+        },
+        pending_next m next places.Literal at h b is,
+      ) in
+      subst (λ p. GoesOn m b (record next { place = p })) (sym at) goes
+
+  -- there is room for the literal
+  pub literal_room : m.place ≡ places.Literal → m.literal_count < vec_len m.literals
+  unfolding IsRoomy
+  literal_room at =
+      let roomy : (m.identity_count ≡ 0) × (m.literal_count < 65535) = subst (λ p. IsRoomy p m) at h.roomy in
+      omega (arith, h.room.literals, m.literals.ok.0)
+
+  pub literal_space_goes_on : (v : Vec ℤ Global) (z : ℤ) → v.items ≡ slice_set m.literals.items m.literal_count z → signed_decimal z ≡ literal_front m.negative m.number → unsigned_abs z ≡ m.number
+      → m.place ≡ places.Literal → b ≡ space → GoesOn m b (record m { literals = v; literal_count = m.literal_count + 1; place = places.Body })
+  unfolding pending_at spot_at IsRoomy literals_text
+  literal_space_goes_on v z items value magnitude at e =
+      let next : PartialLine = record m { literals = v; literal_count = m.literal_count + 1; place = places.Body } in
+      let roomy : (m.identity_count ≡ 0) × (m.literal_count < 65535) = subst (λ p. IsRoomy p m) at h.roomy in
+      let count : length m.literals.items ≡ 65535 = h.room.literals in
+      let more : literals_of next ≡ literals_of m ++ z ∷ [] =
+      ap (take (m.literal_count + 1)) items ∙ take_more_set m.literals.items m.literal_count z (omega arith) in
+      let front = clause_front m.lead (literals_of m) in
+      let word = literal_front m.negative m.number in
+      let texts : literals_text (literals_of next) ≡ literals_text (literals_of m) ++ (word ++ space ∷ []) =
+      ap literals_text more ∙ text_more (λ x. signed_decimal x ++ space ∷ []) (literals_of m) z ∙ ap (λ t. literals_text (literals_of m) ++ (t ++ space ∷ [])) value in
+      let is : pending next ≡ (front ++ word) ++ b ∷ [] =
+      ap (λ t. decimal m.lead ++ space ∷ t) texts
+      ∙ sym (append_assoc (decimal m.lead) (space ∷ literals_text (literals_of m)) (word ++ space ∷ []))
+      ∙ sym (append_assoc front word (space ∷ []))
+      ∙ ap (λ x. (front ++ word) ++ x ∷ []) (sym e) in
+      let literal : IsNonzero z = subst IsPositive (sym magnitude) (positive m.number m.digits h.number) in (
+        record {
+          room = record { literals = ap length items ∙ length-set m.literals.items m.literal_count z ∙ count; identities = h.room.identities };
+          kept = record {
+            lead = h.kept.lead;
+            few_literals = omega arith;
+            few_identities = h.kept.few_identities;
+            identities = h.kept.identities;
+            literals = subst (AllByRecursion IsNonzero) (sym more) (all_more IsNonzero (literals_of m) z h.kept.literals literal);
+          };
+          number = h.number;
+          roomy = roomy.0;
+          tracks = tracks_next m next places.Literal at h b is
+              (subst (λ x. Moves (InLiteral m.digits m.literal_count) x (BeforeLiteral (m.literal_count + 1))) (sym e) (literal_space m.digits m.literal_count h.number.few));
+        },
+        pending_next m next places.Literal at h b is,
+      )
+
+  pub literal_too_long : m.place ≡ places.Literal → IsDigit b → 18 ≤ m.digits → Decides (pending m) b TooLong
+  unfolding spot_at IsRoomy
+  literal_too_long at digit many =
+      let e : m.digits ≡ 18 = omega (arith, h.number.few) in
+      let roomy : (m.identity_count ≡ 0) × (m.literal_count < 65535) = subst (λ p. IsRoomy p m) at h.roomy in
+      long_at m places.Literal at h b (subst (λ k. Exceeds (InLiteral k m.literal_count) b) (sym e) (literal_exceeds m.literal_count b roomy.1 digit))
+
+  pub literal_spelling : m.place ≡ places.Literal → NoDigit b → b ≢ space → Decides (pending m) b Spelling
+  unfolding spot_at
+  literal_spelling at never ne = spelling_at m places.Literal at h b (λ signed. literal_blocks signed m.digits m.literal_count b never ne)
+
+  -- List
+
+  pub list_goes_on : m.place ≡ places.List → b ≡ space → GoesOn m b (record m { place = places.Item })
+  unfolding pending_at spot_at IsRoomy items_text
+  list_goes_on at e =
+      let next : PartialLine = record m { place = places.Item } in
+      let front = list_front m.deletes m.lead (literals_of m) in
+      let none : m.identity_count ≡ 0 = subst (λ p. IsRoomy p m) at h.roomy in
+      let empty : item_front m ≡ front = ap (λ n. front ++ items_text (take n m.identities.items)) none ∙ append-nil front in
+      let is : pending next ≡ front ++ b ∷ [] = ap (λ t. t ++ space ∷ []) empty ∙ ap (λ x. front ++ x ∷ []) (sym e) in (
+        record {
+          room = h.room;
+          kept = h.kept;
+          number = h.number;
+          roomy = tt;
+          tracks = tracks_next m next places.List at h b is
+              (subst (λ n. Moves (BeforeList m.deletes) b (BeforeItem m.deletes n)) (sym none) (subst (λ x. Moves (BeforeList m.deletes) x (BeforeItem m.deletes 0)) (sym e) (list_space m.deletes)));
+        },
+        pending_next m next places.List at h b is,
+      )
+
+  pub list_spelling : m.place ≡ places.List → b ≢ space → Decides (pending m) b Spelling
+  unfolding spot_at
+  list_spelling at ne = spelling_at m places.List at h b (λ signed. list_blocks signed m.deletes b ne)
+
+  -- Item
+
+  -- one more byte after the space before an item
+  after_space : (x : ℕ) → x ≡ b → item_front m ++ space ∷ x ∷ [] ≡ (item_front m ++ space ∷ []) ++ b ∷ []
+  after_space x e = ap (λ y. item_front m ++ space ∷ y ∷ []) e ∙ sym (append_assoc (item_front m) (space ∷ []) (b ∷ []))
+
+  pub item_zero_goes_on : m.place ≡ places.Item → b ≡ zero_digit → GoesOn m b (record m { place = places.LineEnd })
+  unfolding pending_at spot_at IsRoomy
+  item_zero_goes_on at e =
+      let next : PartialLine = record m { place = places.LineEnd } in
+      let is : pending next ≡ (item_front m ++ space ∷ []) ++ b ∷ [] = after_space zero_digit (sym e) in (
+        record {
+          room = h.room;
+          kept = h.kept;
+          number = h.number;
+          roomy = tt;
+          tracks = tracks_next m next places.Item at h b is (subst (λ x. Moves (BeforeItem m.deletes m.identity_count) x AtEnd) (sym e) (item_zero m.deletes m.identity_count h.kept.few_identities));
+        },
+        pending_next m next places.Item at h b is,
+      )
+
+  pub item_digit_goes_on : m.place ≡ places.Item → 49 ≤ b → b ≤ 57 → m.identity_count < 65536 → GoesOn m b (record m { number = b - 48; digits = 1; place = places.Number })
+  unfolding pending_at spot_at IsRoomy
+  item_digit_goes_on at low high few =
+      let next : PartialLine = record m { number = b - 48; digits = 1; place = places.Number } in
+      let is : pending next ≡ (item_front m ++ space ∷ []) ++ b ∷ [] = ap (λ t. item_front m ++ space ∷ t) (decimal_one b (omega arith, high)) ∙ after_space b refl in (
+        record {
+          room = h.room;
+          kept = h.kept;
+          number = first_digit b low high;
+          roomy = few;
+          tracks = tracks_next m next places.Item at h b is (item_digit m.deletes m.identity_count b low high);
+        },
+        pending_next m next places.Item at h b is,
+      )
+
+  pub item_too_long : m.place ≡ places.Item → 49 ≤ b → b ≤ 57 → m.identity_count ≡ 65536 → Decides (pending m) b TooLong
+  unfolding spot_at
+  item_too_long at low high many = long_at m places.Item at h b (subst (λ n. Exceeds (BeforeItem m.deletes n) b) (sym many) (item_exceeds m.deletes b low high))
+
+  pub item_rat : m.place ≡ places.Item → b ≡ minus → m.deletes ≡ false → Decides (pending m) b RatHint
+  unfolding spot_at
+  item_rat at e keeps =
+      decides_rat (pending m) (spot_at m.place m) b h.tracks (bounded m h)
+      (subst (λ p. Blocks false (spot_at p m) b) (sym at) (item_blocks false m.deletes m.identity_count b (λ z. let e' : minus ≡ zero_digit = sym e ∙ z in absurd (omega arith)) (λ low high. let e' : b ≡ minus = e in omega arith) (λ _ _ s. cc)))
+      (subst (λ p. Allows true (spot_at p m) b) (sym at)
+      (subst (λ x. Allows true (BeforeItem m.deletes m.identity_count) x) (sym e) (subst (λ d. Allows true (BeforeItem d m.identity_count) minus) (sym keeps) (hint_allows m.identity_count h.kept.few_identities))))
+
+  pub item_spelling : m.place ≡ places.Item → b ≢ zero_digit → NoFirst b → (b ≡ minus → m.deletes ≡ true) → Decides (pending m) b Spelling
+  unfolding spot_at
+  item_spelling at not_zero never deletes =
+      spelling_at m places.Item at h b (λ signed. item_blocks signed m.deletes m.identity_count b not_zero never (λ e keeps s. let both : true ≡ false = sym (deletes e) ∙ keeps in cc))
+
+  -- Number
+
+  pub number_digit_goes_on : m.place ≡ places.Number → IsDigit b → m.digits < 18 → GoesOn m b (record m { number = m.number * 10 + (b - 48); digits = m.digits + 1 })
+  unfolding pending_at spot_at IsRoomy
+  number_digit_goes_on at digit few =
+      let next : PartialLine = record m { number = m.number * 10 + (b - 48); digits = m.digits + 1; place = places.Number } in
+      let is : pending next ≡ (item_front m ++ space ∷ decimal m.number) ++ b ∷ [] =
+      ap (λ t. item_front m ++ space ∷ t) (decimal_next m.number m.digits b h.number few digit) ∙ sym (append_assoc (item_front m) (space ∷ decimal m.number) (b ∷ [])) in
+      let goes : GoesOn m b next = (
+        record {
+          room = h.room;
+          kept = h.kept;
+          number = more_digits m.number m.digits b h.number few digit;
+          roomy = subst (λ p. IsRoomy p m) at h.roomy;
+          tracks = tracks_next m next places.Number at h b is (number_digit m.deletes m.digits m.identity_count b digit);
+        },
+        pending_next m next places.Number at h b is,
+      ) in
+      subst (λ p. GoesOn m b (record next { place = p })) (sym at) goes
+
+  pub number_room : m.place ≡ places.Number → m.identity_count < vec_len m.identities
+  unfolding IsRoomy
+  number_room at =
+      let roomy : m.identity_count < 65536 = subst (λ p. IsRoomy p m) at h.roomy in
+      omega (arith, h.room.identities, m.identities.ok.0)
+
+  pub number_space_goes_on : (v : Vec ℕ Global) → v.items ≡ slice_set m.identities.items m.identity_count m.number
+      → m.place ≡ places.Number → b ≡ space → GoesOn m b (record m { identities = v; identity_count = m.identity_count + 1; place = places.Item })
+  unfolding pending_at spot_at IsRoomy items_text
+  number_space_goes_on v items at e =
+      let next : PartialLine = record m { identities = v; identity_count = m.identity_count + 1; place = places.Item } in
+      let roomy : m.identity_count < 65536 = subst (λ p. IsRoomy p m) at h.roomy in
+      let count : length m.identities.items ≡ 65536 = h.room.identities in
+      let more : identities_of next ≡ identities_of m ++ m.number ∷ [] =
+      ap (take (m.identity_count + 1)) items ∙ take_more_set m.identities.items m.identity_count m.number (omega arith) in
+      let front = list_front m.deletes m.lead (literals_of m) in
+      let word = space ∷ decimal m.number in
+      let texts : items_text (identities_of next) ≡ items_text (identities_of m) ++ word =
+      ap items_text more ∙ text_more (λ n. space ∷ decimal n) (identities_of m) m.number in
+      let is : pending next ≡ (item_front m ++ word) ++ b ∷ [] =
+      ap (λ t. (front ++ t) ++ space ∷ []) texts
+      ∙ ap (λ t. t ++ space ∷ []) (sym (append_assoc front (items_text (identities_of m)) word))
+      ∙ ap (λ x. (item_front m ++ word) ++ x ∷ []) (sym e) in (
+        record {
+          room = record { literals = h.room.literals; identities = ap length items ∙ length-set m.identities.items m.identity_count m.number ∙ count };
+          kept = record {
+            lead = h.kept.lead;
+            few_literals = h.kept.few_literals;
+            few_identities = omega arith;
+            literals = h.kept.literals;
+            identities = subst (AllByRecursion IsPositive) (sym more)
+                (all_more IsPositive (identities_of m) m.number h.kept.identities (positive m.number m.digits h.number));
+          };
+          number = h.number;
+          roomy = tt;
+          tracks = tracks_next m next places.Number at h b is
+              (subst (λ x. Moves (InItem m.deletes m.digits m.identity_count) x (BeforeItem m.deletes (m.identity_count + 1))) (sym e) (number_space m.deletes m.digits m.identity_count h.number.few));
+        },
+        pending_next m next places.Number at h b is,
+      )
+
+  pub number_too_long : m.place ≡ places.Number → IsDigit b → 18 ≤ m.digits → Decides (pending m) b TooLong
+  unfolding spot_at IsRoomy
+  number_too_long at digit many =
+      let e : m.digits ≡ 18 = omega (arith, h.number.few) in
+      let roomy : m.identity_count < 65536 = subst (λ p. IsRoomy p m) at h.roomy in
+      long_at m places.Number at h b (subst (λ k. Exceeds (InItem m.deletes k m.identity_count) b) (sym e) (number_exceeds m.deletes m.identity_count b roomy digit))
+
+  pub number_spelling : m.place ≡ places.Number → NoDigit b → b ≢ space → Decides (pending m) b Spelling
+  unfolding spot_at
+  number_spelling at never ne = spelling_at m places.Number at h b (λ signed. number_blocks signed m.deletes m.digits m.identity_count b never ne)
+
+  -- LineEnd
+
+  pub end_spelling : m.place ≡ places.LineEnd → b ≢ line_feed → Decides (pending m) b Spelling
+  unfolding spot_at
+  end_spelling at ne = spelling_at m places.LineEnd at h b (λ signed. end_blocks signed b ne)
+
+  -- the line is whole, and the next may begin
+  pub end_ends : m.place ≡ places.LineEnd → b ≡ line_feed
+      → let next : PartialLine = record m { place = places.Start } in Reads next × (pending next ≡ []) × LineText (read_line next) (pending m ++ b ∷ [])
+  unfolding pending_at spot_at IsRoomy
+  end_ends at e = (
+    record { room = h.room; kept = h.kept; number = h.number; roomy = tt; tracks = at_start },
+    refl,
+    (
+      line_fits m.deletes m.lead m.literals.items m.literal_count m.identities.items m.identity_count h.kept
+          (omega (arith, h.room.literals, h.kept.few_literals)) (omega (arith, h.room.identities, h.kept.few_identities)),
+      ap (λ p. pending_at p m ++ b ∷ []) at ∙ ap (λ x. (item_front m ++ space ∷ zero_digit ∷ []) ++ x ∷ []) e
+          ∙ line_end m.deletes m.lead (literals_of m) (identities_of m),
+    ),
+  )

@@ -1,0 +1,37 @@
+-- What a piece gives, from what its bytes did to the line.
+use Rattle.std.proofs.Common.{◌≡◌, ℕ, List, ◌++◌, take, Option, None, Ok, Err, refl, sym, ◌∙◌, ap, subst}
+use Rattle.lrup_text.specs.declared.LineFault.{LineFault}
+use Rattle.lrup_text.specs.declared.Line.{Line}
+use Rattle.lrup_text.specs.declared.machine.Step.TheVariants.{More, Done, Refused}
+use Rattle.lrup_text.specs.declared.machine.PartialLine.{PartialLine}
+use Rattle.lrup_text.specs.declared.reader.Turn.{Turn}
+use Rattle.lrup_text.specs.declared.reader.Turn.TheVariants as turns
+use Rattle.lrup_text.specs.Lines.{IsPending, LineText, line_of}
+use Rattle.lrup_text.specs.Reading.{TakesPiece, pending, read_line}
+use Rattle.lrup_text.specs.Feeding.{ReaderState, state_of, Feeds, Leaves}
+use Rattle.lrup_text.proofs.TextLaws.{empty_pending}
+use Rattle.lrup_text.proofs.Readers.{reads_pending}
+
+-- what a piece gives, and what it leaves
+pub record Fed (old : ReaderState) (piece : List ℕ) (used : ℕ) (turn : Turn) (new : ReaderState) : Type 0 where
+  pub leaves : Leaves old piece turn new
+  pub gives : Feeds old piece used turn
+
+module _ (m next : PartialLine) (piece : List ℕ) (used : ℕ) where
+  pub fed_more : TakesPiece m piece used More next → Fed (Ok (pending m)) piece used turns.NeedMore (Ok (pending next))
+  fed_more h = record { leaves = (ap Ok h.2, subst IsPending h.2 (reads_pending next h.1)); gives = h.0 }
+
+  pub fed_line : (line : Line) → line_of line ≡ read_line next → TakesPiece m piece used Done next → Fed (Ok (pending m)) piece used (turns.Line line) (Ok (pending next))
+  fed_line line is h = record { leaves = (ap Ok h.3, empty_pending); gives = (h.0, h.1, subst (λ l. LineText l (pending m ++ take used piece)) (sym is) h.4) }
+
+  pub fed_fault : (fault : LineFault) → TakesPiece m piece used (Refused fault) next → Fed (Ok (pending m)) piece used (turns.Fault fault) (Err fault)
+  fed_fault fault h = record { leaves = refl; gives = h }
+
+-- the same at equal values
+pub fed_at : {old old' new new' : ReaderState} {turn turn' : Turn} (piece : List ℕ) (used : ℕ) → Fed old' piece used turn' new' → old' ≡ old → turn ≡ turn' → new ≡ new' → Fed old piece used turn new
+fed_at {old} {old'} {new} {new'} {turn} {turn'} piece used h o t n =
+    subst (λ x. Fed x piece used turn new) o (subst (λ x. Fed old' piece used x new) (sym t) (subst (λ x. Fed old' piece used turn' x) (sym n) h))
+
+-- a reader with no fault is the text that it has read
+pub no_fault : {state : ReaderState} {fault : Option LineFault} (m : PartialLine) → state_of fault (pending m) ≡ state → fault ≡ None → Ok (pending m) ≡ state
+no_fault m view none = sym (ap (λ f. state_of f (pending m)) none) ∙ view

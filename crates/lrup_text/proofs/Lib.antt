@@ -1,0 +1,13 @@
+pub mod Bytes
+pub mod Decisions
+pub mod Feeding
+pub mod Numerals
+pub mod Readers
+pub mod Rests
+pub mod Steps
+pub mod Streams
+pub mod TextLaws
+pub mod Puts
+pub mod LineTexts
+pub mod WholeLines
+pub mod Ahead

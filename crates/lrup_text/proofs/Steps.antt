@@ -1,0 +1,362 @@
+-- One byte at each spot: where it leads, that nothing may follow it, and why.
+use Rattle.std.proofs.Common.{◌≡◌, ℕ, ◌+◌, ◌<◌, ◌≤◌, ◌≢◌, inl, inr, Bool, true, false, List, [], ◌∷◌, ◌++◌, refl, sym, ◌∙◌, subst, arith}
+use Rattle.std.proofs.lemmas.List.{append_assoc}
+use Rattle.lrup_text.specs.Grammar.{Limits, AreLifted, IsDigit, IsLine, standard, line_feed, space, letter_d, minus, zero_digit, Begins}
+use Rattle.lrup_text.specs.Rests.{Spot, AtStart, InLead, BeforeLiteral, AfterMinus, InLiteral, BeforeList, BeforeItem, InItem, AtEnd, ListFollows, ClauseFollows, DeletionFollows, BodyFollows, DigitsFollow, NumberFollows, Follows, Tracks, Moves, Blocks, Allows}
+use Rattle.lrup_text.proofs.Rests as rests
+use Rattle.lrup_text.proofs.Rests.{digits_to, digits_from_digit, digits_from_space, number_to, number_from, list_to_space, item_to, item_from_zero, item_from_digit, clause_to, clause_from_zero, clause_from_digit, clause_from_minus, line_to, line_from}
+
+-- Moves.
+
+pub at_start : Tracks [] AtStart
+at_start = record {
+  follows = λ signed limits lifted rest h. line_to limits rest h;
+  line = λ signed limits lifted rest h. line_from limits rest h;
+}
+
+pub start_digit : (b : ℕ) → 49 ≤ b → b ≤ 57 → Moves AtStart b (InLead 1)
+start_digit b low high = record {
+  to = λ signed limits lifted rest h. (number_to limits _ b rest h).2;
+  from = λ signed limits lifted rest h. number_from limits _ b rest low high h;
+}
+
+-- one more digit, before anything
+more_digit : (limits : Limits) (k : ℕ) (Next : List ℕ → Type 0) (b : ℕ) (rest : List ℕ) → IsDigit b → DigitsFollow limits k Next (b ∷ rest) → DigitsFollow limits (k + 1) Next rest
+more_digit limits k Next b rest digit h = elim (digits_to limits k Next b rest h) [ inl d ↦ d.2 | inr s ↦ let is : b ≡ 32 = s.0 in absurd (omega arith) ]
+
+-- the space after the digits
+end_digits : (limits : Limits) (k : ℕ) (Next : List ℕ → Type 0) (rest : List ℕ) → DigitsFollow limits k Next (space ∷ rest) → Next rest
+end_digits limits k Next rest h = elim (digits_to limits k Next space rest h) [ inl d ↦ let low : 48 ≤ 32 = d.0.0 in absurd (omega arith) | inr s ↦ s.1 ]
+
+pub lead_digit : (k b : ℕ) → IsDigit b → Moves (InLead k) b (InLead (k + 1))
+lead_digit k b digit = record {
+  to = λ signed limits lifted rest h. more_digit limits k _ b rest digit h;
+  from = λ signed limits lifted rest h. digits_from_digit limits k _ b rest digit h;
+}
+
+pub lead_space : (k : ℕ) → k ≤ 18 → Moves (InLead k) space (BeforeLiteral 0)
+lead_space k few = record {
+  to = λ signed limits lifted rest h. end_digits limits k _ rest h;
+  from = λ signed limits lifted rest h. digits_from_space limits k _ rest (omega (arith, lifted.digits)) h;
+}
+
+-- what a body may go on with
+deletion_to : (limits : Limits) (b : ℕ) (rest : List ℕ) → DeletionFollows limits (b ∷ rest) → (b ≡ letter_d) × ListFollows limits true 0 rest
+deletion_to limits b rest h = (rests.same_head h.is, subst (ListFollows limits true 0) (sym (rests.same_tail h.is)) h.ids)
+
+pub body_zero : (n : ℕ) → n ≤ 65535 → Moves (BeforeLiteral n) zero_digit (BeforeList false)
+body_zero n few = record { to = to; from = λ signed limits lifted rest h. inl (clause_from_zero limits n rest (omega (arith, lifted.literals)) h) }
+  where
+    clause : (limits : Limits) (rest : List ℕ) → rests.ClauseTo limits n 48 rest → ListFollows limits false 0 rest
+    clause limits rest (rests.closes e h) = h
+    clause limits rest (rests.numbers low high m h) = absurd (omega arith)
+    clause limits rest (rests.signs e m h) = let e' : zero_digit ≡ minus = e in absurd (omega arith)
+
+    to : (signed : Bool) (limits : Limits) → AreLifted signed limits → (rest : List ℕ) → BodyFollows limits n (zero_digit ∷ rest) → ListFollows limits false 0 rest
+    to signed limits lifted rest (inl h) = clause limits rest (clause_to limits n 48 rest h)
+    to signed limits lifted rest (inr h) = let e : zero_digit ≡ letter_d = (deletion_to limits 48 rest h.1).0 in absurd (omega arith)
+
+pub body_deletion : Moves (BeforeLiteral 0) letter_d (BeforeList true)
+body_deletion = record { to = to; from = λ signed limits lifted rest h. inr (refl, record { after = rest; is = refl; ids = h }) }
+  where
+    clause : (limits : Limits) (rest : List ℕ) → rests.ClauseTo limits 0 100 rest → ListFollows limits true 0 rest
+    clause limits rest (rests.closes e h) = let e' : letter_d ≡ zero_digit = e in absurd (omega arith)
+    clause limits rest (rests.numbers low high m h) = absurd (omega arith)
+    clause limits rest (rests.signs e m h) = let e' : letter_d ≡ minus = e in absurd (omega arith)
+
+    to : (signed : Bool) (limits : Limits) → AreLifted signed limits → (rest : List ℕ) → BodyFollows limits 0 (letter_d ∷ rest) → ListFollows limits true 0 rest
+    to signed limits lifted rest (inl h) = clause limits rest (clause_to limits 0 100 rest h)
+    to signed limits lifted rest (inr h) = (deletion_to limits 100 rest h.1).1
+
+pub body_minus : (n : ℕ) → Moves (BeforeLiteral n) minus (AfterMinus n)
+body_minus n = record { to = to; from = λ signed limits lifted rest h. inl (clause_from_minus limits n rest h) }
+  where
+    clause : (limits : Limits) (rest : List ℕ) → rests.ClauseTo limits n 45 rest → NumberFollows limits (ClauseFollows limits (n + 1)) rest
+    clause limits rest (rests.closes e h) = let e' : minus ≡ zero_digit = e in absurd (omega arith)
+    clause limits rest (rests.numbers low high m h) = absurd (omega arith)
+    clause limits rest (rests.signs e m h) = h
+
+    to : (signed : Bool) (limits : Limits) → AreLifted signed limits → (rest : List ℕ) → BodyFollows limits n (minus ∷ rest) → NumberFollows limits (ClauseFollows limits (n + 1)) rest
+    to signed limits lifted rest (inl h) = clause limits rest (clause_to limits n 45 rest h)
+    to signed limits lifted rest (inr h) = let e : minus ≡ letter_d = (deletion_to limits 45 rest h.1).0 in absurd (omega arith)
+
+pub body_digit : (n b : ℕ) → 49 ≤ b → b ≤ 57 → Moves (BeforeLiteral n) b (InLiteral 1 n)
+body_digit n b low high = record { to = to; from = λ signed limits lifted rest h. inl (clause_from_digit limits n b rest low high h) }
+  where
+    clause : (limits : Limits) (rest : List ℕ) → rests.ClauseTo limits n b rest → DigitsFollow limits 1 (ClauseFollows limits (n + 1)) rest
+    clause limits rest (rests.closes e h) = let e' : b ≡ 48 = e in absurd (omega arith)
+    clause limits rest (rests.numbers low' high' m h) = h
+    clause limits rest (rests.signs e m h) = let e' : b ≡ 45 = e in absurd (omega arith)
+
+    to : (signed : Bool) (limits : Limits) → AreLifted signed limits → (rest : List ℕ) → BodyFollows limits n (b ∷ rest) → DigitsFollow limits 1 (ClauseFollows limits (n + 1)) rest
+    to signed limits lifted rest (inl h) = clause limits rest (clause_to limits n b rest h)
+    to signed limits lifted rest (inr h) = let e : b ≡ 100 = (deletion_to limits b rest h.1).0 in absurd (omega arith)
+
+pub minus_digit : (n b : ℕ) → 49 ≤ b → b ≤ 57 → Moves (AfterMinus n) b (InLiteral 1 n)
+minus_digit n b low high = record {
+  to = λ signed limits lifted rest h. (number_to limits _ b rest h).2;
+  from = λ signed limits lifted rest h. number_from limits _ b rest low high h;
+}
+
+pub literal_digit : (k n b : ℕ) → IsDigit b → Moves (InLiteral k n) b (InLiteral (k + 1) n)
+literal_digit k n b digit = record {
+  to = λ signed limits lifted rest h. more_digit limits k _ b rest digit h;
+  from = λ signed limits lifted rest h. digits_from_digit limits k _ b rest digit h;
+}
+
+pub literal_space : (k n : ℕ) → k ≤ 18 → Moves (InLiteral k n) space (BeforeLiteral (n + 1))
+literal_space k n few = record {
+  to = λ signed limits lifted rest h. inl (end_digits limits k _ rest h);
+  from = λ signed limits lifted rest h. digits_from_space limits k _ rest (omega (arith, lifted.digits)) (body limits rest h);
+}
+  where
+    body : (limits : Limits) (rest : List ℕ) → BodyFollows limits (n + 1) rest → ClauseFollows limits (n + 1) rest
+    body limits rest (inl h) = h
+    body limits rest (inr h) = let e : n + 1 ≡ 0 = h.0 in absurd (omega arith)
+
+pub list_space : (deletes : Bool) → Moves (BeforeList deletes) space (BeforeItem deletes 0)
+list_space deletes = record { to = λ signed limits lifted rest h. h; from = λ signed limits lifted rest h. h }
+
+pub item_zero : (deletes : Bool) (j : ℕ) → j ≤ 65536 → Moves (BeforeItem deletes j) zero_digit AtEnd
+item_zero deletes j few = record {
+  to = λ signed limits lifted rest h. item limits rest (item_to limits deletes j 48 rest h);
+  from = λ signed limits lifted rest h. subst (λ t. ListFollows limits deletes j (space ∷ zero_digit ∷ t)) (sym h) (item_from_zero limits deletes j (omega (arith, lifted.identities)));
+}
+  where
+    item : (limits : Limits) (rest : List ℕ) → rests.ItemTo limits deletes j 48 rest → rest ≡ line_feed ∷ []
+    item limits rest (rests.ItemTo.closes e h) = h
+    item limits rest (rests.ItemTo.numbers low high m h) = absurd (omega arith)
+    item limits rest (rests.ItemTo.signs e d s) = let e' : zero_digit ≡ minus = e in absurd (omega arith)
+
+pub item_digit : (deletes : Bool) (j b : ℕ) → 49 ≤ b → b ≤ 57 → Moves (BeforeItem deletes j) b (InItem deletes 1 j)
+item_digit deletes j b low high = record {
+  to = λ signed limits lifted rest h. item limits rest (item_to limits deletes j b rest h);
+  from = λ signed limits lifted rest h. item_from_digit limits deletes j b rest low high h;
+}
+  where
+    item : (limits : Limits) (rest : List ℕ) → rests.ItemTo limits deletes j b rest → DigitsFollow limits 1 (λ after. ListFollows limits deletes (j + 1) (space ∷ after)) rest
+    item limits rest (rests.ItemTo.closes e h) = let e' : b ≡ zero_digit = e in absurd (omega arith)
+    item limits rest (rests.ItemTo.numbers low' high' m h) = h
+    item limits rest (rests.ItemTo.signs e d s) = let e' : b ≡ minus = e in absurd (omega arith)
+
+pub number_digit : (deletes : Bool) (k j b : ℕ) → IsDigit b → Moves (InItem deletes k j) b (InItem deletes (k + 1) j)
+number_digit deletes k j b digit = record {
+  to = λ signed limits lifted rest h. more_digit limits k _ b rest digit h;
+  from = λ signed limits lifted rest h. digits_from_digit limits k _ b rest digit h;
+}
+
+pub number_space : (deletes : Bool) (k j : ℕ) → k ≤ 18 → Moves (InItem deletes k j) space (BeforeItem deletes (j + 1))
+number_space deletes k j few = record {
+  to = λ signed limits lifted rest h. end_digits limits k _ rest h;
+  from = λ signed limits lifted rest h. digits_from_space limits k _ rest (omega (arith, lifted.digits)) h;
+}
+
+-- Blocks: a byte that nothing may follow, whatever the limits.
+
+-- the byte is no digit 1 to 9
+abbrev pub NoFirst : ℕ → Type 0
+NoFirst b = 49 ≤ b → b ≤ 57 → ⊥
+
+abbrev pub NoDigit : ℕ → Type 0
+NoDigit b = 48 ≤ b → b ≤ 57 → ⊥
+
+no_digits : (limits : Limits) (k : ℕ) (Next : List ℕ → Type 0) (b : ℕ) (rest : List ℕ) → NoDigit b → b ≢ space → DigitsFollow limits k Next (b ∷ rest) → ⊥
+no_digits limits k Next b rest never ne h = elim (digits_to limits k Next b rest h) [ inl d ↦ never d.0.0 d.0.1 | inr s ↦ ne s.0 ]
+
+pub start_blocks : (signed : Bool) (b : ℕ) → NoFirst b → Blocks signed AtStart b
+start_blocks signed b never limits lifted rest h = let n = number_to limits _ b rest h in never n.0 n.1
+
+pub lead_blocks : (signed : Bool) (k b : ℕ) → NoDigit b → b ≢ space → Blocks signed (InLead k) b
+lead_blocks signed k b never ne limits lifted rest h = no_digits limits k _ b rest never ne h
+
+pub body_blocks : (signed : Bool) (n b : ℕ) → b ≢ zero_digit → b ≢ minus → NoFirst b → (n ≡ 0 → b ≢ letter_d) → Blocks signed (BeforeLiteral n) b
+body_blocks signed n b not_zero not_minus never not_d limits lifted rest (inl h) = elim (clause_to limits n b rest h) [
+  | rests.closes e h ↦ not_zero e
+  | rests.numbers low high m h ↦ never low high
+  | rests.signs e m h ↦ not_minus e
+]
+body_blocks signed n b not_zero not_minus never not_d limits lifted rest (inr h) = not_d h.0 (deletion_to limits b rest h.1).0
+
+pub minus_blocks : (signed : Bool) (n b : ℕ) → NoFirst b → Blocks signed (AfterMinus n) b
+minus_blocks signed n b never limits lifted rest h = let m = number_to limits _ b rest h in never m.0 m.1
+
+pub literal_blocks : (signed : Bool) (k n b : ℕ) → NoDigit b → b ≢ space → Blocks signed (InLiteral k n) b
+literal_blocks signed k n b never ne limits lifted rest h = no_digits limits k _ b rest never ne h
+
+pub list_blocks : (signed deletes : Bool) (b : ℕ) → b ≢ space → Blocks signed (BeforeList deletes) b
+list_blocks signed deletes b ne limits lifted rest h = ne (list_to_space limits deletes 0 b rest h)
+
+-- a sign, before a hint where hints are signed, is the one more byte
+pub item_blocks : (signed deletes : Bool) (j b : ℕ) → b ≢ zero_digit → NoFirst b → (b ≡ minus → deletes ≡ false → signed ≡ true → ⊥) → Blocks signed (BeforeItem deletes j) b
+item_blocks signed deletes j b not_zero never not_minus limits lifted rest h = elim (item_to limits deletes j b rest h) [
+  | rests.ItemTo.closes e h ↦ not_zero e
+  | rests.ItemTo.numbers low high m h ↦ never low high
+  | rests.ItemTo.signs e d s ↦ not_minus e d (sym lifted.sign ∙ s)
+]
+
+pub number_blocks : (signed deletes : Bool) (k j b : ℕ) → NoDigit b → b ≢ space → Blocks signed (InItem deletes k j) b
+number_blocks signed deletes k j b never ne limits lifted rest h = no_digits limits k _ b rest never ne h
+
+pub end_blocks : (signed : Bool) (b : ℕ) → b ≢ line_feed → Blocks signed AtEnd b
+end_blocks signed b ne limits lifted rest h = ne (rests.same_head h)
+
+-- Bytes that only the limits of a stream keep out.
+
+wider : Bool → Limits
+wider signed = record { digits = 19; literals = 65536; identities = 65537; signed = signed }
+
+wider_lifted : (signed : Bool) → AreLifted signed (wider signed)
+unfolding wider
+wider_lifted signed = record { digits = omega arith; literals = omega arith; identities = omega arith; sign = refl }
+
+-- the byte keeps within wider limits, and not within those of a stream
+pub record Exceeds (spot : Spot) (byte : ℕ) : Type 0 where
+  pub stops : (rest : List ℕ) → ¬ Follows standard spot (byte ∷ rest)
+  pub allows : Allows false spot byte
+
+many_digits : (Next : List ℕ → Type 0) (b : ℕ) (rest : List ℕ) → IsDigit b → ¬ DigitsFollow standard 18 Next (b ∷ rest)
+many_digits Next b rest digit h = elim (digits_to standard 18 Next b rest h) [ inl d ↦ let few : 18 < 18 = d.1 in absurd (omega arith) | inr s ↦ let is : b ≡ space = s.0 in absurd (omega arith) ]
+
+empty_list : (signed deletes : Bool) (j : ℕ) → j ≤ 65537 → ListFollows (wider signed) deletes j (space ∷ zero_digit ∷ line_feed ∷ [])
+unfolding wider
+empty_list signed deletes j few = item_from_zero (wider signed) deletes j few
+
+empty_clause : (n : ℕ) → n ≤ 65536 → ClauseFollows (wider false) n (zero_digit ∷ space ∷ zero_digit ∷ line_feed ∷ [])
+unfolding wider
+empty_clause n few = clause_from_zero (wider false) n _ few (empty_list false false 0 (omega arith))
+
+last_digit : (Next : List ℕ → Type 0) (b : ℕ) (rest : List ℕ) → IsDigit b → Next rest → DigitsFollow (wider false) 18 Next (b ∷ space ∷ rest)
+unfolding wider
+last_digit Next b rest digit next = digits_from_digit (wider false) 18 Next b (space ∷ rest) digit (digits_from_space (wider false) 19 Next rest (omega arith) next)
+
+pub lead_exceeds : (b : ℕ) → IsDigit b → Exceeds (InLead 18) b
+lead_exceeds b digit = record {
+  stops = λ rest h. many_digits _ b rest digit h;
+  allows = record { limits = wider false; lifted = wider_lifted false; rest = _; follows = last_digit _ b _ digit (inl (empty_clause 0 (omega arith))) };
+}
+
+pub literal_exceeds : (n b : ℕ) → n < 65535 → IsDigit b → Exceeds (InLiteral 18 n) b
+literal_exceeds n b few digit = record {
+  stops = λ rest h. many_digits _ b rest digit h;
+  allows = record { limits = wider false; lifted = wider_lifted false; rest = _; follows = last_digit _ b _ digit (empty_clause (n + 1) (omega arith)) };
+}
+
+pub number_exceeds : (deletes : Bool) (j b : ℕ) → j < 65536 → IsDigit b → Exceeds (InItem deletes 18 j) b
+number_exceeds deletes j b few digit = record {
+  stops = λ rest h. many_digits _ b rest digit h;
+  allows = record { limits = wider false; lifted = wider_lifted false; rest = _; follows = last_digit _ b _ digit (empty_list false deletes (j + 1) (omega arith)) };
+}
+
+no_more_literals : (b : ℕ) (rest : List ℕ) → b ≢ zero_digit → b ≢ letter_d → ¬ BodyFollows standard 65535 (b ∷ rest)
+no_more_literals b rest not_zero not_d (inl h) = elim (clause_to standard 65535 b rest h) [
+  | rests.closes e h ↦ not_zero e
+  | rests.numbers low high m h ↦ let few : 65535 < 65535 = m in absurd (omega arith)
+  | rests.signs e m h ↦ let few : 65535 < 65535 = m in absurd (omega arith)
+]
+no_more_literals b rest not_zero not_d (inr h) = not_d (deletion_to standard b rest h.1).0
+
+one_more_literal : (b : ℕ) → 49 ≤ b → b ≤ 57 → DigitsFollow (wider false) 1 (ClauseFollows (wider false) 65536) (space ∷ zero_digit ∷ space ∷ zero_digit ∷ line_feed ∷ [])
+unfolding wider
+one_more_literal b low high = digits_from_space (wider false) 1 _ _ (omega arith) (empty_clause 65536 (omega arith))
+
+pub body_exceeds_digit : (b : ℕ) → 49 ≤ b → b ≤ 57 → Exceeds (BeforeLiteral 65535) b
+body_exceeds_digit b low high = record {
+  stops = λ rest h. no_more_literals b rest (λ e. let e' : b ≡ zero_digit = e in omega arith) (λ e. let e' : b ≡ letter_d = e in omega arith) h;
+  allows = record { limits = wider false; lifted = wider_lifted false; rest = _; follows = inl (clause_from_digit (wider false) 65535 b _ low high (one_more_literal b low high)) };
+}
+
+pub body_exceeds_minus : Exceeds (BeforeLiteral 65535) minus
+body_exceeds_minus = record {
+  stops = λ rest h. no_more_literals minus rest (λ e. let e' : minus ≡ zero_digit = e in omega arith) (λ e. let e' : minus ≡ letter_d = e in omega arith) h;
+  allows = record {
+    limits = wider false;
+    lifted = wider_lifted false;
+    rest = _;
+    follows = inl (clause_from_minus (wider false) 65535 _ (number_from (wider false) _ 49 _ (omega arith) (omega arith) (one_more_literal 49 (omega arith) (omega arith))));
+  };
+}
+
+pub item_exceeds : (deletes : Bool) (b : ℕ) → 49 ≤ b → b ≤ 57 → Exceeds (BeforeItem deletes 65536) b
+unfolding wider
+item_exceeds deletes b low high = record {
+  stops = λ rest h. elim (item_to standard deletes 65536 b rest h) [
+    | rests.ItemTo.closes e h ↦ let e' : b ≡ zero_digit = e in omega arith
+    | rests.ItemTo.numbers low high m h ↦ let few : 65536 < 65536 = m in absurd (omega arith)
+    | rests.ItemTo.signs e d s ↦ let e' : b ≡ minus = e in omega arith
+  ];
+  allows = record {
+    limits = wider false;
+    lifted = wider_lifted false;
+    rest = _;
+    follows = item_from_digit (wider false) deletes 65536 b _ low high (digits_from_space (wider false) 1 _ _ (omega arith) (empty_list false deletes 65537 (omega arith)));
+  };
+}
+
+-- a sign before a hint
+pub hint_allows : (j : ℕ) → j ≤ 65536 → Allows true (BeforeItem false j) minus
+unfolding wider
+hint_allows j few = record {
+  limits = wider true;
+  lifted = wider_lifted true;
+  rest = 49 ∷ space ∷ zero_digit ∷ line_feed ∷ [];
+  follows = record { words = (minus ∷ 49 ∷ []) ∷ []; count = omega arith; each = (inr (refl, (omega arith, omega arith, tt, omega arith)), tt); is = refl };
+}
+
+-- Some rest always follows, and so what was read begins a line.
+
+abbrev pub IsOpen : Spot → Type 0
+IsOpen spot = (first : ℕ) × (rest : List ℕ) × Follows standard spot (first ∷ rest)
+
+open_list : (deletes : Bool) (j : ℕ) → j ≤ 65536 → ListFollows standard deletes j (space ∷ zero_digit ∷ line_feed ∷ [])
+open_list deletes j few = item_from_zero standard deletes j few
+
+open_clause : (n : ℕ) → n ≤ 65535 → ClauseFollows standard n (zero_digit ∷ space ∷ zero_digit ∷ line_feed ∷ [])
+open_clause n few = clause_from_zero standard n _ few (open_list false 0 (omega arith))
+
+open_digits : (k : ℕ) (Next : List ℕ → Type 0) (rest : List ℕ) → k ≤ 18 → Next rest → DigitsFollow standard k Next (space ∷ rest)
+open_digits k Next rest few next = digits_from_space standard k Next rest few next
+
+open_number : (Next : List ℕ → Type 0) (rest : List ℕ) → Next rest → NumberFollows standard Next (49 ∷ space ∷ rest)
+open_number Next rest next = number_from standard Next 49 _ (omega arith) (omega arith) (open_digits 1 Next rest (omega arith) next)
+
+-- the counts of a spot keep within the limits of a stream
+abbrev pub IsBounded : Spot → Type 0
+IsBounded AtStart = Unit {0}
+IsBounded (InLead digits) = digits ≤ 18
+IsBounded (BeforeLiteral literals) = literals ≤ 65535
+IsBounded (AfterMinus literals) = literals < 65535
+IsBounded (InLiteral digits literals) = (digits ≤ 18) × (literals < 65535)
+IsBounded (BeforeList deletes) = Unit {0}
+IsBounded (BeforeItem deletes items) = items ≤ 65536
+IsBounded (InItem deletes digits items) = (digits ≤ 18) × (items < 65536)
+IsBounded AtEnd = Unit {0}
+
+pub open_spot : (spot : Spot) → IsBounded spot → IsOpen spot
+open_spot AtStart h = (_, _, open_number _ _ (inl (open_clause 0 (omega arith))))
+open_spot (InLead digits) h = (_, _, open_digits digits _ _ h (inl (open_clause 0 (omega arith))))
+open_spot (BeforeLiteral literals) h = (_, _, inl (open_clause literals h))
+open_spot (AfterMinus literals) h = (_, _, open_number _ _ (open_clause (literals + 1) (omega arith)))
+open_spot (InLiteral digits literals) h = (_, _, open_digits digits _ _ h.0 (open_clause (literals + 1) (omega arith)))
+open_spot (BeforeList deletes) h = (_, _, open_list deletes 0 (omega arith))
+open_spot (BeforeItem deletes items) h = (_, _, open_list deletes items h)
+open_spot (InItem deletes digits items) h = (_, _, open_digits digits _ _ h.0 (open_list deletes (items + 1) (omega arith)))
+open_spot AtEnd h = (line_feed, [], refl)
+
+-- From spots to texts.
+
+pub standard_lifted : AreLifted false standard
+standard_lifted = record { digits = omega arith; literals = omega arith; identities = omega arith; sign = refl }
+
+pub one_more : (read : List ℕ) (b : ℕ) (rest : List ℕ) → (read ++ b ∷ []) ++ rest ≡ read ++ b ∷ rest
+one_more read b rest = append_assoc read (b ∷ []) rest
+
+pub tracks_more : (read : List ℕ) (spot next : Spot) (b : ℕ) → Tracks read spot → Moves spot b next → Tracks (read ++ b ∷ []) next
+tracks_more read spot next b tracks moves = record {
+  follows = λ signed limits lifted rest h. moves.to signed limits lifted rest (tracks.follows signed limits lifted (b ∷ rest) (subst (IsLine limits) (one_more read b rest) h));
+  line = λ signed limits lifted rest h. subst (IsLine limits) (sym (one_more read b rest)) (tracks.line signed limits lifted (b ∷ rest) (moves.from signed limits lifted rest h));
+}
+
+pub tracks_begins : (read : List ℕ) (spot : Spot) → Tracks read spot → IsBounded spot → Begins read
+tracks_begins read spot tracks bounded =
+    let some : IsOpen spot = open_spot spot bounded in
+    (some.0 ∷ some.1, tracks.line false standard standard_lifted (some.0 ∷ some.1) some.2)

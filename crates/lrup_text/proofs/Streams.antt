@@ -1,0 +1,299 @@
+-- The laws of lines and streams.
+use Rattle.std.proofs.Common.{◌≡◌, ℕ, suc, zero, ℤ, pos, negsuc, ◌+◌, ◌-◌, ◌*◌, ◌<◌, ◌≤◌, ◌^◌, ◌⊎◌, inl, inr, List, [], ◌∷◌, ◌++◌, length, take, map, Ok, Err, refl, sym, ◌∙◌, ap, subst, arith}
+use Rattle.std.specs.Fmt.{decimal, signed_decimal}
+use Rattle.std.specs.List.{AllByRecursion, flat_map}
+use Rattle.std.proofs.lemmas.Fmt.{decimal_injective, signed_decimal_injective}
+use Rattle.std.proofs.lemmas.List.{append_assoc, length-append, length-map, append-nil, append_cancel_left, nil_from_length, take_all, flat_map_more}
+use Rattle.lrup_text.specs.declared.LineFault.{LineFault}
+use Rattle.lrup_text.specs.declared.LineFault.TheVariants.{Spelling, TooLong, Truncated, RatHint}
+use Rattle.lrup_text.specs.declared.reader.Turn.{Turn}
+use Rattle.lrup_text.specs.declared.reader.Turn.TheVariants.{Line, NeedMore, Fault}
+use Rattle.lrup_text.specs.Grammar.{standard, IsDigit, IsNumber, IsLiteral, AreWords, Words, Adds, Deletes, IsWithin, IsLine, text, minus, Begins}
+use Rattle.lrup_text.specs.Lines.{StreamLine, Addition, Deletion, IsPositive, IsNonzero, AreFew, Fits, LineText, words_of, text_of, HasNoLine, Cut, line_of}
+use Rattle.lrup_text.specs.Faults.{IsFaultOf, Decides, IsRefused}
+use Rattle.lrup_text.specs.Feeding.{ReaderState, Feeds, Leaves}
+use Rattle.lrup_text.specs.Cutting.{used_bytes, line_given, lines_given, IsCut}
+use Rattle.lrup_text.specs.Laws.{OneText, OneLine, NoTextBegins, TextsAreLines, OneCut, OneFault, EmptyCut, CallCuts, CallsCut}
+use Rattle.lrup_text.proofs.Numerals.{decimal_byte, decimal_one, power_more, power_below}
+use Rattle.lrup_text.proofs.Rests.{same_head, same_tail}
+use Rattle.lrup_text.proofs.TextLaws.{fits_within, words_apart, empty_pending}
+
+-- A line has one text.
+
+pub one_text : OneText
+one_text line bytes others a b = a.1 ∙ sym b.1
+
+-- A text spells one line.
+
+numbers_same : (ms ns : List ℕ) → AllByRecursion IsPositive ms → AllByRecursion IsPositive ns → map decimal ms ≡ map decimal ns → ms ≡ ns
+numbers_same [] [] hm hn e = refl
+numbers_same [] (n ∷ ns) hm hn e = cc
+numbers_same (m ∷ ms) [] hm hn e = cc
+numbers_same (m ∷ ms) (n ∷ ns) hm hn e =
+    let head : decimal m ≡ decimal n = cc in
+    let tail : map decimal ms ≡ map decimal ns = cc in
+    let one : m ≡ n = decimal_injective m n (omega (arith, hm.0)) (omega (arith, hn.0)) head in
+    let rest : ms ≡ ns = numbers_same ms ns hm.1 hn.1 tail in
+    cc
+
+literals_same : (ys zs : List ℤ) → AllByRecursion IsNonzero ys → AllByRecursion IsNonzero zs → map signed_decimal ys ≡ map signed_decimal zs → ys ≡ zs
+literals_same [] [] hy hz e = refl
+literals_same [] (z ∷ zs) hy hz e = cc
+literals_same (y ∷ ys) [] hy hz e = cc
+literals_same (y ∷ ys) (z ∷ zs) hy hz e =
+    let head : signed_decimal y ≡ signed_decimal z = cc in
+    let tail : map signed_decimal ys ≡ map signed_decimal zs = cc in
+    let one : y ≡ z = signed_decimal_injective y z (below y hy.0) (below z hz.0) head in
+    let rest : ys ≡ zs = literals_same ys zs hy.1 hz.1 tail in
+    cc
+  where
+    below : (x : ℤ) → IsNonzero x → lib.Signed.mag x < 2 ^ 63
+    below (pos n) h = omega (arith, h.1)
+    below (negsuc n) h = let high : suc n < 10 ^ 18 = h.1 in omega arith
+
+lines_same : (line other : StreamLine) → Fits line → Fits other → words_of line ≡ words_of other → line ≡ other
+lines_same (Addition i ls hs) (Addition j ms gs) h k e =
+    let first : decimal i ≡ decimal j = cc in
+    let second : map signed_decimal ls ≡ map signed_decimal ms = cc in
+    let third : map decimal hs ≡ map decimal gs = cc in
+    let id : i ≡ j = decimal_injective i j (omega (arith, h.0)) (omega (arith, k.0)) first in
+    let lits : ls ≡ ms = literals_same ls ms h.1.each k.1.each second in
+    let hints : hs ≡ gs = numbers_same hs gs h.2.each k.2.each third in
+    cc
+lines_same (Addition i ls hs) (Deletion j ds) h k e = cc
+lines_same (Deletion i ds) (Addition j ms gs) h k e = cc
+lines_same (Deletion i ds) (Deletion j es) h k e =
+    let first : decimal i ≡ decimal j = cc in
+    let second : map decimal ds ≡ map decimal es = cc in
+    let id : i ≡ j = decimal_injective i j (omega (arith, h.0)) (omega (arith, k.0)) first in
+    let ids : ds ≡ es = numbers_same ds es h.1.each k.1.each second in
+    cc
+
+-- the texts of two lines, and what follows them
+pub texts_apart : (line other : StreamLine) (x y : List ℕ) → Fits line → Fits other → text_of line ++ x ≡ text_of other ++ y → (line ≡ other) × (x ≡ y)
+texts_apart line other x y h k e =
+    let words = words_apart (words_of line) (words_of other) x y (fits_within line h) (fits_within other k) e in
+    (lines_same line other h k words.0, words.1)
+
+pub one_line : OneLine
+one_line line other bytes a b = (texts_apart line other [] [] a.0 b.0 (ap (λ t. t ++ []) (sym a.1 ∙ b.1))).0
+
+pub no_text_begins : NoTextBegins
+no_text_begins line other bytes others more a b e =
+    (texts_apart line other more [] a.0 b.0 (ap (λ t. t ++ more) (sym a.1) ∙ sym e ∙ b.1 ∙ sym (append-nil (text_of other)))).1
+
+-- What the grammar takes is the text of a line.
+
+-- a number with these digits after it
+abbrev Spelled : List ℕ → Type 0
+Spelled word = (n : ℕ) × IsPositive n × (decimal n ≡ word)
+
+spelled_from : (n k : ℕ) (cs : List ℕ) → 0 < n → n < 10 ^ k → AllByRecursion IsDigit cs → k + length cs ≤ 18 → Spelled (decimal n ++ cs)
+spelled_from n k [] low high h few = (n, (low, omega (arith, high, power_below k (omega arith))), sym (append-nil (decimal n)))
+spelled_from n k (c ∷ cs) low high h few =
+    let digit : IsDigit c = h.0 in
+    let next : n * 10 + (c - 48) < 10 ^ (k + 1) = power_more k n (c - 48) high (omega (arith, h.0)) in
+    let fits : 10 ^ (k + 1) ≤ 10 ^ 18 = power_below (k + 1) (omega arith) in
+    let longer : decimal (n * 10 + (c - 48)) ≡ decimal n ++ c ∷ [] = decimal_byte n c low (omega (arith, high, power_below k (omega arith))) digit (omega arith) in
+    let word = spelled_from (n * 10 + (c - 48)) (k + 1) cs (omega arith) next h.1 (omega arith) in
+    (word.0, word.1, word.2 ∙ ap (λ t. t ++ cs) longer ∙ append_assoc (decimal n) (c ∷ []) cs)
+
+spelled : (word : List ℕ) → IsNumber 18 word → Spelled word
+spelled [] h = absurd h
+spelled (c ∷ cs) h =
+    let one : decimal (c - 48) ≡ c ∷ [] = decimal_one c (omega (arith, h.0), h.1) in
+    let word = spelled_from (c - 48) 1 cs (omega (arith, h.0)) (omega (arith, h.1)) h.2 (omega (arith, h.3)) in
+    (word.0, word.1, word.2 ∙ ap (λ t. t ++ cs) one)
+
+abbrev SpelledSigned : List ℕ → Type 0
+SpelledSigned word = (z : ℤ) × IsNonzero z × (signed_decimal z ≡ word)
+
+negative : (cs : List ℕ) → Spelled cs → SpelledSigned (minus ∷ cs)
+negative cs (zero, h, e) = let none : 0 < 0 = h.0 in absurd (omega arith)
+negative cs (suc n, h, e) = (negsuc n, h, ap (λ t. minus ∷ t) e)
+
+spelled_signed : (word : List ℕ) → IsLiteral 18 word → SpelledSigned word
+spelled_signed [] h = absurd h
+spelled_signed (c ∷ cs) (inl h) = let word = spelled (c ∷ cs) h in (pos word.0, word.1, word.2)
+spelled_signed (c ∷ cs) (inr h) =
+    let word = negative cs (spelled cs h.1) in
+    (word.0, word.1, word.2 ∙ ap (λ x. x ∷ cs) (sym h.0))
+
+all_spelled : {X : Type 0} (f : X → List ℕ) (P : X → Type 0) (Q : List ℕ → Type 0) → ((w : List ℕ) → Q w → (x : X) × P x × (f x ≡ w)) → (ws : List (List ℕ)) → AllByRecursion Q ws
+    → (xs : List X) × AllByRecursion P xs × (map f xs ≡ ws)
+all_spelled f P Q each [] h = ([], tt, refl)
+all_spelled {X} f P Q each (w ∷ ws) h =
+    let one : (x : X) × P x × (f x ≡ w) = each w h.0 in
+    let rest : (xs : List X) × AllByRecursion P xs × (map f xs ≡ ws) = all_spelled f P Q each ws h.1 in
+    (one.0 ∷ rest.0, (one.1, rest.1), ap (λ x. x ∷ map f rest.0) one.2 ∙ ap (λ t. w ∷ t) rest.2)
+
+few_spelled : {X : Type 0} (most : ℕ) (f : X → List ℕ) (P : X → Type 0) (Q : List ℕ → Type 0) → ((w : List ℕ) → Q w → (x : X) × P x × (f x ≡ w)) → (ws : List (List ℕ)) → AreWords most Q ws
+    → (xs : List X) × AreFew most P xs × (map f xs ≡ ws)
+few_spelled {X} most f P Q each ws h =
+    let all : (xs : List X) × AllByRecursion P xs × (map f xs ≡ ws) = all_spelled f P Q each ws h.each in
+    (all.0, record { count = omega (arith, h.count, length-map all.0 f, ap length all.2); each = all.1 }, all.2)
+
+line_spelled : (words : Words) → IsWithin standard words → (line : StreamLine) × Fits line × (words_of line ≡ words)
+line_spelled (Adds id lits hints) h =
+    let first = spelled id h.0 in
+    let second = few_spelled 65535 signed_decimal IsNonzero (IsLiteral 18) spelled_signed lits h.1 in
+    let third = few_spelled 65536 decimal IsPositive (IsNumber 18) spelled hints h.2 in (
+      Addition first.0 second.0 third.0,
+      (first.1, second.1, third.1),
+      ap (λ x. Adds x (map signed_decimal second.0) (map decimal third.0)) first.2 ∙ ap (λ x. Adds id x (map decimal third.0)) second.2 ∙ ap (λ x. Adds id lits x) third.2,
+    )
+line_spelled (Deletes lead ids) h =
+    let first = spelled lead h.0 in
+    let second = few_spelled 65536 decimal IsPositive (IsNumber 18) spelled ids h.1 in
+    (Deletion first.0 second.0, (first.1, second.1), ap (λ x. Deletes x (map decimal second.0)) first.2 ∙ ap (λ x. Deletes lead x) second.2)
+
+pub texts_are_lines : TextsAreLines
+texts_are_lines bytes = (
+  λ h. let line = line_spelled h.0 h.1 in (line.0, (line.1, h.2 ∙ ap text (sym line.2))),
+  λ h. (words_of h.0, fits_within h.0 h.1.0, h.1.1),
+)
+
+-- A stream is cut in one way.
+
+pub one_cut : OneCut
+one_cut stream [] [] rest left a b = (refl, sym a.bytes ∙ b.bytes)
+one_cut stream [] (m ∷ ms) rest left a b = absurd (a.last m (flat_map text_of ms ++ left) b.each.0 (sym a.bytes ∙ b.bytes ∙ append_assoc (text_of m) (flat_map text_of ms) left))
+one_cut stream (l ∷ ls) [] rest left a b = absurd (b.last l (flat_map text_of ls ++ rest) a.each.0 (sym b.bytes ∙ a.bytes ∙ append_assoc (text_of l) (flat_map text_of ls) rest))
+one_cut stream (l ∷ ls) (m ∷ ms) rest left a b =
+    let here = texts_apart l m (flat_map text_of ls ++ rest) (flat_map text_of ms ++ left) a.each.0 b.each.0
+    (sym (append_assoc (text_of l) (flat_map text_of ls) rest) ∙ sym a.bytes ∙ b.bytes ∙ append_assoc (text_of m) (flat_map text_of ms) left) in
+    let others = one_cut (flat_map text_of ls ++ rest) ls ms rest left (record { bytes = refl; each = a.each.1; last = a.last }) (record { bytes = here.1; each = b.each.1; last = b.last }) in
+    (ap (λ x. x ∷ ls) here.0 ∙ ap (λ t. m ∷ t) others.0, others.1)
+
+-- A rest has one fault.
+
+begins_before : (bytes more : List ℕ) → Begins (bytes ++ more) → Begins bytes
+begins_before bytes more h = (more ++ h.0, subst (IsLine standard) (append_assoc bytes more h.0) h.1)
+
+-- of two beginnings of a text, the one that ends in a byte more than the other's is no shorter
+pub shorter : (p q : List ℕ) (x y : List ℕ) (b : ℕ) → p ++ x ≡ q ++ b ∷ y → ((more : List ℕ) × (p ≡ (q ++ b ∷ []) ++ more)) ⊎ ((more : List ℕ) × (q ≡ p ++ more))
+shorter [] q x y b e = inr (q, refl)
+shorter (c ∷ p) [] x y b e = inl (p, ap (λ z. z ∷ p) (same_head e))
+shorter (c ∷ p) (d ∷ q) x y b e = elim (shorter p q x y b (same_tail e)) [
+  | inl h ↦ inl (h.0, ap (λ z. z ∷ p) (same_head e) ∙ ap (λ t. d ∷ t) h.1)
+  | inr h ↦ inr (h.0, ap (λ z. z ∷ q) (sym (same_head e)) ∙ ap (λ t. c ∷ t) h.1)
+]
+
+faults_same : (bytes : List ℕ) (fault other : LineFault) → IsFaultOf bytes fault → IsFaultOf bytes other → fault ≡ other
+faults_same bytes Spelling Spelling a b = refl
+faults_same bytes Spelling TooLong a b = absurd (a.0 b)
+faults_same bytes Spelling Truncated a b = absurd b
+faults_same bytes Spelling RatHint a b = absurd (a.1 b.1)
+faults_same bytes TooLong Spelling a b = absurd (b.0 a)
+faults_same bytes TooLong TooLong a b = refl
+faults_same bytes TooLong Truncated a b = absurd b
+faults_same bytes TooLong RatHint a b = absurd (b.0 a)
+faults_same bytes Truncated other a b = absurd a
+faults_same bytes RatHint Spelling a b = absurd (b.1 a.1)
+faults_same bytes RatHint TooLong a b = absurd (a.0 b)
+faults_same bytes RatHint Truncated a b = absurd b
+faults_same bytes RatHint RatHint a b = refl
+
+refused_same : (p q x y : List ℕ) (b c : ℕ) (fault other : LineFault) → Decides p b fault → Decides q c other → (p ++ b ∷ []) ++ x ≡ (q ++ c ∷ []) ++ y → fault ≡ other
+refused_same p q x y b c fault other h k e =
+    let e' : p ++ b ∷ x ≡ q ++ c ∷ y = sym (append_assoc p (b ∷ []) x) ∙ e ∙ append_assoc q (c ∷ []) y in
+    elim (shorter p q (b ∷ x) y c e') [
+      | inl longer ↦ absurd (k.after (begins_before (q ++ c ∷ []) longer.0 (subst Begins longer.1 h.before.begins)))
+      | inr more ↦ elim (shorter q p (c ∷ y) x b (sym e')) [
+        | inl longer ↦ absurd (h.after (begins_before (p ++ b ∷ []) longer.0 (subst Begins longer.1 k.before.begins)))
+        | inr back ↦ alike more.0 back.0 more.1 back.1
+      ]
+    ]
+  where
+    alike : (more back : List ℕ) → q ≡ p ++ more → p ≡ q ++ back → fault ≡ other
+    alike more back to from =
+        let sizes : length q ≡ length p + length more = ap length to ∙ length-append p more in
+        let sizes' : length p ≡ length q + length back = ap length from ∙ length-append q back in
+        let none : length more ≡ 0 = omega arith in
+        let empty : more ≡ [] = nil_from_length more none in
+        let same : q ≡ p = to ∙ ap (λ t. p ++ t) empty ∙ append-nil p in
+        let rest : b ∷ x ≡ c ∷ y =
+        append_cancel_left p (b ∷ x) (c ∷ y) (sym (append_assoc p (b ∷ []) x) ∙ e ∙ append_assoc q (c ∷ []) y ∙ ap (λ t. t ++ c ∷ y) same) in
+        let byte : q ++ c ∷ [] ≡ p ++ b ∷ [] = ap (λ t. t ++ c ∷ []) same ∙ ap (λ z. p ++ z ∷ []) (sym (same_head rest)) in
+        faults_same (p ++ b ∷ []) fault other h.why (subst (λ t. IsFaultOf t other) byte k.why)
+
+pub one_fault : OneFault
+one_fault rest fault other h = (
+  λ k. refused_same h.3.0 k.3.0 h.1 k.1 h.3.1 k.3.1 fault other h.3.3 k.3.3
+      (ap (λ t. t ++ h.1) (sym h.3.2) ∙ sym h.2 ∙ k.2 ∙ ap (λ t. t ++ k.1) k.3.2),
+  λ begins. h.3.3.after (subst Begins h.3.2 (begins_before h.0 h.1 (subst Begins h.2 begins))),
+)
+
+-- However a stream comes, it is cut into the lines that were given.
+
+last_byte : (p t more : List ℕ) (b : ℕ) → p ++ b ∷ [] ≡ t ++ more → (more ≡ []) ⊎ ((less : List ℕ) × (p ≡ t ++ less))
+last_byte p [] more b e = inr (p, refl)
+last_byte [] (c ∷ t) more b e = inl (nil_from_length more (omega (arith, ap length (same_tail e), length-append t more)))
+last_byte (d ∷ p) (c ∷ t) more b e = elim (last_byte p t more b (same_tail e)) [
+  | inl none ↦ inl none
+  | inr h ↦ inr (h.0, ap (λ x. x ∷ p) (same_head e) ∙ ap (λ u. c ∷ u) h.1)
+]
+
+-- a text that was refused has no line in it
+decides_no_line : (p : List ℕ) (b : ℕ) (fault : LineFault) → Decides p b fault → HasNoLine (p ++ b ∷ [])
+decides_no_line p b fault h line more fits e = elim (last_byte p (text_of line) more b e) [
+  | inl none ↦ h.after ([], (words_of line, fits_within line fits, append-nil (p ++ b ∷ []) ∙ e ∙ ap (λ t. text_of line ++ t) none ∙ append-nil (text_of line)))
+  | inr less ↦ h.before.whole line less.0 fits less.1
+]
+
+refused_no_line : (bytes : List ℕ) (fault : LineFault) → IsRefused bytes fault → HasNoLine bytes
+refused_no_line bytes fault h = subst HasNoLine (sym h.2) (decides_no_line h.0 h.1 fault h.3)
+
+all_more : {X : Type 0} (P : X → Type 0) (xs : List X) (x : X) → AllByRecursion P xs → P x → AllByRecursion P (xs ++ x ∷ [])
+all_more P [] x all one = (one, tt)
+all_more P (y ∷ ys) x all one = (all.0, all_more P ys x all.1 one)
+
+-- a longer rest of the same lines
+cut_longer : (stream : List ℕ) (lines : List StreamLine) (read more : List ℕ) → Cut stream lines read → HasNoLine (read ++ more) → Cut (stream ++ more) (lines ++ []) (read ++ more)
+cut_longer stream lines read more cut last =
+    subst (λ ls. Cut (stream ++ more) ls (read ++ more)) (sym (append-nil lines))
+    (record { bytes = ap (λ t. t ++ more) cut.bytes ∙ append_assoc (flat_map text_of lines) read more; each = cut.each; last = last })
+
+-- one more line
+cut_line : (stream : List ℕ) (lines : List StreamLine) (read more : List ℕ) (line : StreamLine) → Cut stream lines read → LineText line (read ++ more) → HasNoLine []
+    → Cut (stream ++ more) (lines ++ line ∷ []) []
+cut_line stream lines read more line cut text none = record {
+  bytes = ap (λ t. t ++ more) cut.bytes ∙ append_assoc (flat_map text_of lines) read more ∙ ap (λ t. flat_map text_of lines ++ t) text.1
+      ∙ flat_map_more text_of [] lines line ∙ sym (append-nil (flat_map text_of (lines ++ line ∷ [])));
+  each = all_more Fits lines line cut.each text.0;
+  last = none;
+}
+
+cut_call : (stream : List ℕ) (lines : List StreamLine) (old new : ReaderState) (piece : List ℕ) (used : ℕ) (turn : Turn) → IsCut stream lines old → Feeds old piece used turn → Leaves old piece turn new
+    → IsCut (stream ++ take used piece) (lines ++ line_given turn) new
+cut_call stream lines (Err fault) new piece used turn cut gives leaves =
+    let given : new ≡ Err fault = subst (λ t. Leaves (Err fault) piece t new) gives.1 leaves in
+    let nothing : stream ++ take used piece ≡ stream = ap (λ k. stream ++ take k piece) gives.0 ∙ append-nil stream in
+    let no_lines : lines ++ line_given turn ≡ lines = ap (λ t. lines ++ line_given t) gives.1 ∙ append-nil lines in
+    subst (λ x. IsCut (stream ++ take used piece) (lines ++ line_given turn) x) (sym given)
+    (subst (λ x. IsCut x (lines ++ line_given turn) (Err fault)) (sym nothing) (subst (λ x. IsCut stream x (Err fault)) (sym no_lines) cut))
+cut_call stream lines (Ok read) new piece used (Line line) cut gives leaves =
+    subst (λ x. IsCut (stream ++ take used piece) (lines ++ line_of line ∷ []) x) (sym leaves.0)
+    (cut_line stream lines read (take used piece) (line_of line) cut gives.2 leaves.1.whole)
+cut_call stream lines (Ok read) new piece used NeedMore cut gives leaves =
+    let all : take used piece ≡ piece = ap (λ k. take k piece) gives ∙ take_all (length piece) piece (omega arith) in
+    subst (λ x. IsCut (stream ++ take used piece) (lines ++ []) x) (sym leaves.0)
+    (subst (λ x. Cut (stream ++ x) (lines ++ []) (read ++ piece)) (sym all) (cut_longer stream lines read piece cut leaves.1.whole))
+cut_call stream lines (Ok read) new piece used (Fault fault) cut gives leaves =
+    subst (λ x. IsCut (stream ++ take used piece) (lines ++ []) x) (sym leaves)
+    (read ++ take used piece, cut_longer stream lines read (take used piece) cut (refused_no_line _ fault gives.2), gives.2)
+
+pub call_cuts : CallCuts
+call_cuts = cut_call
+
+pub empty_cut : EmptyCut
+empty_cut = record { bytes = refl; each = tt; last = empty_pending.whole }
+
+pub calls_cut : CallsCut
+calls_cut stream lines old new [] cut same =
+    subst (λ x. IsCut (stream ++ []) (lines ++ []) x) (sym same) (subst (λ x. IsCut x (lines ++ []) old) (sym (append-nil stream)) (subst (λ x. IsCut stream x old) (sym (append-nil lines)) cut))
+calls_cut stream lines old new (call ∷ calls) cut h =
+    let next = cut_call stream lines old h.0 call.piece call.used call.turn cut h.1 h.2 in
+    let all = calls_cut (stream ++ take call.used call.piece) (lines ++ line_given call.turn) h.0 new calls next h.3 in
+    subst (λ x. IsCut x (lines ++ (line_given call.turn ++ lines_given calls)) new) (append_assoc stream (take call.used call.piece) (used_bytes calls))
+    (subst (λ x. IsCut ((stream ++ take call.used call.piece) ++ used_bytes calls) x new) (append_assoc lines (line_given call.turn) (lines_given calls)) all)

@@ -1,0 +1,33 @@
+use Rattle.std.proofs.Common.{arith, subst, sym}
+use Rattle.lrup_text.specs.declared.machine.Place.TheVariants as places
+use Rattle.lrup_text.proofs.Bytes.{GoesOn, body_zero_goes_on, body_deletion_goes_on, body_minus_goes_on, body_digit_goes_on, body_too_long, body_spelling}
+use Rattle.lrup_text.proofs.machine.PartialLine.step_in_body.Goals as goal
+
+pub returns-in-48 : goal.returns-in-48
+returns-in-48 c = body_zero_goes_on c.args.self.now c.args.byte c.requires.reads c.requires.place (omega arith)
+
+pub returns-in-100 : goal.returns-in-100
+returns-in-100 c = body_deletion_goes_on c.args.self.now c.args.byte c.requires.reads c.requires.place (omega arith) (omega arith)
+
+pub returns-in-45 : goal.returns-in-45
+returns-in-45 c = body_minus_goes_on c.args.self.now c.args.byte c.requires.reads c.requires.place (omega arith) (omega arith)
+
+pub returns-in-49-to-57 : goal.returns-in-49-to-57
+returns-in-49-to-57 c =
+    subst (λ s. GoesOn c.args.self.now c.args.byte (record s { place = places.Literal })) (sym c.begin_number.ensures)
+    (body_digit_goes_on c.args.self.now c.args.byte c.requires.reads c.requires.place (omega arith) (omega arith) (omega arith))
+
+pub returns-in-45-2 : goal.returns-in-45-2
+returns-in-45-2 c = body_too_long c.args.self.now c.args.byte c.requires.reads c.requires.place (omega (arith, c.requires.reads.kept.few_literals)) (λ ne. absurd (ne c.in-45.is))
+
+pub returns-in-45-2-2 : goal.returns-in-45-2-2
+returns-in-45-2-2 c = body_too_long c.args.self.now c.args.byte c.requires.reads c.requires.place (omega (arith, c.requires.reads.kept.few_literals)) (λ ne. (omega arith, omega arith))
+
+pub returns-in_default : goal.returns-in_default
+returns-in_default c = body_spelling c.args.self.now c.args.byte c.requires.reads c.requires.place (λ e. omega (arith, e)) (λ e. omega (arith, e)) (λ low high. omega arith) (λ none. absurd (omega arith))
+
+pub returns-in_default-2 : goal.returns-in_default-2
+returns-in_default-2 c = body_spelling c.args.self.now c.args.byte c.requires.reads c.requires.place (λ e. omega (arith, e)) (λ e. omega (arith, e)) (λ low high. omega arith) (λ _. λ e. omega (arith, e))
+
+pub returns-in_default-3 : goal.returns-in_default-3
+returns-in_default-3 c = body_spelling c.args.self.now c.args.byte c.requires.reads c.requires.place (λ e. omega (arith, e)) (λ e. omega (arith, e)) (λ low high. omega arith) (λ _. λ e. omega (arith, e))

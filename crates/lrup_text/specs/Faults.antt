@@ -1,0 +1,27 @@
+-- The faults of a text that begins no line (this project's own).
+use Rattle.std.specs.Prelude.{◌≡◌, ℕ, List, [], ◌∷◌, ◌++◌, true, false}
+use Rattle.lrup_text.specs.declared.LineFault.{LineFault}
+use Rattle.lrup_text.specs.declared.LineFault.TheVariants.{Spelling, TooLong, Truncated, RatHint}
+use Rattle.lrup_text.specs.Grammar.{Begins, BeginsLifted}
+use Rattle.lrup_text.specs.Lines.{IsPending}
+
+-- why a text that begins no line begins none
+abbrev pub IsFaultOf : List ℕ → LineFault → Type 0
+IsFaultOf bytes Spelling = ¬ BeginsLifted false bytes × ¬ BeginsLifted true bytes
+IsFaultOf bytes TooLong = BeginsLifted false bytes
+IsFaultOf bytes Truncated = ⊥
+IsFaultOf bytes RatHint = ¬ BeginsLifted false bytes × BeginsLifted true bytes
+
+-- The byte decides: what was read may still become a line, and with the byte it begins none, for this fault.
+pub record Decides (read : List ℕ) (byte : ℕ) (fault : LineFault) : Type 0 where
+  pub before : IsPending read
+  pub after : ¬ Begins (read ++ byte ∷ [])
+  pub why : IsFaultOf (read ++ byte ∷ []) fault
+
+-- It is the shortest text that begins no line, with this fault, and no line is whole in it.
+abbrev pub IsRefused : List ℕ → LineFault → Type 0
+IsRefused bytes fault = (read : List ℕ) × (byte : ℕ) × (bytes ≡ read ++ byte ∷ []) × Decides read byte fault
+
+-- the fault of a rest, which stands in it
+abbrev pub HasTextFault : List ℕ → LineFault → Type 0
+HasTextFault rest fault = (bytes after : List ℕ) × (rest ≡ bytes ++ after) × IsRefused bytes fault

@@ -1,0 +1,109 @@
+-- The texts of the lines of a stream: the RUP part of LRAT text (Cruz-Filipe et al., CADE 2017), in this project's spelling.
+--     line = ( add / del ) LF
+--     add  = num SP *( lit SP ) "0" *( SP num ) SP "0"
+--     del  = num SP "d" *( SP num ) SP "0"
+--     lit  = [ "-" ] num
+--     num  = one digit 1 to 9, then digits 0 to 9
+-- SP is one space. A line is spelled by words, which are lists of bytes. How many there may be, and how long, limits say.
+use Rattle.std.specs.Prelude.{◌≡◌, ℕ, ◌<◌, ◌≤◌, ◌⊎◌, Bool, false, List, [], ◌∷◌, ◌++◌, length, MatchBool}
+use Rattle.std.specs.List.{AllByRecursion}
+
+-- the bytes LF, SP, `-`, `0` and `d`
+abbrev pub line_feed : ℕ
+line_feed = 10
+
+abbrev pub space : ℕ
+space = 32
+
+abbrev pub minus : ℕ
+minus = 45
+
+abbrev pub zero_digit : ℕ
+zero_digit = 48
+
+abbrev pub letter_d : ℕ
+letter_d = 100
+
+-- the most digits of a number, literals of an addition, and hints of an addition or identities of a deletion;
+-- and whether a hint may carry a sign
+pub record Limits : Type 0 where
+  pub digits : ℕ
+  pub literals : ℕ
+  pub identities : ℕ
+  pub signed : Bool
+
+-- the limits of a stream
+abbrev pub standard : Limits
+standard = record { digits = 18; literals = 65535; identities = 65536; signed = false }
+
+-- limits at least as wide, with signed hints or without
+pub record AreLifted (signed : Bool) (limits : Limits) : Type 0 where
+  pub digits : 18 ≤ limits.digits
+  pub literals : 65535 ≤ limits.literals
+  pub identities : 65536 ≤ limits.identities
+  pub sign : limits.signed ≡ signed
+
+-- a digit 0 to 9
+abbrev pub IsDigit : ℕ → Type 0
+IsDigit c = (48 ≤ c) × (c ≤ 57)
+
+-- num, of at most so many digits
+abbrev pub IsNumber : ℕ → List ℕ → Type 0
+IsNumber most [] = ⊥
+IsNumber most (c ∷ cs) = (49 ≤ c) × (c ≤ 57) × AllByRecursion IsDigit cs × (length cs < most)
+
+-- lit
+abbrev pub IsLiteral : ℕ → List ℕ → Type 0
+IsLiteral most [] = ⊥
+IsLiteral most (c ∷ cs) = IsNumber most (c ∷ cs) ⊎ ((c ≡ minus) × IsNumber most cs)
+
+-- a hint: num, or lit where hints are signed
+abbrev pub IsHint : Limits → List ℕ → Type 0
+IsHint limits word = MatchBool limits.signed (IsLiteral limits.digits word) (IsNumber limits.digits word)
+
+-- the words of a line
+pub data Words : Type 0 where
+  Adds : (id : List ℕ) (lits hints : List (List ℕ)) → Words
+  Deletes : (lead : List ℕ) (ids : List (List ℕ)) → Words
+
+-- at most so many words, each of a kind
+pub record AreWords (most : ℕ) (IsWord : List ℕ → Type 0) (words : List (List ℕ)) : Type 0 where
+  pub count : length words ≤ most
+  pub each : AllByRecursion IsWord words
+
+-- words of a line within the limits
+abbrev pub IsWithin : Limits → Words → Type 0
+IsWithin limits (Adds id lits hints) =
+    IsNumber limits.digits id × AreWords limits.literals (IsLiteral limits.digits) lits × AreWords limits.identities (IsHint limits) hints
+IsWithin limits (Deletes lead ids) = IsNumber limits.digits lead × AreWords limits.identities (IsNumber limits.digits) ids
+
+-- *( SP num ) SP "0" LF
+abbrev pub list_text : List (List ℕ) → List ℕ
+list_text [] = space ∷ zero_digit ∷ line_feed ∷ []
+list_text (w ∷ ws) = space ∷ (w ++ list_text ws)
+
+-- *( lit SP ) "0", and what follows
+abbrev pub clause_text : List (List ℕ) → List ℕ → List ℕ
+clause_text [] rest = zero_digit ∷ rest
+clause_text (w ∷ ws) rest = w ++ space ∷ clause_text ws rest
+
+-- a line's text, with its LF
+abbrev pub text : Words → List ℕ
+text (Adds id lits hints) = id ++ space ∷ clause_text lits (list_text hints)
+text (Deletes lead ids) = lead ++ space ∷ letter_d ∷ list_text ids
+
+-- the bytes are a line within the limits
+abbrev pub IsLine : Limits → List ℕ → Type 0
+IsLine limits bytes = (words : Words) × IsWithin limits words × (bytes ≡ text words)
+
+-- some rest makes a line of it
+abbrev pub BeginsWithin : Limits → List ℕ → Type 0
+BeginsWithin limits bytes = (rest : List ℕ) × IsLine limits (bytes ++ rest)
+
+-- it begins a line
+abbrev pub Begins : List ℕ → Type 0
+Begins bytes = BeginsWithin standard bytes
+
+-- it begins a line if the limits are lifted, with signed hints or without
+abbrev pub BeginsLifted : Bool → List ℕ → Type 0
+BeginsLifted signed bytes = (limits : Limits) × AreLifted signed limits × BeginsWithin limits bytes

@@ -1,0 +1,47 @@
+-- The laws of the lines' texts, which the functions of `laws.rt` prove.
+use Rattle.std.specs.Prelude.{◌≡◌, ℕ, List, [], ◌++◌, take, Ok, ◌↔◌}
+use Rattle.lrup_text.specs.declared.LineFault.{LineFault}
+use Rattle.lrup_text.specs.Faults.{HasTextFault}
+use Rattle.lrup_text.specs.Grammar.{IsLine, standard, Begins}
+use Rattle.lrup_text.specs.Lines.{StreamLine, LineText, Cut}
+use Rattle.lrup_text.specs.declared.reader.Turn.{Turn}
+use Rattle.lrup_text.specs.Feeding.{ReaderState, Feeds, Leaves}
+use Rattle.lrup_text.specs.Cutting.{Call, AreCalls, used_bytes, line_given, lines_given, IsCut}
+
+-- a line has one text
+abbrev pub OneText : Type 0
+OneText = (line : StreamLine) (bytes others : List ℕ) → LineText line bytes → LineText line others → bytes ≡ others
+
+-- a text spells one line
+abbrev pub OneLine : Type 0
+OneLine = (line other : StreamLine) (bytes : List ℕ) → LineText line bytes → LineText other bytes → line ≡ other
+
+-- no line's text begins another line's
+abbrev pub NoTextBegins : Type 0
+NoTextBegins = (line other : StreamLine) (bytes others more : List ℕ) → LineText line bytes → LineText other others → others ≡ bytes ++ more → more ≡ []
+
+-- what the grammar takes within the limits of a stream is the text of a line
+abbrev pub TextsAreLines : Type 0
+TextsAreLines = (bytes : List ℕ) → IsLine standard bytes ↔ ((line : StreamLine) × LineText line bytes)
+
+-- a stream is cut in one way
+abbrev pub OneCut : Type 0
+OneCut = (stream : List ℕ) (lines others : List StreamLine) (rest left : List ℕ) → Cut stream lines rest → Cut stream others left → (lines ≡ others) × (rest ≡ left)
+
+-- a rest has one fault, and what begins a line has none
+abbrev pub OneFault : Type 0
+OneFault = (rest : List ℕ) (fault other : LineFault) → HasTextFault rest fault → (HasTextFault rest other → fault ≡ other) × ¬ Begins rest
+
+-- no bytes are cut into no lines
+abbrev pub EmptyCut : Type 0
+EmptyCut = IsCut [] [] (Ok [])
+
+-- a call goes on with the cut, by the line that it gave, if any
+abbrev pub CallCuts : Type 0
+CallCuts = (stream : List ℕ) (lines : List StreamLine) (old new : ReaderState) (piece : List ℕ) (used : ℕ) (turn : Turn)
+    → IsCut stream lines old → Feeds old piece used turn → Leaves old piece turn new → IsCut (stream ++ take used piece) (lines ++ line_given turn) new
+
+-- However a stream comes in pieces, the lines given are those that the bytes used are cut into.
+abbrev pub CallsCut : Type 0
+CallsCut = (stream : List ℕ) (lines : List StreamLine) (old new : ReaderState) (calls : List Call)
+    → IsCut stream lines old → AreCalls old calls new → IsCut (stream ++ used_bytes calls) (lines ++ lines_given calls) new

@@ -1,0 +1,11 @@
+pub mod Cutting
+pub mod Faults
+pub mod Feeding
+pub mod Grammar
+pub mod Laws
+pub mod Lending
+pub mod Lines
+pub mod Reading
+pub mod Rests
+pub mod Writing
+pub mod Kernel

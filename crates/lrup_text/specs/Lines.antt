@@ -1,0 +1,62 @@
+-- The lines of a stream, their texts, and how a stream is cut into them (this project's own).
+use Rattle.std.specs.Prelude.{◌≡◌, ℕ, ◌<◌, ◌≤◌, ◌^◌, ℤ, unsigned_abs, List, ◌++◌, length, map}
+use Rattle.std.specs.Fmt.{decimal, signed_decimal}
+use Rattle.std.specs.List.{AllByRecursion, flat_map}
+use Rattle.lrup_text.specs.Grammar.{Words, Adds, Deletes, text, Begins}
+use Rattle.lrup_text.specs.declared.Line.{Line}
+use Rattle.lrup_text.specs.declared.Line.TheVariants.{Add, Delete}
+
+-- a line, apart from where its lists lie in memory
+pub data StreamLine : Type 0 where
+  Addition : (id : ℕ) (lits : List ℤ) (hints : List ℕ) → StreamLine
+  Deletion : (lead : ℕ) (ids : List ℕ) → StreamLine
+
+-- the line that a `Line` is
+abbrev pub line_of : Line → StreamLine
+line_of (Add id lits hints) = Addition id lits.now hints.now
+line_of (Delete lead ids) = Deletion lead ids.now
+
+-- the words that spell a line, each number in decimal
+abbrev pub words_of : StreamLine → Words
+words_of (Addition id lits hints) = Adds (decimal id) (map signed_decimal lits) (map decimal hints)
+words_of (Deletion lead ids) = Deletes (decimal lead) (map decimal ids)
+
+-- a number of 1 to 18 digits that isn't 0
+abbrev pub IsPositive : ℕ → Type 0
+IsPositive n = (0 < n) × (n < 10 ^ 18)
+
+abbrev pub IsNonzero : ℤ → Type 0
+IsNonzero z = IsPositive (unsigned_abs z)
+
+-- at most so many elements, each of a kind
+pub record AreFew {X : Type 0} (most : ℕ) (Is : X → Type 0) (xs : List X) : Type 0 where
+  pub count : length xs ≤ most
+  pub each : AllByRecursion Is xs
+
+-- it has a text within the limits of a stream
+abbrev pub Fits : StreamLine → Type 0
+Fits (Addition id lits hints) = IsPositive id × AreFew 65535 IsNonzero lits × AreFew 65536 IsPositive hints
+Fits (Deletion lead ids) = IsPositive lead × AreFew 65536 IsPositive ids
+
+-- the bytes that spell a line, with its LF
+abbrev pub text_of : StreamLine → List ℕ
+text_of line = text (words_of line)
+
+-- the bytes are the text of the line
+abbrev pub LineText : StreamLine → List ℕ → Type 0
+LineText line bytes = Fits line × (bytes ≡ text_of line)
+
+-- no line's text is a beginning of it
+abbrev pub HasNoLine : List ℕ → Type 0
+HasNoLine bytes = (line : StreamLine) (more : List ℕ) → Fits line → ¬ (bytes ≡ text_of line ++ more)
+
+-- the bytes are the texts of the lines, and then a rest in which no line is whole
+pub record Cut (stream : List ℕ) (lines : List StreamLine) (rest : List ℕ) : Type 0 where
+  pub bytes : stream ≡ flat_map text_of lines ++ rest
+  pub each : AllByRecursion Fits lines
+  pub last : HasNoLine rest
+
+-- what a reader may wait for more of: it begins a line, and has no whole one
+pub record IsPending (bytes : List ℕ) : Type 0 where
+  pub begins : Begins bytes
+  pub whole : HasNoLine bytes

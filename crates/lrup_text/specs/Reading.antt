@@ -1,0 +1,133 @@
+-- A line as far as it was read: what was read, and what a byte does.
+use Rattle.std.specs.Prelude.{◌≡◌, ℕ, ◌<◌, ◌≤◌, ◌^◌, ℤ, Bool, true, false, List, [], ◌∷◌, ◌++◌, length, take, if◌then◌else◌}
+use Rattle.std.specs.Fmt.{decimal, signed_decimal}
+use Rattle.std.specs.List.{AllByRecursion, flat_map}
+use Rattle.lrup_text.specs.declared.machine.Place.{Place}
+use Rattle.lrup_text.specs.declared.machine.Place.TheVariants as places
+use Rattle.lrup_text.specs.declared.machine.Step.{Step}
+use Rattle.lrup_text.specs.declared.machine.Step.TheVariants.{More, Done, Refused}
+use Rattle.lrup_text.specs.declared.machine.PartialLine.{PartialLine}
+use Rattle.lrup_text.specs.Grammar.{space, minus, zero_digit, letter_d}
+use Rattle.lrup_text.specs.Faults.{IsRefused, Decides}
+use Rattle.lrup_text.specs.Lines.{StreamLine, Addition, Deletion, LineText, IsPositive, IsNonzero}
+use Rattle.lrup_text.specs.Rests.{Spot, AtStart, InLead, BeforeLiteral, AfterMinus, InLiteral, BeforeList, BeforeItem, InItem, AtEnd, Tracks}
+
+-- the literals, and the hints or identities, read so far
+abbrev pub literals_of : PartialLine → List ℤ
+literals_of m = take m.literal_count m.literals.items
+
+abbrev pub identities_of : PartialLine → List ℕ
+identities_of m = take m.identity_count m.identities.items
+
+-- a line by its parts
+abbrev pub line_of_parts : Bool → ℕ → List ℤ → List ℕ → StreamLine
+line_of_parts deletes lead lits ids = if deletes then Deletion lead ids else Addition lead lits ids
+
+-- the line that was read
+abbrev pub read_line : PartialLine → StreamLine
+read_line m = line_of_parts m.deletes m.lead (literals_of m) (identities_of m)
+
+-- literals and the space after each; items and the space before each
+unfoldable pub literals_text : List ℤ → List ℕ
+literals_text lits = flat_map (λ z. signed_decimal z ++ space ∷ []) lits
+
+unfoldable pub items_text : List ℕ → List ℕ
+items_text items = flat_map (λ n. space ∷ decimal n) items
+
+-- the text up to the literals; up to the list; up to more of its items
+abbrev pub clause_front : ℕ → List ℤ → List ℕ
+clause_front lead lits = decimal lead ++ space ∷ literals_text lits
+
+abbrev pub list_front : Bool → ℕ → List ℤ → List ℕ
+list_front true lead lits = decimal lead ++ space ∷ letter_d ∷ []
+list_front false lead lits = clause_front lead lits ++ zero_digit ∷ []
+
+abbrev pub item_front : PartialLine → List ℕ
+item_front m = list_front m.deletes m.lead (literals_of m) ++ items_text (identities_of m)
+
+-- a literal as far as it was read
+abbrev pub literal_front : Bool → ℕ → List ℕ
+literal_front true n = minus ∷ decimal n
+literal_front false n = decimal n
+
+-- the bytes of the line that were read
+unfoldable pub pending_at : Place → PartialLine → List ℕ
+pending_at places.Start m = []
+pending_at places.Lead m = decimal m.number
+pending_at places.Body m = clause_front m.lead (literals_of m)
+pending_at places.Minus m = clause_front m.lead (literals_of m) ++ minus ∷ []
+pending_at places.Literal m = clause_front m.lead (literals_of m) ++ literal_front m.negative m.number
+pending_at places.List m = list_front m.deletes m.lead (literals_of m)
+pending_at places.Item m = item_front m ++ space ∷ []
+pending_at places.Number m = item_front m ++ space ∷ decimal m.number
+pending_at places.LineEnd m = item_front m ++ space ∷ zero_digit ∷ []
+
+abbrev pub pending : PartialLine → List ℕ
+pending m = pending_at m.place m
+
+-- where in a line that is
+unfoldable pub spot_at : Place → PartialLine → Spot
+spot_at places.Start m = AtStart
+spot_at places.Lead m = InLead m.digits
+spot_at places.Body m = BeforeLiteral m.literal_count
+spot_at places.Minus m = AfterMinus m.literal_count
+spot_at places.Literal m = InLiteral m.digits m.literal_count
+spot_at places.List m = BeforeList m.deletes
+spot_at places.Item m = BeforeItem m.deletes m.identity_count
+spot_at places.Number m = InItem m.deletes m.digits m.identity_count
+spot_at places.LineEnd m = AtEnd
+
+-- the counts that a place needs room for
+unfoldable pub IsRoomy : Place → PartialLine → Type 0
+IsRoomy places.Body m = m.identity_count ≡ 0
+IsRoomy places.Minus m = (m.identity_count ≡ 0) × (m.literal_count < 65535)
+IsRoomy places.Literal m = (m.identity_count ≡ 0) × (m.literal_count < 65535)
+IsRoomy places.List m = m.identity_count ≡ 0
+IsRoomy places.Number m = m.identity_count < 65536
+IsRoomy _ m = Unit {0}
+
+-- the buffers have room for all that a line may hold
+pub record HasRoom (lits : List ℤ) (ids : List ℕ) : Type 0 where
+  pub literals : length lits ≡ 65535
+  pub identities : length ids ≡ 65536
+
+-- the first number, and the literals and identities in front of the buffers, can stand in a line
+pub record IsKept (first : ℕ) (lits : List ℤ) (literal_count : ℕ) (ids : List ℕ) (identity_count : ℕ) : Type 0 where
+  pub lead : IsPositive first
+  pub few_literals : literal_count ≤ 65535
+  pub few_identities : identity_count ≤ 65536
+  pub literals : AllByRecursion IsNonzero (take literal_count lits)
+  pub identities : AllByRecursion IsPositive (take identity_count ids)
+
+-- a number of so many digits
+pub record HasDigits (number digits : ℕ) : Type 0 where
+  pub low : 0 < number
+  pub high : number < 10 ^ digits
+  pub few : digits ≤ 18
+
+-- what is kept between two bytes
+pub record Reads (m : PartialLine) : Type 0 where
+  pub room : HasRoom m.literals.items m.identities.items
+  pub kept : IsKept m.lead m.literals.items m.literal_count m.identities.items m.identity_count
+  pub number : HasDigits m.number m.digits
+  pub roomy : IsRoomy m.place m
+  pub tracks : Tracks (pending m) (spot_at m.place m)
+
+-- What a byte does. The line goes on; or it is whole, and reading stands before the next; or no line begins so.
+abbrev pub Takes : PartialLine → ℕ → Step → PartialLine → Type 0
+Takes old byte More new = Reads new × (pending new ≡ pending old ++ byte ∷ [])
+Takes old byte Done new = Reads new × (pending new ≡ []) × LineText (read_line new) (pending old ++ byte ∷ [])
+Takes old byte (Refused fault) new = Decides (pending old) byte fault
+
+-- So many bytes of a piece were read, and the line goes on.
+pub record ReadsAhead (old : PartialLine) (piece : List ℕ) (used : ℕ) (new : PartialLine) : Type 0 where
+  pub bound : used ≤ length piece
+  pub reads : Reads new
+  pub is : pending new ≡ pending old ++ take used piece
+
+-- What the bytes of a piece do, of which so many were used.
+abbrev pub TakesPiece : PartialLine → List ℕ → ℕ → Step → PartialLine → Type 0
+TakesPiece old piece used More new = (used ≡ length piece) × Reads new × (pending new ≡ pending old ++ piece)
+TakesPiece old piece used Done new =
+    (0 < used) × (used ≤ length piece) × Reads new × (pending new ≡ []) × LineText (read_line new) (pending old ++ take used piece)
+TakesPiece old piece used (Refused fault) new = (0 < used) × (used ≤ length piece) × IsRefused (pending old ++ take used piece) fault

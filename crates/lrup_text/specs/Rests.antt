@@ -1,0 +1,98 @@
+-- What may still follow a beginning of a line, in the grammar's own words. A spot says where the beginning ends, with
+-- the counts that the limits speak of: how many digits of a number, literals or items of a list stand there.
+use Rattle.std.specs.Prelude.{◌≡◌, ℕ, ◌+◌, ◌≤◌, ◌⊎◌, Bool, true, false, List, [], ◌∷◌, ◌++◌, length, MatchBool}
+use Rattle.std.specs.List.{AllByRecursion}
+use Rattle.lrup_text.specs.Grammar.{Limits, AreLifted, IsDigit, IsNumber, IsLiteral, IsHint, IsLine, list_text, clause_text, line_feed, space, letter_d}
+
+pub data Spot : Type 0 where
+  AtStart : Spot
+  InLead : (digits : ℕ) → Spot
+  BeforeLiteral : (literals : ℕ) → Spot
+  AfterMinus : (literals : ℕ) → Spot
+  InLiteral : (digits literals : ℕ) → Spot
+  BeforeList : (deletes : Bool) → Spot
+  BeforeItem : (deletes : Bool) (items : ℕ) → Spot
+  InItem : (deletes : Bool) (digits items : ℕ) → Spot
+  AtEnd : Spot
+
+-- an item of a list: an identity to delete, or a hint
+abbrev pub IsItem : Limits → Bool → List ℕ → Type 0
+IsItem limits deletes word = MatchBool deletes (IsNumber limits.digits word) (IsHint limits word)
+
+-- the items after so many, and the end of the line
+pub record ListFollows (limits : Limits) (deletes : Bool) (items : ℕ) (rest : List ℕ) : Type 0 where
+  pub words : List (List ℕ)
+  pub count : items + length words ≤ limits.identities
+  pub each : AllByRecursion (IsItem limits deletes) words
+  pub is : rest ≡ list_text words
+
+-- the literals after so many, and the hints
+pub record ClauseFollows (limits : Limits) (literals : ℕ) (rest : List ℕ) : Type 0 where
+  pub words : List (List ℕ)
+  pub count : literals + length words ≤ limits.literals
+  pub each : AllByRecursion (IsLiteral limits.digits) words
+  pub after : List ℕ
+  pub is : rest ≡ clause_text words after
+  pub hints : ListFollows limits false 0 after
+
+-- the letter d, and the identities to delete
+pub record DeletionFollows (limits : Limits) (rest : List ℕ) : Type 0 where
+  pub after : List ℕ
+  pub is : rest ≡ letter_d ∷ after
+  pub ids : ListFollows limits true 0 after
+
+-- after so many literals: more of the clause, or, after none, a deletion
+abbrev pub BodyFollows : Limits → ℕ → List ℕ → Type 0
+BodyFollows limits literals rest = ClauseFollows limits literals rest ⊎ ((literals ≡ 0) × DeletionFollows limits rest)
+
+-- the digits after so many, a space, and what may follow it
+pub record DigitsFollow (limits : Limits) (digits : ℕ) (Next : List ℕ → Type 0) (rest : List ℕ) : Type 0 where
+  pub more : List ℕ
+  pub each : AllByRecursion IsDigit more
+  pub count : digits + length more ≤ limits.digits
+  pub after : List ℕ
+  pub is : rest ≡ more ++ space ∷ after
+  pub next : Next after
+
+-- a number, a space, and what may follow it
+pub record NumberFollows (limits : Limits) (Next : List ℕ → Type 0) (rest : List ℕ) : Type 0 where
+  pub first : ℕ
+  pub low : 49 ≤ first
+  pub high : first ≤ 57
+  pub after : List ℕ
+  pub is : rest ≡ first ∷ after
+  pub digits : DigitsFollow limits 1 Next after
+
+-- the rests that may follow a spot
+abbrev pub Follows : Limits → Spot → List ℕ → Type 0
+Follows limits AtStart rest = NumberFollows limits (BodyFollows limits 0) rest
+Follows limits (InLead digits) rest = DigitsFollow limits digits (BodyFollows limits 0) rest
+Follows limits (BeforeLiteral literals) rest = BodyFollows limits literals rest
+Follows limits (AfterMinus literals) rest = NumberFollows limits (ClauseFollows limits (literals + 1)) rest
+Follows limits (InLiteral digits literals) rest = DigitsFollow limits digits (ClauseFollows limits (literals + 1)) rest
+Follows limits (BeforeList deletes) rest = ListFollows limits deletes 0 rest
+Follows limits (BeforeItem deletes items) rest = ListFollows limits deletes items (space ∷ rest)
+Follows limits (InItem deletes digits items) rest =
+    DigitsFollow limits digits (λ after. ListFollows limits deletes (items + 1) (space ∷ after)) rest
+Follows limits AtEnd rest = rest ≡ line_feed ∷ []
+
+-- what was read ends at the spot: the same rests make a line of it, whatever the limits
+pub record Tracks (read : List ℕ) (spot : Spot) : Type 0 where
+  pub follows : (signed : Bool) (limits : Limits) → AreLifted signed limits → (rest : List ℕ) → IsLine limits (read ++ rest) → Follows limits spot rest
+  pub line : (signed : Bool) (limits : Limits) → AreLifted signed limits → (rest : List ℕ) → Follows limits spot rest → IsLine limits (read ++ rest)
+
+-- with the byte a spot becomes another
+pub record Moves (spot : Spot) (byte : ℕ) (next : Spot) : Type 0 where
+  pub to : (signed : Bool) (limits : Limits) → AreLifted signed limits → (rest : List ℕ) → Follows limits spot (byte ∷ rest) → Follows limits next rest
+  pub from : (signed : Bool) (limits : Limits) → AreLifted signed limits → (rest : List ℕ) → Follows limits next rest → Follows limits spot (byte ∷ rest)
+
+-- no rest may follow the byte
+abbrev pub Blocks : Bool → Spot → ℕ → Type 0
+Blocks signed spot byte = (limits : Limits) → AreLifted signed limits → (rest : List ℕ) → ¬ Follows limits spot (byte ∷ rest)
+
+-- some rest may follow the byte, where the limits are wide enough
+pub record Allows (signed : Bool) (spot : Spot) (byte : ℕ) : Type 0 where
+  pub limits : Limits
+  pub lifted : AreLifted signed limits
+  pub rest : List ℕ
+  pub follows : Follows limits spot (byte ∷ rest)

@@ -1,0 +1,25 @@
+-- What goes out to a sink, where the device tells its bytes, while some bytes are still held back.
+use Rattle.std.specs.Prelude.{◌≡◌, List, ℕ, ◌++◌, Option, Result, MatchResult}
+use Rattle.std.specs.Io.KnownBytes.{Appends}
+
+-- The bytes went out behind those held before, and the last of them are held now.
+pub record Puts (before after : Option (List ℕ)) (held holds bytes : List ℕ) : Type 0 where
+  pub went : List ℕ
+  pub appends : Appends before after went
+  pub is : held ++ bytes ≡ went ++ holds
+
+-- A beginning of them went out.
+pub record Breaks (before after : Option (List ℕ)) (held bytes : List ℕ) : Type 0 where
+  pub went : List ℕ
+  pub rest : List ℕ
+  pub appends : Appends before after went
+  pub is : held ++ bytes ≡ went ++ rest
+
+-- what a call put out, that may have failed
+abbrev pub PutsAll : {E : Type 0} → Result (Unit {0}) E → Option (List ℕ) → Option (List ℕ) → List ℕ → List ℕ → List ℕ → Type 0
+PutsAll result before after held holds bytes = MatchResult result (λ _. Puts before after held holds bytes) (λ _. Breaks before after held bytes)
+
+-- a whole text went out, or, after a fault, a beginning of it
+abbrev pub WritesText : {E : Type 0} → Result (Unit {0}) E → Option (List ℕ) → Option (List ℕ) → List ℕ → Type 0
+WritesText result before after bytes =
+    MatchResult result (λ _. Appends before after bytes) (λ _. (went rest : List ℕ) × (bytes ≡ went ++ rest) × Appends before after went)

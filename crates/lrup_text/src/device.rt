@@ -1,0 +1,161 @@
+// Where streams come from and go to.
+ghost use Rattle.std.specs.Prelude.{◌≡◌, ◌<◌, ◌≤◌, ℕ, List, Bool, false, Option, IfOk, is_err, length};
+ghost use Rattle.std.specs.Io.KnownBytes.{ReadConsumes, WriteAppends};
+
+use std::io;
+use thiserror::Error;
+
+/// A read failed.
+#[derive(Clone, Copy, Debug, PartialEq, Eq, Error)]
+#[error("read failed")]
+pub struct ReadFault;
+
+/// A write failed.
+#[derive(Clone, Copy, Debug, PartialEq, Eq, Error)]
+#[error("write failed")]
+pub struct WriteFault;
+
+/// Bytes to be read.
+pub trait Source {
+    /// The bytes left, where the device tells them.
+    ghost left: { Self → Option (List ℕ) };
+
+    /// Whether a read has failed.
+    ghost has_failed: { Self → Bool };
+
+    /// Reads bytes into the front of a buffer, and says how many. None into a buffer that isn't empty is the end.
+    ///
+    /// A fault reads nothing, and there is no read after it.
+    fn read(&mut self, buffer: &mut [u8]) -> Result<usize, ReadFault>
+        requires { has_failed self.old ≡ false }
+        ensures bound { IfOk result (λ count. count ≤ length buffer.new) }
+        ensures bytes { ReadConsumes (left self.old) (left self.new) result buffer.new }
+        ensures failed { has_failed self.new ≡ is_err result };
+
+    /// Whether a read has failed.
+    fn failed(&self) -> bool
+        ensures { result ≡ has_failed self.now };
+}
+
+/// A place for bytes.
+pub trait Sink {
+    /// The bytes written, where the device tells them.
+    ghost written: { Self → Option (List ℕ) };
+
+    /// Whether a write has failed.
+    ghost has_failed: { Self → Bool };
+
+    /// Writes bytes from the front of a slice, and says how many: at least one, where the slice isn't empty.
+    ///
+    /// A fault writes nothing, and there is no write after it.
+    fn write(&mut self, bytes: &[u8]) -> Result<usize, WriteFault>
+        requires { has_failed self.old ≡ false }
+        ensures bound { IfOk result (λ count. count ≤ length bytes.now) }
+        ensures some { IfOk result (λ count. 0 < length bytes.now → 0 < count) }
+        ensures bytes { WriteAppends (written self.old) (written self.new) result bytes.now }
+        ensures failed { has_failed self.new ≡ is_err result };
+
+    /// Whether a write has failed.
+    fn failed(&self) -> bool
+        ensures { result ≡ has_failed self.now };
+}
+
+/// A source of what an `io::Read` reads.
+#[derive(Drop)]
+pub struct Reading<R> {
+    inner: R,
+    failed: bool,
+}
+
+impl<R: io::Read> Reading<R> {
+    /// A source that hasn't failed.
+    pub fn new(inner: R) -> Reading<R>
+        ensures left { ⟦<Reading<R> as Source>⟧.left result ≡ R.remaining inner }
+        ensures failed { ⟦<Reading<R> as Source>⟧.has_failed result ≡ false }
+    {
+        Reading {
+            inner,
+            failed: false,
+        }
+    }
+
+    /// The reader, as far as it was read.
+    pub fn into_inner(self) -> R
+        ensures { R.remaining result ≡ ⟦<Reading<R> as Source>⟧.left self }
+    {
+        let Reading { inner, failed: _ } = self;
+        inner
+    }
+}
+
+impl<R: io::Read> Source for Reading<R> {
+    ghost left = { λ s. R.remaining s.inner };
+
+    ghost has_failed = { λ s. s.failed };
+
+    fn read(&mut self, buffer: &mut [u8]) -> Result<usize, ReadFault> {
+        match self.inner.read(buffer) {
+            Ok(count) => Ok(count),
+            Err(_) => {
+                self.failed = true;
+                Err(ReadFault)
+            }
+        }
+    }
+
+    fn failed(&self) -> bool {
+        self.failed
+    }
+}
+
+/// A sink over an `io::Write`. A write that takes nothing of a slice that isn't empty is a fault.
+#[derive(Drop)]
+pub struct Writing<W> {
+    inner: W,
+    failed: bool,
+}
+
+impl<W: io::Write> Writing<W> {
+    /// A sink that hasn't failed.
+    pub fn new(inner: W) -> Writing<W>
+        ensures written { ⟦<Writing<W> as Sink>⟧.written result ≡ W.contents inner }
+        ensures failed { ⟦<Writing<W> as Sink>⟧.has_failed result ≡ false }
+    {
+        Writing {
+            inner,
+            failed: false,
+        }
+    }
+
+    /// The writer, with what was written.
+    pub fn into_inner(self) -> W
+        ensures { W.contents result ≡ ⟦<Writing<W> as Sink>⟧.written self }
+    {
+        let Writing { inner, failed: _ } = self;
+        inner
+    }
+}
+
+impl<W: io::Write> Sink for Writing<W> {
+    ghost written = { λ s. W.contents s.inner };
+
+    ghost has_failed = { λ s. s.failed };
+
+    fn write(&mut self, bytes: &[u8]) -> Result<usize, WriteFault> {
+        match self.inner.write(bytes) {
+            Ok(0) if !bytes.is_empty() => {
+                self.failed = true;
+                Err(WriteFault)
+            }
+            Ok(count) => Ok(count),
+            Err(_) => {
+                self.failed = true;
+                Err(WriteFault)
+            }
+        }
+    }
+
+    fn failed(&self) -> bool {
+        self.failed
+    }
+}

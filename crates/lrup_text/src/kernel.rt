@@ -1,0 +1,163 @@
+// Reads a whole line at once, and long lists.
+ghost use Rattle.std.specs.Prelude.{◌≡◌, ◌<◌, ◌≤◌, length, IfSome};
+ghost use Rattle.lrup_text.specs.Kernel.{EndsLine, EndsWord, ReadsNumber, ReadsLiterals, ReadsItems, ReadsList, IsWhole};
+
+use crate::machine::{MOST_DIGITS, literal_of};
+
+/// The bytes that the grammar names.
+const SPACE: u8 = b' ';
+
+const MINUS: u8 = b'-';
+
+const ZERO: u8 = b'0';
+
+const ONE: u8 = b'1';
+
+const NINE: u8 = b'9';
+
+const LETTER_D: u8 = b'd';
+
+/// What a line holds beside its lists.
+#[derive(Clone, Copy)]
+pub struct Whole {
+    /// The line's first number.
+    pub lead: u64,
+    /// Whether the line is a deletion.
+    pub deletes: bool,
+    /// How many literals it has.
+    pub literal_count: usize,
+    /// How many hints, or identities to delete.
+    pub identity_count: usize,
+}
+
+/// Reads a slice that is a line's text, its lists to the front of buffers. `None` says nothing of the slice.
+#[inline(never)]
+pub fn read_line(line: &[u8], literals: &mut [i64], identities: &mut [u64]) -> Option<Whole>
+    requires ends { EndsLine line.now }
+    requires literals { length literals.old ≡ 65535 }
+    requires identities { length identities.old ≡ 65536 }
+    ensures { IfSome result (IsWhole line.now literals.new identities.new) }
+{
+    let (lead, end) = read_number(line, 0)?;
+    if line[end] != SPACE {
+        return None;
+    }
+    let body = end + 1;
+    if line[body] == LETTER_D {
+        let identity_count = read_list(line, body + 1, identities)?;
+        return Some(Whole {
+            lead,
+            deletes: true,
+            literal_count: 0,
+            identity_count,
+        });
+    }
+    let (literal_count, close) = read_literals(line, body, literals, 0);
+    if close >= line.len() || line[close] != ZERO {
+        return None;
+    }
+    let identity_count = read_list(line, close + 1, identities)?;
+    Some(Whole {
+        lead,
+        deletes: false,
+        literal_count,
+        identity_count,
+    })
+}
+
+/// Reads the items of a list, with the space before each, and the end of the line.
+#[inline(always)]
+fn read_list(line: &[u8], start: usize, out: &mut [u64]) -> Option<usize>
+    requires ends { EndsLine line.now }
+    requires inside { start < length line.now }
+    ensures { IfSome result (ReadsList line.now start out.new) }
+{
+    if line[start] != SPACE {
+        return None;
+    }
+    let (count, close) = read_items(line, start + 1, out, 0);
+    if close + 2 == line.len() && line[close] == ZERO {
+        Some(count)
+    } else {
+        None
+    }
+}
+
+/// Reads a number. The byte after it may be any.
+#[inline(always)]
+fn read_number(text: &[u8], start: usize) -> Option<(u64, usize)>
+    requires ends { EndsWord text.now }
+    requires inside { start < length text.now }
+    ensures { IfSome result (λ found. ReadsNumber text.now start found.0 found.1) }
+{
+    let first = text[start];
+    if first < ONE || first > NINE {
+        return None;
+    }
+    let mut number = u64::from(first - ZERO);
+    let mut end = start + 1;
+    while text[end] >= ZERO && text[end] <= NINE {
+        number = number
+            .wrapping_mul(10)
+            .wrapping_add(u64::from(text[end] - ZERO));
+        end += 1;
+    }
+    if end - start > MOST_DIGITS {
+        return None;
+    }
+    Some((number, end))
+}
+
+/// Reads literals, with the space after each, to the places from `first` on, as many as there are.
+///
+/// Says how many places are taken then, and how far the text was read.
+#[inline(always)]
+pub fn read_literals(text: &[u8], start: usize, out: &mut [i64], first: usize) -> (usize, usize)
+    requires ends { EndsWord text.now }
+    requires inside { start ≤ length text.now }
+    requires room { first ≤ length out.old }
+    ensures { ReadsLiterals text.now start out.old first out.new result.0 result.1 }
+{
+    let mut at = start;
+    let mut count = first;
+    while at < text.len() && count < out.len() {
+        let negative = text[at] == MINUS;
+        let digits = if negative { at + 1 } else { at };
+        let Some((magnitude, end)) = read_number(text, digits) else {
+            break;
+        };
+        if text[end] != SPACE {
+            break;
+        }
+        out[count] = literal_of(negative, magnitude);
+        count += 1;
+        at = end + 1;
+    }
+    (count, at)
+}
+
+/// Reads numbers, with the space after each, to the places from `first` on, as many as there are.
+///
+/// Says how many places are taken then, and how far the text was read.
+#[inline(always)]
+pub fn read_items(text: &[u8], start: usize, out: &mut [u64], first: usize) -> (usize, usize)
+    requires ends { EndsWord text.now }
+    requires inside { start ≤ length text.now }
+    requires room { first ≤ length out.old }
+    ensures { ReadsItems text.now start out.old first out.new result.0 result.1 }
+{
+    let mut at = start;
+    let mut count = first;
+    while at < text.len() && count < out.len() {
+        let Some((identity, end)) = read_number(text, at) else {
+            break;
+        };
+        if text[end] != SPACE {
+            break;
+        }
+        out[count] = identity;
+        count += 1;
+        at = end + 1;
+    }
+    (count, at)
+}

@@ -1,0 +1,57 @@
+// The laws of lines and streams. No function here does anything: its clause is the law.
+ghost use Rattle.lrup_text.specs.Laws.{
+  OneText,
+  OneLine,
+  NoTextBegins,
+  TextsAreLines,
+  OneCut,
+  OneFault,
+  EmptyCut,
+  CallCuts,
+  CallsCut,
+};
+
+/// A line has one text.
+pub fn a_line_has_one_text()
+    ensures { OneText }
+{}
+
+/// A text spells one line.
+pub fn a_text_spells_one_line()
+    ensures { OneLine }
+{}
+
+/// No line's text begins another line's, so that a written line is read again whatever follows.
+pub fn no_text_begins_another()
+    ensures { NoTextBegins }
+{}
+
+/// What the grammar takes within the limits of a stream is the text of a line.
+pub fn texts_are_lines()
+    ensures { TextsAreLines }
+{}
+
+/// A stream is cut into lines in one way.
+pub fn a_stream_is_cut_in_one_way()
+    ensures { OneCut }
+{}
+
+/// A text has one fault at most, and none where it begins a line.
+pub fn a_text_has_one_fault()
+    ensures { OneFault }
+{}
+
+/// No bytes are cut into no lines.
+pub fn no_bytes_have_no_lines()
+    ensures { EmptyCut }
+{}
+
+/// A call of a reader goes on with the cut of the stream, by the line that it gave, if any.
+pub fn a_call_cuts_on()
+    ensures { CallCuts }
+{}
+
+/// The lines that a reader gives are those that the stream is cut into, however it comes in pieces.
+pub fn calls_cut_the_stream()
+    ensures { CallsCut }
+{}

@@ -1,0 +1,90 @@
+//! Reads and writes the lines of a proof stream: the RUP part of LRAT text, in one exact spelling.
+#![tactic(auto)]
+
+ghost use Rattle.std.specs.Prelude.{◌↔◌, IsTrue};
+ghost use Rattle.lrup_text.specs.Lines.{line_of, Fits, IsPositive, IsNonzero, AreFew};
+
+mod device;
+mod kernel;
+pub mod laws;
+mod machine;
+mod reader;
+mod writer;
+
+pub use device::{ReadFault, Reading, Sink, Source, WriteFault, Writing};
+use machine::{MOST_IDENTITIES, MOST_LITERALS, MOST_NUMBER};
+pub use reader::{End, Fed, LineReader, Turn};
+use thiserror::Error;
+pub use writer::write_line;
+
+/// A line of a stream, lent by whoever keeps its lists.
+#[derive(Clone, Copy, Debug, PartialEq, Eq)]
+pub enum Line<'a> {
+    /// A derived clause: its identity, its literals, and the identities of its hints.
+    Add {
+        id: u64,
+        lits: &'a [i64],
+        hints: &'a [u64],
+    },
+    /// A deletion: a leading number that says nothing, and the identities to delete.
+    Delete {
+        lead: u64,
+        ids: &'a [u64],
+    },
+}
+
+impl Line<'_> {
+    /// Whether the line has a text: its numbers aren't 0 and have at most 18 digits, and its lists keep to
+    /// 65,535 literals, and to 65,536 hints or identities to delete.
+    pub fn fits(&self) -> bool
+        ensures { IsTrue result ↔ Fits (line_of self.now) }
+    {
+        match *self {
+            Line::Add { id, lits, hints } => {
+                is_positive(id) && are_few_literals(lits) && are_few_identities(hints)
+            }
+            Line::Delete { lead, ids } => is_positive(lead) && are_few_identities(ids),
+        }
+    }
+}
+
+fn is_positive(number: u64) -> bool
+    ensures { IsTrue result ↔ IsPositive number }
+{
+    number > 0 && number <= MOST_NUMBER
+}
+
+fn are_few_literals(lits: &[i64]) -> bool
+    ensures { IsTrue result ↔ AreFew 65535 IsNonzero lits.now }
+{
+    lits.len() <= MOST_LITERALS
+        && lits
+            .iter()
+            .all(|literal| is_positive(literal.unsigned_abs()))
+}
+
+fn are_few_identities(ids: &[u64]) -> bool
+    ensures { IsTrue result ↔ AreFew 65536 IsPositive ids.now }
+{
+    ids.len() <= MOST_IDENTITIES && ids.iter().all(|id| is_positive(*id))
+}
+
+/// Why a text is no line.
+#[derive(Clone, Copy, Debug, PartialEq, Eq, Error)]
+pub enum LineFault {
+    /// No other fault holds.
+    #[error("spelling")]
+    Spelling,
+    /// Without the limits on digits, literals, hints and identities it would begin a line.
+    #[error("too long")]
+    TooLong,
+    /// The stream ended inside a line.
+    #[error("truncated")]
+    Truncated,
+    /// A hint has a sign.
+    #[error("rat hint")]
+    RatHint,
+}
+
+#[cfg(test)]
+mod tests;

@@ -1,0 +1,500 @@
+// Reads one line, in as many pieces as it comes.
+ghost use Rattle.std.specs.Prelude.{◌≡◌, ◌<◌, ◌+◌, ◌-◌, ◌*◌, ◌^◌, ◌↔◌, [], length, IfOk, IfSome, IfNone, IsTrue, unsigned_abs};
+ghost use Rattle.std.specs.Fmt.{signed_decimal};
+ghost use Rattle.lrup_text.specs.Grammar.{IsDigit};
+ghost use Rattle.lrup_text.specs.Kernel.{EndsLine};
+ghost use Rattle.lrup_text.specs.Lines.{line_of, LineText};
+ghost use Rattle.lrup_text.specs.Reading.{Reads, ReadsAhead, Takes, TakesPiece, literal_front, pending, read_line};
+
+use crate::kernel::{read_items, read_line, read_literals};
+use crate::{Line, LineFault};
+use memchr::{memchr, memrchr};
+use std::alloc::{AllocError, Global};
+
+/// The most digits of a number.
+pub const MOST_DIGITS: usize = 18;
+/// The greatest number of that many digits.
+pub const MOST_NUMBER: u64 = 999_999_999_999_999_999;
+/// The most literals of an addition.
+pub const MOST_LITERALS: usize = 65_535;
+/// The most hints of an addition, and the most identities of a deletion.
+pub const MOST_IDENTITIES: usize = 65_536;
+
+/// What may come next in a line.
+#[derive(Clone, Copy)]
+pub enum Place {
+    /// The line itself.
+    Start,
+    /// More of its first number.
+    Lead,
+    /// A literal, the `0` after the literals, or the `d` of a deletion.
+    Body,
+    /// The number of a literal, after its sign.
+    Minus,
+    /// More of a literal's number.
+    Literal,
+    /// The space before a list.
+    List,
+    /// An item of a list, or the `0` that closes it.
+    Item,
+    /// More of an item.
+    Number,
+    /// The LF.
+    LineEnd,
+}
+
+/// What a byte did.
+#[derive(Clone, Copy)]
+pub enum Step {
+    /// The line goes on.
+    More,
+    /// The line is whole.
+    Done,
+    /// No line begins so.
+    Refused(LineFault),
+}
+
+/// A line, as far as it was read.
+#[derive(Drop)]
+pub struct PartialLine {
+    /// What may come next.
+    pub place: Place,
+    /// Whether the line is a deletion.
+    pub deletes: bool,
+    /// Whether the literal that is being read has a sign.
+    pub negative: bool,
+    /// The digits read of the number that is being read.
+    pub digits: usize,
+    /// The number that is being read.
+    pub number: u64,
+    /// The line's first number.
+    pub lead: u64,
+    /// The literals read.
+    pub literal_count: usize,
+    /// The hints read, or the identities of a deletion.
+    pub identity_count: usize,
+    /// The literals stand in front.
+    pub literals: Vec<i64>,
+    /// The hints or identities stand in front.
+    pub identities: Vec<u64>,
+}
+
+/// What bytes of a piece did.
+#[derive(Clone, Copy)]
+pub struct Taken {
+    /// How many were used.
+    pub used: usize,
+    /// What the last of them did.
+    pub step: Step,
+}
+
+impl PartialLine {
+    /// Nothing of a line, with all memory that a line can need.
+    pub fn new(alloc: Global) -> Result<PartialLine, AllocError>
+        ensures { IfOk result (λ line. Reads line × (pending line ≡ [])) }
+    {
+        let literals = zero_literals(alloc, MOST_LITERALS)?;
+        let identities = zero_identities(alloc, MOST_IDENTITIES)?;
+        Ok(PartialLine {
+            place: Place::Start,
+            deletes: false,
+            negative: false,
+            // Between lines these hold some number, so that it is always one that fits.
+            digits: 1,
+            number: 1,
+            lead: 1,
+            literal_count: 0,
+            identity_count: 0,
+            literals,
+            identities,
+        })
+    }
+
+    /// Whether nothing of a line was read.
+    pub fn is_empty(&self) -> bool
+        requires { Reads self.now }
+        ensures { IsTrue result ↔ (pending self.now ≡ []) }
+    {
+        matches!(self.place, Place::Start)
+    }
+
+    /// The line that was read.
+    pub fn line(&self) -> Line<'_>
+        requires { Reads self.now }
+        ensures { line_of result ≡ read_line self.now }
+    {
+        let identities = &self.identities[..self.identity_count];
+        if self.deletes {
+            Line::Delete {
+                lead: self.lead,
+                ids: identities,
+            }
+        } else {
+            Line::Add {
+                id: self.lead,
+                lits: &self.literals[..self.literal_count],
+                hints: identities,
+            }
+        }
+    }
+
+    /// Takes bytes of a piece up to the end of the line, or up to the byte that decides that it is none.
+    pub fn read(&mut self, piece: &[u8]) -> Taken
+        requires { Reads self.old }
+        ensures { TakesPiece self.old piece.now result.used result.step self.new }
+    {
+        match self.read_at_once(piece) {
+            Some(used) => Taken {
+                used,
+                step: Step::Done,
+            },
+            None => self.read_bytes(piece),
+        }
+    }
+
+    /// Reads a line that is whole in the piece, where none was begun, and says how many bytes it has.
+    ///
+    /// `None` says nothing of the piece. Nothing was read then.
+    fn read_at_once(&mut self, piece: &[u8]) -> Option<usize>
+        requires { Reads self.old }
+        ensures whole { IfSome result (λ used. TakesPiece self.old piece.now used Step.Done self.new) }
+        ensures reads { IfNone result (Reads self.new) }
+        ensures same { IfNone result (pending self.new ≡ pending self.old) }
+    {
+        let Place::Start = self.place else {
+            return None;
+        };
+        let used = memchr(b'\n', piece)? + 1;
+        if self.read_whole(&piece[..used]) {
+            Some(used)
+        } else {
+            None
+        }
+    }
+
+    /// Reads a line that is whole in a slice, and says whether it did. Where it didn't, nothing was read.
+    fn read_whole(&mut self, line: &[u8]) -> bool
+        requires reads { Reads self.old }
+        requires start { self.old.place ≡ Place.Start }
+        requires ends { EndsLine line.now }
+        ensures reads { Reads self.new }
+        ensures empty { pending self.new ≡ [] }
+        ensures line { IsTrue result → LineText (read_line self.new) line.now }
+    {
+        self.literal_count = 0;
+        self.identity_count = 0;
+        let literals = self.literals.as_mut_slice();
+        let identities = self.identities.as_mut_slice();
+        let Some(whole) = read_line(line, literals, identities) else {
+            return false;
+        };
+        self.lead = whole.lead;
+        self.deletes = whole.deletes;
+        self.literal_count = whole.literal_count;
+        self.identity_count = whole.identity_count;
+        true
+    }
+
+    /// Takes bytes of a piece as `read` does: many at once inside a list, and else one by one.
+    #[inline(never)]
+    fn read_bytes(&mut self, piece: &[u8]) -> Taken
+        requires { Reads self.old }
+        ensures { TakesPiece self.old piece.now result.used result.step self.new }
+    {
+        let mut used = 0;
+        while used < piece.len() {
+            used += self.read_ahead(&piece[used..]);
+            if used < piece.len() {
+                let step = self.step(piece[used]);
+                used += 1;
+                let Step::More = step else {
+                    return Taken { used, step };
+                };
+            }
+        }
+        Taken {
+            used,
+            step: Step::More,
+        }
+    }
+
+    /// Reads literals or items that are whole in the front of a piece, and says how many bytes they have.
+    fn read_ahead(&mut self, piece: &[u8]) -> usize
+        requires { Reads self.old }
+        ensures { ReadsAhead self.old piece.now result self.new }
+    {
+        match self.place {
+            Place::Body => self.read_literals_ahead(piece),
+            Place::Item => self.read_items_ahead(piece),
+            _ => 0,
+        }
+    }
+
+    fn read_literals_ahead(&mut self, piece: &[u8]) -> usize
+        requires reads { Reads self.old }
+        requires place { self.old.place ≡ Place.Body }
+        ensures { ReadsAhead self.old piece.now result self.new }
+    {
+        let Some(last) = memrchr(b' ', piece) else {
+            return 0;
+        };
+        let literals = self.literals.as_mut_slice();
+        let (count, used) = read_literals(&piece[..last + 1], 0, literals, self.literal_count);
+        self.literal_count = count;
+        used
+    }
+
+    fn read_items_ahead(&mut self, piece: &[u8]) -> usize
+        requires reads { Reads self.old }
+        requires place { self.old.place ≡ Place.Item }
+        ensures { ReadsAhead self.old piece.now result self.new }
+    {
+        let Some(last) = memrchr(b' ', piece) else {
+            return 0;
+        };
+        let identities = self.identities.as_mut_slice();
+        let (count, used) = read_items(&piece[..last + 1], 0, identities, self.identity_count);
+        self.identity_count = count;
+        used
+    }
+
+    /// Takes the next byte of the line.
+    pub fn step(&mut self, byte: u8) -> Step
+        requires { Reads self.old }
+        ensures { Takes self.old byte result self.new }
+    {
+        match self.place {
+            Place::Start => self.step_at_start(byte),
+            Place::Lead => self.step_in_lead(byte),
+            Place::Body => self.step_in_body(byte),
+            Place::Minus => self.step_after_minus(byte),
+            Place::Literal => self.step_in_literal(byte),
+            Place::List => self.step_before_list(byte),
+            Place::Item => self.step_before_item(byte),
+            Place::Number => self.step_in_number(byte),
+            Place::LineEnd => self.step_at_end(byte),
+        }
+    }
+
+    /// Begins a number with its first digit.
+    fn begin_number(&mut self, byte: u8)
+        requires { IsDigit byte }
+        ensures { self.new ≡ record self.old { number = byte - 48; digits = 1 } }
+    {
+        self.number = u64::from(byte - b'0');
+        self.digits = 1;
+    }
+
+    /// Takes one more digit of a number.
+    fn extend_number(&mut self, byte: u8)
+        requires digit { IsDigit byte }
+        requires room { self.old.digits < 18 }
+        requires fits { self.old.number < 10 ^ self.old.digits }
+        ensures { self.new ≡ record self.old { number = self.old.number * 10 + (byte - 48); digits = self.old.digits + 1 } }
+    {
+        self.number = self.number * 10 + u64::from(byte - b'0');
+        self.digits += 1;
+    }
+
+    fn step_at_start(&mut self, byte: u8) -> Step
+        requires reads { Reads self.old }
+        requires place { self.old.place ≡ Place.Start }
+        ensures { Takes self.old byte result self.new }
+    {
+        match byte {
+            b'1'..=b'9' => {
+                self.begin_number(byte);
+                self.place = Place::Lead;
+                Step::More
+            }
+            _ => Step::Refused(LineFault::Spelling),
+        }
+    }
+
+    fn step_in_lead(&mut self, byte: u8) -> Step
+        requires reads { Reads self.old }
+        requires place { self.old.place ≡ Place.Lead }
+        ensures { Takes self.old byte result self.new }
+    {
+        match byte {
+            b'0'..=b'9' if self.digits < MOST_DIGITS => {
+                self.extend_number(byte);
+                Step::More
+            }
+            b'0'..=b'9' => Step::Refused(LineFault::TooLong),
+            b' ' => {
+                self.lead = self.number;
+                self.literal_count = 0;
+                self.identity_count = 0;
+                self.place = Place::Body;
+                Step::More
+            }
+            _ => Step::Refused(LineFault::Spelling),
+        }
+    }
+
+    fn step_in_body(&mut self, byte: u8) -> Step
+        requires reads { Reads self.old }
+        requires place { self.old.place ≡ Place.Body }
+        ensures { Takes self.old byte result self.new }
+    {
+        match byte {
+            b'0' => {
+                self.deletes = false;
+                self.place = Place::List;
+                Step::More
+            }
+            b'd' if self.literal_count == 0 => {
+                self.deletes = true;
+                self.place = Place::List;
+                Step::More
+            }
+            b'-' if self.literal_count < MOST_LITERALS => {
+                self.place = Place::Minus;
+                Step::More
+            }
+            b'1'..=b'9' if self.literal_count < MOST_LITERALS => {
+                self.negative = false;
+                self.begin_number(byte);
+                self.place = Place::Literal;
+                Step::More
+            }
+            b'-' | b'1'..=b'9' => Step::Refused(LineFault::TooLong),
+            _ => Step::Refused(LineFault::Spelling),
+        }
+    }
+
+    fn step_after_minus(&mut self, byte: u8) -> Step
+        requires reads { Reads self.old }
+        requires place { self.old.place ≡ Place.Minus }
+        ensures { Takes self.old byte result self.new }
+    {
+        match byte {
+            b'1'..=b'9' => {
+                self.negative = true;
+                self.begin_number(byte);
+                self.place = Place::Literal;
+                Step::More
+            }
+            _ => Step::Refused(LineFault::Spelling),
+        }
+    }
+
+    fn step_in_literal(&mut self, byte: u8) -> Step
+        requires reads { Reads self.old }
+        requires place { self.old.place ≡ Place.Literal }
+        ensures { Takes self.old byte result self.new }
+    {
+        match byte {
+            b'0'..=b'9' if self.digits < MOST_DIGITS => {
+                self.extend_number(byte);
+                Step::More
+            }
+            b'0'..=b'9' => Step::Refused(LineFault::TooLong),
+            b' ' => {
+                self.literals[self.literal_count] = literal_of(self.negative, self.number);
+                self.literal_count += 1;
+                self.place = Place::Body;
+                Step::More
+            }
+            _ => Step::Refused(LineFault::Spelling),
+        }
+    }
+
+    fn step_before_list(&mut self, byte: u8) -> Step
+        requires reads { Reads self.old }
+        requires place { self.old.place ≡ Place.List }
+        ensures { Takes self.old byte result self.new }
+    {
+        match byte {
+            b' ' => {
+                self.place = Place::Item;
+                Step::More
+            }
+            _ => Step::Refused(LineFault::Spelling),
+        }
+    }
+
+    fn step_before_item(&mut self, byte: u8) -> Step
+        requires reads { Reads self.old }
+        requires place { self.old.place ≡ Place.Item }
+        ensures { Takes self.old byte result self.new }
+    {
+        match byte {
+            b'0' => {
+                self.place = Place::LineEnd;
+                Step::More
+            }
+            b'1'..=b'9' if self.identity_count == MOST_IDENTITIES => {
+                Step::Refused(LineFault::TooLong)
+            }
+            b'1'..=b'9' => {
+                self.begin_number(byte);
+                self.place = Place::Number;
+                Step::More
+            }
+            b'-' if !self.deletes => Step::Refused(LineFault::RatHint),
+            _ => Step::Refused(LineFault::Spelling),
+        }
+    }
+
+    fn step_in_number(&mut self, byte: u8) -> Step
+        requires reads { Reads self.old }
+        requires place { self.old.place ≡ Place.Number }
+        ensures { Takes self.old byte result self.new }
+    {
+        match byte {
+            b'0'..=b'9' if self.digits < MOST_DIGITS => {
+                self.extend_number(byte);
+                Step::More
+            }
+            b'0'..=b'9' => Step::Refused(LineFault::TooLong),
+            b' ' => {
+                self.identities[self.identity_count] = self.number;
+                self.identity_count += 1;
+                self.place = Place::Item;
+                Step::More
+            }
+            _ => Step::Refused(LineFault::Spelling),
+        }
+    }
+
+    fn step_at_end(&mut self, byte: u8) -> Step
+        requires reads { Reads self.old }
+        requires place { self.old.place ≡ Place.LineEnd }
+        ensures { Takes self.old byte result self.new }
+    {
+        match byte {
+            b'\n' => {
+                self.place = Place::Start;
+                Step::Done
+            }
+            _ => Step::Refused(LineFault::Spelling),
+        }
+    }
+}
+
+/// So many places for literals.
+fn zero_literals(alloc: Global, count: usize) -> Result<Vec<i64>, AllocError>
+    ensures { IfOk result (λ v. length v.items ≡ count) }
+{
+    vec![in alloc; 0; count]
+}
+
+/// So many places for identities.
+fn zero_identities(alloc: Global, count: usize) -> Result<Vec<u64>, AllocError>
+    ensures { IfOk result (λ v. length v.items ≡ count) }
+{
+    vec![in alloc; 0; count]
+}
+
+/// The literal with this magnitude.
+pub fn literal_of(negative: bool, number: u64) -> i64
+    requires low { 0 < number }
+    requires high { number < 10 ^ 18 }
+    ensures text { signed_decimal result ≡ literal_front negative number }
+    ensures magnitude { unsigned_abs result ≡ number }
+{
+    let magnitude = number as i64;
+    if negative { -magnitude } else { magnitude }
+}

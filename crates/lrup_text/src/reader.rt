@@ -1,0 +1,115 @@
+// The reader of a stream's lines.
+ghost use Rattle.std.specs.Prelude.{◌≡◌, [], Ok, IfOk};
+ghost use Rattle.lrup_text.specs.Feeding.{Feeds, Ends};
+ghost use Rattle.lrup_text.specs.Lines.{IsPending};
+
+use crate::machine::{PartialLine, Step};
+use crate::{Line, LineFault};
+use std::alloc::{AllocError, Global};
+use std::marker::Model;
+
+/// What a piece of a stream gave.
+#[derive(Clone, Copy, Debug, PartialEq, Eq)]
+pub struct Fed<'a> {
+    /// How many bytes of the piece were used.
+    pub used: usize,
+    /// What they gave.
+    pub turn: Turn<'a>,
+}
+
+/// What the bytes used gave.
+#[derive(Clone, Copy, Debug, PartialEq, Eq)]
+pub enum Turn<'a> {
+    /// They end this line.
+    Line(Line<'a>),
+    /// All bytes were used, and no line ended.
+    NeedMore,
+    /// No line begins so. The last byte used decided it.
+    Fault(LineFault),
+}
+
+/// What the end of a stream is.
+#[derive(Clone, Copy, Debug, PartialEq, Eq)]
+pub enum End {
+    /// The stream ended after its last line.
+    Clean,
+    /// A fault was given before, or the stream ended inside a line.
+    Fault(LineFault),
+}
+
+/// Reads the lines of a stream that comes in pieces, cut anywhere.
+///
+/// Contracts see it as the text that it has read of a line, or as the fault that it gave: from then on it gives
+/// that fault and uses nothing.
+#[derive(Drop)]
+pub struct LineReader {
+    line: PartialLine,
+    fault: Option<LineFault>,
+}
+
+impl Model for LineReader {
+    ghost use Rattle.std.specs.Prelude.{IfNone};
+    ghost use Rattle.lrup_text.specs.Feeding.{ReaderState, state_of};
+    ghost use Rattle.lrup_text.specs.Reading.{Reads, pending};
+
+    ghost Value = { ReaderState };
+
+    ghost view = { λ r. state_of r.fault (pending r.line) };
+
+    ghost invariant = { λ r. IfNone r.fault (Reads r.line) };
+}
+
+impl LineReader {
+    ghost use Rattle.std.specs.Borrow.{sem};
+    ghost use Rattle.lrup_text.specs.Lending.{FeedEnds};
+
+    /// A reader before the first byte. It makes all its buffers, so that reading takes no memory.
+    pub fn new(alloc: Global) -> Result<LineReader, AllocError>
+        ensures { IfOk result (λ reader. (reader ≡ Ok []) × IsPending []) }
+    {
+        let line = PartialLine::new(alloc)?;
+        Ok(LineReader { line, fault: None })
+    }
+
+    /// Takes bytes of a piece, up to the end of a line, up to the byte that no line can go on with, or all of them.
+    ///
+    /// A line is lent until the next call.
+    pub fn feed(&mut self, piece: &[u8]) -> Fed<'_>
+        ensures gives { Feeds self.old piece.now result.used result.turn }
+        ensures* leaves { sem 𝓛 (FeedEnds self.entry piece.now result.turn) }
+    {
+        if let Some(fault) = self.fault {
+            return Fed {
+                used: 0,
+                turn: Turn::Fault(fault),
+            };
+        }
+        let taken = self.line.read(piece);
+        let turn = match taken.step {
+            Step::More => Turn::NeedMore,
+            Step::Done => Turn::Line(self.line.line()),
+            Step::Refused(fault) => {
+                self.fault = Some(fault);
+                Turn::Fault(fault)
+            }
+        };
+        Fed {
+            used: taken.used,
+            turn,
+        }
+    }
+
+    /// Says what it is that the stream ends here. After `Clean` it may still go on.
+    pub fn end(&mut self) -> End
+        ensures { Ends self.old result self.new }
+    {
+        if let Some(fault) = self.fault {
+            return End::Fault(fault);
+        }
+        if self.line.is_empty() {
+            return End::Clean;
+        }
+        self.fault = Some(LineFault::Truncated);
+        End::Fault(LineFault::Truncated)
+    }
+}
