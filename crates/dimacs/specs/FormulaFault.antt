@@ -1,5 +1,6 @@
 -- The first fault of a file that is no text of a formula, in byte order: the header is judged as a whole, the tokens
 -- behind it one by one. Of several faults of one token, or of the header, it is the first by the order of DimacsFault.
+-- (The faults and their order are this project's own.)
 use Rattle.std.specs.Prelude.{◌≡◌, ◌⊎◌, ◌≤◌, ◌<◌, ℕ, ℤ, nat_abs, Some, None, List, [], ◌∷◌, ◌++◌, codes, length}
 use Rattle.lrup_model.specs.Literal.{IsLiteral, max_variable}
 use Rattle.lrup_model.specs.Formula.{max_clauses, max_clause_literals}
@@ -7,7 +8,7 @@ use Rattle.dimacs.specs.declared.fault.DimacsFault.{DimacsFault}
 use Rattle.dimacs.specs.declared.fault.DimacsFault.TheVariants.{NoHeader, BadHeader, BadNumber, VariableRange, OpenClause, TooFew, TooMany, Limit, Memory}
 use Rattle.dimacs.specs.Lines.{Line, Token, lines_of}
 use Rattle.dimacs.specs.Numerals.{number_of}
-use Rattle.dimacs.specs.FormulaText.{IsHeader, IsRead, InBodyOf}
+use Rattle.dimacs.specs.FormulaText.{IsHeader, IsRead, InBody}
 
 -- the line begins with the token `p`
 abbrev pub BeginsHeader : List (List ℕ) → Type 0
@@ -110,4 +111,4 @@ IsHeaderFault _ lines = ⊥
 
 -- the first fault of the file; want of memory is no file's fault
 abbrev pub IsFaultOf : List ℕ → DimacsFault → Type 0
-IsFaultOf bytes fault = IsHeaderFault fault (lines_of bytes) ⊎ InBodyOf (lines_of bytes) (IsBodyFault fault)
+IsFaultOf bytes fault = IsHeaderFault fault (lines_of bytes) ⊎ InBody bytes (IsBodyFault fault)

@@ -86,16 +86,17 @@ impl Builder {
 #[inline(never)]
 pub fn read_clauses(
     alloc: Global,
-    tokens: &mut Tokens<'_>,
+    behind_header: Tokens<'_>,
     header: Header,
 ) -> Result<Formula, DimacsFault>
     requires vars { header.vars ≤ max_variable }
     requires clauses { header.clauses ≤ max_clauses }
     ensures ok { IfOk result (λ f.
-        AreClauses f header.vars header.clauses (tokens_at tokens.old.line tokens.old.rest.now)) }
+        AreClauses f header.vars header.clauses (tokens_at behind_header.entry.line behind_header.entry.rest.now)) }
     ensures err { IfErr result (λ fault. fault ≢ Memory →
-        IsBodyFault fault header.vars header.clauses (tokens_at tokens.old.line tokens.old.rest.now)) }
+        IsBodyFault fault header.vars header.clauses (tokens_at behind_header.entry.line behind_header.entry.rest.now)) }
 {
+    let mut tokens = behind_header;
     let mut builder = Builder {
         formula: Formula::new(alloc, header.vars),
         clause: OpenClause::new(alloc),

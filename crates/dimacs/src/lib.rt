@@ -21,8 +21,10 @@ pub use fault::DimacsFault;
 use lrup_model::Formula;
 use std::alloc::Global;
 
-/// Reads a whole file. The file is a text of the formula that is given; of a file that is none, the fault is the first in
-/// byte order. `Memory` says nothing of the file.
+/// Reads the formula of a whole file. What is given is what the bytes say: a literal that a clause repeats stands in it
+/// once. A file that is no formula is refused with its first fault in byte order, and nothing is left behind; `Memory` says
+/// nothing of the file. The time is linear in the file, however long clauses and numbers are. Beside the file and the formula
+/// this takes at most some 13 MB, for the clause that is being read.
 pub fn parse(alloc: Global, bytes: &[u8]) -> Result<Formula, DimacsFault>
     ensures formula { IfOk result (λ f. IsTextOf bytes.now f) }
     ensures fault { IfErr result (λ fault. fault ≢ Memory → IsFaultOf bytes.now fault) }
@@ -32,5 +34,5 @@ pub fn parse(alloc: Global, bytes: &[u8]) -> Result<Formula, DimacsFault>
         return Err(DimacsFault::NoHeader);
     };
     let header = header::parse_header(line)?;
-    body::read_clauses(alloc, &mut tokens, header)
+    body::read_clauses(alloc, tokens, header)
 }

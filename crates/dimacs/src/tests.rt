@@ -40,6 +40,10 @@ fn rows(rt: HostRuntime) -> Result<(), Fail> {
         ("p cnf\n1 1\n", "formula refused: bad header"),
         ("p cnf +1 0\n", "formula refused: bad header"),
         ("p cnf 16777216 0\n", "formula refused: limit"),
+        (
+            "p cnf 0 99999999999999999999999\n",
+            "formula refused: limit",
+        ),
         ("p cnf 16777216 x\n", "formula refused: bad header"),
         ("p cnf 1 1\n+1 0\n", "formula refused: bad number in line 2"),
         ("p cnf 1 1\n-0\n", "formula refused: bad number in line 2"),

@@ -1,0 +1,245 @@
+-- The good lines of a stream so far, and what is left of it.
+use Rattle.std.proofs.Common.{◌≡◌, ℕ, ℤ, ◌-◌, ◌<◌, Bool, true, false, List, [], ◌∷◌, ◌++◌, length, drop, Some, inl, inr, cond, refl, sym, ap, subst, ◌∙◌, arith, append_assoc, take-append-drop, eqb, ne_eqb, ◌≢◌}
+use Rattle.std.proofs.lemmas.Bool.{cond-false}
+use Rattle.std.specs.Prelude.{◌||◌, ◌==◌, count_by}
+use Rattle.std.specs.List.{AllByRecursion, flat_map, list_any}
+use Rattle.std.proofs.lemmas.List.{append-nil}
+use Rattle.std.proofs.lemmas.Grind.{flat_map-append}
+use Rattle.std.proofs.lemmas.List.Sums.{sum_by-cons, sum_by-append}
+use Rattle.std.proofs.lemmas.List.Folds.{list_any-append}
+use Rattle.lrup_model.specs.Clause.{Clause}
+use Rattle.lrup_model.specs.Formula.{Cnf}
+use Rattle.lrup_model.specs.Layout.{Plan, Owns}
+use Rattle.lrup_model.specs.Event as events
+use Rattle.lrup_model.specs.Event.{Event, History, own, spent, size_of, stream_of}
+use Rattle.lrup_model.specs.State.{State, live, put, run}
+use Rattle.lrup_model.specs.History.{LegalFrom}
+use Rattle.lrup_model.specs.Running.{run-append, spent-append}
+use Rattle.lrup_model.specs.Place.{Place, Tells}
+use Rattle.lrup_model.specs.declared.clause_map.Published.TheVariants as publishing
+use Rattle.lrup_model.proofs.HistoryLemmas.{legal-front, legal-back}
+use Rattle.lrup_model.proofs.PlainLemmas.{spent_one}
+use Rattle.lrup_text.specs.Lines.{StreamLine, Addition, Deletion, Fits, text_of, Cut}
+use Rattle.lrup_text.proofs.TextLaws.{empty_pending}
+use Rattle.propagate.specs.Different.{different}
+use Rattle.lrupd.specs.declared.stream.Tally.{Tally}
+use Rattle.lrupd.specs.Additions.{Standing, IsGood, after_addition}
+use Rattle.lrupd.specs.Judging.{IsFetch, IsVacantAbove, Judges, standing_at}
+use Rattle.lrupd.specs.Streams.{AreGood, after_lines, publishes, publishes_empty, published, added_by, Counts, Counted, TakesGood, IsBadStream, JudgesStream}
+use Rattle.lrupd.proofs.FoundLemmas.{run-fetches}
+use Rattle.lrupd.proofs.AddLemmas.{spent-fetches}
+use Rattle.lrupd.proofs.StreamLemmas.{front_line}
+
+-- ---- good lines, one behind the other
+
+pub good-back : (f : Cnf) (p : Plan) (s : ℕ) (st : Standing) (lines more : List StreamLine) → AreGood f p s st (lines ++ more) → AreGood f p s (after_lines st lines) more
+good-back f p s st [] more h = h
+good-back f p s st (Addition id lits hints ∷ lines) more h = good-back f p s (after_addition st id lits) lines more h.1
+good-back f p s st (Deletion lead ids ∷ lines) more h = absurd h
+
+pub good-append : (f : Cnf) (p : Plan) (s : ℕ) (st : Standing) (lines more : List StreamLine) → AreGood f p s st lines → AreGood f p s (after_lines st lines) more → AreGood f p s st (lines ++ more)
+good-append f p s st [] more h k = k
+good-append f p s st (Addition id lits hints ∷ lines) more h k = (h.0, good-append f p s (after_addition st id lits) lines more h.1 k)
+good-append f p s st (Deletion lead ids ∷ lines) more h k = absurd h
+
+pub after-append : (st : Standing) (lines more : List StreamLine) → after_lines st (lines ++ more) ≡ after_lines (after_lines st lines) more
+after-append st [] more = refl
+after-append st (Addition id lits hints ∷ lines) more = after-append (after_addition st id lits) lines more
+after-append st (Deletion lead ids ∷ lines) more = after-append st lines more
+
+fits-append : (lines more : List StreamLine) → AllByRecursion Fits lines → AllByRecursion Fits more → AllByRecursion Fits (lines ++ more)
+fits-append [] more h k = k
+fits-append (l ∷ lines) more h k = (h.0, fits-append lines more h.1 k)
+
+-- ---- what is counted
+
+quiet-fetch : (e : Event) → IsFetch e → (publishes e ≡ false) × (publishes_empty e ≡ false)
+quiet-fetch (events.fetch s id r) h = (refl, refl)
+quiet-fetch (events.publish s id c r) h = absurd h
+quiet-fetch (events.retire s id r) h = absurd h
+
+count-fetches : (es : History) → AllByRecursion IsFetch es → count_by publishes es ≡ 0
+count-fetches [] h = refl
+count-fetches (e ∷ es) h =
+    let none : cond {A = ℕ} (publishes e) 1 0 ≡ 0 = ap (λ b. cond {A = ℕ} b 1 0) (quiet-fetch e h.0).0 in
+    omega (arith, sum_by-cons (λ x. cond {A = ℕ} (publishes x) 1 0) e es, count-fetches es h.1)
+
+any-fetches : (es : History) → AllByRecursion IsFetch es → list_any publishes_empty es ≡ false
+any-fetches [] h = refl
+any-fetches (e ∷ es) h = ap (λ b. b || list_any publishes_empty es) (quiet-fetch e h.0).1 ∙ any-fetches es h.1
+
+-- ---- what is published
+
+published-append : (es fs : History) → published (es ++ fs) ≡ published es ++ published fs
+published-append [] fs = refl
+published-append (events.fetch s id r ∷ es) fs = published-append es fs
+published-append (events.publish s id c publishing.Done ∷ es) fs = ap (λ (x : List (ℕ × Clause)). (id, c) ∷ x) (published-append es fs)
+published-append (events.publish s id c publishing.Taken ∷ es) fs = published-append es fs
+published-append (events.retire s id r ∷ es) fs = published-append es fs
+
+published-fetches : (es : History) → AllByRecursion IsFetch es → published es ≡ []
+published-fetches [] h = refl
+published-fetches (events.fetch s id r ∷ es) h = published-fetches es h.1
+published-fetches (events.publish s id c r ∷ es) h = absurd h.0
+published-fetches (events.retire s id r ∷ es) h = absurd h.0
+
+added-append : (lines more : List StreamLine) → added_by (lines ++ more) ≡ added_by lines ++ added_by more
+added-append [] more = refl
+added-append (Addition id lits hints ∷ lines) more = ap (λ (x : List (ℕ × Clause)). (id, different lits) ∷ x) (added-append lines more)
+added-append (Deletion lead ids ∷ lines) more = added-append lines more
+
+published_more : (s id : ℕ) (lits : List ℤ) (hints : List ℕ) (es fs fetches : History) (lines : List StreamLine) → AllByRecursion IsFetch fetches
+    → fs ≡ fetches ++ events.publish s id (different lits) publishing.Done ∷ [] → published es ≡ added_by lines → published (es ++ fs) ≡ added_by (lines ++ Addition id lits hints ∷ [])
+published_more s id lits hints es fs fetches lines quiet is before =
+    let new : List (ℕ × Clause) = (id, different lits) ∷ [] in
+    let line : published fs ≡ new =
+    ap published is ∙ published-append fetches (events.publish s id (different lits) publishing.Done ∷ []) ∙ ap (λ (x : List (ℕ × Clause)). x ++ new) (published-fetches fetches quiet) in
+    published-append es fs ∙ ap (λ (x : List (ℕ × Clause)). published es ++ x) line ∙ ap (λ (x : List (ℕ × Clause)). x ++ new) before
+    ∙ sym (added-append lines (Addition id lits hints ∷ []))
+
+-- ---- the good lines so far
+
+pub record IsSoFar (p q : Place) (last : ℕ) (bytes rest : List ℕ) (es : History) (tally : Tally) : Type 0 where
+  pub lines : List StreamLine
+  pub text : bytes ≡ flat_map text_of lines ++ rest
+  pub each : AllByRecursion Fits lines
+  pub counts : Counts p.stream es tally
+  pub carries : published es ≡ added_by lines
+  pub good : (m : State) → LegalFrom p.formula p.layout m es → AreGood p.formula p.layout p.stream (standing_at p last m) lines × (after_lines (standing_at p last m) lines ≡ standing_at q tally.last (run m es))
+
+pub so_far_none : (p : Place) (last : ℕ) (bytes : List ℕ) → IsSoFar p p last bytes bytes [] (record { added = 0; last = last; empty = false })
+so_far_none p last bytes = record {
+  lines = [];
+  text = refl;
+  each = tt;
+  counts = record { added = refl; empty = refl; ends = inl (refl, refl) };
+  carries = refl;
+  good = λ m legal. (tt, refl);
+}
+
+-- lines in front of the bytes that are cut
+fronts : (lines : List StreamLine) (rest : List ℕ) (all : List StreamLine) → AllByRecursion Fits lines → Cut (flat_map text_of lines ++ rest) all []
+    → (tail : List StreamLine) × (all ≡ lines ++ tail) × Cut rest tail []
+fronts [] rest all fits cut = (all, refl, cut)
+fronts (l ∷ lines) rest all fits cut =
+    let first = front_line l (text_of l) (flat_map text_of lines ++ rest) all (fits.0, refl) (subst (λ (t : List ℕ). Cut t all []) (append_assoc (text_of l) (flat_map text_of lines) rest) cut) in
+    let others = fronts lines rest first.tail fits.1 first.cut in
+    (others.0, first.whole ∙ ap (λ (ls : List StreamLine). l ∷ ls) others.1, others.2)
+
+pub so_far_bad : (p q : Place) (last : ℕ) (bytes rest : List ℕ) (es fs : History) (tally : Tally) → IsSoFar p q last bytes rest es tally → Tells p q es
+    → IsBadStream q tally.last rest fs → IsBadStream p last bytes (es ++ fs)
+so_far_bad p q last bytes rest es fs tally so_far tells bad m lines legal cut good =
+    let here = so_far.good m (legal-front p.formula p.layout m es fs legal) in
+    let there : LegalFrom p.formula p.layout (run m es) fs = legal-back p.formula p.layout m es fs legal in
+    let front = fronts so_far.lines rest lines so_far.each (subst (λ (t : List ℕ). Cut t lines []) so_far.text cut) in
+    let back : AreGood p.formula p.layout p.stream (standing_at q tally.last (run m es)) front.0 =
+    subst (λ (st : Standing). AreGood p.formula p.layout p.stream st front.0) here.1
+    (good-back p.formula p.layout p.stream (standing_at p last m) so_far.lines front.0 (subst (AreGood p.formula p.layout p.stream (standing_at p last m)) front.1 good)) in
+    bad (run m es) front.0
+    (subst (λ (f : Cnf). LegalFrom f q.layout (run m es) fs) (sym tells.formula) (subst (λ (l : Plan). LegalFrom p.formula l (run m es) fs) (sym tells.layout) there))
+    front.2
+    (subst (λ (f : Cnf). AreGood f q.layout q.stream (standing_at q tally.last (run m es)) front.0) (sym tells.formula)
+    (subst (λ (l : Plan). AreGood p.formula l q.stream (standing_at q tally.last (run m es)) front.0) (sym tells.layout)
+    (subst (λ s. AreGood p.formula p.layout s (standing_at q tally.last (run m es)) front.0) (sym tells.stream) back)))
+
+pub so_far_end : (p q : Place) (last : ℕ) (bytes rest : List ℕ) (es fs : History) (tally : Tally) → IsSoFar p q last bytes rest es tally → rest ≡ [] → fs ≡ []
+    → JudgesStream p last bytes (es ++ fs) (Some tally)
+so_far_end p q last bytes rest es fs tally so_far none nothing =
+    let same : es ++ fs ≡ es = ap (λ (x : History). es ++ x) nothing ∙ append-nil es in
+    subst (λ (x : History). JudgesStream p last bytes x (Some tally)) (sym same)
+    (so_far.lines, record { bytes = so_far.text ∙ ap (λ (t : List ℕ). flat_map text_of so_far.lines ++ t) none; each = so_far.each; last = empty_pending.whole }, so_far.counts, λ m legal. (so_far.good m legal).0, so_far.carries)
+
+-- ---- one more line
+
+or_false : (b : Bool) → (false || (b || false)) ≡ b
+or_false true = refl
+or_false false = refl
+
+-- the events of a good line
+module _ (s id : ℕ) (c : Clause) (fetches : History) (quiet : AllByRecursion IsFetch fetches) where
+  line_events : History
+  line_events = fetches ++ events.publish s id c publishing.Done ∷ []
+
+  line_spent : spent s (fetches ++ events.publish s id c publishing.Done ∷ []) ≡ length c
+  line_spent = omega (arith, spent-append s fetches (events.publish s id c publishing.Done ∷ []), spent-fetches s fetches quiet, spent_one s (events.publish s id c publishing.Done) refl)
+
+  line_count : count_by publishes (fetches ++ events.publish s id c publishing.Done ∷ []) ≡ 1
+  line_count = omega (arith, sum_by-append (λ x. cond {A = ℕ} (publishes x) 1 0) fetches (events.publish s id c publishing.Done ∷ []), count-fetches fetches quiet, sum_by-cons (λ x. cond {A = ℕ} (publishes x) 1 0) (events.publish s id c publishing.Done) [])
+
+  line_any : list_any publishes_empty (fetches ++ events.publish s id c publishing.Done ∷ []) ≡ (length c == 0)
+  line_any = list_any-append publishes_empty fetches (events.publish s id c publishing.Done ∷ []) ∙ ap (λ b. b || ((length c == 0) || false)) (any-fetches fetches quiet) ∙ or_false (length c == 0)
+
+  line_run : (m : State) → run m (fetches ++ events.publish s id c publishing.Done ∷ []) ≡ put m id (live c)
+  line_run m = run-append m fetches (events.publish s id c publishing.Done ∷ []) ∙ ap (λ (n : State). put n id (live c)) (run-fetches m fetches quiet)
+
+pub counts_more : (s id size : ℕ) (c : Clause) (es fs fetches : History) (old new : Tally) → AllByRecursion IsFetch fetches → fs ≡ fetches ++ events.publish s id c publishing.Done ∷ [] → size ≡ length c
+    → Counts s es old → Counted old id size new → Counts s (es ++ fs) new
+counts_more s id size c es fs fetches old new quiet is sized counts counted =
+    subst (λ (x : History). Counts s (es ++ x) new) (sym is) (record {
+      added = omega (arith, counted.0, counts.added, line_count s id c fetches quiet, sum_by-append (λ x. cond {A = ℕ} (publishes x) 1 0) es (fetches ++ events.publish s id c publishing.Done ∷ []));
+      empty = counted.2 ∙ ap (λ b. b || (size == 0)) counts.empty ∙ ap (λ n. list_any publishes_empty es || (n == 0)) sized
+          ∙ ap (λ b. list_any publishes_empty es || b) (sym (line_any s id c fetches quiet)) ∙ sym (list_any-append publishes_empty es (fetches ++ events.publish s id c publishing.Done ∷ []));
+      ends = inr (omega (arith, counted.0), (es ++ fetches, c, ap (λ i. es ++ (fetches ++ events.publish s i c publishing.Done ∷ [])) (sym counted.1) ∙ sym (append_assoc es fetches (events.publish s new.last c publishing.Done ∷ []))));
+    })
+
+-- where the next line begins, the map is what the line left
+stands_after : (p q r : Place) (m : State) (old new : Tally) (id size : ℕ) (lits : List ℤ) (fs fetches : History) → Tells q r fs → AllByRecursion IsFetch fetches
+    → fs ≡ fetches ++ events.publish q.stream id (different lits) publishing.Done ∷ [] → Counted old id size new
+    → after_addition (standing_at q old.last m) id lits ≡ standing_at r new.last (run m fs)
+stands_after p q r m old new id size lits fs fetches tells quiet is counted =
+    let spent_is : spent q.stream fs ≡ length (different lits) = ap (spent q.stream) is ∙ line_spent q.stream id (different lits) fetches quiet in
+    let room : q.room - length (different lits) ≡ r.room = omega (arith, tells.room) in
+    let ran : put m id (live (different lits)) ≡ run m fs = sym (line_run q.stream id (different lits) fetches quiet m) ∙ ap (run m) (sym is) in
+    ap (λ n. record { last = n; room = q.room - length (different lits); map = put m id (live (different lits)) }) (sym counted.1)
+    ∙ ap (λ n. record { last = new.last; room = n; map = put m id (live (different lits)) }) room
+    ∙ ap (λ (x : State). record { last = new.last; room = r.room; map = x }) ran
+
+good_more : (p q r : Place) (last : ℕ) (es fs : History) (old new : Tally) (id size : ℕ) (lits : List ℤ) (hints : List ℕ) (fetches : History) (lines : List StreamLine) → Tells p q es → Tells q r fs
+    → AllByRecursion IsFetch fetches → fs ≡ fetches ++ events.publish q.stream id (different lits) publishing.Done ∷ []
+    → ((m : State) → LegalFrom q.formula q.layout m fs → IsGood q.formula q.layout q.stream (standing_at q old.last m) id lits hints) → Counted old id size new
+    → (m : State) → AreGood p.formula p.layout p.stream (standing_at p last m) lines × (after_lines (standing_at p last m) lines ≡ standing_at q old.last (run m es)) → LegalFrom p.formula p.layout (run m es) fs
+    → AreGood p.formula p.layout p.stream (standing_at p last m) (lines ++ Addition id lits hints ∷ []) × (after_lines (standing_at p last m) (lines ++ Addition id lits hints ∷ []) ≡ standing_at r new.last (run m (es ++ fs)))
+good_more p q r last es fs old new id size lits hints fetches lines tells again quiet is judged counted m here there =
+    let legal : LegalFrom q.formula q.layout (run m es) fs =
+    subst (λ (f : Cnf). LegalFrom f q.layout (run m es) fs) (sym tells.formula) (subst (λ (l : Plan). LegalFrom p.formula l (run m es) fs) (sym tells.layout) there) in
+    let good : IsGood p.formula p.layout p.stream (after_lines (standing_at p last m) lines) id lits hints =
+    subst (λ (st : Standing). IsGood p.formula p.layout p.stream st id lits hints) (sym here.1)
+    (subst (λ (f : Cnf). IsGood f p.layout p.stream (standing_at q old.last (run m es)) id lits hints) tells.formula
+    (subst (λ (l : Plan). IsGood q.formula l p.stream (standing_at q old.last (run m es)) id lits hints) tells.layout
+    (subst (λ s. IsGood q.formula q.layout s (standing_at q old.last (run m es)) id lits hints) tells.stream (judged (run m es) legal)))) in (
+      good-append p.formula p.layout p.stream (standing_at p last m) lines (Addition id lits hints ∷ []) here.0 (good, tt),
+      after-append (standing_at p last m) lines (Addition id lits hints ∷ []) ∙ ap (λ (st : Standing). after_addition st id lits) here.1
+          ∙ stands_after p q r (run m es) old new id size lits fs fetches again quiet is counted ∙ ap (standing_at r new.last) (sym (run-append m es fs)),
+    )
+
+pub so_far_more : (p q r : Place) (last : ℕ) (bytes rest : List ℕ) (es fs : History) (used : ℕ) (old new : Tally) → IsSoFar p q last bytes rest es old → Tells p q es → Tells q r fs
+    → TakesGood q rest fs used old new → IsSoFar p r last bytes (drop used rest) (es ++ fs) new
+so_far_more p q r last bytes rest es fs used old new so_far tells again takes =
+    let line = Addition takes.id takes.lits takes.hints in
+    let judged = takes.judged in
+    let front : rest ≡ text_of line ++ drop used rest = sym (take-append-drop used rest) ∙ ap (λ (t : List ℕ). t ++ drop used rest) takes.text.1 in
+    let grown : flat_map text_of (so_far.lines ++ line ∷ []) ≡ flat_map text_of so_far.lines ++ text_of line =
+    flat_map-append text_of so_far.lines (line ∷ []) ∙ ap (λ (t : List ℕ). flat_map text_of so_far.lines ++ t) (append-nil (text_of line)) in
+    record {
+      lines = so_far.lines ++ line ∷ [];
+      text = so_far.text ∙ ap (λ (t : List ℕ). flat_map text_of so_far.lines ++ t) front ∙ sym (append_assoc (flat_map text_of so_far.lines) (text_of line) (drop used rest)) ∙ ap (λ (t : List ℕ). t ++ drop used rest) (sym grown);
+      each = fits-append so_far.lines (line ∷ []) so_far.each (takes.text.0, tt);
+      counts = counts_more p.stream takes.id takes.size (different takes.lits) es fs judged.1 old new judged.2
+          (judged.3 ∙ ap (λ s. judged.1 ++ events.publish s takes.id (different takes.lits) publishing.Done ∷ []) tells.stream) judged.0 so_far.counts takes.counted;
+      carries = published_more q.stream takes.id takes.lits takes.hints es fs judged.1 so_far.lines judged.2 judged.3 so_far.carries;
+      good = λ m legal. good_more p q r last es fs old new takes.id takes.size takes.lits takes.hints judged.1 so_far.lines tells again judged.2 judged.3 judged.4 takes.counted m
+          (so_far.good m (legal-front p.formula p.layout m es fs legal)) (legal-back p.formula p.layout m es fs legal);
+    }
+
+-- the stream's identities above the last one have nothing
+pub vacant_more : (q r : Place) (old new : Tally) (id size : ℕ) (lits : List ℤ) (hints : List ℕ) (fs : History) → Tells q r fs → Judges q old.last id lits hints fs (Some size) → Counted old id size new
+    → IsVacantAbove q old.last → IsVacantAbove r new.last
+vacant_more q r old new id size lits hints fs tells judged counted vacant j owns above =
+    let mine : Owns q.layout q.stream j = subst (λ s. Owns q.layout s j) tells.stream (subst (λ (l : Plan). Owns l r.stream j) tells.layout owns) in
+    let newer : old.last < id = judged.5.newer in
+    let other : j ≢ id = omega (arith, counted.1) in
+    tells.own j mine
+    ∙ ap (λ (es : History). run q.own es j) judged.3
+    ∙ ap (λ (m : State). m j) (line_run q.stream id (different lits) judged.1 judged.2 q.own)
+    ∙ cond-false (eqb j id) (live (different lits)) (q.own j) (ne_eqb j id other)
+    ∙ vacant j mine (omega (arith, counted.1))

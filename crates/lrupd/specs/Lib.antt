@@ -1,0 +1,5 @@
+pub mod Additions
+pub mod Judging
+pub mod Streams
+pub mod First
+pub mod Program
