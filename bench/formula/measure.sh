@@ -11,7 +11,7 @@ python3 "$here/generate.py" "$work" "${1:-200}"
 
 mkdir -p "$work/crates/timer/src"
 tar -C "$crates" --exclude=out -cf - lrup_model dimacs | tar -C "$work/crates" -xf -
-cp "$here/timer.rt" "$work/crates/timer/src/main.rt"
+cp "$here/timer.rt.in" "$work/crates/timer/src/main.rt"
 printf '%s\n' 'lrup_model:' 'dimacs: lrup_model memchr thiserror' 'timer: dimacs lrup_model' > "$work/crates.txt"
 if ! (cd "$work/crates/timer" && rt run) > "$work/build.log" 2>&1; then
     tail "$work/build.log"
@@ -19,8 +19,10 @@ if ! (cd "$work/crates/timer" && rt run) > "$work/build.log" 2>&1; then
 fi
 
 for file in random long; do
-    for turn in 1 2 3; do
+    for _ in 1 2 3 4 5; do
         "$work/crates/timer/out/timer" "$work/$file.cnf"
         "$work/floor" "$work/$file.cnf"
-    done
+    done | awk -v file="$file" '
+        $2 > best[$1] { best[$1] = $2 }
+        END { printf "%s: parse %d MB/s, floor %d MB/s, ratio %.2f\n", file, best["parse"], best["floor"], best["floor"] / best["parse"] }'
 done

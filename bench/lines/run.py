@@ -23,7 +23,7 @@ def build(work):
     os.makedirs(os.path.join(crate, "src"))
     ignored = shutil.ignore_patterns("out", "must-fail")
     shutil.copytree(os.path.join(ROOT, "crates", "lrup_text"), os.path.join(work, "crates", "lrup_text"), ignore=ignored)
-    shutil.copy(os.path.join(HERE, "line_speed.rt"), os.path.join(crate, "src", "main.rt"))
+    shutil.copy(os.path.join(HERE, "line_speed.rt.in"), os.path.join(crate, "src", "main.rt"))
     with open(os.path.join(work, "crates.txt"), "w") as f:
         f.write("lrup_text: memchr thiserror\nline_speed: lrup_text\n")
     subprocess.run(["git", "init", "-q", work], check=True)
