@@ -1,5 +1,5 @@
 -- What a piece gives, from what its bytes did to the line.
-use Rattle.std.proofs.Common.{◌≡◌, ℕ, List, ◌++◌, take, Option, None, Ok, Err, refl, sym, ◌∙◌, ap, subst}
+use Rattle.std.proofs.Common.{◌≡◌, ℕ, ◌≤◌, List, ◌++◌, length, take, Option, None, Ok, Err, refl, sym, ◌∙◌, ap, subst, arith}
 use Rattle.lrup_text.specs.declared.LineFault.{LineFault}
 use Rattle.lrup_text.specs.declared.Line.{Line}
 use Rattle.lrup_text.specs.declared.machine.Step.TheVariants.{More, Done, Refused}
@@ -35,3 +35,10 @@ fed_at {old} {old'} {new} {new'} {turn} {turn'} piece used h o t n =
 -- a reader with no fault is the text that it has read
 pub no_fault : {state : ReaderState} {fault : Option LineFault} (m : PartialLine) → state_of fault (pending m) ≡ state → fault ≡ None → Ok (pending m) ≡ state
 no_fault m view none = sym (ap (λ f. state_of f (pending m)) none) ∙ view
+
+-- no more is used than is there
+pub fed_bound : (old : ReaderState) (piece : List ℕ) (used : ℕ) (turn : Turn) → Feeds old piece used turn → used ≤ length piece
+fed_bound (Err fault) piece used turn h = omega (arith, h.0)
+fed_bound (Ok read) piece used (turns.Line line) h = h.1
+fed_bound (Ok read) piece used turns.NeedMore h = omega (arith, h)
+fed_bound (Ok read) piece used (turns.Fault fault) h = h.1

@@ -5,7 +5,7 @@ use Rattle.lrup_text.specs.declared.LineFault.TheVariants.{Spelling, TooLong, Tr
 use Rattle.lrup_text.specs.Grammar.{Begins, BeginsLifted}
 use Rattle.lrup_text.specs.Lines.{IsPending}
 
--- why a text that begins no line begins none
+-- of a text that begins no line, why it begins none
 abbrev pub IsFaultOf : List ℕ → LineFault → Type 0
 IsFaultOf bytes Spelling = ¬ BeginsLifted false bytes × ¬ BeginsLifted true bytes
 IsFaultOf bytes TooLong = BeginsLifted false bytes

@@ -1,4 +1,4 @@
-// Where streams come from and go to.
+//! Where streams come from and go to.
 ghost use Rattle.std.specs.Prelude.{◌≡◌, ◌<◌, ◌≤◌, ℕ, List, Bool, false, Option, IfOk, is_err, length};
 ghost use Rattle.std.specs.Io.KnownBytes.{ReadConsumes, WriteAppends};
 
@@ -23,7 +23,7 @@ pub trait Source {
     /// Whether a read has failed.
     ghost has_failed: { Self → Bool };
 
-    /// Reads bytes into the front of a buffer, and says how many. None into a buffer that isn't empty is the end.
+    /// Reads bytes into the front of a buffer, and says how many. 0 bytes into a buffer that isn't empty are the end.
     ///
     /// A fault reads nothing, and there is no read after it.
     fn read(&mut self, buffer: &mut [u8]) -> Result<usize, ReadFault>

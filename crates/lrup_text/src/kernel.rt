@@ -1,10 +1,9 @@
-// Reads a whole line at once, and long lists.
+//! Reads a whole line at once, and long lists.
 ghost use Rattle.std.specs.Prelude.{◌≡◌, ◌<◌, ◌≤◌, length, IfSome};
 ghost use Rattle.lrup_text.specs.Kernel.{EndsLine, EndsWord, ReadsNumber, ReadsLiterals, ReadsItems, ReadsList, IsWhole};
 
 use crate::machine::{MOST_DIGITS, literal_of};
 
-/// The bytes that the grammar names.
 const SPACE: u8 = b' ';
 
 const MINUS: u8 = b'-';

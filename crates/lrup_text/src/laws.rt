@@ -1,4 +1,4 @@
-// The laws of lines and streams. No function here does anything: its clause is the law.
+//! The laws of lines and streams. No function here does anything: its clause is the law.
 ghost use Rattle.lrup_text.specs.Laws.{
   OneText,
   OneLine,

@@ -1,5 +1,5 @@
-// The reader of a stream's lines.
-ghost use Rattle.std.specs.Prelude.{◌≡◌, [], Ok, IfOk};
+//! The reader of a stream's lines.
+ghost use Rattle.std.specs.Prelude.{◌≡◌, ◌≤◌, [], Ok, IfOk, length};
 ghost use Rattle.lrup_text.specs.Feeding.{Feeds, Ends};
 ghost use Rattle.lrup_text.specs.Lines.{IsPending};
 
@@ -76,6 +76,7 @@ impl LineReader {
     /// A line is lent until the next call.
     pub fn feed(&mut self, piece: &[u8]) -> Fed<'_>
         ensures gives { Feeds self.old piece.now result.used result.turn }
+        ensures bound { result.used ≤ length piece.now }
         ensures* leaves { sem 𝓛 (FeedEnds self.entry piece.now result.turn) }
     {
         if let Some(fault) = self.fault {

@@ -1,4 +1,4 @@
-// Writes lines.
+//! Writes lines.
 ghost use Rattle.std.specs.Prelude.{◌≡◌, ◌<◌, ◌≤◌, ◌+◌, [], ◌∷◌, ◌++◌, length, false, is_err, map, IsTrue, ◌↔◌};
 ghost use Rattle.std.specs.Fmt.{decimal, signed_decimal};
 ghost use Rattle.std.specs.List.{AllByRecursion};
@@ -165,7 +165,8 @@ impl Chunk {
     /// Puts a byte behind those that are held, which may go out.
     fn put_byte<W: Sink>(&mut self, byte: u8, sink: &mut W) -> Result<(), WriteFault>
         requires { W.has_failed sink.old ≡ false }
-        ensures puts { PutsAll result (W.written sink.old) (W.written sink.new) self.old self.new (byte ∷ []) }
+        ensures puts { PutsAll result (W.written sink.old) (W.written sink.new)
+            self.old self.new (byte ∷ []) }
         ensures failed { W.has_failed sink.new ≡ is_err result }
     {
         if self.is_full() {
@@ -178,7 +179,8 @@ impl Chunk {
     /// Puts bytes behind those that are held, which may go out.
     fn put<W: Sink>(&mut self, bytes: &[u8], sink: &mut W) -> Result<(), WriteFault>
         requires { W.has_failed sink.old ≡ false }
-        ensures puts { PutsAll result (W.written sink.old) (W.written sink.new) self.old self.new bytes.now }
+        ensures puts { PutsAll result (W.written sink.old) (W.written sink.new)
+            self.old self.new bytes.now }
         ensures failed { W.has_failed sink.new ≡ is_err result }
     {
         for byte in bytes {
@@ -191,7 +193,8 @@ impl Chunk {
     fn put_literals<W: Sink>(&mut self, lits: &[i64], sink: &mut W) -> Result<(), WriteFault>
         requires running { W.has_failed sink.old ≡ false }
         requires fits { AllByRecursion IsNonzero lits.now }
-        ensures puts { PutsAll result (W.written sink.old) (W.written sink.new) self.old self.new (literals_text lits.now) }
+        ensures puts { PutsAll result (W.written sink.old) (W.written sink.new)
+            self.old self.new (literals_text lits.now) }
         ensures failed { W.has_failed sink.new ≡ is_err result }
     {
         for literal in lits {
@@ -204,7 +207,8 @@ impl Chunk {
     fn put_list<W: Sink>(&mut self, ids: &[u64], sink: &mut W) -> Result<(), WriteFault>
         requires running { W.has_failed sink.old ≡ false }
         requires fits { AllByRecursion IsPositive ids.now }
-        ensures puts { PutsAll result (W.written sink.old) (W.written sink.new) self.old self.new (list_text (map decimal ids.now)) }
+        ensures puts { PutsAll result (W.written sink.old) (W.written sink.new)
+            self.old self.new (list_text (map decimal ids.now)) }
         ensures failed { W.has_failed sink.new ≡ is_err result }
     {
         for id in ids {
@@ -217,7 +221,8 @@ impl Chunk {
     fn put_lead<W: Sink>(&mut self, lead: u64, sink: &mut W) -> Result<(), WriteFault>
         requires running { W.has_failed sink.old ≡ false }
         requires fits { IsPositive lead }
-        ensures puts { PutsAll result (W.written sink.old) (W.written sink.new) self.old self.new (decimal lead ++ space ∷ []) }
+        ensures puts { PutsAll result (W.written sink.old) (W.written sink.new)
+            self.old self.new (decimal lead ++ space ∷ []) }
         ensures failed { W.has_failed sink.new ≡ is_err result }
     {
         self.put(Word::lead(lead).bytes(), sink)
@@ -227,7 +232,8 @@ impl Chunk {
     fn put_line<W: Sink>(&mut self, line: &Line, sink: &mut W) -> Result<(), WriteFault>
         requires running { W.has_failed sink.old ≡ false }
         requires fits { Fits (line_of line.now) }
-        ensures puts { PutsAll result (W.written sink.old) (W.written sink.new) self.old self.new (text_of (line_of line.now)) }
+        ensures puts { PutsAll result (W.written sink.old) (W.written sink.new)
+            self.old self.new (text_of (line_of line.now)) }
         ensures failed { W.has_failed sink.new ≡ is_err result }
     {
         match *line {
@@ -263,7 +269,8 @@ fn write_all<W: Sink>(bytes: &[u8], sink: &mut W) -> Result<(), WriteFault>
 pub fn write_line<W: Sink>(line: &Line, sink: &mut W) -> Result<(), WriteFault>
     requires fits { Fits (line_of line.now) }
     requires running { W.has_failed sink.old ≡ false }
-    ensures text { WritesText result (W.written sink.old) (W.written sink.new) (text_of (line_of line.now)) }
+    ensures text { WritesText result (W.written sink.old) (W.written sink.new)
+        (text_of (line_of line.now)) }
     ensures failed { W.has_failed sink.new ≡ is_err result }
 {
     let mut chunk = Chunk::new();

@@ -1,4 +1,4 @@
--- Which additions of one stream are good, where no other stream publishes anything (the tests of a line and their order are this project's own).
+-- Which additions of one stream are good, where no other stream publishes anything (the tests of a line are this project's own).
 use Rattle.std.specs.Prelude.{◌≡◌, ◌-◌, ◌≤◌, ◌<◌, ℕ, ℤ, List, [], ◌∷◌, length}
 use Rattle.std.specs.List.{AllByRecursion}
 use Rattle.lrup_model.specs.Literal.{IsLiteral}
@@ -22,7 +22,7 @@ AreFound p m (h ∷ hints) (d ∷ ds) = IsIdentity p h × (m h ≡ live d) × Ar
 AreFound p m [] (d ∷ ds) = ⊥
 AreFound p m (h ∷ hints) [] = ⊥
 
--- the addition passes the tests that ask the map for no clause
+-- the addition passes the tests that ask neither the map for a clause nor the hints; a tautology isn't shown by any hints
 pub record IsAdmitted (f : Cnf) (p : Plan) (s last room id : ℕ) (lits : List ℤ) : Type 0 where
   pub owns : Owns p s id
   pub newer : last < id

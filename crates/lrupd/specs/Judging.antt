@@ -67,7 +67,7 @@ pub record Admits (p : Place) (last id : ℕ) (lits : List ℤ) (marks : Propaga
   pub consistent : ¬ IsTautology (different lits)
   pub marks_are : marks ≡ record { vars = p.formula.vars; clause = different lits; falses = different lits; ready = true }
 
--- A good addition is published after the fetches of its hints, and the answer is the clause's size; a bad one makes fetches alone.
+-- A good addition is published after some fetches, and the answer is the clause's size; a bad one makes fetches alone.
 -- It is good, or bad, at every map that gives these answers.
 abbrev pub Judges : Place → ℕ → ℕ → List ℤ → List ℕ → History → Option ℕ → Type 0
 Judges p last id lits hints es (Some size) =

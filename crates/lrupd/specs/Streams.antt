@@ -31,13 +31,14 @@ after_lines before [] = before
 after_lines before (Addition id lits hints ∷ lines) = after_lines (after_addition before id lits) lines
 after_lines before (Deletion lead ids ∷ lines) = after_lines before lines
 
--- the event published a clause, and the empty one
+-- the event published a clause
 abbrev pub publishes : Event → Bool
 publishes (events.fetch s id r) = false
 publishes (events.publish s id c publishing.Done) = true
 publishes (events.publish s id c publishing.Taken) = false
 publishes (events.retire s id r) = false
 
+-- the event published the empty clause
 abbrev pub publishes_empty : Event → Bool
 publishes_empty (events.fetch s id r) = false
 publishes_empty (events.publish s id c publishing.Done) = length c == 0

@@ -7,6 +7,7 @@ use thiserror::Error;
 /// The last clause that was added, as another stream's place fetches it.
 #[derive(Clone, Copy, Debug, PartialEq, Eq)]
 pub struct LastClause {
+    /// Its identity.
     pub id: Id,
     /// The count of its literals.
     pub len: u32,
@@ -15,9 +16,11 @@ pub struct LastClause {
 /// What the checking of a formula and a stream found.
 #[derive(Drop)]
 pub struct First {
+    /// The formula of the file.
     pub formula: Formula,
     /// How many clauses were added.
     pub added: u64,
+    /// The last clause that was added; none exactly where none was.
     pub last: Option<LastClause>,
     /// Was one of them empty? Then no assignment makes every clause of the formula true.
     pub empty: bool,
