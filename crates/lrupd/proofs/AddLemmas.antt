@@ -1,5 +1,5 @@
 -- An addition that is checked and published.
-use Rattle.std.proofs.Common.{◌≡◌, ℕ, ℤ, ◌<◌, ◌≤◌, Bool, true, false, List, [], ◌∷◌, ◌++◌, length, cond, Some, None, refl, sym, ap, subst, ◌∙◌, arith}
+use Rattle.std.proofs.Common.{◌≡◌, ℕ, ℤ, ◌<◌, ◌≤◌, Bool, true, false, List, [], ◌∷◌, ◌++◌, length, cond, Some, refl, sym, ap, subst, ◌∙◌, arith}
 use Rattle.std.specs.List.{AllByRecursion, sum_by}
 use Rattle.std.specs.Ordering.{int_eq}
 use Rattle.std.specs.Prelude.{not, ◌==◌, neg_ℤ}
@@ -42,16 +42,6 @@ length-different [] = omega arith
 length-different (x ∷ ls) = omega (arith, length-different ls, length-filter_both (λ y. not (int_eq y x)) (λ y. not (not (int_eq y x))) (λ y. refl) (different ls))
 
 -- ---- the judgement
-
--- it isn't admitted, or its clause is a tautology
-pub judged_refused : (p : Place) (last id : ℕ) (lits : List ℤ) (hints : List ℕ)
-    → (IsAdmitted p.formula p.layout p.stream last p.room id lits → IsTautology (different lits)) → Judges p last id lits hints [] None
-judged_refused p last id lits hints bad = (tt, λ m legal good. good.shown.2.0 (bad good.admitted))
-
--- its hints show nothing
-pub judged_unshown : (p : Place) (last id : ℕ) (lits : List ℤ) (hints : List ℕ) (es : History) → AllByRecursion IsFetch es
-    → Shows p.formula p.layout (different lits) hints es false → Judges p last id lits hints es None
-judged_unshown p last id lits hints es quiet shown = (quiet, λ m legal good. shown m good.shown.0 legal good.shown.1 good.shown.2)
 
 pub judged_good : (p : Place) (last id : ℕ) (lits : List ℤ) (hints : List ℕ) (es : History) (size : ℕ) → AllByRecursion IsFetch es
     → IsAdmitted p.formula p.layout p.stream last p.room id lits → Shows p.formula p.layout (different lits) hints es true → size ≡ length (different lits)

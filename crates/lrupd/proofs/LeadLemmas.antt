@@ -115,10 +115,6 @@ pub shows_nothing : (f : Cnf) (p : Plan) (c : Clause) → Shows f p c [] [] fals
 shows_nothing f p c m [] legal found accepts = accepts.1
 shows_nothing f p c m (d ∷ ds) legal found accepts = found
 
-pub shows_led : (f : Cnf) (p : Plan) (old new : Propagation) (before : List ℕ) (last : ℕ) (hints : List ℕ) (es : History) → hints ≡ before ++ last ∷ []
-    → LeadsBy f p old new before es false → Shows f p old.falses hints es false
-shows_led f p old new before last hints es is led m ds legal found = led m last ds legal (subst (λ (hs : List ℕ). AreFound p m hs ds) is found)
-
 pub shows_conflict : (f : Cnf) (p : Plan) (s : ℕ) (old mid new : Propagation) (before : List ℕ) (last : ℕ) (hints : List ℕ) (es fs : History) → hints ≡ before ++ last ∷ [] → AllByRecursion IsFetch es
     → (¬ IsTautology old.falses) → LeadsBy f p old mid before es true → Tries f p s mid new last fs (Some Conflict)
     → AllByRecursion IsFetch (es ++ fs) × Shows f p old.falses hints (es ++ fs) true

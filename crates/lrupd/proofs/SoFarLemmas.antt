@@ -1,5 +1,5 @@
 -- The good lines of a stream so far, and what is left of it.
-use Rattle.std.proofs.Common.{◌≡◌, ℕ, ℤ, ◌-◌, ◌<◌, Bool, true, false, List, [], ◌∷◌, ◌++◌, length, drop, Some, inl, inr, cond, refl, sym, ap, subst, ◌∙◌, arith, append_assoc, take-append-drop, eqb, ne_eqb, ◌≢◌}
+use Rattle.std.proofs.Common.{◌≡◌, ℕ, ℤ, ◌-◌, ◌<◌, Bool, true, false, List, [], ◌∷◌, ◌++◌, length, drop, Some, inr, cond, refl, sym, ap, subst, ◌∙◌, arith, append_assoc, take-append-drop, eqb, ne_eqb, ◌≢◌}
 use Rattle.std.proofs.lemmas.Bool.{cond-false}
 use Rattle.std.specs.Prelude.{◌||◌, ◌==◌, count_by}
 use Rattle.std.specs.List.{AllByRecursion, flat_map, list_any}
@@ -107,16 +107,6 @@ pub record IsSoFar (p q : Place) (last : ℕ) (bytes rest : List ℕ) (es : Hist
   pub carries : published es ≡ added_by lines
   pub good : (m : State) → LegalFrom p.formula p.layout m es → AreGood p.formula p.layout p.stream (standing_at p last m) lines × (after_lines (standing_at p last m) lines ≡ standing_at q tally.last (run m es))
 
-pub so_far_none : (p : Place) (last : ℕ) (bytes : List ℕ) → IsSoFar p p last bytes bytes [] (record { added = 0; last = last; empty = false })
-so_far_none p last bytes = record {
-  lines = [];
-  text = refl;
-  each = tt;
-  counts = record { added = refl; empty = refl; ends = inl (refl, refl) };
-  carries = refl;
-  good = λ m legal. (tt, refl);
-}
-
 -- lines in front of the bytes that are cut
 fronts : (lines : List StreamLine) (rest : List ℕ) (all : List StreamLine) → AllByRecursion Fits lines → Cut (flat_map text_of lines ++ rest) all []
     → (tail : List StreamLine) × (all ≡ lines ++ tail) × Cut rest tail []
@@ -157,9 +147,6 @@ or_false false = refl
 
 -- the events of a good line
 module _ (s id : ℕ) (c : Clause) (fetches : History) (quiet : AllByRecursion IsFetch fetches) where
-  line_events : History
-  line_events = fetches ++ events.publish s id c publishing.Done ∷ []
-
   line_spent : spent s (fetches ++ events.publish s id c publishing.Done ∷ []) ≡ length c
   line_spent = omega (arith, spent-append s fetches (events.publish s id c publishing.Done ∷ []), spent-fetches s fetches quiet, spent_one s (events.publish s id c publishing.Done) refl)
 
