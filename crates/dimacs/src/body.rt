@@ -15,7 +15,7 @@ use lrup_model::{Formula, Lit};
 use std::alloc::Global;
 
 /// The greatest number of literals that may be written in one clause.
-const MAX_CLAUSE_LITERALS: u32 = 1_048_575;
+const MAX_CLAUSE_LITERALS: u32 = Formula::MAX_CLAUSE_LITERALS;
 
 /// The formula so far, the clause that has begun, and how many literals were written in it, repeats counted.
 #[derive(Drop)]

@@ -6,6 +6,7 @@ ghost use Rattle.dimacs.specs.Places.{run, behind, with_run, IsAtToken, ReadsCou
 
 use crate::fault::DimacsFault;
 use crate::tokens::{MAX_VARIABLE, is_separator, numeral};
+use lrup_model::Formula;
 
 /// What the header says: the numbers of variables and of clauses, each at most 16,777,215.
 #[derive(Clone, Copy)]
@@ -15,7 +16,7 @@ pub struct Header {
 }
 
 /// The greatest number of clauses.
-const MAX_CLAUSES: u32 = 16_777_215;
+const MAX_CLAUSES: u32 = Formula::MAX_CLAUSES;
 
 fn skip_separators(line: &[u8]) -> &[u8]
     ensures same { runs result.now ≡ runs line.now }

@@ -59,7 +59,7 @@ fn ends_token(rest: &[u8]) -> bool
 }
 
 /// The greatest variable that any formula may have.
-pub(crate) const MAX_VARIABLE: u32 = 16_777_215;
+pub(crate) const MAX_VARIABLE: u32 = Lit::MAX_VARIABLE;
 
 /// Goes past digits up to the end of their token. None where another byte stands before it.
 #[cold]
