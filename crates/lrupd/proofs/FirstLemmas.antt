@@ -1,5 +1,5 @@
 -- A stream that was checked against a formula's map.
-use Rattle.std.proofs.Common.{◌≡◌, ◌≢◌, ℕ, ◌<◌, ◌≤◌, Bool, true, false, List, [], ◌∷◌, length, replicate, eqb, Option, Some, None, inl, inr, refl, sym, ap, subst, ◌∙◌, arith, eq-eqb, ne_eqb}
+use Rattle.std.proofs.Common.{◌≡◌, ◌≢◌, ℕ, ◌<◌, ◌≤◌, Bool, true, false, List, [], ◌∷◌, length, replicate, eqb, Option, Some, None, Err, inl, inr, refl, sym, ap, subst, ◌∙◌, arith, eq-eqb, ne_eqb}
 use Rattle.std.specs.Prelude.{◌||◌, ◌==◌, IsTrue, slice_index}
 use Rattle.std.specs.List.{AllByRecursion, list_any, sum_by}
 use Rattle.std.proofs.lemmas.Bool.{eqb-true, cond-true, cond-false, cases_eq}
@@ -18,11 +18,14 @@ use Rattle.lrup_model.proofs.HistoryLemmas.{legal-back, opening-above}
 use Rattle.lrup_model.proofs.OwnerLemmas.{owned}
 use Rattle.lrup_model.proofs.EntailmentLemmas.{empty_refutes}
 use Rattle.lrupd.specs.declared.stream.Tally.{Tally}
+use Rattle.lrupd.specs.declared.stream.StreamFault.{StreamFault}
+use Rattle.lrupd.specs.declared.stream.StreamFault.TheVariants.{Bad, Unread}
+use Rattle.lrupd.specs.declared.answer.FirstFault.TheVariants.{Refused}
 use Rattle.lrupd.specs.declared.answer.LastClause.{LastClause}
 use Rattle.lrupd.specs.Additions.{Standing}
 use Rattle.lrupd.specs.Judging.{standing_at}
-use Rattle.lrupd.specs.Streams.{AreGood, publishes_empty, EndsWith, JudgesStream}
-use Rattle.lrupd.specs.First.{first_plan, first_standing, LastIs, IsLiveLast, FetchesLast}
+use Rattle.lrupd.specs.Streams.{AreGood, publishes_empty, EndsWith, IsGoodStream, JudgesStream}
+use Rattle.lrupd.specs.First.{first_plan, first_standing, LastIs, IsLiveLast, FetchesLast, IsBadSource, fault_of}
 
 -- ---- the empty clause
 
@@ -100,22 +103,39 @@ legal_history f m n es opened moves = record {
 pub vacant_there : (f : Cnf) (m : Plain) (last id : ℕ) → IsOpening f m → last ≡ length f.clauses → last < id → state_of m id ≡ absent
 vacant_there f m last id opened is above = ap (λ (s : State). s id) opened.state ∙ opening-above f id (omega (arith, is, above))
 
-pub good_there : (f : Cnf) (m n : Plain) (last : ℕ) (bytes : List ℕ) (es : History) (tally : Tally) → IsOpening f m → PlainMoves m n 1 es → last ≡ length f.clauses
-    → (judged : JudgesStream (place_at m 1) last bytes es (Some tally)) → AreGood f (first_plan f) 1 (first_standing f) judged.0
-good_there f m n last bytes es tally opened moves is judged =
-    let good : AreGood (formula_of m) m.layout 1 (standing_at (place_at m 1) last (state_of m)) judged.0 = judged.3 (state_of m) moves.answers in
-    let standing : standing_at (place_at m 1) last (state_of m) ≡ first_standing f =
+-- the stream's first standing, at the map and in the formula's words
+standing_there : (f : Cnf) (m : Plain) (last : ℕ) → IsOpening f m → last ≡ length f.clauses → standing_at (place_at m 1) last (state_of m) ≡ first_standing f
+standing_there f m last opened is =
     ap (λ k. record { last = k; room = free_at m 1; map = state_of m }) is
     ∙ ap (λ k. record { last = length f.clauses; room = k; map = state_of m }) (room_is f m opened)
-    ∙ ap (λ (s : State). record { last = length f.clauses; room = 1048576; map = s }) opened.state in
-    subst (λ (g : Cnf). AreGood g (first_plan f) 1 (first_standing f) judged.0) opened.formula
-    (subst (λ (p : Plan). AreGood (formula_of m) p 1 (first_standing f) judged.0) opened.layout
-    (subst (λ (s : Standing). AreGood (formula_of m) m.layout 1 s judged.0) standing good))
+    ∙ ap (λ (s : State). record { last = length f.clauses; room = 1048576; map = s }) opened.state
+
+pub good_there : (f : Cnf) (m n : Plain) (last : ℕ) (bytes : List ℕ) (es : History) (tally : Tally) → IsOpening f m → PlainMoves m n 1 es → last ≡ length f.clauses
+    → (judged : IsGoodStream (place_at m 1) last bytes es tally) → AreGood f (first_plan f) 1 (first_standing f) judged.lines
+good_there f m n last bytes es tally opened moves is judged =
+    let good : AreGood (formula_of m) m.layout 1 (standing_at (place_at m 1) last (state_of m)) judged.lines = judged.good (state_of m) moves.answers in
+    subst (λ (g : Cnf). AreGood g (first_plan f) 1 (first_standing f) judged.lines) opened.formula
+    (subst (λ (p : Plan). AreGood (formula_of m) p 1 (first_standing f) judged.lines) opened.layout
+    (subst (λ (s : Standing). AreGood (formula_of m) m.layout 1 s judged.lines) (standing_there f m last opened is) good))
+
+pub bad_there : (f : Cnf) (m n : Plain) (last : ℕ) (old new : Option (List ℕ)) (es : History) (fault : StreamFault) → IsOpening f m → PlainMoves m n 1 es → last ≡ length f.clauses
+    → JudgesStream (place_at m 1) last old new es (Err fault) → fault_of fault ≡ Refused → IsBadSource f old new
+bad_there f m n last old new es Unread opened moves is judged refused = absurd (cc)
+bad_there f m n last old new es Bad opened moves is judged refused = (
+  judged.0,
+  judged.1,
+  judged.2,
+  λ more follows good.
+      judged.3 more (state_of m) good.0 follows moves.answers good.1
+      (subst (λ (g : Cnf). AreGood g m.layout 1 (standing_at (place_at m 1) last (state_of m)) good.0) (sym opened.formula)
+      (subst (λ (p : Plan). AreGood f p 1 (standing_at (place_at m 1) last (state_of m)) good.0) (sym opened.layout)
+      (subst (λ (s : Standing). AreGood f (first_plan f) 1 s good.0) (sym (standing_there f m last opened is)) good.2))),
+)
 
 pub live_there : (f : Cnf) (m n : Plain) (last : ℕ) (bytes : List ℕ) (es : History) (tally : Tally) → IsOpening f m → PlainMoves m n 1 es
-    → JudgesStream (place_at m 1) last bytes es (Some tally) → IsLiveLast n tally
+    → IsGoodStream (place_at m 1) last bytes es tally → IsLiveLast n tally
 live_there f m n last bytes es tally opened moves judged some =
-    elim judged.2.ends [
+    elim judged.counts.ends [
       | inl none ↦ absurd (omega (arith, none.0, some))
       | inr ends ↦ found (last_live f (first_plan f) (opening f) es tally.last (legal_there f m n es opened moves) ends.1)
     ]
@@ -129,10 +149,10 @@ live_there f m n last bytes es tally opened moves judged some =
         )
 
 pub last_there : (f : Cnf) (m n : Plain) (last : ℕ) (bytes : List ℕ) (es : History) (tally : Tally) (fetched : Option LastClause) → IsOpening f m → PlainMoves m n 1 es
-    → JudgesStream (place_at m 1) last bytes es (Some tally) → FetchesLast n tally fetched → LastIs f es tally.added fetched
+    → IsGoodStream (place_at m 1) last bytes es tally → FetchesLast n tally fetched → LastIs f es tally.added fetched
 last_there f m n last bytes es tally None opened moves judged fetched = fetched
 last_there f m n last bytes es tally (Some clause) opened moves judged fetched =
-    elim judged.2.ends [
+    elim judged.counts.ends [
       | inl none ↦ absurd (omega (arith, none.0, fetched.0))
       | inr ends ↦ (
         subst (λ id. EndsWith 1 id es) (sym fetched.1) ends.1,

@@ -1,5 +1,5 @@
--- The good lines of a stream so far, and what is left of it.
-use Rattle.std.proofs.Common.{◌≡◌, ℕ, ℤ, ◌-◌, ◌<◌, Bool, true, false, List, [], ◌∷◌, ◌++◌, length, drop, Some, inr, cond, refl, sym, ap, subst, ◌∙◌, arith, append_assoc, take-append-drop, eqb, ne_eqb, ◌≢◌}
+-- The good lines of a stream so far.
+use Rattle.std.proofs.Common.{◌≡◌, ℕ, ℤ, ◌-◌, ◌<◌, Bool, true, false, List, [], ◌∷◌, ◌++◌, length, take, Some, None, Option, Result, Ok, Err, inl, inr, cond, refl, sym, ap, subst, ◌∙◌, arith, append_assoc, eqb, ne_eqb, ◌≢◌}
 use Rattle.std.proofs.lemmas.Bool.{cond-false}
 use Rattle.std.specs.Prelude.{◌||◌, ◌==◌, count_by}
 use Rattle.std.specs.List.{AllByRecursion, flat_map, list_any}
@@ -19,13 +19,16 @@ use Rattle.lrup_model.specs.Place.{Place, Tells}
 use Rattle.lrup_model.specs.declared.clause_map.Published.TheVariants as publishing
 use Rattle.lrup_model.proofs.HistoryLemmas.{legal-front, legal-back}
 use Rattle.lrup_model.proofs.PlainLemmas.{spent_one}
-use Rattle.lrup_text.specs.Lines.{StreamLine, Addition, Deletion, Fits, text_of, Cut}
+use Rattle.lrup_text.specs.Lines.{StreamLine, Addition, Deletion, Fits, text_of, Cut, IsPending}
+use Rattle.lrup_text.proofs.Streams.{one_cut, empty_cut}
 use Rattle.lrup_text.proofs.TextLaws.{empty_pending}
 use Rattle.propagate.specs.Different.{different}
 use Rattle.lrupd.specs.declared.stream.Tally.{Tally}
+use Rattle.lrupd.specs.declared.stream.StreamFault.{StreamFault}
+use Rattle.lrupd.specs.declared.stream.StreamFault.TheVariants.{Bad, Unread}
 use Rattle.lrupd.specs.Additions.{Standing, IsGood, after_addition}
 use Rattle.lrupd.specs.Judging.{IsFetch, IsVacantAbove, Judges, standing_at}
-use Rattle.lrupd.specs.Streams.{AreGood, after_lines, publishes, publishes_empty, published, added_by, Counts, Counted, TakesGood, IsBadStream, JudgesStream}
+use Rattle.lrupd.specs.Streams.{AreGood, after_lines, publishes, publishes_empty, published, added_by, Counts, Counted, TakesGood, IsSameStream, IsBadStream, IsSoFar, IsGoodStream, TakesPiece, Finishes, Gave, JudgesStream}
 use Rattle.lrupd.proofs.FoundLemmas.{run-fetches}
 use Rattle.lrupd.proofs.AddLemmas.{spent-fetches}
 use Rattle.lrupd.proofs.StreamLemmas.{front_line}
@@ -97,15 +100,7 @@ published_more s id lits hints es fs fetches lines quiet is before =
     published-append es fs ∙ ap (λ (x : List (ℕ × Clause)). published es ++ x) line ∙ ap (λ (x : List (ℕ × Clause)). x ++ new) before
     ∙ sym (added-append lines (Addition id lits hints ∷ []))
 
--- ---- the good lines so far
-
-pub record IsSoFar (p q : Place) (last : ℕ) (bytes rest : List ℕ) (es : History) (tally : Tally) : Type 0 where
-  pub lines : List StreamLine
-  pub text : bytes ≡ flat_map text_of lines ++ rest
-  pub each : AllByRecursion Fits lines
-  pub counts : Counts p.stream es tally
-  pub carries : published es ≡ added_by lines
-  pub good : (m : State) → LegalFrom p.formula p.layout m es → AreGood p.formula p.layout p.stream (standing_at p last m) lines × (after_lines (standing_at p last m) lines ≡ standing_at q tally.last (run m es))
+-- ---- the lines so far
 
 -- lines in front of the bytes that are cut
 fronts : (lines : List StreamLine) (rest : List ℕ) (all : List StreamLine) → AllByRecursion Fits lines → Cut (flat_map text_of lines ++ rest) all []
@@ -116,28 +111,74 @@ fronts (l ∷ lines) rest all fits cut =
     let others = fronts lines rest first.tail fits.1 first.cut in
     (others.0, first.whole ∙ ap (λ (ls : List StreamLine). l ∷ ls) others.1, others.2)
 
-pub so_far_bad : (p q : Place) (last : ℕ) (bytes rest : List ℕ) (es fs : History) (tally : Tally) → IsSoFar p q last bytes rest es tally → Tells p q es
-    → IsBadStream q tally.last rest fs → IsBadStream p last bytes (es ++ fs)
-so_far_bad p q last bytes rest es fs tally so_far tells bad m lines legal cut good =
+same_after : (p q r : Place) (fs : History) → IsSameStream p q → Tells q r fs → IsSameStream p r
+same_after p q r fs same tells = record { formula = tells.formula ∙ same.formula; layout = tells.layout ∙ same.layout; stream = tells.stream ∙ same.stream }
+
+legal_at : (p q : Place) (fs : History) (m : State) → IsSameStream p q → LegalFrom p.formula p.layout m fs → LegalFrom q.formula q.layout m fs
+legal_at p q fs m tells legal = subst (λ (f : Cnf). LegalFrom f q.layout m fs) (sym tells.formula) (subst (λ (l : Plan). LegalFrom p.formula l m fs) (sym tells.layout) legal)
+
+pub so_far_bad : (p q : Place) (last : ℕ) (bytes read piece : List ℕ) (es fs : History) (tally : Tally) → IsSoFar p q last bytes read es tally
+    → IsBadStream q tally.last (read ++ piece) false fs → IsBadStream p last (bytes ++ piece) false (es ++ fs)
+so_far_bad p q last bytes read piece es fs tally so_far bad more m lines follows legal cut good =
+    let tells = so_far.places in
     let here = so_far.good m (legal-front p.formula p.layout m es fs legal) in
     let there : LegalFrom p.formula p.layout (run m es) fs = legal-back p.formula p.layout m es fs legal in
-    let front = fronts so_far.lines rest lines so_far.each (subst (λ (t : List ℕ). Cut t lines []) so_far.text cut) in
+    let old = flat_map text_of so_far.lines in
+    let whole : (bytes ++ piece) ++ more ≡ old ++ ((read ++ piece) ++ more) =
+    append_assoc bytes piece more ∙ ap (λ (t : List ℕ). t ++ (piece ++ more)) so_far.cut.bytes ∙ append_assoc old read (piece ++ more) ∙ ap (λ (t : List ℕ). old ++ t) (sym (append_assoc read piece more)) in
+    let front = fronts so_far.lines ((read ++ piece) ++ more) lines so_far.cut.each (subst (λ (t : List ℕ). Cut t lines []) whole cut) in
     let back : AreGood p.formula p.layout p.stream (standing_at q tally.last (run m es)) front.0 =
     subst (λ (st : Standing). AreGood p.formula p.layout p.stream st front.0) here.1
     (good-back p.formula p.layout p.stream (standing_at p last m) so_far.lines front.0 (subst (AreGood p.formula p.layout p.stream (standing_at p last m)) front.1 good)) in
-    bad (run m es) front.0
-    (subst (λ (f : Cnf). LegalFrom f q.layout (run m es) fs) (sym tells.formula) (subst (λ (l : Plan). LegalFrom p.formula l (run m es) fs) (sym tells.layout) there))
-    front.2
+    bad more (run m es) front.0 follows (legal_at p q fs (run m es) tells there) front.2
     (subst (λ (f : Cnf). AreGood f q.layout q.stream (standing_at q tally.last (run m es)) front.0) (sym tells.formula)
     (subst (λ (l : Plan). AreGood p.formula l q.stream (standing_at q tally.last (run m es)) front.0) (sym tells.layout)
     (subst (λ s. AreGood p.formula p.layout s (standing_at q tally.last (run m es)) front.0) (sym tells.stream) back)))
 
-pub so_far_end : (p q : Place) (last : ℕ) (bytes rest : List ℕ) (es fs : History) (tally : Tally) → IsSoFar p q last bytes rest es tally → rest ≡ [] → fs ≡ []
-    → JudgesStream p last bytes (es ++ fs) (Some tally)
-so_far_end p q last bytes rest es fs tally so_far none nothing =
+-- a stream that ends inside a line
+pub so_far_open : (p q : Place) (last : ℕ) (bytes read : List ℕ) (es : History) (tally : Tally) → IsSoFar p q last bytes read es tally → ¬ (read ≡ []) → IsBadStream p last bytes true es
+so_far_open p q last bytes read es tally so_far some more m lines follows legal cut good =
+    let all : Cut bytes lines [] = subst (λ (t : List ℕ). Cut t lines []) (ap (λ (t : List ℕ). bytes ++ t) (follows refl) ∙ append-nil bytes) cut in
+    some (one_cut bytes so_far.lines lines read [] so_far.cut all).1
+
+pub so_far_end : (p q : Place) (last : ℕ) (bytes read : List ℕ) (es : History) (tally : Tally) → IsSoFar p q last bytes read es tally → read ≡ [] → IsGoodStream p last bytes es tally
+so_far_end p q last bytes read es tally so_far none = record {
+  lines = so_far.lines;
+  cut = subst (Cut bytes so_far.lines) none so_far.cut;
+  counts = so_far.counts;
+  good = λ m legal. (so_far.good m legal).0;
+  carries = so_far.carries;
+}
+
+-- before the first byte
+pub so_far_none : (p : Place) (last : ℕ) (tally : Tally) → tally.added ≡ 0 → tally.last ≡ last → tally.empty ≡ false → IsSoFar p p last [] [] [] tally
+so_far_none p last tally added is empty = record {
+  places = record { formula = refl; layout = refl; stream = refl };
+  lines = [];
+  cut = empty_cut;
+  counts = record { added = added; empty = empty; ends = inl (added, refl) };
+  carries = refl;
+  good = λ m legal. (tt, ap (λ n. standing_at p n m) (sym is));
+}
+
+-- the text of a line's front was read
+pub so_far_read : (p q r : Place) (last : ℕ) (bytes read piece : List ℕ) (es fs : History) (tally : Tally) → IsSoFar p q last bytes read es tally → Tells q r fs → fs ≡ [] → IsPending (read ++ piece)
+    → IsSoFar p r last (bytes ++ piece) (read ++ piece) (es ++ fs) tally
+so_far_read p q r last bytes read piece es fs tally so_far tells nothing pending =
     let same : es ++ fs ≡ es = ap (λ (x : History). es ++ x) nothing ∙ append-nil es in
-    subst (λ (x : History). JudgesStream p last bytes x (Some tally)) (sym same)
-    (so_far.lines, record { bytes = so_far.text ∙ ap (λ (t : List ℕ). flat_map text_of so_far.lines ++ t) none; each = so_far.each; last = empty_pending.whole }, so_far.counts, λ m legal. (so_far.good m legal).0, so_far.carries)
+    let room : q.room ≡ r.room = omega (arith, tells.room, ap (spent q.stream) nothing) in
+    subst (λ (x : History). IsSoFar p r last (bytes ++ piece) (read ++ piece) x tally) (sym same) (record {
+      places = same_after p q r fs so_far.places tells;
+      lines = so_far.lines;
+      cut = record {
+        bytes = ap (λ (t : List ℕ). t ++ piece) so_far.cut.bytes ∙ append_assoc (flat_map text_of so_far.lines) read piece;
+        each = so_far.cut.each;
+        last = pending.whole;
+      };
+      counts = so_far.counts;
+      carries = so_far.carries;
+      good = λ m legal. ((so_far.good m legal).0, (so_far.good m legal).1 ∙ ap (λ n. record { last = tally.last; room = n; map = run m es }) room);
+    })
 
 -- ---- one more line
 
@@ -181,14 +222,13 @@ stands_after p q r m old new id size lits fs fetches tells quiet is counted =
     ∙ ap (λ n. record { last = new.last; room = n; map = put m id (live (different lits)) }) room
     ∙ ap (λ (x : State). record { last = new.last; room = r.room; map = x }) ran
 
-good_more : (p q r : Place) (last : ℕ) (es fs : History) (old new : Tally) (id size : ℕ) (lits : List ℤ) (hints : List ℕ) (fetches : History) (lines : List StreamLine) → Tells p q es → Tells q r fs
+good_more : (p q r : Place) (last : ℕ) (es fs : History) (old new : Tally) (id size : ℕ) (lits : List ℤ) (hints : List ℕ) (fetches : History) (lines : List StreamLine) → IsSameStream p q → Tells q r fs
     → AllByRecursion IsFetch fetches → fs ≡ fetches ++ events.publish q.stream id (different lits) publishing.Done ∷ []
     → ((m : State) → LegalFrom q.formula q.layout m fs → IsGood q.formula q.layout q.stream (standing_at q old.last m) id lits hints) → Counted old id size new
     → (m : State) → AreGood p.formula p.layout p.stream (standing_at p last m) lines × (after_lines (standing_at p last m) lines ≡ standing_at q old.last (run m es)) → LegalFrom p.formula p.layout (run m es) fs
     → AreGood p.formula p.layout p.stream (standing_at p last m) (lines ++ Addition id lits hints ∷ []) × (after_lines (standing_at p last m) (lines ++ Addition id lits hints ∷ []) ≡ standing_at r new.last (run m (es ++ fs)))
 good_more p q r last es fs old new id size lits hints fetches lines tells again quiet is judged counted m here there =
-    let legal : LegalFrom q.formula q.layout (run m es) fs =
-    subst (λ (f : Cnf). LegalFrom f q.layout (run m es) fs) (sym tells.formula) (subst (λ (l : Plan). LegalFrom p.formula l (run m es) fs) (sym tells.layout) there) in
+    let legal = legal_at p q fs (run m es) tells there in
     let good : IsGood p.formula p.layout p.stream (after_lines (standing_at p last m) lines) id lits hints =
     subst (λ (st : Standing). IsGood p.formula p.layout p.stream st id lits hints) (sym here.1)
     (subst (λ (f : Cnf). IsGood f p.layout p.stream (standing_at q old.last (run m es)) id lits hints) tells.formula
@@ -199,18 +239,24 @@ good_more p q r last es fs old new id size lits hints fetches lines tells again 
           ∙ stands_after p q r (run m es) old new id size lits fs fetches again quiet is counted ∙ ap (standing_at r new.last) (sym (run-append m es fs)),
     )
 
-pub so_far_more : (p q r : Place) (last : ℕ) (bytes rest : List ℕ) (es fs : History) (used : ℕ) (old new : Tally) → IsSoFar p q last bytes rest es old → Tells p q es → Tells q r fs
-    → TakesGood q rest fs used old new → IsSoFar p r last bytes (drop used rest) (es ++ fs) new
-so_far_more p q r last bytes rest es fs used old new so_far tells again takes =
+pub so_far_more : (p q r : Place) (last : ℕ) (bytes read piece : List ℕ) (es fs : History) (used : ℕ) (old new : Tally) → IsSoFar p q last bytes read es old → Tells q r fs
+    → TakesGood q read piece fs used old new → IsSoFar p r last (bytes ++ take used piece) [] (es ++ fs) new
+so_far_more p q r last bytes read piece es fs used old new so_far again takes =
+    let tells = so_far.places in
     let line = Addition takes.id takes.lits takes.hints in
     let judged = takes.judged in
-    let front : rest ≡ text_of line ++ drop used rest = sym (take-append-drop used rest) ∙ ap (λ (t : List ℕ). t ++ drop used rest) takes.text.1 in
-    let grown : flat_map text_of (so_far.lines ++ line ∷ []) ≡ flat_map text_of so_far.lines ++ text_of line =
-    flat_map-append text_of so_far.lines (line ∷ []) ∙ ap (λ (t : List ℕ). flat_map text_of so_far.lines ++ t) (append-nil (text_of line)) in
+    let before = flat_map text_of so_far.lines in
+    let grown : flat_map text_of (so_far.lines ++ line ∷ []) ≡ before ++ text_of line =
+    flat_map-append text_of so_far.lines (line ∷ []) ∙ ap (λ (t : List ℕ). before ++ t) (append-nil (text_of line)) in
     record {
+      places = same_after p q r fs tells again;
       lines = so_far.lines ++ line ∷ [];
-      text = so_far.text ∙ ap (λ (t : List ℕ). flat_map text_of so_far.lines ++ t) front ∙ sym (append_assoc (flat_map text_of so_far.lines) (text_of line) (drop used rest)) ∙ ap (λ (t : List ℕ). t ++ drop used rest) (sym grown);
-      each = fits-append so_far.lines (line ∷ []) so_far.each (takes.text.0, tt);
+      cut = record {
+        bytes = ap (λ (t : List ℕ). t ++ take used piece) so_far.cut.bytes ∙ append_assoc before read (take used piece) ∙ ap (λ (t : List ℕ). before ++ t) takes.text.1
+            ∙ sym grown ∙ sym (append-nil (flat_map text_of (so_far.lines ++ line ∷ [])));
+        each = fits-append so_far.lines (line ∷ []) so_far.cut.each (takes.text.0, tt);
+        last = empty_pending.whole;
+      };
       counts = counts_more p.stream takes.id takes.size (different takes.lits) es fs judged.1 old new judged.2
           (judged.3 ∙ ap (λ s. judged.1 ++ events.publish s takes.id (different takes.lits) publishing.Done ∷ []) tells.stream) judged.0 so_far.counts takes.counted;
       carries = published_more q.stream takes.id takes.lits takes.hints es fs judged.1 so_far.lines judged.2 judged.3 so_far.carries;
@@ -230,3 +276,40 @@ vacant_more q r old new id size lits hints fs tells judged counted vacant j owns
     ∙ ap (λ (m : State). m j) (line_run q.stream id (different lits) judged.1 judged.2 q.own)
     ∙ cond-false (eqb j id) (live (different lits)) (q.own j) (ne_eqb j id other)
     ∙ vacant j mine (omega (arith, counted.1))
+
+-- ---- the end
+
+pub judged_end : (p q : Place) (last : ℕ) (old new : Option (List ℕ)) (bytes read : List ℕ) (es : History) (tally : Tally) (r : Result Tally StreamFault) → Gave old new bytes true
+    → IsSoFar p q last bytes read es tally → Finishes read tally r → JudgesStream p last old new es r
+judged_end p q last old new bytes read es tally (Ok same) gave so_far ends =
+    (bytes, gave, so_far_end p q last bytes read es same (subst (IsSoFar p q last bytes read es) (sym ends.0) so_far) ends.1)
+judged_end p q last old new bytes read es tally (Err Bad) gave so_far ends = (bytes, true, gave, so_far_open p q last bytes read es tally so_far ends.1)
+judged_end p q last old new bytes read es tally (Err Unread) gave so_far ends = tt
+
+-- ---- a piece
+
+pub piece_none : (q : Place) (read : List ℕ) (tally : Tally) → TakesPiece q q read [] read [] tally (Some tally)
+piece_none q read tally p last bytes before so_far =
+    subst (λ (t : List ℕ). IsSoFar p q last t read (before ++ []) tally) (sym (append-nil bytes))
+    (subst (λ (x : History). IsSoFar p q last bytes read x tally) (sym (append-nil before)) so_far)
+
+pub piece_more : (q r s : Place) (read front after piece : List ℕ) (es fs : History) (used : ℕ) (old mid new : Tally) → TakesPiece q r read front after es old (Some mid) → Tells r s fs
+    → TakesGood r after piece fs used mid new → TakesPiece q s read (front ++ take used piece) [] (es ++ fs) old (Some new)
+piece_more q r s read front after piece es fs used old mid new taken tells takes p last bytes before so_far =
+    let here = so_far_more p r s last (bytes ++ front) after piece (before ++ es) fs used mid new (taken p last bytes before so_far) tells takes in
+    subst (λ (t : List ℕ). IsSoFar p s last t [] (before ++ (es ++ fs)) new) (append_assoc bytes front (take used piece))
+    (subst (λ (x : History). IsSoFar p s last ((bytes ++ front) ++ take used piece) [] x new) (append_assoc before es fs) here)
+
+pub piece_read : (q r s : Place) (read front after piece : List ℕ) (es fs : History) (old mid : Tally) → TakesPiece q r read front after es old (Some mid) → Tells r s fs → fs ≡ [] → IsPending (after ++ piece)
+    → TakesPiece q s read (front ++ piece) (after ++ piece) (es ++ fs) old (Some mid)
+piece_read q r s read front after piece es fs old mid taken tells nothing pending p last bytes before so_far =
+    let here = so_far_read p r s last (bytes ++ front) after piece (before ++ es) fs mid (taken p last bytes before so_far) tells nothing pending in
+    subst (λ (t : List ℕ). IsSoFar p s last t (after ++ piece) (before ++ (es ++ fs)) mid) (append_assoc bytes front piece)
+    (subst (λ (x : History). IsSoFar p s last ((bytes ++ front) ++ piece) (after ++ piece) x mid) (append_assoc before es fs) here)
+
+pub piece_bad : (q r s : Place) (read front after piece left : List ℕ) (es fs : History) (old mid : Tally) → TakesPiece q r read front after es old (Some mid)
+    → IsBadStream r mid.last (after ++ piece) false fs → TakesPiece q s read (front ++ piece) left (es ++ fs) old None
+piece_bad q r s read front after piece left es fs old mid taken bad p last bytes before so_far =
+    let here = so_far_bad p r last (bytes ++ front) after piece (before ++ es) fs mid (taken p last bytes before so_far) bad in
+    subst (λ (t : List ℕ). IsBadStream p last t false (before ++ (es ++ fs))) (append_assoc bytes front piece)
+    (subst (λ (x : History). IsBadStream p last ((bytes ++ front) ++ piece) false x) (append_assoc before es fs) here)

@@ -1,12 +1,11 @@
 -- The lines of a stream, taken one by one.
-use Rattle.std.proofs.Common.{◌≡◌, ℕ, zero, suc, ℤ, ◌+◌, ◌<◌, List, [], ◌∷◌, ◌++◌, length, take, drop, None, inl, inr, sym, ap, subst, ◌∙◌, arith, append_assoc, take-append-drop, length-append}
+use Rattle.std.proofs.Common.{◌≡◌, ℕ, ℤ, ◌+◌, List, [], ◌∷◌, ◌++◌, length, take, drop, false, None, inl, inr, sym, ap, subst, ◌∙◌, arith, append_assoc, take-append-drop, length-append}
 use Rattle.std.specs.List.{flat_map}
-use Rattle.std.proofs.lemmas.List.{append-nil}
 use Rattle.lrup_model.specs.Event.{History}
 use Rattle.lrup_model.specs.Place.{Place}
 use Rattle.lrup_text.specs.declared.LineFault.{LineFault}
 use Rattle.lrup_text.specs.Faults.{IsRefused}
-use Rattle.lrup_text.specs.Lines.{StreamLine, Addition, Deletion, LineText, text_of, words_of, Cut, HasNoLine}
+use Rattle.lrup_text.specs.Lines.{StreamLine, Addition, Deletion, LineText, text_of, words_of, Cut}
 use Rattle.lrup_text.proofs.TextLaws.{empty_pending, fits_within}
 use Rattle.lrup_text.proofs.Streams.{texts_apart, shorter}
 use Rattle.lrupd.specs.Judging.{Judges, standing_at}
@@ -39,36 +38,28 @@ no_front text rest fault (l ∷ ls) refused cut =
       | inr shorter' ↦ refused.3.before.whole l shorter'.0 cut.each.0 shorter'.1
     ]
 
--- a text that has no line isn't made up of lines
-pub no_lines : (text : List ℕ) (lines : List StreamLine) → HasNoLine text → ¬ (text ≡ []) → Cut text lines [] → ⊥
-no_lines text [] none some cut = some cut.bytes
-no_lines text (l ∷ ls) none some cut = none l (flat_map text_of ls ++ []) cut.each.0 (cut.bytes ∙ append_assoc (text_of l) (flat_map text_of ls) [])
-
 -- ---- what one line says of the whole stream
 
--- the bytes as the front that was used and the rest
-pub used_front : (bytes : List ℕ) (used : ℕ) → bytes ≡ take used bytes ++ drop used bytes
-used_front bytes used = sym (take-append-drop used bytes)
+-- what was read and the piece, whatever follows, as a front of the piece that was used and the rest
+used_front : (read piece more : List ℕ) (used : ℕ) → (read ++ piece) ++ more ≡ (read ++ take used piece) ++ (drop used piece ++ more)
+used_front read piece more used =
+    append_assoc read piece more ∙ ap (λ (t : List ℕ). read ++ (t ++ more)) (sym (take-append-drop used piece))
+    ∙ ap (λ (t : List ℕ). read ++ t) (append_assoc (take used piece) (drop used piece) more) ∙ sym (append_assoc read (take used piece) (drop used piece ++ more))
 
-pub bad_addition : (p : Place) (last : ℕ) (bytes : List ℕ) (used id : ℕ) (lits : List ℤ) (hints : List ℕ) (es : History) → LineText (Addition id lits hints) (take used bytes)
-    → Judges p last id lits hints es None → IsBadStream p last bytes es
-bad_addition p last bytes used id lits hints es text judged m lines legal cut good =
-    let front = front_line (Addition id lits hints) (take used bytes) (drop used bytes) lines text (subst (λ (t : List ℕ). Cut t lines []) (used_front bytes used) cut) in
-    judged.1 m legal (subst (AreGood p.formula p.layout p.stream (standing_at p last m)) front.whole good).0
+module _ (p : Place) (last : ℕ) (read piece : List ℕ) (used : ℕ) where
+  front_of : (line : StreamLine) (more : List ℕ) (lines : List StreamLine) → LineText line (read ++ take used piece) → Cut ((read ++ piece) ++ more) lines [] → HasFront line lines (drop used piece ++ more)
+  front_of line more lines text cut =
+      front_line line (read ++ take used piece) (drop used piece ++ more) lines text (subst (λ (t : List ℕ). Cut t lines []) (used_front read piece more used) cut)
 
-pub bad_deletion : (p : Place) (last : ℕ) (bytes : List ℕ) (used lead : ℕ) (ids : List ℕ) (es : History) → LineText (Deletion lead ids) (take used bytes) → IsBadStream p last bytes es
-bad_deletion p last bytes used lead ids es text m lines legal cut good =
-    let front = front_line (Deletion lead ids) (take used bytes) (drop used bytes) lines text (subst (λ (t : List ℕ). Cut t lines []) (used_front bytes used) cut) in
-    subst (AreGood p.formula p.layout p.stream (standing_at p last m)) front.whole good
+  pub bad_addition : (id : ℕ) (lits : List ℤ) (hints : List ℕ) (es : History) → LineText (Addition id lits hints) (read ++ take used piece)
+      → Judges p last id lits hints es None → IsBadStream p last (read ++ piece) false es
+  bad_addition id lits hints es text judged more m lines follows legal cut good =
+      judged.1 m legal (subst (AreGood p.formula p.layout p.stream (standing_at p last m)) (front_of (Addition id lits hints) more lines text cut).whole good).0
 
-pub bad_text : (p : Place) (last : ℕ) (bytes : List ℕ) (used : ℕ) (fault : LineFault) (es : History) → IsRefused (take used bytes) fault → IsBadStream p last bytes es
-bad_text p last bytes used fault es refused m lines legal cut good =
-    no_front (take used bytes) (drop used bytes) fault lines refused (subst (λ (t : List ℕ). Cut t lines []) (used_front bytes used) cut)
+  pub bad_deletion : (lead : ℕ) (ids : List ℕ) (es : History) → LineText (Deletion lead ids) (read ++ take used piece) → IsBadStream p last (read ++ piece) false es
+  bad_deletion lead ids es text more m lines follows legal cut good =
+      subst (AreGood p.formula p.layout p.stream (standing_at p last m)) (front_of (Deletion lead ids) more lines text cut).whole good
 
-pub bad_rest : (p : Place) (last : ℕ) (bytes : List ℕ) (es : History) → HasNoLine bytes → ¬ (bytes ≡ []) → IsBadStream p last bytes es
-bad_rest p last bytes es none some m lines legal cut good = no_lines bytes lines none some cut
-
--- a line has some bytes
-pub some_used : (line : StreamLine) (bytes : List ℕ) (used : ℕ) → LineText line (take used bytes) → 0 < used
-some_used line bytes zero text = absurd (empty_pending.whole line [] text.0 (text.1 ∙ sym (append-nil (text_of line))))
-some_used line bytes (suc used) text = omega arith
+  pub bad_text : (fault : LineFault) (es : History) → IsRefused (read ++ take used piece) fault → IsBadStream p last (read ++ piece) false es
+  bad_text fault es refused more m lines follows legal cut good =
+      no_front (read ++ take used piece) (drop used piece ++ more) fault lines refused (subst (λ (t : List ℕ). Cut t lines []) (used_front read piece more used) cut)

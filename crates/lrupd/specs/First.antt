@@ -1,5 +1,5 @@
 -- What the checking of one formula and one stream promises (this project's own).
-use Rattle.std.specs.Prelude.{◌≡◌, ◌<◌, ◌⊎◌, ℕ, List, [], length, count_by, IsTrue, Option, Some, None}
+use Rattle.std.specs.Prelude.{◌≡◌, ◌<◌, ◌⊎◌, ℕ, List, [], length, count_by, ◌++◌, Bool, true, IsTrue, Option, Some, None}
 use Rattle.std.specs.List.{AllByRecursion, list_any}
 use Rattle.lrup_model.specs.Clause.{Clause}
 use Rattle.lrup_model.specs.Formula.{Cnf, literals_of}
@@ -12,22 +12,31 @@ use Rattle.lrup_model.specs.Plain.{Plain, state_of}
 use Rattle.lrup_text.specs.Lines.{StreamLine, Cut}
 use Rattle.dimacs.specs.FormulaText.{IsTextOf}
 use Rattle.lrupd.specs.declared.answer.First.{First}
+use Rattle.lrupd.specs.declared.answer.FirstFault.{FirstFault}
+use Rattle.lrupd.specs.declared.answer.FirstFault.TheVariants as first_faults
 use Rattle.lrupd.specs.declared.answer.LastClause.{LastClause}
+use Rattle.lrupd.specs.declared.stream.StreamFault.{StreamFault}
+use Rattle.lrupd.specs.declared.stream.StreamFault.TheVariants as stream_faults
 use Rattle.lrupd.specs.declared.stream.Tally.{Tally}
 use Rattle.lrupd.specs.Additions.{Standing}
-use Rattle.lrupd.specs.Streams.{AreGood, publishes, publishes_empty, published, added_by, EndsWith}
+use Rattle.lrupd.specs.Streams.{AreGood, publishes, publishes_empty, published, added_by, EndsWith, MayFollow, Gave}
 
 -- the layout: two streams, of 65,536 identities and room for 1,048,576 literals each
 abbrev pub first_plan : Cnf → Plan
 first_plan f = record { vars = f.vars; clauses = length f.clauses; literals = literals_of f; streams = 2; lines = 65536; room = 1048576 }
+
+-- why there is no answer, where the lines of the stream weren't all taken
+abbrev pub fault_of : StreamFault → FirstFault
+fault_of stream_faults.Bad = first_faults.Refused
+fault_of stream_faults.Unread = first_faults.Unread
 
 -- before the first line the map has the formula's clauses
 abbrev pub first_standing : Cnf → Standing
 first_standing f = record { last = length f.clauses; room = 1048576; map = opening f }
 
 -- the bytes are the texts of good additions of stream 1
-abbrev pub IsGoodStream : Cnf → List ℕ → Type 0
-IsGoodStream f bytes = (lines : List StreamLine) × Cut bytes lines [] × AreGood f (first_plan f) 1 (first_standing f) lines
+abbrev pub AreGoodBytes : Cnf → List ℕ → Type 0
+AreGoodBytes f bytes = (lines : List StreamLine) × Cut bytes lines [] × AreGood f (first_plan f) 1 (first_standing f) lines
 
 -- the last clause that was published: the history's map has it live, with this count of literals
 abbrev pub LastIs : Cnf → History → ℕ → Option LastClause → Type 0
@@ -49,9 +58,18 @@ pub record IsFirst (formula stream : List ℕ) (first : First) : Type 0 where
   pub last : LastIs first.formula history first.added first.last
   pub refuted : IsTrue first.empty → IsUnsatisfiable first.formula
 
+-- all that the source gave, to its end, was checked
+abbrev pub ChecksAll : List ℕ → Option (List ℕ) → Option (List ℕ) → First → Type 0
+ChecksAll formula old new first = (stream : List ℕ) × Gave old new stream true × IsFirst formula stream first
+
+-- what the source gave is the front of no good stream, or, at its end, is not one
+abbrev pub IsBadSource : Cnf → Option (List ℕ) → Option (List ℕ) → Type 0
+IsBadSource f old new =
+    (stream : List ℕ) × (ended : Bool) × Gave old new stream ended × ((more : List ℕ) → MayFollow ended more → ¬ AreGoodBytes f (stream ++ more))
+
 -- the formula with this text has no layout, or the stream isn't good
-abbrev pub IsRefused : List ℕ → List ℕ → Type 0
-IsRefused formula stream = (f : Cnf) × IsTextOf formula f × ((¬ IsPlan (first_plan f)) ⊎ (¬ IsGoodStream f stream))
+abbrev pub IsRefused : List ℕ → Option (List ℕ) → Option (List ℕ) → Type 0
+IsRefused formula old new = (f : Cnf) × IsTextOf formula f × ((¬ IsPlan (first_plan f)) ⊎ IsBadSource f old new)
 
 -- where clauses were published, the map has the last one live
 abbrev pub IsLiveLast : Plain → Tally → Type 0

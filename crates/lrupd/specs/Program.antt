@@ -10,6 +10,7 @@ use Rattle.lrupd.specs.declared.answer.FirstFault.TheVariants as faults
 -- want of memory ends the program in its own way, and each other fault is a refusal
 abbrev pub stop_of : FirstFault → Stop
 stop_of faults.Memory = stops.Memory
+stop_of faults.Unread = stops.Unread
 stop_of faults.Refused = stops.Refused faults.Refused
 stop_of (faults.Formula fault) = stops.Refused (faults.Formula fault)
 

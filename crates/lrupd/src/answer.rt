@@ -1,4 +1,5 @@
 //! What the checking of one formula and one stream answers.
+use crate::stream::StreamFault;
 use dimacs::DimacsFault;
 use lrup_model::{Formula, Id};
 use std::alloc::AllocError;
@@ -32,6 +33,9 @@ pub enum FirstFault {
     /// The formula has no layout with two streams, or the stream isn't made up of good additions.
     #[error("refused")]
     Refused,
+    /// The stream wasn't read to its end.
+    #[error("read failed")]
+    Unread,
     /// A growth was refused.
     #[error("out of memory")]
     Memory,
@@ -48,5 +52,19 @@ impl From<AllocError> for FirstFault {
 
     fn from(_e: AllocError) -> FirstFault {
         FirstFault::Memory
+    }
+}
+
+impl From<StreamFault> for FirstFault {
+    ghost use Rattle.lrupd.specs.First.{fault_of};
+    ghost use Rattle.std.specs.Prelude.{◌≡◌};
+
+    ghost from_gives = { λ fault e. e ≡ fault_of fault };
+
+    fn from(fault: StreamFault) -> FirstFault {
+        match fault {
+            StreamFault::Bad => FirstFault::Refused,
+            StreamFault::Unread => FirstFault::Unread,
+        }
     }
 }

@@ -1,5 +1,5 @@
 //! One formula and one stream: checked, published, and fetched back at another stream's place.
-ghost use Rattle.std.specs.Prelude.{◌≡◌, ◌<◌, ◌≤◌, ◌≢◌, ℕ, [], Ok, Some, length, IfOk, Err, MatchOption};
+ghost use Rattle.std.specs.Prelude.{◌≡◌, ◌<◌, ◌≤◌, ◌≢◌, ◌↔◌, ℕ, [], Ok, Some, length, IfOk, Err, MatchOption, IsTrue, false};
 ghost use Rattle.std.specs.Result.{IsErrOf};
 ghost use Rattle.dimacs.specs.declared.fault.DimacsFault.{DimacsFault};
 ghost use Rattle.lrup_model.specs.Event.{History};
@@ -9,15 +9,16 @@ ghost use Rattle.lrup_model.specs.Plain.{state_of, place_at, PlainMoves};
 ghost use Rattle.dimacs.specs.FormulaFault.{IsFaultOf};
 ghost use Rattle.lrupd.specs.Judging.{IsVacantAbove};
 ghost use Rattle.lrupd.specs.Streams.{JudgesStream};
-ghost use Rattle.lrupd.specs.First.{IsFirst, IsRefused, IsLiveLast, FetchesLast, first_plan};
+ghost use Rattle.lrupd.specs.First.{ChecksAll, IsRefused, IsLiveLast, FetchesLast, first_plan};
 
 use crate::answer::{First, FirstFault, LastClause};
 use crate::check::Checker;
-use crate::stream::{Tally, take_lines};
+use crate::stream::{StreamFault, Tally, take_stream};
 use dimacs::DimacsFault;
 use lrup_model::{ClauseMap, Fetched, Formula, Id, Layout, PlainMap};
-use lrup_text::LineReader;
-use std::alloc::Global;
+use lrup_text::{LineReader, Source};
+use std::alloc::{AllocError, Global};
+use std::sync::Wait;
 
 /// How many streams the layout has, and for each how many identities and how much room, in literals.
 const STREAMS: u64 = 2;
@@ -26,12 +27,24 @@ const LINES: u64 = 65_536;
 
 const ROOM: u64 = 1_048_576;
 
-/// Checks the stream against the formula, line by line, at the place of stream 1, and publishes each clause; then the
-/// place of stream 2 fetches the last one.
-pub fn first(alloc: Global, formula: &[u8], stream: &[u8]) -> Result<First, FirstFault>
-    ensures ok { IfOk result (IsFirst formula.now stream.now) }
-    ensures refused { IsErrOf result FirstFault.Refused → IsRefused formula.now stream.now }
+/// The most bytes of a stream that are read at once.
+const PIECE: usize = 65_536;
+
+/// Checks the stream against the formula, line by line as it comes, at the place of stream 1, and publishes each clause;
+/// then the place of stream 2 fetches the last one.
+///
+/// It waits for the stream.
+pub fn first<W: Wait, S: Source>(
+    wait: &W,
+    alloc: Global,
+    formula: &[u8],
+    stream: &mut S,
+) -> Result<First, FirstFault>
+    requires running { S.has_failed stream.old ≡ false }
+    ensures ok { IfOk result (ChecksAll formula.now (S.left stream.old) (S.left stream.new)) }
+    ensures refused { IsErrOf result FirstFault.Refused → IsRefused formula.now (S.left stream.old) (S.left stream.new) }
     ensures formula { (fault : DimacsFault) → result ≡ Err (FirstFault.Formula fault) → (fault ≢ DimacsFault.Memory) × IsFaultOf formula.now fault }
+    ensures failed { IsTrue (S.has_failed stream.new) ↔ IsErrOf result FirstFault.Unread }
 {
     let formula = match dimacs::parse(alloc, formula) {
         Ok(formula) => formula,
@@ -44,10 +57,17 @@ pub fn first(alloc: Global, formula: &[u8], stream: &[u8]) -> Result<First, Firs
     let mut map = PlainMap::open(alloc, &formula, &layout)?;
     let mut checker = Checker::new(alloc, formula.vars())?;
     let mut reader = LineReader::new(alloc)?;
+    let mut buffer = zero_bytes(alloc, PIECE)?;
     let last = formula.len() as u64;
-    let Some(tally) = check_stream(&mut map, &mut checker, &mut reader, last, stream) else {
-        return Err(FirstFault::Refused);
-    };
+    let tally = check_stream(
+        wait,
+        &mut map,
+        &mut checker,
+        &mut reader,
+        last,
+        stream,
+        buffer.as_mut_slice(),
+    )?;
     let last = fetch_last(&mut map, tally);
     Ok(First {
         formula,
@@ -55,6 +75,13 @@ pub fn first(alloc: Global, formula: &[u8], stream: &[u8]) -> Result<First, Firs
         last,
         empty: tally.empty,
     })
+}
+
+/// So many bytes for the pieces of a stream.
+fn zero_bytes(alloc: Global, count: usize) -> Result<Vec<u8>, AllocError>
+    ensures { IfOk result (λ bytes. length bytes.items ≡ count) }
+{
+    vec![in alloc; 0; count]
 }
 
 /// The layout of two streams for this formula, where there is one.
@@ -68,21 +95,26 @@ fn layout_of(formula: &Formula) -> Option<Layout>
 }
 
 /// Checks the stream at the place of stream 1.
-fn check_stream(
+fn check_stream<W: Wait, S: Source>(
+    wait: &W,
     map: &mut PlainMap,
     checker: &mut Checker,
     reader: &mut LineReader,
     last: Id,
-    stream: &[u8],
-) -> Option<Tally>
+    stream: &mut S,
+    buffer: &mut [u8],
+) -> Result<Tally, StreamFault>
     requires reader { reader.old ≡ Ok [] }
     requires streams { 0 < map.old.layout.streams }
     requires variables { map.old.layout.vars ≡ checker.old.vars }
     requires vacant { IsVacantAbove (place_at map.old 1) last }
-    ensures { (es : History) × PlainMoves map.old map.new 1 es × JudgesStream (place_at map.old 1) last stream.now es result }
+    requires running { S.has_failed stream.old ≡ false }
+    requires buffer { 0 < length buffer.old }
+    ensures judged { (es : History) × PlainMoves map.old map.new 1 es × JudgesStream (place_at map.old 1) last (S.left stream.old) (S.left stream.new) es result }
+    ensures failed { IsTrue (S.has_failed stream.new) ↔ IsErrOf result StreamFault.Unread }
 {
     let mut desk = map.desk(1);
-    take_lines(&mut desk, checker, reader, last, stream)
+    take_stream(wait, &mut desk, checker, reader, last, stream, buffer)
 }
 
 /// Fetches the last clause that was added, if there is one, at the place of stream 2.

@@ -2,6 +2,7 @@
 #![tactic(auto)]
 
 ghost use Rattle.std.specs.Prelude.{◌≡◌, ◌⊎◌};
+ghost use Rattle.std.specs.Result.{IsOk, IsErr};
 ghost use Rattle.std.specs.IoError.{error_kind};
 ghost use Rattle.lrupd.specs.Program.{IsStopOf, status_of, stop_of, verdict_of};
 
@@ -14,8 +15,11 @@ mod tests;
 
 use answer::{First, FirstFault};
 use checking::first;
+use lrup_text::Reading;
+use std::fs::File;
 use std::process::ExitCode;
 use std::rt::{Env, Files};
+use std::sync::Wait;
 use std::{env, fs, io};
 
 /// Why there is no report.
@@ -50,6 +54,7 @@ impl From<FirstFault> for Stop {
     fn from(fault: FirstFault) -> Stop {
         match fault {
             FirstFault::Memory => Stop::Memory,
+            FirstFault::Unread => Stop::Unread,
             _ => Stop::Refused(fault),
         }
     }
@@ -63,12 +68,12 @@ fn main(rt: HostRuntime) -> ExitCode {
     ExitCode::from(status)
 }
 
-/// Reads the two files that the words name, and checks them.
-fn check_files<R: Env + Files + AllocGlobal>(rt: &R) -> Result<First, Stop> {
+/// Reads the two files that the words name, the stream as it is checked.
+fn check_files<R: Env + Files + AllocGlobal + Wait>(rt: &R) -> Result<First, Stop> {
     let (formula, stream) = paths(rt)?;
     let formula = fs::read(rt, formula.as_str())?;
-    let stream = fs::read(rt, stream.as_str())?;
-    Ok(first(rt.alloc(), &formula, &stream)?)
+    let mut stream = Reading::new(File::open(rt, stream.as_str())?);
+    Ok(first(rt, rt.alloc(), &formula, &mut stream)?)
 }
 
 /// The two words behind the program's name.
@@ -85,14 +90,23 @@ fn paths<R: Env + AllocGlobal>(rt: &R) -> Result<(String, String), Stop> {
     }
 }
 
-/// Prints the report. The status is 0 for unsatisfiable, 3 for unknown, and 7 where it couldn't be written.
+/// Prints the report, and gives the status behind it.
 fn report(rt: &impl Print, first: &First) -> u8
     ensures { (result ≡ verdict_of first.now.empty) ⊎ (result ≡ 7) }
 {
-    if print_report(rt, first).is_err() {
+    let printed = print_report(rt, first);
+    status_behind(&printed, first.empty)
+}
+
+/// The status behind a report: 0 for unsatisfiable, 3 for unknown, and 7 where it couldn't be written.
+fn status_behind(printed: &io::Result<()>, empty: bool) -> u8
+    ensures written { IsOk printed.now → result ≡ verdict_of empty }
+    ensures unwritten { IsErr printed.now → result ≡ 7 }
+{
+    if printed.is_err() {
         return 7;
     }
-    if first.empty { 0 } else { 3 }
+    if empty { 0 } else { 3 }
 }
 
 fn print_report(rt: &impl Print, first: &First) -> io::Result<()> {
