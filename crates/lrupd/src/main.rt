@@ -1,9 +1,10 @@
 //! `lrupd FORMULA STREAM`: checks a solver's stream of hinted clause additions against a formula.
 #![tactic(auto)]
 
-ghost use Rattle.std.specs.Prelude.{◌≡◌, ◌⊎◌};
+ghost use Rattle.std.specs.Prelude.{◌≡◌, ◌⊎◌, IfOk, IsTrue};
 ghost use Rattle.std.specs.Result.{IsOk, IsErr};
 ghost use Rattle.std.specs.IoError.{error_kind};
+ghost use Rattle.lrup_model.specs.Entailment.{IsUnsatisfiable};
 ghost use Rattle.lrupd.specs.Program.{IsStopOf, status_of, stop_of, verdict_of};
 
 mod answer;
@@ -69,7 +70,9 @@ fn main(rt: HostRuntime) -> ExitCode {
 }
 
 /// Reads the two files that the words name, the stream as it is checked.
-fn check_files<R: Env + Files + AllocGlobal + Wait>(rt: &R) -> Result<First, Stop> {
+fn check_files<R: Env + Files + AllocGlobal + Wait>(rt: &R) -> Result<First, Stop>
+    ensures { IfOk result (λ first. IsTrue first.empty → IsUnsatisfiable first.formula) }
+{
     let (formula, stream) = paths(rt)?;
     let formula = fs::read(rt, formula.as_str())?;
     let mut stream = Reading::new(File::open(rt, stream.as_str())?);
