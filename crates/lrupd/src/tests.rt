@@ -3,6 +3,7 @@ ghost use Rattle.std.specs.Prelude.{ℕ, Some};
 
 use crate::answer::{FirstFault, LastClause};
 use crate::checking::first;
+use crate::stream::StreamFault;
 use dimacs::DimacsFault;
 use lrup_text::{ReadFault, Reading, Source};
 use std::test::Fail;
@@ -193,6 +194,7 @@ fn refused_formulas(rt: HostRuntime) {
 fn texts(rt: HostRuntime) -> Result<(), Fail> {
     for (fault, wanted) in [
         (FirstFault::Refused, "refused"),
+        (FirstFault::Unread, "read failed"),
         (FirstFault::Memory, "out of memory"),
         (
             FirstFault::Formula(DimacsFault::NoHeader),
@@ -226,6 +228,13 @@ fn texts(rt: HostRuntime) -> Result<(), Fail> {
             FirstFault::Formula(DimacsFault::Limit),
             "formula refused: limit",
         ),
+    ] {
+        let text = format!(in rt.alloc(); "{fault}")?;
+        assert_eq!(rt; text.as_str(), wanted);
+    }
+    for (fault, wanted) in [
+        (StreamFault::Bad, "bad line"),
+        (StreamFault::Unread, "read failed"),
     ] {
         let text = format!(in rt.alloc(); "{fault}")?;
         assert_eq!(rt; text.as_str(), wanted);
