@@ -1,0 +1,27 @@
+-- How often a hint is fetched (this project's own).
+use Rattle.std.specs.Prelude.{◌≡◌, ◌≤◌, ◌++◌, ℕ, [], ◌∷◌, replicate}
+use Rattle.lrup_model.specs.Event.{History, Reply, vacant, fetch}
+use Rattle.stream_check.specs.Setting.{Setting, Side, formula, own, foreign, outside, side_of}
+
+-- fetches of one identity until the reply isn't vacant, and so many more than one at most: all but the last are vacant, and all are made if the last is vacant too
+abbrev pub FetchesUpTo : ℕ → ℕ → ℕ → History → Reply → Type 0
+FetchesUpTo most s id es r = (k : ℕ) × (k ≤ most) × (r ≡ vacant → k ≡ most) × (es ≡ replicate k (fetch s id vacant) ++ fetch s id r ∷ [])
+
+abbrev pub AsksAt : Side → Setting → ℕ → History → Reply → Type 0
+AsksAt formula c h es r = es ≡ fetch c.stream h r ∷ []
+AsksAt own c h es r = es ≡ fetch c.stream h r ∷ []
+AsksAt foreign c h es r = FetchesUpTo c.tries c.stream h es r
+AsksAt outside c h es r = (es ≡ []) × (r ≡ vacant)
+
+-- the events of a hint and the last reply, which is taken as vacant if there is no event
+abbrev pub Asks : Setting → ℕ → History → Reply → Type 0
+Asks c h es r = AsksAt (side_of c h) c h es r
+
+-- first the events of this hint, and then what its last reply and the other events decide
+pub record AsksThen (c : Setting) (h : ℕ) (es : History) (Next : Reply → History → Type 0) : Type 0 where
+  pub asked : History
+  pub reply : Reply
+  pub rest : History
+  pub events : es ≡ asked ++ rest
+  pub asks : Asks c h asked reply
+  pub next : Next reply rest

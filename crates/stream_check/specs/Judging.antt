@@ -1,0 +1,117 @@
+-- How a stream is judged: whole lists of lines, one block of events for each line, and no checker's state (this project's own).
+use Rattle.std.specs.Prelude.{◌≡◌, ◌⊎◌, ◌+◌, ◌++◌, ℕ, List, [], ◌∷◌, length}
+use Rattle.std.specs.List.{AllByRecursion, flat_map}
+use Rattle.lrup_model.specs.Event.{History}
+use Rattle.lrup_text.specs.declared.LineFault.TheVariants as texts
+use Rattle.lrup_text.specs.declared.LineFault.{LineFault}
+use Rattle.lrup_text.specs.Lines.{StreamLine, Addition, Deletion, Fits, text_of, IsPending}
+use Rattle.lrup_text.specs.Faults.{HasTextFault}
+use Rattle.stream_check.specs.declared.fault.Fault.{Fault}
+use Rattle.stream_check.specs.declared.fault.Fault.TheVariants as faults
+use Rattle.stream_check.specs.declared.report.Ending.{Ending}
+use Rattle.stream_check.specs.declared.report.Ending.TheVariants as endings
+use Rattle.stream_check.specs.declared.report.Report.{Report}
+use Rattle.stream_check.specs.Setting.{Setting}
+use Rattle.stream_check.specs.Standing.{Standing, standing_of, Tally, tally_of, line_number}
+use Rattle.stream_check.specs.Verdicts.{Verdict, Good, Bad}
+use Rattle.stream_check.specs.Additions.{JudgesAddition}
+use Rattle.stream_check.specs.Deletions.{JudgesDeletion, StopsDeletion}
+
+-- a line's events and its verdict, after the lines that left this standing
+abbrev pub JudgesLine : Setting → Standing → StreamLine → History → Verdict → Type 0
+JudgesLine c st (Addition id lits hints) es v = JudgesAddition c st id lits hints es v
+JudgesLine c st (Deletion lead ids) es v = JudgesDeletion c st.gone ids es v
+
+-- each line is good after the good lines before it, and has one block of events
+abbrev pub AreGood : Setting → List StreamLine → List StreamLine → List History → Type 0
+AreGood c before [] [] = Unit {0}
+AreGood c before [] (block ∷ blocks) = ⊥
+AreGood c before (line ∷ lines) [] = ⊥
+AreGood c before (line ∷ lines) (block ∷ blocks) = JudgesLine c (standing_of c before) line block Good × AreGood c (before ++ line ∷ []) lines blocks
+
+-- the events of the blocks, in order
+abbrev pub joined : List History → History
+joined blocks = flat_map (λ block. block) blocks
+
+-- the bytes are the texts of good lines, and a rest
+pub record BeginsGood (c : Setting) (bytes : List ℕ) (lines : List StreamLine) (rest : List ℕ) (blocks : List History) : Type 0 where
+  pub text : bytes ≡ flat_map text_of lines ++ rest
+  pub fits : AllByRecursion Fits lines
+  pub good : AreGood c [] lines blocks
+
+-- the report after these counts, some more deleted identities, and this ending
+abbrev pub report_of : Tally → ℕ → Ending → Report
+report_of t deleted ending = record { added = t.added; deleted = t.deleted + deleted; empty = t.empty; ending = ending }
+
+-- Behind good lines: a line that is bad, whatever follows it.
+pub record EndsAtLine (c : Setting) (lines : List StreamLine) (rest : List ℕ) (blocks : List History) (report : Report) : Type 0 where
+  pub line : StreamLine
+  pub more : List ℕ
+  pub text : rest ≡ text_of line ++ more
+  pub fits : Fits line
+  pub block : History
+  pub one_block : blocks ≡ block ∷ []
+  pub deleted : ℕ
+  pub fault : Fault
+  pub bad : JudgesLine c (standing_of c lines) line block (Bad deleted fault)
+  pub says : report ≡ report_of (tally_of lines) deleted (endings.Bad (line_number (length lines)) fault)
+
+-- Behind good lines: a text that begins no line, whatever follows it.
+pub record EndsAtText (lines : List StreamLine) (rest : List ℕ) (blocks : List History) (report : Report) : Type 0 where
+  pub fault : LineFault
+  pub text : HasTextFault rest fault
+  pub no_block : blocks ≡ []
+  pub says : report ≡ report_of (tally_of lines) 0 (endings.Bad (line_number (length lines)) (faults.Text fault))
+
+-- Behind good lines: a deletion that stopped for want of memory, whatever follows it.
+pub record EndsAtMemory (c : Setting) (lines : List StreamLine) (rest : List ℕ) (blocks : List History) (report : Report) : Type 0 where
+  pub lead : ℕ
+  pub ids : List ℕ
+  pub more : List ℕ
+  pub text : rest ≡ text_of (Deletion lead ids) ++ more
+  pub fits : Fits (Deletion lead ids)
+  pub block : History
+  pub one_block : blocks ≡ block ∷ []
+  pub earlier : List ℕ
+  pub stops : StopsDeletion c (standing_of c lines).gone ids block earlier
+  pub says : report ≡ report_of (tally_of lines) (length earlier) (endings.Memory (line_number (length lines)))
+
+-- how the reader of a stream ended
+pub data StreamEnd : Type 0 where
+  ended : StreamEnd
+  failed : StreamEnd
+
+-- the ending where all lines are good and this rest begins a line, which has this number
+abbrev pub ending_at : StreamEnd → List ℕ → ℕ → Ending
+ending_at ended [] number = endings.Ended
+ending_at ended (byte ∷ bytes) number = endings.Bad number (faults.Text texts.Truncated)
+ending_at failed rest number = endings.ReadFailed number
+
+-- Behind good lines: the end of the stream, with a rest that may still become a line.
+pub record EndsAtEnd (lines : List StreamLine) (rest : List ℕ) (end : StreamEnd) (blocks : List History) (report : Report) : Type 0 where
+  pub pending : IsPending rest
+  pub no_block : blocks ≡ []
+  pub says : report ≡ report_of (tally_of lines) 0 (ending_at end rest (line_number (length lines)))
+
+abbrev pub EndsAfter : Setting → List StreamLine → List ℕ → StreamEnd → List History → Report → Type 0
+EndsAfter c lines rest end blocks report =
+    EndsAtLine c lines rest blocks report
+    ⊎ (EndsAtText lines rest blocks report
+    ⊎ (EndsAtMemory c lines rest blocks report
+    ⊎ EndsAtEnd lines rest end blocks report))
+
+-- The stream of these bytes and this end, whose lines have these blocks of events, is judged so: its good lines come first, and then what ended it.
+pub record JudgesBlocks (c : Setting) (bytes : List ℕ) (end : StreamEnd) (blocks : List History) (report : Report) : Type 0 where
+  pub lines : List StreamLine
+  pub rest : List ℕ
+  pub front : List History
+  pub back : List History
+  pub split : blocks ≡ front ++ back
+  pub begins : BeginsGood c bytes lines rest front
+  pub ends : EndsAfter c lines rest end back report
+
+-- the stream of these bytes, this end and these events is judged so
+pub record Judges (c : Setting) (bytes : List ℕ) (end : StreamEnd) (es : History) (report : Report) : Type 0 where
+  pub blocks : List History
+  pub events : es ≡ joined blocks
+  pub judges : JudgesBlocks c bytes end blocks report

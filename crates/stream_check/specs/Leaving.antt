@@ -1,0 +1,69 @@
+-- What a checker is, and what it is left as by the bytes and events so far (this project's own).
+use Rattle.std.specs.Prelude.{◌≡◌, ◌+◌, ◌-◌, ◌^◌, ◌&&◌, ◌||◌, ℕ, List, [], length, min}
+use Rattle.lrup_model.specs.Event.{History}
+use Rattle.lrup_text.specs.Lines.{StreamLine, Addition, Deletion, Cut, IsPending}
+use Rattle.stream_check.specs.declared.report.Report.{Report}
+use Rattle.stream_check.specs.Setting.{Setting, side_of, is_shared}
+use Rattle.stream_check.specs.Standing.{Standing, standing_of, is_among, size_of, deleted_by, added_by, adds_empty, Tally, tally_of, line_number}
+use Rattle.stream_check.specs.Judging.{AreGood, joined, ended, failed, Judges}
+
+-- what a checker holds that isn't over: its counts, what good lines left, the text read of the next line, and that line's number
+pub record Holding : Type 0 where
+  pub tally : Tally
+  pub standing : Standing
+  pub pending : List ℕ
+  pub line : ℕ
+
+pub data CheckerState : Type 0 where
+  Going : Holding → CheckerState
+  Over : Report → CheckerState
+
+-- the same last identity and room, and the same dropped ones
+pub record SameStanding (a b : Standing) : Type 0 where
+  pub last : a.last ≡ b.last
+  pub free : a.free ≡ b.free
+  pub gone : (id : ℕ) → a.gone id ≡ b.gone id
+
+-- all lines are good, the rest may still become a line, and the checker holds what they leave
+pub record LeavesGoing (c : Setting) (bytes : List ℕ) (es : History) (now : Holding) : Type 0 where
+  pub lines : List StreamLine
+  pub cut : Cut bytes lines now.pending
+  pub pending : IsPending now.pending
+  pub blocks : List History
+  pub good : AreGood c [] lines blocks
+  pub events : es ≡ joined blocks
+  pub tally : now.tally ≡ tally_of lines
+  pub standing : SameStanding now.standing (standing_of c lines)
+  pub line : now.line ≡ line_number (length lines)
+
+-- The bytes so far, and the events, leave the checker so. One that is over has a report that is right whatever the end is.
+abbrev pub Leaves : Setting → List ℕ → History → CheckerState → Type 0
+Leaves c bytes es (Going now) = LeavesGoing c bytes es now
+Leaves c bytes es (Over report) = Judges c bytes ended es report × Judges c bytes failed es report
+
+-- One good line more
+
+abbrev pub last_after : ℕ → StreamLine → ℕ
+last_after last (Addition id lits hints) = id
+last_after last (Deletion lead ids) = last
+
+abbrev pub standing_after : Setting → Standing → StreamLine → Standing
+standing_after c st line = record {
+  last = last_after st.last line;
+  free = st.free - size_of line;
+  gone = λ id. st.gone id || is_shared (side_of c id) && is_among (deleted_by line) id;
+}
+
+abbrev pub tally_after : Tally → StreamLine → Tally
+tally_after t line = record {
+  added = t.added + added_by line;
+  deleted = t.deleted + length (deleted_by line);
+  empty = t.empty || adds_empty line;
+}
+
+-- what a checker holds after one good line more
+pub record TakesLine (c : Setting) (old : Holding) (taken : StreamLine) (new : Holding) : Type 0 where
+  pub tally : new.tally ≡ tally_after old.tally taken
+  pub standing : SameStanding new.standing (standing_after c old.standing taken)
+  pub pending : new.pending ≡ []
+  pub line : new.line ≡ min (old.line + 1) (2 ^ 64 - 1)

@@ -1,0 +1,9 @@
+pub mod Faults
+pub mod Setting
+pub mod Standing
+pub mod Verdicts
+pub mod Asking
+pub mod Additions
+pub mod Deletions
+pub mod Judging
+pub mod Leaving

@@ -1,0 +1,33 @@
+-- Whose lines are judged, and how this stream sees an identity (this project's own).
+use Rattle.std.specs.Prelude.{◌==◌, ℕ, Bool, true, false, if◌then◌else◌}
+use Rattle.lrup_model.specs.Layout.{Plan, owner}
+use Rattle.lrup_model.specs.declared.layout.Owner.{Owner}
+use Rattle.lrup_model.specs.declared.layout.Owner.TheVariants as owners
+
+-- the layout, the stream, from 1 on, and how often a hint of another stream is fetched again while it is vacant
+pub record Setting : Type 0 where
+  pub layout : Plan
+  pub stream : ℕ
+  pub tries : ℕ
+
+-- whose an identity is, as one stream sees it
+pub data Side : Type 0 where
+  formula : Side
+  own : Side
+  foreign : Side
+  outside : Side
+
+abbrev pub side_for : ℕ → Owner → Side
+side_for s owners.Formula = formula
+side_for s (owners.Stream t) = if t == s then own else foreign
+side_for s owners.Outside = outside
+
+abbrev pub side_of : Setting → ℕ → Side
+side_of c id = side_for c.stream (owner c.layout id)
+
+-- The stream may drop it, but not retire it: it is the formula's or another stream's.
+abbrev pub is_shared : Side → Bool
+is_shared formula = true
+is_shared own = false
+is_shared foreign = true
+is_shared outside = false

@@ -1,0 +1,18 @@
+-- What the judgement of a line comes to, and the ladder of its tests (this project's own).
+-- A line's events are one block. Each test speaks of the events from it on, so that what comes after a fault is seen to be nothing.
+use Rattle.std.specs.Prelude.{◌≡◌, ◌⊎◌, ℕ, []}
+use Rattle.lrup_model.specs.Event.{History}
+use Rattle.stream_check.specs.declared.fault.Fault.{Fault}
+
+-- a bad line comes with the count of the identities that it deleted before the fault
+pub data Verdict : Type 0 where
+  Good : Verdict
+  Bad : (deleted : ℕ) (fault : Fault) → Verdict
+
+-- no more events, and this fault
+abbrev pub Fails : Fault → History → Verdict → Type 0
+Fails fault es v = (es ≡ []) × (v ≡ Bad 0 fault)
+
+-- either the test fails, with this fault, or it holds and what comes next decides
+abbrev pub Test : Type 0 → Fault → History → Verdict → Type 0 → Type 0
+Test Holds fault es v Next = ((¬ Holds) × Fails fault es v) ⊎ (Holds × Next)

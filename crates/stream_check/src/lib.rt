@@ -1,0 +1,8 @@
+//! The judge of one proof stream: what a stream's bytes, their end and its events at a clause map come to.
+#![tactic(auto)]
+
+mod fault;
+mod report;
+
+pub use fault::Fault;
+pub use report::{Ending, Report};

@@ -1,0 +1,28 @@
+//! What is said of a stream in the end.
+use crate::fault::Fault;
+
+/// How a stream ended. A line is named by its number, from 1 on, which stays at 2^64 - 1 once it is there.
+#[derive(Clone, Copy, Debug, PartialEq, Eq)]
+pub enum Ending {
+    /// All lines are good, and the stream ended after the last one.
+    Ended,
+    /// This line is bad, for this fault. What follows it wasn't read as lines.
+    Bad(u64, Fault),
+    /// The reader failed while this line was read, or before its first byte. All lines before it are good.
+    ReadFailed(u64),
+    /// There was no memory to keep an identity that this line drops. All lines before it are good.
+    Memory(u64),
+}
+
+/// What is said of a stream in the end.
+#[derive(Clone, Copy, Debug, PartialEq, Eq)]
+pub struct Report {
+    /// The good additions.
+    pub added: u64,
+    /// The identities that deletions retired or dropped, also those before a bad one in its line.
+    pub deleted: u64,
+    /// Whether a good addition has the empty clause.
+    pub empty: bool,
+    /// How the stream ended.
+    pub ending: Ending,
+}
