@@ -67,3 +67,10 @@ pub record TakesLine (c : Setting) (old : Holding) (taken : StreamLine) (new : H
   pub standing : SameStanding new.standing (standing_after c old.standing taken)
   pub pending : new.pending ≡ []
   pub line : new.line ≡ min (old.line + 1) (2 ^ 64 - 1)
+
+-- what a checker holds before the first byte
+pub record IsFresh (c : Setting) (now : Holding) : Type 0 where
+  pub tally : now.tally ≡ tally_of []
+  pub standing : SameStanding now.standing (standing_of c [])
+  pub pending : now.pending ≡ []
+  pub line : now.line ≡ 1

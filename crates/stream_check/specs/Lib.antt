@@ -7,3 +7,4 @@ pub mod Additions
 pub mod Deletions
 pub mod Judging
 pub mod Leaving
+pub mod Laws

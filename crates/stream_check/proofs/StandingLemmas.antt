@@ -1,0 +1,74 @@
+-- What one good line more leaves.
+use Rattle.std.proofs.Common.{◌≡◌, ◌+◌, ◌-◌, ◌<◌, ◌≤◌, ◌&&◌, ◌||◌, ℕ, ℤ, Bool, true, false, max, List, [], ◌∷◌, ◌++◌, length, inl, inr, refl, sym, ap, subst, ◌∙◌, arith, append_assoc, append-nil}
+use mathlib.Core.Path.{fun_ext}
+use Rattle.std.specs.List.{list_any, sum_by}
+use Rattle.std.proofs.lemmas.List.Folds.{list_any-append}
+use Rattle.std.proofs.lemmas.List.Sums.{sum_by-append}
+use Rattle.lrup_model.specs.Layout.{Plan}
+use Rattle.lrup_model.specs.Event.{History}
+use Rattle.lrup_text.specs.Lines.{StreamLine, Addition, Deletion}
+use Rattle.stream_check.specs.Setting.{Setting, side_of, is_shared}
+use Rattle.stream_check.specs.Standing.{Standing, Tally, last_in, size_of, deleted_by, added_by, adds_empty, is_among, is_gone, standing_of, tally_of}
+use Rattle.stream_check.specs.Verdicts.{Verdict, Good, Bad}
+use Rattle.stream_check.specs.Judging.{JudgesLine}
+use Rattle.stream_check.specs.Leaving.{SameStanding, standing_after, tally_after, last_after}
+
+-- the last identity after one line more
+last_in-snoc : (p : Plan) (lines : List StreamLine) (id : ℕ) (lits : List ℤ) (hints : List ℕ) → last_in p (lines ++ Addition id lits hints ∷ []) ≡ max (last_in p lines) id
+last_in-snoc p [] id lits hints = omega arith
+last_in-snoc p (Addition j ls hs ∷ lines) id lits hints = let e = last_in-snoc p lines id lits hints in omega (arith, e)
+last_in-snoc p (Deletion lead ids ∷ lines) id lits hints = last_in-snoc p lines id lits hints
+
+last_in-snoc_deletion : (p : Plan) (lines : List StreamLine) (lead : ℕ) (ids : List ℕ) → last_in p (lines ++ Deletion lead ids ∷ []) ≡ last_in p lines
+last_in-snoc_deletion p [] lead ids = refl
+last_in-snoc_deletion p (Addition j ls hs ∷ lines) lead ids = ap (max j) (last_in-snoc_deletion p lines lead ids)
+last_in-snoc_deletion p (Deletion l is ∷ lines) lead ids = last_in-snoc_deletion p lines lead ids
+
+-- a good addition has an identity above those before it
+last_below : (c : Setting) (st : Standing) (id : ℕ) (lits : List ℤ) (hints : List ℕ) (es : History) → JudgesLine c st (Addition id lits hints) es Good → st.last < id
+last_below c st id lits hints es j = elim j [ inl bad ↦ absurd (let e : Good ≡ Bad 0 _ = bad.1.1 in cc) | inr next ↦ next.0.1 ]
+
+same_last : (c : Setting) (lines : List StreamLine) (line : StreamLine) (es : History) → JudgesLine c (standing_of c lines) line es Good → last_in c.layout (lines ++ line ∷ []) ≡ last_after (last_in c.layout lines) line
+same_last c lines (Addition id lits hints) es j =
+    let below = last_below c (standing_of c lines) id lits hints es j in
+    omega (arith, last_in-snoc c.layout lines id lits hints, below)
+same_last c lines (Deletion lead ids) es j = last_in-snoc_deletion c.layout lines lead ids
+
+and_or : (s a b : Bool) → (s && (a || (b || false))) ≡ (s && a || s && b)
+and_or true true b = refl
+and_or true false true = refl
+and_or true false false = refl
+and_or false a b = refl
+
+-- the standing after one good line more
+pub standing_of-snoc : (c : Setting) (lines : List StreamLine) (line : StreamLine) (es : History) → JudgesLine c (standing_of c lines) line es Good → SameStanding (standing_after c (standing_of c lines) line) (standing_of c (lines ++ line ∷ []))
+standing_of-snoc c lines line es j = record {
+  last = sym (same_last c lines line es j);
+  free = omega (arith, sum_by-append size_of lines (line ∷ []));
+  gone = λ id.
+      let test : StreamLine → Bool = λ l. is_among (deleted_by l) id in
+      sym (ap (λ b. is_shared (side_of c id) && b) (list_any-append test lines (line ∷ []))
+      ∙ and_or (is_shared (side_of c id)) (list_any test lines) (test line));
+}
+
+or_false : (a : Bool) → (a || false) ≡ a
+or_false true = refl
+or_false false = refl
+
+same_tally : (a b : Tally) → a.added ≡ b.added → a.deleted ≡ b.deleted → a.empty ≡ b.empty → a ≡ b
+same_tally a b added deleted empty =
+    let made : ℕ → ℕ → Bool → Tally = λ x y z. record { added = x; deleted = y; empty = z } in
+    ap (λ x. made x a.deleted a.empty) added ∙ ap (λ y. made b.added y a.empty) deleted ∙ ap (λ z. made b.added b.deleted z) empty
+
+-- the counts after one good line more
+pub tally_of-snoc : (lines : List StreamLine) (line : StreamLine) → tally_after (tally_of lines) line ≡ tally_of (lines ++ line ∷ [])
+tally_of-snoc lines line = same_tally (tally_after (tally_of lines) line) (tally_of (lines ++ line ∷ []))
+    (omega (arith, sum_by-append added_by lines (line ∷ [])))
+    (omega (arith, sum_by-append (λ l. length (deleted_by l)) lines (line ∷ [])))
+    (sym (list_any-append adds_empty lines (line ∷ []) ∙ ap (λ t. list_any adds_empty lines || t) (or_false (adds_empty line))))
+
+-- standings that are the same are equal
+pub same_standing : (a b : Standing) → SameStanding a b → a ≡ b
+same_standing a b s =
+    let made : ℕ → ℕ → (ℕ → Bool) → Standing = λ l f g. record { last = l; free = f; gone = g } in
+    ap (λ l. made l a.free a.gone) s.last ∙ ap (λ f. made b.last f a.gone) s.free ∙ ap (λ g. made b.last b.free g) (fun_ext s.gone)

@@ -1,0 +1,5 @@
+use Rattle.stream_check.proofs.LeavingLemmas.{end_judged as lemma}
+use Rattle.stream_check.proofs.laws.end_judged.Goals as goal
+
+pub returns : goal.returns
+returns c = lemma

@@ -1,0 +1,5 @@
+use Rattle.stream_check.proofs.LeavingLemmas.{pending_grows as lemma}
+use Rattle.stream_check.proofs.laws.pending_grows.Goals as goal
+
+pub returns : goal.returns
+returns c = lemma

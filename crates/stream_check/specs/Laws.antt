@@ -1,0 +1,65 @@
+-- Laws of judging. Each is the contract of a function of laws.
+use Rattle.std.specs.Prelude.{◌≡◌, ◌++◌, ℕ, List, [], ◌∷◌, length}
+use Rattle.lrup_model.specs.Event.{History}
+use Rattle.lrup_text.specs.declared.LineFault.{LineFault}
+use Rattle.lrup_text.specs.Lines.{StreamLine, Deletion, LineText, IsPending}
+use Rattle.lrup_text.specs.Faults.{IsRefused}
+use Rattle.stream_check.specs.declared.fault.Fault.{Fault}
+use Rattle.stream_check.specs.declared.fault.Fault.TheVariants as faults
+use Rattle.stream_check.specs.declared.report.Ending.TheVariants as endings
+use Rattle.stream_check.specs.declared.report.Report.{Report}
+use Rattle.stream_check.specs.Setting.{Setting}
+use Rattle.stream_check.specs.Verdicts.{Good, Bad}
+use Rattle.stream_check.specs.Deletions.{StopsDeletion}
+use Rattle.stream_check.specs.Judging.{JudgesLine, report_of, StreamEnd, ending_at, Judges}
+use Rattle.stream_check.specs.Leaving.{Holding, Going, Over, Leaves, IsFresh, TakesLine}
+
+-- What a checker is left as, step by step
+
+-- no bytes and no events
+abbrev pub FreshLeft : Type 0
+FreshLeft = (c : Setting) (now : Holding) → IsFresh c now → Leaves c [] [] (Going now)
+
+-- more bytes of a line
+abbrev pub PendingGrows : Type 0
+PendingGrows = (c : Setting) (bytes piece : List ℕ) (es : History) (old : Holding)
+    → Leaves c bytes es (Going old) → IsPending (old.pending ++ piece)
+    → Leaves c (bytes ++ piece) es (Going (record old { pending = old.pending ++ piece }))
+
+-- one good line more
+abbrev pub GoodLineTaken : Type 0
+GoodLineTaken = (c : Setting) (bytes piece : List ℕ) (es block : History) (old new : Holding) (line : StreamLine)
+    → Leaves c bytes es (Going old) → LineText line (old.pending ++ piece)
+    → JudgesLine c old.standing line block Good → TakesLine c old line new
+    → Leaves c (bytes ++ piece) (es ++ block) (Going new)
+
+-- a bad line
+abbrev pub BadLineTaken : Type 0
+BadLineTaken = (c : Setting) (bytes piece : List ℕ) (es block : History) (old : Holding) (line : StreamLine) (deleted : ℕ) (fault : Fault)
+    → Leaves c bytes es (Going old) → LineText line (old.pending ++ piece)
+    → JudgesLine c old.standing line block (Bad deleted fault)
+    → Leaves c (bytes ++ piece) (es ++ block) (Over (report_of old.tally deleted (endings.Bad old.line fault)))
+
+-- a text that begins no line
+abbrev pub BadTextRead : Type 0
+BadTextRead = (c : Setting) (bytes piece : List ℕ) (es : History) (old : Holding) (fault : LineFault)
+    → Leaves c bytes es (Going old) → IsRefused (old.pending ++ piece) fault
+    → Leaves c (bytes ++ piece) es (Over (report_of old.tally 0 (endings.Bad old.line (faults.Text fault))))
+
+-- a deletion that stopped for want of memory
+abbrev pub MemoryWanted : Type 0
+MemoryWanted = (c : Setting) (bytes piece : List ℕ) (es block : History) (old : Holding) (lead : ℕ) (ids earlier : List ℕ)
+    → Leaves c bytes es (Going old) → LineText (Deletion lead ids) (old.pending ++ piece)
+    → StopsDeletion c old.standing.gone ids block earlier
+    → Leaves c (bytes ++ piece) (es ++ block) (Over (report_of old.tally (length earlier) (endings.Memory old.line)))
+
+-- the end of the stream, or a failed read
+abbrev pub EndJudged : Type 0
+EndJudged = (c : Setting) (bytes : List ℕ) (es : History) (old : Holding) (end : StreamEnd)
+    → Leaves c bytes es (Going old)
+    → Judges c bytes end es (report_of old.tally 0 (ending_at end old.pending old.line))
+
+-- a checker that is over stays as it is, whatever follows
+abbrev pub OverStays : Type 0
+OverStays = (c : Setting) (bytes more : List ℕ) (es : History) (report : Report)
+    → Leaves c bytes es (Over report) → Leaves c (bytes ++ more) es (Over report)

@@ -1,0 +1,50 @@
+//! Laws of judging. Each function does nothing; its contract is the law, which holds of every stream, layout and history.
+ghost use Rattle.stream_check.specs.Laws.{FreshLeft, PendingGrows, GoodLineTaken, BadLineTaken, BadTextRead, MemoryWanted, EndJudged, OverStays};
+
+use lrup_text::laws::{no_bytes_have_no_lines, texts_are_lines};
+
+/// No bytes and no events leave a checker fresh.
+pub fn fresh_left()
+    ensures { FreshLeft }
+{
+    texts_are_lines();
+    no_bytes_have_no_lines();
+}
+
+/// More bytes of a line are pending.
+pub fn pending_grows()
+    ensures { PendingGrows }
+{}
+
+/// One good line more is taken, with its events.
+pub fn good_line_taken()
+    ensures { GoodLineTaken }
+{
+    texts_are_lines();
+    no_bytes_have_no_lines();
+}
+
+/// A bad line leaves a checker over, with its fault.
+pub fn bad_line_taken()
+    ensures { BadLineTaken }
+{}
+
+/// A text that begins no line leaves a checker over, with its fault.
+pub fn bad_text_read()
+    ensures { BadTextRead }
+{}
+
+/// A deletion that stopped for want of memory leaves a checker over.
+pub fn memory_wanted()
+    ensures { MemoryWanted }
+{}
+
+/// The end of a stream, or a failed read, is judged by what the checker holds.
+pub fn end_judged()
+    ensures { EndJudged }
+{}
+
+/// A checker that is over stays as it is, whatever follows.
+pub fn over_stays()
+    ensures { OverStays }
+{}
