@@ -7,4 +7,5 @@ pub mod Additions
 pub mod Deletions
 pub mod Judging
 pub mod Leaving
+pub mod Forks
 pub mod Laws
