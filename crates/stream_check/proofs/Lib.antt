@@ -2,3 +2,4 @@ pub mod StandingLemmas
 pub mod LeavingLemmas
 pub mod ForkLemmas
 pub mod AgreeLemmas
+pub mod StreamLemmas

@@ -11,7 +11,8 @@ use Rattle.stream_check.specs.declared.report.Report.{Report}
 use Rattle.stream_check.specs.Setting.{Setting}
 use Rattle.stream_check.specs.Verdicts.{Good, Bad}
 use Rattle.stream_check.specs.Deletions.{StopsDeletion}
-use Rattle.stream_check.specs.Judging.{JudgesLine, report_of, StreamEnd, ending_at, Judges}
+use Rattle.stream_check.specs.Judging.{JudgesLine, joined, report_of, StreamEnd, ending_at, JudgesBlocks, Judges}
+use Rattle.stream_check.specs.Forks.{NeverFork}
 use Rattle.stream_check.specs.Leaving.{Holding, Going, Over, Leaves, IsFresh, TakesLine}
 
 -- What a checker is left as, step by step
@@ -63,3 +64,25 @@ EndJudged = (c : Setting) (bytes : List ℕ) (es : History) (old : Holding) (end
 abbrev pub OverStays : Type 0
 OverStays = (c : Setting) (bytes more : List ℕ) (es : History) (report : Report)
     → Leaves c bytes es (Over report) → Leaves c (bytes ++ more) es (Over report)
+
+-- One report
+
+-- the report tells of want of memory
+abbrev pub IsOfMemory : Report → Type 0
+IsOfMemory report = (line : ℕ) × (report.ending ≡ endings.Memory line)
+
+-- a stream's bytes, end and events have one report at most, and one list of blocks, but for want of memory
+abbrev pub OneReport : Type 0
+OneReport = (c : Setting) (bytes : List ℕ) (end : StreamEnd) (blocks others : List History) (report other : Report)
+    → joined blocks ≡ joined others
+    → JudgesBlocks c bytes end blocks report → JudgesBlocks c bytes end others other
+    → ¬ IsOfMemory report → ¬ IsOfMemory other
+    → (blocks ≡ others) × (report ≡ other)
+
+-- replies decide: events that never fork are judged alike
+abbrev pub RepliesDecide : Type 0
+RepliesDecide = (c : Setting) (bytes : List ℕ) (end : StreamEnd) (blocks others : List History) (report other : Report)
+    → NeverFork (joined blocks) (joined others)
+    → JudgesBlocks c bytes end blocks report → JudgesBlocks c bytes end others other
+    → ¬ IsOfMemory report → ¬ IsOfMemory other
+    → (blocks ≡ others) × (report ≡ other)

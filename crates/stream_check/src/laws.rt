@@ -1,7 +1,9 @@
 //! Laws of judging. Each function does nothing; its contract is the law, which holds of every stream, layout and history.
-ghost use Rattle.stream_check.specs.Laws.{FreshLeft, PendingGrows, GoodLineTaken, BadLineTaken, BadTextRead, MemoryWanted, EndJudged, OverStays};
+ghost use Rattle.stream_check.specs.Laws.{FreshLeft, PendingGrows, GoodLineTaken, BadLineTaken, BadTextRead, MemoryWanted, EndJudged, OverStays, OneReport, RepliesDecide};
 
-use lrup_text::laws::{no_bytes_have_no_lines, texts_are_lines};
+use lrup_text::laws::{
+    a_text_has_one_fault, a_text_spells_one_line, no_bytes_have_no_lines, no_text_begins_another, texts_are_lines,
+};
 
 /// No bytes and no events leave a checker fresh.
 pub fn fresh_left()
@@ -48,3 +50,23 @@ pub fn end_judged()
 pub fn over_stays()
     ensures { OverStays }
 {}
+
+/// A stream's bytes, end and events have one report and one list of blocks, but for want of memory.
+pub fn one_report()
+    ensures { OneReport }
+{
+    a_text_spells_one_line();
+    no_text_begins_another();
+    texts_are_lines();
+    a_text_has_one_fault();
+}
+
+/// Where the same call, after the same events, never has another reply, a stream is judged alike.
+pub fn replies_decide()
+    ensures { RepliesDecide }
+{
+    a_text_spells_one_line();
+    no_text_begins_another();
+    texts_are_lines();
+    a_text_has_one_fault();
+}
