@@ -8,4 +8,6 @@ pub mod Deletions
 pub mod Judging
 pub mod Leaving
 pub mod Forks
+pub mod Reducing
+pub mod Finding
 pub mod Laws
