@@ -5,3 +5,5 @@ pub mod AgreeLemmas
 pub mod StreamLemmas
 pub mod LegalLemmas
 pub mod ReducedLemmas
+pub mod EventLemmas
+pub mod FindingLemmas
