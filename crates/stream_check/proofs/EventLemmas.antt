@@ -1,13 +1,11 @@
 -- The events of a line.
-use Rattle.std.proofs.Common.{◌≡◌, ◌⊎◌, ◌<◌, ◌≤◌, ◌&&◌, ℕ, zero, suc, ℤ, neg_ℤ, nat_abs, Bool, true, false, List, [], ◌∷◌, ◌++◌, length, replicate, inl, inr, refl, sym, ap, subst, ◌∙◌, append_assoc, append-nil}
+use Rattle.std.proofs.Common.{◌≡◌, ◌<◌, ◌≤◌, ℕ, zero, suc, ℤ, neg_ℤ, nat_abs, Bool, false, List, [], ◌∷◌, ◌++◌, length, replicate, inl, inr, refl, sym, ap, subst, ◌∙◌, append_assoc}
 use Rattle.std.specs.List.{AllByRecursion}
 use Rattle.lrup_model.specs.Clause.{Clause, IsTautology}
 use Rattle.lrup_model.specs.Layout.{Owns}
 use Rattle.lrup_model.specs.Event as events
 use Rattle.lrup_model.specs.Event.{Event, History, Reply, stream_of}
-use Rattle.lrup_model.specs.Propagation.{IsConflict, IsUnit}
 use Rattle.lrup_model.specs.declared.clause_map.Published.{Published}
-use Rattle.lrup_model.specs.declared.clause_map.Retired.{Retired}
 use Rattle.lrup_model.specs.declared.clause_map.Retired.TheVariants as retiring
 use Rattle.lrup_text.specs.Lines.{StreamLine, Addition, Deletion}
 use Rattle.propagate.specs.Different.{different}
@@ -15,12 +13,12 @@ use Rattle.stream_check.specs.declared.fault.Fault.{Fault}
 use Rattle.stream_check.specs.declared.fault.Fault.TheVariants as faults
 use Rattle.stream_check.specs.Setting.{Setting, Side, formula, own, foreign, outside, side_of}
 use Rattle.stream_check.specs.Standing.{Standing}
-use Rattle.stream_check.specs.Verdicts.{Verdict, Good, Bad, Fails, Test}
+use Rattle.stream_check.specs.Verdicts.{Verdict, Test}
 use Rattle.stream_check.specs.Asking.{AsksAt, Asks, AsksThen}
-use Rattle.stream_check.specs.Additions.{AtConflict, AtClause, AtReply, JudgesHints, published_by, JudgesAddition}
-use Rattle.stream_check.specs.Deletions.{FailsAt, RetiresThen, DropsThen, DeletesAt, JudgesIdentities}
+use Rattle.stream_check.specs.Additions.{AtConflict, AtReply, JudgesHints, published_by}
+use Rattle.stream_check.specs.Deletions.{DeletesAt, JudgesIdentities}
 use Rattle.stream_check.specs.Judging.{JudgesLine}
-use Rattle.stream_check.specs.Reducing.{IsEarly, IsFetchOf, StartsWithFetchOf, TriesAgain}
+use Rattle.stream_check.specs.Reducing.{IsEarly, StartsWithFetchOf, TriesAgain}
 use Rattle.stream_check.specs.Laws.{LineCalls, EarlyEvents, VacantTriesAgain}
 
 -- Something that holds of the events of a line, from the last one on
@@ -63,11 +61,11 @@ module _ (c : Setting) (P : History → Type 0) (holds : Holds c P) where
   hints_hold gone id lits n (h ∷ hints) es v judged =
       let At : Reply → History → Type 0 = λ x rest. AtReply x n h hints (published_by c id lits) rest v (λ m. JudgesHints c gone (published_by c id lits) m hints rest v) in
       test_holds (gone h ≡ false) (faults.Dropped h) es v (AsksThen c h es At)
-          (λ a. subst P (sym a.events) (holds.asked h a.asked a.rest a.reply a.asks
-              (vacant_ends a.reply n h hints (published_by c id lits) a.rest v (λ m. JudgesHints c gone (published_by c id lits) m hints a.rest v) a.next)
-              (reply_holds a.reply n h hints id lits a.rest v (λ m. JudgesHints c gone (published_by c id lits) m hints a.rest v)
-                  (λ m k. hints_hold gone id lits m hints a.rest v k) a.next)))
-          judged
+      (λ a. subst P (sym a.events) (holds.asked h a.asked a.rest a.reply a.asks
+      (vacant_ends a.reply n h hints (published_by c id lits) a.rest v (λ m. JudgesHints c gone (published_by c id lits) m hints a.rest v) a.next)
+      (reply_holds a.reply n h hints id lits a.rest v (λ m. JudgesHints c gone (published_by c id lits) m hints a.rest v)
+      (λ m k. hints_hold gone id lits m hints a.rest v k) a.next)))
+      judged
 
   at_holds : (side : Side) (gone : ℕ → Bool) (earlier : List ℕ) (id : ℕ) (es : History) (v : Verdict) (A : History → Type 0)
       → ((rest : History) → A rest → P rest) → DeletesAt side c gone earlier id es v A → P es
@@ -77,15 +75,15 @@ module _ (c : Setting) (P : History → Type 0) (holds : Holds c P) where
   at_holds foreign gone earlier id es v A next (inr good) = next es good.1
   at_holds outside gone earlier id es v A next at = none_holds es at.0
   at_holds own gone earlier id es v A next at = elim at.decided [
-      inl good ↦ subst P (sym good.0) (holds.retired id at.rest (next at.rest good.1))
+    | inl good ↦ subst P (sym good.0) (holds.retired id at.rest (next at.rest good.1))
     | inr bad ↦ subst P (sym (bad.0 ∙ ap (λ r. events.retire c.stream id retiring.NotLive ∷ r) bad.1)) (holds.refused id)
-    ]
+  ]
 
   identities_hold : (gone : ℕ → Bool) (earlier ids : List ℕ) (es : History) (v : Verdict) → JudgesIdentities c gone earlier ids es v → P es
   identities_hold gone earlier [] es v judged = none_holds es judged.0
   identities_hold gone earlier (id ∷ ids) es v judged =
       at_holds (side_of c id) gone earlier id es v (λ rest. JudgesIdentities c gone (earlier ++ id ∷ []) ids rest v)
-          (λ rest k. identities_hold gone (earlier ++ id ∷ []) ids rest v k) judged
+      (λ rest k. identities_hold gone (earlier ++ id ∷ []) ids rest v k) judged
 
   pub line_holds : (st : Standing) (line : StreamLine) (es : History) (v : Verdict) → JudgesLine c st line es v → P es
   line_holds st (Addition id lits hints) es v judged =

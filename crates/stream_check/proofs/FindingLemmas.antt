@@ -1,5 +1,5 @@
 -- Good additions, and the clauses that their hints found.
-use Rattle.std.proofs.Common.{◌≡◌, ◌≢◌, ◌⊎◌, ◌↔◌, ◌<◌, ◌≤◌, ℕ, zero, suc, ℤ, neg_ℤ, nat_abs, Bool, true, false, not, List, [], ◌∷◌, ◌++◌, length, replicate, inl, inr, refl, sym, ap, subst, ◌∙◌, append_assoc, append-nil}
+use Rattle.std.proofs.Common.{◌≡◌, ◌≢◌, ◌⊎◌, ℕ, ℤ, neg_ℤ, Bool, true, false, not, List, [], ◌∷◌, ◌++◌, replicate, inl, inr, refl, sym, ap, subst, ◌∙◌, append_assoc, append-nil}
 use Rattle.std.specs.List.{AllByRecursion, filter}
 use Rattle.std.specs.Ordering.{int_eq}
 use Rattle.std.proofs.lemmas.Bool.Decides.{Decides-int_eq}
@@ -7,19 +7,18 @@ use Rattle.std.proofs.lemmas.Bool.{cond-true, cond-false, false_from_ne_true}
 use Rattle.lrup_model.specs.Clause.{Clause, Has, IsClause, IsTautology}
 use Rattle.lrup_model.specs.Formula.{Cnf}
 use Rattle.lrup_model.specs.Entailment.{Follows}
-use Rattle.lrup_model.specs.Layout.{Owns}
 use Rattle.lrup_model.specs.Event as events
 use Rattle.lrup_model.specs.Event.{Event, History, Reply}
-use Rattle.lrup_model.specs.Propagation.{IsConflict, IsUnit, Refutes, Accepts}
+use Rattle.lrup_model.specs.Propagation.{IsConflict, IsUnit, Refutes}
 use Rattle.lrup_model.specs.Laws.{PropagationSound}
 use Rattle.propagate.specs.Different.{different}
 use Rattle.stream_check.specs.declared.fault.Fault.{Fault}
 use Rattle.stream_check.specs.declared.fault.Fault.TheVariants as faults
 use Rattle.stream_check.specs.Setting.{Setting, Side, formula, own, foreign, outside, side_of}
 use Rattle.stream_check.specs.Standing.{Standing}
-use Rattle.stream_check.specs.Verdicts.{Verdict, Good, Bad, Fails, Test}
-use Rattle.stream_check.specs.Asking.{AsksAt, Asks, AsksThen}
-use Rattle.stream_check.specs.Additions.{AtConflict, AtClause, AtReply, JudgesHints, published_by, JudgesAddition}
+use Rattle.stream_check.specs.Verdicts.{Good, Bad, Fails}
+use Rattle.stream_check.specs.Asking.{AsksAt, Asks}
+use Rattle.stream_check.specs.Additions.{AtConflict, AtReply, JudgesHints, published_by, JudgesAddition}
 use Rattle.stream_check.specs.Finding.{AreFound, IsGoodAddition, FindsSound}
 use Rattle.stream_check.specs.Laws.{GoodExactlyIf, GoodFollows}
 
@@ -27,9 +26,9 @@ use Rattle.stream_check.specs.Laws.{GoodExactlyIf, GoodFollows}
 
 int_cases : (x y : ℤ) → (x ≡ y) ⊎ (x ≢ y)
 int_cases x y = elim (int_eq x y) as (λ b. int_eq x y ≡ b → (x ≡ y) ⊎ (x ≢ y)) [
-    true ↦ λ e. inl ((Decides-int_eq x y).0 e)
+  | true ↦ λ e. inl ((Decides-int_eq x y).0 e)
   | false ↦ λ e. inr (λ same. let f : false ≡ true = sym e ∙ (Decides-int_eq x y).1 same in cc)
-  ] refl
+] refl
 
 abbrev others : ℤ → List ℤ → List ℤ
 others x ls = filter (λ y. not (int_eq y x)) ls
@@ -43,19 +42,19 @@ others-other x y ls ne = cond-true (not (int_eq y x)) (y ∷ others x ls) (other
 Has-from_others : (x : ℤ) (ls : List ℤ) (l : ℤ) → Has (others x ls) l → Has ls l
 Has-from_others x [] l h = absurd h
 Has-from_others x (y ∷ ls) l h = elim (int_cases y x) [
-    inl e ↦ inr (Has-from_others x ls l (subst (λ m. Has m l) (others-same x y ls e) h))
+  | inl e ↦ inr (Has-from_others x ls l (subst (λ m. Has m l) (others-same x y ls e) h))
   | inr ne ↦
       let g : (y ≡ l) ⊎ Has (others x ls) l = subst (λ m. Has m l) (others-other x y ls ne) h in
       elim g [ inl e ↦ inl e | inr t ↦ inr (Has-from_others x ls l t) ]
-  ]
+]
 
 Has-others : (x : ℤ) (ls : List ℤ) (l : ℤ) → Has ls l → l ≢ x → Has (others x ls) l
 Has-others x [] l h ne = h
 Has-others x (y ∷ ls) l (inl e) ne = subst (λ m. Has m l) (sym (others-other x y ls (λ same. ne (sym e ∙ same)))) (inl e)
 Has-others x (y ∷ ls) l (inr h) ne = elim (int_cases y x) [
-    inl e ↦ subst (λ m. Has m l) (sym (others-same x y ls e)) (Has-others x ls l h ne)
+  | inl e ↦ subst (λ m. Has m l) (sym (others-same x y ls e)) (Has-others x ls l h ne)
   | inr other ↦ subst (λ m. Has m l) (sym (others-other x y ls other)) (inr (Has-others x ls l h ne))
-  ]
+]
 
 pub Has-from_different : (ls : List ℤ) (l : ℤ) → Has (different ls) l → Has ls l
 Has-from_different [] l h = h
@@ -66,9 +65,9 @@ pub Has-different : (ls : List ℤ) (l : ℤ) → Has ls l → Has (different ls
 Has-different [] l h = h
 Has-different (x ∷ ls) l (inl e) = inl e
 Has-different (x ∷ ls) l (inr h) = elim (int_cases l x) [
-    inl e ↦ inl (sym e)
+  | inl e ↦ inl (sym e)
   | inr ne ↦ inr (Has-others x (different ls) l (Has-different ls l h) ne)
-  ]
+]
 
 tautology_from : (ls : List ℤ) → IsTautology (different ls) → IsTautology ls
 tautology_from ls t = (t.0, Has-from_different ls t.0 t.1, Has-from_different ls (neg_ℤ t.0) t.2)
@@ -136,7 +135,7 @@ hints_show c gone published n (h ∷ hints) es (inl bad) = absurd (fails_not (fa
 hints_show c gone published n (h ∷ hints) es (inr good) =
     let a = good.1 in
     shown_reply a.reply c gone published n h hints es a.asked a.rest (λ m. JudgesHints c gone published m hints a.rest Good)
-        (λ m k. hints_show c gone published m hints a.rest k) good.0 a.events a.asks a.next
+    (λ m k. hints_show c gone published m hints a.rest k) good.0 a.events a.asks a.next
 
 -- And back
 
@@ -152,26 +151,35 @@ shown_judged c gone published n (h ∷ hints) [] es fetches found refutes e = ab
 shown_judged c gone published n (h ∷ hints) (d ∷ []) es fetches found refutes e =
     let asked = found.1.0 in
     let none = found_none c gone hints found.1.1 found.1.4 in
-    inr (found.0, record {
-      asked = asked;
-      reply = events.live d;
-      rest = published ∷ [];
-      events = e ∙ ap (λ f. f ++ published ∷ []) (found.1.2 ∙ ap (λ r. asked ++ r) none.1 ∙ append-nil asked);
-      asks = found.1.3;
-      next = inl (refutes, subst (λ hs. AtConflict hs published (published ∷ []) Good) (sym none.0) (refl, refl));
-    })
+    inr (
+      found.0,
+      record {
+        asked = asked;
+        reply = events.live d;
+        rest = published ∷ [];
+        events = e ∙ ap (λ f. f ++ published ∷ []) (found.1.2 ∙ ap (λ r. asked ++ r) none.1 ∙ append-nil asked);
+        asks = found.1.3;
+        next = inl (refutes, subst (λ hs. AtConflict hs published (published ∷ []) Good) (sym none.0) (refl, refl));
+      },
+    )
 shown_judged c gone published n (h ∷ hints) (d ∷ d' ∷ ds) es fetches found refutes e =
     let asked = found.1.0 in
     let rest = found.1.1 in
-    inr (found.0, record {
-      asked = asked;
-      reply = events.live d;
-      rest = rest ++ published ∷ [];
-      events = e ∙ ap (λ f. f ++ published ∷ []) found.1.2 ∙ append_assoc asked rest (published ∷ []);
-      asks = found.1.3;
-      next = inr (inl (refutes.0, refutes.1,
-          shown_judged c gone published (n ++ neg_ℤ refutes.0 ∷ []) hints (d' ∷ ds) (rest ++ published ∷ []) rest found.1.4 refutes.2 refl));
-    })
+    inr (
+      found.0,
+      record {
+        asked = asked;
+        reply = events.live d;
+        rest = rest ++ published ∷ [];
+        events = e ∙ ap (λ f. f ++ published ∷ []) found.1.2 ∙ append_assoc asked rest (published ∷ []);
+        asks = found.1.3;
+        next = inr (inl (
+          refutes.0,
+          refutes.1,
+          shown_judged c gone published (n ++ neg_ℤ refutes.0 ∷ []) hints (d' ∷ ds) (rest ++ published ∷ []) rest found.1.4 refutes.2 refl,
+        ));
+      },
+    )
 
 good_shown : (c : Setting) (st : Standing) (id : ℕ) (lits : List ℤ) (hints : List ℕ) (es : History) → JudgesAddition c st id lits hints es Good → IsGoodAddition c st id lits hints es
 good_shown c st id lits hints es (inl bad) = absurd (fails_not faults.Identity es bad.1)
@@ -194,8 +202,19 @@ good_shown c st id lits hints es (inr (a, inr (b, inr (d, inr (e, judged))))) =
 
 shown_good : (c : Setting) (st : Standing) (id : ℕ) (lits : List ℤ) (hints : List ℕ) (es : History) → IsGoodAddition c st id lits hints es → JudgesAddition c st id lits hints es Good
 shown_good c st id lits hints es g =
-    inr ((g.owns, g.above), inr (g.literals, inr ((λ t. g.accepts.0 (tautology_of lits t)), inr (g.room,
-    shown_judged c st.gone (published_by c id lits) (different lits) hints g.clauses es g.fetches g.found g.accepts.1 g.published))))
+    inr (
+      (g.owns, g.above),
+      inr (
+        g.literals,
+        inr (
+          (λ t. g.accepts.0 (tautology_of lits t)),
+          inr (
+            g.room,
+            shown_judged c st.gone (published_by c id lits) (different lits) hints g.clauses es g.fetches g.found g.accepts.1 g.published,
+          ),
+        ),
+      ),
+    )
 
 pub good_exactly_if : GoodExactlyIf
 good_exactly_if c st id lits hints es = (good_shown c st id lits hints es, shown_good c st id lits hints es)
@@ -212,7 +231,7 @@ live_sound formula f c h asked d asks all = (subst (AllByRecursion (FindsSound f
 live_sound own f c h asked d asks all = (subst (AllByRecursion (FindsSound f)) asks all).0
 live_sound foreign f c h asked d asks all =
     (all_front (FindsSound f) (replicate asks.0 (events.fetch c.stream h events.vacant)) (events.fetch c.stream h (events.live d) ∷ [])
-        (subst (AllByRecursion (FindsSound f)) asks.3 all)).1.0
+    (subst (AllByRecursion (FindsSound f)) asks.3 all)).1.0
 live_sound outside f c h asked d asks all = absurd (let e : events.live d ≡ events.vacant = asks.1 in cc)
 
 found_sound : (f : Cnf) (c : Setting) (gone : ℕ → Bool) (hints : List ℕ) (ds : List Clause) (es : History) → AreFound c gone hints ds es → AllByRecursion (FindsSound f) es → AllByRecursion (λ d. IsClause f.vars d × Follows f d) ds

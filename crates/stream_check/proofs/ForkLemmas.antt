@@ -1,8 +1,8 @@
 -- Lists of events that never fork.
-use Rattle.std.proofs.Common.{◌≡◌, ◌+◌, ◌≤◌, ℕ, zero, suc, List, [], ◌∷◌, ◌++◌, replicate, refl, sym, ap, subst, ◌∙◌, arith, append_assoc}
+use Rattle.std.proofs.Common.{◌≡◌, ◌+◌, ◌≤◌, ℕ, zero, suc, [], ◌∷◌, ◌++◌, replicate, refl, sym, ap, subst, ◌∙◌, arith}
 use Rattle.lrup_model.specs.Event.{Event, History, Reply, vacant, fetch, publish, retire}
 use Rattle.stream_check.specs.Setting.{Setting, Side, formula, own, foreign, outside, side_of}
-use Rattle.stream_check.specs.Asking.{FetchesUpTo, AsksAt, Asks}
+use Rattle.stream_check.specs.Asking.{AsksAt, Asks}
 use Rattle.stream_check.specs.Forks.{IsSameCall, NeverFork}
 
 same_call_turned : (d e : Event) → IsSameCall d e → IsSameCall e d
@@ -46,7 +46,7 @@ same_fetches s id most done (suc k) zero x y q r a b last other never =
     let e = never.0 (refl, refl) in let vacant_one : y ≡ vacant = cc in let full = other vacant_one in absurd (omega arith)
 same_fetches s id most done (suc k) (suc j) x y q r a b last other never =
     let rest = same_fetches s id most (done + 1) k j x y q r (omega arith) (omega arith)
-        (λ is. let full = last is in omega arith) (λ is. let full = other is in omega arith) (never.1 refl) in
+    (λ is. let full = last is in omega arith) (λ is. let full = other is in omega arith) (never.1 refl) in
     (ap suc rest.0, rest.1)
 
 same_at : (side : Side) (c : Setting) (h : ℕ) (a b q r : History) (x y : Reply) → AsksAt side c h a x → AsksAt side c h b y → NeverFork (a ++ q) (b ++ r) → (a ≡ b) × (x ≡ y)
@@ -61,7 +61,7 @@ same_at own c h a b q r x y one two never =
 same_at foreign c h a b q r x y one two never =
     let here = subst (λ e. NeverFork (e ++ q) (fetches c.stream h two.0 y ++ r)) one.3 (subst (λ e. NeverFork (a ++ q) (e ++ r)) two.3 never) in
     let same = same_fetches c.stream h c.tries 0 one.0 two.0 x y q r (omega (arith, one.1)) (omega (arith, two.1))
-        (λ is. let full = one.2 is in omega arith) (λ is. let full = two.2 is in omega arith) here in
+    (λ is. let full = one.2 is in omega arith) (λ is. let full = two.2 is in omega arith) here in
     (one.3 ∙ ap (λ k. fetches c.stream h k x) same.0 ∙ ap (λ z. fetches c.stream h two.0 z) same.1 ∙ sym two.3, same.1)
 same_at outside c h a b q r x y one two never = (one.0 ∙ sym two.0, one.1 ∙ sym two.1)
 

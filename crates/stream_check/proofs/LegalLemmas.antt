@@ -1,11 +1,9 @@
 -- Legal histories never fork.
-use Rattle.std.proofs.Common.{◌≡◌, ◌++◌, ℕ, List, [], ◌∷◌, refl, sym, ap, subst, ◌∙◌}
+use Rattle.std.proofs.Common.{◌≡◌, ℕ, [], ◌∷◌, refl, sym, ap, subst, ◌∙◌}
 use Rattle.lrup_model.specs.Clause.{Clause}
-use Rattle.lrup_model.specs.Formula.{Cnf}
-use Rattle.lrup_model.specs.Layout.{Plan}
 use Rattle.lrup_model.specs.Event as events
 use Rattle.lrup_model.specs.Event.{Event, History, Reply}
-use Rattle.lrup_model.specs.State.{State, Slot, absent, live, retired, IsLive, IsRetired, after, Answers}
+use Rattle.lrup_model.specs.State.{State, Slot, absent, live, IsRetired, after, Answers}
 use Rattle.lrup_model.specs.History.{LegalFrom}
 use Rattle.lrup_model.specs.declared.clause_map.Published.{Published}
 use Rattle.lrup_model.specs.declared.clause_map.Published.TheVariants as publishing
@@ -63,7 +61,7 @@ same_event m (events.fetch s id r) (events.retire t j q) same a b = absurd same
 same_event m (events.publish s id c r) (events.fetch t j q) same a b = absurd same
 same_event m (events.publish s id c r) (events.publish t j d q) same a b =
     let at_call : events.publish t j d q ≡ events.publish s id c q =
-        sym (ap (λ x. events.publish x id c q) same.0 ∙ ap (λ k. events.publish t k c q) same.1 ∙ ap (λ x. events.publish t j x q) same.2) in
+    sym (ap (λ x. events.publish x id c q) same.0 ∙ ap (λ k. events.publish t k c q) same.1 ∙ ap (λ x. events.publish t j x q) same.2) in
     let is = same_published m s id c r q a (subst (Answers m) at_call b) in
     ap (λ x. events.publish s id c x) is ∙ sym at_call
 same_event m (events.publish s id c r) (events.retire t j q) same a b = absurd same
@@ -77,9 +75,10 @@ same_event m (events.retire s id r) (events.retire t j q) same a b =
 pub legal_never_fork : LegalNeverFork
 legal_never_fork f p m [] h a b = tt
 legal_never_fork f p m (d ∷ g) [] a b = tt
-legal_never_fork f p m (d ∷ g) (e ∷ h) a b =
-    (λ same. same_event m d e same a.0 b.0,
-     λ is. legal_never_fork f p (after m d) g h a.2 (subst (λ x. LegalFrom f p (after m x) h) (sym is) b.2))
+legal_never_fork f p m (d ∷ g) (e ∷ h) a b = (
+  λ same. same_event m d e same a.0 b.0,
+  λ is. legal_never_fork f p (after m d) g h a.2 (subst (λ x. LegalFrom f p (after m x) h) (sym is) b.2),
+)
 
 pub alone_decides : TextLaws → AloneDecides
 alone_decides laws f p c bytes end g h report other legal_g legal_h a b no_memory none =

@@ -1,15 +1,11 @@
 -- The events of a line, and a line without the vain fetches of what it found.
-use Rattle.std.proofs.Common.{◌≡◌, ◌⊎◌, ◌<◌, ◌≤◌, ◌&&◌, ℕ, zero, suc, ℤ, neg_ℤ, nat_abs, Bool, true, false, not, List, [], ◌∷◌, ◌++◌, map, length, replicate, if◌then◌else◌, inl, inr, refl, sym, ap, subst, ◌∙◌, arith, append_assoc, append-nil}
+use Rattle.std.proofs.Common.{◌≡◌, ◌<◌, ◌≤◌, ◌&&◌, ℕ, zero, suc, ℤ, neg_ℤ, nat_abs, Bool, true, false, not, List, [], ◌∷◌, ◌++◌, map, length, replicate, if◌then◌else◌, inl, inr, refl, ap, ◌∙◌, arith, append_assoc, append-nil}
 use Rattle.std.specs.List.{AllByRecursion, list_all}
 use Rattle.std.proofs.lemmas.List.{map-append}
-use Rattle.lrup_model.specs.Clause.{Clause, IsTautology}
+use Rattle.lrup_model.specs.Clause.{IsTautology}
 use Rattle.lrup_model.specs.Layout.{Owns}
 use Rattle.lrup_model.specs.Event as events
 use Rattle.lrup_model.specs.Event.{Event, History, Reply, stream_of}
-use Rattle.lrup_model.specs.Propagation.{IsConflict, IsUnit}
-use Rattle.lrup_model.specs.declared.clause_map.Published.{Published}
-use Rattle.lrup_model.specs.declared.clause_map.Retired.{Retired}
-use Rattle.lrup_model.specs.declared.clause_map.Retired.TheVariants as retiring
 use Rattle.lrup_text.specs.Lines.{StreamLine, Addition, Deletion}
 use Rattle.propagate.specs.Different.{different}
 use Rattle.stream_check.specs.declared.fault.Fault.{Fault}
@@ -19,11 +15,11 @@ use Rattle.stream_check.specs.Setting.{Setting, Side, formula, own, foreign, out
 use Rattle.stream_check.specs.Standing.{Standing, standing_of}
 use Rattle.stream_check.specs.Verdicts.{Verdict, Good, Bad, Fails, Test}
 use Rattle.stream_check.specs.Asking.{AsksAt, Asks, AsksThen}
-use Rattle.stream_check.specs.Additions.{AtConflict, AtClause, AtReply, JudgesHints, published_by, JudgesAddition}
-use Rattle.stream_check.specs.Deletions.{is_dropped, FailsAt, RetiresThen, DropsThen, DeletesAt, JudgesIdentities, JudgesDeletion, StopsDeletion}
-use Rattle.stream_check.specs.Judging.{JudgesLine, AreGood, BeginsGood, EndsAtLine, EndsAtText, EndsAtMemory, EndsAtEnd, EndsAfter, StreamEnd, JudgesBlocks}
-use Rattle.stream_check.specs.Reducing.{is_vacant, reduced, IsEarly, IsFetchOf, StartsWithFetchOf, TriesAgain}
-use Rattle.stream_check.specs.Laws.{LineCalls, EarlyEvents, VacantTriesAgain, ReducedLine, ReducedStream}
+use Rattle.stream_check.specs.Additions.{AtConflict, AtReply, JudgesHints, published_by, JudgesAddition}
+use Rattle.stream_check.specs.Deletions.{RetiresThen, DropsThen, DeletesAt, JudgesIdentities}
+use Rattle.stream_check.specs.Judging.{AreGood, EndsAfter, StreamEnd}
+use Rattle.stream_check.specs.Reducing.{is_vacant, reduced}
+use Rattle.stream_check.specs.Laws.{ReducedLine, ReducedStream}
 
 -- Reducing
 
@@ -85,11 +81,12 @@ found_at formula c h asked rest r found asks =
 found_at own c h asked rest r found asks =
     (ap (λ a. reduced (a ++ rest)) asks ∙ other_stays (events.fetch c.stream h r) rest (is_no_vacant c.stream h r found), refl)
 found_at foreign c h asked rest r found asks =
-    let vacants = replicate asks.0 (events.fetch c.stream h events.vacant) in
-    (ap (λ a. reduced (a ++ rest)) asks.3
-     ∙ ap reduced (append_assoc vacants (events.fetch c.stream h r ∷ []) rest)
-     ∙ vacants_go c.stream h asks.0 (events.fetch c.stream h r) rest (is_no_vacant c.stream h r found),
-     (0, omega arith, (λ vacant. absurd (found vacant)), refl))
+    let vacants = replicate asks.0 (events.fetch c.stream h events.vacant) in (
+      ap (λ a. reduced (a ++ rest)) asks.3
+          ∙ ap reduced (append_assoc vacants (events.fetch c.stream h r ∷ []) rest)
+          ∙ vacants_go c.stream h asks.0 (events.fetch c.stream h r) rest (is_no_vacant c.stream h r found),
+      (0, omega arith, (λ vacant. absurd (found vacant)), refl),
+    )
 found_at outside c h asked rest r found asks = absurd (found asks.1)
 
 vacants_all : (s id k : ℕ) → list_all is_vacant (replicate k (events.fetch s id events.vacant) ++ events.fetch s id events.vacant ∷ []) ≡ true
@@ -156,12 +153,12 @@ hints_reduced c gone published n [] es v other judged = fails_reduced faults.NoC
 hints_reduced c gone published n (h ∷ hints) es v other judged =
     let At : Reply → History → Type 0 = λ x rest. AtReply x n h hints published rest v (λ m. JudgesHints c gone published m hints rest v) in
     test_maps (gone h ≡ false) (faults.Dropped h) es (reduced es) v (AsksThen c h es At) (AsksThen c h (reduced es) At) (reduced_none es)
-        (λ a. asks_reduced_at a.reply c h es a.asked a.rest At (λ left at. at.0)
-            (λ x left at. reply_reduced x n h hints published left v
-                (λ m. JudgesHints c gone published m hints left v) (λ m. JudgesHints c gone published m hints (reduced left) v)
-                other (λ m k. hints_reduced c gone published m hints left v other k) at)
-            a.events a.asks a.next)
-        judged
+    (λ a. asks_reduced_at a.reply c h es a.asked a.rest At (λ left at. at.0)
+    (λ x left at. reply_reduced x n h hints published left v
+    (λ m. JudgesHints c gone published m hints left v) (λ m. JudgesHints c gone published m hints (reduced left) v)
+    other (λ m k. hints_reduced c gone published m hints left v other k) at)
+    a.events a.asks a.next)
+    judged
 
 addition_reduced : (c : Setting) (st : Standing) (id : ℕ) (lits : List ℤ) (hints : List ℕ) (es : History) (v : Verdict) → JudgesAddition c st id lits hints es v → JudgesAddition c st id lits hints (reduced es) v
 addition_reduced c st id lits hints es v judged =
@@ -177,9 +174,9 @@ drops_map gone earlier id es v A next (inr good) = inr (good.0, next good.1)
 
 retires_map : (c : Setting) (earlier : List ℕ) (id : ℕ) (es : History) (v : Verdict) (A : History → Type 0) → ((rest : History) → A rest → A (reduced rest)) → RetiresThen c earlier id es v A → RetiresThen c earlier id (reduced es) v A
 retires_map c earlier id es v A next a = elim a.decided [
-    inl good ↦ record { rest = reduced a.rest; decided = inl (ap reduced good.0, next a.rest good.1) }
+  | inl good ↦ record { rest = reduced a.rest; decided = inl (ap reduced good.0, next a.rest good.1) }
   | inr bad ↦ record { rest = reduced a.rest; decided = inr (ap reduced bad.0, ap reduced bad.1, bad.2) }
-  ]
+]
 
 at_reduced : (side : Side) (c : Setting) (gone : ℕ → Bool) (earlier : List ℕ) (id : ℕ) (es : History) (v : Verdict) (A : History → Type 0)
     → ((rest : History) → A rest → A (reduced rest)) → DeletesAt side c gone earlier id es v A → DeletesAt side c gone earlier id (reduced es) v A
@@ -192,7 +189,7 @@ identities_reduced : (c : Setting) (gone : ℕ → Bool) (earlier ids : List ℕ
 identities_reduced c gone earlier [] es v judged = (reduced_none es judged.0, judged.1)
 identities_reduced c gone earlier (id ∷ ids) es v judged =
     at_reduced (side_of c id) c gone earlier id es v (λ rest. JudgesIdentities c gone (earlier ++ id ∷ []) ids rest v)
-        (λ rest k. identities_reduced c gone (earlier ++ id ∷ []) ids rest v k) judged
+    (λ rest k. identities_reduced c gone (earlier ++ id ∷ []) ids rest v k) judged
 
 pub reduced_line : ReducedLine
 reduced_line c st (Addition id lits hints) es v judged = addition_reduced c st id lits hints es v judged

@@ -1,26 +1,24 @@
 -- Two judgements of one stream, of events that never fork, agree.
-use Rattle.std.proofs.Common.{◌≡◌, ◌⊎◌, ◌+◌, ℕ, List, [], ◌∷◌, ◌++◌, length, inl, inr, refl, sym, ap, subst, ◌∙◌, append_assoc, append-nil}
+use Rattle.std.proofs.Common.{◌≡◌, ◌⊎◌, ℕ, List, [], ◌∷◌, ◌++◌, length, inl, inr, refl, sym, ap, subst, ◌∙◌, append_assoc, append-nil}
 use Rattle.std.specs.List.{AllByRecursion, flat_map}
 use Rattle.std.proofs.lemmas.List.{append_cancel_left}
-use Rattle.lrup_model.specs.Event.{Event, History}
+use Rattle.lrup_model.specs.Event.{History}
 use Rattle.lrup_text.specs.declared.LineFault.{LineFault}
 use Rattle.lrup_text.specs.Grammar.{Begins, IsLine, standard}
-use Rattle.lrup_text.specs.Lines.{StreamLine, Addition, Deletion, Fits, text_of, HasNoLine, IsPending}
+use Rattle.lrup_text.specs.Lines.{StreamLine, Fits, text_of, HasNoLine}
 use Rattle.lrup_text.specs.Faults.{HasTextFault}
 use Rattle.lrup_text.specs.Laws.{OneLine, NoTextBegins, TextsAreLines, OneFault}
-use Rattle.stream_check.specs.declared.fault.Fault.{Fault}
 use Rattle.stream_check.specs.declared.fault.Fault.TheVariants as faults
-use Rattle.stream_check.specs.declared.report.Ending.{Ending}
 use Rattle.stream_check.specs.declared.report.Ending.TheVariants as endings
 use Rattle.stream_check.specs.declared.report.Report.{Report}
 use Rattle.stream_check.specs.Setting.{Setting}
-use Rattle.stream_check.specs.Standing.{Standing, standing_of, Tally, tally_of, line_number}
-use Rattle.stream_check.specs.Verdicts.{Verdict, Good, Bad}
-use Rattle.stream_check.specs.Judging.{JudgesLine, AreGood, joined, BeginsGood, report_of, EndsAtLine, EndsAtText, EndsAtMemory, EndsAtEnd, EndsAfter, StreamEnd, ending_at, JudgesBlocks, Judges}
+use Rattle.stream_check.specs.Standing.{standing_of, tally_of, line_number}
+use Rattle.stream_check.specs.Verdicts.{Good, Bad}
+use Rattle.stream_check.specs.Judging.{JudgesLine, AreGood, joined, report_of, EndsAtLine, EndsAtText, EndsAtMemory, EndsAtEnd, EndsAfter, StreamEnd}
 use Rattle.stream_check.specs.Forks.{NeverFork}
 use Rattle.stream_check.specs.Laws.{IsOfMemory, RepliesDecide, OneReport}
 use Rattle.stream_check.proofs.ForkLemmas.{never_fork_turned, never_fork_alone, never_fork_behind}
-use Rattle.stream_check.proofs.AgreeLemmas.{Agree, line_agrees}
+use Rattle.stream_check.proofs.AgreeLemmas.{line_agrees}
 use Rattle.stream_check.proofs.LeavingLemmas.{joined-append}
 
 -- what is known of the texts of lines
@@ -38,8 +36,8 @@ one_begins (x ∷ a) (y ∷ b) m n e =
     let head : x ≡ y = cc in
     let tail : a ++ m ≡ b ++ n = cc in
     elim (one_begins a b m n tail) [
-      inl longer ↦ inl (longer.0, ap (λ z. z ∷ b) (sym head) ∙ ap (λ t. x ∷ t) longer.1)
-    | inr longer ↦ inr (longer.0, ap (λ z. z ∷ a) head ∙ ap (λ t. y ∷ t) longer.1)
+      | inl longer ↦ inl (longer.0, ap (λ z. z ∷ b) (sym head) ∙ ap (λ t. x ∷ t) longer.1)
+      | inr longer ↦ inr (longer.0, ap (λ z. z ∷ a) head ∙ ap (λ t. y ∷ t) longer.1)
     ]
 
 same_text : TextLaws → (l o : StreamLine) → Fits l → Fits o → text_of l ≡ text_of o → l ≡ o
@@ -49,9 +47,9 @@ same_text laws l o a b e = laws.line l o (text_of l) (a, refl) (b, e)
 pub same_first : TextLaws → (l o : StreamLine) (m n : List ℕ) → Fits l → Fits o → text_of l ++ m ≡ text_of o ++ n → (l ≡ o) × (m ≡ n)
 same_first laws l o m n a b e =
     let same : text_of l ≡ text_of o = elim (one_begins (text_of l) (text_of o) m n e) [
-        inl longer ↦ sym (longer.1 ∙ ap (λ x. text_of l ++ x) (laws.begins l o (text_of l) (text_of o) longer.0 (a, refl) (b, refl) longer.1) ∙ append-nil (text_of l))
+      | inl longer ↦ sym (longer.1 ∙ ap (λ x. text_of l ++ x) (laws.begins l o (text_of l) (text_of o) longer.0 (a, refl) (b, refl) longer.1) ∙ append-nil (text_of l))
       | inr longer ↦ longer.1 ∙ ap (λ x. text_of o ++ x) (laws.begins o l (text_of o) (text_of l) longer.0 (b, refl) (a, refl) longer.1) ∙ append-nil (text_of o)
-      ] in
+    ] in
     (same_text laws l o a b same, append_cancel_left (text_of o) m n (subst (λ t. t ++ m ≡ text_of o ++ n) same e))
 
 -- a line that begins with what was read goes on with the byte
@@ -59,7 +57,7 @@ goes_on : (read : List ℕ) (byte : ℕ) (after more text x : List ℕ) → IsLi
 goes_on read byte after more text [] whole e split = inl (e ∙ append-nil read)
 goes_on read byte after more text (y ∷ x) whole e split =
     let tails : byte ∷ after ≡ (y ∷ x) ++ more = append_cancel_left read (byte ∷ after) ((y ∷ x) ++ more)
-        (split ∙ ap (λ t. t ++ more) e ∙ append_assoc read (y ∷ x) more) in
+    (split ∙ ap (λ t. t ++ more) e ∙ append_assoc read (y ∷ x) more) in
     let head : byte ≡ y = cc in
     inr (x, subst (IsLine standard) (e ∙ ap (λ z. read ++ (z ∷ x)) (sym head) ∙ sym (append_assoc read (byte ∷ []) x)) whole)
 
@@ -72,13 +70,13 @@ faulty_has_no_line laws rest fault text line more fits e =
     let decides = refused.3 in
     let whole : IsLine standard (text_of line) = (laws.lines (text_of line)).1 (line, (fits, refl)) in
     let split : read ++ (byte ∷ text.1) ≡ text_of line ++ more =
-        sym (append_assoc read (byte ∷ []) text.1) ∙ ap (λ b. b ++ text.1) (sym refused.2) ∙ sym text.2 ∙ e in
+    sym (append_assoc read (byte ∷ []) text.1) ∙ ap (λ b. b ++ text.1) (sym refused.2) ∙ sym text.2 ∙ e in
     elim (one_begins read (text_of line) (byte ∷ text.1) more split) [
-      inl longer ↦ elim (goes_on read byte text.1 more (text_of line) longer.0 whole longer.1 split) [
-          inl same ↦ decides.before.whole line [] fits (sym same ∙ sym (append-nil (text_of line)))
+      | inl longer ↦ elim (goes_on read byte text.1 more (text_of line) longer.0 whole longer.1 split) [
+        | inl same ↦ decides.before.whole line [] fits (sym same ∙ sym (append-nil (text_of line)))
         | inr begins ↦ decides.after begins
-        ]
-    | inr longer ↦ decides.before.whole line longer.0 fits longer.1
+      ]
+      | inr longer ↦ decides.before.whole line longer.0 fits longer.1
     ]
 
 -- Behind the same good lines
@@ -93,10 +91,11 @@ lines_agree laws c lines rest back aft report other a b never =
     let agree = line_agrees c (standing_of c lines) b.line a.block b.block [] [] (Bad a.deleted a.fault) (Bad b.deleted b.fault) bad b.bad here in
     let verdict = agree.verdict in
     let deleted : a.deleted ≡ b.deleted = cc in
-    let fault : a.fault ≡ b.fault = cc in
-    (a.one_block ∙ ap (λ x. x ∷ []) agree.events ∙ sym b.one_block,
-     a.says ∙ ap (λ d. report_of (tally_of lines) d (endings.Bad (line_number (length lines)) a.fault)) deleted
-         ∙ ap (λ f. report_of (tally_of lines) b.deleted (endings.Bad (line_number (length lines)) f)) fault ∙ sym b.says)
+    let fault : a.fault ≡ b.fault = cc in (
+      a.one_block ∙ ap (λ x. x ∷ []) agree.events ∙ sym b.one_block,
+      a.says ∙ ap (λ d. report_of (tally_of lines) d (endings.Bad (line_number (length lines)) a.fault)) deleted
+          ∙ ap (λ f. report_of (tally_of lines) b.deleted (endings.Bad (line_number (length lines)) f)) fault ∙ sym b.says,
+    )
 
 -- where a text has a fault or the stream ends, no line is whole
 rest_has_no_line : TextLaws → (lines : List StreamLine) (rest : List ℕ) (end : StreamEnd) (back : List History) (report : Report)
@@ -108,9 +107,10 @@ rest_has_no_line laws lines rest end back report (inr at_end) = at_end.pending.w
 rests_agree : TextLaws → (lines : List StreamLine) (rest : List ℕ) (end : StreamEnd) (back aft : List History) (report other : Report)
     → EndsAtText lines rest back report ⊎ EndsAtEnd lines rest end back report → EndsAtText lines rest aft other ⊎ EndsAtEnd lines rest end aft other
     → (back ≡ aft) × (report ≡ other)
-rests_agree laws lines rest end back aft report other (inl a) (inl b) =
-    (a.no_block ∙ sym b.no_block,
-     a.says ∙ ap (λ f. report_of (tally_of lines) 0 (endings.Bad (line_number (length lines)) (faults.Text f))) ((laws.fault rest a.fault b.fault a.text).0 b.text) ∙ sym b.says)
+rests_agree laws lines rest end back aft report other (inl a) (inl b) = (
+  a.no_block ∙ sym b.no_block,
+  a.says ∙ ap (λ f. report_of (tally_of lines) 0 (endings.Bad (line_number (length lines)) (faults.Text f))) ((laws.fault rest a.fault b.fault a.text).0 b.text) ∙ sym b.says,
+)
 rests_agree laws lines rest end back aft report other (inl a) (inr b) = absurd ((laws.fault rest a.fault a.fault a.text).1 b.pending.begins)
 rests_agree laws lines rest end back aft report other (inr a) (inl b) = absurd ((laws.fault rest b.fault b.fault b.text).1 a.pending.begins)
 rests_agree laws lines rest end back aft report other (inr a) (inr b) = (a.no_block ∙ sym b.no_block, a.says ∙ sym b.says)
@@ -172,7 +172,7 @@ streams_agree : TextLaws → (c : Setting) (end : StreamEnd) (before lines other
 streams_agree laws c end before [] [] all both rest left [] back [] aft report other is also text fit fits good fine ends stops never =
     let same = is ∙ sym also in
     let agree = ends_agree laws c both left end back aft report other
-        (subst (λ r. EndsWithout c both r end back report) text (subst (λ ls. EndsWithout c ls rest end back report) same ends)) stops never in
+    (subst (λ r. EndsWithout c both r end back report) text (subst (λ ls. EndsWithout c ls rest end back report) same ends)) stops never in
     (refl, agree.0, agree.1)
 streams_agree laws c end before [] others all both rest left (b ∷ front) back fore aft report other is also text fit fits good fine ends stops never = absurd good
 streams_agree laws c end before lines [] all both rest left front back (b ∷ fore) aft report other is also text fit fits good fine ends stops never = absurd fine
@@ -181,34 +181,34 @@ streams_agree laws c end before lines (o ∷ others) all both rest left front ba
 streams_agree laws c end before [] (o ∷ others) all both rest left [] back (b ∷ fore) aft report other is also text fit fits good fine ends stops never =
     let here = subst (λ ls. EndsWithout c ls rest end back report) (is ∙ append-nil before) ends in
     absurd (ends_not_good laws c before rest (flat_map text_of others ++ left) end back report o b (joined fore ++ joined aft)
-        here fits.0 (text ∙ split_first o others left) fine.0 (subst (λ e. NeverFork (joined back) e) (append_assoc b (joined fore) (joined aft)) never))
+    here fits.0 (text ∙ split_first o others left) fine.0 (subst (λ e. NeverFork (joined back) e) (append_assoc b (joined fore) (joined aft)) never))
 streams_agree laws c end before (l ∷ lines) [] all both rest left (b ∷ front) back [] aft report other is also text fit fits good fine ends stops never =
     let here = subst (λ ls. EndsWithout c ls left end aft other) (also ∙ append-nil before) stops in
     absurd (ends_not_good laws c before left (flat_map text_of lines ++ rest) end aft other l b (joined front ++ joined back)
-        here fit.0 (sym text ∙ split_first l lines rest) good.0
-        (subst (λ e. NeverFork (joined aft) e) (append_assoc b (joined front) (joined back)) (never_fork_turned ((b ++ joined front) ++ joined back) (joined aft) never)))
+    here fit.0 (sym text ∙ split_first l lines rest) good.0
+    (subst (λ e. NeverFork (joined aft) e) (append_assoc b (joined front) (joined back)) (never_fork_turned ((b ++ joined front) ++ joined back) (joined aft) never)))
 streams_agree laws c end before (l ∷ lines) (o ∷ others) all both rest left (b ∷ front) back (d ∷ fore) aft report other is also text fit fits good fine ends stops never =
     let same = same_first laws l o (flat_map text_of lines ++ rest) (flat_map text_of others ++ left) fit.0 fits.0
-        (sym (split_first l lines rest) ∙ text ∙ split_first o others left) in
+    (sym (split_first l lines rest) ∙ text ∙ split_first o others left) in
     let here = subst (λ e. NeverFork e (d ++ (joined fore ++ joined aft))) (append_assoc b (joined front) (joined back))
-        (subst (λ e. NeverFork ((b ++ joined front) ++ joined back) e) (append_assoc d (joined fore) (joined aft)) never) in
+    (subst (λ e. NeverFork ((b ++ joined front) ++ joined back) e) (append_assoc d (joined fore) (joined aft)) never) in
     let first = subst (λ x. JudgesLine c (standing_of c before) x b Good) same.0 good.0 in
     let agree = line_agrees c (standing_of c before) o b d (joined front ++ joined back) (joined fore ++ joined aft) Good Good first fine.0 here in
     let later = never_fork_behind d (joined front ++ joined back) (joined fore ++ joined aft)
-        (subst (λ e. NeverFork (e ++ (joined front ++ joined back)) (d ++ (joined fore ++ joined aft))) agree.events here) in
+    (subst (λ e. NeverFork (e ++ (joined front ++ joined back)) (d ++ (joined fore ++ joined aft))) agree.events here) in
     let step = streams_agree laws c end (before ++ o ∷ []) lines others all both rest left front back fore aft report other
-        (behind_one before o lines all (subst (λ x. all ≡ before ++ (x ∷ lines)) same.0 is)) (behind_one before o others both also)
-        same.1 fit.1 fits.1
-        (subst (λ x. AreGood c (before ++ x ∷ []) lines front) same.0 good.1) fine.1 ends stops later in
+    (behind_one before o lines all (subst (λ x. all ≡ before ++ (x ∷ lines)) same.0 is)) (behind_one before o others both also)
+    same.1 fit.1 fits.1
+    (subst (λ x. AreGood c (before ++ x ∷ []) lines front) same.0 good.1) fine.1 ends stops later in
     (ap (λ x. x ∷ front) agree.events ∙ ap (λ x. d ∷ x) step.0, step.1, step.2)
 
 pub replies_decide : TextLaws → RepliesDecide
 replies_decide laws c bytes end blocks others report other never a b no_memory none =
     let split = subst (λ e. NeverFork e (joined b.front ++ joined b.back)) (ap joined a.split ∙ joined-append a.front a.back)
-        (subst (λ e. NeverFork (joined blocks) e) (ap joined b.split ∙ joined-append b.front b.back) never) in
+    (subst (λ e. NeverFork (joined blocks) e) (ap joined b.split ∙ joined-append b.front b.back) never) in
     let agree = streams_agree laws c end [] a.lines b.lines a.lines b.lines a.rest b.rest a.front a.back b.front b.back report other
-        refl refl (sym a.begins.text ∙ b.begins.text) a.begins.fits b.begins.fits a.begins.good b.begins.good
-        (without c a.lines a.rest end a.back report a.ends no_memory) (without c b.lines b.rest end b.back other b.ends none) split in
+    refl refl (sym a.begins.text ∙ b.begins.text) a.begins.fits b.begins.fits a.begins.good b.begins.good
+    (without c a.lines a.rest end a.back report a.ends no_memory) (without c b.lines b.rest end b.back other b.ends none) split in
     (a.split ∙ ap (λ x. x ++ a.back) agree.0 ∙ ap (λ x. b.front ++ x) agree.1 ∙ sym b.split, agree.2)
 
 pub one_report : TextLaws → OneReport
