@@ -1,5 +1,5 @@
 -- The events of a line.
-use Rattle.std.proofs.Common.{◌≡◌, ◌<◌, ◌≤◌, ℕ, zero, suc, ℤ, neg_ℤ, nat_abs, Bool, false, List, [], ◌∷◌, ◌++◌, length, replicate, inl, inr, refl, sym, ap, subst, ◌∙◌, append_assoc}
+use Rattle.std.proofs.Common.{◌≡◌, ◌<◌, ◌≤◌, ℕ, zero, suc, ℤ, neg_ℤ, nat_abs, Bool, false, IsTrue, List, [], ◌∷◌, ◌++◌, length, replicate, inl, inr, refl, sym, ap, subst, ◌∙◌, append_assoc}
 use Rattle.std.specs.List.{AllByRecursion}
 use Rattle.lrup_model.specs.Clause.{Clause, IsTautology}
 use Rattle.lrup_model.specs.Layout.{Owns}
@@ -19,19 +19,19 @@ use Rattle.stream_check.specs.Additions.{AtConflict, AtReply, JudgesHints, publi
 use Rattle.stream_check.specs.Deletions.{DeletesAt, JudgesIdentities}
 use Rattle.stream_check.specs.Judging.{JudgesLine}
 use Rattle.stream_check.specs.Reducing.{IsEarly, StartsWithFetchOf, TriesAgain}
-use Rattle.stream_check.specs.Laws.{LineCalls, EarlyEvents, VacantTriesAgain}
+use Rattle.stream_check.specs.Laws.{LineCalls, EarlyEvents, VacantTriesAgain, hints_of, FetchesOnly}
 
 -- Something that holds of the events of a line, from the last one on
 
 -- the list is empty; or it is the publish; or a retire is before it; or the events of a hint are
-pub record Holds (c : Setting) (P : History → Type 0) : Type 0 where
+pub record Holds (c : Setting) (IsHint : ℕ → Type 0) (P : History → Type 0) : Type 0 where
   pub none : P []
   pub published : (id : ℕ) (d : Clause) (r : Published) → P (events.publish c.stream id d r ∷ [])
-  pub asked : (h : ℕ) (asked rest : History) (r : Reply) → Asks c h asked r → (r ≡ events.vacant → rest ≡ []) → P rest → P (asked ++ rest)
+  pub asked : (h : ℕ) (asked rest : History) (r : Reply) → IsHint h → Asks c h asked r → (r ≡ events.vacant → rest ≡ []) → P rest → P (asked ++ rest)
   pub retired : (id : ℕ) (rest : History) → P rest → P (events.retire c.stream id retiring.Done ∷ rest)
   pub refused : (id : ℕ) → P (events.retire c.stream id retiring.NotLive ∷ [])
 
-module _ (c : Setting) (P : History → Type 0) (holds : Holds c P) where
+module _ (c : Setting) (IsHint : ℕ → Type 0) (P : History → Type 0) (holds : Holds c IsHint P) where
   none_holds : (es : History) → es ≡ [] → P es
   none_holds es e = subst P (sym e) holds.none
 
@@ -56,15 +56,15 @@ module _ (c : Setting) (P : History → Type 0) (holds : Holds c P) where
   vacant_ends (events.live d) n h hints published es v A at vacant = absurd (cc)
   vacant_ends events.retired n h hints published es v A at vacant = absurd (cc)
 
-  hints_hold : (gone : ℕ → Bool) (id : ℕ) (lits n : List ℤ) (hints : List ℕ) (es : History) (v : Verdict) → JudgesHints c gone (published_by c id lits) n hints es v → P es
-  hints_hold gone id lits n [] es v judged = none_holds es judged.0
-  hints_hold gone id lits n (h ∷ hints) es v judged =
+  hints_hold : (gone : ℕ → Bool) (id : ℕ) (lits n : List ℤ) (hints : List ℕ) (es : History) (v : Verdict) → AllByRecursion IsHint hints → JudgesHints c gone (published_by c id lits) n hints es v → P es
+  hints_hold gone id lits n [] es v all judged = none_holds es judged.0
+  hints_hold gone id lits n (h ∷ hints) es v all judged =
       let At : Reply → History → Type 0 = λ x rest. AtReply x n h hints (published_by c id lits) rest v (λ m. JudgesHints c gone (published_by c id lits) m hints rest v) in
       test_holds (gone h ≡ false) (faults.Dropped h) es v (AsksThen c h es At)
-      (λ a. subst P (sym a.events) (holds.asked h a.asked a.rest a.reply a.asks
+      (λ a. subst P (sym a.events) (holds.asked h a.asked a.rest a.reply all.0 a.asks
       (vacant_ends a.reply n h hints (published_by c id lits) a.rest v (λ m. JudgesHints c gone (published_by c id lits) m hints a.rest v) a.next)
       (reply_holds a.reply n h hints id lits a.rest v (λ m. JudgesHints c gone (published_by c id lits) m hints a.rest v)
-      (λ m k. hints_hold gone id lits m hints a.rest v k) a.next)))
+      (λ m k. hints_hold gone id lits m hints a.rest v all.1 k) a.next)))
       judged
 
   at_holds : (side : Side) (gone : ℕ → Bool) (earlier : List ℕ) (id : ℕ) (es : History) (v : Verdict) (A : History → Type 0)
@@ -85,14 +85,23 @@ module _ (c : Setting) (P : History → Type 0) (holds : Holds c P) where
       at_holds (side_of c id) gone earlier id es v (λ rest. JudgesIdentities c gone (earlier ++ id ∷ []) ids rest v)
       (λ rest k. identities_hold gone (earlier ++ id ∷ []) ids rest v k) judged
 
-  pub line_holds : (st : Standing) (line : StreamLine) (es : History) (v : Verdict) → JudgesLine c st line es v → P es
-  line_holds st (Addition id lits hints) es v judged =
+  pub line_holds : (st : Standing) (line : StreamLine) (es : History) (v : Verdict) → AllByRecursion IsHint (hints_of line) → JudgesLine c st line es v → P es
+  line_holds st (Addition id lits hints) es v all judged =
       test_holds (Owns c.layout c.stream id × (st.last < id)) faults.Identity es v _
       (λ a. test_holds (AllByRecursion (λ l. nat_abs l ≤ c.layout.vars) lits) faults.Literal es v _
       (λ a. test_holds (¬ IsTautology lits) faults.Tautology es v _
       (λ a. test_holds (length (different lits) ≤ st.free) faults.NoRoom es v _
-      (λ a. hints_hold st.gone id lits (different lits) hints es v a) a) a) a) judged
-  line_holds st (Deletion lead ids) es v judged = identities_hold st.gone [] ids es v judged
+      (λ a. hints_hold st.gone id lits (different lits) hints es v all a) a) a) a) judged
+  line_holds st (Deletion lead ids) es v all judged = identities_hold st.gone [] ids es v judged
+
+-- Any hint
+
+abbrev pub IsAny : ℕ → Type 0
+IsAny h = Unit {0}
+
+all_any : (hints : List ℕ) → AllByRecursion IsAny hints
+all_any [] = tt
+all_any (h ∷ hints) = (tt, all_any hints)
 
 -- Calls of the stream
 
@@ -107,20 +116,20 @@ asked_are own P c h es r each asks = subst (AllByRecursion P) (sym asks) (each r
 asked_are foreign P c h es r each asks = subst (AllByRecursion P) (sym asks.3) (vacants_are P c.stream h asks.0 r each)
 asked_are outside P c h es r each asks = subst (AllByRecursion P) (sym asks.0) tt
 
-all_append : (P : Event → Type 0) (a b : History) → AllByRecursion P a → AllByRecursion P b → AllByRecursion P (a ++ b)
+pub all_append : (P : Event → Type 0) (a b : History) → AllByRecursion P a → AllByRecursion P b → AllByRecursion P (a ++ b)
 all_append P [] b one two = two
 all_append P (e ∷ a) b one two = (one.0, all_append P a b one.1 two)
 
 pub line_calls : LineCalls
 line_calls c st line es v judged =
     let IsOurs : Event → Type 0 = λ e. stream_of e ≡ c.stream in
-    line_holds c (AllByRecursion IsOurs) (record {
+    line_holds c IsAny (AllByRecursion IsOurs) (record {
       none = tt;
       published = λ id d r. (refl, tt);
-      asked = λ h asked rest r asks ends all. all_append IsOurs asked rest (asked_are (side_of c h) IsOurs c h asked r (λ x. refl) asks) all;
+      asked = λ h asked rest r any asks ends all. all_append IsOurs asked rest (asked_are (side_of c h) IsOurs c h asked r (λ x. refl) asks) all;
       retired = λ id rest all. (refl, all);
       refused = λ id. (refl, tt);
-    }) st line es v judged
+    }) st line es v (all_any (hints_of line)) judged
 
 -- Before the last event
 
@@ -148,13 +157,13 @@ early_front (e ∷ f ∷ front) last early = (early.0, early_front (f ∷ front)
 
 pub early_events : EarlyEvents
 early_events c st line es front last v judged e =
-    early_front front last (subst EarlyBut e (line_holds c EarlyBut (record {
+    early_front front last (subst EarlyBut e (line_holds c IsAny EarlyBut (record {
       none = tt;
       published = λ id d r. (tt, tt);
-      asked = λ h asked rest r asks ends early. early_append asked rest (asked_are (side_of c h) IsEarly c h asked r (λ x. tt) asks) early;
+      asked = λ h asked rest r any asks ends early. early_append asked rest (asked_are (side_of c h) IsEarly c h asked r (λ x. tt) asks) early;
       retired = λ id rest early. (early_if rest (events.retire c.stream id retiring.Done) tt, early);
       refused = λ id. (tt, tt);
-    }) st line es v judged))
+    }) st line es v (all_any (hints_of line)) judged))
 
 -- Vacant fetches
 
@@ -179,10 +188,23 @@ tries_asked outside c h asked rest r asks ends tries = subst (λ a. TriesAgain (
 
 pub vacant_tries_again : VacantTriesAgain
 vacant_tries_again c st line es v judged =
-    line_holds c TriesAgain (record {
+    line_holds c IsAny TriesAgain (record {
       none = tt;
       published = λ id d r. tt;
-      asked = λ h asked rest r asks ends tries. tries_asked (side_of c h) c h asked rest r asks ends tries;
+      asked = λ h asked rest r any asks ends tries. tries_asked (side_of c h) c h asked rest r asks ends tries;
       retired = λ id rest tries. tries;
       refused = λ id. tt;
-    }) st line es v judged
+    }) st line es v (all_any (hints_of line)) judged
+
+-- Hints that pass a test
+
+pub line_fetches : (c : Setting) (p : ℕ → Bool) (st : Standing) (line : StreamLine) (es : History) (v : Verdict)
+    → AllByRecursion (λ h. IsTrue (p h)) (hints_of line) → JudgesLine c st line es v → AllByRecursion (FetchesOnly p) es
+line_fetches c p st line es v all judged =
+    line_holds c (λ h. IsTrue (p h)) (AllByRecursion (FetchesOnly p)) (record {
+      none = tt;
+      published = λ id d r. (tt, tt);
+      asked = λ h asked rest r passes asks ends all. all_append (FetchesOnly p) asked rest (asked_are (side_of c h) (FetchesOnly p) c h asked r (λ x. passes) asks) all;
+      retired = λ id rest all. (tt, all);
+      refused = λ id. (tt, tt);
+    }) st line es v all judged

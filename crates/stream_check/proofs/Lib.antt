@@ -7,3 +7,4 @@ pub mod LegalLemmas
 pub mod ReducedLemmas
 pub mod EventLemmas
 pub mod FindingLemmas
+pub mod CutLemmas

@@ -156,7 +156,7 @@ ends_not_good laws c lines rest more end back report line block r (inl a) fits t
 behind_one : (before : List StreamLine) (line : StreamLine) (lines all : List StreamLine) → all ≡ before ++ (line ∷ lines) → all ≡ (before ++ line ∷ []) ++ lines
 behind_one before line lines all e = e ∙ sym (append_assoc before (line ∷ []) lines)
 
-split_first : (line : StreamLine) (lines : List StreamLine) (rest : List ℕ) → flat_map text_of (line ∷ lines) ++ rest ≡ text_of line ++ (flat_map text_of lines ++ rest)
+pub split_first : (line : StreamLine) (lines : List StreamLine) (rest : List ℕ) → flat_map text_of (line ∷ lines) ++ rest ≡ text_of line ++ (flat_map text_of lines ++ rest)
 split_first line lines rest = append_assoc (text_of line) (flat_map text_of lines) rest
 
 -- the good lines, their blocks, what comes behind, and the report are the same

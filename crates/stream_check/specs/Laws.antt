@@ -1,14 +1,15 @@
 -- Laws of judging. Each is the contract of a function of laws.
-use Rattle.std.specs.Prelude.{◌≡◌, ◌↔◌, ◌++◌, ℕ, ℤ, List, [], ◌∷◌, map, length}
+use Rattle.std.specs.Prelude.{◌≡◌, ◌↔◌, ◌++◌, ℕ, ℤ, Bool, IsTrue, List, [], ◌∷◌, map, length}
 use Rattle.std.specs.List.{AllByRecursion}
 use Rattle.lrup_model.specs.Formula.{Cnf}
 use Rattle.lrup_model.specs.Entailment.{Follows}
 use Rattle.lrup_model.specs.Layout.{Plan}
 use Rattle.lrup_model.specs.State.{State}
 use Rattle.lrup_model.specs.History.{LegalFrom, IsLegal}
+use Rattle.lrup_model.specs.Event as events
 use Rattle.lrup_model.specs.Event.{Event, History, stream_of}
 use Rattle.lrup_text.specs.declared.LineFault.{LineFault}
-use Rattle.lrup_text.specs.Lines.{StreamLine, Deletion, LineText, IsPending}
+use Rattle.lrup_text.specs.Lines.{StreamLine, Addition, Deletion, Cut, LineText, IsPending}
 use Rattle.lrup_text.specs.Faults.{IsRefused}
 use Rattle.stream_check.specs.declared.fault.Fault.{Fault}
 use Rattle.stream_check.specs.declared.fault.Fault.TheVariants as faults
@@ -146,3 +147,28 @@ ReducedLine = (c : Setting) (st : Standing) (line : StreamLine) (es : History) (
 abbrev pub ReducedStream : Type 0
 ReducedStream = (c : Setting) (bytes : List ℕ) (end : StreamEnd) (blocks : List History) (report : Report)
     → JudgesBlocks c bytes end blocks report → JudgesBlocks c bytes end (map reduced blocks) report
+
+-- What hints cite
+
+-- the hints of an addition
+abbrev pub hints_of : StreamLine → List ℕ
+hints_of (Addition id lits hints) = hints
+hints_of (Deletion lead ids) = []
+
+-- a fetch is of an identity that passes the test
+abbrev pub FetchesOnly : (ℕ → Bool) → Event → Type 0
+FetchesOnly p (events.fetch s id r) = IsTrue (p id)
+FetchesOnly p (events.publish s id c r) = Unit {0}
+FetchesOnly p (events.retire s id r) = Unit {0}
+
+-- the lines that a stream is judged by are the first of those that its bytes are cut into
+abbrev pub JudgedLinesCut : Type 0
+JudgedLinesCut = (c : Setting) (bytes : List ℕ) (end : StreamEnd) (blocks : List History) (report : Report) (all : List StreamLine) (rest : List ℕ)
+    → (j : JudgesBlocks c bytes end blocks report) → Cut bytes all rest → (more : List StreamLine) × (all ≡ j.lines ++ more)
+
+-- a stream fetches no identity but the hints of its lines: where all hints pass a test, so does what it fetches
+abbrev pub HintsFetched : Type 0
+HintsFetched = (c : Setting) (bytes : List ℕ) (end : StreamEnd) (blocks : List History) (report : Report) (all : List StreamLine) (rest : List ℕ) (p : ℕ → Bool)
+    → JudgesBlocks c bytes end blocks report → Cut bytes all rest
+    → AllByRecursion (λ line. AllByRecursion (λ h. IsTrue (p h)) (hints_of line)) all
+    → AllByRecursion (FetchesOnly p) (joined blocks)

@@ -1,5 +1,5 @@
 //! Laws of judging. Each function does nothing; its contract is the law, which holds of every stream, layout and history.
-ghost use Rattle.stream_check.specs.Laws.{FreshLeft, PendingGrows, GoodLineTaken, BadLineTaken, BadTextRead, MemoryWanted, EndJudged, OverStays, OneReport, RepliesDecide, LegalNeverFork, AloneDecides, GoodExactlyIf, GoodFollows, LineCalls, EarlyEvents, VacantTriesAgain, ReducedLine, ReducedStream};
+ghost use Rattle.stream_check.specs.Laws.{FreshLeft, PendingGrows, GoodLineTaken, BadLineTaken, BadTextRead, MemoryWanted, EndJudged, OverStays, OneReport, RepliesDecide, LegalNeverFork, AloneDecides, GoodExactlyIf, GoodFollows, LineCalls, EarlyEvents, VacantTriesAgain, ReducedLine, ReducedStream, JudgedLinesCut, HintsFetched};
 
 use lrup_model::laws::propagation_sound;
 use lrup_text::laws::{
@@ -124,3 +124,23 @@ pub fn reduced_line()
 pub fn reduced_stream()
     ensures { ReducedStream }
 {}
+
+/// The lines that a stream is judged by are the first of those that its bytes are cut into.
+pub fn judged_lines_cut()
+    ensures { JudgedLinesCut }
+{
+    a_text_spells_one_line();
+    no_text_begins_another();
+    texts_are_lines();
+    a_text_has_one_fault();
+}
+
+/// A stream fetches no identity but the hints of its lines.
+pub fn hints_fetched()
+    ensures { HintsFetched }
+{
+    a_text_spells_one_line();
+    no_text_begins_another();
+    texts_are_lines();
+    a_text_has_one_fault();
+}
