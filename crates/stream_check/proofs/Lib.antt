@@ -8,3 +8,5 @@ pub mod ReducedLemmas
 pub mod EventLemmas
 pub mod FindingLemmas
 pub mod CutLemmas
+pub mod CountLemmas
+pub mod DeletedLemmas

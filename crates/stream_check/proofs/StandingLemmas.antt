@@ -25,10 +25,10 @@ last_in-snoc_deletion p (Addition j ls hs ∷ lines) lead ids = ap (max j) (last
 last_in-snoc_deletion p (Deletion l is ∷ lines) lead ids = last_in-snoc_deletion p lines lead ids
 
 -- a good addition has an identity above those before it
-last_below : (c : Setting) (st : Standing) (id : ℕ) (lits : List ℤ) (hints : List ℕ) (es : History) → JudgesLine c st (Addition id lits hints) es Good → st.last < id
+pub last_below : (c : Setting) (st : Standing) (id : ℕ) (lits : List ℤ) (hints : List ℕ) (es : History) → JudgesLine c st (Addition id lits hints) es Good → st.last < id
 last_below c st id lits hints es j = elim j [ inl bad ↦ absurd (let e : Good ≡ Bad 0 _ = bad.1.1 in cc) | inr next ↦ next.0.1 ]
 
-same_last : (c : Setting) (lines : List StreamLine) (line : StreamLine) (es : History) → JudgesLine c (standing_of c lines) line es Good → last_in c.layout (lines ++ line ∷ []) ≡ last_after (last_in c.layout lines) line
+pub same_last : (c : Setting) (lines : List StreamLine) (line : StreamLine) (es : History) → JudgesLine c (standing_of c lines) line es Good → last_in c.layout (lines ++ line ∷ []) ≡ last_after (last_in c.layout lines) line
 same_last c lines (Addition id lits hints) es j =
     let below = last_below c (standing_of c lines) id lits hints es j in
     omega (arith, last_in-snoc c.layout lines id lits hints, below)

@@ -1,13 +1,13 @@
 -- Laws of judging. Each is the contract of a function of laws.
-use Rattle.std.specs.Prelude.{◌≡◌, ◌↔◌, ◌++◌, ℕ, ℤ, Bool, IsTrue, List, [], ◌∷◌, map, length}
+use Rattle.std.specs.Prelude.{◌≡◌, ◌↔◌, ◌≤◌, ◌++◌, ℕ, ℤ, Bool, IsTrue, List, [], ◌∷◌, map, length}
 use Rattle.std.specs.List.{AllByRecursion}
 use Rattle.lrup_model.specs.Formula.{Cnf}
 use Rattle.lrup_model.specs.Entailment.{Follows}
-use Rattle.lrup_model.specs.Layout.{Plan}
+use Rattle.lrup_model.specs.Layout.{Plan, last_identity}
 use Rattle.lrup_model.specs.State.{State}
 use Rattle.lrup_model.specs.History.{LegalFrom, IsLegal}
 use Rattle.lrup_model.specs.Event as events
-use Rattle.lrup_model.specs.Event.{Event, History, stream_of}
+use Rattle.lrup_model.specs.Event.{Event, History, stream_of, own}
 use Rattle.lrup_text.specs.declared.LineFault.{LineFault}
 use Rattle.lrup_text.specs.Lines.{StreamLine, Addition, Deletion, Cut, LineText, IsPending}
 use Rattle.lrup_text.specs.Faults.{IsRefused}
@@ -172,3 +172,12 @@ HintsFetched = (c : Setting) (bytes : List ℕ) (end : StreamEnd) (blocks : List
     → JudgesBlocks c bytes end blocks report → Cut bytes all rest
     → AllByRecursion (λ line. AllByRecursion (λ h. IsTrue (p h)) (hints_of line)) all
     → AllByRecursion (FetchesOnly p) (joined blocks)
+
+-- Counts
+
+-- In a legal history a stream adds and deletes no more than there are identities.
+abbrev pub CountsWithin : Type 0
+CountsWithin = (f : Cnf) (c : Setting) (h : History) (bytes : List ℕ) (end : StreamEnd) (blocks : List History) (report : Report)
+    → IsLegal f c.layout h → own h c.stream ≡ joined blocks
+    → JudgesBlocks c bytes end blocks report
+    → (report.added ≤ last_identity c.layout) × (report.deleted ≤ last_identity c.layout)
