@@ -34,7 +34,7 @@ use Rattle.stream_check.proofs.CountLemmas.{put_same, OwnAnswers, OwnRun, run_re
 
 -- Sides and identities
 
-identity_below : (p : Plan) (id : ℕ) → (owner p id ≡ owners.Outside → ⊥) → IsIdentity p id
+pub identity_below : (p : Plan) (id : ℕ) → (owner p id ≡ owners.Outside → ⊥) → IsIdentity p id
 identity_below p id inside = elim (eqb_tells id 0) [
     inl none ↦ absurd (inside (cond-true (nat_eq id 0) owners.Outside _ none.0))
   | inr some ↦
@@ -64,7 +64,7 @@ abbrev pub Apart : List ℕ → Type 0
 Apart [] = Unit {0}
 Apart (x ∷ xs) = AllByRecursion (λ y. eqb x y ≡ false) xs × Apart xs
 
-distinct : (xs : List ℕ) → Apart xs → IsDistinct eqb xs
+pub distinct : (xs : List ℕ) → Apart xs → IsDistinct eqb xs
 unfolding IsDistinct
 distinct [] apart = tt
 distinct (x ∷ xs) apart = (apart.0, distinct xs apart.1)
@@ -214,7 +214,7 @@ took_at own c n gone earlier id ids many es rest v A side next at answers are = 
   | inr bad ↦ took_failed c n gone earlier (id ∷ ids) many es v (faults.NotLive id) bad.2 are
   ]
 
-identities_took : (c : Setting) (n : State) (gone : ℕ → Bool) (earlier ids : List ℕ) (many : ℕ) (es rest : History) (v : Verdict)
+pub identities_took : (c : Setting) (n : State) (gone : ℕ → Bool) (earlier ids : List ℕ) (many : ℕ) (es rest : History) (v : Verdict)
     → JudgesIdentities c gone earlier ids es v → OwnRun n (es ++ rest) → AreTaken c n gone earlier many → Took c n gone earlier ids many es v
 identities_took c n gone earlier [] many es rest v judged answers are = took_none c n gone earlier many es v judged.0 judged.1 are
 identities_took c n gone earlier (id ∷ ids) many es rest v judged answers are =
@@ -264,7 +264,7 @@ line_took c n before (Deletion lead ids) many es rest judged answers are =
     line_taken c (run n es) (run n es) before (Deletion lead ids) (many + length ids) (λ y is. is)
         (identities_took c n (is_gone c before) [] ids many es rest Good judged answers are)
 
-lines_took : (c : Setting) (n : State) (before lines : List StreamLine) (blocks : List History) (many : ℕ) (rest : History)
+pub lines_took : (c : Setting) (n : State) (before lines : List StreamLine) (blocks : List History) (many : ℕ) (rest : History)
     → AreGood c before lines blocks → OwnRun n (joined blocks ++ rest) → AreTaken c n (is_gone c before) [] many
     → AreTaken c (run n (joined blocks)) (is_gone c (before ++ lines)) [] (many + sum_by (λ l. length (deleted_by l)) lines)
 lines_took c n before [] [] many rest good answers are =

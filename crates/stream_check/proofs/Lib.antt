@@ -10,3 +10,4 @@ pub mod FindingLemmas
 pub mod CutLemmas
 pub mod CountLemmas
 pub mod DeletedLemmas
+pub mod WithinLemmas

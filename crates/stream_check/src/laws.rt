@@ -1,5 +1,5 @@
 //! Laws of judging. Each function does nothing; its contract is the law, which holds of every stream, layout and history.
-ghost use Rattle.stream_check.specs.Laws.{FreshLeft, PendingGrows, GoodLineTaken, BadLineTaken, BadTextRead, MemoryWanted, EndJudged, OverStays, OneReport, RepliesDecide, LegalNeverFork, AloneDecides, GoodExactlyIf, GoodFollows, LineCalls, EarlyEvents, VacantTriesAgain, ReducedLine, ReducedStream, JudgedLinesCut, HintsFetched};
+ghost use Rattle.stream_check.specs.Laws.{FreshLeft, PendingGrows, GoodLineTaken, BadLineTaken, BadTextRead, MemoryWanted, EndJudged, OverStays, OneReport, RepliesDecide, LegalNeverFork, AloneDecides, GoodExactlyIf, GoodFollows, LineCalls, EarlyEvents, VacantTriesAgain, ReducedLine, ReducedStream, JudgedLinesCut, HintsFetched, CountsWithin};
 
 use lrup_model::laws::propagation_sound;
 use lrup_text::laws::{
@@ -144,3 +144,8 @@ pub fn hints_fetched()
     texts_are_lines();
     a_text_has_one_fault();
 }
+
+/// In a legal history a stream adds and deletes no more than there are identities.
+pub fn counts_within()
+    ensures { CountsWithin }
+{}
