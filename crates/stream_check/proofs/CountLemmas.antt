@@ -1,24 +1,15 @@
 -- How many identities a stream deletes, and how many clauses it adds, in a legal history.
-use Rattle.std.proofs.Common.{◌≡◌, ◌≢◌, ◌⊎◌, ◌<◌, ◌≤◌, ◌+◌, ◌-◌, ◌%◌, ◌==◌, ◌&&◌, ◌||◌, ℕ, zero, suc, ℤ, nat_abs, Bool, true, false, max, List, [], ◌∷◌, ◌++◌, length, length-append, if◌then◌else◌, eqb, nat_eq, nat_le, inl, inr, refl, sym, ap, subst, ◌∙◌, arith, append_assoc, append-nil}
-use Rattle.std.specs.List.{AllByRecursion, IsDistinct, list_any, filter, sum_by}
+use Rattle.std.proofs.Common.{◌≡◌, ◌≢◌, ◌==◌, ℕ, [], ◌∷◌, ◌++◌, if◌then◌else◌, inl, inr, sym, ap, subst, ◌∙◌}
 use Rattle.std.proofs.lemmas.Bool.{cond-true, cond-false}
 use Rattle.std.proofs.lemmas.Bool.Decides.{eqb_tells, Decides-eqb}
-use Rattle.std.proofs.lemmas.List.Folds.{list_any-append}
-use Rattle.std.proofs.lemmas.List.Sums.{sum_by-append}
-use Rattle.std.proofs.lemmas.Map.Steps.{length-le_from_distinct_below}
-use Rattle.lrup_model.specs.Clause.{Clause, IsTautology}
 use Rattle.lrup_model.specs.Formula.{Cnf}
-use Rattle.lrup_model.specs.Layout.{Plan, last_identity, IsIdentity, owner, Owns}
-use Rattle.lrup_model.specs.declared.layout.Owner.{Owner}
+use Rattle.lrup_model.specs.Layout.{Plan, Owns}
 use Rattle.lrup_model.specs.declared.layout.Owner.TheVariants as owners
 use Rattle.lrup_model.specs.Event as events
 use Rattle.lrup_model.specs.Event.{Event, History, stream_of, own}
-use Rattle.lrup_model.specs.State.{State, Slot, absent, live, retired, IsLive, IsRetired, retire_slot, put, after, run, opening, Answers}
-use Rattle.lrup_model.specs.Running.{run-append}
-use Rattle.lrup_model.specs.History.{LegalFrom, IsLegal}
-use Rattle.lrup_model.specs.declared.clause_map.Published.{Published}
+use Rattle.lrup_model.specs.State.{State, Slot, absent, live, retired, IsLive, IsRetired, retire_slot, put, after, run}
+use Rattle.lrup_model.specs.History.{LegalFrom}
 use Rattle.lrup_model.specs.declared.clause_map.Published.TheVariants as publishing
-use Rattle.lrup_model.specs.declared.clause_map.Retired.{Retired}
 use Rattle.lrup_model.specs.declared.clause_map.Retired.TheVariants as retiring
 
 -- The state at one identity, after a put
@@ -28,9 +19,9 @@ put_same m id j slot e = cond-true (j == id) slot (m j) ((Decides-eqb j id).1 e)
 
 pub put_other : (m : State) (id j : ℕ) (slot : Slot) → j ≢ id → put m id slot j ≡ m j
 put_other m id j slot ne = elim (eqb_tells j id) [
-    inl same ↦ absurd (ne same.1)
+  | inl same ↦ absurd (ne same.1)
   | inr other ↦ cond-false (j == id) slot (m j) other.0
-  ]
+]
 
 -- A stream's own events, run by themselves
 
@@ -87,11 +78,11 @@ pub own_runs : (f : Cnf) (p : Plan) (s : ℕ) (m n : State) (h : History) → Le
 unfolding OwnRun
 own_runs f p s m n [] legal same = tt
 own_runs f p s m n (e ∷ h) legal same = elim (eqb_tells (stream_of e) s) [
-    inl mine ↦ subst (OwnRun n) (sym (cond-true (stream_of e == s) (e ∷ own h s) (own h s) mine.0))
-        (own_answers f p s m n e h mine.1 same legal, own_runs f p s (after m e) (after n e) h legal.2 (own_after f p s m n e h mine.1 same legal))
+  | inl mine ↦ subst (OwnRun n) (sym (cond-true (stream_of e == s) (e ∷ own h s) (own h s) mine.0))
+      (own_answers f p s m n e h mine.1 same legal, own_runs f p s (after m e) (after n e) h legal.2 (own_after f p s m n e h mine.1 same legal))
   | inr other ↦ subst (OwnRun n) (sym (cond-false (stream_of e == s) (e ∷ own h s) (own h s) other.0))
-        (own_runs f p s (after m e) n h legal.2 (other_after f p s m n e h other.1 same legal))
-  ]
+      (own_runs f p s (after m e) n h legal.2 (other_after f p s m n e h other.1 same legal))
+]
 
 -- what is retired stays so
 pub stays_retired : (n : State) (e : Event) (id : ℕ) → OwnAnswers n e → IsRetired (n id) → IsRetired (after n e id)

@@ -1,13 +1,13 @@
 -- The lines that a stream is judged by, and what they fetch.
-use Rattle.std.proofs.Common.{◌≡◌, ◌⊎◌, ℕ, Bool, IsTrue, List, [], ◌∷◌, ◌++◌, inl, inr, refl, sym, ap, subst, ◌∙◌, append_assoc, append-nil}
+use Rattle.std.proofs.Common.{◌≡◌, ℕ, Bool, IsTrue, List, [], ◌∷◌, ◌++◌, inl, inr, refl, sym, ap, subst, ◌∙◌, append-nil}
 use Rattle.std.specs.List.{AllByRecursion, flat_map}
-use Rattle.lrup_model.specs.Event.{Event, History}
-use Rattle.lrup_text.specs.Lines.{StreamLine, Addition, Deletion, Fits, text_of, HasNoLine, Cut}
+use Rattle.lrup_model.specs.Event.{History}
+use Rattle.lrup_text.specs.Lines.{StreamLine, Deletion, Fits, text_of, HasNoLine}
 use Rattle.stream_check.specs.declared.report.Report.{Report}
 use Rattle.stream_check.specs.Setting.{Setting}
-use Rattle.stream_check.specs.Standing.{Standing, standing_of}
-use Rattle.stream_check.specs.Verdicts.{Verdict, Good, Bad}
-use Rattle.stream_check.specs.Judging.{JudgesLine, AreGood, joined, EndsAfter, StreamEnd, JudgesBlocks}
+use Rattle.stream_check.specs.Standing.{standing_of}
+use Rattle.stream_check.specs.Verdicts.{Good, Bad}
+use Rattle.stream_check.specs.Judging.{AreGood, joined, EndsAfter, StreamEnd}
 use Rattle.stream_check.specs.Laws.{hints_of, FetchesOnly, JudgedLinesCut, HintsFetched}
 use Rattle.stream_check.proofs.LeavingLemmas.{joined-append}
 use Rattle.stream_check.proofs.EventLemmas.{all_append, line_fetches}
@@ -49,7 +49,7 @@ good_fetch c p before [] (block ∷ blocks) all good = absurd good
 good_fetch c p before (line ∷ lines) [] all good = absurd good
 good_fetch c p before (line ∷ lines) (block ∷ blocks) all good =
     all_append (FetchesOnly p) block (joined blocks) (line_fetches c p (standing_of c before) line block Good all.0 good.0)
-        (good_fetch c p (before ++ line ∷ []) lines blocks all.1 good.1)
+    (good_fetch c p (before ++ line ∷ []) lines blocks all.1 good.1)
 
 one_fetches : (p : ℕ → Bool) (block : History) (back : List History) → back ≡ block ∷ [] → AllByRecursion (FetchesOnly p) block → AllByRecursion (FetchesOnly p) (joined back)
 one_fetches p block back e all = subst (λ b. AllByRecursion (FetchesOnly p) (joined b)) (sym e) (subst (AllByRecursion (FetchesOnly p)) (sym (append-nil block)) all)
@@ -81,5 +81,5 @@ hints_fetched laws c bytes end blocks report all rest p j cut passes =
     let parts = lines_append (HintsPass p) j.lines more (subst (AllByRecursion (HintsPass p)) begins.1 passes) in
     let fit = lines_append Fits j.lines more (subst (AllByRecursion Fits) begins.1 cut.each) in
     let whole = all_append (FetchesOnly p) (joined j.front) (joined j.back) (good_fetch c p [] j.lines j.front parts.0 j.begins.good)
-        (ends_fetch laws c p j.lines more j.rest rest end j.back report begins.2 fit.1 cut.last parts.1 j.ends) in
+    (ends_fetch laws c p j.lines more j.rest rest end j.back report begins.2 fit.1 cut.last parts.1 j.ends) in
     subst (AllByRecursion (FetchesOnly p)) (sym (ap joined j.split ∙ joined-append j.front j.back)) whole

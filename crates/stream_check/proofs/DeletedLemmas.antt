@@ -1,52 +1,42 @@
 -- The identities that a stream deletes in a legal history differ from each other.
-use Rattle.std.proofs.Common.{◌≡◌, ◌≢◌, ◌⊎◌, ◌<◌, ◌≤◌, ◌+◌, ◌-◌, ◌%◌, ◌==◌, ◌&&◌, ◌||◌, ℕ, zero, suc, ℤ, nat_abs, Bool, true, false, max, List, [], ◌∷◌, ◌++◌, length, length-append, if◌then◌else◌, eqb, nat_eq, nat_le, inl, inr, refl, sym, ap, subst, ◌∙◌, arith, append_assoc, append-nil}
-use Rattle.std.specs.List.{AllByRecursion, IsDistinct, list_any, filter, sum_by}
+use Rattle.std.proofs.Common.{◌≡◌, ◌<◌, ◌+◌, ◌==◌, ◌&&◌, ◌||◌, ℕ, Bool, true, false, List, [], ◌∷◌, ◌++◌, length, length-append, eqb, nat_eq, nat_le, inl, inr, refl, sym, ap, subst, ◌∙◌, arith, append_assoc, append-nil}
+use Rattle.std.specs.List.{AllByRecursion, IsDistinct, list_any, sum_by}
 use Rattle.std.proofs.lemmas.Bool.{cond-true, cond-false}
 use Rattle.std.proofs.lemmas.Bool.Decides.{eqb_tells, leb_tells, Decides-eqb}
 use Rattle.std.proofs.lemmas.List.Folds.{list_any-append}
 use Rattle.std.proofs.lemmas.List.Sums.{sum_by-append}
-use Rattle.std.proofs.lemmas.Map.Steps.{length-le_from_distinct_below}
-use Rattle.lrup_model.specs.Clause.{Clause, IsTautology}
-use Rattle.lrup_model.specs.Formula.{Cnf}
-use Rattle.lrup_model.specs.Layout.{Plan, last_identity, IsIdentity, owner, Owns}
-use Rattle.lrup_model.specs.declared.layout.Owner.{Owner}
+use Rattle.lrup_model.specs.Layout.{Plan, last_identity, IsIdentity, owner}
 use Rattle.lrup_model.specs.declared.layout.Owner.TheVariants as owners
 use Rattle.lrup_model.specs.Event as events
 use Rattle.lrup_model.specs.Event.{Event, History, Reply, stream_of}
-use Rattle.lrup_model.specs.State.{State, Slot, absent, live, retired, IsLive, IsRetired, retire_slot, put, after, run, opening}
+use Rattle.lrup_model.specs.State.{State, Slot, absent, live, retired, IsLive, IsRetired, retire_slot, after, run}
 use Rattle.lrup_model.specs.Running.{run-append}
-use Rattle.lrup_model.specs.History.{IsLegal}
 use Rattle.lrup_model.specs.declared.clause_map.Retired.TheVariants as retiring
-use Rattle.lrup_text.specs.Lines.{StreamLine, Addition, Deletion, Fits}
-use Rattle.propagate.specs.Different.{different}
+use Rattle.lrup_text.specs.Lines.{StreamLine, Addition, Deletion}
 use Rattle.stream_check.specs.declared.fault.Fault.{Fault}
 use Rattle.stream_check.specs.declared.fault.Fault.TheVariants as faults
-use Rattle.stream_check.specs.declared.report.Report.{Report}
-use Rattle.stream_check.specs.Setting.{Setting, Side, formula, own, foreign, outside, side_for, side_of, is_shared}
-use Rattle.stream_check.specs.Standing.{Standing, standing_of, is_among, is_gone, deleted_by, added_by, last_in, tally_of}
-use Rattle.stream_check.specs.Verdicts.{Verdict, Good, Bad, Fails, Test}
-use Rattle.stream_check.specs.Asking.{AsksThen}
-use Rattle.stream_check.specs.Additions.{AtConflict, AtReply, JudgesHints, published_by, JudgesAddition}
-use Rattle.stream_check.specs.Deletions.{is_dropped, FailsAt, RetiresThen, DropsThen, DeletesAt, JudgesIdentities, JudgesDeletion, StopsDeletion}
-use Rattle.stream_check.specs.Judging.{JudgesLine, AreGood, joined, report_of, EndsAfter, StreamEnd, JudgesBlocks}
-use Rattle.stream_check.proofs.StandingLemmas.{last_below, same_last}
+use Rattle.stream_check.specs.Setting.{Setting, Side, formula, own, foreign, outside, side_of, is_shared}
+use Rattle.stream_check.specs.Standing.{standing_of, is_among, is_gone, deleted_by}
+use Rattle.stream_check.specs.Verdicts.{Verdict, Good, Bad}
+use Rattle.stream_check.specs.Deletions.{is_dropped, DeletesAt, JudgesIdentities}
+use Rattle.stream_check.specs.Judging.{JudgesLine, AreGood, joined}
 use Rattle.stream_check.proofs.CountLemmas.{put_same, OwnAnswers, OwnRun, run_retired, run_on, stays_retired}
 
 -- Sides and identities
 
 pub identity_below : (p : Plan) (id : ℕ) → (owner p id ≡ owners.Outside → ⊥) → IsIdentity p id
 identity_below p id inside = elim (eqb_tells id 0) [
-    inl none ↦ absurd (inside (cond-true (nat_eq id 0) owners.Outside _ none.0))
+  | inl none ↦ absurd (inside (cond-true (nat_eq id 0) owners.Outside _ none.0))
   | inr some ↦
       let positive : 0 < id = omega (arith, some.1) in
       elim (leb_tells id p.clauses) [
-        inl low ↦ (positive, omega (arith, low.1))
-      | inr high ↦ elim (leb_tells id (last_identity p)) [
-          inl within ↦ (positive, within.1)
-        | inr above ↦ absurd (inside (cond-false (nat_eq id 0) owners.Outside _ some.0 ∙ cond-false (nat_le id p.clauses) owners.Formula _ high.0 ∙ cond-false (nat_le id (last_identity p)) _ owners.Outside above.0))
+        | inl low ↦ (positive, omega (arith, low.1))
+        | inr high ↦ elim (leb_tells id (last_identity p)) [
+          | inl within ↦ (positive, within.1)
+          | inr above ↦ absurd (inside (cond-false (nat_eq id 0) owners.Outside _ some.0 ∙ cond-false (nat_le id p.clauses) owners.Formula _ high.0 ∙ cond-false (nat_le id (last_identity p)) _ owners.Outside above.0))
         ]
       ]
-  ]
+]
 
 -- An identity that was taken
 
@@ -84,9 +74,9 @@ all_map P Q (x ∷ xs) maps all = (maps x all.0, all_map P Q xs maps all.1)
 fresh : (c : Setting) (n : State) (gone : ℕ → Bool) (earlier : List ℕ) (id : ℕ) (ids : List ℕ) → ¬ Taken c n gone earlier id → AllByRecursion (Taken c n gone earlier) ids → AllByRecursion (λ y. eqb id y ≡ false) ids
 fresh c n gone earlier id [] new all = tt
 fresh c n gone earlier id (y ∷ ids) new all = elim (eqb_tells id y) [
-    inl same ↦ absurd (new (subst (Taken c n gone earlier) (sym same.1) all.0))
+  | inl same ↦ absurd (new (subst (Taken c n gone earlier) (sym same.1) all.0))
   | inr other ↦ (other.0, fresh c n gone earlier id ids new all.1)
-  ]
+]
 
 or_more : (a b d : Bool) → (a || b) ≡ true → (a || (b || d)) ≡ true
 or_more true b d e = refl
@@ -175,10 +165,10 @@ unfolding OwnAnswers
 took_own c n gone earlier id many side is_live are =
     let e = events.retire c.stream id retiring.Done in
     take_more c n (after n e) gone earlier id many (λ y is. stays_retired n e y is_live is)
-        (λ t. live_not_retired (n id) is_live (subst (λ x. TakenAt x n gone earlier id) side t))
-        (subst (λ x. TakenAt x (after n e) gone (earlier ++ id ∷ []) id) (sym side)
-            (subst IsRetired (sym (put_same n id id (retire_slot (n id)) refl)) (retired_now (n id) is_live)))
-        are
+    (λ t. live_not_retired (n id) is_live (subst (λ x. TakenAt x n gone earlier id) side t))
+    (subst (λ x. TakenAt x (after n e) gone (earlier ++ id ∷ []) id) (sym side)
+    (subst IsRetired (sym (put_same n id id (retire_slot (n id)) refl)) (retired_now (n id) is_live)))
+    are
 
 took_formula : (c : Setting) (n : State) (gone : ℕ → Bool) (earlier : List ℕ) (id many : ℕ) → side_of c id ≡ formula → is_dropped gone earlier id ≡ false
     → AreTaken c n gone earlier many → AreTaken c n gone (earlier ++ id ∷ []) (many + 1)
@@ -205,22 +195,22 @@ took_at foreign c n gone earlier id ids many es rest v A side next (inr good) an
     took_back c n gone earlier id ids many es v (next n es good.1 answers (took_foreign c n gone earlier id many side good.0 are))
 took_at outside c n gone earlier id ids many es rest v A side next at answers are = took_failed c n gone earlier (id ∷ ids) many es v (faults.NotLive id) at.1 are
 took_at own c n gone earlier id ids many es rest v A side next at answers are = elim at.decided [
-    inl good ↦
+  | inl good ↦
       let e = events.retire c.stream id retiring.Done in
       let here = subst (λ x. OwnRun n (x ++ rest)) good.0 answers in
       took_back c n gone earlier id ids many es v
-          (took_later c n gone (earlier ++ id ∷ []) ids (many + 1) e es at.rest v good.0
-              (next (after n e) at.rest good.1 here.1 (took_own c n gone earlier id many side here.0 are)))
+      (took_later c n gone (earlier ++ id ∷ []) ids (many + 1) e es at.rest v good.0
+      (next (after n e) at.rest good.1 here.1 (took_own c n gone earlier id many side here.0 are)))
   | inr bad ↦ took_failed c n gone earlier (id ∷ ids) many es v (faults.NotLive id) bad.2 are
-  ]
+]
 
 pub identities_took : (c : Setting) (n : State) (gone : ℕ → Bool) (earlier ids : List ℕ) (many : ℕ) (es rest : History) (v : Verdict)
     → JudgesIdentities c gone earlier ids es v → OwnRun n (es ++ rest) → AreTaken c n gone earlier many → Took c n gone earlier ids many es v
 identities_took c n gone earlier [] many es rest v judged answers are = took_none c n gone earlier many es v judged.0 judged.1 are
 identities_took c n gone earlier (id ∷ ids) many es rest v judged answers are =
     took_at (side_of c id) c n gone earlier id ids many es rest v (λ left. JudgesIdentities c gone (earlier ++ id ∷ []) ids left v) refl
-        (λ m left k answers are. identities_took c m gone (earlier ++ id ∷ []) ids (many + 1) left rest v k answers are)
-        judged answers are
+    (λ m left k answers are. identities_took c m gone (earlier ++ id ∷ []) ids (many + 1) left rest v k answers are)
+    judged answers are
 
 -- What lines took
 
@@ -259,10 +249,10 @@ line_took : (c : Setting) (n : State) (before : List StreamLine) (line : StreamL
     → AreTaken c (run n es) (is_gone c (before ++ line ∷ [])) [] (many + length (deleted_by line))
 line_took c n before (Addition id lits hints) many es rest judged answers are =
     subst (AreTaken c (run n es) (is_gone c (before ++ Addition id lits hints ∷ [])) []) (omega arith)
-        (line_taken c n (run n es) before (Addition id lits hints) many (λ y is. run_retired n es rest y answers is) are)
+    (line_taken c n (run n es) before (Addition id lits hints) many (λ y is. run_retired n es rest y answers is) are)
 line_took c n before (Deletion lead ids) many es rest judged answers are =
     line_taken c (run n es) (run n es) before (Deletion lead ids) (many + length ids) (λ y is. is)
-        (identities_took c n (is_gone c before) [] ids many es rest Good judged answers are)
+    (identities_took c n (is_gone c before) [] ids many es rest Good judged answers are)
 
 pub lines_took : (c : Setting) (n : State) (before lines : List StreamLine) (blocks : List History) (many : ℕ) (rest : History)
     → AreGood c before lines blocks → OwnRun n (joined blocks ++ rest) → AreTaken c n (is_gone c before) [] many

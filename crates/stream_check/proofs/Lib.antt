@@ -11,3 +11,4 @@ pub mod CutLemmas
 pub mod CountLemmas
 pub mod DeletedLemmas
 pub mod WithinLemmas
+pub mod WorkedLemmas

@@ -1,13 +1,11 @@
 -- The counts of a report are at most the identities, in a legal history.
-use Rattle.std.proofs.Common.{◌≡◌, ◌≢◌, ◌⊎◌, ◌<◌, ◌≤◌, ◌+◌, ◌||◌, ℕ, zero, suc, ℤ, nat_abs, Bool, true, false, List, [], ◌∷◌, ◌++◌, length, eqb, inl, inr, refl, sym, ap, subst, ◌∙◌, arith, append_assoc, append-nil}
-use Rattle.std.specs.List.{AllByRecursion, IsDistinct, list_any, sum_by}
+use Rattle.std.proofs.Common.{◌≡◌, ◌<◌, ◌≤◌, ◌+◌, ◌||◌, ℕ, ℤ, nat_abs, Bool, true, false, List, [], ◌∷◌, ◌++◌, length, eqb, inl, inr, refl, sym, ap, subst, ◌∙◌, arith, append_assoc, append-nil}
+use Rattle.std.specs.List.{AllByRecursion, list_any, sum_by}
 use Rattle.std.proofs.lemmas.Bool.Decides.{eqb_tells}
 use Rattle.std.proofs.lemmas.List.Sums.{sum_by-append}
 use Rattle.std.proofs.lemmas.Map.Steps.{length-le_from_distinct_below}
 use Rattle.lrup_model.specs.Clause.{IsTautology}
-use Rattle.lrup_model.specs.Formula.{Cnf}
-use Rattle.lrup_model.specs.Layout.{Plan, last_identity, IsIdentity, owner, Owns}
-use Rattle.lrup_model.specs.declared.layout.Owner.{Owner}
+use Rattle.lrup_model.specs.Layout.{Plan, last_identity, IsIdentity, Owns}
 use Rattle.lrup_model.specs.declared.layout.Owner.TheVariants as owners
 use Rattle.lrup_model.specs.Event as events
 use Rattle.lrup_model.specs.Event.{Event, History, Reply, own}
@@ -17,13 +15,11 @@ use Rattle.propagate.specs.Different.{different}
 use Rattle.stream_check.specs.declared.fault.Fault.{Fault}
 use Rattle.stream_check.specs.declared.fault.Fault.TheVariants as faults
 use Rattle.stream_check.specs.declared.report.Report.{Report}
-use Rattle.stream_check.specs.Setting.{Setting, side_for, side_of}
-use Rattle.stream_check.specs.Standing.{Standing, standing_of, is_gone, deleted_by, added_by, last_in, tally_of}
+use Rattle.stream_check.specs.Setting.{Setting, side_for}
+use Rattle.stream_check.specs.Standing.{Standing, standing_of, is_gone, deleted_by, added_by, last_in}
 use Rattle.stream_check.specs.Verdicts.{Verdict, Good, Bad, Fails, Test}
-use Rattle.stream_check.specs.Asking.{AsksThen}
 use Rattle.stream_check.specs.Additions.{AtConflict, AtReply, JudgesHints, published_by, JudgesAddition}
-use Rattle.stream_check.specs.Deletions.{JudgesDeletion, StopsDeletion}
-use Rattle.stream_check.specs.Judging.{JudgesLine, AreGood, joined, EndsAfter, StreamEnd, JudgesBlocks}
+use Rattle.stream_check.specs.Judging.{JudgesLine, AreGood, joined, EndsAfter, StreamEnd}
 use Rattle.stream_check.specs.Laws.{CountsWithin}
 use Rattle.stream_check.proofs.StandingLemmas.{last_below, same_last}
 use Rattle.stream_check.proofs.LeavingLemmas.{joined-append}
@@ -35,9 +31,9 @@ use Rattle.stream_check.proofs.DeletedLemmas.{identity_below, TakenAt, Taken, Ap
 all_below : (xs : List ℕ) (n : ℕ) → AllByRecursion (λ x. x < n) xs → (q : ℕ) → list_any (eqb q) xs ≡ true → q < n
 all_below [] n all q e = absurd (let f : false ≡ true = e in cc)
 all_below (x ∷ xs) n all q e = elim (eqb_tells q x) [
-    inl same ↦ subst (λ y. y < n) (sym same.1) all.0
+  | inl same ↦ subst (λ y. y < n) (sym same.1) all.0
   | inr other ↦ all_below xs n all.1 q (sym (ap (λ b. b || list_any (eqb q) xs) other.0) ∙ e)
-  ]
+]
 
 -- an identity that was taken is one
 taken_is : (c : Setting) (n : State) (gone : ℕ → Bool) (earlier : List ℕ) (id : ℕ) → Taken c n gone earlier id → IsIdentity c.layout id
@@ -60,7 +56,7 @@ taken_within c n gone earlier many are =
     let with_zero : Apart (0 ∷ are.ids) = (not_zero c n gone earlier are.ids are.taken, are.apart) in
     let below : AllByRecursion (λ x. x < last_identity c.layout + 1) (0 ∷ are.ids) = (omega arith, taken_below c n gone earlier are.ids are.taken) in
     let few : length (0 ∷ are.ids) ≤ last_identity c.layout + 1 =
-        length-le_from_distinct_below (0 ∷ are.ids) (last_identity c.layout + 1) (distinct (0 ∷ are.ids) with_zero) (all_below (0 ∷ are.ids) (last_identity c.layout + 1) below) in
+    length-le_from_distinct_below (0 ∷ are.ids) (last_identity c.layout + 1) (distinct (0 ∷ are.ids) with_zero) (all_below (0 ∷ are.ids) (last_identity c.layout + 1) below) in
     omega (arith, few, are.count)
 
 -- A bad addition deletes nothing
@@ -94,9 +90,9 @@ hints_none : (c : Setting) (gone : ℕ → Bool) (published : Event) (n : List �
 hints_none c gone published n [] es v judged = failed_none faults.NoConflict es v judged
 hints_none c gone published n (h ∷ hints) es v judged =
     test_none (gone h ≡ false) (faults.Dropped h) es v _
-        (λ a. reply_none a.reply n h hints published a.rest v (λ m. JudgesHints c gone published m hints a.rest v)
-            (λ m k. hints_none c gone published m hints a.rest v k) a.next)
-        judged
+    (λ a. reply_none a.reply n h hints published a.rest v (λ m. JudgesHints c gone published m hints a.rest v)
+    (λ m k. hints_none c gone published m hints a.rest v k) a.next)
+    judged
 
 addition_none : (c : Setting) (st : Standing) (id : ℕ) (lits : List ℤ) (hints : List ℕ) (es : History) (v : Verdict) → JudgesAddition c st id lits hints es v → deleted_of v ≡ 0
 addition_none c st id lits hints es v judged =
@@ -173,7 +169,7 @@ lines_added c before [] blocks good are = subst (AreFewAdded c) (sym (append-nil
 lines_added c before (line ∷ lines) [] good are = absurd good
 lines_added c before (line ∷ lines) (block ∷ blocks) good are =
     subst (AreFewAdded c) (append_assoc before (line ∷ []) lines)
-        (lines_added c (before ++ line ∷ []) lines blocks good.1 (one_added c before line block good.0 are))
+    (lines_added c (before ++ line ∷ []) lines blocks good.1 (one_added c before line block good.0 are))
 
 added_is : (c : Setting) (lines : List StreamLine) (rest : List ℕ) (end : StreamEnd) (back : List History) (report : Report) → EndsAfter c lines rest end back report → report.added ≡ sum_by added_by lines
 added_is c lines rest end back report (inl e) = ap (λ (r : Report). r.added) e.says
@@ -189,7 +185,8 @@ counts_within f c h bytes end blocks report legal mine j =
     let none : AreTaken c (opening f) (is_gone c []) [] 0 = record { ids = []; apart = tt; taken = tt; count = refl } in
     let taken = lines_took c (opening f) [] j.lines j.front 0 (joined j.back) j.begins.good split none in
     let exact : AreTaken c (run (opening f) (joined j.front)) (is_gone c j.lines) [] (sum_by (λ l. length (deleted_by l)) j.lines) =
-        subst (AreTaken c (run (opening f) (joined j.front)) (is_gone c j.lines) []) (omega arith) taken in
-    let added = lines_added c [] j.lines j.front j.begins.good (record { few = omega arith; below = omega arith }) in
-    (omega (arith, added_is c j.lines j.rest end j.back report j.ends, added.few, added.below),
-     ends_delete c (run (opening f) (joined j.front)) j.lines j.rest end j.back report (run_on (opening f) (joined j.front) (joined j.back) split) exact j.ends)
+    subst (AreTaken c (run (opening f) (joined j.front)) (is_gone c j.lines) []) (omega arith) taken in
+    let added = lines_added c [] j.lines j.front j.begins.good (record { few = omega arith; below = omega arith }) in (
+      omega (arith, added_is c j.lines j.rest end j.back report j.ends, added.few, added.below),
+      ends_delete c (run (opening f) (joined j.front)) j.lines j.rest end j.back report (run_on (opening f) (joined j.front) (joined j.back) split) exact j.ends,
+    )

@@ -11,3 +11,4 @@ pub mod Forks
 pub mod Reducing
 pub mod Finding
 pub mod Laws
+pub mod Worked

@@ -4,6 +4,8 @@
 mod fault;
 pub mod laws;
 mod report;
+#[cfg(test)]
+mod worked;
 
 pub use fault::Fault;
 pub use report::{Ending, Report};
