@@ -74,7 +74,7 @@ reply_agree events.vacant n h hints published es fs v w A B next a b = fails_agr
 reply_agree (events.live d) n h hints published es fs v w A B next a b = clause_agree n d h hints published es fs v w A B next a b
 reply_agree events.retired n h hints published es fs v w A B next a b = fails_agree (faults.Retired h) es fs v w a b
 
--- behind the events of one hint
+-- after the events of one hint
 asks_agree : (c : Setting) (h : ℕ) (es fs q r : History) (v w : Verdict) (A B : Reply → History → Type 0)
     → ((x : Reply) (rest left : History) → NeverFork (rest ++ q) (left ++ r) → A x rest → B x left → Agree rest v left w)
     → AsksThen c h es A → AsksThen c h fs B → NeverFork (es ++ q) (fs ++ r) → Agree es v fs w
@@ -166,7 +166,7 @@ identities_agree c gone earlier (id ∷ ids) es fs q r v w a b never =
     (λ rest left behind one two. identities_agree c gone (earlier ++ id ∷ []) ids rest left q r v w one two behind)
     a b never
 
--- one line, after the same lines, whatever events come behind
+-- one line, after the same lines, whatever events come after
 pub line_agrees : (c : Setting) (st : Standing) (line : StreamLine) (es fs q r : History) (v w : Verdict)
     → JudgesLine c st line es v → JudgesLine c st line fs w → NeverFork (es ++ q) (fs ++ r) → Agree es v fs w
 line_agrees c st (Addition id lits hints) es fs q r v w a b never = addition_agrees c st id lits hints es fs q r v w a b never

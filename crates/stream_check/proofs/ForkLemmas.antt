@@ -26,7 +26,7 @@ pub never_fork_alone : (g : History) → NeverFork g g
 never_fork_alone [] = tt
 never_fork_alone (d ∷ g) = (λ same. refl, λ is. never_fork_alone g)
 
--- behind the same events
+-- after the same events
 pub never_fork_behind : (a g h : History) → NeverFork (a ++ g) (a ++ h) → NeverFork g h
 never_fork_behind [] g h never = never
 never_fork_behind (d ∷ a) g h never = never_fork_behind a g h (never.1 refl)
@@ -35,7 +35,7 @@ never_fork_behind (d ∷ a) g h never = never_fork_behind a g h (never.1 refl)
 abbrev pub fetches : ℕ → ℕ → ℕ → Reply → History
 fetches s id k r = replicate k (fetch s id vacant) ++ fetch s id r ∷ []
 
--- fetches that never fork are as many, with one last reply, where done of them are behind
+-- fetches that never fork are as many, with one last reply, where done of them are after
 same_fetches : (s id most done k j : ℕ) (x y : Reply) (q r : History)
     → k + done ≤ most → j + done ≤ most → (x ≡ vacant → k + done ≡ most) → (y ≡ vacant → j + done ≡ most)
     → NeverFork (fetches s id k x ++ q) (fetches s id j y ++ r) → (k ≡ j) × (x ≡ y)

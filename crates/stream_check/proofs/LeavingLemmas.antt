@@ -39,7 +39,7 @@ joined-append a b = flat_map-append (λ block. block) a b
 joined-snoc : (blocks : List History) (block : History) → joined (blocks ++ block ∷ []) ≡ joined blocks ++ block
 joined-snoc blocks block = joined-append blocks (block ∷ []) ∙ ap (λ b. joined blocks ++ b) (append-nil block)
 
--- more bytes behind the texts of lines
+-- more bytes after the texts of lines
 text_grows : (texts bytes rest piece : List ℕ) → bytes ≡ texts ++ rest → bytes ++ piece ≡ texts ++ (rest ++ piece)
 text_grows texts bytes rest piece e = ap (λ b. b ++ piece) e ∙ append_assoc texts rest piece
 
@@ -129,7 +129,7 @@ good_line_taken texts none c bytes piece es block old new line before text judge
       line = taken.line ∙ ap (λ n. min (n + 1) (2 ^ 64 - 1)) before.line ∙ next_number lines line;
     }
 
--- A stream that ends in some way behind the good lines that a checker holds.
+-- A stream that ends in some way after the good lines that a checker holds.
 ends_behind : (c : Setting) (bytes piece : List ℕ) (es block : History) (back : List History) (old : Holding) (end : StreamEnd) (report : Report)
     → (before : LeavesGoing c bytes es old) → joined back ≡ block
     → EndsAfter c before.lines (old.pending ++ piece) end back report

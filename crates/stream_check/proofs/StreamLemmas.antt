@@ -79,7 +79,7 @@ faulty_has_no_line laws rest fault text line more fits e =
       | inr longer ↦ decides.before.whole line longer.0 fits longer.1
     ]
 
--- Behind the same good lines
+-- After the same good lines
 
 -- a bad line, twice
 lines_agree : TextLaws → (c : Setting) (lines : List StreamLine) (rest : List ℕ) (back aft : List History) (report other : Report)
@@ -159,7 +159,7 @@ behind_one before line lines all e = e ∙ sym (append_assoc before (line ∷ []
 pub split_first : (line : StreamLine) (lines : List StreamLine) (rest : List ℕ) → flat_map text_of (line ∷ lines) ++ rest ≡ text_of line ++ (flat_map text_of lines ++ rest)
 split_first line lines rest = append_assoc (text_of line) (flat_map text_of lines) rest
 
--- the good lines, their blocks, what comes behind, and the report are the same
+-- the good lines, their blocks, what comes after, and the report are the same
 streams_agree : TextLaws → (c : Setting) (end : StreamEnd) (before lines others all both : List StreamLine) (rest left : List ℕ)
     (front back fore aft : List History) (report other : Report)
     → all ≡ before ++ lines → both ≡ before ++ others

@@ -43,7 +43,7 @@ pub record BeginsGood (c : Setting) (bytes : List ℕ) (lines : List StreamLine)
 abbrev pub report_of : Tally → ℕ → Ending → Report
 report_of t deleted ending = record { added = t.added; deleted = t.deleted + deleted; empty = t.empty; ending = ending }
 
--- Behind good lines: a line that is bad, whatever follows it.
+-- After good lines: a line that is bad, whatever follows it.
 pub record EndsAtLine (c : Setting) (lines : List StreamLine) (rest : List ℕ) (blocks : List History) (report : Report) : Type 0 where
   pub line : StreamLine
   pub more : List ℕ
@@ -56,14 +56,14 @@ pub record EndsAtLine (c : Setting) (lines : List StreamLine) (rest : List ℕ) 
   pub bad : JudgesLine c (standing_of c lines) line block (Bad deleted fault)
   pub says : report ≡ report_of (tally_of lines) deleted (endings.Bad (line_number (length lines)) fault)
 
--- Behind good lines: a text that begins no line, whatever follows it.
+-- After good lines: a text that begins no line, whatever follows it.
 pub record EndsAtText (lines : List StreamLine) (rest : List ℕ) (blocks : List History) (report : Report) : Type 0 where
   pub fault : LineFault
   pub text : HasTextFault rest fault
   pub no_block : blocks ≡ []
   pub says : report ≡ report_of (tally_of lines) 0 (endings.Bad (line_number (length lines)) (faults.Text fault))
 
--- Behind good lines: a deletion that stopped for want of memory, whatever follows it.
+-- After good lines: a deletion that stopped for want of memory, whatever follows it.
 pub record EndsAtMemory (c : Setting) (lines : List StreamLine) (rest : List ℕ) (blocks : List History) (report : Report) : Type 0 where
   pub lead : ℕ
   pub ids : List ℕ
@@ -87,7 +87,7 @@ ending_at ended [] number = endings.Ended
 ending_at ended (byte ∷ bytes) number = endings.Bad number (faults.Text texts.Truncated)
 ending_at failed rest number = endings.ReadFailed number
 
--- Behind good lines: the end of the stream, with a rest that may still become a line.
+-- After good lines: the end of the stream, with a rest that may still become a line.
 pub record EndsAtEnd (lines : List StreamLine) (rest : List ℕ) (end : StreamEnd) (blocks : List History) (report : Report) : Type 0 where
   pub pending : IsPending rest
   pub no_block : blocks ≡ []

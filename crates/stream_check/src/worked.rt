@@ -15,15 +15,20 @@ fn additions_are_judged()
         (first_found ∷ second_found ∷ []) (Bad 0 (Fault.Excess 3)) }
     ensures no_conflict { JudgesLine first_stream at_start (Addition 5 (pos 2 ∷ []) (1 ∷ []))
         (first_found ∷ []) (Bad 0 Fault.NoConflict) }
-    ensures no_hint { JudgesLine first_stream at_start (Addition 5 (pos 2 ∷ []) []) [] (Bad 0 Fault.NoConflict) }
+    ensures no_hint { JudgesLine first_stream at_start (Addition 5 (pos 2 ∷ []) [])
+        [] (Bad 0 Fault.NoConflict) }
 {}
 
 /// The tests before the hints, in their order: a line that fails one makes no event.
 fn tests_are_judged()
-    ensures foreign { JudgesLine first_stream at_start (Addition 6 (pos 3 ∷ []) []) [] (Bad 0 Fault.Identity) }
-    ensures literal { JudgesLine first_stream at_start (Addition 5 (pos 3 ∷ negsuc 2 ∷ []) []) [] (Bad 0 Fault.Literal) }
-    ensures tautology { JudgesLine first_stream at_start (Addition 5 (pos 1 ∷ negsuc 0 ∷ []) []) [] (Bad 0 Fault.Tautology) }
-    ensures room { JudgesLine first_stream at_start (Addition 5 (pos 1 ∷ pos 2 ∷ []) []) [] (Bad 0 Fault.NoRoom) }
+    ensures foreign { JudgesLine first_stream at_start (Addition 6 (pos 3 ∷ []) [])
+        [] (Bad 0 Fault.Identity) }
+    ensures literal { JudgesLine first_stream at_start (Addition 5 (pos 3 ∷ negsuc 2 ∷ []) [])
+        [] (Bad 0 Fault.Literal) }
+    ensures tautology { JudgesLine first_stream at_start (Addition 5 (pos 1 ∷ negsuc 0 ∷ []) [])
+        [] (Bad 0 Fault.Tautology) }
+    ensures room { JudgesLine first_stream at_start (Addition 5 (pos 1 ∷ pos 2 ∷ []) [])
+        [] (Bad 0 Fault.NoRoom) }
 {}
 
 /// Hints that aren't found: one of another stream is fetched once more, one outside isn't fetched, nor is a dropped one.
@@ -32,8 +37,10 @@ fn missing_hints_are_judged()
         (six_vacant ∷ six_vacant ∷ []) (Bad 0 (Fault.Missing 6)) }
     ensures too_soon { ¬ JudgesLine first_stream at_start (Addition 5 (pos 2 ∷ []) (6 ∷ []))
         (six_vacant ∷ []) (Bad 0 (Fault.Missing 6)) }
-    ensures outside { JudgesLine first_stream at_start (Addition 5 (pos 2 ∷ []) (9 ∷ [])) [] (Bad 0 (Fault.Missing 9)) }
-    ensures dropped { JudgesLine first_stream after_drop (Addition 5 (pos 2 ∷ []) (1 ∷ 2 ∷ [])) [] (Bad 0 (Fault.Dropped 1)) }
+    ensures outside { JudgesLine first_stream at_start (Addition 5 (pos 2 ∷ []) (9 ∷ []))
+        [] (Bad 0 (Fault.Missing 9)) }
+    ensures dropped { JudgesLine first_stream after_drop (Addition 5 (pos 2 ∷ []) (1 ∷ 2 ∷ []))
+        [] (Bad 0 (Fault.Dropped 1)) }
 {}
 
 /// Deletions: an own identity is retired, and one of the formula dropped, once each.
