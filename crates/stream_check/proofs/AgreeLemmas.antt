@@ -8,7 +8,7 @@ use Rattle.lrup_model.specs.Event.{Event, History, Reply}
 use Rattle.lrup_model.specs.Propagation.{IsConflict, IsUnit}
 use Rattle.lrup_model.specs.declared.clause_map.Retired.TheVariants as retiring
 use Rattle.lrup_text.specs.Lines.{StreamLine, Addition, Deletion}
-use Rattle.propagate.specs.Different.{different}
+use Rattle.propagate.specs.Distinct.{distinct}
 use Rattle.stream_check.specs.declared.fault.Fault.{Fault}
 use Rattle.stream_check.specs.declared.fault.Fault.TheVariants as faults
 use Rattle.stream_check.specs.Setting.{Setting, Side, formula, own, foreign, outside, side_of}
@@ -112,8 +112,8 @@ addition_agrees c st id lits hints es fs q r v w a b never =
     test_agree (Owns c.layout c.stream id × (st.last < id)) faults.Identity es fs v w _ _
     (λ a b. test_agree (AllByRecursion (λ l. nat_abs l ≤ c.layout.vars) lits) faults.Literal es fs v w _ _
     (λ a b. test_agree (¬ IsTautology lits) faults.Tautology es fs v w _ _
-    (λ a b. test_agree (length (different lits) ≤ st.free) faults.NoRoom es fs v w _ _
-    (λ a b. hints_agree c st.gone (published_by c id lits) (different lits) hints es fs q r v w a b never) a b) a b) a b) a b
+    (λ a b. test_agree (length (distinct lits) ≤ st.free) faults.NoRoom es fs v w _ _
+    (λ a b. hints_agree c st.gone (published_by c id lits) (distinct lits) hints es fs q r v w a b never) a b) a b) a b) a b
 
 fails_at_agree : (earlier : List ℕ) (id : ℕ) (es fs : History) (v w : Verdict) → FailsAt earlier id es v → FailsAt earlier id fs w → Agree es v fs w
 fails_at_agree earlier id es fs v w a b = record { events = a.0 ∙ sym b.0; verdict = a.1 ∙ sym b.1 }

@@ -3,7 +3,7 @@ use Rattle.std.proofs.Common.{◌≡◌, ◌≢◌, ◌==◌, ℕ, [], ◌∷◌
 use Rattle.std.proofs.lemmas.Bool.{cond-true, cond-false}
 use Rattle.std.proofs.lemmas.Bool.Decides.{eqb_tells, Decides-eqb}
 use Rattle.lrup_model.specs.Formula.{Cnf}
-use Rattle.lrup_model.specs.Layout.{Plan, Owns}
+use Rattle.lrup_model.specs.Layout.{LayoutValue, Owns}
 use Rattle.lrup_model.specs.declared.layout.Owner.TheVariants as owners
 use Rattle.lrup_model.specs.Event as events
 use Rattle.lrup_model.specs.Event.{Event, History, stream_of, own}
@@ -38,11 +38,11 @@ OwnRun m [] = Unit {0}
 OwnRun m (e ∷ es) = OwnAnswers m e × OwnRun (after m e) es
 
 -- the states are the same at the stream's own identities
-unfoldable pub SameOwn : Plan → ℕ → State → State → Type 0
+unfoldable pub SameOwn : LayoutValue → ℕ → State → State → Type 0
 SameOwn p s m n = (id : ℕ) → Owns p s id → m id ≡ n id
 
 -- one event of the stream
-own_answers : (f : Cnf) (p : Plan) (s : ℕ) (m n : State) (e : Event) (es : History) → stream_of e ≡ s → SameOwn p s m n → LegalFrom f p m (e ∷ es) → OwnAnswers n e
+own_answers : (f : Cnf) (p : LayoutValue) (s : ℕ) (m n : State) (e : Event) (es : History) → stream_of e ≡ s → SameOwn p s m n → LegalFrom f p m (e ∷ es) → OwnAnswers n e
 unfolding OwnAnswers SameOwn
 own_answers f p s m n (events.fetch t id r) es mine same legal = tt
 own_answers f p s m n (events.publish t id c publishing.Done) es mine same legal = sym (same id (subst (λ x. Owns p x id) mine legal.1.0)) ∙ legal.0
@@ -50,7 +50,7 @@ own_answers f p s m n (events.publish t id c publishing.Taken) es mine same lega
 own_answers f p s m n (events.retire t id retiring.Done) es mine same legal = subst IsLive (same id (subst (λ x. Owns p x id) mine legal.1)) legal.0
 own_answers f p s m n (events.retire t id retiring.NotLive) es mine same legal = tt
 
-own_after : (f : Cnf) (p : Plan) (s : ℕ) (m n : State) (e : Event) (es : History) → stream_of e ≡ s → SameOwn p s m n → LegalFrom f p m (e ∷ es) → SameOwn p s (after m e) (after n e)
+own_after : (f : Cnf) (p : LayoutValue) (s : ℕ) (m n : State) (e : Event) (es : History) → stream_of e ≡ s → SameOwn p s m n → LegalFrom f p m (e ∷ es) → SameOwn p s (after m e) (after n e)
 unfolding SameOwn
 own_after f p s m n (events.fetch t id r) es mine same legal = same
 own_after f p s m n (events.publish t id c publishing.Done) es mine same legal = λ j owns. ap (λ x. if j == id then live c else x) (same j owns)
@@ -60,11 +60,11 @@ own_after f p s m n (events.retire t id retiring.Done) es mine same legal = λ j
     ∙ ap (λ x. if j == id then retire_slot x else n j) (same id (subst (λ x. Owns p x id) mine legal.1))
 own_after f p s m n (events.retire t id retiring.NotLive) es mine same legal = same
 
-two_owners : (p : Plan) (s t id : ℕ) → Owns p s id → Owns p t id → s ≡ t
+two_owners : (p : LayoutValue) (s t id : ℕ) → Owns p s id → Owns p t id → s ≡ t
 two_owners p s t id a b = let e : owners.Stream s ≡ owners.Stream t = sym a ∙ b in cc
 
 -- one event of another stream
-other_after : (f : Cnf) (p : Plan) (s : ℕ) (m n : State) (e : Event) (es : History) → stream_of e ≢ s → SameOwn p s m n → LegalFrom f p m (e ∷ es) → SameOwn p s (after m e) n
+other_after : (f : Cnf) (p : LayoutValue) (s : ℕ) (m n : State) (e : Event) (es : History) → stream_of e ≢ s → SameOwn p s m n → LegalFrom f p m (e ∷ es) → SameOwn p s (after m e) n
 unfolding SameOwn
 other_after f p s m n (events.fetch t id r) es other same legal = same
 other_after f p s m n (events.publish t id c publishing.Done) es other same legal = λ j owns.
@@ -74,7 +74,7 @@ other_after f p s m n (events.retire t id retiring.Done) es other same legal = �
     put_other m id j (retire_slot (m id)) (λ e. other (sym (two_owners p s t id (subst (λ x. Owns p s x) e owns) legal.1))) ∙ same j owns
 other_after f p s m n (events.retire t id retiring.NotLive) es other same legal = same
 
-pub own_runs : (f : Cnf) (p : Plan) (s : ℕ) (m n : State) (h : History) → LegalFrom f p m h → SameOwn p s m n → OwnRun n (own h s)
+pub own_runs : (f : Cnf) (p : LayoutValue) (s : ℕ) (m n : State) (h : History) → LegalFrom f p m h → SameOwn p s m n → OwnRun n (own h s)
 unfolding OwnRun
 own_runs f p s m n [] legal same = tt
 own_runs f p s m n (e ∷ h) legal same = elim (eqb_tells (stream_of e) s) [

@@ -5,7 +5,7 @@ use Rattle.std.proofs.lemmas.Bool.{cond-true, cond-false}
 use Rattle.std.proofs.lemmas.Bool.Decides.{eqb_tells, leb_tells, Decides-eqb}
 use Rattle.std.proofs.lemmas.List.Folds.{list_any-append}
 use Rattle.std.proofs.lemmas.List.Sums.{sum_by-append}
-use Rattle.lrup_model.specs.Layout.{Plan, last_identity, IsIdentity, owner}
+use Rattle.lrup_model.specs.Layout.{LayoutValue, last_identity, IsIdentity, owner}
 use Rattle.lrup_model.specs.declared.layout.Owner.TheVariants as owners
 use Rattle.lrup_model.specs.Event as events
 use Rattle.lrup_model.specs.Event.{Event, History, Reply, stream_of}
@@ -24,7 +24,7 @@ use Rattle.stream_check.proofs.CountLemmas.{put_same, OwnAnswers, OwnRun, run_re
 
 -- Sides and identities
 
-pub identity_below : (p : Plan) (id : ℕ) → (owner p id ≡ owners.Outside → ⊥) → IsIdentity p id
+pub identity_below : (p : LayoutValue) (id : ℕ) → (owner p id ≡ owners.Outside → ⊥) → IsIdentity p id
 identity_below p id inside = elim (eqb_tells id 0) [
   | inl none ↦ absurd (inside (cond-true (nat_eq id 0) owners.Outside _ none.0))
   | inr some ↦

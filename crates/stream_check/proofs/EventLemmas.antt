@@ -8,7 +8,7 @@ use Rattle.lrup_model.specs.Event.{Event, History, Reply, stream_of}
 use Rattle.lrup_model.specs.declared.clause_map.Published.{Published}
 use Rattle.lrup_model.specs.declared.clause_map.Retired.TheVariants as retiring
 use Rattle.lrup_text.specs.Lines.{StreamLine, Addition, Deletion}
-use Rattle.propagate.specs.Different.{different}
+use Rattle.propagate.specs.Distinct.{distinct}
 use Rattle.stream_check.specs.declared.fault.Fault.{Fault}
 use Rattle.stream_check.specs.declared.fault.Fault.TheVariants as faults
 use Rattle.stream_check.specs.Setting.{Setting, Side, formula, own, foreign, outside, side_of}
@@ -40,7 +40,7 @@ module _ (c : Setting) (IsHint : ℕ → Type 0) (P : History → Type 0) (holds
   test_holds T fault es v A next (inr good) = next good.1
 
   conflict_holds : (hints : List ℕ) (id : ℕ) (lits : List ℤ) (es : History) (v : Verdict) → AtConflict hints (published_by c id lits) es v → P es
-  conflict_holds [] id lits es v at = subst P (sym at.0) (holds.published id (different lits) _)
+  conflict_holds [] id lits es v at = subst P (sym at.0) (holds.published id (distinct lits) _)
   conflict_holds (h ∷ hints) id lits es v at = none_holds es at.0
 
   reply_holds : (x : Reply) (n : List ℤ) (h : ℕ) (hints : List ℕ) (id : ℕ) (lits : List ℤ) (es : History) (v : Verdict) (A : List ℤ → Type 0)
@@ -90,8 +90,8 @@ module _ (c : Setting) (IsHint : ℕ → Type 0) (P : History → Type 0) (holds
       test_holds (Owns c.layout c.stream id × (st.last < id)) faults.Identity es v _
       (λ a. test_holds (AllByRecursion (λ l. nat_abs l ≤ c.layout.vars) lits) faults.Literal es v _
       (λ a. test_holds (¬ IsTautology lits) faults.Tautology es v _
-      (λ a. test_holds (length (different lits) ≤ st.free) faults.NoRoom es v _
-      (λ a. hints_hold st.gone id lits (different lits) hints es v all a) a) a) a) judged
+      (λ a. test_holds (length (distinct lits) ≤ st.free) faults.NoRoom es v _
+      (λ a. hints_hold st.gone id lits (distinct lits) hints es v all a) a) a) a) judged
   line_holds st (Deletion lead ids) es v all judged = identities_hold st.gone [] ids es v judged
 
 -- Any hint

@@ -11,7 +11,7 @@ use Rattle.lrup_model.specs.Event as events
 use Rattle.lrup_model.specs.Event.{Event, History, Reply}
 use Rattle.lrup_model.specs.Propagation.{IsConflict, IsUnit, Refutes}
 use Rattle.lrup_model.specs.Laws.{PropagationSound}
-use Rattle.propagate.specs.Different.{different}
+use Rattle.propagate.specs.Distinct.{distinct}
 use Rattle.stream_check.specs.declared.fault.Fault.{Fault}
 use Rattle.stream_check.specs.declared.fault.Fault.TheVariants as faults
 use Rattle.stream_check.specs.Setting.{Setting, Side, formula, own, foreign, outside, side_of}
@@ -22,7 +22,7 @@ use Rattle.stream_check.specs.Additions.{AtConflict, AtReply, JudgesHints, publi
 use Rattle.stream_check.specs.Finding.{AreFound, IsGoodAddition, FindsSound}
 use Rattle.stream_check.specs.Laws.{GoodExactlyIf, GoodFollows}
 
--- The different literals
+-- The distinct literals
 
 int_cases : (x y : ℤ) → (x ≡ y) ⊎ (x ≢ y)
 int_cases x y = elim (int_eq x y) as (λ b. int_eq x y ≡ b → (x ≡ y) ⊎ (x ≢ y)) [
@@ -56,24 +56,24 @@ Has-others x (y ∷ ls) l (inr h) ne = elim (int_cases y x) [
   | inr other ↦ subst (λ m. Has m l) (sym (others-other x y ls other)) (inr (Has-others x ls l h ne))
 ]
 
-pub Has-from_different : (ls : List ℤ) (l : ℤ) → Has (different ls) l → Has ls l
+pub Has-from_different : (ls : List ℤ) (l : ℤ) → Has (distinct ls) l → Has ls l
 Has-from_different [] l h = h
 Has-from_different (x ∷ ls) l (inl e) = inl e
-Has-from_different (x ∷ ls) l (inr h) = inr (Has-from_different ls l (Has-from_others x (different ls) l h))
+Has-from_different (x ∷ ls) l (inr h) = inr (Has-from_different ls l (Has-from_others x (distinct ls) l h))
 
-pub Has-different : (ls : List ℤ) (l : ℤ) → Has ls l → Has (different ls) l
-Has-different [] l h = h
-Has-different (x ∷ ls) l (inl e) = inl e
-Has-different (x ∷ ls) l (inr h) = elim (int_cases l x) [
+pub Has-distinct : (ls : List ℤ) (l : ℤ) → Has ls l → Has (distinct ls) l
+Has-distinct [] l h = h
+Has-distinct (x ∷ ls) l (inl e) = inl e
+Has-distinct (x ∷ ls) l (inr h) = elim (int_cases l x) [
   | inl e ↦ inl (sym e)
-  | inr ne ↦ inr (Has-others x (different ls) l (Has-different ls l h) ne)
+  | inr ne ↦ inr (Has-others x (distinct ls) l (Has-distinct ls l h) ne)
 ]
 
-tautology_from : (ls : List ℤ) → IsTautology (different ls) → IsTautology ls
+tautology_from : (ls : List ℤ) → IsTautology (distinct ls) → IsTautology ls
 tautology_from ls t = (t.0, Has-from_different ls t.0 t.1, Has-from_different ls (neg_ℤ t.0) t.2)
 
-tautology_of : (ls : List ℤ) → IsTautology ls → IsTautology (different ls)
-tautology_of ls t = (t.0, Has-different ls t.0 t.1, Has-different ls (neg_ℤ t.0) t.2)
+tautology_of : (ls : List ℤ) → IsTautology ls → IsTautology (distinct ls)
+tautology_of ls t = (t.0, Has-distinct ls t.0 t.1, Has-distinct ls (neg_ℤ t.0) t.2)
 
 -- From a good verdict to the clauses found
 
@@ -187,7 +187,7 @@ good_shown c st id lits hints es (inr (a, inl bad)) = absurd (fails_not faults.L
 good_shown c st id lits hints es (inr (a, inr (b, inl bad))) = absurd (fails_not faults.Tautology es bad.1)
 good_shown c st id lits hints es (inr (a, inr (b, inr (d, inl bad)))) = absurd (fails_not faults.NoRoom es bad.1)
 good_shown c st id lits hints es (inr (a, inr (b, inr (d, inr (e, judged))))) =
-    let shown = hints_show c st.gone (published_by c id lits) (different lits) hints es judged in
+    let shown = hints_show c st.gone (published_by c id lits) (distinct lits) hints es judged in
     record {
       owns = a.0;
       above = a.1;
@@ -210,7 +210,7 @@ shown_good c st id lits hints es g =
           (λ t. g.accepts.0 (tautology_of lits t)),
           inr (
             g.room,
-            shown_judged c st.gone (published_by c id lits) (different lits) hints g.clauses es g.fetches g.found g.accepts.1 g.published,
+            shown_judged c st.gone (published_by c id lits) (distinct lits) hints g.clauses es g.fetches g.found g.accepts.1 g.published,
           ),
         ),
       ),
@@ -248,4 +248,4 @@ pub good_follows : PropagationSound → GoodFollows
 good_follows sound f c st id lits hints es judged all =
     let g = good_shown c st id lits hints es judged in
     let parts = all_front (FindsSound f) g.fetches (published_by c id lits ∷ []) (subst (AllByRecursion (FindsSound f)) g.published all) in
-    sound f (different lits) g.clauses (found_sound f c st.gone hints g.clauses g.fetches g.found parts.0) g.accepts
+    sound f (distinct lits) g.clauses (found_sound f c st.gone hints g.clauses g.fetches g.found parts.0) g.accepts

@@ -7,7 +7,7 @@ use Rattle.lrup_model.specs.Layout.{Owns}
 use Rattle.lrup_model.specs.Event as events
 use Rattle.lrup_model.specs.Event.{Event, History, Reply, stream_of}
 use Rattle.lrup_text.specs.Lines.{StreamLine, Addition, Deletion}
-use Rattle.propagate.specs.Different.{different}
+use Rattle.propagate.specs.Distinct.{distinct}
 use Rattle.stream_check.specs.declared.fault.Fault.{Fault}
 use Rattle.stream_check.specs.declared.fault.Fault.TheVariants as faults
 use Rattle.stream_check.specs.declared.report.Report.{Report}
@@ -165,8 +165,8 @@ addition_reduced c st id lits hints es v judged =
     test_maps (Owns c.layout c.stream id × (st.last < id)) faults.Identity es (reduced es) v _ _ (reduced_none es)
     (λ a. test_maps (AllByRecursion (λ l. nat_abs l ≤ c.layout.vars) lits) faults.Literal es (reduced es) v _ _ (reduced_none es)
     (λ a. test_maps (¬ IsTautology lits) faults.Tautology es (reduced es) v _ _ (reduced_none es)
-    (λ a. test_maps (length (different lits) ≤ st.free) faults.NoRoom es (reduced es) v _ _ (reduced_none es)
-    (λ a. hints_reduced c st.gone (published_by c id lits) (different lits) hints es v refl a) a) a) a) judged
+    (λ a. test_maps (length (distinct lits) ≤ st.free) faults.NoRoom es (reduced es) v _ _ (reduced_none es)
+    (λ a. hints_reduced c st.gone (published_by c id lits) (distinct lits) hints es v refl a) a) a) a) judged
 
 drops_map : (gone : ℕ → Bool) (earlier : List ℕ) (id : ℕ) (es : History) (v : Verdict) (A : History → Type 0) → (A es → A (reduced es)) → DropsThen gone earlier id es v A → DropsThen gone earlier id (reduced es) v A
 drops_map gone earlier id es v A next (inl bad) = inl (bad.0, (reduced_none es bad.1.0, bad.1.1))

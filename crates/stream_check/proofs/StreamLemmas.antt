@@ -5,7 +5,7 @@ use Rattle.std.proofs.lemmas.List.{append_cancel_left}
 use Rattle.lrup_model.specs.Event.{History}
 use Rattle.lrup_text.specs.declared.LineFault.{LineFault}
 use Rattle.lrup_text.specs.Grammar.{Begins, IsLine, standard}
-use Rattle.lrup_text.specs.Lines.{StreamLine, Fits, text_of, HasNoLine}
+use Rattle.lrup_text.specs.Lines.{StreamLine, IsWithinLimits, line_text, HasNoLine}
 use Rattle.lrup_text.specs.Faults.{HasTextFault}
 use Rattle.lrup_text.specs.Laws.{OneLine, NoTextBegins, TextsAreLines, OneFault}
 use Rattle.stream_check.specs.declared.fault.Fault.TheVariants as faults
@@ -40,17 +40,17 @@ one_begins (x ∷ a) (y ∷ b) m n e =
       | inr longer ↦ inr (longer.0, ap (λ z. z ∷ a) head ∙ ap (λ t. y ∷ t) longer.1)
     ]
 
-same_text : TextLaws → (l o : StreamLine) → Fits l → Fits o → text_of l ≡ text_of o → l ≡ o
-same_text laws l o a b e = laws.line l o (text_of l) (a, refl) (b, e)
+same_text : TextLaws → (l o : StreamLine) → IsWithinLimits l → IsWithinLimits o → line_text l ≡ line_text o → l ≡ o
+same_text laws l o a b e = laws.line l o (line_text l) (a, refl) (b, e)
 
 -- bytes begin with the text of one line at most
-pub same_first : TextLaws → (l o : StreamLine) (m n : List ℕ) → Fits l → Fits o → text_of l ++ m ≡ text_of o ++ n → (l ≡ o) × (m ≡ n)
+pub same_first : TextLaws → (l o : StreamLine) (m n : List ℕ) → IsWithinLimits l → IsWithinLimits o → line_text l ++ m ≡ line_text o ++ n → (l ≡ o) × (m ≡ n)
 same_first laws l o m n a b e =
-    let same : text_of l ≡ text_of o = elim (one_begins (text_of l) (text_of o) m n e) [
-      | inl longer ↦ sym (longer.1 ∙ ap (λ x. text_of l ++ x) (laws.begins l o (text_of l) (text_of o) longer.0 (a, refl) (b, refl) longer.1) ∙ append-nil (text_of l))
-      | inr longer ↦ longer.1 ∙ ap (λ x. text_of o ++ x) (laws.begins o l (text_of o) (text_of l) longer.0 (b, refl) (a, refl) longer.1) ∙ append-nil (text_of o)
+    let same : line_text l ≡ line_text o = elim (one_begins (line_text l) (line_text o) m n e) [
+      | inl longer ↦ sym (longer.1 ∙ ap (λ x. line_text l ++ x) (laws.begins l o (line_text l) (line_text o) longer.0 (a, refl) (b, refl) longer.1) ∙ append-nil (line_text l))
+      | inr longer ↦ longer.1 ∙ ap (λ x. line_text o ++ x) (laws.begins o l (line_text o) (line_text l) longer.0 (b, refl) (a, refl) longer.1) ∙ append-nil (line_text o)
     ] in
-    (same_text laws l o a b same, append_cancel_left (text_of o) m n (subst (λ t. t ++ m ≡ text_of o ++ n) same e))
+    (same_text laws l o a b same, append_cancel_left (line_text o) m n (subst (λ t. t ++ m ≡ line_text o ++ n) same e))
 
 -- a line that begins with what was read goes on with the byte
 goes_on : (read : List ℕ) (byte : ℕ) (after more text x : List ℕ) → IsLine standard text → text ≡ read ++ x → read ++ (byte ∷ after) ≡ text ++ more → (text ≡ read) ⊎ Begins (read ++ byte ∷ [])
@@ -68,12 +68,12 @@ faulty_has_no_line laws rest fault text line more fits e =
     let read = refused.0 in
     let byte = refused.1 in
     let decides = refused.3 in
-    let whole : IsLine standard (text_of line) = (laws.lines (text_of line)).1 (line, (fits, refl)) in
-    let split : read ++ (byte ∷ text.1) ≡ text_of line ++ more =
+    let whole : IsLine standard (line_text line) = (laws.lines (line_text line)).1 (line, (fits, refl)) in
+    let split : read ++ (byte ∷ text.1) ≡ line_text line ++ more =
     sym (append_assoc read (byte ∷ []) text.1) ∙ ap (λ b. b ++ text.1) (sym refused.2) ∙ sym text.2 ∙ e in
-    elim (one_begins read (text_of line) (byte ∷ text.1) more split) [
-      | inl longer ↦ elim (goes_on read byte text.1 more (text_of line) longer.0 whole longer.1 split) [
-        | inl same ↦ decides.before.whole line [] fits (sym same ∙ sym (append-nil (text_of line)))
+    elim (one_begins read (line_text line) (byte ∷ text.1) more split) [
+      | inl longer ↦ elim (goes_on read byte text.1 more (line_text line) longer.0 whole longer.1 split) [
+        | inl same ↦ decides.before.whole line [] fits (sym same ∙ sym (append-nil (line_text line)))
         | inr begins ↦ decides.after begins
       ]
       | inr longer ↦ decides.before.whole line longer.0 fits longer.1
@@ -141,7 +141,7 @@ ends_agree laws c lines rest end back aft report other (inr a) (inr b) never = r
 
 -- a stream doesn't end at a line that is good
 ends_not_good : TextLaws → (c : Setting) (lines : List StreamLine) (rest more : List ℕ) (end : StreamEnd) (back : List History) (report : Report) (line : StreamLine) (block r : History)
-    → EndsWithout c lines rest end back report → Fits line → rest ≡ text_of line ++ more → JudgesLine c (standing_of c lines) line block Good
+    → EndsWithout c lines rest end back report → IsWithinLimits line → rest ≡ line_text line ++ more → JudgesLine c (standing_of c lines) line block Good
     → NeverFork (joined back) (block ++ r) → ⊥
 unfolding EndsWithout
 ends_not_good laws c lines rest more end back report line block r (inr a) fits text good never = rest_has_no_line laws lines rest end back report a line more fits text
@@ -156,15 +156,15 @@ ends_not_good laws c lines rest more end back report line block r (inl a) fits t
 behind_one : (before : List StreamLine) (line : StreamLine) (lines all : List StreamLine) → all ≡ before ++ (line ∷ lines) → all ≡ (before ++ line ∷ []) ++ lines
 behind_one before line lines all e = e ∙ sym (append_assoc before (line ∷ []) lines)
 
-pub split_first : (line : StreamLine) (lines : List StreamLine) (rest : List ℕ) → flat_map text_of (line ∷ lines) ++ rest ≡ text_of line ++ (flat_map text_of lines ++ rest)
-split_first line lines rest = append_assoc (text_of line) (flat_map text_of lines) rest
+pub split_first : (line : StreamLine) (lines : List StreamLine) (rest : List ℕ) → flat_map line_text (line ∷ lines) ++ rest ≡ line_text line ++ (flat_map line_text lines ++ rest)
+split_first line lines rest = append_assoc (line_text line) (flat_map line_text lines) rest
 
 -- the good lines, their blocks, what comes after, and the report are the same
 streams_agree : TextLaws → (c : Setting) (end : StreamEnd) (before lines others all both : List StreamLine) (rest left : List ℕ)
     (front back fore aft : List History) (report other : Report)
     → all ≡ before ++ lines → both ≡ before ++ others
-    → flat_map text_of lines ++ rest ≡ flat_map text_of others ++ left
-    → AllByRecursion Fits lines → AllByRecursion Fits others
+    → flat_map line_text lines ++ rest ≡ flat_map line_text others ++ left
+    → AllByRecursion IsWithinLimits lines → AllByRecursion IsWithinLimits others
     → AreGood c before lines front → AreGood c before others fore
     → EndsWithout c all rest end back report → EndsWithout c both left end aft other
     → NeverFork (joined front ++ joined back) (joined fore ++ joined aft)
@@ -180,15 +180,15 @@ streams_agree laws c end before (l ∷ lines) others all both rest left [] back 
 streams_agree laws c end before lines (o ∷ others) all both rest left front back [] aft report other is also text fit fits good fine ends stops never = absurd fine
 streams_agree laws c end before [] (o ∷ others) all both rest left [] back (b ∷ fore) aft report other is also text fit fits good fine ends stops never =
     let here = subst (λ ls. EndsWithout c ls rest end back report) (is ∙ append-nil before) ends in
-    absurd (ends_not_good laws c before rest (flat_map text_of others ++ left) end back report o b (joined fore ++ joined aft)
+    absurd (ends_not_good laws c before rest (flat_map line_text others ++ left) end back report o b (joined fore ++ joined aft)
     here fits.0 (text ∙ split_first o others left) fine.0 (subst (λ e. NeverFork (joined back) e) (append_assoc b (joined fore) (joined aft)) never))
 streams_agree laws c end before (l ∷ lines) [] all both rest left (b ∷ front) back [] aft report other is also text fit fits good fine ends stops never =
     let here = subst (λ ls. EndsWithout c ls left end aft other) (also ∙ append-nil before) stops in
-    absurd (ends_not_good laws c before left (flat_map text_of lines ++ rest) end aft other l b (joined front ++ joined back)
+    absurd (ends_not_good laws c before left (flat_map line_text lines ++ rest) end aft other l b (joined front ++ joined back)
     here fit.0 (sym text ∙ split_first l lines rest) good.0
     (subst (λ e. NeverFork (joined aft) e) (append_assoc b (joined front) (joined back)) (never_fork_turned ((b ++ joined front) ++ joined back) (joined aft) never)))
 streams_agree laws c end before (l ∷ lines) (o ∷ others) all both rest left (b ∷ front) back (d ∷ fore) aft report other is also text fit fits good fine ends stops never =
-    let same = same_first laws l o (flat_map text_of lines ++ rest) (flat_map text_of others ++ left) fit.0 fits.0
+    let same = same_first laws l o (flat_map line_text lines ++ rest) (flat_map line_text others ++ left) fit.0 fits.0
     (sym (split_first l lines rest) ∙ text ∙ split_first o others left) in
     let here = subst (λ e. NeverFork e (d ++ (joined fore ++ joined aft))) (append_assoc b (joined front) (joined back))
     (subst (λ e. NeverFork ((b ++ joined front) ++ joined back) e) (append_assoc d (joined fore) (joined aft)) never) in

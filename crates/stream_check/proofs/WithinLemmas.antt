@@ -5,13 +5,13 @@ use Rattle.std.proofs.lemmas.Bool.Decides.{eqb_tells}
 use Rattle.std.proofs.lemmas.List.Sums.{sum_by-append}
 use Rattle.std.proofs.lemmas.Map.Steps.{length-le_from_distinct_below}
 use Rattle.lrup_model.specs.Clause.{IsTautology}
-use Rattle.lrup_model.specs.Layout.{Plan, last_identity, IsIdentity, Owns}
+use Rattle.lrup_model.specs.Layout.{LayoutValue, last_identity, IsIdentity, Owns}
 use Rattle.lrup_model.specs.declared.layout.Owner.TheVariants as owners
 use Rattle.lrup_model.specs.Event as events
 use Rattle.lrup_model.specs.Event.{Event, History, Reply, own}
 use Rattle.lrup_model.specs.State.{State, run, opening}
 use Rattle.lrup_text.specs.Lines.{StreamLine, Addition, Deletion}
-use Rattle.propagate.specs.Different.{different}
+use Rattle.propagate.specs.Distinct.{distinct}
 use Rattle.stream_check.specs.declared.fault.Fault.{Fault}
 use Rattle.stream_check.specs.declared.fault.Fault.TheVariants as faults
 use Rattle.stream_check.specs.declared.report.Report.{Report}
@@ -99,8 +99,8 @@ addition_none c st id lits hints es v judged =
     test_none (Owns c.layout c.stream id × (st.last < id)) faults.Identity es v _
     (λ a. test_none (AllByRecursion (λ l. nat_abs l ≤ c.layout.vars) lits) faults.Literal es v _
     (λ a. test_none (¬ IsTautology lits) faults.Tautology es v _
-    (λ a. test_none (length (different lits) ≤ st.free) faults.NoRoom es v _
-    (λ a. hints_none c st.gone (published_by c id lits) (different lits) hints es v a) a) a) a) judged
+    (λ a. test_none (length (distinct lits) ≤ st.free) faults.NoRoom es v _
+    (λ a. hints_none c st.gone (published_by c id lits) (distinct lits) hints es v a) a) a) a) judged
 
 -- Deleted
 
@@ -140,7 +140,7 @@ owns_good : (c : Setting) (st : Standing) (id : ℕ) (lits : List ℤ) (hints : 
 owns_good c st id lits hints es (inl bad) = absurd (let e : Good ≡ Bad 0 faults.Identity = bad.1.1 in cc)
 owns_good c st id lits hints es (inr good) = good.0.0
 
-owns_below : (p : Plan) (s id : ℕ) → Owns p s id → id ≤ last_identity p
+owns_below : (p : LayoutValue) (s id : ℕ) → Owns p s id → id ≤ last_identity p
 owns_below p s id owns = (identity_below p id (λ e. let f : owners.Outside ≡ owners.Stream s = sym e ∙ owns in cc)).1
 
 -- so many were added that the last identity is at least that far from the formula's

@@ -8,7 +8,7 @@ use Rattle.lrup_model.specs.Layout.{Owns}
 use Rattle.lrup_model.specs.Event as events
 use Rattle.lrup_model.specs.Event.{Event, History}
 use Rattle.lrup_model.specs.Propagation.{Accepts}
-use Rattle.propagate.specs.Different.{different}
+use Rattle.propagate.specs.Distinct.{distinct}
 use Rattle.stream_check.specs.Setting.{Setting}
 use Rattle.stream_check.specs.Standing.{Standing}
 use Rattle.stream_check.specs.Asking.{Asks}
@@ -26,11 +26,11 @@ pub record IsGoodAddition (c : Setting) (st : Standing) (id : ℕ) (lits : List 
   pub owns : Owns c.layout c.stream id
   pub above : st.last < id
   pub literals : AllByRecursion (λ l. nat_abs l ≤ c.layout.vars) lits
-  pub room : length (different lits) ≤ st.free
+  pub room : length (distinct lits) ≤ st.free
   pub clauses : List Clause
   pub fetches : History
   pub found : AreFound c st.gone hints clauses fetches
-  pub accepts : Accepts (different lits) clauses
+  pub accepts : Accepts (distinct lits) clauses
   pub published : es ≡ fetches ++ published_by c id lits ∷ []
 
 -- a clause that the event finds is one of the formula's variables, and follows from it

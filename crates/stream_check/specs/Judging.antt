@@ -4,7 +4,7 @@ use Rattle.std.specs.List.{AllByRecursion, flat_map}
 use Rattle.lrup_model.specs.Event.{History}
 use Rattle.lrup_text.specs.declared.LineFault.TheVariants as texts
 use Rattle.lrup_text.specs.declared.LineFault.{LineFault}
-use Rattle.lrup_text.specs.Lines.{StreamLine, Addition, Deletion, Fits, text_of, IsPending}
+use Rattle.lrup_text.specs.Lines.{StreamLine, Addition, Deletion, IsWithinLimits, line_text, IsPending}
 use Rattle.lrup_text.specs.Faults.{HasTextFault}
 use Rattle.stream_check.specs.declared.fault.Fault.{Fault}
 use Rattle.stream_check.specs.declared.fault.Fault.TheVariants as faults
@@ -35,8 +35,8 @@ joined blocks = flat_map (λ block. block) blocks
 
 -- the bytes are the texts of good lines, and a rest
 pub record BeginsGood (c : Setting) (bytes : List ℕ) (lines : List StreamLine) (rest : List ℕ) (blocks : List History) : Type 0 where
-  pub text : bytes ≡ flat_map text_of lines ++ rest
-  pub fits : AllByRecursion Fits lines
+  pub text : bytes ≡ flat_map line_text lines ++ rest
+  pub fits : AllByRecursion IsWithinLimits lines
   pub good : AreGood c [] lines blocks
 
 -- the report after these counts, some more deleted identities, and this ending
@@ -47,8 +47,8 @@ report_of t deleted ending = record { added = t.added; deleted = t.deleted + del
 pub record EndsAtLine (c : Setting) (lines : List StreamLine) (rest : List ℕ) (blocks : List History) (report : Report) : Type 0 where
   pub line : StreamLine
   pub more : List ℕ
-  pub text : rest ≡ text_of line ++ more
-  pub fits : Fits line
+  pub text : rest ≡ line_text line ++ more
+  pub fits : IsWithinLimits line
   pub block : History
   pub one_block : blocks ≡ block ∷ []
   pub deleted : ℕ
@@ -68,8 +68,8 @@ pub record EndsAtMemory (c : Setting) (lines : List StreamLine) (rest : List ℕ
   pub lead : ℕ
   pub ids : List ℕ
   pub more : List ℕ
-  pub text : rest ≡ text_of (Deletion lead ids) ++ more
-  pub fits : Fits (Deletion lead ids)
+  pub text : rest ≡ line_text (Deletion lead ids) ++ more
+  pub fits : IsWithinLimits (Deletion lead ids)
   pub block : History
   pub one_block : blocks ≡ block ∷ []
   pub earlier : List ℕ

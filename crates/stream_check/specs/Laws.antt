@@ -3,7 +3,7 @@ use Rattle.std.specs.Prelude.{◌≡◌, ◌↔◌, ◌≤◌, ◌++◌, ℕ, �
 use Rattle.std.specs.List.{AllByRecursion}
 use Rattle.lrup_model.specs.Formula.{Cnf}
 use Rattle.lrup_model.specs.Entailment.{Follows}
-use Rattle.lrup_model.specs.Layout.{Plan, last_identity}
+use Rattle.lrup_model.specs.Layout.{LayoutValue, last_identity}
 use Rattle.lrup_model.specs.State.{State}
 use Rattle.lrup_model.specs.History.{LegalFrom, IsLegal}
 use Rattle.lrup_model.specs.Event as events
@@ -19,7 +19,7 @@ use Rattle.stream_check.specs.Setting.{Setting}
 use Rattle.stream_check.specs.Deletions.{StopsDeletion}
 use Rattle.stream_check.specs.Judging.{JudgesLine, joined, report_of, StreamEnd, ending_at, JudgesBlocks, Judges}
 use Rattle.stream_check.specs.Forks.{NeverFork}
-use Rattle.propagate.specs.Different.{different}
+use Rattle.propagate.specs.Distinct.{distinct}
 use Rattle.stream_check.specs.Standing.{Standing}
 use Rattle.stream_check.specs.Additions.{JudgesAddition}
 use Rattle.stream_check.specs.Reducing.{reduced, IsEarly, TriesAgain}
@@ -101,11 +101,11 @@ RepliesDecide = (c : Setting) (bytes : List ℕ) (end : StreamEnd) (blocks other
 
 -- legal histories never fork
 abbrev pub LegalNeverFork : Type 0
-LegalNeverFork = (f : Cnf) (p : Plan) (m : State) (g h : History) → LegalFrom f p m g → LegalFrom f p m h → NeverFork g h
+LegalNeverFork = (f : Cnf) (p : LayoutValue) (m : State) (g h : History) → LegalFrom f p m g → LegalFrom f p m h → NeverFork g h
 
 -- so one stream alone has one report, whatever legal history it has
 abbrev pub AloneDecides : Type 0
-AloneDecides = (f : Cnf) (p : Plan) (c : Setting) (bytes : List ℕ) (end : StreamEnd) (g h : History) (report other : Report)
+AloneDecides = (f : Cnf) (p : LayoutValue) (c : Setting) (bytes : List ℕ) (end : StreamEnd) (g h : History) (report other : Report)
     → IsLegal f p g → IsLegal f p h
     → Judges c bytes end g report → Judges c bytes end h other
     → ¬ IsOfMemory report → ¬ IsOfMemory other
@@ -121,7 +121,7 @@ GoodExactlyIf = (c : Setting) (st : Standing) (id : ℕ) (lits : List ℤ) (hint
 -- so its clause follows from the formula where the clauses found do
 abbrev pub GoodFollows : Type 0
 GoodFollows = (f : Cnf) (c : Setting) (st : Standing) (id : ℕ) (lits : List ℤ) (hints : List ℕ) (es : History)
-    → JudgesAddition c st id lits hints es Good → AllByRecursion (FindsSound f) es → Follows f (different lits)
+    → JudgesAddition c st id lits hints es Good → AllByRecursion (FindsSound f) es → Follows f (distinct lits)
 
 -- The events of a line
 

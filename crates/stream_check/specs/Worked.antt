@@ -1,7 +1,7 @@
 -- The worked example: four clauses over two variables, and two streams with two identities each and room for one literal.
 use Rattle.std.specs.Prelude.{[], ◌∷◌}
 use Rattle.lrup_model.specs.Event.{Event, vacant, live, fetch, publish, retire}
-use Rattle.lrup_model.specs.Layout.{Plan}
+use Rattle.lrup_model.specs.Layout.{LayoutValue}
 use Rattle.lrup_model.specs.declared.clause_map.Published.TheVariants as publishing
 use Rattle.lrup_model.specs.declared.clause_map.Retired.TheVariants as retiring
 use Rattle.lrup_model.specs.Worked.{first, second, unit}
@@ -9,7 +9,7 @@ use Rattle.lrup_text.specs.Lines.{Deletion}
 use Rattle.stream_check.specs.Setting.{Setting}
 use Rattle.stream_check.specs.Standing.{Standing, standing_of}
 
-abbrev pub two_streams : Plan
+abbrev pub two_streams : LayoutValue
 two_streams = record { vars = 2; clauses = 4; literals = 8; streams = 2; lines = 2; room = 1 }
 
 -- stream 1, which tries a foreign hint once more
