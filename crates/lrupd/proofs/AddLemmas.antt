@@ -15,7 +15,7 @@ use Rattle.lrup_model.specs.History.{IsPublishable, max_line_literals}
 use Rattle.lrup_model.specs.Place.{Place, Tells}
 use Rattle.lrup_model.specs.declared.clause_map.Published.{Published}
 use Rattle.lrup_model.specs.declared.clause_map.Published.TheVariants as publishing
-use Rattle.lrup_model.proofs.EntailmentLemmas.{accepted_follows}
+use Rattle.lrup_model.specs.EntailmentLemmas.{accepted_follows}
 use Rattle.propagate.specs.Different.{different}
 use Rattle.propagate.proofs.DifferentLemmas.{Has-different}
 use Rattle.propagate.specs.Marks.{Propagation}

@@ -9,7 +9,7 @@ use Rattle.std.proofs.lemmas.List.Sums.{sum_by-cons, sum_by-append}
 use Rattle.std.proofs.lemmas.List.Folds.{list_any-append}
 use Rattle.lrup_model.specs.Clause.{Clause}
 use Rattle.lrup_model.specs.Formula.{Cnf}
-use Rattle.lrup_model.specs.Layout.{Plan, Owns}
+use Rattle.lrup_model.specs.Layout.{LayoutValue, Owns}
 use Rattle.lrup_model.specs.Event as events
 use Rattle.lrup_model.specs.Event.{Event, History, own, spent, size_of, stream_of}
 use Rattle.lrup_model.specs.State.{State, live, put, run}
@@ -17,7 +17,7 @@ use Rattle.lrup_model.specs.History.{LegalFrom}
 use Rattle.lrup_model.specs.Running.{run-append, spent-append}
 use Rattle.lrup_model.specs.Place.{Place, Tells}
 use Rattle.lrup_model.specs.declared.clause_map.Published.TheVariants as publishing
-use Rattle.lrup_model.proofs.HistoryLemmas.{legal-front, legal-back}
+use Rattle.lrup_model.specs.HistoryLemmas.{legal-front, legal-back}
 use Rattle.lrup_model.proofs.PlainLemmas.{spent_one}
 use Rattle.lrup_text.specs.Lines.{StreamLine, Addition, Deletion, Fits, text_of, Cut, IsPending}
 use Rattle.lrup_text.proofs.Streams.{one_cut, empty_cut}
@@ -35,12 +35,12 @@ use Rattle.lrupd.proofs.StreamLemmas.{front_line}
 
 -- ---- good lines, one behind the other
 
-pub good-back : (f : Cnf) (p : Plan) (s : ℕ) (st : Standing) (lines more : List StreamLine) → AreGood f p s st (lines ++ more) → AreGood f p s (after_lines st lines) more
+pub good-back : (f : Cnf) (p : LayoutValue) (s : ℕ) (st : Standing) (lines more : List StreamLine) → AreGood f p s st (lines ++ more) → AreGood f p s (after_lines st lines) more
 good-back f p s st [] more h = h
 good-back f p s st (Addition id lits hints ∷ lines) more h = good-back f p s (after_addition st id lits) lines more h.1
 good-back f p s st (Deletion lead ids ∷ lines) more h = absurd h
 
-pub good-append : (f : Cnf) (p : Plan) (s : ℕ) (st : Standing) (lines more : List StreamLine) → AreGood f p s st lines → AreGood f p s (after_lines st lines) more → AreGood f p s st (lines ++ more)
+pub good-append : (f : Cnf) (p : LayoutValue) (s : ℕ) (st : Standing) (lines more : List StreamLine) → AreGood f p s st lines → AreGood f p s (after_lines st lines) more → AreGood f p s st (lines ++ more)
 good-append f p s st [] more h k = k
 good-append f p s st (Addition id lits hints ∷ lines) more h k = (h.0, good-append f p s (after_addition st id lits) lines more h.1 k)
 good-append f p s st (Deletion lead ids ∷ lines) more h k = absurd h
@@ -115,7 +115,7 @@ same_after : (p q r : Place) (fs : History) → IsSameStream p q → Tells q r f
 same_after p q r fs same tells = record { formula = tells.formula ∙ same.formula; layout = tells.layout ∙ same.layout; stream = tells.stream ∙ same.stream }
 
 legal_at : (p q : Place) (fs : History) (m : State) → IsSameStream p q → LegalFrom p.formula p.layout m fs → LegalFrom q.formula q.layout m fs
-legal_at p q fs m tells legal = subst (λ (f : Cnf). LegalFrom f q.layout m fs) (sym tells.formula) (subst (λ (l : Plan). LegalFrom p.formula l m fs) (sym tells.layout) legal)
+legal_at p q fs m tells legal = subst (λ (f : Cnf). LegalFrom f q.layout m fs) (sym tells.formula) (subst (λ (l : LayoutValue). LegalFrom p.formula l m fs) (sym tells.layout) legal)
 
 pub so_far_bad : (p q : Place) (last : ℕ) (bytes read piece : List ℕ) (es fs : History) (tally : Tally) → IsSoFar p q last bytes read es tally
     → IsBadStream q tally.last (read ++ piece) false fs → IsBadStream p last (bytes ++ piece) false (es ++ fs)
@@ -132,7 +132,7 @@ so_far_bad p q last bytes read piece es fs tally so_far bad more m lines follows
     (good-back p.formula p.layout p.stream (standing_at p last m) so_far.lines front.0 (subst (AreGood p.formula p.layout p.stream (standing_at p last m)) front.1 good)) in
     bad more (run m es) front.0 follows (legal_at p q fs (run m es) tells there) front.2
     (subst (λ (f : Cnf). AreGood f q.layout q.stream (standing_at q tally.last (run m es)) front.0) (sym tells.formula)
-    (subst (λ (l : Plan). AreGood p.formula l q.stream (standing_at q tally.last (run m es)) front.0) (sym tells.layout)
+    (subst (λ (l : LayoutValue). AreGood p.formula l q.stream (standing_at q tally.last (run m es)) front.0) (sym tells.layout)
     (subst (λ s. AreGood p.formula p.layout s (standing_at q tally.last (run m es)) front.0) (sym tells.stream) back)))
 
 -- a stream that ends inside a line
@@ -232,7 +232,7 @@ good_more p q r last es fs old new id size lits hints fetches lines tells again 
     let good : IsGood p.formula p.layout p.stream (after_lines (standing_at p last m) lines) id lits hints =
     subst (λ (st : Standing). IsGood p.formula p.layout p.stream st id lits hints) (sym here.1)
     (subst (λ (f : Cnf). IsGood f p.layout p.stream (standing_at q old.last (run m es)) id lits hints) tells.formula
-    (subst (λ (l : Plan). IsGood q.formula l p.stream (standing_at q old.last (run m es)) id lits hints) tells.layout
+    (subst (λ (l : LayoutValue). IsGood q.formula l p.stream (standing_at q old.last (run m es)) id lits hints) tells.layout
     (subst (λ s. IsGood q.formula q.layout s (standing_at q old.last (run m es)) id lits hints) tells.stream (judged (run m es) legal)))) in (
       good-append p.formula p.layout p.stream (standing_at p last m) lines (Addition id lits hints ∷ []) here.0 (good, tt),
       after-append (standing_at p last m) lines (Addition id lits hints ∷ []) ∙ ap (λ (st : Standing). after_addition st id lits) here.1
@@ -268,7 +268,7 @@ so_far_more p q r last bytes read piece es fs used old new so_far again takes =
 pub vacant_more : (q r : Place) (old new : Tally) (id size : ℕ) (lits : List ℤ) (hints : List ℕ) (fs : History) → Tells q r fs → Judges q old.last id lits hints fs (Some size) → Counted old id size new
     → IsVacantAbove q old.last → IsVacantAbove r new.last
 vacant_more q r old new id size lits hints fs tells judged counted vacant j owns above =
-    let mine : Owns q.layout q.stream j = subst (λ s. Owns q.layout s j) tells.stream (subst (λ (l : Plan). Owns l r.stream j) tells.layout owns) in
+    let mine : Owns q.layout q.stream j = subst (λ s. Owns q.layout s j) tells.stream (subst (λ (l : LayoutValue). Owns l r.stream j) tells.layout owns) in
     let newer : old.last < id = judged.5.newer in
     let other : j ≢ id = omega (arith, counted.1) in
     tells.own j mine

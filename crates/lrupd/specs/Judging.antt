@@ -4,7 +4,7 @@ use Rattle.std.specs.List.{AllByRecursion}
 use Rattle.lrup_model.specs.Clause.{Clause, IsClause, IsTautology}
 use Rattle.lrup_model.specs.Formula.{Cnf}
 use Rattle.lrup_model.specs.Entailment.{Follows}
-use Rattle.lrup_model.specs.Layout.{Plan, IsIdentity, Owns}
+use Rattle.lrup_model.specs.Layout.{LayoutValue, IsIdentity, Owns}
 use Rattle.lrup_model.specs.Event as events
 use Rattle.lrup_model.specs.Event.{Event, History}
 use Rattle.lrup_model.specs.State.{State, live, absent}
@@ -37,14 +37,14 @@ abbrev pub KeepsClause : Propagation → Propagation → Type 0
 KeepsClause old new = (new.vars ≡ old.vars) × (new.clause ≡ old.clause)
 
 -- One hint of stream s: not found, at every map that gives these answers, or found with a clause, and what that does.
-abbrev pub Tries : Cnf → Plan → ℕ → Propagation → Propagation → ℕ → History → Option Step → Type 0
+abbrev pub Tries : Cnf → LayoutValue → ℕ → Propagation → Propagation → ℕ → History → Option Step → Type 0
 Tries f p s old new hint es None =
     AllByRecursion IsFetch es × ((m : State) (d : Clause) → LegalFrom f p m es → IsIdentity p hint → ¬ (m hint ≡ live d))
 Tries f p s old new hint es (Some step) =
     (d : Clause) × (es ≡ events.fetch s hint (events.live d) ∷ []) × IsDerived f d × IsIdentity p hint × Steps old d step new
 
 -- Hints that are all unit, one after the other; else, with one more hint behind them, they show nothing.
-abbrev pub LeadsBy : Cnf → Plan → Propagation → Propagation → List ℕ → History → Bool → Type 0
+abbrev pub LeadsBy : Cnf → LayoutValue → Propagation → Propagation → List ℕ → History → Bool → Type 0
 LeadsBy f p old new hints es true =
     (ds : List Clause) × AllByRecursion (IsDerived f) ds × Leads old.falses ds new.falses × (new ≡ record old { falses = new.falses })
     × ((m : State) → LegalFrom f p m es → AreFound p m hints ds)
@@ -52,7 +52,7 @@ LeadsBy f p old new hints es false =
     (m : State) (last : ℕ) (ds : List Clause) → LegalFrom f p m es → AreFound p m (hints ++ last ∷ []) ds → ¬ Accepts old.falses ds
 
 -- The hints show the clause by propagation, or they don't, at every map that gives these answers.
-abbrev pub Shows : Cnf → Plan → Clause → List ℕ → History → Bool → Type 0
+abbrev pub Shows : Cnf → LayoutValue → Clause → List ℕ → History → Bool → Type 0
 Shows f p c hints es true =
     (ds : List Clause) × AllByRecursion (IsDerived f) ds × Accepts c ds × ((m : State) → LegalFrom f p m es → AreFound p m hints ds)
 Shows f p c hints es false = (m : State) (ds : List Clause) → LegalFrom f p m es → AreFound p m hints ds → ¬ Accepts c ds

@@ -4,7 +4,7 @@ use Rattle.std.specs.Io.KnownBytes.{Consumes, IsAtEnd}
 use Rattle.std.specs.List.{list_any}
 use Rattle.lrup_model.specs.Clause.{Clause}
 use Rattle.lrup_model.specs.Formula.{Cnf}
-use Rattle.lrup_model.specs.Layout.{Plan}
+use Rattle.lrup_model.specs.Layout.{LayoutValue}
 use Rattle.lrup_model.specs.Event as events
 use Rattle.lrup_model.specs.Event.{Event, History}
 use Rattle.lrup_model.specs.State.{State, run}
@@ -23,7 +23,7 @@ use Rattle.lrupd.specs.Additions.{Standing, IsGood, after_addition}
 use Rattle.lrupd.specs.Judging.{IsVacantAbove, Judges, standing_at}
 
 -- all lines are good additions, one after the other
-abbrev pub AreGood : Cnf → Plan → ℕ → Standing → List StreamLine → Type 0
+abbrev pub AreGood : Cnf → LayoutValue → ℕ → Standing → List StreamLine → Type 0
 AreGood f p s before [] = Unit {0}
 AreGood f p s before (Addition id lits hints ∷ lines) = IsGood f p s before id lits hints × AreGood f p s (after_addition before id lits) lines
 AreGood f p s before (Deletion lead ids ∷ lines) = ⊥

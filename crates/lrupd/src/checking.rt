@@ -3,7 +3,7 @@ ghost use Rattle.std.specs.Prelude.{◌≡◌, ◌<◌, ◌≤◌, ◌≢◌, �
 ghost use Rattle.std.specs.Result.{IsErrOf};
 ghost use Rattle.dimacs.specs.declared.fault.DimacsFault.{DimacsFault};
 ghost use Rattle.lrup_model.specs.Event.{History};
-ghost use Rattle.lrup_model.specs.Layout.{IsPlan};
+ghost use Rattle.lrup_model.specs.Layout.{IsLayout};
 ghost use Rattle.lrup_model.specs.State.{absent};
 ghost use Rattle.lrup_model.specs.Plain.{state_of, place_at, PlainMoves};
 ghost use Rattle.dimacs.specs.FormulaFault.{IsFaultOf};
@@ -86,7 +86,7 @@ fn zero_bytes(alloc: Global, count: usize) -> Result<Vec<u8>, AllocError>
 
 /// The layout of two streams for this formula, where there is one.
 fn layout_of(formula: &Formula) -> Option<Layout>
-    ensures { MatchOption result (¬ IsPlan (first_plan formula.now)) (λ layout. (layout ≡ first_plan formula.now) × IsPlan layout) }
+    ensures { MatchOption result (¬ IsLayout (first_plan formula.now)) (λ layout. (layout ≡ first_plan formula.now) × IsLayout layout) }
 {
     let vars = formula.vars() as u64;
     let clauses = formula.len() as u64;
