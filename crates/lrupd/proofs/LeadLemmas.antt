@@ -5,11 +5,12 @@ use Rattle.std.specs.List.{AllByRecursion}
 use Rattle.lrup_model.specs.Clause.{Clause, IsTautology}
 use Rattle.lrup_model.specs.Formula.{Cnf}
 use Rattle.lrup_model.specs.Layout.{LayoutValue}
+use Rattle.lrup_model.specs.Entailment.{IsDerived}
 use Rattle.lrup_model.specs.Event as events
 use Rattle.lrup_model.specs.Event.{Event, History}
 use Rattle.lrup_model.specs.State.{State, live}
 use Rattle.lrup_model.specs.History.{LegalFrom}
-use Rattle.lrup_model.specs.Place.{Place, Tells}
+use Rattle.lrup_model.specs.Place.{Caller, Place, Tells}
 use Rattle.lrup_model.specs.Propagation.{Accepts}
 use Rattle.propagate.specs.Marks.{Propagation, Steps}
 use Rattle.propagate.specs.Hints.{Leads}
@@ -17,7 +18,7 @@ use Rattle.propagate.specs.declared.marks.Step.{Step}
 use Rattle.propagate.specs.declared.marks.Step.TheVariants.{Unit as Alone, Conflict, NotUnit}
 use Rattle.propagate.proofs.HintLemmas.{leads_on, accepts_exactly, needs_conflict, ends_at_conflict, needs_units}
 use Rattle.lrupd.specs.Additions.{AreFound}
-use Rattle.lrupd.specs.Judging.{IsFetch, IsDerived, KeepsClause, Tries, LeadsBy, Shows}
+use Rattle.lrupd.specs.Judging.{IsFetch, KeepsClause, Tries, LeadsBy, Shows}
 use Rattle.lrupd.proofs.FoundLemmas.{after_fetches, fetches-append, found-append, found_at, found_once, live_once, has_first}
 
 pub all_append : (f : Cnf) (cs : List Clause) (d : Clause) → AllByRecursion (IsDerived f) cs → IsDerived f d → AllByRecursion (IsDerived f) (cs ++ d ∷ [])
@@ -174,11 +175,11 @@ shows_no_conflict f p s old mid new before last hints es fs r is quiet led tried
 
 -- the same at a place that has the formula, the layout and the stream of another
 pub tries_there : (p q : Place) (es : History) (old new : Propagation) (hint : ℕ) (fs : History) (r : Option Step) → Tells p q es
-    → Tries q.formula q.layout q.stream old new hint fs r → Tries p.formula p.layout p.stream old new hint fs r
+    → Tries q.caller.formula q.caller.layout q.caller.stream old new hint fs r → Tries p.caller.formula p.caller.layout p.caller.stream old new hint fs r
 tries_there p q es old new hint fs r tells tried =
-    subst (λ (f : Cnf). Tries f p.layout p.stream old new hint fs r) tells.formula
-    (subst (λ (l : LayoutValue). Tries q.formula l p.stream old new hint fs r) tells.layout
-    (subst (λ s. Tries q.formula q.layout s old new hint fs r) tells.stream tried))
+    subst (λ (f : Cnf). Tries f p.caller.layout p.caller.stream old new hint fs r) (ap (λ (r : Caller). r.formula) tells.caller)
+    (subst (λ (l : LayoutValue). Tries q.caller.formula l p.caller.stream old new hint fs r) (ap (λ (r : Caller). r.layout) tells.caller)
+    (subst (λ s. Tries q.caller.formula q.caller.layout s old new hint fs r) (ap (λ (r : Caller). r.stream) tells.caller) tried))
 
 -- the last hint decides
 pub shows_last : (f : Cnf) (p : LayoutValue) (s : ℕ) (old mid new : Propagation) (before : List ℕ) (last : ℕ) (hints : List ℕ) (es fs : History) (r : Option Step) (ends : Bool) → hints ≡ before ++ last ∷ [] → AllByRecursion IsFetch es

@@ -5,7 +5,7 @@ use Rattle.lrup_model.specs.Clause.{Clause}
 use Rattle.lrup_model.specs.Formula.{Cnf, literals_of}
 use Rattle.lrup_model.specs.Entailment.{IsUnsatisfiable}
 use Rattle.lrup_model.specs.Layout.{LayoutValue, IsLayout, IsIdentity}
-use Rattle.lrup_model.specs.Event.{History, stream_of}
+use Rattle.lrup_model.specs.Event.{History, stream_of, publishes, publishes_empty, published}
 use Rattle.lrup_model.specs.State.{state, live, opening}
 use Rattle.lrup_model.specs.History.{IsLegal}
 use Rattle.lrup_model.specs.Plain.{Plain, state_of}
@@ -19,7 +19,7 @@ use Rattle.lrupd.specs.declared.stream.StreamFault.{StreamFault}
 use Rattle.lrupd.specs.declared.stream.StreamFault.TheVariants as stream_faults
 use Rattle.lrupd.specs.declared.stream.Tally.{Tally}
 use Rattle.lrupd.specs.Additions.{Standing}
-use Rattle.lrupd.specs.Streams.{AreGood, publishes, publishes_empty, published, added_by, EndsWith, MayFollow, Gave}
+use Rattle.lrupd.specs.Streams.{AreGood, added_by, EndsWith, MayFollow, Gave}
 
 -- the layout: two streams, of 65,536 identities and room for 1,048,576 literals each
 abbrev pub first_plan : Cnf → LayoutValue

@@ -5,9 +5,9 @@ ghost use Rattle.dimacs.specs.declared.fault.DimacsFault.{DimacsFault};
 ghost use Rattle.lrup_model.specs.Event.{History};
 ghost use Rattle.lrup_model.specs.Layout.{IsLayout};
 ghost use Rattle.lrup_model.specs.State.{absent};
-ghost use Rattle.lrup_model.specs.Plain.{state_of, place_at, PlainMoves};
+ghost use Rattle.lrup_model.specs.Plain.{state_of, plain_place, PlainMoves};
 ghost use Rattle.dimacs.specs.FormulaFault.{IsFaultOf};
-ghost use Rattle.lrupd.specs.Judging.{IsVacantAbove};
+ghost use Rattle.lrup_model.specs.Place.{IsVacantAbove};
 ghost use Rattle.lrupd.specs.Streams.{JudgesStream};
 ghost use Rattle.lrupd.specs.First.{ChecksAll, IsRefused, IsLiveLast, FetchesLast, first_plan};
 
@@ -107,10 +107,10 @@ fn check_stream<W: Wait, S: Source>(
     requires reader { reader.old ≡ Ok [] }
     requires streams { 0 < map.old.layout.streams }
     requires variables { map.old.layout.vars ≡ checker.old.vars }
-    requires vacant { IsVacantAbove (place_at map.old 1) last }
+    requires vacant { IsVacantAbove (plain_place map.old 1) last }
     requires running { S.has_failed stream.old ≡ false }
     requires buffer { 0 < length buffer.old }
-    ensures judged { (es : History) × PlainMoves map.old map.new 1 es × JudgesStream (place_at map.old 1) last (S.left stream.old) (S.left stream.new) es result }
+    ensures judged { (es : History) × PlainMoves map.old map.new 1 es × JudgesStream (plain_place map.old 1) last (S.left stream.old) (S.left stream.new) es result }
     ensures failed { IsTrue (S.has_failed stream.new) ↔ IsErrOf result StreamFault.Unread }
 {
     let mut desk = map.desk(1);
