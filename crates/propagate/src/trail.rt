@@ -1,10 +1,10 @@
 //! The literals that are false.
 ghost use Rattle.std.specs.Prelude.{◌≡◌, ◌↔◌, ◌≤◌, ◌<◌, ◌++◌, [], ◌∷◌, ℕ, ℤ, Bool, false, true, neg_ℤ, length, take, slice_index_or, IsTrue, IfOk, IsErr, OnOk, OnErr};
 ghost use Rattle.std.specs.List.{AllByRecursion};
-ghost use Rattle.lrup_model.specs.Literal.{IsLiteral};
+ghost use Rattle.lrup_model.specs.Literal.{IsLiteral, code_of};
 ghost use Rattle.lrup_model.specs.Clause.{Has, IsTautology};
-ghost use Rattle.propagate.specs.Different.{different};
-ghost use Rattle.propagate.specs.Trail.{mark_place, HaveMarks};
+ghost use Rattle.propagate.specs.Distinct.{distinct};
+ghost use Rattle.propagate.specs.Trail.{HaveMarks};
 
 use crate::tautology::Tautology;
 use lrup_model::Lit;
@@ -49,7 +49,7 @@ impl Trail {
         requires { IsLiteral self.now.vars lit }
         ensures { IsTrue result ↔ Has self.now.literals lit }
     {
-        self.marks[place(lit)]
+        self.marks[lit.code() as usize]
     }
 
     /// Makes a literal false that is neither false nor true.
@@ -59,7 +59,7 @@ impl Trail {
         requires not_true { ¬ Has self.old.literals (neg_ℤ lit) }
         ensures { self.new ≡ record self.old { literals = self.old.literals ++ lit ∷ [] } }
     {
-        self.marks[place(lit)] = true;
+        self.marks[lit.code() as usize] = true;
         self.literals.push_reserved(lit);
     }
 
@@ -68,7 +68,7 @@ impl Trail {
         requires empty { self.old.literals ≡ [] }
         requires literals { AllByRecursion (IsLiteral self.old.vars) clause.now }
         ensures tautology { IsErr result ↔ IsTautology clause.now }
-        ensures ok { OnOk result (self.new.literals ≡ different clause.now) }
+        ensures ok { OnOk result (self.new.literals ≡ distinct clause.now) }
         ensures vars { self.new.vars ≡ self.old.vars }
     {
         for &lit in clause {
@@ -106,22 +106,13 @@ impl Trail {
     }
 }
 
-/// Where the literal's mark is.
-#[inline]
-fn place(lit: Lit) -> usize
-    ensures { result ≡ mark_place lit }
-{
-    let even = 2 * lit.var() as usize;
-    if lit.value() < 0 { even + 1 } else { even }
-}
-
 /// Takes the marks of these literals away, and changes no other.
 fn unmark(marks: &mut [bool], literals: &[Lit])
     requires { HaveMarks marks.old literals.now }
-    ensures cleared { (l : ℤ) → Has literals.now l → slice_index_or marks.new (mark_place l) false ≡ false }
+    ensures cleared { (l : ℤ) → Has literals.now l → slice_index_or marks.new (code_of l) false ≡ false }
     ensures others { (k : ℕ) → slice_index_or marks.new k false ≡ true → slice_index_or marks.old k false ≡ true }
 {
     for &lit in literals {
-        marks[place(lit)] = false;
+        marks[lit.code() as usize] = false;
     }
 }
