@@ -61,7 +61,7 @@ impl Lit {
     #[inline]
     pub fn code(self) -> u32
         ensures code { result ≡ code_of self }
-        ensures literal { IsLiteral max_variable self }
+        ensures range { IsCode max_variable result }
     {
         self.code
     }
