@@ -95,6 +95,7 @@ impl Marks {
     }
 
     /// The literals of the clause that was taken up, each once, in the order of their first places.
+    #[inline]
     pub fn clause(&self) -> &[Lit]
         ensures { result.now ≡ self.now.clause }
     {
@@ -102,6 +103,7 @@ impl Marks {
     }
 
     /// Is a clause taken up, and was every hint since unit?
+    #[inline]
     pub fn ready(&self) -> bool
         ensures { result ≡ self.now.ready }
     {

@@ -53,6 +53,7 @@ impl Trail {
     }
 
     /// Makes a literal false that is neither false nor true.
+    #[inline]
     pub fn add(&mut self, lit: Lit)
         requires literal { IsLiteral self.old.vars lit }
         requires not_false { ¬ Has self.old.literals lit }
@@ -91,6 +92,7 @@ impl Trail {
     }
 
     /// The count of the false literals.
+    #[inline]
     pub fn len(&self) -> usize
         ensures { result ≡ length self.now.literals }
     {
@@ -98,6 +100,7 @@ impl Trail {
     }
 
     /// The first false literals.
+    #[inline]
     pub fn first(&self, count: usize) -> &[Lit]
         requires { count ≤ length self.now.literals }
         ensures { result.now ≡ take count self.now.literals }
@@ -114,5 +117,29 @@ fn unmark(marks: &mut [bool], literals: &[Lit])
 {
     for &lit in literals {
         marks[lit.code() as usize] = false;
+    }
+}
+
+#[cfg(test)]
+mod tests {
+    use super::*;
+    use std::test::Fail;
+
+    #[test]
+    fn clauses_in_turn_take_no_more_memory(rt: HostRuntime) -> Result<(), Fail> {
+        let mut trail = Trail::new(rt.alloc(), 3)?;
+        let one = Lit::new(1).ok_or("no literal")?;
+        let two = Lit::new(2).ok_or("no literal")?;
+        let not_three = Lit::new(-3).ok_or("no literal")?;
+        let marks = trail.marks.capacity();
+        let literals = trail.literals.capacity();
+        for _ in 0..1000 {
+            trail.clear();
+            trail.add_all(&[one, two, not_three, one])?;
+        }
+        assert_eq!(rt; trail.len(), 3);
+        assert_eq!(rt; trail.marks.capacity(), marks);
+        assert_eq!(rt; trail.literals.capacity(), literals);
+        Ok(())
     }
 }
