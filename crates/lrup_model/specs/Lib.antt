@@ -1,4 +1,5 @@
 pub mod Literal
+pub mod LiteralLaws
 pub mod Clause
 pub mod Formula
 pub mod Pieces

@@ -22,7 +22,7 @@ use Rattle.lrup_model.specs.HistoryLemmas.{spent_one, published-append}
 use Rattle.lrup_text.specs.Lines.{StreamLine, Addition, Deletion, Fits, text_of, Cut, IsPending}
 use Rattle.lrup_text.proofs.Streams.{one_cut, empty_cut}
 use Rattle.lrup_text.proofs.TextLaws.{empty_pending}
-use Rattle.propagate.specs.Different.{different}
+use Rattle.propagate.specs.Distinct.{distinct}
 use Rattle.lrupd.specs.declared.stream.Tally.{Tally}
 use Rattle.lrupd.specs.declared.stream.StreamFault.{StreamFault}
 use Rattle.lrupd.specs.declared.stream.StreamFault.TheVariants.{Bad, Unread}
@@ -81,15 +81,15 @@ published-fetches (events.retire s id r ∷ es) h = absurd h.0
 
 added-append : (lines more : List StreamLine) → added_by (lines ++ more) ≡ added_by lines ++ added_by more
 added-append [] more = refl
-added-append (Addition id lits hints ∷ lines) more = ap (λ (x : List (ℕ × Clause)). (id, different lits) ∷ x) (added-append lines more)
+added-append (Addition id lits hints ∷ lines) more = ap (λ (x : List (ℕ × Clause)). (id, distinct lits) ∷ x) (added-append lines more)
 added-append (Deletion lead ids ∷ lines) more = added-append lines more
 
 published_more : (s id : ℕ) (lits : List ℤ) (hints : List ℕ) (es fs fetches : History) (lines : List StreamLine) → AllByRecursion IsFetch fetches
-    → fs ≡ fetches ++ events.publish s id (different lits) publishing.Done ∷ [] → published es ≡ added_by lines → published (es ++ fs) ≡ added_by (lines ++ Addition id lits hints ∷ [])
+    → fs ≡ fetches ++ events.publish s id (distinct lits) publishing.Done ∷ [] → published es ≡ added_by lines → published (es ++ fs) ≡ added_by (lines ++ Addition id lits hints ∷ [])
 published_more s id lits hints es fs fetches lines quiet is before =
-    let new : List (ℕ × Clause) = (id, different lits) ∷ [] in
+    let new : List (ℕ × Clause) = (id, distinct lits) ∷ [] in
     let line : published fs ≡ new =
-    ap published is ∙ published-append fetches (events.publish s id (different lits) publishing.Done ∷ []) ∙ ap (λ (x : List (ℕ × Clause)). x ++ new) (published-fetches fetches quiet) in
+    ap published is ∙ published-append fetches (events.publish s id (distinct lits) publishing.Done ∷ []) ∙ ap (λ (x : List (ℕ × Clause)). x ++ new) (published-fetches fetches quiet) in
     published-append es fs ∙ ap (λ (x : List (ℕ × Clause)). published es ++ x) line ∙ ap (λ (x : List (ℕ × Clause)). x ++ new) before
     ∙ sym (added-append lines (Addition id lits hints ∷ []))
 
@@ -205,18 +205,18 @@ counts_more s id size c es fs fetches old new quiet is sized counts counted =
 
 -- where the next line begins, the map is what the line left
 stands_after : (p q r : Place) (m : State) (old new : Tally) (id size : ℕ) (lits : List ℤ) (fs fetches : History) → Tells q r fs → AllByRecursion IsFetch fetches
-    → fs ≡ fetches ++ events.publish q.caller.stream id (different lits) publishing.Done ∷ [] → Counted old id size new
+    → fs ≡ fetches ++ events.publish q.caller.stream id (distinct lits) publishing.Done ∷ [] → Counted old id size new
     → after_addition (standing_at q old.last m) id lits ≡ standing_at r new.last (run m fs)
 stands_after p q r m old new id size lits fs fetches tells quiet is counted =
-    let spent_is : spent q.caller.stream fs ≡ length (different lits) = ap (spent q.caller.stream) is ∙ line_spent q.caller.stream id (different lits) fetches quiet in
-    let room : q.room - length (different lits) ≡ r.room = omega (arith, tells.room) in
-    let ran : put m id (live (different lits)) ≡ run m fs = sym (line_run q.caller.stream id (different lits) fetches quiet m) ∙ ap (run m) (sym is) in
-    ap (λ n. record { last = n; room = q.room - length (different lits); map = put m id (live (different lits)) }) (sym counted.1)
-    ∙ ap (λ n. record { last = new.last; room = n; map = put m id (live (different lits)) }) room
+    let spent_is : spent q.caller.stream fs ≡ length (distinct lits) = ap (spent q.caller.stream) is ∙ line_spent q.caller.stream id (distinct lits) fetches quiet in
+    let room : q.room - length (distinct lits) ≡ r.room = omega (arith, tells.room) in
+    let ran : put m id (live (distinct lits)) ≡ run m fs = sym (line_run q.caller.stream id (distinct lits) fetches quiet m) ∙ ap (run m) (sym is) in
+    ap (λ n. record { last = n; room = q.room - length (distinct lits); map = put m id (live (distinct lits)) }) (sym counted.1)
+    ∙ ap (λ n. record { last = new.last; room = n; map = put m id (live (distinct lits)) }) room
     ∙ ap (λ (x : State). record { last = new.last; room = r.room; map = x }) ran
 
 good_more : (p q r : Place) (last : ℕ) (es fs : History) (old new : Tally) (id size : ℕ) (lits : List ℤ) (hints : List ℕ) (fetches : History) (lines : List StreamLine) → IsSameStream p q → Tells q r fs
-    → AllByRecursion IsFetch fetches → fs ≡ fetches ++ events.publish q.caller.stream id (different lits) publishing.Done ∷ []
+    → AllByRecursion IsFetch fetches → fs ≡ fetches ++ events.publish q.caller.stream id (distinct lits) publishing.Done ∷ []
     → ((m : State) → LegalFrom q.caller.formula q.caller.layout m fs → IsGood q.caller.formula q.caller.layout q.caller.stream (standing_at q old.last m) id lits hints) → Counted old id size new
     → (m : State) → AreGood p.caller.formula p.caller.layout p.caller.stream (standing_at p last m) lines × (after_lines (standing_at p last m) lines ≡ standing_at q old.last (run m es)) → LegalFrom p.caller.formula p.caller.layout (run m es) fs
     → AreGood p.caller.formula p.caller.layout p.caller.stream (standing_at p last m) (lines ++ Addition id lits hints ∷ []) × (after_lines (standing_at p last m) (lines ++ Addition id lits hints ∷ []) ≡ standing_at r new.last (run m (es ++ fs)))
@@ -250,8 +250,8 @@ so_far_more p q r last bytes read piece es fs used old new so_far again takes =
         each = fits-append so_far.lines (line ∷ []) so_far.cut.each (takes.text.0, tt);
         last = empty_pending.whole;
       };
-      counts = counts_more p.caller.stream takes.id takes.size (different takes.lits) es fs judged.1 old new judged.2
-          (judged.3 ∙ ap (λ s. judged.1 ++ events.publish s takes.id (different takes.lits) publishing.Done ∷ []) (ap (λ (r : Caller). r.stream) tells.caller)) judged.0 so_far.counts takes.counted;
+      counts = counts_more p.caller.stream takes.id takes.size (distinct takes.lits) es fs judged.1 old new judged.2
+          (judged.3 ∙ ap (λ s. judged.1 ++ events.publish s takes.id (distinct takes.lits) publishing.Done ∷ []) (ap (λ (r : Caller). r.stream) tells.caller)) judged.0 so_far.counts takes.counted;
       carries = published_more q.caller.stream takes.id takes.lits takes.hints es fs judged.1 so_far.lines judged.2 judged.3 so_far.carries;
       good = λ m legal. good_more p q r last es fs old new takes.id takes.size takes.lits takes.hints judged.1 so_far.lines tells again judged.2 judged.3 judged.4 takes.counted m
           (so_far.good m (legal-front p.caller.formula p.caller.layout m es fs legal)) (legal-back p.caller.formula p.caller.layout m es fs legal);
@@ -266,8 +266,8 @@ vacant_more q r old new id size lits hints fs tells judged counted vacant j owns
     let other : j ≢ id = omega (arith, counted.1) in
     tells.own j mine
     ∙ ap (λ (es : History). run q.own es j) judged.3
-    ∙ ap (λ (m : State). m j) (line_run q.caller.stream id (different lits) judged.1 judged.2 q.own)
-    ∙ cond-false (eqb j id) (live (different lits)) (q.own j) (ne_eqb j id other)
+    ∙ ap (λ (m : State). m j) (line_run q.caller.stream id (distinct lits) judged.1 judged.2 q.own)
+    ∙ cond-false (eqb j id) (live (distinct lits)) (q.own j) (ne_eqb j id other)
     ∙ vacant j mine (omega (arith, counted.1))
 
 -- ---- the end

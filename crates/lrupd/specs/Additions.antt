@@ -7,7 +7,7 @@ use Rattle.lrup_model.specs.Formula.{Cnf}
 use Rattle.lrup_model.specs.Layout.{LayoutValue, IsIdentity, Owns}
 use Rattle.lrup_model.specs.State.{State, live, put}
 use Rattle.lrup_model.specs.Propagation.{Accepts}
-use Rattle.propagate.specs.Different.{different}
+use Rattle.propagate.specs.Distinct.{distinct}
 
 -- what the good lines before a line have left: the last identity, the free room, and the clause map
 pub record Standing : Type 0 where
@@ -27,13 +27,13 @@ pub record IsAdmitted (f : Cnf) (p : LayoutValue) (s last room id : ℕ) (lits :
   pub owns : Owns p s id
   pub newer : last < id
   pub literals : AllByRecursion (IsLiteral f.vars) lits
-  pub fits : length (different lits) ≤ room
+  pub fits : length (distinct lits) ≤ room
 
 -- the addition is good: its hints show its clause by propagation
 pub record IsGood (f : Cnf) (p : LayoutValue) (s : ℕ) (before : Standing) (id : ℕ) (lits : List ℤ) (hints : List ℕ) : Type 0 where
   pub admitted : IsAdmitted f p s before.last before.room id lits
-  pub shown : (ds : List Clause) × AreFound p before.map hints ds × Accepts (different lits) ds
+  pub shown : (ds : List Clause) × AreFound p before.map hints ds × Accepts (distinct lits) ds
 
 -- what is left after an addition
 abbrev pub after_addition : Standing → ℕ → List ℤ → Standing
-after_addition before id lits = record { last = id; room = before.room - length (different lits); map = put before.map id (live (different lits)) }
+after_addition before id lits = record { last = id; room = before.room - length (distinct lits); map = put before.map id (live (distinct lits)) }

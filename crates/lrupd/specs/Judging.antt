@@ -12,7 +12,7 @@ use Rattle.lrup_model.specs.History.{LegalFrom}
 use Rattle.lrup_model.specs.Place.{Place, IsVacantAbove}
 use Rattle.lrup_model.specs.Propagation.{Accepts}
 use Rattle.lrup_model.specs.declared.clause_map.Published.TheVariants as publishing
-use Rattle.propagate.specs.Different.{different}
+use Rattle.propagate.specs.Distinct.{distinct}
 use Rattle.propagate.specs.Marks.{Propagation, Steps}
 use Rattle.propagate.specs.Hints.{Leads}
 use Rattle.propagate.specs.declared.marks.Step.{Step}
@@ -55,16 +55,16 @@ standing_at p last m = record { last = last; room = p.room; map = m }
 -- The addition passes the tests that ask for no clause, and its clause is taken up.
 pub record Admits (p : Place) (last id : ℕ) (lits : List ℤ) (marks : Propagation) : Type 0 where
   pub admitted : IsAdmitted p.caller.formula p.caller.layout p.caller.stream last p.room id lits
-  pub clause : IsClause p.caller.formula.vars (different lits)
-  pub consistent : ¬ IsTautology (different lits)
-  pub marks_are : marks ≡ record { vars = p.caller.formula.vars; clause = different lits; falses = different lits; ready = true }
+  pub clause : IsClause p.caller.formula.vars (distinct lits)
+  pub consistent : ¬ IsTautology (distinct lits)
+  pub marks_are : marks ≡ record { vars = p.caller.formula.vars; clause = distinct lits; falses = distinct lits; ready = true }
 
 -- A good addition is published after some fetches, and the answer is the clause's size; a bad one makes fetches alone.
 -- It is good, or bad, at every map that gives these answers.
 abbrev pub Judges : Place → ℕ → ℕ → List ℤ → List ℕ → History → Option ℕ → Type 0
 Judges p last id lits hints es (Some size) =
-    (size ≡ length (different lits))
-    × (fetches : History) × AllByRecursion IsFetch fetches × (es ≡ fetches ++ events.publish p.caller.stream id (different lits) publishing.Done ∷ [])
+    (size ≡ length (distinct lits))
+    × (fetches : History) × AllByRecursion IsFetch fetches × (es ≡ fetches ++ events.publish p.caller.stream id (distinct lits) publishing.Done ∷ [])
     × ((m : State) → LegalFrom p.caller.formula p.caller.layout m es → IsGood p.caller.formula p.caller.layout p.caller.stream (standing_at p last m) id lits hints)
     × IsAdmitted p.caller.formula p.caller.layout p.caller.stream last p.room id lits
 Judges p last id lits hints es None =

@@ -13,7 +13,7 @@ use Rattle.lrup_model.specs.Place.{Place, IsVacantAbove}
 use Rattle.lrup_model.specs.declared.clause_map.Published.TheVariants as publishing
 use Rattle.lrup_text.specs.Lines.{StreamLine, Addition, Deletion, LineText, Cut, IsPending}
 use Rattle.lrup_text.specs.Feeding.{ReaderState}
-use Rattle.propagate.specs.Different.{different}
+use Rattle.propagate.specs.Distinct.{distinct}
 use Rattle.lrupd.specs.declared.stream.Tally.{Tally}
 use Rattle.lrupd.specs.declared.stream.Next.{Next}
 use Rattle.lrupd.specs.declared.stream.Next.TheVariants.{Good, Bad, More}
@@ -37,7 +37,7 @@ after_lines before (Deletion lead ids ∷ lines) = after_lines before lines
 -- the identity and the clause of each addition
 abbrev pub added_by : List StreamLine → List (ℕ × Clause)
 added_by [] = []
-added_by (Addition id lits hints ∷ lines) = (id, different lits) ∷ added_by lines
+added_by (Addition id lits hints ∷ lines) = (id, distinct lits) ∷ added_by lines
 added_by (Deletion lead ids ∷ lines) = added_by lines
 
 -- the last event published this identity

@@ -9,7 +9,7 @@ ghost use Rattle.lrup_model.specs.Event.{History};
 ghost use Rattle.lrup_model.specs.State.{State};
 ghost use Rattle.lrup_model.specs.Place.{IsVacantAbove};
 ghost use Rattle.lrup_model.specs.Propagation.{Accepts};
-ghost use Rattle.propagate.specs.Different.{different};
+ghost use Rattle.propagate.specs.Distinct.{distinct};
 ghost use Rattle.propagate.specs.Marks.{Propagation};
 ghost use Rattle.lrupd.specs.Additions.{IsAdmitted, AreFound, IsGood};
 ghost use Rattle.lrupd.specs.Judging.{Admits, KeepsClause, Judges, IsFetch, Tries, LeadsBy, Shows};
@@ -51,7 +51,7 @@ impl Checker {
         requires variables { (M.place map.now).caller.formula.vars ≡ self.old.vars }
         ensures vars { self.new.vars ≡ self.old.vars }
         ensures good { OnTrue result (Admits (M.place map.now) last id lits.now self.new.marks) }
-        ensures bad { OnFalse result (IsAdmitted (M.place map.now).caller.formula (M.place map.now).caller.layout (M.place map.now).caller.stream last (M.place map.now).room id lits.now → IsTautology (different lits.now)) }
+        ensures bad { OnFalse result (IsAdmitted (M.place map.now).caller.formula (M.place map.now).caller.layout (M.place map.now).caller.stream last (M.place map.now).room id lits.now → IsTautology (distinct lits.now)) }
     {
         if id <= last || !map.owns(id) {
             return false;

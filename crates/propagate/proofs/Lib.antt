@@ -1,5 +1,5 @@
 pub mod HasLemmas
-pub mod DifferentLemmas
+pub mod DistinctLemmas
 pub mod MarkLemmas
 pub mod LeftLemmas
 pub mod HintLemmas

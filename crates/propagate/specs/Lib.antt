@@ -1,4 +1,4 @@
-pub mod Different
+pub mod Distinct
 pub mod Trail
 pub mod Marks
 pub mod Left

@@ -3,7 +3,7 @@ use Rattle.lrup_model.specs.Event as events
 use Rattle.lrup_model.specs.Event.{Event, History}
 use Rattle.lrup_model.specs.History.{IsPublishable}
 use Rattle.lrup_model.specs.declared.clause_map.Published.TheVariants as publishing
-use Rattle.propagate.specs.Different.{different}
+use Rattle.propagate.specs.Distinct.{distinct}
 use Rattle.lrupd.proofs.AddLemmas.{publishable, room_stays, still_vacant, judged_good, clause_is, shown_is, published_is}
 use Rattle.lrupd.proofs.check.Checker.add.Goals as goal
 
@@ -50,7 +50,7 @@ returns-clause-judged g c =
     let is = clause_is p c.args.last c.args.id c.args.lits.now c.admit.new.self.marks c.show.new.marks c.clause-clause.result.now admits c.show.ensures.kept c.clause-clause.ensures in
     let event = published_is p q shown.0 c.args.id c.clause-clause.result.now c.args.lits.now c.publish.result tells is c.in-Done.is in
     let moved = g.met.M.ClauseMap.moves_append c.args.map.now c.show.new.map c.publish.new.self shown.0 (events.publish q.caller.stream c.args.id c.clause-clause.result.now c.publish.result ∷ []) shown.1 c.publish.ensures.event in (
-      shown.0 ++ events.publish p.caller.stream c.args.id (different c.args.lits.now) publishing.Done ∷ [],
+      shown.0 ++ events.publish p.caller.stream c.args.id (distinct c.args.lits.now) publishing.Done ∷ [],
       subst (g.M.ClauseMap.moves c.args.map.now c.publish.new.self) event moved,
       judged_good p c.args.last c.args.id c.args.lits.now c.args.hints.now shown.0 (length c.clause-clause.result.now) shown.2 admits.admitted
           (shown_is p c.args.last c.args.id c.args.lits.now c.args.hints.now c.admit.new.self.marks shown.0 true admits shown.3) (ap length is),

@@ -4,6 +4,6 @@ use Rattle.std.specs.List.{filter}
 use Rattle.std.specs.Ordering.{int_eq}
 
 -- each literal of the list once, in the order of the first places
-abbrev pub different : List ℤ → List ℤ
-different [] = []
-different (x ∷ ls) = x ∷ filter (λ y. not (int_eq y x)) (different ls)
+abbrev pub distinct : List ℤ → List ℤ
+distinct [] = []
+distinct (x ∷ ls) = x ∷ filter (λ y. not (int_eq y x)) (distinct ls)

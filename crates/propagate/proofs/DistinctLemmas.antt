@@ -1,4 +1,4 @@
--- Lemmas on the list of different literals.
+-- Lemmas on the list of distinct literals.
 use Rattle.std.proofs.Common.{◌≡◌, ◌≢◌, ◌⊎◌, inl, inr, ℕ, ◌<◌, ◌≤◌, ℤ, neg_ℤ, arith, not, List, [], ◌∷◌, ◌++◌, length, get_or, take, refl, sym, ap, subst, ◌∙◌}
 use Rattle.std.specs.List.{AllByRecursion, filter}
 use Rattle.std.specs.Ordering.{int_eq}
@@ -10,7 +10,7 @@ use Rattle.std.proofs.lemmas.Option.{slice_get_read}
 use Rattle.std.proofs.Math.IntN.{neg_ℤ-neg_ℤ}
 use Rattle.lrup_model.specs.Clause.{Has, EachOnce, IsClause, IsTautology}
 use Rattle.lrup_model.specs.Literal.{IsLiteral}
-use Rattle.propagate.specs.Different.{different}
+use Rattle.propagate.specs.Distinct.{distinct}
 use Rattle.propagate.proofs.HasLemmas.{int_cases, Has_cases, Has-push_cases, Has-at, Has-take, All-Has, All-from_Has}
 
 -- all but one literal
@@ -54,67 +54,67 @@ EachOnce-without x (y ∷ ls) once =
       | inr ne ↦ subst EachOnce (sym (without-other x y ls ne)) ((λ h. once.0 (Has-without x ls y h).0), EachOnce-without x ls once.1)
     ]
 
-pub Has-from_different : (ls : List ℤ) (l : ℤ) → Has (different ls) l → Has ls l
-Has-from_different [] l h = h
-Has-from_different (x ∷ ls) l (inl e) = inl e
-Has-from_different (x ∷ ls) l (inr h) = inr (Has-from_different ls l (Has-without x (different ls) l h).0)
+pub Has-from_distinct : (ls : List ℤ) (l : ℤ) → Has (distinct ls) l → Has ls l
+Has-from_distinct [] l h = h
+Has-from_distinct (x ∷ ls) l (inl e) = inl e
+Has-from_distinct (x ∷ ls) l (inr h) = inr (Has-from_distinct ls l (Has-without x (distinct ls) l h).0)
 
-pub Has-different : (ls : List ℤ) (l : ℤ) → Has ls l → Has (different ls) l
-Has-different [] l h = h
-Has-different (x ∷ ls) l (inl e) = inl e
-Has-different (x ∷ ls) l (inr h) =
-    elim (int_cases l x) [ inl e ↦ inl (sym e) | inr ne ↦ inr (Has-without_from x (different ls) l (Has-different ls l h) ne) ]
+pub Has-distinct : (ls : List ℤ) (l : ℤ) → Has ls l → Has (distinct ls) l
+Has-distinct [] l h = h
+Has-distinct (x ∷ ls) l (inl e) = inl e
+Has-distinct (x ∷ ls) l (inr h) =
+    elim (int_cases l x) [ inl e ↦ inl (sym e) | inr ne ↦ inr (Has-without_from x (distinct ls) l (Has-distinct ls l h) ne) ]
 
-EachOnce-different : (ls : List ℤ) → EachOnce (different ls)
-EachOnce-different [] = tt
-EachOnce-different (x ∷ ls) = ((λ h. (Has-without x (different ls) x h).1 refl), EachOnce-without x (different ls) (EachOnce-different ls))
+EachOnce-distinct : (ls : List ℤ) → EachOnce (distinct ls)
+EachOnce-distinct [] = tt
+EachOnce-distinct (x ∷ ls) = ((λ h. (Has-without x (distinct ls) x h).1 refl), EachOnce-without x (distinct ls) (EachOnce-distinct ls))
 
-pub IsClause-different : (vars : ℕ) (ls : List ℤ) → AllByRecursion (IsLiteral vars) ls → IsClause vars (different ls)
-IsClause-different vars ls all = record {
-  literals = All-from_Has (IsLiteral vars) (different ls) (λ l h. All-Has (IsLiteral vars) ls l all (Has-from_different ls l h));
-  each_once = EachOnce-different ls;
+pub IsClause-distinct : (vars : ℕ) (ls : List ℤ) → AllByRecursion (IsLiteral vars) ls → IsClause vars (distinct ls)
+IsClause-distinct vars ls all = record {
+  literals = All-from_Has (IsLiteral vars) (distinct ls) (λ l h. All-Has (IsLiteral vars) ls l all (Has-from_distinct ls l h));
+  each_once = EachOnce-distinct ls;
 }
 
-pub IsTautology-different : (ls : List ℤ) → IsTautology (different ls) → IsTautology ls
-IsTautology-different ls t = (t.0, Has-from_different ls t.0 t.1, Has-from_different ls (neg_ℤ t.0) t.2)
+pub IsTautology-distinct : (ls : List ℤ) → IsTautology (distinct ls) → IsTautology ls
+IsTautology-distinct ls t = (t.0, Has-from_distinct ls t.0 t.1, Has-from_distinct ls (neg_ℤ t.0) t.2)
 
-pub different-push_other : (ls : List ℤ) (x : ℤ) → (¬ Has ls x) → different (ls ++ x ∷ []) ≡ different ls ++ x ∷ []
-different-push_other [] x missing = refl
-different-push_other (y ∷ ls) x missing =
-    let rest = different-push_other ls x (λ h. missing (inr h)) in
-    let split : without y (different ls ++ x ∷ []) ≡ without y (different ls) ++ without y (x ∷ []) = filter-append (λ z. not (int_eq z y)) (different ls) (x ∷ []) in
+pub distinct-push_other : (ls : List ℤ) (x : ℤ) → (¬ Has ls x) → distinct (ls ++ x ∷ []) ≡ distinct ls ++ x ∷ []
+distinct-push_other [] x missing = refl
+distinct-push_other (y ∷ ls) x missing =
+    let rest = distinct-push_other ls x (λ h. missing (inr h)) in
+    let split : without y (distinct ls ++ x ∷ []) ≡ without y (distinct ls) ++ without y (x ∷ []) = filter-append (λ z. not (int_eq z y)) (distinct ls) (x ∷ []) in
     let kept : without y (x ∷ []) ≡ x ∷ [] = without-other y x [] (λ e. missing (inl (sym e))) in
-    ap (λ m. y ∷ m) (ap (without y) rest ∙ split ∙ ap (λ m. without y (different ls) ++ m) kept)
+    ap (λ m. y ∷ m) (ap (without y) rest ∙ split ∙ ap (λ m. without y (distinct ls) ++ m) kept)
 
 -- a literal that is there already changes nothing
-pub different-push_same : (ls : List ℤ) (x : ℤ) → Has ls x → different (ls ++ x ∷ []) ≡ different ls
-different-push_same [] x h = absurd h
-different-push_same (y ∷ ls) x h =
+pub distinct-push_same : (ls : List ℤ) (x : ℤ) → Has ls x → distinct (ls ++ x ∷ []) ≡ distinct ls
+distinct-push_same [] x h = absurd h
+distinct-push_same (y ∷ ls) x h =
     elim (Has_cases ls x) [
-      | inl there ↦ ap (λ m. y ∷ without y m) (different-push_same ls x there)
+      | inl there ↦ ap (λ m. y ∷ without y m) (distinct-push_same ls x there)
       | inr missing ↦ elim h [ inl e ↦ dropped y ls x e missing | inr there ↦ absurd (missing there) ]
     ]
   where
-    dropped : (y : ℤ) (ls : List ℤ) (x : ℤ) → y ≡ x → (¬ Has ls x) → different ((y ∷ ls) ++ x ∷ []) ≡ different (y ∷ ls)
+    dropped : (y : ℤ) (ls : List ℤ) (x : ℤ) → y ≡ x → (¬ Has ls x) → distinct ((y ∷ ls) ++ x ∷ []) ≡ distinct (y ∷ ls)
     dropped y ls x e missing =
-        let rest = different-push_other ls x missing in
-        let split : without y (different ls ++ x ∷ []) ≡ without y (different ls) ++ without y (x ∷ []) = filter-append (λ z. not (int_eq z y)) (different ls) (x ∷ []) in
+        let rest = distinct-push_other ls x missing in
+        let split : without y (distinct ls ++ x ∷ []) ≡ without y (distinct ls) ++ without y (x ∷ []) = filter-append (λ z. not (int_eq z y)) (distinct ls) (x ∷ []) in
         let gone : without y (x ∷ []) ≡ [] = without-same y x [] (sym e) in
-        ap (λ m. y ∷ m) (ap (without y) rest ∙ split ∙ ap (λ m. without y (different ls) ++ m) gone ∙ append-nil (without y (different ls)))
+        ap (λ m. y ∷ m) (ap (without y) rest ∙ split ∙ ap (λ m. without y (distinct ls) ++ m) gone ∙ append-nil (without y (distinct ls)))
 
 -- the literals taken from a list so far, none of which stands beside its complement
 pub record IsTaken (ls n : List ℤ) : Type 0 where
-  pub same : n ≡ different ls
+  pub same : n ≡ distinct ls
   pub consistent : ¬ IsTautology ls
 
 pub IsTaken-nil : IsTaken [] []
 IsTaken-nil = record { same = refl; consistent = λ t. absurd t.1 }
 
 pub Has-taken : (ls n : List ℤ) (l : ℤ) → IsTaken ls n → Has ls l → Has n l
-Has-taken ls n l t h = subst (λ m. Has m l) (sym t.same) (Has-different ls l h)
+Has-taken ls n l t h = subst (λ m. Has m l) (sym t.same) (Has-distinct ls l h)
 
 pub Has-from_taken : (ls n : List ℤ) (l : ℤ) → IsTaken ls n → Has n l → Has ls l
-Has-from_taken ls n l t h = Has-from_different ls l (subst (λ m. Has m l) t.same h)
+Has-from_taken ls n l t h = Has-from_distinct ls l (subst (λ m. Has m l) t.same h)
 
 consistent-push : (ls : List ℤ) (x : ℤ) → (¬ IsTautology ls) → (¬ Has ls (neg_ℤ x)) → (¬ (x ≡ neg_ℤ x)) → ¬ IsTautology (ls ++ x ∷ [])
 consistent-push ls x consistent not_neg not_zero t =
@@ -132,13 +132,13 @@ consistent-push ls x consistent not_neg not_zero t =
 -- one more literal of the list
 pub IsTaken-push : (ls n : List ℤ) (x : ℤ) → IsTaken ls n → (¬ Has n (neg_ℤ x)) → (¬ Has n x) → (¬ (x ≡ neg_ℤ x)) → IsTaken (ls ++ x ∷ []) (n ++ x ∷ [])
 IsTaken-push ls n x t not_neg missing not_zero = record {
-  same = ap (λ m. m ++ x ∷ []) t.same ∙ sym (different-push_other ls x (λ h. missing (Has-taken ls n x t h)));
+  same = ap (λ m. m ++ x ∷ []) t.same ∙ sym (distinct-push_other ls x (λ h. missing (Has-taken ls n x t h)));
   consistent = consistent-push ls x t.consistent (λ h. not_neg (Has-taken ls n (neg_ℤ x) t h)) not_zero;
 }
 
 pub IsTaken-push_same : (ls n : List ℤ) (x : ℤ) → IsTaken ls n → (¬ Has n (neg_ℤ x)) → Has n x → (¬ (x ≡ neg_ℤ x)) → IsTaken (ls ++ x ∷ []) n
 IsTaken-push_same ls n x t not_neg there not_zero = record {
-  same = t.same ∙ sym (different-push_same ls x (Has-from_taken ls n x t there));
+  same = t.same ∙ sym (distinct-push_same ls x (Has-from_taken ls n x t there));
   consistent = consistent-push ls x t.consistent (λ h. not_neg (Has-taken ls n (neg_ℤ x) t h)) not_zero;
 }
 
@@ -148,5 +148,5 @@ IsTautology-next ls n k x t lt at h =
     (x, Has-at ls k x (slice_get_read ls (length ls) k x refl lt at), Has-take k ls (neg_ℤ x) (Has-from_taken (take k ls) n (neg_ℤ x) t h))
 
 -- all that was taken
-pub all_taken : (ls n : List ℤ) (count : ℕ) → count ≡ length n → n ≡ different ls → take count n ≡ different ls
+pub all_taken : (ls n : List ℤ) (count : ℕ) → count ≡ length n → n ≡ distinct ls → take count n ≡ distinct ls
 all_taken ls n count len same = let le : length n ≤ count = omega arith in take_all count n le ∙ same
