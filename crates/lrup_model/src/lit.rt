@@ -73,7 +73,11 @@ impl Lit {
         ensures literal { IsLiteral max_variable self }
     {
         let magnitude = (self.code >> 1) as i64;
-        if self.code & 1 == 0 { magnitude } else { -magnitude }
+        if self.code & 1 == 0 {
+            magnitude
+        } else {
+            -magnitude
+        }
     }
 
     /// The literal of the same variable that is true where this one is false.
