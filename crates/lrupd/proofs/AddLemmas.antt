@@ -17,7 +17,7 @@ use Rattle.lrup_model.specs.declared.clause_map.Published.{Published}
 use Rattle.lrup_model.specs.declared.clause_map.Published.TheVariants as publishing
 use Rattle.lrup_model.specs.EntailmentLemmas.{accepted_follows}
 use Rattle.propagate.specs.Distinct.{distinct}
-use Rattle.propagate.proofs.DistinctLemmas.{Has-distinct}
+use Rattle.propagate.specs.DistinctLemmas.{Has-distinct}
 use Rattle.propagate.specs.Marks.{Propagation}
 use Rattle.lrupd.specs.Additions.{IsAdmitted}
 use Rattle.lrupd.specs.Judging.{Admits, KeepsClause, IsFetch, Judges, Shows}

@@ -16,7 +16,7 @@ use Rattle.propagate.specs.Marks.{Propagation, Steps}
 use Rattle.propagate.specs.Hints.{Leads}
 use Rattle.propagate.specs.declared.marks.Step.{Step}
 use Rattle.propagate.specs.declared.marks.Step.TheVariants.{Unit as Alone, Conflict, NotUnit}
-use Rattle.propagate.proofs.HintLemmas.{leads_on, accepts_exactly, needs_conflict, ends_at_conflict, needs_units}
+use Rattle.propagate.specs.HintLemmas.{leads_on, accepts_exactly, needs_conflict, ends_at_conflict, needs_units}
 use Rattle.lrupd.specs.Additions.{AreFound}
 use Rattle.lrupd.specs.Judging.{IsFetch, KeepsClause, Tries, LeadsBy, Shows}
 use Rattle.lrupd.proofs.FoundLemmas.{after_fetches, fetches-append, found-append, found_at, found_once, live_once, has_first}

@@ -1,5 +1,2 @@
-pub mod HasLemmas
-pub mod DistinctLemmas
 pub mod MarkLemmas
 pub mod LeftLemmas
-pub mod HintLemmas

@@ -9,7 +9,7 @@ use Rattle.lrup_model.specs.Literal.{IsLiteral, code_of}
 use Rattle.lrup_model.specs.LiteralLaws.{code_of-injective, IsCode-code_of}
 use Rattle.lrup_model.specs.Clause.{Has, IsClause}
 use Rattle.propagate.specs.Trail.{AreApart, AreMarks}
-use Rattle.propagate.proofs.HasLemmas.{Has-append_left, Has-push, Has-push_cases, All-Has, All-push, int_cases, take-read}
+use Rattle.lrup_model.specs.ClauseLemmas.{Has-append_left, Has-push, Has-push_cases, All-Has, All-push, int_cases, take-read}
 
 pub IsLiteral-neg : (vars : ℕ) (l : ℤ) → IsLiteral vars l → IsLiteral vars (neg_ℤ l)
 IsLiteral-neg vars (pos zero) h = h

@@ -4,3 +4,5 @@ pub mod Marks
 pub mod Left
 pub mod Hints
 pub mod Laws
+pub mod HintLemmas
+pub mod DistinctLemmas

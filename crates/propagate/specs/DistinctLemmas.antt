@@ -11,7 +11,7 @@ use Rattle.std.proofs.Math.IntN.{neg_ℤ-neg_ℤ}
 use Rattle.lrup_model.specs.Clause.{Has, EachOnce, IsClause, IsTautology}
 use Rattle.lrup_model.specs.Literal.{IsLiteral}
 use Rattle.propagate.specs.Distinct.{distinct}
-use Rattle.propagate.proofs.HasLemmas.{int_cases, Has_cases, Has-push_cases, Has-at, Has-take, All-Has, All-from_Has}
+use Rattle.lrup_model.specs.ClauseLemmas.{int_cases, Has_cases, Has-push_cases, Has-at, Has-take, All-Has, All-from_Has}
 
 -- all but one literal
 abbrev without : ℤ → List ℤ → List ℤ
