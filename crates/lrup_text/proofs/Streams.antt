@@ -13,7 +13,7 @@ use Rattle.lrup_text.specs.Lines.{StreamLine, Addition, Deletion, IsPositive, Is
 use Rattle.lrup_text.specs.Faults.{IsFaultOf, Decides, IsRefused}
 use Rattle.lrup_text.specs.Feeding.{ReaderState, Feeds, Leaves}
 use Rattle.lrup_text.specs.Cutting.{used_bytes, line_given, lines_given, IsCut}
-use Rattle.lrup_text.specs.Laws.{OneText, OneLine, NoTextBegins, TextsAreLines, OneCut, OneFault, EmptyCut, CallCuts, CallsCut}
+use Rattle.lrup_text.specs.Laws.{OneText, OneLine, NoTextBegins, TextsAreLines, OneCut, OneFault, EmptyCut, CallCuts, CallsCut, RefusedStays}
 use Rattle.lrup_text.proofs.Numerals.{decimal_byte, decimal_one, power_more, power_below}
 use Rattle.lrup_text.proofs.Rests.{same_head, same_tail}
 use Rattle.lrup_text.proofs.TextLaws.{fits_within, words_apart, empty_pending}
@@ -226,23 +226,19 @@ one_fault rest fault other h = (
 
 -- However a stream comes, it is cut into the lines that were given.
 
-last_byte : (p t more : List ℕ) (b : ℕ) → p ++ b ∷ [] ≡ t ++ more → (more ≡ []) ⊎ ((less : List ℕ) × (p ≡ t ++ less))
-last_byte p [] more b e = inr (p, refl)
-last_byte [] (c ∷ t) more b e = inl (nil_from_length more (omega (arith, ap length (same_tail e), length-append t more)))
-last_byte (d ∷ p) (c ∷ t) more b e = elim (last_byte p t more b (same_tail e)) [
-  | inl none ↦ inl none
-  | inr h ↦ inr (h.0, ap (λ x. x ∷ p) (same_head e) ∙ ap (λ u. c ∷ u) h.1)
-]
-
--- a text that was refused has no line in it
-decides_no_line : (p : List ℕ) (b : ℕ) (fault : LineFault) → Decides p b fault → HasNoLine (p ++ b ∷ [])
-decides_no_line p b fault h line more fits e = elim (last_byte p (text_of line) more b e) [
-  | inl none ↦ h.after ([], (words_of line, fits_within line fits, append-nil (p ++ b ∷ []) ∙ e ∙ ap (λ t. text_of line ++ t) none ∙ append-nil (text_of line)))
+-- a text that was refused has no line in it, whatever follows
+decides_no_line : (p : List ℕ) (b : ℕ) (more : List ℕ) (fault : LineFault) → Decides p b fault → HasNoLine (p ++ b ∷ more)
+decides_no_line p b more fault h line rest fits e = elim (shorter (text_of line) p rest more b (sym e)) [
+  | inl longer ↦ h.after (longer.0, (words_of line, fits_within line fits, sym longer.1))
   | inr less ↦ h.before.whole line less.0 fits less.1
 ]
 
+pub refused_stays : RefusedStays
+refused_stays bytes more fault h =
+    subst HasNoLine (sym (ap (λ t. t ++ more) h.2 ∙ append_assoc h.0 (h.1 ∷ []) more)) (decides_no_line h.0 h.1 more fault h.3)
+
 refused_no_line : (bytes : List ℕ) (fault : LineFault) → IsRefused bytes fault → HasNoLine bytes
-refused_no_line bytes fault h = subst HasNoLine (sym h.2) (decides_no_line h.0 h.1 fault h.3)
+refused_no_line bytes fault h = subst HasNoLine (append-nil bytes) (refused_stays bytes [] fault h)
 
 all_more : {X : Type 0} (P : X → Type 0) (xs : List X) (x : X) → AllByRecursion P xs → P x → AllByRecursion P (xs ++ x ∷ [])
 all_more P [] x all one = (one, tt)

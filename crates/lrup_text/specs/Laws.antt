@@ -1,9 +1,9 @@
 -- The laws of the lines' texts, which the functions of `laws.rt` prove.
-use Rattle.std.specs.Prelude.{◌≡◌, ℕ, List, [], ◌++◌, take, Ok, ◌↔◌}
+use Rattle.std.specs.Prelude.{◌≡◌, ℕ, List, [], ◌++◌, take, Ok, ◌↔◌, ◌⊎◌}
 use Rattle.lrup_text.specs.declared.LineFault.{LineFault}
-use Rattle.lrup_text.specs.Faults.{HasTextFault}
+use Rattle.lrup_text.specs.Faults.{IsRefused, HasTextFault}
 use Rattle.lrup_text.specs.Grammar.{IsLine, standard, Begins}
-use Rattle.lrup_text.specs.Lines.{StreamLine, LineText, Cut}
+use Rattle.lrup_text.specs.Lines.{StreamLine, LineText, HasNoLine, IsPending, Cut}
 use Rattle.lrup_text.specs.declared.reader.Turn.{Turn}
 use Rattle.lrup_text.specs.Feeding.{ReaderState, Feeds, Leaves}
 use Rattle.lrup_text.specs.Cutting.{Call, AreCalls, used_bytes, line_given, lines_given, IsCut}
@@ -27,6 +27,18 @@ TextsAreLines = (bytes : List ℕ) → IsLine standard bytes ↔ ((line : Stream
 -- a stream is cut in one way
 abbrev pub OneCut : Type 0
 OneCut = (stream : List ℕ) (lines others : List StreamLine) (rest left : List ℕ) → Cut stream lines rest → Cut stream others left → (lines ≡ others) × (rest ≡ left)
+
+-- every list of bytes is cut into lines
+abbrev pub EveryCut : Type 0
+EveryCut = (stream : List ℕ) → (lines : List StreamLine) × (rest : List ℕ) × Cut stream lines rest
+
+-- a rest in which no line is whole may become one, or has a fault
+abbrev pub PendingOrFaulty : Type 0
+PendingOrFaulty = (rest : List ℕ) → HasNoLine rest → IsPending rest ⊎ ((fault : LineFault) × HasTextFault rest fault)
+
+-- a text that begins no line holds none, whatever follows it
+abbrev pub RefusedStays : Type 0
+RefusedStays = (bytes more : List ℕ) (fault : LineFault) → IsRefused bytes fault → HasNoLine (bytes ++ more)
 
 -- a rest has one fault, and what begins a line has none
 abbrev pub OneFault : Type 0

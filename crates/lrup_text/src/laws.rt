@@ -9,6 +9,9 @@ ghost use Rattle.lrup_text.specs.Laws.{
   EmptyCut,
   CallCuts,
   CallsCut,
+  EveryCut,
+  PendingOrFaulty,
+  RefusedStays,
 };
 
 /// A line has one text.
@@ -34,6 +37,21 @@ pub fn texts_are_lines()
 /// A stream is cut into lines in one way.
 pub fn a_stream_is_cut_in_one_way()
     ensures { OneCut }
+{}
+
+/// Every list of bytes is cut into lines.
+pub fn every_stream_is_cut()
+    ensures { EveryCut }
+{}
+
+/// Bytes that hold no whole line in front may become one, or have a fault.
+pub fn a_rest_is_pending_or_faulty()
+    ensures { PendingOrFaulty }
+{}
+
+/// A text that begins no line holds none, whatever follows it.
+pub fn a_refused_text_holds_no_line()
+    ensures { RefusedStays }
 {}
 
 /// A text has one fault at most, and none where it begins a line.
