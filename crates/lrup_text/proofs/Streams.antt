@@ -13,7 +13,7 @@ use Rattle.lrup_text.specs.Lines.{StreamLine, Addition, Deletion, IsPositive, Is
 use Rattle.lrup_text.specs.Faults.{IsFaultOf, Decides, IsRefused}
 use Rattle.lrup_text.specs.Feeding.{ReaderState, Feeds, Leaves}
 use Rattle.lrup_text.specs.Cutting.{used_bytes, line_given, lines_given, IsCut}
-use Rattle.lrup_text.specs.Laws.{OneText, OneLine, NoTextBegins, TextsAreLines, OneCut, OneFault, EmptyCut, CallCuts, CallsCut, RefusedStays}
+use Rattle.lrup_text.specs.Laws.{OneText, OneLine, NoTextBegins, TextsAreLines, OneCut, OneFault, EmptyCut, CallCuts, CallsCut, RefusedStays, OneFirstLine}
 use Rattle.lrup_text.proofs.Numerals.{decimal_byte, decimal_one, power_more, power_below}
 use Rattle.lrup_text.proofs.Rests.{same_head, same_tail}
 use Rattle.lrup_text.proofs.TextLaws.{fits_within, words_apart, empty_pending}
@@ -70,7 +70,7 @@ lines_same (Deletion i ds) (Deletion j es) h k e =
     cc
 
 -- the texts of two lines, and what follows them
-pub texts_apart : (line other : StreamLine) (x y : List ℕ) → Fits line → Fits other → text_of line ++ x ≡ text_of other ++ y → (line ≡ other) × (x ≡ y)
+pub texts_apart : OneFirstLine
 texts_apart line other x y h k e =
     let words = words_apart (words_of line) (words_of other) x y (fits_within line h) (fits_within other k) e in
     (lines_same line other h k words.0, words.1)

@@ -4,6 +4,7 @@ use Rattle.std.specs.Fmt.{decimal, signed_decimal}
 use Rattle.std.specs.List.{AllByRecursion}
 use Rattle.std.proofs.lemmas.List.{append_assoc, length-append, length-map, append-nil}
 use Rattle.lrup_text.specs.Grammar.{standard, IsDigit, IsNumber, IsLiteral, AreWords, Words, Adds, Deletes, IsWithin, IsLine, text, list_text, clause_text, space, minus, zero_digit, letter_d}
+use Rattle.lrup_text.specs.Laws.{EmptyPending}
 use Rattle.lrup_text.specs.Lines.{StreamLine, Addition, Deletion, IsPositive, IsNonzero, AreFew, Fits, words_of, text_of, HasNoLine, IsPending}
 use Rattle.lrup_text.specs.Rests.{Spot, AtStart, Tracks}
 use Rattle.lrup_text.proofs.Numerals.{number_word}
@@ -150,5 +151,5 @@ tracks_pending read spot tracks bounded =
     }
 
 -- before the first byte
-pub empty_pending : IsPending []
+pub empty_pending : EmptyPending
 empty_pending = tracks_pending [] AtStart at_start tt

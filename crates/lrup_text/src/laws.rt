@@ -12,6 +12,9 @@ ghost use Rattle.lrup_text.specs.Laws.{
   EveryCut,
   PendingOrFaulty,
   RefusedStays,
+  OneFirstLine,
+  EmptyPending,
+  CutLaws,
 };
 
 /// A line has one text.
@@ -27,6 +30,11 @@ pub fn a_text_spells_one_line()
 /// No line's text begins another line's, so that a written line is read again whatever follows.
 pub fn no_text_begins_another()
     ensures { NoTextBegins }
+{}
+
+/// Bytes begin with the text of one line at most, and what follows it is the same.
+pub fn bytes_begin_with_one_line()
+    ensures { OneFirstLine }
 {}
 
 /// What the grammar takes within the limits of a stream is the text of a line.
@@ -59,6 +67,11 @@ pub fn a_text_has_one_fault()
     ensures { OneFault }
 {}
 
+/// No bytes may still become a line.
+pub fn no_bytes_may_become_a_line()
+    ensures { EmptyPending }
+{}
+
 /// No bytes are cut into no lines.
 pub fn no_bytes_have_no_lines()
     ensures { EmptyCut }
@@ -72,4 +85,9 @@ pub fn a_call_cuts_on()
 /// The lines that a reader gives are those that the stream is cut into, however it comes in pieces.
 pub fn calls_cut_the_stream()
     ensures { CallsCut }
+{}
+
+/// The laws that a proof about a whole stream rests on, at one call.
+pub fn streams_are_cut()
+    ensures { CutLaws }
 {}
