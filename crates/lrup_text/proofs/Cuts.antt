@@ -8,8 +8,8 @@ use Rattle.lrup_text.specs.declared.LineFault.TheVariants.{Spelling, TooLong, Ra
 use Rattle.lrup_text.specs.Faults.{Decides, HasTextFault}
 use Rattle.lrup_text.specs.Grammar.{IsDigit, IsLine, standard, line_feed, space, minus, zero_digit, letter_d}
 use Rattle.lrup_text.specs.Laws.{EveryCut, PendingOrFaulty}
-use Rattle.lrup_text.specs.Lines.{StreamLine, Fits, text_of, HasNoLine, Cut, IsPending}
-use Rattle.lrup_text.specs.Rests.{Spot, AtStart, InLead, BeforeLiteral, AfterMinus, InLiteral, BeforeList, BeforeItem, InItem, AtEnd, Follows, Tracks, Moves, Blocks, Allows}
+use Rattle.lrup_text.specs.Lines.{StreamLine, IsWithinLimits, line_text, HasNoLine, Cut, IsPending}
+use Rattle.lrup_text.specs.Rests.{Spot, AtStart, InLead, BeforeLiteral, AfterMinus, InLiteral, BeforeList, BeforeItem, InItem, AtEnd, MayComplete, Tracks, Moves, Blocks, Allows}
 use Rattle.lrup_text.proofs.Decisions.{decides_spelling, decides_long, decides_rat}
 use Rattle.lrup_text.proofs.Steps.{IsBounded, Exceeds, NoFirst, NoDigit, at_start, start_digit, lead_digit, lead_space, body_zero, body_deletion, body_minus, body_digit, minus_digit, literal_digit, literal_space, list_space, item_zero, item_digit, number_digit, number_space, start_blocks, lead_blocks, body_blocks, minus_blocks, literal_blocks, list_blocks, item_blocks, number_blocks, end_blocks, lead_exceeds, literal_exceeds, number_exceeds, body_exceeds_digit, body_exceeds_minus, item_exceeds, hint_allows, standard_lifted, one_more, tracks_more}
 use Rattle.lrup_text.proofs.Streams.{texts_are_lines, refused_stays}
@@ -132,7 +132,7 @@ byte_at AtEnd b bounded = elim (cases_eq b line_feed) [ inl is ↦ ends_line ref
 
 -- How bytes begin: with a line, with bytes that may become one, or with a text that begins none.
 data Front (bytes : List ℕ) : Type 0 where
-  whole_line : (line : StreamLine) (rest : List ℕ) → Fits line → bytes ≡ text_of line ++ rest → Front bytes
+  whole_line : (line : StreamLine) (rest : List ℕ) → IsWithinLimits line → bytes ≡ line_text line ++ rest → Front bytes
   part : IsPending bytes → Front bytes
   faulty : (fault : LineFault) → HasTextFault bytes fault → Front bytes
 
@@ -144,7 +144,7 @@ front_from read spot tracks bounded (b ∷ bytes) = elim (byte_at spot b bounded
   | blocked stops ↦ decided Spelling (decides_spelling read spot b tracks bounded stops)
   | exceeds long ↦ decided TooLong (decides_long read spot b tracks bounded long)
   | signed_hint stops allows ↦ decided RatHint (decides_rat read spot b tracks bounded stops allows)
-  | ends_line here is ↦ line (tracks.line false standard standard_lifted (b ∷ []) (subst (λ s. Follows standard s (b ∷ [])) (sym here) (ap (λ x. x ∷ []) is)))
+  | ends_line here is ↦ line (tracks.line false standard standard_lifted (b ∷ []) (subst (λ s. MayComplete standard s (b ∷ [])) (sym here) (ap (λ x. x ∷ []) is)))
 ]
   where
     decided : (fault : LineFault) → Decides read b fault → Front (read ++ b ∷ bytes)
@@ -167,20 +167,20 @@ pending_or_faulty rest none = elim (front_of rest) [
 ]
 
 -- no line's text is empty
-text_some : (line : StreamLine) → Fits line → 0 < length (text_of line)
-text_some line fits = elim (cases_eq (length (text_of line)) 0) [
-  | inl none ↦ absurd (empty_pending.whole line [] fits (sym (append-nil (text_of line) ∙ nil_from_length (text_of line) none)))
+text_some : (line : StreamLine) → IsWithinLimits line → 0 < length (line_text line)
+text_some line fits = elim (cases_eq (length (line_text line)) 0) [
+  | inl none ↦ absurd (empty_pending.whole line [] fits (sym (append-nil (line_text line) ∙ nil_from_length (line_text line) none)))
   | inr some ↦ omega (arith, some)
 ]
 
 -- a line, and the cut of what follows it
-cut_more : (line : StreamLine) (stream more : List ℕ) → Fits line → stream ≡ text_of line ++ more → (lines : List StreamLine) × (rest : List ℕ) × Cut more lines rest
+cut_more : (line : StreamLine) (stream more : List ℕ) → IsWithinLimits line → stream ≡ line_text line ++ more → (lines : List StreamLine) × (rest : List ℕ) × Cut more lines rest
     → (lines : List StreamLine) × (rest : List ℕ) × Cut stream lines rest
 cut_more line stream more fits is cut = (
   line ∷ cut.0,
   cut.1,
   record {
-    bytes = is ∙ ap (λ t. text_of line ++ t) cut.2.bytes ∙ sym (append_assoc (text_of line) (flat_map text_of cut.0) cut.1);
+    bytes = is ∙ ap (λ t. line_text line ++ t) cut.2.bytes ∙ sym (append_assoc (line_text line) (flat_map line_text cut.0) cut.1);
     each = (fits, cut.2.each);
     last = cut.2.last;
   },
@@ -192,7 +192,7 @@ cut_up_to zero stream few =
     ([], [], record { bytes = none; each = tt; last = empty_pending.whole })
 cut_up_to (suc most) stream few = elim (front_of stream) [
   | whole_line line more fits is ↦
-      let size : length stream ≡ length (text_of line) + length more = ap length is ∙ length-append (text_of line) more in
+      let size : length stream ≡ length (line_text line) + length more = ap length is ∙ length-append (line_text line) more in
       cut_more line stream more fits is (cut_up_to most more (omega (arith, text_some line fits)))
   | part pending ↦ ([], stream, record { bytes = refl; each = tt; last = pending.whole })
   | faulty fault h ↦

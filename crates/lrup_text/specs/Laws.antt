@@ -3,7 +3,7 @@ use Rattle.std.specs.Prelude.{◌≡◌, ℕ, List, [], ◌++◌, take, Ok, ◌�
 use Rattle.lrup_text.specs.declared.LineFault.{LineFault}
 use Rattle.lrup_text.specs.Faults.{IsRefused, HasTextFault}
 use Rattle.lrup_text.specs.Grammar.{IsLine, standard, Begins}
-use Rattle.lrup_text.specs.Lines.{StreamLine, Fits, text_of, LineText, HasNoLine, IsPending, Cut}
+use Rattle.lrup_text.specs.Lines.{StreamLine, IsWithinLimits, line_text, LineText, HasNoLine, IsPending, Cut}
 use Rattle.lrup_text.specs.declared.reader.Turn.{Turn}
 use Rattle.lrup_text.specs.Feeding.{ReaderState, Feeds, Leaves}
 use Rattle.lrup_text.specs.Cutting.{Call, AreCalls, used_bytes, line_given, lines_given, IsCut}
@@ -22,8 +22,8 @@ NoTextBegins = (line other : StreamLine) (bytes others more : List ℕ) → Line
 
 -- bytes begin with the text of one line at most, and what follows it is the same
 abbrev pub OneFirstLine : Type 0
-OneFirstLine = (line other : StreamLine) (more after : List ℕ) → Fits line → Fits other
-    → text_of line ++ more ≡ text_of other ++ after → (line ≡ other) × (more ≡ after)
+OneFirstLine = (line other : StreamLine) (more after : List ℕ) → IsWithinLimits line → IsWithinLimits other
+    → line_text line ++ more ≡ line_text other ++ after → (line ≡ other) × (more ≡ after)
 
 -- what the grammar takes within the limits of a stream is the text of a line
 abbrev pub TextsAreLines : Type 0
