@@ -9,7 +9,7 @@ use Rattle.dimacs.specs.Lines.{Token}
 use Rattle.dimacs.specs.Numerals.{number_of}
 use Rattle.dimacs.specs.FormulaText.{IsWritten, IsRead, IsSetOf, AreSetsOf, AreClauses, ended}
 use Rattle.dimacs.specs.FormulaFault.{StandsAt, HasBadNumber, HasLargeVariable, HasMoreClauses, HasLongClause, EndsOpen, EndsEarly}
-use Rattle.dimacs.specs.Places.{IsBuilt, AddsLiteral, AddsClause, Takes}
+use Rattle.dimacs.specs.Places.{IsBuilt, AddsLiteral, AddsClause, IsFirstToken}
 use Rattle.dimacs.proofs.SetLemmas.{Has-push}
 
 abbrev numbers_of : List Token → List (Option ℤ)
@@ -208,7 +208,7 @@ stands vars count all left f clause written remaining t later h next = record {
   read = h.built.read;
 }
 
-pub bad_number : (vars count : ℕ) (all left : List Token) (f : Cnf) (clause : List ℤ) (written remaining line : ℕ) (text : List ℕ) (later : List Token) → Reads vars count all left f clause written remaining → Takes text line left later → number_of text ≡ None → HasBadNumber line vars count all
+pub bad_number : (vars count : ℕ) (all left : List Token) (f : Cnf) (clause : List ℤ) (written remaining line : ℕ) (text : List ℕ) (later : List Token) → Reads vars count all left f clause written remaining → IsFirstToken text line left later → number_of text ≡ None → HasBadNumber line vars count all
 bad_number vars count all left f clause written remaining line text later h next none = record {
   text = text;
   closed = h.built.closed;
@@ -217,7 +217,7 @@ bad_number vars count all left f clause written remaining line text later h next
   fault = none;
 }
 
-pub large_variable : (vars count : ℕ) (all left : List Token) (f : Cnf) (clause : List ℤ) (written remaining line : ℕ) (text : List ℕ) (later : List Token) (z : ℤ) → Reads vars count all left f clause written remaining → Takes text line left later → number_of text ≡ Some z → vars < nat_abs z → HasLargeVariable line vars count all
+pub large_variable : (vars count : ℕ) (all left : List Token) (f : Cnf) (clause : List ℤ) (written remaining line : ℕ) (text : List ℕ) (later : List Token) (z : ℤ) → Reads vars count all left f clause written remaining → IsFirstToken text line left later → number_of text ≡ Some z → vars < nat_abs z → HasLargeVariable line vars count all
 large_variable vars count all left f clause written remaining line text later z h next is large = record {
   text = text;
   number = z;
@@ -232,7 +232,7 @@ none_or_some : (n : ℕ) → (n ≡ 0) ⊎ (0 < n)
 none_or_some zero = inl refl
 none_or_some (suc n) = inr (omega arith)
 
-pub more_clauses : (vars count : ℕ) (all left : List Token) (f : Cnf) (clause : List ℤ) (written remaining line : ℕ) (text : List ℕ) (later : List Token) (z : ℤ) → Reads vars count all left f clause written remaining → Takes text line left later → number_of text ≡ Some z → nat_abs z ≤ vars → remaining ≡ 0 → HasMoreClauses line vars count all
+pub more_clauses : (vars count : ℕ) (all left : List Token) (f : Cnf) (clause : List ℤ) (written remaining line : ℕ) (text : List ℕ) (later : List Token) (z : ℤ) → Reads vars count all left f clause written remaining → IsFirstToken text line left later → number_of text ≡ Some z → nat_abs z ≤ vars → remaining ≡ 0 → HasMoreClauses line vars count all
 more_clauses vars count all left f clause written remaining line text later z h next is within none =
     let built = h.built in
     let full : length built.closed ≡ count = omega (arith, h.remaining_is, length-sets built.closed f.clauses built.sets) in
@@ -246,7 +246,7 @@ more_clauses vars count all left f clause written remaining line text later z h 
       fault = full;
     }
 
-pub long_clause : (vars count : ℕ) (all left : List Token) (f : Cnf) (clause : List ℤ) (written remaining line : ℕ) (text : List ℕ) (later : List Token) (l : ℤ) → Reads vars count all left f clause written remaining → Takes text line left later → number_of text ≡ Some l → IsLiteral vars l → max_clause_literals ≤ written → HasLongClause vars count all
+pub long_clause : (vars count : ℕ) (all left : List Token) (f : Cnf) (clause : List ℤ) (written remaining line : ℕ) (text : List ℕ) (later : List Token) (l : ℤ) → Reads vars count all left f clause written remaining → IsFirstToken text line left later → number_of text ≡ Some l → IsLiteral vars l → max_clause_literals ≤ written → HasLongClause vars count all
 long_clause vars count all left f clause written remaining line text later l h next is literal long = record {
   token = record { line = line; text = text };
   number = l;
