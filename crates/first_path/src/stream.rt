@@ -83,6 +83,7 @@ fn take_line<M: ClauseMap>(
     ensures taken { (es : History) × M.moves map.old map.new es × Takes (M.place map.old) tally (read_of reader.old) piece.now es result }
     ensures ready { StaysReady (M.place map.new) tally (read_of reader.old) piece.now reader.new result }
 {
+    lrup_text::laws::streams_are_cut();
     let fed = reader.feed(piece);
     let used = fed.used;
     match fed.turn {
@@ -112,6 +113,7 @@ fn take_piece<M: ClauseMap>(
     ensures taken { (es : History) × M.moves map.old map.new es × TakesPiece (M.place map.old) (M.place map.new) (read_of reader.old) piece.now (read_of reader.new) es before result }
     ensures ready { IfSome result (IsReady (M.place map.new) reader.new) }
 {
+    lrup_text::laws::streams_are_cut();
     let mut tally = before;
     let mut rest = piece;
     'lines: loop {
@@ -158,6 +160,7 @@ pub fn take_stream<W: Wait, M: ClauseMap, S: Source>(
     ensures judged { (es : History) × M.moves map.old map.new es × JudgesStream (M.place map.old) last (S.left source.old) (S.left source.new) es result }
     ensures failed { IsTrue (S.has_failed source.new) ↔ IsErrOf result StreamFault.Unread }
 {
+    lrup_text::laws::streams_are_cut();
     let mut tally = Tally {
         added: 0,
         last,

@@ -47,7 +47,7 @@ returns-in-Some-clause-ready g c =
     let tells = g.met.M.ClauseMap.moves_tells c.args.map.now c.add.new.map judged.0 judged.1 in (
       record {
         reader_is = leaves.0 ∙ ap (λ (t : List ℕ). Ok t) (sym none);
-        vacant = vacant_more q r c.args.tally c.with.result line.id c.in-Some.size line.lits.now line.hints.now judged.0 tells judged.2 c.with.ensures c.requires.ready.vacant;
+        vacant = vacant_more c.streams_are_cut.ensures q r c.args.tally c.with.result line.id c.in-Some.size line.lits.now line.hints.now judged.0 tells judged.2 c.with.ensures c.requires.ready.vacant;
         few = omega (arith, c.with.ensures.0, c.with.ensures.1, judged.2.5.newer, c.requires.ready.few);
       },
       none,
@@ -65,7 +65,7 @@ returns-in-None-clause-taken g c =
     let inner = rw line.is at line.field-0-is in
     let text : LineText (Addition line.id line.lits.now line.hints.now) (read ++ take used piece) = subst (λ (l : Line). LineText (line_of l) (read ++ take used piece)) inner gives.2 in
     let judged = c.in-None.ensures.judged in
-    (judged.0, judged.1, bad_addition p c.args.tally.last read piece used line.id line.lits.now line.hints.now judged.0 text judged.2)
+    (judged.0, judged.1, bad_addition c.streams_are_cut.ensures p c.args.tally.last read piece used line.id line.lits.now line.hints.now judged.0 text judged.2)
 
 pub returns-in-Line-Delete-clause-taken : goal.returns-in-Line-Delete-clause-taken
 returns-in-Line-Delete-clause-taken g c =
@@ -78,7 +78,7 @@ returns-in-Line-Delete-clause-taken g c =
     let gives : Feeds (Ok read) piece used (LineTurn line.field-0) = subst (λ (t : Turn). Feeds (Ok read) piece used t) line.is fresh in
     let inner = rw line.is at line.field-0-is in
     let text : LineText (Deletion line.field-0-0 line.field-0-1.now) (read ++ take used piece) = subst (λ (l : Line). LineText (line_of l) (read ++ take used piece)) inner gives.2 in
-    ([], g.met.M.ClauseMap.moves_none c.args.map.now, bad_deletion p c.args.tally.last read piece used line.field-0-0 line.field-0-1.now [] text)
+    ([], g.met.M.ClauseMap.moves_none c.args.map.now, bad_deletion c.streams_are_cut.ensures p c.args.tally.last read piece used line.field-0-0 line.field-0-1.now [] text)
 
 pub returns-in-Fault-clause-taken : goal.returns-in-Fault-clause-taken
 returns-in-Fault-clause-taken g c =
@@ -88,4 +88,4 @@ returns-in-Fault-clause-taken g c =
     let used = c.feed-fed.result.used in
     let fresh : Feeds (Ok read) piece used c.feed-fed.result.turn = subst (λ (s : ReaderState). Feeds s piece used c.feed-fed.result.turn) c.requires.ready.reader_is c.feed-fed.ensures.gives in
     let gives : Feeds (Ok read) piece used (Fault c.in-Fault.field-0) = subst (λ (t : Turn). Feeds (Ok read) piece used t) c.in-Fault.is fresh in
-    ([], g.met.M.ClauseMap.moves_none c.args.map.now, bad_text p c.args.tally.last read piece used c.in-Fault.field-0 [] gives.2)
+    ([], g.met.M.ClauseMap.moves_none c.args.map.now, bad_text c.streams_are_cut.ensures p c.args.tally.last read piece used c.in-Fault.field-0 [] gives.2)

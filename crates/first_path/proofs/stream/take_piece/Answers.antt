@@ -11,7 +11,7 @@ lines-init g c =
     record {
       ready = c.requires.ready;
       variables = c.requires.variables;
-      taken = ([], refl, [], g.met.M.ClauseMap.moves_none c.args.map.now, piece_none q (read_of c.args.reader.now) c.args.before);
+      taken = ([], refl, [], g.met.M.ClauseMap.moves_none c.args.map.now, piece_none c.streams_are_cut.ensures q (read_of c.args.reader.now) c.args.before);
     }
 
 pub lines-preserved : goal.lines-preserved
@@ -26,7 +26,7 @@ lines-preserved g c =
     let used = c.in-Good.used in
     let rest = c.lines.rest.now in
     let tells = g.met.M.ClauseMap.moves_tells c.lines.map c.take_line.new.map taken.0 taken.1 in
-    let more = piece_more p q r before old.0 (read_of c.lines.reader) rest old.2 taken.0 used c.args.before c.lines.tally c.in-Good.more old.4 tells taken.2 in
+    let more = piece_more c.streams_are_cut.ensures p q r before old.0 (read_of c.lines.reader) rest old.2 taken.0 used c.args.before c.lines.tally c.in-Good.more old.4 tells taken.2 in
     let split : rest ≡ take used rest ++ c.split_at.result.1.now = sym (take-append-drop used rest) ∙ ap (λ (t : List ℕ). take used rest ++ t) (sym c.split_at.ensures.back) in
     record {
       ready = ready.0;
@@ -50,7 +50,7 @@ returns-in-More-clause-taken g c =
     let taken = c.in-More.ensures.taken in
     let rest = c.lines.rest.now in
     let tells = g.met.M.ClauseMap.moves_tells c.lines.map c.take_line.new.map taken.0 taken.1 in
-    let more = piece_read p q r before old.0 (read_of c.lines.reader) rest old.2 taken.0 c.args.before c.lines.tally old.4 tells taken.2.0 taken.2.1 in (
+    let more = piece_read c.streams_are_cut.ensures p q r before old.0 (read_of c.lines.reader) rest old.2 taken.0 c.args.before c.lines.tally old.4 tells taken.2.0 taken.2.1 in (
       old.2 ++ taken.0,
       g.met.M.ClauseMap.moves_append c.args.map.now c.lines.map c.take_line.new.map old.2 taken.0 old.3 taken.1,
       subst (λ (t : List ℕ). TakesPiece p r before t (read_of c.take_line.new.reader) (old.2 ++ taken.0) c.args.before (Some c.lines.tally)) (sym old.1)
@@ -67,7 +67,7 @@ returns-in-Bad-clause-taken g c =
     let old = c.lines.invariant.taken in
     let taken = c.in-Bad.ensures.taken in
     let rest = c.lines.rest.now in
-    let bad = piece_bad p q r before old.0 (read_of c.lines.reader) rest left old.2 taken.0 c.args.before c.lines.tally old.4 taken.2 in (
+    let bad = piece_bad c.streams_are_cut.ensures p q r before old.0 (read_of c.lines.reader) rest left old.2 taken.0 c.args.before c.lines.tally old.4 taken.2 in (
       old.2 ++ taken.0,
       g.met.M.ClauseMap.moves_append c.args.map.now c.lines.map c.take_line.new.map old.2 taken.0 old.3 taken.1,
       subst (λ (t : List ℕ). TakesPiece p r before t left (old.2 ++ taken.0) c.args.before None) (sym old.1) bad,

@@ -26,7 +26,7 @@ pieces-init g c =
         Consumes-nil (g.S.Source.left c.args.source.now),
         [],
         g.met.M.ClauseMap.moves_none c.args.map.now,
-        subst (λ (t : List ℕ). IsSoFar p p c.args.last [] t [] tally) (sym none) (so_far_none p c.args.last tally refl refl refl),
+        subst (λ (t : List ℕ). IsSoFar p p c.args.last [] t [] tally) (sym none) (so_far_none c.streams_are_cut.ensures p c.args.last tally refl refl refl),
       );
     }
 
@@ -43,7 +43,7 @@ returns-then-count-eq0-clause-judged g c =
     let at_end : IsAtEnd (g.S.Source.left c.read.new.self) = c.in_ok-count.ensures.bytes.1 c.if-count-eq0.true (omega (arith, c.read.auto.buffer, c.pieces.invariant.buffer)) in (
       old.2,
       old.3,
-      judged_end p q c.args.last (g.S.Source.left c.args.source.now) (g.S.Source.left c.read.new.self) old.0 read old.2 c.pieces.tally c.finish.result
+      judged_end c.streams_are_cut.ensures p q c.args.last (g.S.Source.left c.args.source.now) (g.S.Source.left c.read.new.self) old.0 read old.2 c.pieces.tally c.finish.result
           (record { given = given; at_end = λ _. at_end }) old.4 c.finish.ensures,
     )
 
