@@ -1,11 +1,13 @@
 //! Rows of a formula and a stream with their answers, worked out by hand from the rules.
-ghost use Rattle.std.specs.Prelude.{ℕ, Some};
+ghost use Rattle.std.specs.Prelude.{ℕ, Some, None, false};
 
-use crate::answer::{FirstFault, LastClause};
+use crate::answer::{First, FirstFault, LastClause};
 use crate::checking::first;
 use crate::stream::StreamFault;
 use dimacs::DimacsFault;
 use lrup_text::{ReadFault, Reading, Source};
+use std::fmt::Write;
+use std::sync::Wait;
 use std::test::Fail;
 
 /// The four clauses over two variables, which no assignment makes all true.
@@ -164,6 +166,87 @@ fn line_longer_than_a_piece(rt: HostRuntime) -> Result<(), Fail> {
     let found = first(&rt, rt.alloc(), FOUR_CLAUSES.as_bytes(), &mut stream)?;
     assert_eq!(rt; found.added, 2);
     assert!(rt; found.empty);
+    Ok(())
+}
+
+/// The additions of `2` under stream 1's identities from 100,001 on: all have six digits. It takes no memory.
+#[derive(Drop)]
+struct Additions {
+    id: u64,
+    left: u64,
+}
+
+impl Source for Additions {
+    ghost left = { λ _. None };
+
+    ghost has_failed = { λ _. false };
+
+    /// One line, or nothing where none is left or the buffer is short.
+    fn read(&mut self, buffer: &mut [u8]) -> Result<usize, ReadFault> {
+        const REST: &[u8; 11] = b" 2 0 1 2 0\n";
+        let id = self.id;
+        if self.left == 0 || buffer.len() < 17 || id > 131_075 {
+            return Ok(0);
+        }
+        self.left -= 1;
+        self.id = id + 2;
+        buffer[0] = b'0' + (id / 100_000 % 10) as u8;
+        buffer[1] = b'0' + (id / 10_000 % 10) as u8;
+        buffer[2] = b'0' + (id / 1_000 % 10) as u8;
+        buffer[3] = b'0' + (id / 100 % 10) as u8;
+        buffer[4] = b'0' + (id / 10 % 10) as u8;
+        buffer[5] = b'0' + (id % 10) as u8;
+        buffer[6..17].copy_from_slice(REST);
+        Ok(17)
+    }
+
+    fn failed(&self) -> bool {
+        false
+    }
+}
+
+/// What is found of so many additions.
+fn first_of_additions<R: AllocGlobal + Wait>(rt: &R, count: u64) -> Result<First, FirstFault> {
+    let mut stream = Additions {
+        id: 100_001,
+        left: count,
+    };
+    first(rt, rt.alloc(), FOUR_CLAUSES.as_bytes(), &mut stream)
+}
+
+#[test]
+fn many_lines_are_counted(rt: HostRuntime) -> Result<(), Fail> {
+    for (count, id) in [(4_000, 107_999), (4_001, 108_001), (12_000, 123_999)] {
+        let found = first_of_additions(&rt, count)?;
+        assert_eq!(rt; found.added, count);
+        assert_eq!(rt; found.last, Some(LastClause { id, len: 1 }));
+    }
+    Ok(())
+}
+
+/// Where one allocation is refused, this test and the next one both pass or both fail: lines take no memory.
+#[test]
+fn memory_of_one_line(rt: HostRuntime) -> Result<(), Fail> {
+    assert_eq!(rt; first_of_additions(&rt, 1)?.added, 1);
+    Ok(())
+}
+
+#[test]
+fn memory_of_many_lines(rt: HostRuntime) -> Result<(), Fail> {
+    assert_eq!(rt; first_of_additions(&rt, 5_000)?.added, 5_000);
+    Ok(())
+}
+
+#[test]
+fn longest_clause_of_a_formula(rt: HostRuntime) -> Result<(), Fail> {
+    let mut text = String::from_str(rt.alloc(), "p cnf 1048575 1\n")?;
+    for var in 1..=1_048_575 {
+        write!(text, "{var} ")?;
+    }
+    text.push_str("0\n")?;
+    let mut stream = Reading::new(b"".as_slice());
+    let found = first(&rt, rt.alloc(), text.as_bytes(), &mut stream)?;
+    assert_eq!(rt; found.formula.literals(), 1_048_575);
     Ok(())
 }
 
