@@ -1,5 +1,7 @@
 pub mod Literal
+pub mod LiteralLaws
 pub mod Clause
+pub mod ClauseLemmas
 pub mod Formula
 pub mod Pieces
 pub mod Entailment
@@ -17,4 +19,10 @@ pub mod PlainInside
 pub mod PlainLaws
 pub mod Desk
 pub mod Laws
+pub mod HistoryLemmas
+pub mod OwnerLemmas
+pub mod EntryLemmas
+pub mod EntailmentLemmas
+pub mod PassLemmas
+pub mod RestrictionLemmas
 pub mod Worked

@@ -5,7 +5,6 @@ ghost use Rattle.lrup_model.specs.Event.{History, vacant, fetch, publish, spent}
 ghost use Rattle.lrup_model.specs.History.{IsLegal};
 ghost use Rattle.lrup_model.specs.Layout.{IsStream, row_words};
 ghost use Rattle.lrup_model.specs.Literal.{IsLiteral, max_variable};
-ghost use Rattle.lrup_model.specs.Pass.{spelt};
 ghost use Rattle.lrup_model.specs.Plain.{formula_of};
 ghost use Rattle.lrup_model.specs.Propagation.{Accepts};
 ghost use Rattle.lrup_model.specs.State.{state, retired};
@@ -39,6 +38,24 @@ fn literals_have_a_limit(rt: HostRuntime) -> Result<(), Fail> {
     }
     for value in [0, 16_777_216, -16_777_216, i64::MAX, i64::MIN] {
         assert!(rt; Lit::new(value).is_none(), "at {value}");
+    }
+    Ok(())
+}
+
+#[test]
+fn literals_have_codes(rt: HostRuntime) -> Result<(), Fail> {
+    for (value, code) in [
+        (1, 2),
+        (-1, 3),
+        (2, 4),
+        (-2, 5),
+        (16_777_215, 33_554_430),
+        (-16_777_215, 33_554_431),
+    ] {
+        let literal = Lit::new(value).ok_or("no literal")?;
+        assert_eq!(rt; literal.code(), code, "at {value}");
+        assert!(rt; 2 <= code && code <= 33_554_431);
+        assert_eq!(rt; Lit::from_code(code), literal, "at {value}");
     }
     Ok(())
 }
@@ -168,13 +185,32 @@ fn a_formula_keeps_its_clauses(rt: HostRuntime) -> Result<(), Fail> {
     Ok(())
 }
 
-/// Also where its allocations are refused, one after the other.
+/// The gate runs this test with each of its allocations refused, one after the other; the second attempt then has memory.
 #[test]
-fn a_refused_push_changes_nothing(rt: HostRuntime) {
+fn a_refused_push_changes_nothing(rt: HostRuntime) -> Result<(), Fail> {
     let mut formula = Formula::new(rt.alloc(), 2);
-    let kept = formula.push(&[lit(1), lit(2)]).is_ok();
-    let counts = (formula.len(), formula.literals());
-    assert_eq!(rt; counts, if kept { (1, 2) } else { (0, 0) });
+    if formula.push(&[lit(1), lit(2)]).is_err() {
+        assert_eq!(rt; (formula.len(), formula.literals()), (0, 0));
+        formula = Formula::new(rt.alloc(), 2);
+        formula.push(&[lit(1), lit(2)])?;
+    }
+    assert_eq!(rt; (formula.len(), formula.literals()), (1, 2));
+    Ok(())
+}
+
+/// As the test above.
+#[test]
+fn a_refused_open_can_be_made_again(rt: HostRuntime) -> Result<(), Fail> {
+    let formula = Formula::new(rt.alloc(), 2);
+    let layout = Layout::new(2, 0, 0, 2, 3, 4)?;
+    assert!(rt; layout.fits(&formula));
+    let map = match PlainMap::open(rt.alloc(), &formula, &layout) {
+        Ok(map) => map,
+        Err(_) => PlainMap::open(rt.alloc(), &formula, &layout)?,
+    };
+    assert_eq!(rt; map.layout().last_identity(), 6);
+    assert!(rt; formula.is_empty());
+    Ok(())
 }
 
 #[test]
@@ -186,7 +222,7 @@ fn clips_tell_their_parts(rt: HostRuntime) {
 
 /// Publishes `2`, which the first two clauses show, under an identity of the caller's own.
 fn publish_two<M: ClauseMap>(desk: &mut M, id: Id) -> Option<Published>
-    requires { (M.place desk.old).formula ≡ four }
+    requires { (M.place desk.old).caller.formula ≡ four }
     ensures { (es : History) × M.moves desk.old desk.new es }
 {
     if !desk.owns(id) || desk.room() == 0 {
@@ -273,6 +309,20 @@ fn second_desk(rt: &impl Abort, map: &mut PlainMap)
     assert_eq!(rt; desk.room(), 1);
 }
 
+/// The last of 64 streams has its own room and identities.
+fn last_desk(rt: &impl Abort, map: &mut PlainMap)
+    requires formula { formula_of map.old ≡ four }
+    requires stream { IsStream map.old.layout 64 }
+{
+    let mut desk = map.desk(64);
+    assert_eq!(rt; (desk.stream(), desk.room()), (64, 2));
+    assert_eq!(rt; publish_two(&mut desk, 67), None);
+    assert_eq!(rt; publish_two(&mut desk, 68), Some(Published::Done));
+    assert!(rt; reads_as(&mut desk, 68, &[lit(2)]));
+    assert_eq!(rt; look(&mut desk, 196), Some(Fetched::Vacant));
+    assert_eq!(rt; look(&mut desk, 197), None);
+}
+
 /// Has the live clause these literals, in this order?
 fn reads_as<M: ClauseMap>(desk: &mut M, id: Id, literals: &[Lit]) -> bool
     ensures { (es : History) × M.moves desk.old desk.new es }
@@ -306,15 +356,19 @@ fn two_desks_use_one_map(rt: HostRuntime) -> Result<(), Fail> {
     Ok(())
 }
 
-/// The worked row: 16 words, the formula's literals from place 6 on, and the stream's from 14 on, whatever comes later.
-fn clauses_have_their_places()
+#[test]
+fn sixty_four_streams_have_a_map(rt: HostRuntime) -> Result<(), Fail> {
+    let formula = four_clauses(rt.alloc())?;
+    let layout = Layout::new(2, 4, 8, 64, 3, 2)?;
+    assert!(rt; layout.fits(&formula));
+    let mut map = PlainMap::open(rt.alloc(), &formula, &layout)?;
+    last_desk(&rt, &mut map);
+    Ok(())
+}
+
+/// The worked row has 16 words, and its stream spent one literal of its room.
+fn worked_row_is_counted()
     ensures words { row_words one_line ≡ 16 }
-    ensures first { spelt four one_line calls 1 ≡ Some (record { start = 6; literals = first }) }
-    ensures second { spelt four one_line calls 2 ≡ Some (record { start = 8; literals = second }) }
-    ensures third { spelt four one_line calls 3 ≡ Some (record { start = 10; literals = third }) }
-    ensures fourth { spelt four one_line calls 4 ≡ Some (record { start = 12; literals = fourth }) }
-    ensures nothing { spelt four one_line [] 5 ≡ None }
-    ensures published { spelt four one_line calls 5 ≡ Some (record { start = 14; literals = unit }) }
     ensures spent { spent 1 calls ≡ 1 }
 {}
 
