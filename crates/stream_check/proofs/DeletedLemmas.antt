@@ -54,10 +54,10 @@ abbrev pub Apart : List ℕ → Type 0
 Apart [] = Unit {0}
 Apart (x ∷ xs) = AllByRecursion (λ y. eqb x y ≡ false) xs × Apart xs
 
-pub distinct : (xs : List ℕ) → Apart xs → IsDistinct eqb xs
+pub are_distinct : (xs : List ℕ) → Apart xs → IsDistinct eqb xs
 unfolding IsDistinct
-distinct [] apart = tt
-distinct (x ∷ xs) apart = (apart.0, distinct xs apart.1)
+are_distinct [] apart = tt
+are_distinct (x ∷ xs) apart = (apart.0, are_distinct xs apart.1)
 
 -- the identities taken so far: they differ, each was taken, and there are so many
 pub record AreTaken (c : Setting) (n : State) (gone : ℕ → Bool) (earlier : List ℕ) (many : ℕ) : Type 0 where

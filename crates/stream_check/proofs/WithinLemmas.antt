@@ -24,7 +24,7 @@ use Rattle.stream_check.specs.Laws.{CountsWithin}
 use Rattle.stream_check.proofs.StandingLemmas.{last_below, same_last}
 use Rattle.stream_check.proofs.LeavingLemmas.{joined-append}
 use Rattle.stream_check.proofs.CountLemmas.{SameOwn, OwnRun, own_runs, run_on}
-use Rattle.stream_check.proofs.DeletedLemmas.{identity_below, TakenAt, Taken, Apart, distinct, AreTaken, identities_took, lines_took}
+use Rattle.stream_check.proofs.DeletedLemmas.{identity_below, TakenAt, Taken, Apart, are_distinct, AreTaken, identities_took, lines_took}
 
 -- Identities that differ are at most as many as there are
 
@@ -56,7 +56,7 @@ taken_within c n gone earlier many are =
     let with_zero : Apart (0 ∷ are.ids) = (not_zero c n gone earlier are.ids are.taken, are.apart) in
     let below : AllByRecursion (λ x. x < last_identity c.layout + 1) (0 ∷ are.ids) = (omega arith, taken_below c n gone earlier are.ids are.taken) in
     let few : length (0 ∷ are.ids) ≤ last_identity c.layout + 1 =
-    length-le_from_distinct_below (0 ∷ are.ids) (last_identity c.layout + 1) (distinct (0 ∷ are.ids) with_zero) (all_below (0 ∷ are.ids) (last_identity c.layout + 1) below) in
+    length-le_from_distinct_below (0 ∷ are.ids) (last_identity c.layout + 1) (are_distinct (0 ∷ are.ids) with_zero) (all_below (0 ∷ are.ids) (last_identity c.layout + 1) below) in
     omega (arith, few, are.count)
 
 -- A bad addition deletes nothing
