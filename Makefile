@@ -6,7 +6,7 @@ LOG := crates/lrupd/out/build.log
 FORMULA ?= examples/four-clause.cnf
 STREAM ?= examples/four-clause.lrup
 
-.PHONY: run build examples test toolchain
+.PHONY: run build examples allocations test toolchain
 
 # Builds the proved program and runs it on an example, or on files of one's own:
 #     make run FORMULA=path/to/formula.cnf STREAM=path/to/stream.lrup
@@ -25,9 +25,13 @@ build: toolchain
 examples: build
 	@sh examples/compare.sh $(PROGRAM)
 
-# The whole gate: the examples, and then every proof from nothing, each edit that must be refused, each test, and the
-# program as two compilers build it. The last line is 'N passed, M failed'.
-test: examples
+# Tests with one allocation refused.
+allocations: toolchain
+	@sh gate/allocations.sh $(RT)
+
+# The whole gate: the examples, the refused allocations, and then every proof from nothing, each edit that must be refused,
+# each test, and the program as two compilers build it. The last line is 'N passed, M failed'.
+test: examples allocations
 	@$(RT) ci
 
 toolchain:
