@@ -1,11 +1,5 @@
 pub mod OpeningLemmas
-pub mod OwnerLemmas
 pub mod NumberLemmas
 pub mod PieceLemmas
 pub mod PlainLemmas
 pub mod PlainInsideLemmas
-pub mod EntailmentLemmas
-pub mod EntryLemmas
-pub mod HistoryLemmas
-pub mod PassLemmas
-pub mod RestrictionLemmas

@@ -11,16 +11,17 @@ use Rattle.std.proofs.Math.Seq.{take-append_seam}
 use Rattle.lrup_model.specs.Clause.{Clause, IsClause}
 use Rattle.lrup_model.specs.Formula.{Cnf, IsCnf, IsFormulaClause, literals_of, clause_at}
 use Rattle.lrup_model.specs.Entailment.{Assignment, Satisfies, SatisfiesAll, Follows}
-use Rattle.lrup_model.specs.Layout.{Plan, IsPlan, Fits, last_identity}
+use Rattle.lrup_model.specs.Layout.{LayoutValue, IsLayout, Fits, last_identity}
 use Rattle.lrup_model.specs.State as slots
 use Rattle.lrup_model.specs.State.{State, opening}
+use Rattle.lrup_model.specs.Place.{Kept}
 use Rattle.lrup_model.specs.Plain as plain
-use Rattle.lrup_model.specs.Plain.{Stored, Plain, formula_of, state_of, StoresClause, slot_of, clause_of}
+use Rattle.lrup_model.specs.Plain.{Stored, Plain, formula_of, state_of, stored_at, StoresClause, slot_of, clause_of}
 use Rattle.lrup_model.specs.PlainInside.{stored_in, plain_of, LiesWithin, IsSound, flat, entries_from}
 use Rattle.lrup_model.specs.declared.plain_map.Entry.{Entry}
 use Rattle.lrup_model.specs.declared.plain_map.Entry.TheVariants.{Vacant, Live}
 use Rattle.lrup_model.proofs.PieceLemmas.{slice_range-append, slice_range-end}
-use Rattle.lrup_model.proofs.HistoryLemmas.{opening-formula, opening-above}
+use Rattle.lrup_model.specs.HistoryLemmas.{opening-formula, opening-above}
 
 -- The loop that keeps the clauses
 
@@ -142,7 +143,7 @@ opened_entries f n =
     ∙ ap (λ (xs : List Stored). xs ++ map (stored_in (flat f.clauses)) (replicate n Vacant)) clauses
     ∙ ap (λ (xs : List Stored). stored_from 0 f.clauses ++ xs) (vacant_stored (flat f.clauses) n))
 
-pub opened_formula : (f : Cnf) (p : Plan) (n : ℕ) (free : List ℕ) → Fits p f → formula_of (plain_of p (Vacant ∷ (entries_from 0 f.clauses ++ replicate n Vacant)) (flat f.clauses) free) ≡ f
+pub opened_formula : (f : Cnf) (p : LayoutValue) (n : ℕ) (free : List ℕ) → Fits p f → formula_of (plain_of p (Vacant ∷ (entries_from 0 f.clauses ++ replicate n Vacant)) (flat f.clauses) free) ≡ f
 opened_formula f p n free fits =
     let count : p.clauses ≡ length (stored_from 0 f.clauses) = fits.clauses ∙ sym (length-stored_from 0 f.clauses) in
     let clauses : map clause_of (take p.clauses (drop 1 (map (stored_in (flat f.clauses)) (Vacant ∷ (entries_from 0 f.clauses ++ replicate n Vacant))))) ≡ f.clauses =
@@ -152,7 +153,7 @@ opened_formula f p n free fits =
     ∙ clauses_stored 0 f.clauses in
     ap (λ (cs : List Clause). record { vars = p.vars; clauses = cs }) clauses ∙ ap (λ v. record { vars = v; clauses = f.clauses }) fits.vars
 
-pub opened_state : (f : Cnf) (p : Plan) (n : ℕ) (free : List ℕ) → state_of (plain_of p (Vacant ∷ (entries_from 0 f.clauses ++ replicate n Vacant)) (flat f.clauses) free) ≡ opening f
+pub opened_state : (f : Cnf) (p : LayoutValue) (n : ℕ) (free : List ℕ) → state_of (plain_of p (Vacant ∷ (entries_from 0 f.clauses ++ replicate n Vacant)) (flat f.clauses) free) ≡ opening f
 opened_state f p n free = fun_ext (λ id. ap (λ (xs : List Stored). slot_of (get_or xs id plain.vacant)) (opened_entries f n) ∙ opened_slot f n id)
 
 vacant_within : (all n : ℕ) → AllByRecursion (LiesWithin all) (replicate n Vacant)
@@ -184,7 +185,12 @@ unfolding stored_from
 clauses_store f from [] n h = vacant_stores f n
 clauses_store f from (c ∷ cs) n h = (h.0, clauses_store f (from + length c) cs n h.1)
 
-pub opened_sound : (f : Cnf) (p : Plan) (n capacity : ℕ) → IsCnf f → IsPlan p → Fits p f → n ≡ last_identity p - length f.clauses → literals_of f + p.streams * p.room ≤ capacity
+live_from : (x : Stored) (c : Clause) → slot_of x ≡ slots.live c → (kept : Kept) × (x ≡ plain.live kept)
+live_from plain.vacant c is = absurd (cc)
+live_from (plain.live kept) c is = (kept, refl)
+live_from (plain.retired kept) c is = absurd (cc)
+
+pub opened_sound : (f : Cnf) (p : LayoutValue) (n capacity : ℕ) → IsCnf f → IsLayout p → Fits p f → n ≡ last_identity p - length f.clauses → literals_of f + p.streams * p.room ≤ capacity
     → IsSound p (Vacant ∷ (entries_from 0 f.clauses ++ replicate n Vacant)) (flat f.clauses) (replicate p.streams p.room) capacity
 opened_sound f p n capacity cnf is fits rest enough =
     let size : length (flat f.clauses) ≡ literals_of f = length-flat f.clauses in
@@ -192,22 +198,25 @@ opened_sound f p n capacity cnf is fits rest enough =
     let entries : length (entries_from 0 f.clauses ++ replicate n Vacant) ≡ length f.clauses + n =
     length-append (entries_from 0 f.clauses) (replicate n Vacant) ∙ ap (λ k. k + length (replicate n Vacant)) (length-entries_from 0 f.clauses) ∙ ap (λ k. length f.clauses + k) (length-replicate n Vacant) in
     record {
-      plan = is;
+      limits = is;
       count = omega (arith, fits.clauses);
       streams = length-replicate p.streams p.room;
       within = (tt, entries_within 0 f.clauses (length (flat f.clauses)) n (omega arith));
       reserved = omega arith;
       small = omega (arith, is.row, fits.literals);
+      formula = λ id positive within.
+          live_from (stored_at (plain_of p (Vacant ∷ (entries_from 0 f.clauses ++ replicate n Vacant)) (flat f.clauses) (replicate p.streams p.room)) id) (clause_at f id)
+          (ap (λ (m : State). m id) (opened_state f p n (replicate p.streams p.room)) ∙ opening-formula f id positive (omega (arith, within, fits.clauses)));
       clauses = subst (λ (g : Cnf). AllByRecursion (StoresClause g) (map (stored_in (flat f.clauses)) (Vacant ∷ (entries_from 0 f.clauses ++ replicate n Vacant)))) (sym (opened_formula f p n (replicate p.streams p.room) fits))
           (subst (AllByRecursion (StoresClause f)) (sym (opened_entries f n)) (tt, clauses_store f 0 f.clauses n (each_follows f f.clauses cnf.clauses (λ a all. all))));
     }
 
 -- an opened map, by what it is made of
-abbrev pub IsOpened : Cnf → Plan → ℕ → List Entry → List ℤ → List ℕ → Type 0
+abbrev pub IsOpened : Cnf → LayoutValue → ℕ → List Entry → List ℤ → List ℕ → Type 0
 IsOpened f p capacity es ls free = IsSound p es ls free capacity × (formula_of (plain_of p es ls free) ≡ f) × (state_of (plain_of p es ls free) ≡ opening f)
 
 -- the same, where the lists are known by equations
-pub opened : (f : Cnf) (p : Plan) (n capacity : ℕ) (first kept all : List Entry) (ls : List ℤ) (free : List ℕ) → IsCnf f → IsPlan p → Fits p f
+pub opened : (f : Cnf) (p : LayoutValue) (n capacity : ℕ) (first kept all : List Entry) (ls : List ℤ) (free : List ℕ) → IsCnf f → IsLayout p → Fits p f
     → n ≡ last_identity p - length f.clauses → literals_of f + p.streams * p.room ≤ capacity
     → first ≡ Vacant ∷ [] → kept ≡ first ++ entries_from 0 f.clauses → all ≡ kept ++ replicate n Vacant → ls ≡ flat f.clauses → free ≡ replicate p.streams p.room
     → IsOpened f p capacity all ls free

@@ -9,11 +9,11 @@ use Rattle.std.proofs.lemmas.List.Sums.{sum_by-set}
 use Rattle.std.proofs.lemmas.Option.{slice_get-get_or}
 use Rattle.lrup_model.specs.Clause.{Clause, IsClause}
 use Rattle.lrup_model.specs.Formula.{Cnf}
-use Rattle.lrup_model.specs.Entailment.{Follows}
-use Rattle.lrup_model.specs.Layout.{Plan, Owns, last_identity}
-use Rattle.lrup_model.specs.Place.{Kept, ClauseName, IsKnown, text_of}
+use Rattle.lrup_model.specs.Entailment.{Follows, IsDerived}
+use Rattle.lrup_model.specs.Layout.{LayoutValue, Owns, last_identity}
+use Rattle.lrup_model.specs.Place.{Kept, ClipValue, IsKnown, AllFollow, text_of}
 use Rattle.lrup_model.specs.Plain as plain
-use Rattle.lrup_model.specs.Plain.{Stored, Plain, formula_of, StoresClause, kept_of, slot_of, stored_at, place_at, AfterPublish, AfterRetire}
+use Rattle.lrup_model.specs.Plain.{Stored, Plain, formula_of, IsFormulaLive, StoresClause, kept_of, slot_of, stored_at, plain_place, AfterPublish, AfterRetire}
 use Rattle.lrup_model.specs.History.{IsPublishable}
 use Rattle.lrup_model.specs.declared.clause_map.Published.TheVariants as publishing
 use Rattle.lrup_model.specs.declared.clause_map.Retired.TheVariants as retiring
@@ -21,8 +21,8 @@ use Rattle.lrup_model.specs.PlainInside.{stored_in, plain_of, LiesWithin, IsSoun
 use Rattle.lrup_model.specs.declared.plain_map.Entry.{Entry}
 use Rattle.lrup_model.specs.declared.plain_map.Entry.TheVariants.{Vacant, Live, Retired}
 use Rattle.lrup_model.proofs.PieceLemmas.{slice_range-append, slice_range-end}
-use Rattle.lrup_model.proofs.OwnerLemmas.{owned}
-use Rattle.lrup_model.proofs.PlainLemmas.{formula_of-set, nothing_kept}
+use Rattle.lrup_model.specs.OwnerLemmas.{owned}
+use Rattle.lrup_model.proofs.PlainLemmas.{formula_of-set, formula_live-set, nothing_kept, some_is}
 
 -- Lists
 
@@ -63,7 +63,7 @@ stored_more ls c es id h =
     ∙ ap (λ (xs : List Stored). set xs id (stored_in (ls ++ c) (Live (length ls) (length c)))) (map-stored_in-append ls c es h)
     ∙ ap (λ (t : List ℤ). set (map (stored_in ls) es) id (plain.live (record { start = length ls; literals = t }))) (slice_range-end ls c)
 
-pub view_more : (p : Plan) (es : List Entry) (ls c : List ℤ) (free : List ℕ) (id : ℕ) → AllByRecursion (LiesWithin (length ls)) es
+pub view_more : (p : LayoutValue) (es : List Entry) (ls c : List ℤ) (free : List ℕ) (id : ℕ) → AllByRecursion (LiesWithin (length ls)) es
     → plain_of p (set es id (Live (length ls) (length c))) (ls ++ c) free
     ≡ record { layout = p; stored = set (map (stored_in ls) es) id (plain.live (record { start = length ls; literals = c })); free = free }
 view_more p es ls c free id h = ap (λ (xs : List Stored). record { layout = p; stored = xs; free = free }) (stored_more ls c es id h)
@@ -74,7 +74,7 @@ sum-less free i n within fits =
     let step : sum (set free i (get_or free i 0 - n)) + get_or free i 0 ≡ sum free + (get_or free i 0 - n) = sum_by-set (λ x. x) free i (get_or free i 0 - n) 0 within in
     omega arith
 
-pub sound_more : (p : Plan) (es : List Entry) (ls c : List ℤ) (free : List ℕ) (capacity more i id : ℕ) → IsSound p es ls free capacity
+pub sound_more : (p : LayoutValue) (es : List Entry) (ls c : List ℤ) (free : List ℕ) (capacity more i id : ℕ) → IsSound p es ls free capacity
     → p.clauses < id → i < length free → length c ≤ get_or free i 0 → capacity ≤ more
     → IsClause p.vars c → Follows (formula_of (plain_of p es ls free)) c
     → IsSound p (set es id (Live (length ls) (length c))) (ls ++ c) (set free i (get_or free i 0 - length c)) more
@@ -87,7 +87,7 @@ sound_more p es ls c free capacity more i id sound derived within fits grows cla
     let same : formula_of (plain_of p (set es id (Live (length ls) (length c))) (ls ++ c) free') ≡ formula_of (plain_of p es ls free) =
     ap formula_of (view_more p es ls c free' id sound.within) ∙ formula_of-set (plain_of p es ls free) id v free' derived in
     record {
-      plan = sound.plan;
+      limits = sound.limits;
       count = length-set es id (Live (length ls) (length c)) ∙ sound.count;
       streams = length-set free i (get_or free i 0 - length c) ∙ sound.streams;
       within = AllByRecursion-set (LiesWithin (length (ls ++ c))) es id (Live (length ls) (length c))
@@ -95,6 +95,7 @@ sound_more p es ls c free capacity more i id sound derived within fits grows cla
           (omega (arith, all));
       reserved = omega (arith, all, left, sound.reserved, grows);
       small = omega (arith, all, left, sound.small);
+      formula = subst IsFormulaLive (sym (view_more p es ls c free' id sound.within)) (formula_live-set (plain_of p es ls free) id v free' derived sound.formula);
       clauses = subst (λ (f : Cnf). AllByRecursion (StoresClause f) (map (stored_in (ls ++ c)) (set es id (Live (length ls) (length c))))) (sym same)
           (subst (AllByRecursion (StoresClause (formula_of (plain_of p es ls free)))) (sym stored)
           (AllByRecursion-set (StoresClause (formula_of (plain_of p es ls free))) (map (stored_in ls) es) id v sound.clauses (clause, follows)));
@@ -111,12 +112,12 @@ pub stored_retired : (ls : List ℤ) (es : List Entry) (id start len : ℕ)
     → map (stored_in ls) (set es id (Retired start len)) ≡ set (map (stored_in ls) es) id (plain.retired (record { start = start; literals = slice_range ls start (start + len) }))
 stored_retired ls es id start len = map-set (stored_in ls) es id (Retired start len)
 
-pub view_retired : (p : Plan) (es : List Entry) (ls : List ℤ) (free : List ℕ) (id start len : ℕ)
+pub view_retired : (p : LayoutValue) (es : List Entry) (ls : List ℤ) (free : List ℕ) (id start len : ℕ)
     → plain_of p (set es id (Retired start len)) ls free
     ≡ record { layout = p; stored = set (map (stored_in ls) es) id (plain.retired (record { start = start; literals = slice_range ls start (start + len) })); free = free }
 view_retired p es ls free id start len = ap (λ (xs : List Stored). record { layout = p; stored = xs; free = free }) (stored_retired ls es id start len)
 
-pub sound_retired : (p : Plan) (es : List Entry) (ls : List ℤ) (free : List ℕ) (capacity id start len : ℕ) → IsSound p es ls free capacity
+pub sound_retired : (p : LayoutValue) (es : List Entry) (ls : List ℤ) (free : List ℕ) (capacity id start len : ℕ) → IsSound p es ls free capacity
     → p.clauses < id → id < length es → get_or es id Vacant ≡ Live start len
     → IsSound p (set es id (Retired start len)) ls free capacity
 sound_retired p es ls free capacity id start len sound derived within here =
@@ -128,21 +129,19 @@ sound_retired p es ls free capacity id start len sound derived within here =
     let f = formula_of (plain_of p es ls free) in
     let kept : StoresClause f (stored_in ls (Live start len)) = subst (λ (e : Entry). StoresClause f (stored_in ls e)) here (stores_at f ls es id sound.clauses within) in
     record {
-      plan = sound.plan;
+      limits = sound.limits;
       count = length-set es id (Retired start len) ∙ sound.count;
       streams = sound.streams;
       within = AllByRecursion-set (LiesWithin (length ls)) es id (Retired start len) sound.within lies;
       reserved = sound.reserved;
       small = sound.small;
+      formula = subst IsFormulaLive (sym (view_retired p es ls free id start len)) (formula_live-set (plain_of p es ls free) id v free derived sound.formula);
       clauses = subst (λ (g : Cnf). AllByRecursion (StoresClause g) (map (stored_in ls) (set es id (Retired start len)))) (sym same)
           (subst (AllByRecursion (StoresClause f)) (sym (stored_retired ls es id start len))
           (AllByRecursion-set (StoresClause f) (map (stored_in ls) es) id v sound.clauses kept));
     }
 
 -- What lies under an identity
-
-some_is : (a b : Kept) → Some a ≡ Some b → a ≡ b
-some_is a b h = cc
 
 -- the text of what is kept lies in the list of literals from its start on
 abbrev LiesAt : List ℤ → Kept → Type 0
@@ -171,7 +170,7 @@ literal_lies ls es id k start text h e lt =
 
 -- The same of the whole map, where the entry was read
 
-within_count : (p : Plan) (es : List Entry) (id : ℕ) → length es ≡ last_identity p + 1 → id ≤ last_identity p → id < length es
+within_count : (p : LayoutValue) (es : List Entry) (id : ℕ) → length es ≡ last_identity p + 1 → id ≤ last_identity p → id < length es
 within_count p es id count le = omega arith
 
 within_stored : (ls : List ℤ) (es : List Entry) (id : ℕ) → id < length es → id < length (map (stored_in ls) es)
@@ -181,7 +180,7 @@ within_stored ls es id h = omega (arith, h, length-map es (stored_in ls))
 stored_is : (ls : List ℤ) (es : List Entry) (id : ℕ) (e : Entry) → id < length es → e ≡ get_or es id e → get_or (map (stored_in ls) es) id plain.vacant ≡ stored_in ls e
 stored_is ls es id e within read = get_or-map (stored_in ls) es id Vacant plain.vacant within ∙ ap (stored_in ls) (sym (get_or_read es id e within read Vacant))
 
-pub retire_done : (v : Plain) (p : Plan) (es : List Entry) (ls : List ℤ) (free : List ℕ) (capacity s id start len : ℕ) (e : Entry)
+pub retire_done : (v : Plain) (p : LayoutValue) (es : List Entry) (ls : List ℤ) (free : List ℕ) (capacity s id start len : ℕ) (e : Entry)
     → plain_of p es ls free ≡ v → IsSound p es ls free capacity → Owns v.layout s id
     → e ≡ get_or es id e → e ≡ Live start len
     → IsSound p (set es id (Retired start len)) ls free capacity × AfterRetire v (plain_of p (set es id (Retired start len)) ls free) id retiring.Done
@@ -189,7 +188,7 @@ retire_done v p es ls free capacity s id start len e view sound =
     subst (λ (w : Plain). Owns w.layout s id → e ≡ get_or es id e → e ≡ Live start len
     → IsSound p (set es id (Retired start len)) ls free capacity × AfterRetire w (plain_of p (set es id (Retired start len)) ls free) id retiring.Done) view
     (λ owns read is.
-    let mine = owned p s id sound.plan.some_stream owns in
+    let mine = owned p s id sound.limits.some_stream owns in
     let within : id < length es = within_count p es id sound.count mine.identity in
     let here : get_or es id Vacant ≡ Live start len = sym (get_or_read es id e within read Vacant) ∙ is in (
       sound_retired p es ls free capacity id start len sound mine.derived within here,
@@ -201,7 +200,7 @@ retire_done v p es ls free capacity s id start len e view sound =
       ),
     ))
 
-pub publish_done : (v : Plain) (p : Plan) (es : List Entry) (ls c more : List ℤ) (free : List ℕ) (capacity grown i id n left : ℕ) (e : Entry)
+pub publish_done : (v : Plain) (p : LayoutValue) (es : List Entry) (ls c more : List ℤ) (free : List ℕ) (capacity grown i id n left : ℕ) (e : Entry)
     → plain_of p es ls free ≡ v → IsSound p es ls free capacity → Owns v.layout (i + 1) id
     → IsPublishable (formula_of v) c → length c ≤ get_or v.free i 0
     → e ≡ get_or es id e → e ≡ Vacant → more ≡ ls ++ c → n ≡ length ls → left ≡ get_or free i left → capacity ≤ grown
@@ -214,7 +213,7 @@ publish_done v p es ls c more free capacity grown i id n left e view sound =
     → IsSound p (set es id (Live n (length c))) more (set free i (left - length c)) grown
     × AfterPublish w (plain_of p (set es id (Live n (length c))) more (set free i (left - length c))) i id c publishing.Done) view
     (λ owns clause fits read is grows from room bigger.
-    let mine = owned p (i + 1) id sound.plan.some_stream owns in
+    let mine = owned p (i + 1) id sound.limits.some_stream owns in
     let within : id < length es = within_count p es id sound.count mine.identity in
     let inside : i < length free = omega (arith, mine.last, sound.streams) in
     let left_is : left ≡ get_or free i 0 = get_or_read free i left inside room 0 in
@@ -224,9 +223,32 @@ publish_done v p es ls c more free capacity grown i id n left e view sound =
     ))
 
 -- a literal of a known clause lies in the list
-pub known_literal : (v : Plain) (p : Plan) (es : List Entry) (ls : List ℤ) (free : List ℕ) (clip : ClauseName) (k : ℕ)
-    → plain_of p es ls free ≡ v → AllByRecursion (LiesWithin (length ls)) es → IsKnown (place_at v 1) clip → k < clip.len
-    → (clip.start + k < length ls) × (slice_get (text_of (place_at v 1) clip) k ≡ Some (get_or ls (clip.start + k) (pos 0)))
+pub known_literal : (v : Plain) (p : LayoutValue) (es : List Entry) (ls : List ℤ) (free : List ℕ) (clip : ClipValue) (k : ℕ)
+    → plain_of p es ls free ≡ v → AllByRecursion (LiesWithin (length ls)) es → IsKnown (plain_place v 1) clip → k < clip.len
+    → (clip.start + k < length ls) × (slice_get (text_of (plain_place v 1) clip) k ≡ Some (get_or ls (clip.start + k) (pos 0)))
 known_literal v p es ls free clip k view within known lt =
-    subst (λ (w : Plain). IsKnown (place_at w 1) clip → (clip.start + k < length ls) × (slice_get (text_of (place_at w 1) clip) k ≡ Some (get_or ls (clip.start + k) (pos 0)))) view
-    (λ here. literal_lies ls es clip.id k clip.start (text_of (place_at (plain_of p es ls free) 1) clip) within here.kept (omega (arith, lt, here.len))) known
+    subst (λ (w : Plain). IsKnown (plain_place w 1) clip → (clip.start + k < length ls) × (slice_get (text_of (plain_place w 1) clip) k ≡ Some (get_or ls (clip.start + k) (pos 0)))) view
+    (λ here. literal_lies ls es clip.id k clip.start (text_of (plain_place (plain_of p es ls free) 1) clip) within here.kept (omega (arith, lt, here.len))) known
+
+kept_follows : (f : Cnf) (x : Stored) (kept : Kept) → StoresClause f x → kept_of x ≡ Some kept → IsDerived f kept.literals
+kept_follows f plain.vacant kept stores there = absurd (nothing_kept there)
+kept_follows f (plain.live k) kept stores there = subst (λ (j : Kept). IsDerived f j.literals) (some_is k kept there) stores
+kept_follows f (plain.retired k) kept stores there = subst (λ (j : Kept). IsDerived f j.literals) (some_is k kept there) stores
+
+stores_all : (f : Cnf) (xs : List Stored) (id : ℕ) → AllByRecursion (StoresClause f) xs → StoresClause f (get_or xs id plain.vacant)
+stores_all f [] id all = tt
+stores_all f (x ∷ xs) zero all = all.0
+stores_all f (x ∷ xs) (suc id) all = stores_all f xs id all.1
+
+-- every clause that is kept follows, and the formula's are live
+pub sound_follows : (v : Plain) (p : LayoutValue) (es : List Entry) (ls : List ℤ) (free : List ℕ) (capacity : ℕ) → plain_of p es ls free ≡ v → IsSound p es ls free capacity
+    → AllFollow (plain_place v 1) × IsFormulaLive v
+sound_follows v p es ls free capacity view sound =
+    subst (λ (w : Plain). AllFollow (plain_place w 1) × IsFormulaLive w) view (
+      record {
+        each = λ id kept there.
+            kept_follows (formula_of (plain_of p es ls free)) (get_or (map (stored_in ls) es) id plain.vacant) kept
+            (stores_all (formula_of (plain_of p es ls free)) (map (stored_in ls) es) id sound.clauses) there;
+      },
+      sound.formula,
+    )

@@ -4,7 +4,8 @@ use Rattle.std.specs.Prelude.{map}
 use Rattle.std.specs.List.{sum_by}
 use Rattle.std.proofs.Math.Path.{fun_ext}
 use Rattle.std.proofs.lemmas.Bool.{eqb-true, eqb-false}
-use Rattle.std.proofs.lemmas.List.{get_or-set_other, take-set-le, drop-set-add}
+use Rattle.std.proofs.lemmas.List.{get_or-set_other, take-set-le, drop-set-add, get_or-take, get_or-drop}
+use Rattle.std.proofs.Math.ListN.{get_or-map}
 use Rattle.std.proofs.lemmas.Grind.{get_or-set_at}
 use Rattle.std.proofs.lemmas.List.Sums.{sum_by-cons}
 use Rattle.std.proofs.Math.Numerals.{one-add}
@@ -15,9 +16,16 @@ use Rattle.lrup_model.specs.Event.{Event, History, Reply, stream_of, size_of, ow
 use Rattle.lrup_model.specs.State as slots
 use Rattle.lrup_model.specs.State.{State, Slot, IsLive, IsRetired, Answers, after, put, retire_slot, run}
 use Rattle.lrup_model.specs.History.{IsAllowed, IsPublishable}
-use Rattle.lrup_model.specs.Place.{Kept, KeepsSpelt}
-use Rattle.lrup_model.proofs.HistoryLemmas.{owned_above}
-use Rattle.lrup_model.specs.Plain.{Stored, vacant, live, retired, Plain, slot_of, kept_of, clause_of, stored_at, formula_of, state_of, free_at, PlainMoves, AfterPublish}
+use Rattle.lrup_model.specs.Formula.{Cnf, clause_at}
+use Rattle.lrup_model.specs.Entailment.{IsDerived}
+use Rattle.lrup_model.specs.Place.{Kept, KeepsSpelt, AllFollow, literals_in}
+use Rattle.lrup_model.specs.Replies.{IsFetched, reply_of}
+use Rattle.lrup_model.specs.declared.clause_map.Fetched.{Fetched}
+use Rattle.lrup_model.specs.declared.clause_map.Fetched.TheVariants as fetched
+use Rattle.lrup_model.specs.declared.clause_map.Retired.{Retired}
+use Rattle.lrup_model.specs.declared.clause_map.Retired.TheVariants as retiring
+use Rattle.lrup_model.specs.HistoryLemmas.{owned_above, spent_one}
+use Rattle.lrup_model.specs.Plain.{Stored, vacant, live, retired, Plain, slot_of, kept_of, clause_of, stored_at, formula_of, state_of, free_at, plain_place, IsFormulaLive, PlainMoves, AfterPublish, AfterRetire, fetched_of}
 use Rattle.lrup_model.specs.declared.clause_map.Published.{Published}
 use Rattle.lrup_model.specs.declared.clause_map.Published.TheVariants as publishing
 
@@ -55,15 +63,36 @@ pub keeps-set : (m : Plain) (id : ℕ) (v : Stored) (free : List ℕ) → id < l
     → KeepsSpelt (λ j. kept_of (stored_at m j)) (λ j. kept_of (stored_at (record { layout = m.layout; stored = set m.stored id v; free = free }) j))
 keeps-set m id v free h keeps j kept old = kept_at-set m.stored id j v kept (eqb j id) refl h keeps old
 
+pub formula_live-set : (m : Plain) (id : ℕ) (v : Stored) (free : List ℕ) → m.layout.clauses < id → IsFormulaLive m
+    → IsFormulaLive (record { layout = m.layout; stored = set m.stored id v; free = free })
+formula_live-set m id v free derived old j positive within =
+    let there = old j positive within in
+    (there.0, get_or-set_other m.stored id j v vacant (omega arith) ∙ there.1)
+
+pub some_is : (a b : Kept) → Some a ≡ Some b → a ≡ b
+some_is a b h = cc
+
+followed_at : (f : Cnf) (xs : List Stored) (id j : ℕ) (v : Stored) (kept : Kept) (b : Bool) → eqb j id ≡ b → id < length xs
+    → (kept_of v ≡ Some kept → IsDerived f kept.literals)
+    → (kept_of (get_or xs j vacant) ≡ Some kept → IsDerived f kept.literals)
+    → kept_of (get_or (set xs id v) j vacant) ≡ Some kept → IsDerived f kept.literals
+followed_at f xs id j v kept true e h new old there = new (sym (ap kept_of (get_or-set_at xs id j v vacant (eqb-true j id e) h)) ∙ there)
+followed_at f xs id j v kept false e h new old there = old (sym (ap kept_of (get_or-set_other xs id j v vacant (eqb-false j id e))) ∙ there)
+
+-- every clause follows still, where the one that is stored does
+pub follow-set : (m : Plain) (s id : ℕ) (v : Stored) (free : List ℕ) → m.layout.clauses < id → id < length m.stored
+    → ((kept : Kept) → kept_of v ≡ Some kept → AllFollow (plain_place m s) → IsDerived (formula_of m) kept.literals)
+    → AllFollow (plain_place m s) → AllFollow (plain_place (record { layout = m.layout; stored = set m.stored id v; free = free }) s)
+follow-set m s id v free derived within new all = record {
+  each = λ j kept there.
+      subst (λ (f : Cnf). IsDerived f kept.literals) (sym (formula_of-set m id v free derived))
+      (followed_at (formula_of m) m.stored id j v kept (eqb j id) refl within (λ is. new kept is all) (all.each j kept) there);
+}
+
 -- One event
 
 pub nothing_kept : {kept : Kept} → None ≡ Some kept → ⊥
 nothing_kept h = cc
-
-pub spent_one : (s : ℕ) (e : Event) → stream_of e ≡ s → spent s (e ∷ []) ≡ size_of e
-spent_one s e h =
-    let mine : own (e ∷ []) s ≡ e ∷ [] = ap (λ b. cond b (e ∷ []) []) (eq-eqb (stream_of e) s h) in
-    omega (arith, ap (sum_by size_of) mine, sum_by-cons size_of e [])
 
 -- nothing changes
 stays : (m : Plain) (s : ℕ) (e : Event) → stream_of e ≡ s → size_of e ≡ 0 → after (state_of m) e ≡ state_of m
@@ -77,6 +106,7 @@ stays m s e by size same answers allowed = record {
   room = omega (arith, spent_one s e by);
   others = λ t positive other. refl;
   spelt = λ id kept old. old;
+  follow = λ all. all;
 }
 
 pub moves_taken : (m : Plain) (s id : ℕ) (c : Clause) → Owns m.layout s id → IsPublishable (formula_of m) c → state_of m id ≢ slots.absent
@@ -102,6 +132,7 @@ moves_done m s id start c first last derived within owns clause empty fits =
       room = omega (arith, spent_one s (events.publish s id c publishing.Done) refl, room_left m.free (s - 1) (length c) (omega (arith, first, last)) fits);
       others = λ t positive other. get_or-set_other m.free (s - 1) (t - 1) _ 0 (omega (arith, first, positive, other));
       spelt = keeps-set m id v free within (λ kept old. absurd (nothing_kept (subst (λ w. kept_of w ≡ Some kept) empty old)));
+      follow = follow-set m s id v free derived within (λ kept there all. subst (λ (k : Kept). IsDerived (formula_of m) k.literals) (some_is _ _ there) (clause.clause, clause.follows));
     }
 
 vacant_from : (s : Stored) → slot_of s ≡ slots.absent → s ≡ vacant
@@ -121,3 +152,60 @@ moves_publish old new i id c publishing.Done owns clause fits after =
 moves_publish old new i id c publishing.Taken owns clause fits after =
     subst (λ (n : Plain). PlainMoves old n (i + 1) (events.publish (i + 1) id c publishing.Taken ∷ [])) (sym after.1)
     (moves_taken old (i + 1) id c owns clause (λ none. after.0 (vacant_from (stored_at old id) none)))
+
+retired_state : (m : Plain) (id : ℕ) (kept : Kept) → stored_at m id ≡ live kept → retire_slot (state_of m id) ≡ slots.retired kept.literals
+retired_state m id kept here = ap (λ (x : Stored). retire_slot (slot_of x)) here
+
+-- a retire, by its answer
+pub moves_retire : (old new : Plain) (s id : ℕ) (r : Retired) → Owns old.layout s id → AfterRetire old new id r → PlainMoves old new s (events.retire s id r ∷ [])
+moves_retire old new s id retiring.Done owns after =
+    let kept : Kept = after.1 in
+    let v : Stored = retired kept in
+    let derived : old.layout.clauses < id = owned_above old.layout s id owns in
+    let moved : PlainMoves old (record { layout = old.layout; stored = set old.stored id v; free = old.free }) s (events.retire s id retiring.Done ∷ []) = record {
+      layout = refl;
+      formula = formula_of-set old id v old.free derived;
+      callers = (refl, tt);
+      answers = (subst (λ (x : Stored). IsLive (slot_of x)) (sym after.2) tt, owns, tt);
+      state = state_of-set old id v old.free after.0 ∙ ap (put (state_of old) id) (sym (retired_state old id kept after.2));
+      room = omega (arith, spent_one s (events.retire s id retiring.Done) refl);
+      others = λ t positive other. refl;
+      spelt = keeps-set old id v old.free after.0 (λ k there. sym (ap kept_of after.2) ∙ there);
+      follow = follow-set old s id v old.free derived after.0 (λ k there all. all.each id k (ap kept_of after.2 ∙ there));
+    } in
+    subst (λ (n : Plain). PlainMoves old n s (events.retire s id retiring.Done ∷ [])) (sym after.3) moved
+moves_retire old new s id retiring.NotLive owns after =
+    subst (λ (n : Plain). PlainMoves old n s (events.retire s id retiring.NotLive ∷ [])) (sym after.1)
+    (stays old s (events.retire s id retiring.NotLive) refl refl refl after.0 owns)
+
+-- What a fetch answers
+
+fetched_is : (m : Plain) (s id : ℕ) (x : Stored) → stored_at m id ≡ x → IsFetched (plain_place m s) id (fetched_of id x)
+fetched_is m s id vacant here = ap kept_of here
+fetched_is m s id (live kept) here =
+    let there : kept_of (stored_at m id) ≡ Some kept = ap kept_of here in
+    (refl, record {
+      kept = there ∙ ap (λ (c : Clause). Some (record { start = kept.start; literals = c })) (sym (ap literals_in there));
+      len = sym (ap length (ap literals_in there));
+    })
+fetched_is m s id (retired kept) here = (kept, ap kept_of here)
+
+pub fetch_fetched : (m : Plain) (s id : ℕ) (r : Fetched) → r ≡ fetched_of id (stored_at m id) → IsFetched (plain_place m s) id r
+fetch_fetched m s id r is = subst (λ (x : Fetched). IsFetched (plain_place m s) id x) (sym is) (fetched_is m s id (stored_at m id) refl)
+
+-- the formula's clause is what is stored
+formula_stored : (m : Plain) (id : ℕ) → 0 < id → id ≤ m.layout.clauses → clause_at (formula_of m) id ≡ clause_of (stored_at m id)
+formula_stored m id positive within =
+    let i : id - 1 < m.layout.clauses = omega arith in
+    let place : 1 + (id - 1) ≡ id = omega arith in
+    let cut : get_or (take m.layout.clauses (drop 1 m.stored)) (id - 1) vacant ≡ stored_at m id =
+    get_or-take m.layout.clauses (drop 1 m.stored) (id - 1) vacant i ∙ get_or-drop 1 m.stored (id - 1) vacant ∙ ap (λ (k : ℕ). get_or m.stored k vacant) place in
+    get_or-map clause_of (take m.layout.clauses (drop 1 m.stored)) (id - 1) vacant ∙ ap clause_of cut
+
+pub fetch_formula : (m : Plain) (s id : ℕ) (r : Fetched) → 0 < id → id ≤ m.layout.clauses → IsFormulaLive m → r ≡ fetched_of id (stored_at m id)
+    → reply_of (plain_place m s) r ≡ events.live (clause_at (formula_of m) id)
+fetch_formula m s id r positive within formula is =
+    let there = formula id positive within in
+    ap (λ (x : Fetched). reply_of (plain_place m s) x) (is ∙ ap (fetched_of id) there.1)
+    ∙ ap (λ (x : Stored). events.live (literals_in (kept_of x))) there.1
+    ∙ sym (ap events.live (formula_stored m id positive within ∙ ap clause_of there.1))

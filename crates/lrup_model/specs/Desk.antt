@@ -4,7 +4,7 @@ use Rattle.std.proofs.Common.{refl, subst, sym, ◌∙◌}
 use Rattle.std.specs.Borrow.{MutBor}
 use Rattle.lrup_model.specs.Event.{History}
 use Rattle.lrup_model.specs.Place.{Place, Tells}
-use Rattle.lrup_model.specs.Plain.{Plain, place_at, PlainMoves}
+use Rattle.lrup_model.specs.Plain.{Plain, plain_place, PlainMoves}
 use Rattle.lrup_model.specs.declared.plain_map.PlainDesk.{PlainDesk}
 use Rattle.lrup_model.specs.PlainLaws.{moves_none, moves_append, moves_tells}
 
@@ -22,8 +22,8 @@ pub record IsDesk (map : MutBor Plain) (s : ℕ) (d : PlainDesk) : Type 0 where
   pub same : d.map.ghost_name ≡ map.ghost_name
   pub stream : stream_at d ≡ s
 
-abbrev pub place_of : PlainDesk → Place
-place_of d = place_at (map_of d) (stream_at d)
+abbrev pub desk_place : PlainDesk → Place
+desk_place d = plain_place (map_of d) (stream_at d)
 
 -- the desk stays at the same map, which moved by these events of its stream
 pub record DeskMoves (old new : PlainDesk) (es : History) : Type 0 where
@@ -42,5 +42,5 @@ desk_append a b c es fs h k = record {
   moves = moves_append (map_of a) (map_of b) (map_of c) (stream_at a) es fs h.moves (subst (λ i. PlainMoves (map_of b) (map_of c) (i + 1) fs) h.index k.moves);
 }
 
-pub desk_tells : (a b : PlainDesk) (es : History) → DeskMoves a b es → Tells (place_of a) (place_of b) es
-desk_tells a b es h = subst (λ i. Tells (place_of a) (place_at (map_of b) (i + 1)) es) (sym h.index) (moves_tells (map_of a) (map_of b) (stream_at a) es h.moves)
+pub desk_tells : (a b : PlainDesk) (es : History) → DeskMoves a b es → Tells (desk_place a) (desk_place b) es
+desk_tells a b es h = subst (λ i. Tells (desk_place a) (plain_place (map_of b) (i + 1)) es) (sym h.index) (moves_tells (map_of a) (map_of b) (stream_at a) es h.moves)

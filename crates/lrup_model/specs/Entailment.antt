@@ -1,7 +1,7 @@
 -- Assignments and entailment (textbook).
 use Rattle.std.specs.Prelude.{◌≡◌, ℕ, suc, ℤ, pos, negsuc, Bool, true, false}
 use Rattle.std.specs.List.{AllByRecursion}
-use Rattle.lrup_model.specs.Clause.{Clause, Has}
+use Rattle.lrup_model.specs.Clause.{Clause, Has, IsClause}
 use Rattle.lrup_model.specs.Formula.{Cnf}
 
 -- true or false for each variable
@@ -24,6 +24,10 @@ SatisfiesAll a f = AllByRecursion (Satisfies a) f.clauses
 -- every assignment that satisfies all clauses of the formula satisfies the clause
 pub record Follows (f : Cnf) (c : Clause) : Type 0 where
   pub holds : (a : Assignment) → SatisfiesAll a f → Satisfies a c
+
+-- a clause over the formula's variables that follows from it
+abbrev pub IsDerived : Cnf → Clause → Type 0
+IsDerived f c = IsClause f.vars c × Follows f c
 
 -- no assignment makes every clause true
 abbrev pub IsUnsatisfiable : Cnf → Type 0

@@ -3,7 +3,7 @@ use Rattle.std.specs.Prelude.{◌≤◌, ℕ, [], ◌∷◌, length}
 use Rattle.lrup_model.specs.Clause.{Clause, IsClause}
 use Rattle.lrup_model.specs.Formula.{Cnf}
 use Rattle.lrup_model.specs.Entailment.{Follows}
-use Rattle.lrup_model.specs.Layout.{Plan, IsIdentity, Owns}
+use Rattle.lrup_model.specs.Layout.{LayoutValue, IsIdentity, Owns}
 use Rattle.lrup_model.specs.Event.{Event, fetch, publish, retire, History, spent}
 use Rattle.lrup_model.specs.State.{State, Answers, after, opening}
 
@@ -18,16 +18,16 @@ pub record IsPublishable (f : Cnf) (c : Clause) : Type 0 where
   pub follows : Follows f c
 
 -- The event may be asked for. An owned identity is one of 1 to the last.
-abbrev pub IsAllowed : Cnf → Plan → Event → Type 0
+abbrev pub IsAllowed : Cnf → LayoutValue → Event → Type 0
 IsAllowed f p (fetch s id r) = IsIdentity p id
 IsAllowed f p (publish s id c r) = Owns p s id × IsPublishable f c
 IsAllowed f p (retire s id r) = Owns p s id
 
 -- from this state on, each event may be asked for, and answers as the state after the events before it
-abbrev pub LegalFrom : Cnf → Plan → State → History → Type 0
+abbrev pub LegalFrom : Cnf → LayoutValue → State → History → Type 0
 LegalFrom f p m [] = Unit {0}
 LegalFrom f p m (e ∷ es) = Answers m e × IsAllowed f p e × LegalFrom f p (after m e) es
 
-pub record IsLegal (f : Cnf) (p : Plan) (h : History) : Type 0 where
+pub record IsLegal (f : Cnf) (p : LayoutValue) (h : History) : Type 0 where
   pub events : LegalFrom f p (opening f) h
   pub room : (s : ℕ) → spent s h ≤ p.room

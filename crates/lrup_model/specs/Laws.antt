@@ -3,15 +3,15 @@ use Rattle.std.specs.Prelude.{◌≡◌, ◌≢◌, ◌↔◌, ◌+◌, ◌≤�
 use Rattle.std.specs.List.{filter, AllByRecursion}
 use Rattle.lrup_model.specs.Clause.{Clause, IsClause}
 use Rattle.lrup_model.specs.Formula.{Cnf, IsCnf, clause_at}
-use Rattle.lrup_model.specs.Entailment.{Follows, IsUnsatisfiable}
-use Rattle.lrup_model.specs.Layout.{Plan, Fits, Owns}
+use Rattle.lrup_model.specs.Entailment.{Follows, IsDerived, IsUnsatisfiable}
+use Rattle.lrup_model.specs.Layout.{LayoutValue, Fits, Owns}
 use Rattle.lrup_model.specs.Event as events
-use Rattle.lrup_model.specs.Event.{Event, Reply, History, stream_of, own, spent}
-use Rattle.lrup_model.specs.State.{State, Slot, absent, live, retired, opening, run, state}
-use Rattle.lrup_model.specs.History.{LegalFrom, IsLegal}
+use Rattle.lrup_model.specs.Event.{Event, Reply, History, stream_of, own, spent, published}
+use Rattle.lrup_model.specs.State.{State, Slot, absent, live, retired, opening, run, state, AreVacantAbove}
+use Rattle.lrup_model.specs.History.{LegalFrom, IsLegal, IsPublishable}
 use Rattle.lrup_model.specs.Propagation.{Accepts}
-use Rattle.lrup_model.specs.Place.{Kept, Place, ClauseName, text_of, IsKnown, Tells, KeepsSpelt}
-use Rattle.lrup_model.specs.Pass.{View, IsFair, PassMoves, place_of, spelt}
+use Rattle.lrup_model.specs.Place.{Kept, Place, ClipValue, text_of, IsKnown, Tells, AllFollow, KeepsSpelt}
+use Rattle.lrup_model.specs.Pass.{View, Spelling, kept_in, IsSpelt, IsFair, PassMoves, pass_place, Meets, MeetsInTurn, AllSaw}
 
 -- Running and legality
 
@@ -21,7 +21,7 @@ RunsInTurn = (m : State) (g h : History) → run m (g ++ h) ≡ run (run m g) h
 
 -- two histories, one behind the other, are legal exactly if each is, the second from the state that the first leaves
 abbrev pub LegalInTurn : Type 0
-LegalInTurn = (f : Cnf) (p : Plan) (m : State) (g h : History) → LegalFrom f p m (g ++ h) ↔ (LegalFrom f p m g × LegalFrom f p (run m g) h)
+LegalInTurn = (f : Cnf) (p : LayoutValue) (m : State) (g h : History) → LegalFrom f p m (g ++ h) ↔ (LegalFrom f p m g × LegalFrom f p (run m g) h)
 
 -- a stream's own events of two histories, one behind the other
 abbrev pub OwnInTurn : Type 0
@@ -33,17 +33,31 @@ SpentInTurn = (s : ℕ) (g h : History) → spent s (g ++ h) ≡ spent s g + spe
 
 -- each beginning of a legal history is legal
 abbrev pub BeginningsLegal : Type 0
-BeginningsLegal = (f : Cnf) (p : Plan) (g h : History) → IsLegal f p (g ++ h) → IsLegal f p g
+BeginningsLegal = (f : Cnf) (p : LayoutValue) (g h : History) → IsLegal f p (g ++ h) → IsLegal f p g
 
 -- What a history leaves at an identity
 
 -- an identity of the formula keeps its clause, live
 abbrev pub FormulaStays : Type 0
-FormulaStays = (f : Cnf) (p : Plan) (h : History) (id : ℕ) → Fits p f → LegalFrom f p (opening f) h → 0 < id → id ≤ p.clauses → state f h id ≡ live (clause_at f id)
+FormulaStays = (f : Cnf) (p : LayoutValue) (h : History) (id : ℕ) → Fits p f → LegalFrom f p (opening f) h → 0 < id → id ≤ p.clauses → state f h id ≡ live (clause_at f id)
 
 -- what a legal history has at a stream's own identity depends on that stream's calls alone
 abbrev pub OwnCallsDecide : Type 0
-OwnCallsDecide = (f : Cnf) (p : Plan) (h : History) (s id : ℕ) → LegalFrom f p (opening f) h → Owns p s id → state f h id ≡ state f (own h s) id
+OwnCallsDecide = (f : Cnf) (p : LayoutValue) (h : History) (s id : ℕ) → LegalFrom f p (opening f) h → Owns p s id → state f h id ≡ state f (own h s) id
+
+-- so it is from any state
+abbrev pub OwnCallsDecideFrom : Type 0
+OwnCallsDecideFrom = (f : Cnf) (p : LayoutValue) (m : State) (h : History) (s id : ℕ) → LegalFrom f p m h → Owns p s id → run m h id ≡ run m (own h s) id
+
+-- the legal events of other streams leave a stream's own identities alone, from any state
+abbrev pub OthersLeaveOwn : Type 0
+OthersLeaveOwn = (f : Cnf) (p : LayoutValue) (m : State) (h : History) (s id : ℕ)
+    → LegalFrom f p m h → AllByRecursion (λ e. stream_of e ≢ s) h → Owns p s id → run m h id ≡ m id
+
+-- so where a stream's own identities above one have nothing, they have nothing after events of others
+abbrev pub VacantAboveStays : Type 0
+VacantAboveStays = (f : Cnf) (p : LayoutValue) (m : State) (h : History) (s last : ℕ)
+    → LegalFrom f p m h → AllByRecursion (λ e. stream_of e ≢ s) h → AreVacantAbove p s m last → AreVacantAbove p s (run m h) last
 
 -- from absent to live to retired, with one clause
 abbrev pub Advances : Slot → Slot → Type 0
@@ -57,21 +71,21 @@ Advances (retired c) (retired d) = d ≡ c
 
 -- no entry goes back, and none changes its clause
 abbrev pub EntriesAdvance : Type 0
-EntriesAdvance = (f : Cnf) (p : Plan) (m : State) (h : History) (id : ℕ) → LegalFrom f p m h → Advances (m id) (run m h id)
+EntriesAdvance = (f : Cnf) (p : LayoutValue) (m : State) (h : History) (id : ℕ) → LegalFrom f p m h → Advances (m id) (run m h id)
 
 -- the event changes an identity of its own stream, if any
-abbrev pub IsByOwner : Plan → Event → Type 0
+abbrev pub IsByOwner : LayoutValue → Event → Type 0
 IsByOwner p (events.fetch s id r) = Unit {0}
 IsByOwner p (events.publish s id c r) = Owns p s id
 IsByOwner p (events.retire s id r) = Owns p s id
 
 -- in a legal history each publish and each retire is by the stream that owns the identity
 abbrev pub OwnersAct : Type 0
-OwnersAct = (f : Cnf) (p : Plan) (m : State) (h : History) → LegalFrom f p m h → AllByRecursion (IsByOwner p) h
+OwnersAct = (f : Cnf) (p : LayoutValue) (m : State) (h : History) → LegalFrom f p m h → AllByRecursion (IsByOwner p) h
 
 -- no identity has two owners
 abbrev pub OneOwner : Type 0
-OneOwner = (p : Plan) (s t id : ℕ) → Owns p s id → Owns p t id → s ≡ t
+OneOwner = (p : LayoutValue) (s t id : ℕ) → Owns p s id → Owns p t id → s ≡ t
 
 -- Clauses that follow
 
@@ -91,13 +105,29 @@ HasClause (retired d) c = d ≡ c
 
 -- every clause that a legal history leaves, live or retired, is a clause that follows from the formula
 abbrev pub ClausesFollow : Type 0
-ClausesFollow = (f : Cnf) (p : Plan) (h : History) (id : ℕ) (c : Clause) → IsCnf f → LegalFrom f p (opening f) h → HasClause (state f h id) c → IsClause f.vars c × Follows f c
+ClausesFollow = (f : Cnf) (p : LayoutValue) (h : History) (id : ℕ) (c : Clause) → IsCnf f → LegalFrom f p (opening f) h → HasClause (state f h id) c → IsClause f.vars c × Follows f c
+
+-- what two histories published, one after the other
+abbrev pub PublishedInTurn : Type 0
+PublishedInTurn = (g h : History) → published (g ++ h) ≡ published g ++ published h
+
+-- each clause that a legal history published may be published: it follows from the formula
+abbrev pub PublishedFollow : Type 0
+PublishedFollow = (f : Cnf) (p : LayoutValue) (m : State) (h : History) → LegalFrom f p m h → AllByRecursion (λ x. IsPublishable f x.1) (published h)
+
+-- and stands under its identity for good, live or retired
+abbrev pub PublishedStay : Type 0
+PublishedStay = (f : Cnf) (p : LayoutValue) (m : State) (h : History) → LegalFrom f p m h → AllByRecursion (λ x. HasClause (run m h x.0) x.1) (published h)
 
 -- Places and passes
 
--- a name that is known at a place stays known, with the same literals, whatever calls follow
+-- a clip that is known at a place stays known, with the same literals, whatever calls follow
 abbrev pub KnownStays : Type 0
-KnownStays = (a b : Place) (es : History) (clip : ClauseName) → Tells a b es → IsKnown a clip → IsKnown b clip × (text_of b clip ≡ text_of a clip)
+KnownStays = (a b : Place) (es : History) (clip : ClipValue) → Tells a b es → IsKnown a clip → IsKnown b clip × (text_of b clip ≡ text_of a clip)
+
+-- the clause of a clip that is known at a place, all whose clauses follow, is a clause that follows from the formula
+abbrev pub KnownFollows : Type 0
+KnownFollows = (p : Place) (clip : ClipValue) → AllFollow p → IsKnown p clip → IsDerived p.caller.formula (text_of p clip)
 
 -- no calls lie between a pass and itself
 abbrev pub PassRests : Type 0
@@ -109,38 +139,62 @@ PassMovesInTurn = (a b c : View) (es fs : History) → PassMoves a b es → Pass
 
 -- what a pass's calls say of the caller's place
 abbrev pub PassTells : Type 0
-PassTells = (a b : View) (es : History) → PassMoves a b es → Tells (place_of a) (place_of b) es
+PassTells = (a b : View) (es : History) → PassMoves a b es → Tells (pass_place a) (pass_place b) es
 
--- what is spelt after a history is spelt the same after any legal one that begins with it
+-- every clause that a fair pass keeps follows from the formula
+abbrev pub FairFollows : Type 0
+FairFollows = (v : View) → IsFair v → AllFollow (pass_place v)
+
+-- what is kept for a clause after a history has the same literals after any legal one that begins with it
 abbrev pub SpeltStays : Type 0
-SpeltStays = (f : Cnf) (p : Plan) (seen more : History) → Fits p f → IsLegal f p (seen ++ more) → KeepsSpelt (spelt f p seen) (spelt f p (seen ++ more))
+SpeltStays = (f : Cnf) (p : LayoutValue) (seen more : History) (xs ys : List Spelling) (id : ℕ) (kept : Kept)
+    → IsLegal f p (seen ++ more) → IsSpelt f seen xs → IsSpelt f (seen ++ more) ys → kept_in xs id ≡ Some kept
+    → (later : Kept) × (kept_in ys id ≡ Some later) × (later.literals ≡ kept.literals)
 
--- what is spelt after a legal history is a clause that follows from the formula
-abbrev pub SpeltFollows : Type 0
-SpeltFollows = (f : Cnf) (p : Plan) (h : History) (id : ℕ) (kept : Kept) → IsCnf f → LegalFrom f p (opening f) h → spelt f p h id ≡ Some kept → IsClause f.vars kept.literals × Follows f kept.literals
+-- a fair pass that is a later one of a fair pass has moved by the calls that it made
+abbrev pub PassGoesOn : Type 0
+PassGoesOn = (old new : View) (es : History)
+    → IsFair old → IsFair new → new.caller ≡ old.caller
+    → AllByRecursion (λ e. stream_of e ≡ old.caller.stream) es → new.mine ≡ old.mine ++ es
+    → ((more : History) × (new.seen ≡ old.seen ++ more)) → KeepsSpelt (kept_in old.spelt) (kept_in new.spelt)
+    → PassMoves old new es
 
--- a pass that sees more events of others has moved by no call
-abbrev pub PassLearns : Type 0
-PassLearns = (v : View) (more : History)
-    → Fits v.layout v.formula
-    → AllByRecursion (λ d. stream_of d ≢ v.stream) more
-    → IsLegal v.formula v.layout (v.seen ++ more)
-    → PassMoves v (record v { seen = v.seen ++ more }) []
-
--- the pass when it has seen these events of others, and then made this call
-abbrev pub stepped : View → History → Event → View
-stepped v between e = record v {
-  seen = v.seen ++ between ++ e ∷ [];
-  mine = v.mine ++ e ∷ [];
+-- the pass when it has seen these events of others, with what is then kept
+abbrev pub learned : View → History → List Spelling → View
+learned v more xs = record v {
+  seen = v.seen ++ more;
+  spelt = xs;
 }
 
--- a fair pass moves by one call of its own, whatever it saw of others before
+-- a fair pass that sees more events of others is fair, and has moved by no call
+abbrev pub PassLearns : Type 0
+PassLearns = (v : View) (more : History) (xs : List Spelling)
+    → IsFair v
+    → AllByRecursion (λ d. stream_of d ≢ v.caller.stream) more
+    → IsLegal v.caller.formula v.caller.layout (v.seen ++ more)
+    → IsSpelt v.caller.formula (v.seen ++ more) xs → KeepsSpelt (kept_in v.spelt) (kept_in xs)
+    → PassMoves v (learned v more xs) [] × IsFair (learned v more xs)
+
+-- the pass when it has seen these events of others, and then made this call, with what is then kept
+abbrev pub stepped : View → History → Event → List Spelling → View
+stepped v between e xs = record v {
+  seen = v.seen ++ between ++ e ∷ [];
+  mine = v.mine ++ e ∷ [];
+  spelt = xs;
+}
+
+-- a fair pass moves by one call of its own, whatever it saw of others before, and is fair
 abbrev pub PassSteps : Type 0
-PassSteps = (v : View) (between : History) (e : Event)
-    → Fits v.layout v.formula → IsFair v
-    → AllByRecursion (λ d. stream_of d ≢ v.stream) between → stream_of e ≡ v.stream
-    → IsLegal v.formula v.layout (v.seen ++ between ++ e ∷ [])
-    → PassMoves v (stepped v between e) (e ∷ [])
+PassSteps = (v : View) (between : History) (e : Event) (xs : List Spelling)
+    → IsFair v
+    → AllByRecursion (λ d. stream_of d ≢ v.caller.stream) between → stream_of e ≡ v.caller.stream
+    → IsLegal v.caller.formula v.caller.layout (v.seen ++ between ++ e ∷ [])
+    → IsSpelt v.caller.formula (v.seen ++ between ++ e ∷ []) xs → KeepsSpelt (kept_in v.spelt) (kept_in xs)
+    → PassMoves v (stepped v between e xs) (e ∷ []) × IsFair (stepped v between e xs)
+
+-- a pass that meets all others in turn, and then all again, leaves all at one history
+abbrev pub MeetsTwice : Type 0
+MeetsTwice = (u v w : View) (xs ys zs : List View) → MeetsInTurn u xs v ys → MeetsInTurn v ys w zs → (w.seen ≡ v.seen) × AllSaw w.seen zs
 
 -- The events of some streams
 
@@ -163,15 +217,15 @@ IsFound (events.live c) = Unit {0}
 IsFound events.retired = Unit {0}
 
 -- where a stream of the set fetches and finds a clause, no stream outside the set owns the identity
-abbrev pub FindsWithin : Plan → (ℕ → Bool) → Event → Type 0
+abbrev pub FindsWithin : LayoutValue → (ℕ → Bool) → Event → Type 0
 FindsWithin p set (events.fetch s id r) = IsTrue (set s) → IsFound r → (t : ℕ) → Owns p t id → IsTrue (set t)
 FindsWithin p set (events.publish s id c r) = Unit {0}
 FindsWithin p set (events.retire s id r) = Unit {0}
 
 -- the events of streams that find no clause of the others are a legal history by themselves
 abbrev pub RestrictionLegal : Type 0
-RestrictionLegal = (f : Cnf) (p : Plan) (set : ℕ → Bool) (h : History) → Fits p f → IsLegal f p h → AllByRecursion (FindsWithin p set) h → IsLegal f p (among set h)
+RestrictionLegal = (f : Cnf) (p : LayoutValue) (set : ℕ → Bool) (h : History) → Fits p f → IsLegal f p h → AllByRecursion (FindsWithin p set) h → IsLegal f p (among set h)
 
 -- one stream's events are a legal history by themselves, where it finds no clause of another stream
 abbrev pub OwnLegal : Type 0
-OwnLegal = (f : Cnf) (p : Plan) (s : ℕ) (h : History) → Fits p f → IsLegal f p h → AllByRecursion (FindsWithin p (λ t. t == s)) h → IsLegal f p (own h s)
+OwnLegal = (f : Cnf) (p : LayoutValue) (s : ℕ) (h : History) → Fits p f → IsLegal f p h → AllByRecursion (FindsWithin p (λ t. t == s)) h → IsLegal f p (own h s)

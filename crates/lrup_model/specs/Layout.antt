@@ -8,7 +8,7 @@ use Rattle.lrup_model.specs.declared.layout.LayoutFault.{LayoutFault}
 use Rattle.lrup_model.specs.declared.layout.LayoutFault.TheVariants as faults
 
 -- variables, clauses and literals of the formula, streams, identities a stream, and literals that a stream has room for
-pub record Plan : Type 0 where
+pub record LayoutValue : Type 0 where
   pub vars : ℕ
   pub clauses : ℕ
   pub literals : ℕ
@@ -16,8 +16,8 @@ pub record Plan : Type 0 where
   pub lines : ℕ
   pub room : ℕ
 
-abbrev pub plan_of : ℕ → ℕ → ℕ → ℕ → ℕ → ℕ → Plan
-plan_of vars clauses literals streams lines room = record { vars = vars; clauses = clauses; literals = literals; streams = streams; lines = lines; room = room }
+abbrev pub layout_value : ℕ → ℕ → ℕ → ℕ → ℕ → ℕ → LayoutValue
+layout_value vars clauses literals streams lines room = record { vars = vars; clauses = clauses; literals = literals; streams = streams; lines = lines; room = room }
 
 abbrev pub max_streams : ℕ
 max_streams = 64
@@ -26,14 +26,14 @@ abbrev pub max_row_words : ℕ
 max_row_words = 268435456
 
 -- the last identity: the formula's clauses come first, then the streams' by turns
-abbrev pub last_identity : Plan → ℕ
+abbrev pub last_identity : LayoutValue → ℕ
 last_identity p = p.clauses + p.streams * p.lines
 
 -- the words of the shared row: one that stays 0, one an identity, one a literal
-abbrev pub row_words : Plan → ℕ
+abbrev pub row_words : LayoutValue → ℕ
 row_words p = 1 + last_identity p + p.literals + p.streams * p.room
 
-pub record IsPlan (p : Plan) : Type 0 where
+pub record IsLayout (p : LayoutValue) : Type 0 where
   pub vars : p.vars ≤ max_variable
   pub clauses : p.clauses ≤ max_clauses
   pub some_stream : 0 < p.streams
@@ -41,16 +41,16 @@ pub record IsPlan (p : Plan) : Type 0 where
   pub row : row_words p ≤ max_row_words
 
 -- the layout is one for this formula
-pub record Fits (p : Plan) (f : Cnf) : Type 0 where
+pub record Fits (p : LayoutValue) (f : Cnf) : Type 0 where
   pub vars : p.vars ≡ f.vars
   pub clauses : p.clauses ≡ length f.clauses
   pub literals : p.literals ≡ literals_of f
 
-abbrev pub IsIdentity : Plan → ℕ → Type 0
+abbrev pub IsIdentity : LayoutValue → ℕ → Type 0
 IsIdentity p id = (0 < id) × (id ≤ last_identity p)
 
 -- the streams, from 1 on, take the identities behind the formula's by turns
-abbrev pub owner : Plan → ℕ → Owner
+abbrev pub owner : LayoutValue → ℕ → Owner
 owner p id =
     if nat_eq id 0 then owners.Outside
     else if nat_le id p.clauses then owners.Formula
@@ -58,15 +58,15 @@ owner p id =
     else owners.Outside
 
 -- the identity is the stream's own
-abbrev pub Owns : Plan → ℕ → ℕ → Type 0
+abbrev pub Owns : LayoutValue → ℕ → ℕ → Type 0
 Owns p s id = owner p id ≡ owners.Stream s
 
 -- the stream is one of the layout's
-abbrev pub IsStream : Plan → ℕ → Type 0
+abbrev pub IsStream : LayoutValue → ℕ → Type 0
 IsStream p s = (0 < s) × (s ≤ p.streams)
 
 -- the fault is that of the first limit that is broken, in the order of the faults
-abbrev pub IsFault : Plan → LayoutFault → Type 0
+abbrev pub IsFault : LayoutValue → LayoutFault → Type 0
 IsFault p faults.TooManyVariables = max_variable < p.vars
 IsFault p faults.TooManyClauses = (p.vars ≤ max_variable) × (max_clauses < p.clauses)
 IsFault p faults.BadStreamCount = (p.vars ≤ max_variable) × (p.clauses ≤ max_clauses) × ((p.streams ≡ 0) ⊎ (max_streams < p.streams))

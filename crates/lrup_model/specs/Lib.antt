@@ -17,4 +17,10 @@ pub mod PlainInside
 pub mod PlainLaws
 pub mod Desk
 pub mod Laws
+pub mod HistoryLemmas
+pub mod OwnerLemmas
+pub mod EntryLemmas
+pub mod EntailmentLemmas
+pub mod PassLemmas
+pub mod RestrictionLemmas
 pub mod Worked

@@ -1,80 +1,93 @@
--- A pass: one stream's place at the shared store, and what fairness and moving mean there (this project's own).
-use Rattle.std.specs.Prelude.{◌≡◌, ◌+◌, ◌-◌, ◌*◌, ◌==◌, ◌++◌, ℕ, Bool, false, [], ◌∷◌, length, take, if◌then◌else◌, Option, None, Some}
-use Rattle.std.specs.List.{sum_by, AllByRecursion}
+-- A pass: one stream's place at the shared store, and what fairness, moving and meeting mean there (this project's own).
+use Rattle.std.specs.Prelude.{◌≡◌, ◌+◌, ◌-◌, ◌==◌, ◌++◌, ℕ, List, [], ◌∷◌, if◌then◌else◌, Option, None, Some}
+use Rattle.std.specs.List.{AllByRecursion}
 use Rattle.lrup_model.specs.Formula.{Cnf}
-use Rattle.lrup_model.specs.Layout.{Plan, last_identity, owner}
-use Rattle.lrup_model.specs.Event as events
-use Rattle.lrup_model.specs.Event.{Event, History, own, spent, stream_of}
+use Rattle.lrup_model.specs.Event.{History, own, spent, stream_of}
 use Rattle.lrup_model.specs.State.{Slot, absent, live, retired, state}
 use Rattle.lrup_model.specs.History.{IsLegal}
-use Rattle.lrup_model.specs.Place.{Kept, Place, KeepsSpelt}
-use Rattle.lrup_model.specs.declared.layout.Owner.{Owner}
-use Rattle.lrup_model.specs.declared.layout.Owner.TheVariants as owners
-use Rattle.lrup_model.specs.declared.clause_map.Published.TheVariants as publishing
+use Rattle.lrup_model.specs.Place.{Caller, IsCaller, Kept, Place, AllFollow, KeepsSpelt}
 
--- the event makes this identity live
-abbrev pub makes_live : ℕ → Event → Bool
-makes_live id (events.fetch s j r) = false
-makes_live id (events.publish s j c publishing.Done) = j == id
-makes_live id (events.publish s j c publishing.Taken) = false
-makes_live id (events.retire s j r) = false
+-- what is kept for the clause of an identity
+pub record Spelling : Type 0 where
+  pub id : ℕ
+  pub kept : Kept
 
--- the events before the one that makes the identity live
-abbrev pub before_live : ℕ → History → History
-before_live id [] = []
-before_live id (e ∷ es) = if makes_live id e then [] else e ∷ before_live id es
+-- what the list keeps for an identity
+abbrev pub kept_in : List Spelling → ℕ → Option Kept
+kept_in [] id = None
+kept_in (x ∷ xs) id = if x.id == id then Some x.kept else kept_in xs id
 
--- a stream's first place in the row: behind the identities, the formula's literals, and the places of the streams before it
-abbrev pub first_place : Plan → ℕ → ℕ
-first_place p s = last_identity p + p.literals + 1 + (s - 1) * p.room
+-- no identity stands twice
+abbrev pub IsOncePerIdentity : List Spelling → Type 0
+IsOncePerIdentity [] = Unit {0}
+IsOncePerIdentity (x ∷ xs) = (kept_in xs x.id ≡ None) × IsOncePerIdentity xs
 
--- Where the identity's clause starts: a formula's clause behind the literals of those before it, a derived one behind what its stream had published before.
-abbrev pub start_for : Cnf → Plan → History → ℕ → Owner → ℕ
-start_for f p h id owners.Formula = last_identity p + 1 + sum_by length (take (id - 1) f.clauses)
-start_for f p h id (owners.Stream s) = first_place p s + spent s (before_live id h)
-start_for f p h id owners.Outside = 0
+-- what is kept is the slot's clause, and nothing for an absent one
+abbrev pub Spells : Slot → Option Kept → Type 0
+Spells absent None = Unit {0}
+Spells absent (Some kept) = ⊥
+Spells (live c) None = ⊥
+Spells (live c) (Some kept) = kept.literals ≡ c
+Spells (retired c) None = ⊥
+Spells (retired c) (Some kept) = kept.literals ≡ c
 
-abbrev pub kept_at : ℕ → Slot → Option Kept
-kept_at start absent = None
-kept_at start (live c) = Some (record { start = start; literals = c })
-kept_at start (retired c) = Some (record { start = start; literals = c })
+-- exactly the identities live or retired after the history are kept, each once, with its clause
+pub record IsSpelt (f : Cnf) (h : History) (xs : List Spelling) : Type 0 where
+  pub once : IsOncePerIdentity xs
+  pub slots : (id : ℕ) → Spells (state f h id) (kept_in xs id)
 
--- for each identity live or retired after the history, its start and its clause's literals
-abbrev pub spelt : Cnf → Plan → History → ℕ → Option Kept
-spelt f p h id = kept_at (start_for f p h id (owner p id)) (state f h id)
-
--- seen is a history, mine are the calls made through the pass, in order
+-- Seen is a history, mine are the calls made through the pass, in order. Where a clause lies is the store's choice: spelt is what it chose.
 pub record View : Type 0 where
-  pub formula : Cnf
-  pub layout : Plan
-  pub stream : ℕ
+  pub caller : Caller
   pub seen : History
   pub mine : History
+  pub spelt : List Spelling
 
--- what was seen is legal, and has this stream's calls just as they were made
+-- what was seen is legal, has this stream's calls just as they were made, and is spelt
 pub record IsFair (v : View) : Type 0 where
-  pub legal : IsLegal v.formula v.layout v.seen
-  pub mine : own v.seen v.stream ≡ v.mine
+  pub caller : IsCaller v.caller
+  pub legal : IsLegal v.caller.formula v.caller.layout v.seen
+  pub mine : own v.seen v.caller.stream ≡ v.mine
+  pub spelt : IsSpelt v.caller.formula v.seen v.spelt
 
 -- what a caller knows at a pass
-abbrev pub place_of : View → Place
-place_of v = record {
-  formula = v.formula;
-  layout = v.layout;
-  stream = v.stream;
-  own = state v.formula v.mine;
-  room = v.layout.room - spent v.stream v.mine;
-  spelt = spelt v.formula v.layout v.seen;
+abbrev pub pass_place : View → Place
+pass_place v = record {
+  caller = v.caller;
+  own = state v.caller.formula v.mine;
+  room = v.caller.layout.room - spent v.caller.stream v.mine;
+  spelt = kept_in v.spelt;
 }
 
 -- the pass went on by these calls of its own, and by whatever it saw of others
 pub record PassMoves (old new : View) (es : History) : Type 0 where
-  pub formula : new.formula ≡ old.formula
-  pub layout : new.layout ≡ old.layout
-  pub stream : new.stream ≡ old.stream
-  pub callers : AllByRecursion (λ e. stream_of e ≡ old.stream) es
+  pub caller : new.caller ≡ old.caller
+  pub callers : AllByRecursion (λ e. stream_of e ≡ old.caller.stream) es
   pub mine : new.mine ≡ old.mine ++ es
   pub seen : (more : History) × (new.seen ≡ old.seen ++ more)
-  pub room : (place_of new).room + spent old.stream es ≡ (place_of old).room
+  pub room : (pass_place new).room + spent old.caller.stream es ≡ (pass_place old).room
+  pub spelt : KeepsSpelt (kept_in old.spelt) (kept_in new.spelt)
   pub fair : IsFair old → IsFair new
-  pub spelt : KeepsSpelt (spelt old.formula old.layout old.seen) (spelt new.formula new.layout new.seen)
+  pub follow : AllFollow (pass_place old) → AllFollow (pass_place new)
+
+-- Two passes of one store have met: both have seen one history, which begins with what each had seen, and no more where one had seen all that
+-- the other had. Neither made a call.
+pub record Meets (old old' new new' : View) : Type 0 where
+  pub one : new'.seen ≡ new.seen
+  pub first : PassMoves old new []
+  pub second : PassMoves old' new' []
+  pub fair : IsFair new
+  pub fair' : IsFair new'
+  pub longer : (more : History) → old.seen ≡ old'.seen ++ more → new.seen ≡ old.seen
+  pub longer' : (more : History) → old'.seen ≡ old.seen ++ more → new.seen ≡ old'.seen
+
+-- the pass meets each of the others in turn
+abbrev pub MeetsInTurn : View → List View → View → List View → Type 0
+MeetsInTurn v [] w [] = w ≡ v
+MeetsInTurn v (x ∷ xs) w (y ∷ ys) = (u : View) × Meets v x u y × MeetsInTurn u xs w ys
+MeetsInTurn v [] w (y ∷ ys) = ⊥
+MeetsInTurn v (x ∷ xs) w [] = ⊥
+
+-- all have seen this history
+abbrev pub AllSaw : History → List View → Type 0
+AllSaw h vs = AllByRecursion (λ v. v.seen ≡ h) vs

@@ -1,12 +1,25 @@
 -- What a caller knows at its place at a clause map (this project's own).
 use Rattle.std.specs.Prelude.{◌≡◌, ◌+◌, ℕ, [], length, Option, None, Some}
 use Rattle.std.specs.List.{AllByRecursion}
-use Rattle.lrup_model.specs.Clause.{Clause, IsClause}
-use Rattle.lrup_model.specs.Formula.{Cnf}
-use Rattle.lrup_model.specs.Entailment.{Follows}
-use Rattle.lrup_model.specs.Layout.{Plan, Owns}
+use Rattle.lrup_model.specs.Clause.{Clause}
+use Rattle.lrup_model.specs.Formula.{Cnf, IsCnf}
+use Rattle.lrup_model.specs.Entailment.{IsDerived}
+use Rattle.lrup_model.specs.Layout.{LayoutValue, IsLayout, IsStream, Fits, Owns}
 use Rattle.lrup_model.specs.Event.{History, stream_of, spent}
-use Rattle.lrup_model.specs.State.{State, run}
+use Rattle.lrup_model.specs.State.{State, run, AreVacantAbove}
+
+-- what never changes at a place: the formula and the layout of the run, and the stream that calls
+pub record Caller : Type 0 where
+  pub formula : Cnf
+  pub layout : LayoutValue
+  pub stream : ℕ
+
+-- the layout is one for the formula, and has the stream
+pub record IsCaller (c : Caller) : Type 0 where
+  pub formula : IsCnf c.formula
+  pub layout : IsLayout c.layout
+  pub fits : Fits c.layout c.formula
+  pub stream : IsStream c.layout c.stream
 
 -- where a clause of the formula or a published one lies, and its literals in the order in which they lie there, each once
 pub record Kept : Type 0 where
@@ -15,15 +28,13 @@ pub record Kept : Type 0 where
 
 -- own is what the map has at the identities of this stream; room is what is left of it, in literals; spelt is what is kept for the clauses seen
 pub record Place : Type 0 where
-  pub formula : Cnf
-  pub layout : Plan
-  pub stream : ℕ
+  pub caller : Caller
   pub own : State
   pub room : ℕ
   pub spelt : ℕ → Option Kept
 
--- a name of a clause of the formula or of a published one: its identity, the count of its literals, its place
-pub record ClauseName : Type 0 where
+-- a clip of a clause of the formula or of a published one: its identity, the count of its literals, its place
+pub record ClipValue : Type 0 where
   pub id : ℕ
   pub len : ℕ
   pub start : ℕ
@@ -32,16 +43,22 @@ abbrev pub literals_in : Option Kept → Clause
 literals_in None = []
 literals_in (Some kept) = kept.literals
 
--- the literals of the clause that is kept for the name's identity
-abbrev pub text_of : Place → ClauseName → Clause
+-- the literals of the clause that is kept for the clip's identity
+abbrev pub text_of : Place → ClipValue → Clause
 text_of p clip = literals_in (p.spelt clip.id)
 
--- the start and the length kept for the identity are the name's own, and the clause follows from the formula
-pub record IsKnown (p : Place) (clip : ClauseName) : Type 0 where
+-- the start and the length kept for the identity are the clip's own
+pub record IsKnown (p : Place) (clip : ClipValue) : Type 0 where
   pub kept : p.spelt clip.id ≡ Some (record { start = clip.start; literals = text_of p clip })
   pub len : clip.len ≡ length (text_of p clip)
-  pub clause : IsClause p.formula.vars (text_of p clip)
-  pub follows : Follows p.formula (text_of p clip)
+
+-- every clause that is kept follows from the formula
+pub record AllFollow (p : Place) : Type 0 where
+  pub each : (id : ℕ) (kept : Kept) → p.spelt id ≡ Some kept → IsDerived p.caller.formula kept.literals
+
+-- the caller's own identities above the last that it published have nothing
+abbrev pub IsVacantAbove : Place → ℕ → Type 0
+IsVacantAbove p last = AreVacantAbove p.caller.layout p.caller.stream p.own last
 
 -- what is kept for a clause stays
 abbrev pub KeepsSpelt : (ℕ → Option Kept) → (ℕ → Option Kept) → Type 0
@@ -49,10 +66,9 @@ KeepsSpelt old new = (id : ℕ) (kept : Kept) → old id ≡ Some kept → new i
 
 -- what the events between two moments of a place say of it
 pub record Tells (old new : Place) (es : History) : Type 0 where
-  pub formula : new.formula ≡ old.formula
-  pub layout : new.layout ≡ old.layout
-  pub stream : new.stream ≡ old.stream
-  pub callers : AllByRecursion (λ e. stream_of e ≡ old.stream) es
-  pub room : new.room + spent old.stream es ≡ old.room
-  pub own : (id : ℕ) → Owns old.layout old.stream id → new.own id ≡ run old.own es id
+  pub caller : new.caller ≡ old.caller
+  pub callers : AllByRecursion (λ e. stream_of e ≡ old.caller.stream) es
+  pub room : new.room + spent old.caller.stream es ≡ old.room
+  pub own : (id : ℕ) → Owns old.caller.layout old.caller.stream id → new.own id ≡ run old.own es id
   pub spelt : KeepsSpelt old.spelt new.spelt
+  pub follow : AllFollow old → AllFollow new

@@ -1,15 +1,15 @@
 -- The clause map of one thread, as its contracts see it, and a stream's desk at it (this project's own).
-use Rattle.std.specs.Prelude.{◌≡◌, ◌≢◌, ◌+◌, ◌-◌, ◌<◌, ℕ, List, [], length, map, take, drop, slice_index, slice_index_or, slice_set, Option, None, Some}
+use Rattle.std.specs.Prelude.{◌≡◌, ◌≢◌, ◌+◌, ◌-◌, ◌<◌, ◌≤◌, ℕ, List, [], length, map, take, drop, slice_index, slice_index_or, slice_set, Option, None, Some}
 use Rattle.std.specs.List.{AllByRecursion}
-use Rattle.lrup_model.specs.Clause.{Clause, IsClause}
+use Rattle.lrup_model.specs.Clause.{Clause}
 use Rattle.lrup_model.specs.Formula.{Cnf}
-use Rattle.lrup_model.specs.Entailment.{Follows}
-use Rattle.lrup_model.specs.Layout.{Plan}
+use Rattle.lrup_model.specs.Entailment.{IsDerived}
+use Rattle.lrup_model.specs.Layout.{LayoutValue}
 use Rattle.lrup_model.specs.Event.{History, stream_of, spent}
 use Rattle.lrup_model.specs.State.{Slot, absent, State, run, IsLive}
 use Rattle.lrup_model.specs.State as slots
 use Rattle.lrup_model.specs.History.{LegalFrom}
-use Rattle.lrup_model.specs.Place.{Kept, Place, KeepsSpelt}
+use Rattle.lrup_model.specs.Place.{Kept, Place, KeepsSpelt, AllFollow}
 use Rattle.lrup_model.specs.declared.clause_map.Fetched.{Fetched}
 use Rattle.lrup_model.specs.declared.clause_map.Fetched.TheVariants as fetched
 use Rattle.lrup_model.specs.declared.clause_map.Published.{Published}
@@ -25,7 +25,7 @@ pub data Stored : Type 0 where
 
 -- stored begins with identity 0, under which there is nothing; free is what is left of each stream's room
 pub record Plain : Type 0 where
-  pub layout : Plan
+  pub layout : LayoutValue
   pub stored : List Stored
   pub free : List ℕ
 
@@ -58,12 +58,14 @@ state_of m = λ id. slot_of (stored_at m id)
 abbrev pub free_at : Plain → ℕ → ℕ
 free_at m s = slice_index m.free (s - 1)
 
+-- the formula's clauses are live, for good
+abbrev pub IsFormulaLive : Plain → Type 0
+IsFormulaLive m = (id : ℕ) → 0 < id → id ≤ m.layout.clauses → (kept : Kept) × (stored_at m id ≡ live kept)
+
 -- what a stream's caller knows at the map
-abbrev pub place_at : Plain → ℕ → Place
-place_at m s = record {
-  formula = formula_of m;
-  layout = m.layout;
-  stream = s;
+abbrev pub plain_place : Plain → ℕ → Place
+plain_place m s = record {
+  caller = record { formula = formula_of m; layout = m.layout; stream = s };
   own = state_of m;
   room = free_at m s;
   spelt = λ id. kept_of (stored_at m id);
@@ -79,6 +81,7 @@ pub record PlainMoves (old new : Plain) (s : ℕ) (es : History) : Type 0 where
   pub room : free_at new s + spent s es ≡ free_at old s
   pub others : (t : ℕ) → 0 < t → t ≢ s → free_at new t ≡ free_at old t
   pub spelt : KeepsSpelt (λ id. kept_of (stored_at old id)) (λ id. kept_of (stored_at new id))
+  pub follow : AllFollow (plain_place old s) → AllFollow (plain_place new s)
 
 -- what a fetch of the identity answers where this is stored
 abbrev pub fetched_of : ℕ → Stored → Fetched
@@ -89,8 +92,8 @@ fetched_of id (retired kept) = fetched.Retired
 -- the clause of what is stored follows from the formula
 abbrev pub StoresClause : Cnf → Stored → Type 0
 StoresClause f vacant = Unit {0}
-StoresClause f (live kept) = IsClause f.vars kept.literals × Follows f kept.literals
-StoresClause f (retired kept) = IsClause f.vars kept.literals × Follows f kept.literals
+StoresClause f (live kept) = IsDerived f kept.literals
+StoresClause f (retired kept) = IsDerived f kept.literals
 
 -- the map after a publish, and after a retire, by its answer; i is the stream's place in the list of rooms, from 0 on
 abbrev pub AfterPublish : Plain → Plain → ℕ → ℕ → Clause → Published → Type 0

@@ -2,9 +2,9 @@
 use Rattle.std.specs.Prelude.{◌≡◌, ◌+◌, ◌≤◌, ℕ, ℤ, List, [], ◌∷◌, ◌++◌, length, map, sum, slice_range}
 use Rattle.std.specs.List.{AllByRecursion}
 use Rattle.lrup_model.specs.Clause.{Clause}
-use Rattle.lrup_model.specs.Layout.{Plan, IsPlan, last_identity, max_row_words}
+use Rattle.lrup_model.specs.Layout.{LayoutValue, IsLayout, last_identity, max_row_words}
 use Rattle.lrup_model.specs.Plain as plain
-use Rattle.lrup_model.specs.Plain.{Stored, Plain, formula_of, StoresClause}
+use Rattle.lrup_model.specs.Plain.{Stored, Plain, formula_of, IsFormulaLive, StoresClause}
 use Rattle.lrup_model.specs.declared.plain_map.Entry.{Entry}
 use Rattle.lrup_model.specs.declared.plain_map.Entry.TheVariants as entries
 
@@ -14,7 +14,7 @@ stored_in ls entries.Vacant = plain.vacant
 stored_in ls (entries.Live start len) = plain.live (record { start = start; literals = slice_range ls start (start + len) })
 stored_in ls (entries.Retired start len) = plain.retired (record { start = start; literals = slice_range ls start (start + len) })
 
-abbrev pub plain_of : Plan → List Entry → List ℤ → List ℕ → Plain
+abbrev pub plain_of : LayoutValue → List Entry → List ℤ → List ℕ → Plain
 plain_of p es ls free = record { layout = p; stored = map (stored_in ls) es; free = free }
 
 -- the entry's literals lie in the list
@@ -24,16 +24,17 @@ LiesWithin n (entries.Live start len) = start + len ≤ n
 LiesWithin n (entries.Retired start len) = start + len ≤ n
 
 -- capacity is what the list of literals has memory for: no publish takes more
-pub record IsSound (p : Plan) (es : List Entry) (ls : List ℤ) (free : List ℕ) (capacity : ℕ) : Type 0 where
-  pub plan : IsPlan p
+pub record IsSound (p : LayoutValue) (es : List Entry) (ls : List ℤ) (free : List ℕ) (capacity : ℕ) : Type 0 where
+  pub limits : IsLayout p
   pub count : length es ≡ last_identity p + 1
   pub streams : length free ≡ p.streams
   pub within : AllByRecursion (LiesWithin (length ls)) es
   pub reserved : length ls + sum free ≤ capacity
   pub small : length ls + sum free ≤ max_row_words
+  pub formula : IsFormulaLive (plain_of p es ls free)
   pub clauses : AllByRecursion (StoresClause (formula_of (plain_of p es ls free))) (map (stored_in ls) es)
 
--- the literals of all clauses, one clause behind the other
+-- the literals of all clauses, one clause after the other
 abbrev pub flat : List Clause → List ℤ
 flat [] = []
 flat (c ∷ cs) = c ++ flat cs

@@ -1,11 +1,13 @@
 -- The laws of a place, for the clause map of one thread.
 use Rattle.std.specs.Prelude.{◌++◌, ℕ, []}
-use Rattle.std.proofs.Common.{refl, sym, ap, subst, ◌∙◌, arith}
+use Rattle.std.proofs.Common.{refl, sym, ap, ap₂, subst, ◌∙◌, arith}
+use Rattle.lrup_model.specs.Formula.{Cnf}
+use Rattle.lrup_model.specs.Layout.{LayoutValue}
 use Rattle.lrup_model.specs.Event.{History}
 use Rattle.lrup_model.specs.State.{State, run}
 use Rattle.lrup_model.specs.History.{LegalFrom}
 use Rattle.lrup_model.specs.Place.{Tells}
-use Rattle.lrup_model.specs.Plain.{Plain, formula_of, state_of, place_at, PlainMoves}
+use Rattle.lrup_model.specs.Plain.{Plain, formula_of, state_of, plain_place, PlainMoves}
 use Rattle.lrup_model.specs.Running.{run-append, legal-append, spent-append, callers-append}
 
 pub moves_none : (m : Plain) (s : ℕ) → PlainMoves m m s []
@@ -18,6 +20,7 @@ moves_none m s = record {
   room = omega arith;
   others = λ t positive other. refl;
   spelt = λ id kept old. old;
+  follow = λ all. all;
 }
 
 pub moves_append : (a b c : Plain) (s : ℕ) (es fs : History) → PlainMoves a b s es → PlainMoves b c s fs → PlainMoves a c s (es ++ fs)
@@ -35,15 +38,15 @@ moves_append a b c s es fs h k = record {
   room = omega (arith, spent-append s es fs, h.room, k.room);
   others = λ t positive other. k.others t positive other ∙ h.others t positive other;
   spelt = λ id kept old. k.spelt id kept (h.spelt id kept old);
+  follow = λ all. k.follow (h.follow all);
 }
 
-pub moves_tells : (a b : Plain) (s : ℕ) (es : History) → PlainMoves a b s es → Tells (place_at a s) (place_at b s) es
+pub moves_tells : (a b : Plain) (s : ℕ) (es : History) → PlainMoves a b s es → Tells (plain_place a s) (plain_place b s) es
 moves_tells a b s es h = record {
-  formula = h.formula;
-  layout = h.layout;
-  stream = refl;
+  caller = ap₂ (λ (f : Cnf) (p : LayoutValue). record { formula = f; layout = p; stream = s }) h.formula h.layout;
   callers = h.callers;
   room = h.room;
   own = λ id owns. ap (λ (m : State). m id) h.state;
   spelt = h.spelt;
+  follow = h.follow;
 }

@@ -5,7 +5,7 @@ use Rattle.std.proofs.Common.{refl, ap, ◌∙◌}
 use Rattle.std.proofs.lemmas.List.Elements.{filter-append}
 use Rattle.std.proofs.lemmas.List.Sums.{sum_by-append}
 use Rattle.lrup_model.specs.Formula.{Cnf}
-use Rattle.lrup_model.specs.Layout.{Plan}
+use Rattle.lrup_model.specs.Layout.{LayoutValue}
 use Rattle.lrup_model.specs.Event.{History, stream_of, size_of, own, spent}
 use Rattle.lrup_model.specs.State.{State, after, run}
 use Rattle.lrup_model.specs.History.{LegalFrom}
@@ -14,7 +14,7 @@ pub run-append : (m : State) (g h : History) → run m (g ++ h) ≡ run (run m g
 run-append m [] h = refl
 run-append m (e ∷ g) h = run-append (after m e) g h
 
-pub legal-append : (f : Cnf) (p : Plan) (m : State) (g h : History) → LegalFrom f p m g → LegalFrom f p (run m g) h → LegalFrom f p m (g ++ h)
+pub legal-append : (f : Cnf) (p : LayoutValue) (m : State) (g h : History) → LegalFrom f p m g → LegalFrom f p (run m g) h → LegalFrom f p m (g ++ h)
 legal-append f p m [] h front back = back
 legal-append f p m (e ∷ g) h front back = (front.0, front.1, legal-append f p (after m e) g h front.2 back)
 

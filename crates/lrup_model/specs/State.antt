@@ -1,7 +1,8 @@
 -- The clause map of one thread: what it has at an identity, and how an event changes it (this project's own).
-use Rattle.std.specs.Prelude.{◌≡◌, ◌≢◌, ◌==◌, ◌&&◌, ℕ, [], ◌∷◌, length, if◌then◌else◌, nat_le, nat_lt}
+use Rattle.std.specs.Prelude.{◌≡◌, ◌≢◌, ◌<◌, ◌==◌, ◌&&◌, ℕ, [], ◌∷◌, length, if◌then◌else◌, nat_le, nat_lt}
 use Rattle.lrup_model.specs.Clause.{Clause}
 use Rattle.lrup_model.specs.Formula.{Cnf, clause_at}
+use Rattle.lrup_model.specs.Layout.{LayoutValue, Owns}
 use Rattle.lrup_model.specs.Event as events
 use Rattle.lrup_model.specs.Event.{Event, History}
 use Rattle.lrup_model.specs.declared.clause_map.Published.TheVariants as publishing
@@ -66,3 +67,7 @@ Answers m (events.publish s id c publishing.Done) = m id ≡ absent
 Answers m (events.publish s id c publishing.Taken) = m id ≢ absent
 Answers m (events.retire s id retiring.Done) = IsLive (m id)
 Answers m (events.retire s id retiring.NotLive) = ¬ IsLive (m id)
+
+-- the stream's own identities above one have nothing
+abbrev pub AreVacantAbove : LayoutValue → ℕ → State → ℕ → Type 0
+AreVacantAbove p s m last = (id : ℕ) → Owns p s id → last < id → m id ≡ absent

@@ -2,7 +2,7 @@
 use Rattle.std.specs.Prelude.{pos, negsuc, [], ◌∷◌}
 use Rattle.lrup_model.specs.Clause.{Clause}
 use Rattle.lrup_model.specs.Formula.{Cnf}
-use Rattle.lrup_model.specs.Layout.{Plan}
+use Rattle.lrup_model.specs.Layout.{LayoutValue}
 use Rattle.lrup_model.specs.Event.{History, vacant, live, retired, fetch, publish, retire}
 use Rattle.lrup_model.specs.declared.clause_map.Published.TheVariants as publishing
 use Rattle.lrup_model.specs.declared.clause_map.Retired.TheVariants as retiring
@@ -27,7 +27,7 @@ four = record { vars = 2; clauses = first ∷ second ∷ third ∷ fourth ∷ []
 abbrev pub unit : Clause
 unit = pos 2 ∷ []
 
-abbrev pub one_line : Plan
+abbrev pub one_line : LayoutValue
 one_line = record { vars = 2; clauses = 4; literals = 8; streams = 1; lines = 1; room = 2 }
 
 -- stream 1 publishes the unit clause under 5, retires it, and can do neither again

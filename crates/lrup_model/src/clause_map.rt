@@ -4,14 +4,14 @@ ghost use Rattle.lrup_model.specs.Layout.{IsIdentity, Owns};
 ghost use Rattle.lrup_model.specs.State.{IsLive, absent};
 ghost use Rattle.lrup_model.specs.Event.{History, fetch, publish, retire};
 ghost use Rattle.lrup_model.specs.History.{IsPublishable};
-ghost use Rattle.lrup_model.specs.Place.{Place, Tells, IsKnown, text_of};
-ghost use Rattle.lrup_model.specs.Replies.{IsFetched, reply_of};
+ghost use Rattle.lrup_model.specs.Place.{Place, Tells, IsKnown, AllFollow, text_of};
+ghost use Rattle.lrup_model.specs.Replies.{IsFetched, AnswersOwn, AnswersFormula, reply_of};
 
 use crate::Id;
 use crate::lit::Lit;
 use std::marker::Model;
 
-/// The name of a clause at one clause map: its identity, the count of its literals and the place of the first.
+/// A clause at one clause map: its identity, the count of its literals and the place of the first.
 #[derive(Clone, Copy, Debug, PartialEq, Eq)]
 pub struct Clip {
     id: Id,
@@ -20,9 +20,9 @@ pub struct Clip {
 }
 
 impl Model for Clip {
-    ghost use Rattle.lrup_model.specs.Place.{ClauseName};
+    ghost use Rattle.lrup_model.specs.Place.{ClipValue};
 
-    ghost Value = { ClauseName };
+    ghost Value = { ClipValue };
 
     ghost view = { λ c. record { id = c.id; len = c.len; start = c.start } };
 
@@ -30,7 +30,7 @@ impl Model for Clip {
 }
 
 impl Clip {
-    /// The name of these three. A name is used only where it is known, as those are that a fetch gave.
+    /// The clip of these three. A clip is used only where it is known, as those are that a fetch gave.
     pub fn new(id: Id, len: u32, start: u32) -> Clip
         ensures { result ≡ record { id = id; len = len; start = start } }
     {
@@ -51,7 +51,7 @@ impl Clip {
         self.len
     }
 
-    /// Is it a name of the empty clause?
+    /// Is it a clip of the empty clause?
     pub fn is_empty(&self) -> bool
         ensures { IsTrue result ↔ (self.now.len ≡ 0) }
     {
@@ -105,27 +105,31 @@ pub trait ClauseMap {
 
     /// The caller's stream, from 1 on.
     fn stream(&self) -> u64
-        ensures { result ≡ (place self.now).stream };
+        ensures { result ≡ (place self.now).caller.stream };
 
     /// Is this an identity: 1 to the last?
     fn covers(&self, id: Id) -> bool
-        ensures { IsTrue result ↔ IsIdentity (place self.now).layout id };
+        ensures { IsTrue result ↔ IsIdentity (place self.now).caller.layout id };
 
     /// Is this identity the caller's own?
     fn owns(&self, id: Id) -> bool
-        ensures { IsTrue result ↔ Owns (place self.now).layout (place self.now).stream id };
+        ensures { IsTrue result ↔ Owns (place self.now).caller.layout (place self.now).caller.stream id };
 
     /// What is left of the caller's room, in literals: a publish with Done takes the clause's length, and nothing gives any back.
     fn room(&self) -> u64
         ensures { result ≡ (place self.now).room };
 
-    /// What the map has under an identity.
+    /// What the map has under an identity. A formula's clause is always live, and the caller's own identities have what its
+    /// calls left there. Every clause that the caller has seen by now follows from the formula.
     fn fetch(&mut self, id: Id) -> Fetched
-        requires { IsIdentity (place self.old).layout id }
-        ensures event { moves self.old self.new (fetch (place self.old).stream id (reply_of (place self.new) result) ∷ []) }
-        ensures fetched { IsFetched (place self.new) id result };
+        requires { IsIdentity (place self.old).caller.layout id }
+        ensures event { moves self.old self.new (fetch (place self.old).caller.stream id (reply_of (place self.new) result) ∷ []) }
+        ensures fetched { IsFetched (place self.new) id result }
+        ensures own { AnswersOwn (place self.old) id (reply_of (place self.new) result) }
+        ensures formula { AnswersFormula (place self.old) id (reply_of (place self.new) result) }
+        ensures follow { AllFollow (place self.new) };
 
-    /// Literal `k`, from 0 on, of a clause whose name is known here. The order isn't promised, and stays.
+    /// Literal `k`, from 0 on, of a clause whose clip is known here. The order isn't promised, and stays.
     fn literal(&mut self, clip: &Clip, k: u32) -> Lit
         requires known { IsKnown (place self.old) clip.now }
         requires within { k < clip.now.len }
@@ -135,16 +139,16 @@ pub trait ClauseMap {
 
     /// Publishes a clause that follows from the formula, of at most 65,535 literals, under an identity of the caller's own.
     fn publish(&mut self, id: Id, clause: &[Lit]) -> Published
-        requires owns { Owns (place self.old).layout (place self.old).stream id }
-        requires clause { IsPublishable (place self.old).formula clause.now }
+        requires owns { Owns (place self.old).caller.layout (place self.old).caller.stream id }
+        requires clause { IsPublishable (place self.old).caller.formula clause.now }
         requires room { length clause.now ≤ (place self.old).room }
-        ensures event { moves self.old self.new (publish (place self.old).stream id clause.now result ∷ []) }
+        ensures event { moves self.old self.new (publish (place self.old).caller.stream id clause.now result ∷ []) }
         ensures done { (result ≡ Published.Done) ↔ ((place self.old).own id ≡ absent) };
 
     /// Retires the clause under an identity of the caller's own.
     fn retire(&mut self, id: Id) -> Retired
-        requires { Owns (place self.old).layout (place self.old).stream id }
-        ensures event { moves self.old self.new (retire (place self.old).stream id result ∷ []) }
+        requires { Owns (place self.old).caller.layout (place self.old).caller.stream id }
+        ensures event { moves self.old self.new (retire (place self.old).caller.stream id result ∷ []) }
         ensures done { (result ≡ Retired.Done) ↔ IsLive ((place self.old).own id) };
 
     /// No events lie between a moment and itself.

@@ -1,18 +1,18 @@
 //! Laws of the definitions. Each function does nothing; its contract is the law, which holds of every formula, layout,
 //! history and pass.
-ghost use Rattle.lrup_model.specs.Laws.{RunsInTurn, LegalInTurn, OwnInTurn, SpentInTurn, BeginningsLegal, FormulaStays, OwnCallsDecide, EntriesAdvance, OwnersAct, OneOwner, PropagationSound, EmptyClauseRefutes, ClausesFollow, KnownStays, PassRests, PassMovesInTurn, PassTells, SpeltStays, SpeltFollows, PassLearns, PassSteps, AmongMembers, AmongKeepsOwn, RestrictionLegal, OwnLegal};
+ghost use Rattle.lrup_model.specs.Laws.{RunsInTurn, LegalInTurn, OwnInTurn, SpentInTurn, BeginningsLegal, FormulaStays, OwnCallsDecide, OwnCallsDecideFrom, OthersLeaveOwn, VacantAboveStays, PublishedInTurn, PublishedFollow, PublishedStay, EntriesAdvance, OwnersAct, OneOwner, PropagationSound, EmptyClauseRefutes, ClausesFollow, KnownStays, KnownFollows, PassRests, PassMovesInTurn, PassTells, FairFollows, SpeltStays, PassGoesOn, PassLearns, PassSteps, MeetsTwice, AmongMembers, AmongKeepsOwn, RestrictionLegal, OwnLegal};
 
-/// The state after two histories, one behind the other, is the second's after the first's.
+/// The state after two histories, one after the other, is the second's after the first's.
 pub fn runs_in_turn()
     ensures { RunsInTurn }
 {}
 
-/// Two histories, one behind the other, are legal exactly if each is, the second from the state that the first leaves.
+/// Two histories, one after the other, are legal exactly if each is, the second from the state that the first leaves.
 pub fn legal_in_turn()
     ensures { LegalInTurn }
 {}
 
-/// A stream's own events of two histories, one behind the other, are those of the first and then those of the second.
+/// A stream's own events of two histories, one after the other, are those of the first and then those of the second.
 pub fn own_in_turn()
     ensures { OwnInTurn }
 {}
@@ -35,6 +35,36 @@ pub fn formula_stays()
 /// What a legal history has at a stream's own identity depends on that stream's calls alone.
 pub fn own_calls_decide()
     ensures { OwnCallsDecide }
+{}
+
+/// What a legal history has at a stream's own identity depends on what was there and on that stream's calls alone.
+pub fn own_calls_decide_from()
+    ensures { OwnCallsDecideFrom }
+{}
+
+/// The legal events of other streams leave a stream's own identities alone.
+pub fn others_leave_own()
+    ensures { OthersLeaveOwn }
+{}
+
+/// Where a stream's own identities above one have nothing, they have nothing after legal events of others.
+pub fn vacant_above_stays()
+    ensures { VacantAboveStays }
+{}
+
+/// What two histories published, one after the other, is what each published.
+pub fn published_in_turn()
+    ensures { PublishedInTurn }
+{}
+
+/// Each clause that a legal history published follows from the formula.
+pub fn published_follow()
+    ensures { PublishedFollow }
+{}
+
+/// Each clause that a legal history published stands under its identity for good, live or retired.
+pub fn published_stay()
+    ensures { PublishedStay }
 {}
 
 /// An entry goes from absent to live to retired, with one clause.
@@ -67,9 +97,14 @@ pub fn clauses_follow()
     ensures { ClausesFollow }
 {}
 
-/// A name that is known at a place stays known, with the same literals, whatever calls follow.
+/// A clip that is known at a place stays known, with the same literals, whatever calls follow.
 pub fn known_stays()
     ensures { KnownStays }
+{}
+
+/// Where all clauses of a place follow from the formula, the clause of a known clip does.
+pub fn known_follows()
+    ensures { KnownFollows }
 {}
 
 /// No calls lie between a pass and itself.
@@ -87,24 +122,34 @@ pub fn pass_tells()
     ensures { PassTells }
 {}
 
-/// What is spelt after a history is spelt the same after any legal one that begins with it.
+/// Every clause that a fair pass keeps follows from the formula.
+pub fn fair_follows()
+    ensures { FairFollows }
+{}
+
+/// What is kept for a clause has the same literals after any legal history that goes on.
 pub fn spelt_stays()
     ensures { SpeltStays }
 {}
 
-/// What is spelt after a legal history is a clause that follows from the formula.
-pub fn spelt_follows()
-    ensures { SpeltFollows }
+/// A fair pass that is a later one of a fair pass has moved by the calls that it made.
+pub fn pass_goes_on()
+    ensures { PassGoesOn }
 {}
 
-/// A pass that sees more events of others has moved by no call.
+/// A fair pass that sees more events of others is fair, and has moved by no call.
 pub fn pass_learns()
     ensures { PassLearns }
 {}
 
-/// A fair pass moves by one call of its own, whatever it saw of others before.
+/// A fair pass moves by one call of its own, whatever it saw of others before, and is fair.
 pub fn pass_steps()
     ensures { PassSteps }
+{}
+
+/// A pass that meets all others in turn, and then all again, leaves all at one history.
+pub fn meets_twice()
+    ensures { MeetsTwice }
 {}
 
 /// The events among those of a set of streams are of these streams alone.

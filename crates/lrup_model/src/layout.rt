@@ -1,7 +1,7 @@
 //! The numbers of a run, and who owns an identity.
 ghost use Rattle.std.specs.Prelude.{◌≡◌, ◌↔◌, ◌+◌, ◌*◌, ◌≤◌, ◌<◌, IsTrue, IfOk, IfErr, Some};
 ghost use Rattle.lrup_model.specs.Formula.{max_clauses};
-ghost use Rattle.lrup_model.specs.Layout.{plan_of, IsPlan, IsFault, fault_text, Fits, IsIdentity, owner, last_identity, row_words, max_streams, max_row_words};
+ghost use Rattle.lrup_model.specs.Layout.{layout_value, IsLayout, IsFault, fault_text, Fits, IsIdentity, owner, last_identity, row_words, max_streams, max_row_words};
 
 use crate::formula::Formula;
 use crate::lit::Lit;
@@ -60,13 +60,13 @@ pub struct Layout {
 }
 
 impl Model for Layout {
-    ghost use Rattle.lrup_model.specs.Layout.{Plan, IsPlan};
+    ghost use Rattle.lrup_model.specs.Layout.{LayoutValue, IsLayout};
 
-    ghost Value = { Plan };
+    ghost Value = { LayoutValue };
 
     ghost view = { λ l. record { vars = l.vars; clauses = l.clauses; literals = l.literals; streams = l.streams; lines = l.lines; room = l.room } };
 
-    ghost invariant = { λ l. IsPlan (record { vars = l.vars; clauses = l.clauses; literals = l.literals; streams = l.streams; lines = l.lines; room = l.room }) };
+    ghost invariant = { λ l. IsLayout (record { vars = l.vars; clauses = l.clauses; literals = l.literals; streams = l.streams; lines = l.lines; room = l.room }) };
 
     ghost inverse = { λ p. record { vars = p.vars; clauses = p.clauses; literals = p.literals; streams = p.streams; lines = p.lines; room = p.room } };
 }
@@ -88,10 +88,10 @@ impl Layout {
         lines: u64,
         room: u64,
     ) -> Result<Layout, LayoutFault>
-        ensures layout { let plan = plan_of vars clauses literals streams lines room in
-            IfOk result (λ layout. (layout ≡ plan) × IsPlan plan) }
+        ensures layout { let layout = layout_value vars clauses literals streams lines room in
+            IfOk result (λ given. (given ≡ layout) × IsLayout layout) }
         // The first that holds, in the order of the list.
-        ensures fault { IfErr result (IsFault (plan_of vars clauses literals streams lines room)) }
+        ensures fault { IfErr result (IsFault (layout_value vars clauses literals streams lines room)) }
     {
         if vars > u64::from(Lit::MAX_VARIABLE) {
             return Err(LayoutFault::TooManyVariables);
@@ -145,7 +145,7 @@ impl Layout {
     /// The number of variables, at most 16,777,215.
     pub fn vars(&self) -> u32
         ensures vars { result ≡ self.now.vars }
-        ensures plan { IsPlan self.now }
+        ensures limits { IsLayout self.now }
     {
         self.vars
     }
@@ -153,7 +153,7 @@ impl Layout {
     /// The number of streams, 1 to 64.
     pub fn streams(&self) -> u64
         ensures streams { result ≡ self.now.streams }
-        ensures plan { IsPlan self.now }
+        ensures limits { IsLayout self.now }
     {
         self.streams as u64
     }
@@ -161,7 +161,7 @@ impl Layout {
     /// The room of each stream, in literals.
     pub fn room(&self) -> u64
         ensures room { result ≡ self.now.room }
-        ensures plan { IsPlan self.now }
+        ensures limits { IsLayout self.now }
     {
         self.room as u64
     }
@@ -169,7 +169,7 @@ impl Layout {
     /// The room of all streams together, in literals, below 2^28.
     pub fn all_room(&self) -> u64
         ensures room { result ≡ self.now.streams * self.now.room }
-        ensures plan { IsPlan self.now }
+        ensures limits { IsLayout self.now }
     {
         self.streams as u64 * self.room as u64
     }
@@ -177,7 +177,7 @@ impl Layout {
     /// The last identity, below 2^28.
     pub fn last_identity(&self) -> u64
         ensures last { result ≡ last_identity self.now }
-        ensures plan { IsPlan self.now }
+        ensures limits { IsLayout self.now }
     {
         self.clauses as u64 + self.streams as u64 * self.lines as u64
     }
@@ -186,7 +186,7 @@ impl Layout {
     /// and of the streams' room.
     pub fn row_words(&self) -> u64
         ensures words { result ≡ row_words self.now }
-        ensures plan { IsPlan self.now }
+        ensures limits { IsLayout self.now }
     {
         1 + self.last_identity() + self.literals as u64 + self.all_room()
     }

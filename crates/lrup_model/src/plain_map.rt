@@ -1,13 +1,13 @@
 //! The clause map of one thread.
 ghost use Rattle.std.specs.Prelude.{◌≡◌, ◌+◌, ◌-◌, ◌^◌, ◌≤◌, ◌<◌, Some, [], length, IfOk, slice_get, slice_index, replicate, ◌++◌, vec_len, vec_capacity};
-ghost use Rattle.lrup_model.specs.Layout.{IsPlan, Fits, IsStream, Owns, last_identity};
+ghost use Rattle.lrup_model.specs.Layout.{IsLayout, Fits, IsStream, Owns, last_identity};
 ghost use Rattle.lrup_model.specs.Formula.{literals_of};
 ghost use Rattle.lrup_model.specs.State.{opening};
 ghost use Rattle.lrup_model.specs.PlainInside.{flat, entries_from};
 ghost use Rattle.lrup_model.specs.Desk.{IsDesk};
-ghost use Rattle.lrup_model.specs.Plain.{stored_at, formula_of, state_of, place_at, fetched_of, StoresClause, AfterPublish, AfterRetire};
+ghost use Rattle.lrup_model.specs.Plain.{stored_at, formula_of, state_of, plain_place, fetched_of, IsFormulaLive, AfterPublish, AfterRetire};
 ghost use Rattle.lrup_model.specs.History.{IsPublishable};
-ghost use Rattle.lrup_model.specs.Place.{IsKnown, text_of};
+ghost use Rattle.lrup_model.specs.Place.{IsKnown, AllFollow, text_of};
 
 use crate::Id;
 use crate::clause_map::{ClauseMap, Clip, Fetched, Published, Retired};
@@ -50,11 +50,13 @@ impl Model for PlainMap {
 const _: () = prove!(size_of::<Entry>() == 12);
 
 impl PlainMap {
-    /// What a fetch of the identity answers.
+    /// What a fetch of the identity answers. That every clause follows is the same for each stream, so the contract takes
+    /// the first.
     fn look(&self, id: Id) -> Fetched
         requires { id ≤ last_identity self.now.layout }
         ensures answer { result ≡ fetched_of id (stored_at self.now id) }
-        ensures clause { StoresClause (formula_of self.now) (stored_at self.now id) }
+        ensures follow { AllFollow (plain_place self.now 1) }
+        ensures formula { IsFormulaLive self.now }
     {
         match self.entries[id as usize] {
             Entry::Vacant => Fetched::Vacant,
@@ -66,9 +68,9 @@ impl PlainMap {
     /// Literal `k` of the clause that is stored under the clip's identity. What is known of a clip is the same for each
     /// stream, so the contract takes the first.
     fn literal_of(&self, clip: &Clip, k: u32) -> Lit
-        requires known { IsKnown (place_at self.now 1) clip.now }
+        requires known { IsKnown (plain_place self.now 1) clip.now }
         requires within { k < clip.now.len }
-        ensures { slice_get (text_of (place_at self.now 1) clip.now) k ≡ Some result }
+        ensures { slice_get (text_of (plain_place self.now 1) clip.now) k ≡ Some result }
     {
         self.literals[clip.start() as usize + k as usize]
     }
@@ -167,7 +169,7 @@ impl PlainMap {
 /// The whole room of each stream.
 fn rooms(alloc: Global, layout: &Layout) -> Result<Vec<u64>, AllocError>
     ensures rooms { IfOk result (λ free. free.items ≡ replicate layout.now.streams layout.now.room) }
-    ensures plan { IsPlan layout.now }
+    ensures limits { IsLayout layout.now }
 {
     vec![in alloc; layout.room(); layout.streams() as usize]
 }
@@ -222,9 +224,9 @@ impl Drop for PlainDesk<'_> {
 }
 
 impl ClauseMap for PlainDesk<'_> {
-    ghost use Rattle.lrup_model.specs.Desk.{place_of, DeskMoves, desk_none, desk_append, desk_tells};
+    ghost use Rattle.lrup_model.specs.Desk.{desk_place, DeskMoves, desk_none, desk_append, desk_tells};
 
-    ghost place = { place_of };
+    ghost place = { desk_place };
 
     ghost moves = { DeskMoves };
 

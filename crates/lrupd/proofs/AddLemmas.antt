@@ -12,15 +12,15 @@ use Rattle.lrup_model.specs.Event as events
 use Rattle.lrup_model.specs.Event.{Event, History, own, spent, size_of, stream_of}
 use Rattle.lrup_model.specs.State.{State, absent}
 use Rattle.lrup_model.specs.History.{IsPublishable, max_line_literals}
-use Rattle.lrup_model.specs.Place.{Place, Tells}
+use Rattle.lrup_model.specs.Place.{Caller, Place, Tells, IsVacantAbove}
 use Rattle.lrup_model.specs.declared.clause_map.Published.{Published}
 use Rattle.lrup_model.specs.declared.clause_map.Published.TheVariants as publishing
-use Rattle.lrup_model.proofs.EntailmentLemmas.{accepted_follows}
+use Rattle.lrup_model.specs.EntailmentLemmas.{accepted_follows}
 use Rattle.propagate.specs.Different.{different}
 use Rattle.propagate.proofs.DifferentLemmas.{Has-different}
 use Rattle.propagate.specs.Marks.{Propagation}
 use Rattle.lrupd.specs.Additions.{IsAdmitted}
-use Rattle.lrupd.specs.Judging.{Admits, KeepsClause, IsFetch, IsVacantAbove, Judges, Shows}
+use Rattle.lrupd.specs.Judging.{Admits, KeepsClause, IsFetch, Judges, Shows}
 use Rattle.lrupd.proofs.FoundLemmas.{after_fetches, run-fetches}
 
 -- ---- fetches take no room
@@ -44,15 +44,15 @@ length-different (x ∷ ls) = omega (arith, length-different ls, length-filter_b
 -- ---- the judgement
 
 pub judged_good : (p : Place) (last id : ℕ) (lits : List ℤ) (hints : List ℕ) (es : History) (size : ℕ) → AllByRecursion IsFetch es
-    → IsAdmitted p.formula p.layout p.stream last p.room id lits → Shows p.formula p.layout (different lits) hints es true → size ≡ length (different lits)
-    → Judges p last id lits hints (es ++ events.publish p.stream id (different lits) publishing.Done ∷ []) (Some size)
+    → IsAdmitted p.caller.formula p.caller.layout p.caller.stream last p.room id lits → Shows p.caller.formula p.caller.layout (different lits) hints es true → size ≡ length (different lits)
+    → Judges p last id lits hints (es ++ events.publish p.caller.stream id (different lits) publishing.Done ∷ []) (Some size)
 judged_good p last id lits hints es size quiet admitted shown is = (
   is,
   es,
   quiet,
   refl,
   λ m legal.
-      let cut = after_fetches p.formula p.layout m es (events.publish p.stream id (different lits) publishing.Done ∷ []) quiet legal in
+      let cut = after_fetches p.caller.formula p.caller.layout m es (events.publish p.caller.stream id (different lits) publishing.Done ∷ []) quiet legal in
       record { admitted = admitted; shown = (shown.0, shown.3 m cut.0, shown.2) },
   admitted,
 )
@@ -60,15 +60,15 @@ judged_good p last id lits hints es size quiet admitted shown is = (
 -- ---- the conditions of the publish
 
 pub publishable : (p q : Place) (es : History) (last id : ℕ) (lits : List ℤ) (hints : List ℕ) (marks : Propagation) → Tells p q es → Admits p last id lits marks → length lits ≤ max_line_literals
-    → Shows p.formula p.layout (different lits) hints es true → IsPublishable q.formula (different lits)
+    → Shows p.caller.formula p.caller.layout (different lits) hints es true → IsPublishable q.caller.formula (different lits)
 publishable p q es last id lits hints marks tells admits few shown =
-    subst (λ (f : Cnf). IsPublishable f (different lits)) (sym tells.formula)
-    (record { clause = admits.clause; length = omega (arith, length-different lits); follows = accepted_follows p.formula (different lits) shown.0 shown.1 shown.2 })
+    subst (λ (f : Cnf). IsPublishable f (different lits)) (sym (ap (λ (r : Caller). r.formula) tells.caller))
+    (record { clause = admits.clause; length = omega (arith, length-different lits); follows = accepted_follows p.caller.formula (different lits) shown.0 shown.1 shown.2 })
 
 pub room_stays : (p q : Place) (es : History) → Tells p q es → AllByRecursion IsFetch es → q.room ≡ p.room
-room_stays p q es tells quiet = omega (arith, tells.room, spent-fetches p.stream es quiet)
+room_stays p q es tells quiet = omega (arith, tells.room, spent-fetches p.caller.stream es quiet)
 
-pub still_vacant : (p q : Place) (es : History) (last id : ℕ) → Tells p q es → AllByRecursion IsFetch es → IsVacantAbove p last → Owns p.layout p.stream id → last < id → q.own id ≡ absent
+pub still_vacant : (p q : Place) (es : History) (last id : ℕ) → Tells p q es → AllByRecursion IsFetch es → IsVacantAbove p last → Owns p.caller.layout p.caller.stream id → last < id → q.own id ≡ absent
 still_vacant p q es last id tells quiet vacant owns newer =
     tells.own id owns ∙ ap (λ (m : State). m id) (run-fetches p.own es quiet) ∙ vacant id owns newer
 
@@ -81,11 +81,11 @@ pub clause_is : (p : Place) (last id : ℕ) (lits : List ℤ) (old new : Propaga
 clause_is p last id lits old new clause admits kept is = is ∙ kept.1 ∙ ap (λ (m : Propagation). m.clause) admits.marks_are
 
 pub shown_is : (p : Place) (last id : ℕ) (lits : List ℤ) (hints : List ℕ) (marks : Propagation) (es : History) (b : Bool) → Admits p last id lits marks
-    → Shows p.formula p.layout marks.falses hints es b → Shows p.formula p.layout (different lits) hints es b
-shown_is p last id lits hints marks es b admits shown = subst (λ (c : Clause). Shows p.formula p.layout c hints es b) (ap (λ (m : Propagation). m.falses) admits.marks_are) shown
+    → Shows p.caller.formula p.caller.layout marks.falses hints es b → Shows p.caller.formula p.caller.layout (different lits) hints es b
+shown_is p last id lits hints marks es b admits shown = subst (λ (c : Clause). Shows p.caller.formula p.caller.layout c hints es b) (ap (λ (m : Propagation). m.falses) admits.marks_are) shown
 
 -- the event of the publish, as the place before the fetches sees it
 pub published_is : (p q : Place) (es : History) (id : ℕ) (clause : Clause) (lits : List ℤ) (r : Published) → Tells p q es → clause ≡ different lits → r ≡ publishing.Done
-    → ◌≡◌ {A = History} (es ++ events.publish q.stream id clause r ∷ []) (es ++ events.publish p.stream id (different lits) publishing.Done ∷ [])
+    → ◌≡◌ {A = History} (es ++ events.publish q.caller.stream id clause r ∷ []) (es ++ events.publish p.caller.stream id (different lits) publishing.Done ∷ [])
 published_is p q es id clause lits r tells is done =
-    ap (λ s. es ++ events.publish s id clause r ∷ []) tells.stream ∙ ap (λ (c : Clause). es ++ events.publish p.stream id c r ∷ []) is ∙ ap (λ (r : Published). es ++ events.publish p.stream id (different lits) r ∷ []) done
+    ap (λ s. es ++ events.publish s id clause r ∷ []) (ap (λ (r : Caller). r.stream) tells.caller) ∙ ap (λ (c : Clause). es ++ events.publish p.caller.stream id c r ∷ []) is ∙ ap (λ (r : Published). es ++ events.publish p.caller.stream id (different lits) r ∷ []) done

@@ -4,12 +4,13 @@ use Rattle.std.proofs.lemmas.Bool.{both_ways}
 use Rattle.std.specs.List.{AllByRecursion}
 use Rattle.lrup_model.specs.Clause.{Clause, IsTautology}
 use Rattle.lrup_model.specs.Formula.{Cnf}
-use Rattle.lrup_model.specs.Layout.{Plan}
+use Rattle.lrup_model.specs.Layout.{LayoutValue}
+use Rattle.lrup_model.specs.Entailment.{IsDerived}
 use Rattle.lrup_model.specs.Event as events
 use Rattle.lrup_model.specs.Event.{Event, History}
 use Rattle.lrup_model.specs.State.{State, live}
 use Rattle.lrup_model.specs.History.{LegalFrom}
-use Rattle.lrup_model.specs.Place.{Place, Tells}
+use Rattle.lrup_model.specs.Place.{Caller, Place, Tells}
 use Rattle.lrup_model.specs.Propagation.{Accepts}
 use Rattle.propagate.specs.Marks.{Propagation, Steps}
 use Rattle.propagate.specs.Hints.{Leads}
@@ -17,7 +18,7 @@ use Rattle.propagate.specs.declared.marks.Step.{Step}
 use Rattle.propagate.specs.declared.marks.Step.TheVariants.{Unit as Alone, Conflict, NotUnit}
 use Rattle.propagate.proofs.HintLemmas.{leads_on, accepts_exactly, needs_conflict, ends_at_conflict, needs_units}
 use Rattle.lrupd.specs.Additions.{AreFound}
-use Rattle.lrupd.specs.Judging.{IsFetch, IsDerived, KeepsClause, Tries, LeadsBy, Shows}
+use Rattle.lrupd.specs.Judging.{IsFetch, KeepsClause, Tries, LeadsBy, Shows}
 use Rattle.lrupd.proofs.FoundLemmas.{after_fetches, fetches-append, found-append, found_at, found_once, live_once, has_first}
 
 pub all_append : (f : Cnf) (cs : List Clause) (d : Clause) → AllByRecursion (IsDerived f) cs → IsDerived f d → AllByRecursion (IsDerived f) (cs ++ d ∷ [])
@@ -25,7 +26,7 @@ all_append f [] d h k = (k, tt)
 all_append f (c ∷ cs) d h k = (h.0, all_append f cs d h.1 k)
 
 -- what a map that gives these answers has at the hint
-found_is : (f : Cnf) (p : Plan) (s hint : ℕ) (m : State) (d : Clause) (es : History) → es ≡ events.fetch s hint (events.live d) ∷ [] → LegalFrom f p m es → m hint ≡ live d
+found_is : (f : Cnf) (p : LayoutValue) (s hint : ℕ) (m : State) (d : Clause) (es : History) → es ≡ events.fetch s hint (events.live d) ∷ [] → LegalFrom f p m es → m hint ≡ live d
 found_is f p s hint m d es is legal = (subst (LegalFrom f p m) is legal).0
 
 fetch_is : (s hint : ℕ) (d : Clause) (es : History) → es ≡ events.fetch s hint (events.live d) ∷ [] → AllByRecursion IsFetch es
@@ -35,11 +36,11 @@ keeps : (v w : ℕ) (c d : Clause) (n : Clause) (r t : Bool) → v ≡ w → c �
     → ◌≡◌ {A = Propagation} (record { vars = v; clause = c; falses = n; ready = r }) (record { vars = w; clause = d; falses = n; ready = t })
 keeps v w c d n r t a b e = cc
 
-pub lead_none : (f : Cnf) (p : Plan) (old : Propagation) → LeadsBy f p old old [] [] true
+pub lead_none : (f : Cnf) (p : LayoutValue) (old : Propagation) → LeadsBy f p old old [] [] true
 lead_none f p old = ([], tt, refl, refl, λ m legal. tt)
 
 -- one more hint that is unit
-pub lead_more : (f : Cnf) (p : Plan) (s : ℕ) (old mid new : Propagation) (front : List ℕ) (hint : ℕ) (es fs : History) → AllByRecursion IsFetch es
+pub lead_more : (f : Cnf) (p : LayoutValue) (s : ℕ) (old mid new : Propagation) (front : List ℕ) (hint : ℕ) (es fs : History) → AllByRecursion IsFetch es
     → LeadsBy f p old mid front es true → Tries f p s mid new hint fs (Some Alone)
     → AllByRecursion IsFetch (es ++ fs) × LeadsBy f p old new (front ++ hint ∷ []) (es ++ fs) true
 lead_more f p s old mid new front hint es fs quiet led tried =
@@ -69,12 +70,12 @@ no_unit (Some Alone) other = other refl
 no_unit (Some Conflict) other = tt
 no_unit (Some NotUnit) other = tt
 
-tried_fetches : (f : Cnf) (p : Plan) (s : ℕ) (old new : Propagation) (hint : ℕ) (es : History) (r : Option Step) → Tries f p s old new hint es r → AllByRecursion IsFetch es
+tried_fetches : (f : Cnf) (p : LayoutValue) (s : ℕ) (old new : Propagation) (hint : ℕ) (es : History) (r : Option Step) → Tries f p s old new hint es r → AllByRecursion IsFetch es
 tried_fetches f p s old new hint es None tried = tried.0
 tried_fetches f p s old new hint es (Some step) tried = fetch_is s hint tried.0 es tried.1
 
 -- a hint that isn't unit, with more behind it: the hints show nothing
-fails_here : (f : Cnf) (p : Plan) (s : ℕ) (old mid new : Propagation) (front : List ℕ) (hint : ℕ) (back : List ℕ) (es fs : History) (r : Option Step) → AllByRecursion IsFetch es
+fails_here : (f : Cnf) (p : LayoutValue) (s : ℕ) (old mid new : Propagation) (front : List ℕ) (hint : ℕ) (back : List ℕ) (es fs : History) (r : Option Step) → AllByRecursion IsFetch es
     → LeadsBy f p old mid front es true → Tries f p s mid new hint fs r → IsNoUnit r
     → (m : State) (last : ℕ) (ds : List Clause) → LegalFrom f p m (es ++ fs) → AreFound p m (front ++ hint ∷ (back ++ last ∷ [])) ds → ¬ Accepts old.falses ds
 fails_here f p s old mid new front hint back es fs None quiet led tried other m last ds legal found accepts =
@@ -100,7 +101,7 @@ fails_here f p s old mid new front hint back es fs (Some NotUnit) quiet led trie
     at.whole ∙ ap (λ (cs : List Clause). cs ++ at.here ∷ at.back) same ∙ ap (λ (d : Clause). led.0 ++ d ∷ at.back) here in
     needs_units old.falses mid.falses led.0 tried.0 at.back led.2 tried.4.0 tried.4.1 (subst (Accepts old.falses) whole accepts)
 
-pub lead_fails : (f : Cnf) (p : Plan) (s : ℕ) (old mid new : Propagation) (front : List ℕ) (hint : ℕ) (back all : List ℕ) (es fs : History) (r : Option Step) → AllByRecursion IsFetch es
+pub lead_fails : (f : Cnf) (p : LayoutValue) (s : ℕ) (old mid new : Propagation) (front : List ℕ) (hint : ℕ) (back all : List ℕ) (es fs : History) (r : Option Step) → AllByRecursion IsFetch es
     → LeadsBy f p old mid front es true → Tries f p s mid new hint fs r → IsNoUnit r → all ≡ front ++ hint ∷ back
     → AllByRecursion IsFetch (es ++ fs) × LeadsBy f p old new all (es ++ fs) false
 lead_fails f p s old mid new front hint back all es fs r quiet led tried other is = (
@@ -111,11 +112,11 @@ lead_fails f p s old mid new front hint back all es fs r quiet led tried other i
 
 -- ---- the whole list of hints
 
-pub shows_nothing : (f : Cnf) (p : Plan) (c : Clause) → Shows f p c [] [] false
+pub shows_nothing : (f : Cnf) (p : LayoutValue) (c : Clause) → Shows f p c [] [] false
 shows_nothing f p c m [] legal found accepts = accepts.1
 shows_nothing f p c m (d ∷ ds) legal found accepts = found
 
-pub shows_conflict : (f : Cnf) (p : Plan) (s : ℕ) (old mid new : Propagation) (before : List ℕ) (last : ℕ) (hints : List ℕ) (es fs : History) → hints ≡ before ++ last ∷ [] → AllByRecursion IsFetch es
+pub shows_conflict : (f : Cnf) (p : LayoutValue) (s : ℕ) (old mid new : Propagation) (before : List ℕ) (last : ℕ) (hints : List ℕ) (es fs : History) → hints ≡ before ++ last ∷ [] → AllByRecursion IsFetch es
     → (¬ IsTautology old.falses) → LeadsBy f p old mid before es true → Tries f p s mid new last fs (Some Conflict)
     → AllByRecursion IsFetch (es ++ fs) × Shows f p old.falses hints (es ++ fs) true
 shows_conflict f p s old mid new before last hints es fs is quiet consistent led tried = (
@@ -143,7 +144,7 @@ no_conflict (Some Alone) other = tt
 no_conflict (Some Conflict) other = other refl
 no_conflict (Some NotUnit) other = tt
 
-shows_no : (f : Cnf) (p : Plan) (s : ℕ) (old mid new : Propagation) (before : List ℕ) (last : ℕ) (es fs : History) (r : Option Step) → AllByRecursion IsFetch es
+shows_no : (f : Cnf) (p : LayoutValue) (s : ℕ) (old mid new : Propagation) (before : List ℕ) (last : ℕ) (es fs : History) (r : Option Step) → AllByRecursion IsFetch es
     → LeadsBy f p old mid before es true → Tries f p s mid new last fs r → IsNoConflict r
     → (m : State) (ds : List Clause) → LegalFrom f p m (es ++ fs) → AreFound p m (before ++ last ∷ []) ds → ¬ Accepts old.falses ds
 shows_no f p s old mid new before last es fs None quiet led tried other m ds legal found accepts =
@@ -164,7 +165,7 @@ shows_no f p s old mid new before last es fs (Some NotUnit) quiet led tried othe
     at.whole ∙ ap (λ (cs : List Clause). cs ++ at.here ∷ at.back) same ∙ ap (λ (d : Clause). led.0 ++ d ∷ at.back) here in
     needs_units old.falses mid.falses led.0 tried.0 at.back led.2 tried.4.0 tried.4.1 (subst (Accepts old.falses) whole accepts)
 
-pub shows_no_conflict : (f : Cnf) (p : Plan) (s : ℕ) (old mid new : Propagation) (before : List ℕ) (last : ℕ) (hints : List ℕ) (es fs : History) (r : Option Step) → hints ≡ before ++ last ∷ [] → AllByRecursion IsFetch es
+pub shows_no_conflict : (f : Cnf) (p : LayoutValue) (s : ℕ) (old mid new : Propagation) (before : List ℕ) (last : ℕ) (hints : List ℕ) (es fs : History) (r : Option Step) → hints ≡ before ++ last ∷ [] → AllByRecursion IsFetch es
     → LeadsBy f p old mid before es true → Tries f p s mid new last fs r → IsNoConflict r
     → AllByRecursion IsFetch (es ++ fs) × Shows f p old.falses hints (es ++ fs) false
 shows_no_conflict f p s old mid new before last hints es fs r is quiet led tried other = (
@@ -174,14 +175,14 @@ shows_no_conflict f p s old mid new before last hints es fs r is quiet led tried
 
 -- the same at a place that has the formula, the layout and the stream of another
 pub tries_there : (p q : Place) (es : History) (old new : Propagation) (hint : ℕ) (fs : History) (r : Option Step) → Tells p q es
-    → Tries q.formula q.layout q.stream old new hint fs r → Tries p.formula p.layout p.stream old new hint fs r
+    → Tries q.caller.formula q.caller.layout q.caller.stream old new hint fs r → Tries p.caller.formula p.caller.layout p.caller.stream old new hint fs r
 tries_there p q es old new hint fs r tells tried =
-    subst (λ (f : Cnf). Tries f p.layout p.stream old new hint fs r) tells.formula
-    (subst (λ (l : Plan). Tries q.formula l p.stream old new hint fs r) tells.layout
-    (subst (λ s. Tries q.formula q.layout s old new hint fs r) tells.stream tried))
+    subst (λ (f : Cnf). Tries f p.caller.layout p.caller.stream old new hint fs r) (ap (λ (r : Caller). r.formula) tells.caller)
+    (subst (λ (l : LayoutValue). Tries q.caller.formula l p.caller.stream old new hint fs r) (ap (λ (r : Caller). r.layout) tells.caller)
+    (subst (λ s. Tries q.caller.formula q.caller.layout s old new hint fs r) (ap (λ (r : Caller). r.stream) tells.caller) tried))
 
 -- the last hint decides
-pub shows_last : (f : Cnf) (p : Plan) (s : ℕ) (old mid new : Propagation) (before : List ℕ) (last : ℕ) (hints : List ℕ) (es fs : History) (r : Option Step) (ends : Bool) → hints ≡ before ++ last ∷ [] → AllByRecursion IsFetch es
+pub shows_last : (f : Cnf) (p : LayoutValue) (s : ℕ) (old mid new : Propagation) (before : List ℕ) (last : ℕ) (hints : List ℕ) (es fs : History) (r : Option Step) (ends : Bool) → hints ≡ before ++ last ∷ [] → AllByRecursion IsFetch es
     → (¬ IsTautology old.falses) → LeadsBy f p old mid before es true → Tries f p s mid new last fs r → (ends ≡ true → r ≡ Some Conflict) → (r ≡ Some Conflict → ends ≡ true)
     → AllByRecursion IsFetch (es ++ fs) × Shows f p old.falses hints (es ++ fs) ends
 shows_last f p s old mid new before last hints es fs r true is quiet consistent led tried conflict only =
@@ -189,7 +190,7 @@ shows_last f p s old mid new before last hints es fs r true is quiet consistent 
 shows_last f p s old mid new before last hints es fs r false is quiet consistent led tried conflict only =
     shows_no_conflict f p s old mid new before last hints es fs r is quiet led tried (no_conflict r (λ e. both_ways false refl (only e)))
 
-pub shows_none : (f : Cnf) (p : Plan) (c : Clause) (hints : List ℕ) → length hints ≡ 0 → Shows f p c hints [] false
+pub shows_none : (f : Cnf) (p : LayoutValue) (c : Clause) (hints : List ℕ) → length hints ≡ 0 → Shows f p c hints [] false
 shows_none f p c [] h = shows_nothing f p c
 shows_none f p c (i ∷ hints) h = absurd (omega (arith, h))
 

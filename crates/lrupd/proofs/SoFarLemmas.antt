@@ -9,16 +9,16 @@ use Rattle.std.proofs.lemmas.List.Sums.{sum_by-cons, sum_by-append}
 use Rattle.std.proofs.lemmas.List.Folds.{list_any-append}
 use Rattle.lrup_model.specs.Clause.{Clause}
 use Rattle.lrup_model.specs.Formula.{Cnf}
-use Rattle.lrup_model.specs.Layout.{Plan, Owns}
+use Rattle.lrup_model.specs.Layout.{LayoutValue, Owns}
 use Rattle.lrup_model.specs.Event as events
-use Rattle.lrup_model.specs.Event.{Event, History, own, spent, size_of, stream_of}
+use Rattle.lrup_model.specs.Event.{Event, History, own, spent, size_of, stream_of, publishes, publishes_empty, published}
 use Rattle.lrup_model.specs.State.{State, live, put, run}
 use Rattle.lrup_model.specs.History.{LegalFrom}
 use Rattle.lrup_model.specs.Running.{run-append, spent-append}
-use Rattle.lrup_model.specs.Place.{Place, Tells}
+use Rattle.lrup_model.specs.Place.{Caller, Place, Tells, IsVacantAbove}
 use Rattle.lrup_model.specs.declared.clause_map.Published.TheVariants as publishing
-use Rattle.lrup_model.proofs.HistoryLemmas.{legal-front, legal-back}
-use Rattle.lrup_model.proofs.PlainLemmas.{spent_one}
+use Rattle.lrup_model.specs.HistoryLemmas.{legal-front, legal-back}
+use Rattle.lrup_model.specs.HistoryLemmas.{spent_one, published-append}
 use Rattle.lrup_text.specs.Lines.{StreamLine, Addition, Deletion, Fits, text_of, Cut, IsPending}
 use Rattle.lrup_text.proofs.Streams.{one_cut, empty_cut}
 use Rattle.lrup_text.proofs.TextLaws.{empty_pending}
@@ -27,20 +27,20 @@ use Rattle.lrupd.specs.declared.stream.Tally.{Tally}
 use Rattle.lrupd.specs.declared.stream.StreamFault.{StreamFault}
 use Rattle.lrupd.specs.declared.stream.StreamFault.TheVariants.{Bad, Unread}
 use Rattle.lrupd.specs.Additions.{Standing, IsGood, after_addition}
-use Rattle.lrupd.specs.Judging.{IsFetch, IsVacantAbove, Judges, standing_at}
-use Rattle.lrupd.specs.Streams.{AreGood, after_lines, publishes, publishes_empty, published, added_by, Counts, Counted, TakesGood, IsSameStream, IsBadStream, IsSoFar, IsGoodStream, TakesPiece, Finishes, Gave, JudgesStream}
+use Rattle.lrupd.specs.Judging.{IsFetch, Judges, standing_at}
+use Rattle.lrupd.specs.Streams.{AreGood, after_lines, added_by, Counts, Counted, TakesGood, IsSameStream, IsBadStream, IsSoFar, IsGoodStream, TakesPiece, Finishes, Gave, JudgesStream}
 use Rattle.lrupd.proofs.FoundLemmas.{run-fetches}
 use Rattle.lrupd.proofs.AddLemmas.{spent-fetches}
 use Rattle.lrupd.proofs.StreamLemmas.{front_line}
 
 -- ---- good lines, one behind the other
 
-pub good-back : (f : Cnf) (p : Plan) (s : ℕ) (st : Standing) (lines more : List StreamLine) → AreGood f p s st (lines ++ more) → AreGood f p s (after_lines st lines) more
+pub good-back : (f : Cnf) (p : LayoutValue) (s : ℕ) (st : Standing) (lines more : List StreamLine) → AreGood f p s st (lines ++ more) → AreGood f p s (after_lines st lines) more
 good-back f p s st [] more h = h
 good-back f p s st (Addition id lits hints ∷ lines) more h = good-back f p s (after_addition st id lits) lines more h.1
 good-back f p s st (Deletion lead ids ∷ lines) more h = absurd h
 
-pub good-append : (f : Cnf) (p : Plan) (s : ℕ) (st : Standing) (lines more : List StreamLine) → AreGood f p s st lines → AreGood f p s (after_lines st lines) more → AreGood f p s st (lines ++ more)
+pub good-append : (f : Cnf) (p : LayoutValue) (s : ℕ) (st : Standing) (lines more : List StreamLine) → AreGood f p s st lines → AreGood f p s (after_lines st lines) more → AreGood f p s st (lines ++ more)
 good-append f p s st [] more h k = k
 good-append f p s st (Addition id lits hints ∷ lines) more h k = (h.0, good-append f p s (after_addition st id lits) lines more h.1 k)
 good-append f p s st (Deletion lead ids ∷ lines) more h k = absurd h
@@ -72,13 +72,6 @@ any-fetches [] h = refl
 any-fetches (e ∷ es) h = ap (λ b. b || list_any publishes_empty es) (quiet-fetch e h.0).1 ∙ any-fetches es h.1
 
 -- ---- what is published
-
-published-append : (es fs : History) → published (es ++ fs) ≡ published es ++ published fs
-published-append [] fs = refl
-published-append (events.fetch s id r ∷ es) fs = published-append es fs
-published-append (events.publish s id c publishing.Done ∷ es) fs = ap (λ (x : List (ℕ × Clause)). (id, c) ∷ x) (published-append es fs)
-published-append (events.publish s id c publishing.Taken ∷ es) fs = published-append es fs
-published-append (events.retire s id r ∷ es) fs = published-append es fs
 
 published-fetches : (es : History) → AllByRecursion IsFetch es → published es ≡ []
 published-fetches [] h = refl
@@ -112,28 +105,28 @@ fronts (l ∷ lines) rest all fits cut =
     (others.0, first.whole ∙ ap (λ (ls : List StreamLine). l ∷ ls) others.1, others.2)
 
 same_after : (p q r : Place) (fs : History) → IsSameStream p q → Tells q r fs → IsSameStream p r
-same_after p q r fs same tells = record { formula = tells.formula ∙ same.formula; layout = tells.layout ∙ same.layout; stream = tells.stream ∙ same.stream }
+same_after p q r fs same tells = record { caller = tells.caller ∙ same.caller }
 
-legal_at : (p q : Place) (fs : History) (m : State) → IsSameStream p q → LegalFrom p.formula p.layout m fs → LegalFrom q.formula q.layout m fs
-legal_at p q fs m tells legal = subst (λ (f : Cnf). LegalFrom f q.layout m fs) (sym tells.formula) (subst (λ (l : Plan). LegalFrom p.formula l m fs) (sym tells.layout) legal)
+legal_at : (p q : Place) (fs : History) (m : State) → IsSameStream p q → LegalFrom p.caller.formula p.caller.layout m fs → LegalFrom q.caller.formula q.caller.layout m fs
+legal_at p q fs m tells legal = subst (λ (f : Cnf). LegalFrom f q.caller.layout m fs) (sym (ap (λ (r : Caller). r.formula) tells.caller)) (subst (λ (l : LayoutValue). LegalFrom p.caller.formula l m fs) (sym (ap (λ (r : Caller). r.layout) tells.caller)) legal)
 
 pub so_far_bad : (p q : Place) (last : ℕ) (bytes read piece : List ℕ) (es fs : History) (tally : Tally) → IsSoFar p q last bytes read es tally
     → IsBadStream q tally.last (read ++ piece) false fs → IsBadStream p last (bytes ++ piece) false (es ++ fs)
 so_far_bad p q last bytes read piece es fs tally so_far bad more m lines follows legal cut good =
     let tells = so_far.places in
-    let here = so_far.good m (legal-front p.formula p.layout m es fs legal) in
-    let there : LegalFrom p.formula p.layout (run m es) fs = legal-back p.formula p.layout m es fs legal in
+    let here = so_far.good m (legal-front p.caller.formula p.caller.layout m es fs legal) in
+    let there : LegalFrom p.caller.formula p.caller.layout (run m es) fs = legal-back p.caller.formula p.caller.layout m es fs legal in
     let old = flat_map text_of so_far.lines in
     let whole : (bytes ++ piece) ++ more ≡ old ++ ((read ++ piece) ++ more) =
     append_assoc bytes piece more ∙ ap (λ (t : List ℕ). t ++ (piece ++ more)) so_far.cut.bytes ∙ append_assoc old read (piece ++ more) ∙ ap (λ (t : List ℕ). old ++ t) (sym (append_assoc read piece more)) in
     let front = fronts so_far.lines ((read ++ piece) ++ more) lines so_far.cut.each (subst (λ (t : List ℕ). Cut t lines []) whole cut) in
-    let back : AreGood p.formula p.layout p.stream (standing_at q tally.last (run m es)) front.0 =
-    subst (λ (st : Standing). AreGood p.formula p.layout p.stream st front.0) here.1
-    (good-back p.formula p.layout p.stream (standing_at p last m) so_far.lines front.0 (subst (AreGood p.formula p.layout p.stream (standing_at p last m)) front.1 good)) in
+    let back : AreGood p.caller.formula p.caller.layout p.caller.stream (standing_at q tally.last (run m es)) front.0 =
+    subst (λ (st : Standing). AreGood p.caller.formula p.caller.layout p.caller.stream st front.0) here.1
+    (good-back p.caller.formula p.caller.layout p.caller.stream (standing_at p last m) so_far.lines front.0 (subst (AreGood p.caller.formula p.caller.layout p.caller.stream (standing_at p last m)) front.1 good)) in
     bad more (run m es) front.0 follows (legal_at p q fs (run m es) tells there) front.2
-    (subst (λ (f : Cnf). AreGood f q.layout q.stream (standing_at q tally.last (run m es)) front.0) (sym tells.formula)
-    (subst (λ (l : Plan). AreGood p.formula l q.stream (standing_at q tally.last (run m es)) front.0) (sym tells.layout)
-    (subst (λ s. AreGood p.formula p.layout s (standing_at q tally.last (run m es)) front.0) (sym tells.stream) back)))
+    (subst (λ (f : Cnf). AreGood f q.caller.layout q.caller.stream (standing_at q tally.last (run m es)) front.0) (sym (ap (λ (r : Caller). r.formula) tells.caller))
+    (subst (λ (l : LayoutValue). AreGood p.caller.formula l q.caller.stream (standing_at q tally.last (run m es)) front.0) (sym (ap (λ (r : Caller). r.layout) tells.caller))
+    (subst (λ s. AreGood p.caller.formula p.caller.layout s (standing_at q tally.last (run m es)) front.0) (sym (ap (λ (r : Caller). r.stream) tells.caller)) back)))
 
 -- a stream that ends inside a line
 pub so_far_open : (p q : Place) (last : ℕ) (bytes read : List ℕ) (es : History) (tally : Tally) → IsSoFar p q last bytes read es tally → ¬ (read ≡ []) → IsBadStream p last bytes true es
@@ -153,7 +146,7 @@ so_far_end p q last bytes read es tally so_far none = record {
 -- before the first byte
 pub so_far_none : (p : Place) (last : ℕ) (tally : Tally) → tally.added ≡ 0 → tally.last ≡ last → tally.empty ≡ false → IsSoFar p p last [] [] [] tally
 so_far_none p last tally added is empty = record {
-  places = record { formula = refl; layout = refl; stream = refl };
+  places = record { caller = refl };
   lines = [];
   cut = empty_cut;
   counts = record { added = added; empty = empty; ends = inl (added, refl) };
@@ -166,7 +159,7 @@ pub so_far_read : (p q r : Place) (last : ℕ) (bytes read piece : List ℕ) (es
     → IsSoFar p r last (bytes ++ piece) (read ++ piece) (es ++ fs) tally
 so_far_read p q r last bytes read piece es fs tally so_far tells nothing pending =
     let same : es ++ fs ≡ es = ap (λ (x : History). es ++ x) nothing ∙ append-nil es in
-    let room : q.room ≡ r.room = omega (arith, tells.room, ap (spent q.stream) nothing) in
+    let room : q.room ≡ r.room = omega (arith, tells.room, ap (spent q.caller.stream) nothing) in
     subst (λ (x : History). IsSoFar p r last (bytes ++ piece) (read ++ piece) x tally) (sym same) (record {
       places = same_after p q r fs so_far.places tells;
       lines = so_far.lines;
@@ -212,29 +205,29 @@ counts_more s id size c es fs fetches old new quiet is sized counts counted =
 
 -- where the next line begins, the map is what the line left
 stands_after : (p q r : Place) (m : State) (old new : Tally) (id size : ℕ) (lits : List ℤ) (fs fetches : History) → Tells q r fs → AllByRecursion IsFetch fetches
-    → fs ≡ fetches ++ events.publish q.stream id (different lits) publishing.Done ∷ [] → Counted old id size new
+    → fs ≡ fetches ++ events.publish q.caller.stream id (different lits) publishing.Done ∷ [] → Counted old id size new
     → after_addition (standing_at q old.last m) id lits ≡ standing_at r new.last (run m fs)
 stands_after p q r m old new id size lits fs fetches tells quiet is counted =
-    let spent_is : spent q.stream fs ≡ length (different lits) = ap (spent q.stream) is ∙ line_spent q.stream id (different lits) fetches quiet in
+    let spent_is : spent q.caller.stream fs ≡ length (different lits) = ap (spent q.caller.stream) is ∙ line_spent q.caller.stream id (different lits) fetches quiet in
     let room : q.room - length (different lits) ≡ r.room = omega (arith, tells.room) in
-    let ran : put m id (live (different lits)) ≡ run m fs = sym (line_run q.stream id (different lits) fetches quiet m) ∙ ap (run m) (sym is) in
+    let ran : put m id (live (different lits)) ≡ run m fs = sym (line_run q.caller.stream id (different lits) fetches quiet m) ∙ ap (run m) (sym is) in
     ap (λ n. record { last = n; room = q.room - length (different lits); map = put m id (live (different lits)) }) (sym counted.1)
     ∙ ap (λ n. record { last = new.last; room = n; map = put m id (live (different lits)) }) room
     ∙ ap (λ (x : State). record { last = new.last; room = r.room; map = x }) ran
 
 good_more : (p q r : Place) (last : ℕ) (es fs : History) (old new : Tally) (id size : ℕ) (lits : List ℤ) (hints : List ℕ) (fetches : History) (lines : List StreamLine) → IsSameStream p q → Tells q r fs
-    → AllByRecursion IsFetch fetches → fs ≡ fetches ++ events.publish q.stream id (different lits) publishing.Done ∷ []
-    → ((m : State) → LegalFrom q.formula q.layout m fs → IsGood q.formula q.layout q.stream (standing_at q old.last m) id lits hints) → Counted old id size new
-    → (m : State) → AreGood p.formula p.layout p.stream (standing_at p last m) lines × (after_lines (standing_at p last m) lines ≡ standing_at q old.last (run m es)) → LegalFrom p.formula p.layout (run m es) fs
-    → AreGood p.formula p.layout p.stream (standing_at p last m) (lines ++ Addition id lits hints ∷ []) × (after_lines (standing_at p last m) (lines ++ Addition id lits hints ∷ []) ≡ standing_at r new.last (run m (es ++ fs)))
+    → AllByRecursion IsFetch fetches → fs ≡ fetches ++ events.publish q.caller.stream id (different lits) publishing.Done ∷ []
+    → ((m : State) → LegalFrom q.caller.formula q.caller.layout m fs → IsGood q.caller.formula q.caller.layout q.caller.stream (standing_at q old.last m) id lits hints) → Counted old id size new
+    → (m : State) → AreGood p.caller.formula p.caller.layout p.caller.stream (standing_at p last m) lines × (after_lines (standing_at p last m) lines ≡ standing_at q old.last (run m es)) → LegalFrom p.caller.formula p.caller.layout (run m es) fs
+    → AreGood p.caller.formula p.caller.layout p.caller.stream (standing_at p last m) (lines ++ Addition id lits hints ∷ []) × (after_lines (standing_at p last m) (lines ++ Addition id lits hints ∷ []) ≡ standing_at r new.last (run m (es ++ fs)))
 good_more p q r last es fs old new id size lits hints fetches lines tells again quiet is judged counted m here there =
     let legal = legal_at p q fs (run m es) tells there in
-    let good : IsGood p.formula p.layout p.stream (after_lines (standing_at p last m) lines) id lits hints =
-    subst (λ (st : Standing). IsGood p.formula p.layout p.stream st id lits hints) (sym here.1)
-    (subst (λ (f : Cnf). IsGood f p.layout p.stream (standing_at q old.last (run m es)) id lits hints) tells.formula
-    (subst (λ (l : Plan). IsGood q.formula l p.stream (standing_at q old.last (run m es)) id lits hints) tells.layout
-    (subst (λ s. IsGood q.formula q.layout s (standing_at q old.last (run m es)) id lits hints) tells.stream (judged (run m es) legal)))) in (
-      good-append p.formula p.layout p.stream (standing_at p last m) lines (Addition id lits hints ∷ []) here.0 (good, tt),
+    let good : IsGood p.caller.formula p.caller.layout p.caller.stream (after_lines (standing_at p last m) lines) id lits hints =
+    subst (λ (st : Standing). IsGood p.caller.formula p.caller.layout p.caller.stream st id lits hints) (sym here.1)
+    (subst (λ (f : Cnf). IsGood f p.caller.layout p.caller.stream (standing_at q old.last (run m es)) id lits hints) (ap (λ (r : Caller). r.formula) tells.caller)
+    (subst (λ (l : LayoutValue). IsGood q.caller.formula l p.caller.stream (standing_at q old.last (run m es)) id lits hints) (ap (λ (r : Caller). r.layout) tells.caller)
+    (subst (λ s. IsGood q.caller.formula q.caller.layout s (standing_at q old.last (run m es)) id lits hints) (ap (λ (r : Caller). r.stream) tells.caller) (judged (run m es) legal)))) in (
+      good-append p.caller.formula p.caller.layout p.caller.stream (standing_at p last m) lines (Addition id lits hints ∷ []) here.0 (good, tt),
       after-append (standing_at p last m) lines (Addition id lits hints ∷ []) ∙ ap (λ (st : Standing). after_addition st id lits) here.1
           ∙ stands_after p q r (run m es) old new id size lits fs fetches again quiet is counted ∙ ap (standing_at r new.last) (sym (run-append m es fs)),
     )
@@ -257,23 +250,23 @@ so_far_more p q r last bytes read piece es fs used old new so_far again takes =
         each = fits-append so_far.lines (line ∷ []) so_far.cut.each (takes.text.0, tt);
         last = empty_pending.whole;
       };
-      counts = counts_more p.stream takes.id takes.size (different takes.lits) es fs judged.1 old new judged.2
-          (judged.3 ∙ ap (λ s. judged.1 ++ events.publish s takes.id (different takes.lits) publishing.Done ∷ []) tells.stream) judged.0 so_far.counts takes.counted;
-      carries = published_more q.stream takes.id takes.lits takes.hints es fs judged.1 so_far.lines judged.2 judged.3 so_far.carries;
+      counts = counts_more p.caller.stream takes.id takes.size (different takes.lits) es fs judged.1 old new judged.2
+          (judged.3 ∙ ap (λ s. judged.1 ++ events.publish s takes.id (different takes.lits) publishing.Done ∷ []) (ap (λ (r : Caller). r.stream) tells.caller)) judged.0 so_far.counts takes.counted;
+      carries = published_more q.caller.stream takes.id takes.lits takes.hints es fs judged.1 so_far.lines judged.2 judged.3 so_far.carries;
       good = λ m legal. good_more p q r last es fs old new takes.id takes.size takes.lits takes.hints judged.1 so_far.lines tells again judged.2 judged.3 judged.4 takes.counted m
-          (so_far.good m (legal-front p.formula p.layout m es fs legal)) (legal-back p.formula p.layout m es fs legal);
+          (so_far.good m (legal-front p.caller.formula p.caller.layout m es fs legal)) (legal-back p.caller.formula p.caller.layout m es fs legal);
     }
 
 -- the stream's identities above the last one have nothing
 pub vacant_more : (q r : Place) (old new : Tally) (id size : ℕ) (lits : List ℤ) (hints : List ℕ) (fs : History) → Tells q r fs → Judges q old.last id lits hints fs (Some size) → Counted old id size new
     → IsVacantAbove q old.last → IsVacantAbove r new.last
 vacant_more q r old new id size lits hints fs tells judged counted vacant j owns above =
-    let mine : Owns q.layout q.stream j = subst (λ s. Owns q.layout s j) tells.stream (subst (λ (l : Plan). Owns l r.stream j) tells.layout owns) in
+    let mine : Owns q.caller.layout q.caller.stream j = subst (λ s. Owns q.caller.layout s j) (ap (λ (r : Caller). r.stream) tells.caller) (subst (λ (l : LayoutValue). Owns l r.caller.stream j) (ap (λ (r : Caller). r.layout) tells.caller) owns) in
     let newer : old.last < id = judged.5.newer in
     let other : j ≢ id = omega (arith, counted.1) in
     tells.own j mine
     ∙ ap (λ (es : History). run q.own es j) judged.3
-    ∙ ap (λ (m : State). m j) (line_run q.stream id (different lits) judged.1 judged.2 q.own)
+    ∙ ap (λ (m : State). m j) (line_run q.caller.stream id (different lits) judged.1 judged.2 q.own)
     ∙ cond-false (eqb j id) (live (different lits)) (q.own j) (ne_eqb j id other)
     ∙ vacant j mine (omega (arith, counted.1))
 

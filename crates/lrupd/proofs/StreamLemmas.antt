@@ -54,11 +54,11 @@ module _ (p : Place) (last : ℕ) (read piece : List ℕ) (used : ℕ) where
   pub bad_addition : (id : ℕ) (lits : List ℤ) (hints : List ℕ) (es : History) → LineText (Addition id lits hints) (read ++ take used piece)
       → Judges p last id lits hints es None → IsBadStream p last (read ++ piece) false es
   bad_addition id lits hints es text judged more m lines follows legal cut good =
-      judged.1 m legal (subst (AreGood p.formula p.layout p.stream (standing_at p last m)) (front_of (Addition id lits hints) more lines text cut).whole good).0
+      judged.1 m legal (subst (AreGood p.caller.formula p.caller.layout p.caller.stream (standing_at p last m)) (front_of (Addition id lits hints) more lines text cut).whole good).0
 
   pub bad_deletion : (lead : ℕ) (ids : List ℕ) (es : History) → LineText (Deletion lead ids) (read ++ take used piece) → IsBadStream p last (read ++ piece) false es
   bad_deletion lead ids es text more m lines follows legal cut good =
-      subst (AreGood p.formula p.layout p.stream (standing_at p last m)) (front_of (Deletion lead ids) more lines text cut).whole good
+      subst (AreGood p.caller.formula p.caller.layout p.caller.stream (standing_at p last m)) (front_of (Deletion lead ids) more lines text cut).whole good
 
   pub bad_text : (fault : LineFault) (es : History) → IsRefused (read ++ take used piece) fault → IsBadStream p last (read ++ piece) false es
   bad_text fault es refused more m lines follows legal cut good =

@@ -4,8 +4,8 @@ use Rattle.std.specs.List.{AllByRecursion, list_any}
 use Rattle.lrup_model.specs.Clause.{Clause}
 use Rattle.lrup_model.specs.Formula.{Cnf, literals_of}
 use Rattle.lrup_model.specs.Entailment.{IsUnsatisfiable}
-use Rattle.lrup_model.specs.Layout.{Plan, IsPlan, IsIdentity}
-use Rattle.lrup_model.specs.Event.{History, stream_of}
+use Rattle.lrup_model.specs.Layout.{LayoutValue, IsLayout, IsIdentity}
+use Rattle.lrup_model.specs.Event.{History, stream_of, publishes, publishes_empty, published}
 use Rattle.lrup_model.specs.State.{state, live, opening}
 use Rattle.lrup_model.specs.History.{IsLegal}
 use Rattle.lrup_model.specs.Plain.{Plain, state_of}
@@ -19,10 +19,10 @@ use Rattle.lrupd.specs.declared.stream.StreamFault.{StreamFault}
 use Rattle.lrupd.specs.declared.stream.StreamFault.TheVariants as stream_faults
 use Rattle.lrupd.specs.declared.stream.Tally.{Tally}
 use Rattle.lrupd.specs.Additions.{Standing}
-use Rattle.lrupd.specs.Streams.{AreGood, publishes, publishes_empty, published, added_by, EndsWith, MayFollow, Gave}
+use Rattle.lrupd.specs.Streams.{AreGood, added_by, EndsWith, MayFollow, Gave}
 
 -- the layout: two streams, of 65,536 identities and room for 1,048,576 literals each
-abbrev pub first_plan : Cnf → Plan
+abbrev pub first_plan : Cnf → LayoutValue
 first_plan f = record { vars = f.vars; clauses = length f.clauses; literals = literals_of f; streams = 2; lines = 65536; room = 1048576 }
 
 -- why there is no answer, where the lines of the stream weren't all taken
@@ -69,7 +69,7 @@ IsBadSource f old new =
 
 -- the formula with this text has no layout, or the stream isn't good
 abbrev pub IsRefused : List ℕ → Option (List ℕ) → Option (List ℕ) → Type 0
-IsRefused formula old new = (f : Cnf) × IsTextOf formula f × ((¬ IsPlan (first_plan f)) ⊎ IsBadSource f old new)
+IsRefused formula old new = (f : Cnf) × IsTextOf formula f × ((¬ IsLayout (first_plan f)) ⊎ IsBadSource f old new)
 
 -- where clauses were published, the map has the last one live
 abbrev pub IsLiveLast : Plain → Tally → Type 0

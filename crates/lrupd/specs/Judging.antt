@@ -3,13 +3,13 @@ use Rattle.std.specs.Prelude.{◌≡◌, ◌<◌, ◌++◌, ℕ, ℤ, List, [], 
 use Rattle.std.specs.List.{AllByRecursion}
 use Rattle.lrup_model.specs.Clause.{Clause, IsClause, IsTautology}
 use Rattle.lrup_model.specs.Formula.{Cnf}
-use Rattle.lrup_model.specs.Entailment.{Follows}
-use Rattle.lrup_model.specs.Layout.{Plan, IsIdentity, Owns}
+use Rattle.lrup_model.specs.Entailment.{IsDerived}
+use Rattle.lrup_model.specs.Layout.{LayoutValue, IsIdentity, Owns}
 use Rattle.lrup_model.specs.Event as events
 use Rattle.lrup_model.specs.Event.{Event, History}
 use Rattle.lrup_model.specs.State.{State, live, absent}
 use Rattle.lrup_model.specs.History.{LegalFrom}
-use Rattle.lrup_model.specs.Place.{Place}
+use Rattle.lrup_model.specs.Place.{Place, IsVacantAbove}
 use Rattle.lrup_model.specs.Propagation.{Accepts}
 use Rattle.lrup_model.specs.declared.clause_map.Published.TheVariants as publishing
 use Rattle.propagate.specs.Different.{different}
@@ -18,33 +18,25 @@ use Rattle.propagate.specs.Hints.{Leads}
 use Rattle.propagate.specs.declared.marks.Step.{Step}
 use Rattle.lrupd.specs.Additions.{Standing, IsAdmitted, IsGood, AreFound}
 
--- the caller's own identities above the last that it published have nothing
-abbrev pub IsVacantAbove : Place → ℕ → Type 0
-IsVacantAbove p last = (id : ℕ) → Owns p.layout p.stream id → last < id → p.own id ≡ absent
-
 -- the event is a fetch
 abbrev pub IsFetch : Event → Type 0
 IsFetch (events.fetch s id r) = Unit {0}
 IsFetch (events.publish s id c r) = ⊥
 IsFetch (events.retire s id r) = ⊥
 
--- a clause over the formula's variables that follows from it
-abbrev pub IsDerived : Cnf → Clause → Type 0
-IsDerived f d = IsClause f.vars d × Follows f d
-
 -- hints leave the clause that was taken up
 abbrev pub KeepsClause : Propagation → Propagation → Type 0
 KeepsClause old new = (new.vars ≡ old.vars) × (new.clause ≡ old.clause)
 
 -- One hint of stream s: not found, at every map that gives these answers, or found with a clause, and what that does.
-abbrev pub Tries : Cnf → Plan → ℕ → Propagation → Propagation → ℕ → History → Option Step → Type 0
+abbrev pub Tries : Cnf → LayoutValue → ℕ → Propagation → Propagation → ℕ → History → Option Step → Type 0
 Tries f p s old new hint es None =
     AllByRecursion IsFetch es × ((m : State) (d : Clause) → LegalFrom f p m es → IsIdentity p hint → ¬ (m hint ≡ live d))
 Tries f p s old new hint es (Some step) =
     (d : Clause) × (es ≡ events.fetch s hint (events.live d) ∷ []) × IsDerived f d × IsIdentity p hint × Steps old d step new
 
 -- Hints that are all unit, one after the other; else, with one more hint behind them, they show nothing.
-abbrev pub LeadsBy : Cnf → Plan → Propagation → Propagation → List ℕ → History → Bool → Type 0
+abbrev pub LeadsBy : Cnf → LayoutValue → Propagation → Propagation → List ℕ → History → Bool → Type 0
 LeadsBy f p old new hints es true =
     (ds : List Clause) × AllByRecursion (IsDerived f) ds × Leads old.falses ds new.falses × (new ≡ record old { falses = new.falses })
     × ((m : State) → LegalFrom f p m es → AreFound p m hints ds)
@@ -52,7 +44,7 @@ LeadsBy f p old new hints es false =
     (m : State) (last : ℕ) (ds : List Clause) → LegalFrom f p m es → AreFound p m (hints ++ last ∷ []) ds → ¬ Accepts old.falses ds
 
 -- The hints show the clause by propagation, or they don't, at every map that gives these answers.
-abbrev pub Shows : Cnf → Plan → Clause → List ℕ → History → Bool → Type 0
+abbrev pub Shows : Cnf → LayoutValue → Clause → List ℕ → History → Bool → Type 0
 Shows f p c hints es true =
     (ds : List Clause) × AllByRecursion (IsDerived f) ds × Accepts c ds × ((m : State) → LegalFrom f p m es → AreFound p m hints ds)
 Shows f p c hints es false = (m : State) (ds : List Clause) → LegalFrom f p m es → AreFound p m hints ds → ¬ Accepts c ds
@@ -62,19 +54,19 @@ standing_at p last m = record { last = last; room = p.room; map = m }
 
 -- The addition passes the tests that ask for no clause, and its clause is taken up.
 pub record Admits (p : Place) (last id : ℕ) (lits : List ℤ) (marks : Propagation) : Type 0 where
-  pub admitted : IsAdmitted p.formula p.layout p.stream last p.room id lits
-  pub clause : IsClause p.formula.vars (different lits)
+  pub admitted : IsAdmitted p.caller.formula p.caller.layout p.caller.stream last p.room id lits
+  pub clause : IsClause p.caller.formula.vars (different lits)
   pub consistent : ¬ IsTautology (different lits)
-  pub marks_are : marks ≡ record { vars = p.formula.vars; clause = different lits; falses = different lits; ready = true }
+  pub marks_are : marks ≡ record { vars = p.caller.formula.vars; clause = different lits; falses = different lits; ready = true }
 
 -- A good addition is published after some fetches, and the answer is the clause's size; a bad one makes fetches alone.
 -- It is good, or bad, at every map that gives these answers.
 abbrev pub Judges : Place → ℕ → ℕ → List ℤ → List ℕ → History → Option ℕ → Type 0
 Judges p last id lits hints es (Some size) =
     (size ≡ length (different lits))
-    × (fetches : History) × AllByRecursion IsFetch fetches × (es ≡ fetches ++ events.publish p.stream id (different lits) publishing.Done ∷ [])
-    × ((m : State) → LegalFrom p.formula p.layout m es → IsGood p.formula p.layout p.stream (standing_at p last m) id lits hints)
-    × IsAdmitted p.formula p.layout p.stream last p.room id lits
+    × (fetches : History) × AllByRecursion IsFetch fetches × (es ≡ fetches ++ events.publish p.caller.stream id (different lits) publishing.Done ∷ [])
+    × ((m : State) → LegalFrom p.caller.formula p.caller.layout m es → IsGood p.caller.formula p.caller.layout p.caller.stream (standing_at p last m) id lits hints)
+    × IsAdmitted p.caller.formula p.caller.layout p.caller.stream last p.room id lits
 Judges p last id lits hints es None =
     AllByRecursion IsFetch es
-    × ((m : State) → LegalFrom p.formula p.layout m es → ¬ IsGood p.formula p.layout p.stream (standing_at p last m) id lits hints)
+    × ((m : State) → LegalFrom p.caller.formula p.caller.layout m es → ¬ IsGood p.caller.formula p.caller.layout p.caller.stream (standing_at p last m) id lits hints)

@@ -4,12 +4,12 @@ use Rattle.std.specs.Io.KnownBytes.{Consumes, IsAtEnd}
 use Rattle.std.specs.List.{list_any}
 use Rattle.lrup_model.specs.Clause.{Clause}
 use Rattle.lrup_model.specs.Formula.{Cnf}
-use Rattle.lrup_model.specs.Layout.{Plan}
+use Rattle.lrup_model.specs.Layout.{LayoutValue}
 use Rattle.lrup_model.specs.Event as events
-use Rattle.lrup_model.specs.Event.{Event, History}
+use Rattle.lrup_model.specs.Event.{History, publishes, publishes_empty, published}
 use Rattle.lrup_model.specs.State.{State, run}
 use Rattle.lrup_model.specs.History.{LegalFrom}
-use Rattle.lrup_model.specs.Place.{Place}
+use Rattle.lrup_model.specs.Place.{Place, IsVacantAbove}
 use Rattle.lrup_model.specs.declared.clause_map.Published.TheVariants as publishing
 use Rattle.lrup_text.specs.Lines.{StreamLine, Addition, Deletion, LineText, Cut, IsPending}
 use Rattle.lrup_text.specs.Feeding.{ReaderState}
@@ -20,10 +20,10 @@ use Rattle.lrupd.specs.declared.stream.Next.TheVariants.{Good, Bad, More}
 use Rattle.lrupd.specs.declared.stream.StreamFault.{StreamFault}
 use Rattle.lrupd.specs.declared.stream.StreamFault.TheVariants as faults
 use Rattle.lrupd.specs.Additions.{Standing, IsGood, after_addition}
-use Rattle.lrupd.specs.Judging.{IsVacantAbove, Judges, standing_at}
+use Rattle.lrupd.specs.Judging.{Judges, standing_at}
 
 -- all lines are good additions, one after the other
-abbrev pub AreGood : Cnf → Plan → ℕ → Standing → List StreamLine → Type 0
+abbrev pub AreGood : Cnf → LayoutValue → ℕ → Standing → List StreamLine → Type 0
 AreGood f p s before [] = Unit {0}
 AreGood f p s before (Addition id lits hints ∷ lines) = IsGood f p s before id lits hints × AreGood f p s (after_addition before id lits) lines
 AreGood f p s before (Deletion lead ids ∷ lines) = ⊥
@@ -33,28 +33,6 @@ abbrev pub after_lines : Standing → List StreamLine → Standing
 after_lines before [] = before
 after_lines before (Addition id lits hints ∷ lines) = after_lines (after_addition before id lits) lines
 after_lines before (Deletion lead ids ∷ lines) = after_lines before lines
-
--- the event published a clause
-abbrev pub publishes : Event → Bool
-publishes (events.fetch s id r) = false
-publishes (events.publish s id c publishing.Done) = true
-publishes (events.publish s id c publishing.Taken) = false
-publishes (events.retire s id r) = false
-
--- the event published the empty clause
-abbrev pub publishes_empty : Event → Bool
-publishes_empty (events.fetch s id r) = false
-publishes_empty (events.publish s id c publishing.Done) = length c == 0
-publishes_empty (events.publish s id c publishing.Taken) = false
-publishes_empty (events.retire s id r) = false
-
--- the identity and the clause of each event that published one
-abbrev pub published : History → List (ℕ × Clause)
-published [] = []
-published (events.fetch s id r ∷ es) = published es
-published (events.publish s id c publishing.Done ∷ es) = (id, c) ∷ published es
-published (events.publish s id c publishing.Taken ∷ es) = published es
-published (events.retire s id r ∷ es) = published es
 
 -- the identity and the clause of each addition
 abbrev pub added_by : List StreamLine → List (ℕ × Clause)
@@ -100,8 +78,8 @@ MayFollow ended more = IsTrue ended → more ≡ []
 -- whatever follows, no lines that are good make up the bytes, at every map that gives these answers
 abbrev pub IsBadStream : Place → ℕ → List ℕ → Bool → History → Type 0
 IsBadStream p last bytes ended es =
-    (more : List ℕ) (m : State) (lines : List StreamLine) → MayFollow ended more → LegalFrom p.formula p.layout m es → Cut (bytes ++ more) lines []
-    → ¬ AreGood p.formula p.layout p.stream (standing_at p last m) lines
+    (more : List ℕ) (m : State) (lines : List StreamLine) → MayFollow ended more → LegalFrom p.caller.formula p.caller.layout m es → Cut (bytes ++ more) lines []
+    → ¬ AreGood p.caller.formula p.caller.layout p.caller.stream (standing_at p last m) lines
 
 -- what a piece gives
 abbrev pub Takes : Place → Tally → List ℕ → List ℕ → History → Next → Type 0
@@ -123,9 +101,7 @@ StaysReady q old read piece reader More = IsReady q reader old × (read_of reade
 
 -- a place of one stream, at one time and another
 pub record IsSameStream (p q : Place) : Type 0 where
-  pub formula : q.formula ≡ p.formula
-  pub layout : q.layout ≡ p.layout
-  pub stream : q.stream ≡ p.stream
+  pub caller : q.caller ≡ p.caller
 
 -- A stream so far, from the place p to q: its lines are good additions, whose clauses were published, and this was read of
 -- the next line and counted. What is left after these lines is what stands at q.
@@ -133,10 +109,10 @@ pub record IsSoFar (p q : Place) (last : ℕ) (bytes read : List ℕ) (es : Hist
   pub places : IsSameStream p q
   pub lines : List StreamLine
   pub cut : Cut bytes lines read
-  pub counts : Counts p.stream es tally
+  pub counts : Counts p.caller.stream es tally
   pub carries : published es ≡ added_by lines
-  pub good : (m : State) → LegalFrom p.formula p.layout m es
-      → AreGood p.formula p.layout p.stream (standing_at p last m) lines × (after_lines (standing_at p last m) lines ≡ standing_at q tally.last (run m es))
+  pub good : (m : State) → LegalFrom p.caller.formula p.caller.layout m es
+      → AreGood p.caller.formula p.caller.layout p.caller.stream (standing_at p last m) lines × (after_lines (standing_at p last m) lines ≡ standing_at q tally.last (run m es))
 
 -- a stream after one more piece: its lines are good so far, or it is bad, whatever follows
 abbrev pub GoesOn : Place → Place → ℕ → List ℕ → List ℕ → History → Option Tally → Type 0
@@ -163,8 +139,8 @@ pub record Gave (old new : Option (List ℕ)) (bytes : List ℕ) (ended : Bool) 
 pub record IsGoodStream (p : Place) (last : ℕ) (bytes : List ℕ) (es : History) (tally : Tally) : Type 0 where
   pub lines : List StreamLine
   pub cut : Cut bytes lines []
-  pub counts : Counts p.stream es tally
-  pub good : (m : State) → LegalFrom p.formula p.layout m es → AreGood p.formula p.layout p.stream (standing_at p last m) lines
+  pub counts : Counts p.caller.stream es tally
+  pub good : (m : State) → LegalFrom p.caller.formula p.caller.layout m es → AreGood p.caller.formula p.caller.layout p.caller.stream (standing_at p last m) lines
   pub carries : published es ≡ added_by lines
 
 -- all that the source gave is a good stream; or what it gave is the front of none, or, at its end, not one; or a read failed

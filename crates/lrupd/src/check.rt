@@ -7,11 +7,12 @@ ghost use Rattle.lrup_model.specs.Literal.{IsLiteral, max_variable};
 ghost use Rattle.lrup_model.specs.Clause.{Clause, IsClause, IsTautology};
 ghost use Rattle.lrup_model.specs.Event.{History};
 ghost use Rattle.lrup_model.specs.State.{State};
+ghost use Rattle.lrup_model.specs.Place.{IsVacantAbove};
 ghost use Rattle.lrup_model.specs.Propagation.{Accepts};
 ghost use Rattle.propagate.specs.Different.{different};
 ghost use Rattle.propagate.specs.Marks.{Propagation};
 ghost use Rattle.lrupd.specs.Additions.{IsAdmitted, AreFound, IsGood};
-ghost use Rattle.lrupd.specs.Judging.{Admits, KeepsClause, Judges, IsVacantAbove, IsFetch, Tries, LeadsBy, Shows};
+ghost use Rattle.lrupd.specs.Judging.{Admits, KeepsClause, Judges, IsFetch, Tries, LeadsBy, Shows};
 
 use lrup_model::{ClauseMap, Fetched, Id, Lit, Published};
 use propagate::{Marks, Step};
@@ -47,10 +48,10 @@ impl Checker {
     /// The tests of an addition that ask the map for no clause; the clause is taken up where all hold.
     fn admit<M: ClauseMap>(&mut self, map: &M, last: Id, id: Id, lits: &[i64]) -> bool
         requires literals { length lits.now ≤ max_line_literals }
-        requires variables { (M.place map.now).formula.vars ≡ self.old.vars }
+        requires variables { (M.place map.now).caller.formula.vars ≡ self.old.vars }
         ensures vars { self.new.vars ≡ self.old.vars }
         ensures good { OnTrue result (Admits (M.place map.now) last id lits.now self.new.marks) }
-        ensures bad { OnFalse result (IsAdmitted (M.place map.now).formula (M.place map.now).layout (M.place map.now).stream last (M.place map.now).room id lits.now → IsTautology (different lits.now)) }
+        ensures bad { OnFalse result (IsAdmitted (M.place map.now).caller.formula (M.place map.now).caller.layout (M.place map.now).caller.stream last (M.place map.now).room id lits.now → IsTautology (different lits.now)) }
     {
         if id <= last || !map.owns(id) {
             return false;
@@ -75,7 +76,7 @@ impl Checker {
         hints: &[Id],
     ) -> Option<usize>
         requires literals { length lits.now ≤ max_line_literals }
-        requires variables { (M.place map.old).formula.vars ≡ self.old.vars }
+        requires variables { (M.place map.old).caller.formula.vars ≡ self.old.vars }
         requires vacant { IsVacantAbove (M.place map.old) last }
         ensures vars { self.new.vars ≡ self.old.vars }
         ensures judged { (es : History) × M.moves map.old map.new es × Judges (M.place map.old) last id lits.now hints.now es result }
@@ -116,8 +117,8 @@ fn read_literals(literals: &mut Vec<Lit>, numbers: &[i64], vars: u32) -> bool
 /// again: on one thread nobody could publish it meanwhile.
 fn try_hint<M: ClauseMap>(map: &mut M, marks: &mut Marks, hint: Id) -> Option<Step>
     requires ready { IsTrue marks.old.ready }
-    requires variables { (M.place map.old).formula.vars ≤ marks.old.vars }
-    ensures tried { (es : History) × M.moves map.old map.new es × Tries (M.place map.old).formula (M.place map.old).layout (M.place map.old).stream marks.old marks.new hint es result }
+    requires variables { (M.place map.old).caller.formula.vars ≤ marks.old.vars }
+    ensures tried { (es : History) × M.moves map.old map.new es × Tries (M.place map.old).caller.formula (M.place map.old).caller.layout (M.place map.old).caller.stream marks.old marks.new hint es result }
     ensures kept { KeepsClause marks.old marks.new }
 {
     if !map.covers(hint) {
@@ -138,8 +139,8 @@ fn is_step(tried: Option<Step>, step: Step) -> bool
 /// Are these hints all unit, one after the other?
 fn lead<M: ClauseMap>(map: &mut M, marks: &mut Marks, hints: &[Id]) -> bool
     requires ready { IsTrue marks.old.ready }
-    requires variables { (M.place map.old).formula.vars ≤ marks.old.vars }
-    ensures led { (es : History) × M.moves map.old map.new es × AllByRecursion IsFetch es × LeadsBy (M.place map.old).formula (M.place map.old).layout marks.old marks.new hints.now es result }
+    requires variables { (M.place map.old).caller.formula.vars ≤ marks.old.vars }
+    ensures led { (es : History) × M.moves map.old map.new es × AllByRecursion IsFetch es × LeadsBy (M.place map.old).caller.formula (M.place map.old).caller.layout marks.old marks.new hints.now es result }
     ensures kept { KeepsClause marks.old marks.new }
 {
     for hint in hints {
@@ -154,9 +155,9 @@ fn lead<M: ClauseMap>(map: &mut M, marks: &mut Marks, hints: &[Id]) -> bool
 /// Do the hints show the clause of the marks: is each unit, but for the last, which is the conflict?
 fn show<M: ClauseMap>(map: &mut M, marks: &mut Marks, hints: &[Id]) -> bool
     requires ready { IsTrue marks.old.ready }
-    requires variables { (M.place map.old).formula.vars ≤ marks.old.vars }
+    requires variables { (M.place map.old).caller.formula.vars ≤ marks.old.vars }
     requires consistent { ¬ IsTautology marks.old.falses }
-    ensures shown { (es : History) × M.moves map.old map.new es × AllByRecursion IsFetch es × Shows (M.place map.old).formula (M.place map.old).layout marks.old.falses hints.now es result }
+    ensures shown { (es : History) × M.moves map.old map.new es × AllByRecursion IsFetch es × Shows (M.place map.old).caller.formula (M.place map.old).caller.layout marks.old.falses hints.now es result }
     ensures kept { KeepsClause marks.old marks.new }
 {
     let Some((last, before)) = hints.split_last() else {

@@ -3,11 +3,11 @@ ghost use Rattle.std.specs.Prelude.{◌≡◌, ◌<◌, ◌≤◌, ◌≢◌, �
 ghost use Rattle.std.specs.Result.{IsErrOf};
 ghost use Rattle.dimacs.specs.declared.fault.DimacsFault.{DimacsFault};
 ghost use Rattle.lrup_model.specs.Event.{History};
-ghost use Rattle.lrup_model.specs.Layout.{IsPlan};
+ghost use Rattle.lrup_model.specs.Layout.{IsLayout};
 ghost use Rattle.lrup_model.specs.State.{absent};
-ghost use Rattle.lrup_model.specs.Plain.{state_of, place_at, PlainMoves};
+ghost use Rattle.lrup_model.specs.Plain.{state_of, plain_place, PlainMoves};
 ghost use Rattle.dimacs.specs.FormulaFault.{IsFaultOf};
-ghost use Rattle.lrupd.specs.Judging.{IsVacantAbove};
+ghost use Rattle.lrup_model.specs.Place.{IsVacantAbove};
 ghost use Rattle.lrupd.specs.Streams.{JudgesStream};
 ghost use Rattle.lrupd.specs.First.{ChecksAll, IsRefused, IsLiveLast, FetchesLast, first_plan};
 
@@ -86,7 +86,7 @@ fn zero_bytes(alloc: Global, count: usize) -> Result<Vec<u8>, AllocError>
 
 /// The layout of two streams for this formula, where there is one.
 fn layout_of(formula: &Formula) -> Option<Layout>
-    ensures { MatchOption result (¬ IsPlan (first_plan formula.now)) (λ layout. (layout ≡ first_plan formula.now) × IsPlan layout) }
+    ensures { MatchOption result (¬ IsLayout (first_plan formula.now)) (λ layout. (layout ≡ first_plan formula.now) × IsLayout layout) }
 {
     let vars = formula.vars() as u64;
     let clauses = formula.len() as u64;
@@ -107,10 +107,10 @@ fn check_stream<W: Wait, S: Source>(
     requires reader { reader.old ≡ Ok [] }
     requires streams { 0 < map.old.layout.streams }
     requires variables { map.old.layout.vars ≡ checker.old.vars }
-    requires vacant { IsVacantAbove (place_at map.old 1) last }
+    requires vacant { IsVacantAbove (plain_place map.old 1) last }
     requires running { S.has_failed stream.old ≡ false }
     requires buffer { 0 < length buffer.old }
-    ensures judged { (es : History) × PlainMoves map.old map.new 1 es × JudgesStream (place_at map.old 1) last (S.left stream.old) (S.left stream.new) es result }
+    ensures judged { (es : History) × PlainMoves map.old map.new 1 es × JudgesStream (plain_place map.old 1) last (S.left stream.old) (S.left stream.new) es result }
     ensures failed { IsTrue (S.has_failed stream.new) ↔ IsErrOf result StreamFault.Unread }
 {
     let mut desk = map.desk(1);

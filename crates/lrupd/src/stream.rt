@@ -2,7 +2,7 @@
 ghost use Rattle.std.specs.Prelude.{◌≡◌, ◌≤◌, ◌<◌, ◌+◌, ◌++◌, ◌↔◌, ℕ, List, [], Ok, Err, Some, IfSome, IsTrue, false, length};
 ghost use Rattle.std.specs.Result.{IsErrOf};
 ghost use Rattle.lrup_model.specs.Event.{History};
-ghost use Rattle.lrupd.specs.Judging.{IsVacantAbove};
+ghost use Rattle.lrup_model.specs.Place.{IsVacantAbove};
 ghost use Rattle.lrupd.specs.Streams.{Counted, Takes, TakesPiece, IsReady, StaysReady, Finishes, JudgesStream, read_of};
 
 use crate::check::Checker;
@@ -78,7 +78,7 @@ fn take_line<M: ClauseMap>(
     piece: &[u8],
 ) -> Next
     requires ready { IsReady (M.place map.old) reader.old tally }
-    requires variables { (M.place map.old).formula.vars ≡ checker.old.vars }
+    requires variables { (M.place map.old).caller.formula.vars ≡ checker.old.vars }
     ensures variables { checker.new.vars ≡ checker.old.vars }
     ensures taken { (es : History) × M.moves map.old map.new es × Takes (M.place map.old) tally (read_of reader.old) piece.now es result }
     ensures ready { StaysReady (M.place map.new) tally (read_of reader.old) piece.now reader.new result }
@@ -107,8 +107,8 @@ fn take_piece<M: ClauseMap>(
     piece: &[u8],
 ) -> Option<Tally>
     requires ready { IsReady (M.place map.old) reader.old before }
-    requires variables { (M.place map.old).formula.vars ≡ checker.old.vars }
-    ensures variables { (M.place map.new).formula.vars ≡ checker.new.vars }
+    requires variables { (M.place map.old).caller.formula.vars ≡ checker.old.vars }
+    ensures variables { (M.place map.new).caller.formula.vars ≡ checker.new.vars }
     ensures taken { (es : History) × M.moves map.old map.new es × TakesPiece (M.place map.old) (M.place map.new) (read_of reader.old) piece.now (read_of reader.new) es before result }
     ensures ready { IfSome result (IsReady (M.place map.new) reader.new) }
 {
@@ -151,7 +151,7 @@ pub fn take_stream<W: Wait, M: ClauseMap, S: Source>(
     buffer: &mut [u8],
 ) -> Result<Tally, StreamFault>
     requires reader { reader.old ≡ Ok [] }
-    requires variables { (M.place map.old).formula.vars ≡ checker.old.vars }
+    requires variables { (M.place map.old).caller.formula.vars ≡ checker.old.vars }
     requires vacant { IsVacantAbove (M.place map.old) last }
     requires source { S.has_failed source.old ≡ false }
     requires buffer { 0 < length buffer.old }

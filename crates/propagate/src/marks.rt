@@ -3,7 +3,7 @@ ghost use Rattle.std.specs.Prelude.{◌≡◌, ◌↔◌, ◌≤◌, ◌++◌, L
 ghost use Rattle.std.specs.List.{AllByRecursion};
 ghost use Rattle.lrup_model.specs.Literal.{IsLiteral, max_variable};
 ghost use Rattle.lrup_model.specs.Clause.{Has, IsClause, IsTautology};
-ghost use Rattle.lrup_model.specs.Place.{IsKnown, text_of};
+ghost use Rattle.lrup_model.specs.Place.{IsKnown, AllFollow, text_of};
 ghost use Rattle.lrup_model.specs.Propagation.{IsConflict, IsUnit};
 ghost use Rattle.propagate.specs.Different.{different};
 ghost use Rattle.propagate.specs.Marks.{Propagation, Steps};
@@ -112,7 +112,8 @@ impl Marks {
     pub fn hint<M: ClauseMap>(&mut self, map: &mut M, clip: &Clip) -> Step
         requires ready { IsTrue self.old.ready }
         requires known { IsKnown (M.place map.old) clip.now }
-        requires variables { (M.place map.old).formula.vars ≤ self.old.vars }
+        requires follow { AllFollow (M.place map.old) }
+        requires variables { (M.place map.old).caller.formula.vars ≤ self.old.vars }
         ensures conflict { (result ≡ Step.Conflict) ↔ IsConflict self.old.falses (text_of (M.place map.old) clip.now) }
         ensures unit { (result ≡ Step.Unit) ↔ ((l : ℤ) × IsUnit self.old.falses (text_of (M.place map.old) clip.now) l) }
         ensures step { Steps self.old (text_of (M.place map.old) clip.now) result self.new }
@@ -141,7 +142,8 @@ impl Marks {
 /// What is left of the clause. It stops reading where more than one literal is.
 fn rest_of<M: ClauseMap>(falses: &Trail, map: &mut M, clip: &Clip) -> Left
     requires known { IsKnown (M.place map.old) clip.now }
-    requires variables { (M.place map.old).formula.vars ≤ falses.now.vars }
+    requires follow { AllFollow (M.place map.old) }
+    requires variables { (M.place map.old).caller.formula.vars ≤ falses.now.vars }
     ensures left { IsLeft falses.now.literals (text_of (M.place map.old) clip.now) result }
     ensures event { M.moves map.old map.new [] }
     ensures stays { M.place map.new ≡ M.place map.old }

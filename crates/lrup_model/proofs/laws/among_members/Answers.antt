@@ -1,4 +1,4 @@
-use Rattle.lrup_model.proofs.RestrictionLemmas.{among-members}
+use Rattle.lrup_model.specs.RestrictionLemmas.{among-members}
 use Rattle.lrup_model.proofs.laws.among_members.Goals as goal
 
 pub returns : goal.returns

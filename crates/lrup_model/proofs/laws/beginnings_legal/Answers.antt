@@ -1,4 +1,4 @@
-use Rattle.lrup_model.proofs.HistoryLemmas.{IsLegal-front}
+use Rattle.lrup_model.specs.HistoryLemmas.{IsLegal-front}
 use Rattle.lrup_model.proofs.laws.beginnings_legal.Goals as goal
 
 pub returns : goal.returns

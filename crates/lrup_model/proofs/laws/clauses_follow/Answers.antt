@@ -1,4 +1,4 @@
-use Rattle.lrup_model.proofs.EntailmentLemmas.{clauses_follow}
+use Rattle.lrup_model.specs.EntailmentLemmas.{clauses_follow}
 use Rattle.lrup_model.proofs.laws.clauses_follow.Goals as goal
 
 pub returns : goal.returns

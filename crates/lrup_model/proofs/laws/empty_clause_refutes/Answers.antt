@@ -1,4 +1,4 @@
-use Rattle.lrup_model.proofs.EntailmentLemmas.{empty_refutes}
+use Rattle.lrup_model.specs.EntailmentLemmas.{empty_refutes}
 use Rattle.lrup_model.proofs.laws.empty_clause_refutes.Goals as goal
 
 pub returns : goal.returns

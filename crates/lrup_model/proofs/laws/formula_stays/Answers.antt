@@ -1,4 +1,4 @@
-use Rattle.lrup_model.proofs.HistoryLemmas.{formula_stays}
+use Rattle.lrup_model.specs.HistoryLemmas.{formula_stays}
 use Rattle.lrup_model.proofs.laws.formula_stays.Goals as goal
 
 pub returns : goal.returns

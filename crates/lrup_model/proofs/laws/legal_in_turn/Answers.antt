@@ -1,5 +1,5 @@
 use Rattle.lrup_model.specs.Running.{legal-append}
-use Rattle.lrup_model.proofs.HistoryLemmas.{legal-front, legal-back}
+use Rattle.lrup_model.specs.HistoryLemmas.{legal-front, legal-back}
 use Rattle.lrup_model.proofs.laws.legal_in_turn.Goals as goal
 
 pub returns : goal.returns

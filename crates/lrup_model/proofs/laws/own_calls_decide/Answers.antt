@@ -1,6 +1,6 @@
 use Rattle.std.proofs.Common.{refl}
 use Rattle.lrup_model.specs.State.{opening}
-use Rattle.lrup_model.proofs.HistoryLemmas.{run-own}
+use Rattle.lrup_model.specs.HistoryLemmas.{run-own}
 use Rattle.lrup_model.proofs.laws.own_calls_decide.Goals as goal
 
 pub returns : goal.returns

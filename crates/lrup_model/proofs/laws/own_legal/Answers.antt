@@ -1,5 +1,5 @@
 use Rattle.std.proofs.Common.{eqb}
-use Rattle.lrup_model.proofs.RestrictionLemmas.{restriction_legal}
+use Rattle.lrup_model.specs.RestrictionLemmas.{restriction_legal}
 use Rattle.lrup_model.proofs.laws.own_legal.Goals as goal
 
 pub returns : goal.returns

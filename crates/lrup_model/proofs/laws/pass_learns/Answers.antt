@@ -1,4 +1,4 @@
-use Rattle.lrup_model.proofs.PassLemmas.{moves_learn}
+use Rattle.lrup_model.specs.PassLemmas.{moves_learn}
 use Rattle.lrup_model.proofs.laws.pass_learns.Goals as goal
 
 pub returns : goal.returns

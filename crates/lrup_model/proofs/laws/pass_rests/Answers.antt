@@ -1,4 +1,4 @@
-use Rattle.lrup_model.proofs.PassLemmas.{moves_none}
+use Rattle.lrup_model.specs.PassLemmas.{moves_none}
 use Rattle.lrup_model.proofs.laws.pass_rests.Goals as goal
 
 pub returns : goal.returns

@@ -1,4 +1,4 @@
-use Rattle.lrup_model.proofs.PassLemmas.{moves_step}
+use Rattle.lrup_model.specs.PassLemmas.{moves_step}
 use Rattle.lrup_model.proofs.laws.pass_steps.Goals as goal
 
 pub returns : goal.returns

@@ -1,4 +1,4 @@
-use Rattle.lrup_model.proofs.EntailmentLemmas.{accepted_follows}
+use Rattle.lrup_model.specs.EntailmentLemmas.{accepted_follows}
 use Rattle.lrup_model.proofs.laws.propagation_sound.Goals as goal
 
 pub returns : goal.returns

@@ -1,4 +1,4 @@
-use Rattle.lrup_model.proofs.RestrictionLemmas.{restriction_legal}
+use Rattle.lrup_model.specs.RestrictionLemmas.{restriction_legal}
 use Rattle.lrup_model.proofs.laws.restriction_legal.Goals as goal
 
 pub returns : goal.returns

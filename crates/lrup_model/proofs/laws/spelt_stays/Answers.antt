@@ -1,4 +1,4 @@
-use Rattle.lrup_model.proofs.PassLemmas.{spelt_stays}
+use Rattle.lrup_model.specs.PassLemmas.{spelt_stays}
 use Rattle.lrup_model.proofs.laws.spelt_stays.Goals as goal
 
 pub returns : goal.returns

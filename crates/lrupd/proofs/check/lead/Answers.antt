@@ -1,3 +1,4 @@
+use Rattle.lrup_model.specs.Place.{Caller}
 use Rattle.std.proofs.Common.{refl, ◌≡◌, ◌≤◌, ◌<◌, ◌+◌, sym, ap, subst, ◌∙◌, [], ◌∷◌, ◌++◌, Some, List, ℕ, take, drop, length, true, get_or, take-append-drop, drop-cons, add-one}
 use Rattle.std.proofs.lemmas.Bool.{both_ways}
 use Rattle.std.proofs.lemmas.List.{take_more}
@@ -15,7 +16,7 @@ loop-hint-init g c =
       ready = c.requires.ready;
       variables = c.requires.variables;
       kept = (refl, refl);
-      led = ([], g.met.M.ClauseMap.moves_none c.args.map.now, tt, lead_none p.formula p.layout c.args.marks.now);
+      led = ([], g.met.M.ClauseMap.moves_none c.args.map.now, tt, lead_none p.caller.formula p.caller.layout c.args.marks.now);
     }
 
 -- the hint that is tried, among the others
@@ -30,7 +31,7 @@ returns-then-not-is_step g c =
     let led = c.loop-hint.invariant.led in
     let tried = c.try_hint-tried.ensures.tried in
     let there = g.met.M.ClauseMap.moves_tells c.args.map.now c.loop-hint.map led.0 led.1 in
-    let fails = lead_fails p.formula p.layout p.stream c.args.marks.now c.loop-hint.marks c.try_hint-tried.new.marks (take i c.args.hints.now) (get_or c.args.hints.now i 0) (drop (i + 1) c.args.hints.now) c.args.hints.now
+    let fails = lead_fails p.caller.formula p.caller.layout p.caller.stream c.args.marks.now c.loop-hint.marks c.try_hint-tried.new.marks (take i c.args.hints.now) (get_or c.args.hints.now i 0) (drop (i + 1) c.args.hints.now) c.args.hints.now
     led.0 tried.0 c.try_hint-tried.result led.2 led.3
     (tries_there p q led.0 c.loop-hint.marks c.try_hint-tried.new.marks (get_or c.args.hints.now i 0) tried.0 c.try_hint-tried.result there tried.2)
     (no_unit c.try_hint-tried.result (λ is. both_ways c.is_step.result c.if-not-is_step.true (c.is_step.ensures.1 is)))
@@ -46,18 +47,18 @@ loop-hint-preserved g c =
     let tried = c.try_hint-tried.ensures.tried in
     let there = g.met.M.ClauseMap.moves_tells c.args.map.now c.loop-hint.map led.0 led.1 in
     let again = g.met.M.ClauseMap.moves_tells c.loop-hint.map c.try_hint-tried.new.map tried.0 tried.1 in
-    let unit : Tries q.formula q.layout q.stream c.loop-hint.marks c.try_hint-tried.new.marks (get_or c.args.hints.now i 0) tried.0 (Some Alone) =
-    subst (Tries q.formula q.layout q.stream c.loop-hint.marks c.try_hint-tried.new.marks (get_or c.args.hints.now i 0) tried.0) (c.is_step.ensures.0 c.if-not-is_step.false) tried.2 in
-    let more = lead_more p.formula p.layout p.stream c.args.marks.now c.loop-hint.marks c.try_hint-tried.new.marks (take i c.args.hints.now) (get_or c.args.hints.now i 0) led.0 tried.0 led.2 led.3
+    let unit : Tries q.caller.formula q.caller.layout q.caller.stream c.loop-hint.marks c.try_hint-tried.new.marks (get_or c.args.hints.now i 0) tried.0 (Some Alone) =
+    subst (Tries q.caller.formula q.caller.layout q.caller.stream c.loop-hint.marks c.try_hint-tried.new.marks (get_or c.args.hints.now i 0) tried.0) (c.is_step.ensures.0 c.if-not-is_step.false) tried.2 in
+    let more = lead_more p.caller.formula p.caller.layout p.caller.stream c.args.marks.now c.loop-hint.marks c.try_hint-tried.new.marks (take i c.args.hints.now) (get_or c.args.hints.now i 0) led.0 tried.0 led.2 led.3
     (tries_there p q led.0 c.loop-hint.marks c.try_hint-tried.new.marks (get_or c.args.hints.now i 0) tried.0 (Some Alone) there unit) in
     record {
       ready = ap (λ (m : Propagation). m.ready) unit.4.2 ∙ c.loop-hint.invariant.ready;
-      variables = subst (λ (f : Cnf). f.vars ≤ c.try_hint-tried.new.marks.vars) (sym again.formula) (subst (λ v. q.formula.vars ≤ v) (sym (ap (λ (m : Propagation). m.vars) unit.4.2)) c.loop-hint.invariant.variables);
+      variables = subst (λ (f : Cnf). f.vars ≤ c.try_hint-tried.new.marks.vars) (sym (ap (λ (r : Caller). r.formula) again.caller)) (subst (λ v. q.caller.formula.vars ≤ v) (sym (ap (λ (m : Propagation). m.vars) unit.4.2)) c.loop-hint.invariant.variables);
       kept = keeps_on c.args.marks.now c.loop-hint.marks c.try_hint-tried.new.marks c.loop-hint.invariant.kept c.try_hint-tried.ensures.kept;
       led = (
         led.0 ++ tried.0,
         g.met.M.ClauseMap.moves_append c.args.map.now c.loop-hint.map c.try_hint-tried.new.map led.0 tried.0 led.1 tried.1,
         more.0,
-        subst (λ (hs : List ℕ). LeadsBy p.formula p.layout c.args.marks.now c.try_hint-tried.new.marks hs (led.0 ++ tried.0) true) (sym (take_more c.args.hints.now i 0 c.loop-hint-test.true)) more.1,
+        subst (λ (hs : List ℕ). LeadsBy p.caller.formula p.caller.layout c.args.marks.now c.try_hint-tried.new.marks hs (led.0 ++ tried.0) true) (sym (take_more c.args.hints.now i 0 c.loop-hint-test.true)) more.1,
       );
     }

@@ -9,7 +9,7 @@ invariant-loop-hint g l =
     let place = g.M.ClauseMap.place l.initial.map in
     record {
       ready : l.marks.ready ≡ true;
-      variables : (g.M.ClauseMap.place l.map).formula.vars ≤ l.marks.vars;
+      variables : (g.M.ClauseMap.place l.map).caller.formula.vars ≤ l.marks.vars;
       kept : KeepsClause l.initial.marks l.marks;
-      led : (es : History) × g.M.ClauseMap.moves l.initial.map l.map es × AllByRecursion IsFetch es × LeadsBy place.formula place.layout l.initial.marks l.marks (take l.hint-index l.hints) es true;
+      led : (es : History) × g.M.ClauseMap.moves l.initial.map l.map es × AllByRecursion IsFetch es × LeadsBy place.caller.formula place.caller.layout l.initial.marks l.marks (take l.hint-index l.hints) es true;
     }

@@ -1,6 +1,6 @@
 use Rattle.std.proofs.Common.{◌≡◌, ◌∙◌, ap, replicate, Result, inr, subst, sym}
 use Rattle.std.specs.Result.{IsErrAnd}
-use Rattle.lrup_model.specs.Layout.{Plan}
+use Rattle.lrup_model.specs.Layout.{LayoutValue}
 use Rattle.lrup_model.specs.State.{opening}
 use Rattle.lrupd.specs.declared.answer.First.{First}
 use Rattle.lrupd.specs.declared.answer.FirstFault.{FirstFault}
@@ -14,7 +14,7 @@ check_stream-requires-clause-vacant g c id owns above =
       layout = c.in_ok-map.ensures.layout ∙ c.in-Some.ensures.0;
       formula = c.in_ok-map.ensures.formula;
       state = c.in_ok-map.ensures.state;
-      room = c.in_ok-map.ensures.room ∙ ap (λ (p : Plan). replicate p.streams p.room) c.in-Some.ensures.0;
+      room = c.in_ok-map.ensures.room ∙ ap (λ (p : LayoutValue). replicate p.streams p.room) c.in-Some.ensures.0;
     } in
     vacant_there c.in-Ok.formula c.in_ok-map.map c.len-last.result id opened c.len-last.ensures.len above
 
@@ -24,7 +24,7 @@ fetch_last-last-requires-clause-live g c =
       layout = c.in_ok-map.ensures.layout ∙ c.in-Some.ensures.0;
       formula = c.in_ok-map.ensures.formula;
       state = c.in_ok-map.ensures.state;
-      room = c.in_ok-map.ensures.room ∙ ap (λ (p : Plan). replicate p.streams p.room) c.in-Some.ensures.0;
+      room = c.in_ok-map.ensures.room ∙ ap (λ (p : LayoutValue). replicate p.streams p.room) c.in-Some.ensures.0;
     } in
     let judged = c.in_ok-tally.ensures.judged in
     live_there c.in-Ok.formula c.in_ok-map.map c.check_stream.new.map c.len-last.result judged.2.0 judged.0 c.in_ok-tally.tally opened judged.1 judged.2.2
@@ -39,7 +39,7 @@ returns-clause-ok g c =
       layout = c.in_ok-map.ensures.layout ∙ c.in-Some.ensures.0;
       formula = c.in_ok-map.ensures.formula;
       state = c.in_ok-map.ensures.state;
-      room = c.in_ok-map.ensures.room ∙ ap (λ (p : Plan). replicate p.streams p.room) c.in-Some.ensures.0;
+      room = c.in_ok-map.ensures.room ∙ ap (λ (p : LayoutValue). replicate p.streams p.room) c.in-Some.ensures.0;
     } in
     let judged = c.in_ok-tally.ensures.judged in
     let es = judged.0 in
@@ -70,7 +70,7 @@ returns-in_err-tally-clause-refused g c =
       layout = c.in_ok-map.ensures.layout ∙ c.in-Some.ensures.0;
       formula = c.in_ok-map.ensures.formula;
       state = c.in_ok-map.ensures.state;
-      room = c.in_ok-map.ensures.room ∙ ap (λ (p : Plan). replicate p.streams p.room) c.in-Some.ensures.0;
+      room = c.in_ok-map.ensures.room ∙ ap (λ (p : LayoutValue). replicate p.streams p.room) c.in-Some.ensures.0;
     } in
     let judged = c.in_err-tally.ensures.judged in
     let bad = bad_there c.in-Ok.formula c.in_ok-map.map c.check_stream.new.map c.len-last.result (g.S.Source.left c.args.stream.now) (g.S.Source.left c.check_stream.new.stream) judged.0 c.in_err-tally.field-0.0 opened judged.1 c.len-last.ensures.len judged.2 in

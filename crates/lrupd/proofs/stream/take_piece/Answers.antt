@@ -1,3 +1,4 @@
+use Rattle.lrup_model.specs.Place.{Caller}
 use Rattle.std.proofs.Common.{◌≡◌, ◌++◌, ◌∙◌, [], List, ℕ, Some, None, sym, ap, subst, refl, take, take-append-drop, append_assoc}
 use Rattle.lrup_model.specs.Formula.{Cnf}
 use Rattle.lrupd.specs.Streams.{TakesPiece, read_of}
@@ -29,7 +30,7 @@ lines-preserved g c =
     let split : rest ≡ take used rest ++ c.split_at.result.1.now = sym (take-append-drop used rest) ∙ ap (λ (t : List ℕ). take used rest ++ t) (sym c.split_at.ensures.back) in
     record {
       ready = ready.0;
-      variables = ap (λ (f : Cnf). f.vars) tells.formula ∙ c.lines.invariant.variables ∙ sym c.take_line.ensures.variables;
+      variables = ap (λ (f : Cnf). f.vars) (ap (λ (r : Caller). r.formula) tells.caller) ∙ c.lines.invariant.variables ∙ sym c.take_line.ensures.variables;
       taken = (
         old.0 ++ take used rest,
         old.1 ∙ ap (λ (t : List ℕ). old.0 ++ t) split ∙ sym (append_assoc old.0 (take used rest) c.split_at.result.1.now),

@@ -9,7 +9,7 @@ invariant-lines g l =
     let q = g.M.ClauseMap.place l.map in
     record {
       ready : IsReady q l.reader l.tally;
-      variables : q.formula.vars ≡ l.checker.vars;
+      variables : q.caller.formula.vars ≡ l.checker.vars;
       taken : (front : List ℕ) × (l.piece ≡ front ++ l.rest) × (es : History) × g.M.ClauseMap.moves l.initial.map l.map es
           × TakesPiece p q (read_of l.initial.reader) front (read_of l.reader) es l.fn.before (Some l.tally);
     }

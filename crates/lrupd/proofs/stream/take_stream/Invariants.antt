@@ -10,7 +10,7 @@ invariant-pieces g l =
     let q = g.M.ClauseMap.place l.map in
     record {
       ready : IsReady q l.reader l.tally;
-      variables : q.formula.vars ≡ l.checker.vars;
+      variables : q.caller.formula.vars ≡ l.checker.vars;
       running : g.S.Source.has_failed l.source ≡ false;
       buffer : 0 < length l.buffer;
       so_far : (bytes : List ℕ) × Consumes (g.S.Source.left l.initial.source) (g.S.Source.left l.source) bytes

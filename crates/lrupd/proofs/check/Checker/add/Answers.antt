@@ -15,7 +15,7 @@ publish-requires-clause-clause g c =
     let admits = c.if-not-admit.ensures.good in
     let tells = g.met.M.ClauseMap.moves_tells c.args.map.now c.show.new.map shown.0 shown.1 in
     let is = clause_is p c.args.last c.args.id c.args.lits.now c.admit.new.self.marks c.show.new.marks c.clause-clause.result.now admits c.show.ensures.kept c.clause-clause.ensures in
-    subst (IsPublishable q.formula) (sym is)
+    subst (IsPublishable q.caller.formula) (sym is)
     (publishable p q shown.0 c.args.last c.args.id c.args.lits.now c.args.hints.now c.admit.new.self.marks tells admits c.requires.literals
     (shown_is p c.args.last c.args.id c.args.lits.now c.args.hints.now c.admit.new.self.marks shown.0 true admits shown.3))
 
@@ -49,8 +49,8 @@ returns-clause-judged g c =
     let tells = g.met.M.ClauseMap.moves_tells c.args.map.now c.show.new.map shown.0 shown.1 in
     let is = clause_is p c.args.last c.args.id c.args.lits.now c.admit.new.self.marks c.show.new.marks c.clause-clause.result.now admits c.show.ensures.kept c.clause-clause.ensures in
     let event = published_is p q shown.0 c.args.id c.clause-clause.result.now c.args.lits.now c.publish.result tells is c.in-Done.is in
-    let moved = g.met.M.ClauseMap.moves_append c.args.map.now c.show.new.map c.publish.new.self shown.0 (events.publish q.stream c.args.id c.clause-clause.result.now c.publish.result ∷ []) shown.1 c.publish.ensures.event in (
-      shown.0 ++ events.publish p.stream c.args.id (different c.args.lits.now) publishing.Done ∷ [],
+    let moved = g.met.M.ClauseMap.moves_append c.args.map.now c.show.new.map c.publish.new.self shown.0 (events.publish q.caller.stream c.args.id c.clause-clause.result.now c.publish.result ∷ []) shown.1 c.publish.ensures.event in (
+      shown.0 ++ events.publish p.caller.stream c.args.id (different c.args.lits.now) publishing.Done ∷ [],
       subst (g.M.ClauseMap.moves c.args.map.now c.publish.new.self) event moved,
       judged_good p c.args.last c.args.id c.args.lits.now c.args.hints.now shown.0 (length c.clause-clause.result.now) shown.2 admits.admitted
           (shown_is p c.args.last c.args.id c.args.lits.now c.args.hints.now c.admit.new.self.marks shown.0 true admits shown.3) (ap length is),

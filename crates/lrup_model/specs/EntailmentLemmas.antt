@@ -7,7 +7,7 @@ use Rattle.lrup_model.specs.Literal.{IsLiteral}
 use Rattle.lrup_model.specs.Clause.{Clause, Has, IsClause}
 use Rattle.lrup_model.specs.Formula.{Cnf, IsCnf, IsFormulaClause, clause_at}
 use Rattle.lrup_model.specs.Entailment.{Assignment, MakesTrue, Satisfies, SatisfiesAll, Follows, IsUnsatisfiable}
-use Rattle.lrup_model.specs.Layout.{Plan}
+use Rattle.lrup_model.specs.Layout.{LayoutValue}
 use Rattle.lrup_model.specs.Event as events
 use Rattle.lrup_model.specs.Event.{Event, History}
 use Rattle.lrup_model.specs.State.{State, Slot, absent, live, retired, put, retire_slot, after, opening, run, state}
@@ -16,7 +16,7 @@ use Rattle.lrup_model.specs.Propagation.{IsUnit, Refutes, Accepts}
 use Rattle.lrup_model.specs.Laws.{HasClause}
 use Rattle.lrup_model.specs.declared.clause_map.Published.TheVariants as publishing
 use Rattle.lrup_model.specs.declared.clause_map.Retired.TheVariants as retiring
-use Rattle.lrup_model.proofs.HistoryLemmas.{put-same, put-other, opening-formula, opening-above, opening-none}
+use Rattle.lrup_model.specs.HistoryLemmas.{put-same, put-other, opening-formula, opening-above, opening-none}
 
 -- Literals and clauses under an assignment
 
@@ -145,14 +145,14 @@ put_sound f m j slot id old new =
       | inr other ↦ subst (ClauseFollows f) (sym (put-other m j slot id other)) old
     ]
 
-pub after_sound : (f : Cnf) (p : Plan) (m : State) (e : Event) → IsAllowed f p e → ((id : ℕ) → ClauseFollows f (m id)) → (id : ℕ) → ClauseFollows f (after m e id)
+pub after_sound : (f : Cnf) (p : LayoutValue) (m : State) (e : Event) → IsAllowed f p e → ((id : ℕ) → ClauseFollows f (m id)) → (id : ℕ) → ClauseFollows f (after m e id)
 after_sound f p m (events.fetch s j r) allowed sound id = sound id
 after_sound f p m (events.publish s j c publishing.Done) allowed sound id = put_sound f m j (live c) id (sound id) (allowed.1.clause, allowed.1.follows)
 after_sound f p m (events.publish s j c publishing.Taken) allowed sound id = sound id
 after_sound f p m (events.retire s j retiring.Done) allowed sound id = put_sound f m j (retire_slot (m j)) id (sound id) (retired_sound f (m j) (sound j))
 after_sound f p m (events.retire s j retiring.NotLive) allowed sound id = sound id
 
-pub run_sound : (f : Cnf) (p : Plan) (m : State) (h : History) → LegalFrom f p m h → ((id : ℕ) → ClauseFollows f (m id)) → (id : ℕ) → ClauseFollows f (run m h id)
+pub run_sound : (f : Cnf) (p : LayoutValue) (m : State) (h : History) → LegalFrom f p m h → ((id : ℕ) → ClauseFollows f (m id)) → (id : ℕ) → ClauseFollows f (run m h id)
 run_sound f p m [] legal sound id = sound id
 run_sound f p m (e ∷ h) legal sound id = run_sound f p (after m e) h legal.2 (after_sound f p m e legal.1 sound) id
 
@@ -161,6 +161,6 @@ clause_of_sound f absent c sound has = absurd has
 clause_of_sound f (live d) c sound has = subst (λ (x : Clause). IsClause f.vars x × Follows f x) has sound
 clause_of_sound f (retired d) c sound has = subst (λ (x : Clause). IsClause f.vars x × Follows f x) has sound
 
-pub clauses_follow : (f : Cnf) (p : Plan) (h : History) (id : ℕ) (c : Clause) → IsCnf f → LegalFrom f p (opening f) h → HasClause (state f h id) c → IsClause f.vars c × Follows f c
+pub clauses_follow : (f : Cnf) (p : LayoutValue) (h : History) (id : ℕ) (c : Clause) → IsCnf f → LegalFrom f p (opening f) h → HasClause (state f h id) c → IsClause f.vars c × Follows f c
 clauses_follow f p h id c cnf legal has =
     clause_of_sound f (state f h id) c (run_sound f p (opening f) h legal (λ j. opening_sound f j cnf) id) has

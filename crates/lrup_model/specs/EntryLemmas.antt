@@ -2,25 +2,26 @@
 use Rattle.std.proofs.Common.{ℕ, refl, sym, subst, ◌∙◌, inl, inr, [], ◌∷◌}
 use Rattle.std.specs.List.{AllByRecursion}
 use Rattle.std.proofs.lemmas.Bool.{cases_eq}
+use Rattle.lrup_model.specs.Clause.{Clause}
 use Rattle.lrup_model.specs.Formula.{Cnf}
-use Rattle.lrup_model.specs.Layout.{Plan}
+use Rattle.lrup_model.specs.Layout.{LayoutValue}
 use Rattle.lrup_model.specs.Event as events
-use Rattle.lrup_model.specs.Event.{Event, History}
+use Rattle.lrup_model.specs.Event.{Event, History, published}
 use Rattle.lrup_model.specs.State.{State, Slot, absent, live, retired, put, retire_slot, after, run, Answers}
 use Rattle.lrup_model.specs.History.{IsAllowed, LegalFrom}
-use Rattle.lrup_model.specs.Laws.{Advances, IsByOwner}
+use Rattle.lrup_model.specs.Laws.{Advances, HasClause, IsByOwner}
 use Rattle.lrup_model.specs.declared.clause_map.Published.TheVariants as publishing
 use Rattle.lrup_model.specs.declared.clause_map.Retired.TheVariants as retiring
-use Rattle.lrup_model.proofs.HistoryLemmas.{put-same, put-other}
+use Rattle.lrup_model.specs.HistoryLemmas.{put-same, put-other}
 
 -- By its owner alone
 
-pub IsByOwner-from_allowed : (f : Cnf) (p : Plan) (e : Event) → IsAllowed f p e → IsByOwner p e
+pub IsByOwner-from_allowed : (f : Cnf) (p : LayoutValue) (e : Event) → IsAllowed f p e → IsByOwner p e
 IsByOwner-from_allowed f p (events.fetch s id r) allowed = tt
 IsByOwner-from_allowed f p (events.publish s id c r) allowed = allowed.0
 IsByOwner-from_allowed f p (events.retire s id r) allowed = allowed
 
-pub owners_act : (f : Cnf) (p : Plan) (m : State) (h : History) → LegalFrom f p m h → AllByRecursion (IsByOwner p) h
+pub owners_act : (f : Cnf) (p : LayoutValue) (m : State) (h : History) → LegalFrom f p m h → AllByRecursion (IsByOwner p) h
 owners_act f p m [] legal = tt
 owners_act f p m (e ∷ h) legal = (IsByOwner-from_allowed f p e legal.1, owners_act f p (after m e) h legal.2)
 
@@ -67,7 +68,30 @@ after-advances m (events.publish s j c publishing.Taken) id answers = Advances-s
 after-advances m (events.retire s j retiring.Done) id answers = put-advances m j (retire_slot (m j)) id (Advances-retired (m j))
 after-advances m (events.retire s j retiring.NotLive) id answers = Advances-same (m id)
 
-pub run-advances : (f : Cnf) (p : Plan) (m : State) (h : History) (id : ℕ) → LegalFrom f p m h → Advances (m id) (run m h id)
+pub run-advances : (f : Cnf) (p : LayoutValue) (m : State) (h : History) (id : ℕ) → LegalFrom f p m h → Advances (m id) (run m h id)
 run-advances f p m [] id legal = Advances-same (m id)
 run-advances f p m (e ∷ h) id legal =
     Advances-then (m id) (after m e id) (run (after m e) h id) (after-advances m e id legal.0) (run-advances f p (after m e) h id legal.2)
+
+-- a clause stays where its slot advances
+pub has_stays : (old new : Slot) (c : Clause) → Advances old new → HasClause old c → HasClause new c
+has_stays absent new c advances has = absurd has
+has_stays (live d) absent c advances has = absurd advances
+has_stays (live d) (live e) c advances has = advances ∙ has
+has_stays (live d) (retired e) c advances has = advances ∙ has
+has_stays (retired d) absent c advances has = absurd advances
+has_stays (retired d) (live e) c advances has = absurd advances
+has_stays (retired d) (retired e) c advances has = advances ∙ has
+
+pub published_stay : (f : Cnf) (p : LayoutValue) (m : State) (h : History) → LegalFrom f p m h → AllByRecursion (λ x. HasClause (run m h x.0) x.1) (published h)
+published_stay f p m [] legal = tt
+published_stay f p m (events.fetch s id r ∷ h) legal = published_stay f p m h legal.2
+published_stay f p m (events.publish s id c publishing.Done ∷ h) legal = (
+  has_stays (put m id (live c) id) (run (put m id (live c)) h id) c
+      (run-advances f p (put m id (live c)) h id legal.2)
+      (subst (λ (x : Slot). HasClause x c) (sym (put-same m id (live c) id refl)) refl),
+  published_stay f p (put m id (live c)) h legal.2,
+)
+published_stay f p m (events.publish s id c publishing.Taken ∷ h) legal = published_stay f p m h legal.2
+published_stay f p m (events.retire s id retiring.Done ∷ h) legal = published_stay f p (put m id (retire_slot (m id))) h legal.2
+published_stay f p m (events.retire s id retiring.NotLive ∷ h) legal = published_stay f p m h legal.2

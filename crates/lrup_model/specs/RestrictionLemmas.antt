@@ -5,7 +5,7 @@ use Rattle.std.specs.List.{sum_by, AllByRecursion}
 use Rattle.std.proofs.lemmas.Bool.{cases_Bool, cases_eq, cond-true, cond-false, true≢false}
 use Rattle.std.proofs.lemmas.List.Sums.{sum_by-cons}
 use Rattle.lrup_model.specs.Formula.{Cnf}
-use Rattle.lrup_model.specs.Layout.{Plan, Fits, Owns, owner}
+use Rattle.lrup_model.specs.Layout.{LayoutValue, Fits, Owns, owner}
 use Rattle.lrup_model.specs.Event as events
 use Rattle.lrup_model.specs.Event.{Event, History, stream_of, size_of, own, spent}
 use Rattle.lrup_model.specs.State.{State, Slot, absent, IsLive, IsRetired, after, opening, Answers}
@@ -15,25 +15,25 @@ use Rattle.lrup_model.specs.declared.clause_map.Published.TheVariants as publish
 use Rattle.lrup_model.specs.declared.clause_map.Retired.TheVariants as retiring
 use Rattle.lrup_model.specs.declared.layout.Owner.{Owner}
 use Rattle.lrup_model.specs.declared.layout.Owner.TheVariants as owners
-use Rattle.lrup_model.proofs.HistoryLemmas.{own-mine, own-other, one_owner, opening-owned, after-agrees, after-foreign}
+use Rattle.lrup_model.specs.HistoryLemmas.{own-mine, own-other, one_owner, opening-owned, after-agrees, after-foreign}
 
 -- no stream outside the set owns the identity
-abbrev pub IsInside : Plan → (ℕ → Bool) → ℕ → Type 0
+abbrev pub IsInside : LayoutValue → (ℕ → Bool) → ℕ → Type 0
 IsInside p set id = (t : ℕ) → Owns p t id → IsTrue (set t)
 
 -- The restricted state has what the whole one has at identities that no stream outside the set owns, and nothing at the others.
-pub record Restricts (p : Plan) (set : ℕ → Bool) (whole part : State) : Type 0 where
+pub record Restricts (p : LayoutValue) (set : ℕ → Bool) (whole part : State) : Type 0 where
   pub inside : (id : ℕ) → IsInside p set id → part id ≡ whole id
   pub outside : (id t : ℕ) → Owns p t id → set t ≡ false → part id ≡ absent
 
-Restricts-opening : (f : Cnf) (p : Plan) (set : ℕ → Bool) → Fits p f → Restricts p set (opening f) (opening f)
+Restricts-opening : (f : Cnf) (p : LayoutValue) (set : ℕ → Bool) → Fits p f → Restricts p set (opening f) (opening f)
 Restricts-opening f p set fits = record {
   inside = λ id within. refl;
   outside = λ id t owns out. opening-owned f p t id fits owns;
 }
 
 -- an event of the set's streams changes both states
-Restricts-member : (f : Cnf) (p : Plan) (set : ℕ → Bool) (whole part : State) (e : Event) → IsAllowed f p e → set (stream_of e) ≡ true → Restricts p set whole part → Restricts p set (after whole e) (after part e)
+Restricts-member : (f : Cnf) (p : LayoutValue) (set : ℕ → Bool) (whole part : State) (e : Event) → IsAllowed f p e → set (stream_of e) ≡ true → Restricts p set whole part → Restricts p set (after whole e) (after part e)
 Restricts-member f p set whole part e allowed member rel = record {
   inside = λ id within. after-agrees part whole e id (rel.inside id within);
   outside = λ id t owns out.
@@ -42,7 +42,7 @@ Restricts-member f p set whole part e allowed member rel = record {
 }
 
 -- an event of another stream changes the whole state alone
-Restricts-other : (f : Cnf) (p : Plan) (set : ℕ → Bool) (whole part : State) (e : Event) → IsAllowed f p e → set (stream_of e) ≡ false → Restricts p set whole part → Restricts p set (after whole e) part
+Restricts-other : (f : Cnf) (p : LayoutValue) (set : ℕ → Bool) (whole part : State) (e : Event) → IsAllowed f p e → set (stream_of e) ≡ false → Restricts p set whole part → Restricts p set (after whole e) part
 Restricts-other f p set whole part e allowed other rel = record {
   inside = λ id within.
       let foreign : Owns p (stream_of e) id → ⊥ = λ theirs. true≢false (sym (within (stream_of e) theirs) ∙ other) in
@@ -51,7 +51,7 @@ Restricts-other f p set whole part e allowed other rel = record {
 }
 
 -- an owned identity is inside the set, or else a stream outside it owns it
-inside_or_outside : (p : Plan) (set : ℕ → Bool) (id : ℕ) (o : Owner) → owner p id ≡ o → IsInside p set id ⊎ ((t : ℕ) × Owns p t id × (set t ≡ false))
+inside_or_outside : (p : LayoutValue) (set : ℕ → Bool) (id : ℕ) (o : Owner) → owner p id ≡ o → IsInside p set id ⊎ ((t : ℕ) × Owns p t id × (set t ≡ false))
 inside_or_outside p set id owners.Formula is = inl (λ t owns. absurd (cc))
 inside_or_outside p set id (owners.Stream s) is =
     elim (cases_Bool (set s)) [
@@ -60,18 +60,18 @@ inside_or_outside p set id (owners.Stream s) is =
     ]
 inside_or_outside p set id owners.Outside is = inl (λ t owns. absurd (cc))
 
-restricted_nothing : (p : Plan) (set : ℕ → Bool) (whole part : State) (id : ℕ) → Restricts p set whole part → whole id ≡ absent → part id ≡ absent
+restricted_nothing : (p : LayoutValue) (set : ℕ → Bool) (whole part : State) (id : ℕ) → Restricts p set whole part → whole id ≡ absent → part id ≡ absent
 restricted_nothing p set whole part id rel nothing =
     elim (inside_or_outside p set id (owner p id) refl) [
       | inl within ↦ rel.inside id within ∙ nothing
       | inr out ↦ rel.outside id out.0 out.1 out.2
     ]
 
-own_inside : (p : Plan) (set : ℕ → Bool) (s id : ℕ) → set s ≡ true → Owns p s id → IsInside p set id
+own_inside : (p : LayoutValue) (set : ℕ → Bool) (s id : ℕ) → set s ≡ true → Owns p s id → IsInside p set id
 own_inside p set s id member owns t theirs = ap set (one_owner p t s id theirs owns) ∙ member
 
 -- an event of the set's streams has the same reply from the restricted state
-Restricts-answers : (f : Cnf) (p : Plan) (set : ℕ → Bool) (whole part : State) (e : Event)
+Restricts-answers : (f : Cnf) (p : LayoutValue) (set : ℕ → Bool) (whole part : State) (e : Event)
     → IsAllowed f p e → set (stream_of e) ≡ true → FindsWithin p set e → Restricts p set whole part → Answers whole e → Answers part e
 Restricts-answers f p set whole part (events.fetch s id events.vacant) allowed member finds rel answers = restricted_nothing p set whole part id rel answers
 Restricts-answers f p set whole part (events.fetch s id (events.live c)) allowed member finds rel answers = rel.inside id (finds member tt) ∙ answers
@@ -113,7 +113,7 @@ own-among set (e ∷ h) s inside =
           ∙ sym (own-other e h s (λ mine. true≢false (sym inside ∙ ap set (sym mine) ∙ other)))
     ]
 
-pub among-legal : (f : Cnf) (p : Plan) (set : ℕ → Bool) (whole part : State) (h : History) → Restricts p set whole part → LegalFrom f p whole h → AllByRecursion (FindsWithin p set) h → LegalFrom f p part (among set h)
+pub among-legal : (f : Cnf) (p : LayoutValue) (set : ℕ → Bool) (whole part : State) (h : History) → Restricts p set whole part → LegalFrom f p whole h → AllByRecursion (FindsWithin p set) h → LegalFrom f p part (among set h)
 among-legal f p set whole part [] rel legal finds = tt
 among-legal f p set whole part (e ∷ h) rel legal finds =
     elim (cases_Bool (set (stream_of e))) [
@@ -156,7 +156,7 @@ spent-among s set (e ∷ h) =
       | inr other ↦ subst (λ (g : History). spent s g ≤ spent s (e ∷ h)) (sym (among-other set e h other)) (omega (arith, spent-among s set h, spent-rest s e h))
     ]
 
-pub restriction_legal : (f : Cnf) (p : Plan) (set : ℕ → Bool) (h : History) → Fits p f → IsLegal f p h → AllByRecursion (FindsWithin p set) h → IsLegal f p (among set h)
+pub restriction_legal : (f : Cnf) (p : LayoutValue) (set : ℕ → Bool) (h : History) → Fits p f → IsLegal f p h → AllByRecursion (FindsWithin p set) h → IsLegal f p (among set h)
 restriction_legal f p set h fits legal finds = record {
   events = among-legal f p set (opening f) (opening f) h (Restricts-opening f p set fits) legal.events finds;
   room = λ s. omega (arith, spent-among s set h, legal.room s);
