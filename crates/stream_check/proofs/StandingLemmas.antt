@@ -4,7 +4,7 @@ use mathlib.Core.Path.{fun_ext}
 use Rattle.std.specs.List.{list_any, sum_by}
 use Rattle.std.proofs.lemmas.List.Folds.{list_any-append}
 use Rattle.std.proofs.lemmas.List.Sums.{sum_by-append}
-use Rattle.lrup_model.specs.Layout.{Plan}
+use Rattle.lrup_model.specs.Layout.{LayoutValue}
 use Rattle.lrup_model.specs.Event.{History}
 use Rattle.lrup_text.specs.Lines.{StreamLine, Addition, Deletion}
 use Rattle.stream_check.specs.Setting.{Setting, side_of, is_shared}
@@ -14,12 +14,12 @@ use Rattle.stream_check.specs.Judging.{JudgesLine}
 use Rattle.stream_check.specs.Leaving.{SameStanding, standing_after, tally_after, last_after}
 
 -- the last identity after one line more
-last_in-snoc : (p : Plan) (lines : List StreamLine) (id : ℕ) (lits : List ℤ) (hints : List ℕ) → last_in p (lines ++ Addition id lits hints ∷ []) ≡ max (last_in p lines) id
+last_in-snoc : (p : LayoutValue) (lines : List StreamLine) (id : ℕ) (lits : List ℤ) (hints : List ℕ) → last_in p (lines ++ Addition id lits hints ∷ []) ≡ max (last_in p lines) id
 last_in-snoc p [] id lits hints = omega arith
 last_in-snoc p (Addition j ls hs ∷ lines) id lits hints = let e = last_in-snoc p lines id lits hints in omega (arith, e)
 last_in-snoc p (Deletion lead ids ∷ lines) id lits hints = last_in-snoc p lines id lits hints
 
-last_in-snoc_deletion : (p : Plan) (lines : List StreamLine) (lead : ℕ) (ids : List ℕ) → last_in p (lines ++ Deletion lead ids ∷ []) ≡ last_in p lines
+last_in-snoc_deletion : (p : LayoutValue) (lines : List StreamLine) (lead : ℕ) (ids : List ℕ) → last_in p (lines ++ Deletion lead ids ∷ []) ≡ last_in p lines
 last_in-snoc_deletion p [] lead ids = refl
 last_in-snoc_deletion p (Addition j ls hs ∷ lines) lead ids = ap (max j) (last_in-snoc_deletion p lines lead ids)
 last_in-snoc_deletion p (Deletion l is ∷ lines) lead ids = last_in-snoc_deletion p lines lead ids

@@ -1,12 +1,12 @@
 -- Whose lines are judged, and how this stream sees an identity (this project's own).
 use Rattle.std.specs.Prelude.{◌==◌, ℕ, Bool, true, false, if◌then◌else◌}
-use Rattle.lrup_model.specs.Layout.{Plan, owner}
+use Rattle.lrup_model.specs.Layout.{LayoutValue, owner}
 use Rattle.lrup_model.specs.declared.layout.Owner.{Owner}
 use Rattle.lrup_model.specs.declared.layout.Owner.TheVariants as owners
 
 -- the layout, the stream, from 1 on, and how often a hint of another stream is fetched again while it is vacant
 pub record Setting : Type 0 where
-  pub layout : Plan
+  pub layout : LayoutValue
   pub stream : ℕ
   pub tries : ℕ
 

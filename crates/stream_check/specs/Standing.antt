@@ -1,7 +1,7 @@
 -- What good lines leave for the line after them (this project's own). It is read off the lines, not off a checker.
 use Rattle.std.specs.Prelude.{◌==◌, ◌+◌, ◌-◌, ◌^◌, ◌&&◌, ℕ, Bool, true, false, List, [], ◌∷◌, length, max, min}
 use Rattle.std.specs.List.{list_any, sum_by}
-use Rattle.lrup_model.specs.Layout.{Plan}
+use Rattle.lrup_model.specs.Layout.{LayoutValue}
 use Rattle.lrup_text.specs.Lines.{StreamLine, Addition, Deletion}
 use Rattle.propagate.specs.Different.{different}
 use Rattle.stream_check.specs.Setting.{Setting, side_of, is_shared}
@@ -13,7 +13,7 @@ pub record Standing : Type 0 where
   pub gone : ℕ → Bool
 
 -- the greatest identity of the additions, or the formula's last one if there are none
-abbrev pub last_in : Plan → List StreamLine → ℕ
+abbrev pub last_in : LayoutValue → List StreamLine → ℕ
 last_in p [] = p.clauses
 last_in p (Addition id lits hints ∷ lines) = max id (last_in p lines)
 last_in p (Deletion lead ids ∷ lines) = last_in p lines
