@@ -7,4 +7,7 @@ pub mod Additions
 pub mod Deletions
 pub mod Judging
 pub mod Leaving
+pub mod Checking
+pub mod CheckerValue
+pub mod Checker
 pub mod Laws

@@ -1,9 +1,20 @@
 //! The judge of one proof stream: what a stream's bytes, their end and its events at a clause map come to.
 #![tactic(auto)]
 
+mod addition;
+mod asking;
+mod deletion;
+mod dropped;
 mod fault;
+mod gate;
+mod held;
+mod hints;
 pub mod laws;
+mod progress;
 mod report;
+mod setting;
 
 pub use fault::Fault;
+pub use gate::Gate;
+pub use progress::{Progress, Turn};
 pub use report::{Ending, Report};
