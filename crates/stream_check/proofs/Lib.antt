@@ -1,2 +1,4 @@
 pub mod StandingLemmas
 pub mod LeavingLemmas
+pub mod TryLemmas
+pub mod AddLemmas

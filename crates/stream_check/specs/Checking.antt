@@ -15,6 +15,7 @@ use Rattle.lrup_model.specs.declared.clause_map.Fetched.TheVariants as fetched
 use Rattle.lrup_model.specs.declared.clause_map.Retired.TheVariants as retiring
 use Rattle.propagate.specs.Marks.{Propagation}
 use Rattle.stream_check.specs.declared.fault.Fault.{Fault}
+use Rattle.stream_check.specs.declared.fault.Fault.TheVariants as faults
 use Rattle.stream_check.specs.declared.setting.Side.{Side}
 use Rattle.stream_check.specs.declared.setting.Side.TheVariants as sides
 use Rattle.stream_check.specs.declared.hints.Tried.{Tried}
@@ -83,6 +84,11 @@ abbrev pub Shows : Setting → (ℕ → Bool) → Cnf → Clause → List ℕ �
 Shows c gone f clause hints es None =
     (ds : List Clause) × AllByRecursion (IsDerived f) ds × Accepts clause ds × ((e : Event) → JudgesHints c gone e clause hints (es ++ e ∷ []) Good)
 Shows c gone f clause hints es (Some fault) = (e : Event) → JudgesHints c gone e clause hints es (Bad 0 fault)
+
+-- the fault of the hints that are left after the conflict, if any
+abbrev pub excess_of : List ℕ → Option Fault
+excess_of [] = None
+excess_of (h ∷ hints) = Some (faults.Excess h)
 
 -- the verdict of an addition that has this fault, if any
 abbrev pub verdict_of : Option Fault → Verdict

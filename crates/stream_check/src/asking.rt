@@ -20,9 +20,9 @@ fn fetch_up_to<M: ClauseMap, G: Gate>(most: u64, map: &mut M, gate: &mut G, id: 
     let stream = map.stream();
     for before in 0..most {
         gate.before_fetch(stream, id, before + 1);
-        let fetched = map.fetch(id);
-        if fetched != Fetched::Vacant {
-            return fetched;
+        match map.fetch(id) {
+            Fetched::Vacant => {}
+            answer => return answer,
         }
     }
     gate.before_fetch(stream, id, most + 1);

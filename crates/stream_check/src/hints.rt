@@ -3,7 +3,7 @@ ghost use Rattle.std.specs.Prelude.{◌≡◌, ◌≤◌, ◌<◌, ◌^◌, [], 
 ghost use Rattle.lrup_model.specs.Clause.{IsTautology};
 ghost use Rattle.lrup_model.specs.Event.{History};
 ghost use Rattle.stream_check.specs.Standing.{is_among};
-ghost use Rattle.stream_check.specs.Checking.{IsAt, IsFetch, KeepsClause, Tries, Shows};
+ghost use Rattle.stream_check.specs.Checking.{IsAt, IsFetch, KeepsClause, Tries, Shows, excess_of};
 ghost use Rattle.std.specs.List.{AllByRecursion};
 
 use crate::asking::ask;
@@ -55,6 +55,14 @@ fn try_hint<M: ClauseMap, G: Gate>(
     }
 }
 
+/// The fault of the hints that are left after the conflict, if any.
+fn excess(left: &[Id]) -> Option<Fault>
+    ensures { result ≡ excess_of left.now }
+{
+    let next = left.first()?;
+    Some(Fault::Excess(*next))
+}
+
 /// Tries the hints one after the other: each but the last has to be unit, and the last a conflict. None where they are.
 pub fn try_hints<M: ClauseMap, G: Gate>(
     setting: &Setting,
@@ -76,7 +84,7 @@ pub fn try_hints<M: ClauseMap, G: Gate>(
     'hints: while let Some((hint, rest)) = left.split_first() {
         match try_hint(setting, dropped, map, gate, marks, *hint) {
             Tried::Unit => left = rest,
-            Tried::Conflict => return rest.first().map(|next| Fault::Excess(*next)),
+            Tried::Conflict => return excess(rest),
             Tried::Fails(fault) => return Some(fault),
         }
     }

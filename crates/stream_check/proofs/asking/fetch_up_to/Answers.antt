@@ -1,15 +1,44 @@
-use Rattle.std.proofs.Common.{rules, ◌≡◌, [], ◌<◌, ◌^◌, ℕ, ◌+◌, ◌-◌, ◌*◌, ◌≤◌, length, ◌/◌, ◌%◌, Bool, true, false, nat_eq, nat_lt, List, ◌∷◌, ◌++◌, slice_index_or, slice_set, bit_and, bit_or, Fits, w8, w32, w64, Bor, MutBor}
-use Rattle.lrup_model.specs.Event.{History}
-use Rattle.lrup_model.specs.Layout.{IsIdentity}
+use Rattle.std.proofs.Common.{◌≡◌, ◌+◌, ℕ, [], ◌∷◌, ◌++◌, refl, sym, ap, subst, arith, rules}
+use Rattle.std.specs.Prelude.{replicate}
+use Rattle.lrup_model.specs.Event.{Event, History, fetch, vacant}
+use Rattle.lrup_model.specs.Place.{Place, Caller}
+use Rattle.lrup_model.specs.declared.clause_map.Fetched.{Fetched}
+use Rattle.lrup_model.specs.declared.clause_map.Fetched.TheVariants as answers
 use Rattle.lrup_model.specs.Replies.{reply_of}
-use Rattle.stream_check.specs.Asking.{Asks, FetchesUpTo}
-use Rattle.stream_check.specs.Checking.{IsAt, Gives}
+use Rattle.stream_check.proofs.TryLemmas.{replicate-more}
 use Rattle.stream_check.proofs.asking.fetch_up_to.Goals as goal
 
--- src/asking.rt:25:13
-pub returns-then-ne-clause-asked : goal.returns-then-ne-clause-asked
-returns-then-ne-clause-asked g c = ?
+not_vacant : (p : Place) (r : Fetched) → (r ≡ answers.Vacant → ⊥) → reply_of p r ≡ vacant → ⊥
+not_vacant p answers.Vacant other e = other refl
+not_vacant p (answers.Live clip) other e = absurd (cc)
+not_vacant p answers.Retired other e = absurd (cc)
 
--- src/asking.rt:14:1
+pub returns-in_default-clause-asked : goal.returns-in_default-clause-asked
+returns-in_default-clause-asked g c =
+    let p = g.M.ClauseMap.place c.args.map.now in
+    let q = g.M.ClauseMap.place c.loop-before.map in
+    let n = g.M.ClauseMap.place c.fetch.new.self in
+    let k = c.loop-before.before in
+    let r = reply_of n c.fetch.result in
+    let front : History = replicate k (fetch p.caller.stream c.args.id vacant) in
+    let tells = g.met.M.ClauseMap.moves_tells c.args.map.now c.loop-before.map front c.loop-before.invariant in
+    let same : q.caller.stream ≡ p.caller.stream = ap (λ (s : Caller). s.stream) tells.caller in
+    let last : g.M.ClauseMap.moves c.loop-before.map c.fetch.new.self (fetch p.caller.stream c.args.id r ∷ []) =
+    subst (λ (s : ℕ). g.M.ClauseMap.moves c.loop-before.map c.fetch.new.self (fetch s c.args.id r ∷ [])) same c.fetch.ensures.event in (
+      front ++ fetch p.caller.stream c.args.id r ∷ [],
+      g.met.M.ClauseMap.moves_append c.args.map.now c.loop-before.map c.fetch.new.self front (fetch p.caller.stream c.args.id r ∷ []) c.loop-before.invariant last,
+      (k, c.loop-before.auto.before-end, (λ e. absurd (not_vacant n c.fetch.result c.in_default.not-Vacant e)), refl),
+    )
+
 pub returns-clause-asked : goal.returns-clause-asked
-returns-clause-asked g c = ?
+returns-clause-asked g c =
+    let p = g.M.ClauseMap.place c.args.map.now in
+    let q = g.M.ClauseMap.place c.loop-before.map in
+    let k = c.loop-before.before in
+    let r = reply_of (g.M.ClauseMap.place c.fetch-2.new.self) c.fetch-2.result in
+    let front : History = replicate k (fetch p.caller.stream c.args.id vacant) in
+    let tells = g.met.M.ClauseMap.moves_tells c.args.map.now c.loop-before.map front c.loop-before.invariant in
+    let same : q.caller.stream ≡ p.caller.stream = ap (λ (s : Caller). s.stream) tells.caller in
+    let last : g.M.ClauseMap.moves c.loop-before.map c.fetch-2.new.self (fetch p.caller.stream c.args.id r ∷ []) =
+    subst (λ (s : ℕ). g.M.ClauseMap.moves c.loop-before.map c.fetch-2.new.self (fetch s c.args.id r ∷ [])) same c.fetch-2.ensures.event in
+    (front ++ fetch p.caller.stream c.args.id r ∷ [], g.met.M.ClauseMap.moves_append c.args.map.now c.loop-before.map c.fetch-2.new.self front (fetch p.caller.stream c.args.id r ∷ []) c.loop-before.invariant last, (k, c.loop-before.auto.before-end, (λ e. omega (arith, c.loop-before.auto.before-end)), refl))
