@@ -26,7 +26,7 @@ use Rattle.stream_check.specs.Checker.{Admits}
 
 -- Fetches take no room and change nothing
 
-spent-skips : (e : Event) (es : History) (b : Bool) → size_of e ≡ 0 → sum_by size_of (cond b (e ∷ es) es) ≡ sum_by size_of es
+pub spent-skips : (e : Event) (es : History) (b : Bool) → size_of e ≡ 0 → sum_by size_of (cond b (e ∷ es) es) ≡ sum_by size_of es
 spent-skips e es true h = omega (arith, sum_by-cons size_of e es, h)
 spent-skips e es false h = refl
 

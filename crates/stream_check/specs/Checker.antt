@@ -19,7 +19,7 @@ use Rattle.stream_check.specs.Setting.{Setting}
 use Rattle.stream_check.specs.Standing.{Standing, Tally, is_among}
 use Rattle.stream_check.specs.Verdicts.{Verdict, Bad}
 use Rattle.stream_check.specs.Additions.{JudgesHints, JudgesAddition, published_by}
-use Rattle.stream_check.specs.Leaving.{CheckerState, Going, Over, Leaves}
+use Rattle.stream_check.specs.Leaving.{Holding, CheckerState, Going, Over, Leaves}
 use Rattle.stream_check.specs.Checking.{IsAt, AreCounted}
 use Rattle.stream_check.specs.CheckerValue.{CheckerValue}
 
@@ -57,3 +57,66 @@ AdmitsBy c st id lits marks None =
     Admits c st id lits marks
     × ((hints : List ℕ) (es : History) (v : Verdict) → JudgesHints c st.gone (published_by c id lits) (different lits) hints es v → JudgesAddition c st id lits hints es v)
 AdmitsBy c st id lits marks (Some fault) = (hints : List ℕ) → JudgesAddition c st id lits hints [] (Bad 0 fault)
+
+-- the text that a reader has read of a line
+abbrev pub read_of : ReaderState → List ℕ
+read_of (Ok read) = read
+read_of (Err fault) = []
+
+-- a checker of these parts
+abbrev pub value_of : Held → List ℕ → Option Ending → CheckerValue
+value_of h pending ending = record {
+  setting = h.setting;
+  tally = tally_at h;
+  last = h.last;
+  dropped = h.dropped;
+  retired = h.retired;
+  pending = pending;
+  line = h.line;
+  ending = ending;
+}
+
+-- the report of these counts, with this ending
+abbrev pub report_at : Tally → Ending → Report
+report_at t ending = record { added = t.added; deleted = t.deleted; empty = t.empty; ending = ending }
+
+abbrev pub holding_of : CheckerValue → ℕ → Holding
+holding_of v free = record {
+  tally = v.tally;
+  standing = record { last = v.last; free = free; gone = is_among v.dropped };
+  pending = v.pending;
+  line = v.line;
+}
+
+abbrev pub state_by : CheckerValue → ℕ → Option Ending → CheckerState
+state_by v free None = Going (holding_of v free)
+state_by v free (Some ending) = Over (report_at v.tally ending)
+
+-- what the checker is left as, where so much room is left
+abbrev pub state_of : CheckerValue → ℕ → CheckerState
+state_of v free = state_by v free v.ending
+
+-- What a checker needs of a place: it is the checker's, its own identities above the last one that was added are vacant,
+-- and those that are live are few.
+pub record IsReadyAt (v : CheckerValue) (p : Place) : Type 0 where
+  pub at : IsAt v.setting p
+  pub vacant : IsVacantAbove p v.last
+  pub counted : AreCounted p v.retired v.last
+
+-- Whatever bytes and events left the checker as it was, these bytes and events more leave it as it is.
+abbrev pub LeavesOn : Setting → CheckerState → List ℕ → History → CheckerState → Type 0
+LeavesOn c old used es new = (bytes : List ℕ) (before : History) → Leaves c bytes before old → Leaves c (bytes ++ used) (before ++ es) new
+
+-- What the bytes used came to: one line more, the front of a line, or the end of the reading.
+abbrev pub Turns : Turn → CheckerValue → CheckerValue → List ℕ → List ℕ → Type 0
+Turns turns.Line old new piece used =
+    (new.ending ≡ None) × (new.pending ≡ [])
+    × ((bytes : List ℕ) (lines : List StreamLine) → Cut bytes lines old.pending → (line : StreamLine) × Cut (bytes ++ used) (lines ++ line ∷ []) [])
+Turns turns.More old new piece used =
+    (new.ending ≡ None) × (used ≡ piece) × (new.pending ≡ old.pending ++ piece)
+    × ((bytes : List ℕ) (lines : List StreamLine) → Cut bytes lines old.pending → Cut (bytes ++ used) lines new.pending)
+Turns turns.Over old new piece used = (ending : Ending) × (new.ending ≡ Some ending)
+
+-- a checker that is over takes nothing
+abbrev pub StaysOver : CheckerValue → CheckerValue → List ℕ → Type 0
+StaysOver old new used = (ending : Ending) → old.ending ≡ Some ending → (new ≡ old) × (used ≡ [])

@@ -110,7 +110,7 @@ DeletesOwn c id old new es deleting.NoMemory = ⊥
 
 -- one of the formula's or of another stream's: it is kept among the dropped ones, where it isn't yet
 abbrev pub DropsShared : ℕ → List ℕ → List ℕ → Deleted → Type 0
-DropsShared id old new deleting.Done = (is_among old id ≡ false) × ((j : ℕ) → is_among new j ≡ (is_among old j || j == id))
+DropsShared id old new deleting.Done = (is_among old id ≡ false) × ((j : ℕ) → is_among new j ≡ (is_among old j || id == j))
 DropsShared id old new deleting.NotLive = is_among old id ≡ true
 DropsShared id old new deleting.NoMemory = is_among old id ≡ false
 

@@ -10,4 +10,5 @@ pub mod Leaving
 pub mod Checking
 pub mod CheckerValue
 pub mod Checker
+pub mod Taking
 pub mod Laws

@@ -1,5 +1,5 @@
 //! What a checker keeps of the good lines.
-ghost use Rattle.std.specs.Prelude.{◌≤◌, ◌<◌, ◌^◌};
+ghost use Rattle.std.specs.Prelude.{◌≡◌, ◌≤◌, ◌<◌, ◌^◌, ◌+◌, ◌-◌, ◌||◌, min};
 
 use crate::dropped::Dropped;
 use crate::setting::Setting;
@@ -23,4 +23,37 @@ pub struct Held {
     ghost few_added: { added ≤ last },
     ghost few_retired: { retired ≤ last },
     ghost small: { last < 2 ^ 63 },
+}
+
+impl Held {
+    /// One addition more is good.
+    pub fn take_addition(&mut self, id: Id, is_empty: bool)
+        requires above { self.old.last < id }
+        requires small { id < 2 ^ 63 }
+        ensures last { self.new.last ≡ id }
+        ensures added { self.new.added ≡ self.old.added + 1 }
+        ensures empty { self.new.empty ≡ (self.old.empty || is_empty) }
+        ensures line { self.new.line ≡ min (self.old.line + 1) (2 ^ 64 - 1) }
+        ensures setting { self.new.setting ≡ self.old.setting }
+        ensures dropped { self.new.dropped ≡ self.old.dropped }
+        ensures retired { self.new.retired ≡ self.old.retired }
+    {
+        self.added += 1;
+        self.last = id;
+        self.empty = self.empty || is_empty;
+        self.line = self.line.saturating_add(1);
+    }
+
+    /// One deletion more is good.
+    pub fn take_deletion(&mut self)
+        ensures line { self.new.line ≡ min (self.old.line + 1) (2 ^ 64 - 1) }
+        ensures last { self.new.last ≡ self.old.last }
+        ensures added { self.new.added ≡ self.old.added }
+        ensures empty { self.new.empty ≡ self.old.empty }
+        ensures setting { self.new.setting ≡ self.old.setting }
+        ensures dropped { self.new.dropped ≡ self.old.dropped }
+        ensures retired { self.new.retired ≡ self.old.retired }
+    {
+        self.line = self.line.saturating_add(1);
+    }
 }

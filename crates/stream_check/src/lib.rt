@@ -10,6 +10,7 @@ mod gate;
 mod held;
 mod hints;
 pub mod laws;
+mod line;
 mod progress;
 mod report;
 mod setting;

@@ -1,11 +1,13 @@
-use Rattle.std.proofs.Common.{rules, ◌≡◌, ◌+◌, ℕ, length, ◌-◌, ◌*◌, ◌<◌, ◌≤◌, ◌/◌, ◌%◌, Bool, true, false, nat_eq, nat_lt, List, [], ◌∷◌, ◌++◌, slice_index_or, slice_set, bit_and, bit_or, Fits, w8, w32, w64, Bor, MutBor}
-use Rattle.std.specs.List.{AllByRecursion}
-use Rattle.lrup_model.specs.Event.{History}
-use Rattle.lrup_model.specs.Layout.{Owns}
-use Rattle.stream_check.specs.Checking.{IsAt, AreCounted, DropsShared, DeletesOwn, DeletesOne, Deletes, IsRetire, counted}
-use Rattle.stream_check.specs.Checker.{KeepsLines, deleted_at}
+use Rattle.std.proofs.Common.{◌≡◌, refl}
+use Rattle.stream_check.proofs.AddLemmas.{owns_at}
+use Rattle.stream_check.proofs.DeleteLemmas.{counted_retire}
 use Rattle.stream_check.proofs.deletion.retire_own.Goals as goal
 
--- src/deletion.rt:51:1
 pub returns-in-Done-clause-counted : goal.returns-in-Done-clause-counted
-returns-in-Done-clause-counted g c = ?
+returns-in-Done-clause-counted g c =
+    let held = c.args.held.now in
+    let p = g.M.ClauseMap.place c.args.map.now in
+    let q = g.M.ClauseMap.place c.retire.new.self in
+    let event = c.in-Done.ensures.event in
+    counted_retire p q p.caller.stream c.args.id held.retired held.last refl
+    (g.met.M.ClauseMap.moves_tells c.args.map.now c.retire.new.self _ event) (owns_at held.setting p c.args.id c.requires.at c.requires.owns) (c.in-Done.ensures.done.0 refl) c.requires.counted
