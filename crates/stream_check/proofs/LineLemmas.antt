@@ -3,6 +3,7 @@ use Rattle.std.proofs.Common.{◌≡◌, ◌≤◌, ◌<◌, ◌+◌, ◌-◌, �
 use Rattle.std.specs.Prelude.{◌||◌, ◌&&◌, ◌==◌, min, ◌^◌}
 use Rattle.std.specs.List.{AllByRecursion, list_any, sum_by}
 use Rattle.std.proofs.lemmas.Bool.{cases_Bool, cases_eq, eq-eqb}
+use Rattle.std.proofs.Math.Dec.{eqb-suc-zero}
 use Rattle.lrup_model.specs.Layout.{LayoutValue, Owns}
 use Rattle.lrup_model.specs.Event as events
 use Rattle.lrup_model.specs.Event.{Event, History, stream_of, size_of, own, spent}
@@ -147,11 +148,9 @@ or_false true = refl
 or_false false = refl
 
 -- the literals of a line are none exactly if its clause is empty
-empty_is : (b : Bool) (id : ℕ) (lits : List ℤ) (hints : List ℕ) → (b ≡ true → length lits ≡ 0) → (length lits ≡ 0 → b ≡ true) → b ≡ adds_empty (Addition id lits hints)
-empty_is true id [] hints to from = refl
-empty_is true id (l ∷ lits) hints to from = absurd (omega (arith, to refl))
-empty_is false id [] hints to from = from refl
-empty_is false id (l ∷ lits) hints to from = refl
+empty_is : (b : Bool) (id : ℕ) (lits : List ℤ) (hints : List ℕ) → b ≡ (length lits == 0) → b ≡ adds_empty (Addition id lits hints)
+empty_is b id [] hints is = is
+empty_is b id (l ∷ lits) hints is = is ∙ eqb-suc-zero (length lits)
 
 -- what a good addition changes
 pub record Adds (old new : Held) (id : ℕ) (is_empty : Bool) : Type 0 where
@@ -163,15 +162,15 @@ pub record Adds (old new : Held) (id : ℕ) (is_empty : Bool) : Type 0 where
   pub retired : new.retired ≡ old.retired
 
 pub takes_addition : (old new : Held) (free left : ℕ) (id : ℕ) (lits : List ℤ) (hints : List ℕ) (es : History) (is_empty : Bool) → Adds old new id is_empty
-    → (is_empty ≡ true → length lits ≡ 0) → (length lits ≡ 0 → is_empty ≡ true) → left ≡ free - length (different lits)
+    → is_empty ≡ (length lits == 0) → left ≡ free - length (different lits)
     → JudgesAddition old.setting (standing_at old free) id lits hints es Good → TakesBy old free new left (Addition id lits hints) es None
-takes_addition old new free left id lits hints es is_empty adds to from room judged =
+takes_addition old new free left id lits hints es is_empty adds is room judged =
     let line : StreamLine = Addition id lits hints in (
       judged,
       λ read. record {
         tally = tally_is (tally_at new) (tally_after (tally_at old) line) adds.added
             (omega (arith, adds.retired, ap (λ (ids : List ℕ). length ids) adds.dropped))
-            (adds.empty ∙ ap (λ (b : Bool). old.empty || b) (empty_is is_empty id lits hints to from));
+            (adds.empty ∙ ap (λ (b : Bool). old.empty || b) (empty_is is_empty id lits hints is));
         standing = record {
           last = adds.last;
           free = room;
