@@ -5,3 +5,4 @@ pub mod AddLemmas
 pub mod DeleteLemmas
 pub mod DroppedLemmas
 pub mod LineLemmas
+pub mod TakeLemmas
