@@ -6,3 +6,4 @@ pub mod DeleteLemmas
 pub mod DroppedLemmas
 pub mod LineLemmas
 pub mod TakeLemmas
+pub mod FeedLemmas

@@ -133,7 +133,7 @@ room_publish old p q es id lits at tells made =
 
 -- What is held after a good line
 
-tally_is : (a b : Tally) → a.added ≡ b.added → a.deleted ≡ b.deleted → a.empty ≡ b.empty → a ≡ b
+pub tally_is : (a b : Tally) → a.added ≡ b.added → a.deleted ≡ b.deleted → a.empty ≡ b.empty → a ≡ b
 tally_is a b added deleted empty =
     let made : ℕ → ℕ → Bool → Tally = λ x y z. record { added = x; deleted = y; empty = z } in
     ap (λ x. made x a.deleted a.empty) added ∙ ap (λ y. made b.added y a.empty) deleted ∙ ap (λ z. made b.added b.deleted z) empty

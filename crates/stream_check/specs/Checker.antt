@@ -1,9 +1,9 @@
 -- What a checker holds, and what it takes of a piece of its stream (this project's own).
-use Rattle.std.specs.Prelude.{◌≡◌, ◌≤◌, ◌<◌, ◌+◌, ◌++◌, ℕ, ℤ, true, List, [], ◌∷◌, length, take, Option, Some, None, Ok, Err}
+use Rattle.std.specs.Prelude.{◌≡◌, ◌≤◌, ◌<◌, ◌^◌, ◌+◌, ◌++◌, ℕ, ℤ, true, List, [], ◌∷◌, length, take, Option, Some, None, Ok, Err}
 use Rattle.std.specs.List.{AllByRecursion}
 use Rattle.lrup_model.specs.Clause.{IsClause, IsTautology}
 use Rattle.lrup_model.specs.Event.{History}
-use Rattle.lrup_model.specs.Layout.{Owns}
+use Rattle.lrup_model.specs.Layout.{LayoutValue, Owns}
 use Rattle.lrup_model.specs.Place.{Place, IsVacantAbove}
 use Rattle.lrup_text.specs.Feeding.{ReaderState}
 use Rattle.lrup_text.specs.Lines.{StreamLine, Cut, IsPending, LineText}
@@ -19,6 +19,7 @@ use Rattle.stream_check.specs.Setting.{Setting}
 use Rattle.stream_check.specs.Standing.{Standing, Tally, is_among}
 use Rattle.stream_check.specs.Verdicts.{Verdict, Bad}
 use Rattle.stream_check.specs.Additions.{JudgesHints, JudgesAddition, published_by}
+use Rattle.stream_check.specs.Judging.{StreamEnd, ending_at, Judges}
 use Rattle.stream_check.specs.Leaving.{Holding, CheckerState, Going, Over, Leaves}
 use Rattle.stream_check.specs.Checking.{IsAt, AreCounted}
 use Rattle.stream_check.specs.CheckerValue.{CheckerValue}
@@ -120,3 +121,31 @@ Turns turns.Over old new piece used = (ending : Ending) × (new.ending ≡ Some 
 -- a checker that is over takes nothing
 abbrev pub StaysOver : CheckerValue → CheckerValue → List ℕ → Type 0
 StaysOver old new used = (ending : Ending) → old.ending ≡ Some ending → (new ≡ old) × (used ≡ [])
+
+-- a checker before its first byte
+pub record IsNew (layout : LayoutValue) (stream tries : ℕ) (v : CheckerValue) : Type 0 where
+  pub setting : v.setting ≡ record { layout = layout; stream = stream; tries = tries }
+  pub last : v.last ≡ layout.clauses
+  pub retired : v.retired ≡ 0
+  pub ending : v.ending ≡ None
+  pub left : Leaves v.setting [] [] (state_of v layout.room)
+
+abbrev pub EndsBy : Option Ending → StreamEnd → CheckerValue → CheckerValue → Type 0
+EndsBy None end old new = (new.setting ≡ old.setting) × (new.tally ≡ old.tally) × (new.ending ≡ Some (ending_at end old.pending old.line))
+EndsBy (Some ending) end old new = new ≡ old
+
+-- the end of the stream, or a failed read, ends a checker that isn't over
+abbrev pub Ends : StreamEnd → CheckerValue → CheckerValue → Type 0
+Ends end old new = EndsBy old.ending end old new
+
+-- The report of a checker that is over is right for whatever bytes and events left it as it was, and this end.
+abbrev pub ReportsEnd : StreamEnd → CheckerValue → CheckerValue → Type 0
+ReportsEnd end old new =
+    (bytes : List ℕ) (es : History) (free : ℕ) → Leaves old.setting bytes es (state_of old free)
+    → (ending : Ending) × (new.ending ≡ Some ending) × Judges old.setting bytes end es (report_at new.tally ending)
+
+-- a checker that isn't over reads on, and its parts are for one setting
+pub record IsSound (c : Setting) (vars : ℕ) (reader : ReaderState) (ending : Option Ending) : Type 0 where
+  pub reads : ending ≡ None → reader ≡ Ok (read_of reader)
+  pub variables : c.layout.vars ≡ vars
+  pub tries : c.tries < 2 ^ 63

@@ -1,9 +1,10 @@
 //! What a checker keeps of the good lines.
-ghost use Rattle.std.specs.Prelude.{◌≡◌, ◌≤◌, ◌<◌, ◌^◌, ◌+◌, ◌-◌, ◌||◌, min};
+ghost use Rattle.std.specs.Prelude.{◌≡◌, ◌≤◌, ◌<◌, ◌^◌, ◌+◌, ◌-◌, ◌||◌, min, [], false};
 
 use crate::dropped::Dropped;
-use crate::setting::Setting;
-use lrup_model::Id;
+use crate::setting::{Setting, last_of_formula};
+use lrup_model::{Id, Layout};
+use std::alloc::Global;
 
 /// What a checker keeps of the good lines, and whose they are.
 #[derive(Drop)]
@@ -26,6 +27,27 @@ pub struct Held {
 }
 
 impl Held {
+    /// Before the first line.
+    pub fn new(alloc: Global, layout: &Layout, stream: u64, tries: u64) -> Held
+        ensures setting { result.setting ≡ record { layout = layout.now; stream = stream; tries = tries } }
+        ensures last { result.last ≡ layout.now.clauses }
+        ensures dropped { result.dropped ≡ [] }
+        ensures retired { result.retired ≡ 0 }
+        ensures added { result.added ≡ 0 }
+        ensures empty { result.empty ≡ false }
+        ensures line { result.line ≡ 1 }
+    {
+        Held {
+            setting: Setting::new(layout, stream, tries),
+            last: last_of_formula(layout),
+            dropped: Dropped::new(alloc),
+            retired: 0,
+            added: 0,
+            empty: false,
+            line: 1,
+        }
+    }
+
     /// One addition more is good.
     pub fn take_addition(&mut self, id: Id, is_empty: bool)
         requires above { self.old.last < id }

@@ -3,6 +3,7 @@
 
 mod addition;
 mod asking;
+mod checker;
 mod deletion;
 mod dropped;
 mod fault;
@@ -15,6 +16,7 @@ mod progress;
 mod report;
 mod setting;
 
+pub use checker::Checker;
 pub use fault::Fault;
 pub use gate::Gate;
 pub use progress::{Progress, Turn};
