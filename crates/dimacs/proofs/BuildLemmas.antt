@@ -9,7 +9,8 @@ use Rattle.dimacs.specs.Lines.{Token}
 use Rattle.dimacs.specs.Numerals.{number_of}
 use Rattle.dimacs.specs.FormulaText.{IsWritten, IsRead, IsSetOf, AreSetsOf, AreClauses, ended}
 use Rattle.dimacs.specs.FormulaFault.{StandsAt, HasBadNumber, HasLargeVariable, HasMoreClauses, HasLongClause, EndsOpen, EndsEarly}
-use Rattle.dimacs.specs.Places.{IsBuilt, AddsLiteral, AddsClause, Takes}
+use Rattle.dimacs.specs.Places.{IsBuilt, AddsLiteral, AddsClause, IsFirstToken}
+use Rattle.lrup_model.specs.ClauseLemmas.{All-push}
 use Rattle.dimacs.proofs.SetLemmas.{Has-push}
 
 abbrev numbers_of : List Token → List (Option ℤ)
@@ -17,10 +18,6 @@ numbers_of tokens = map (λ (t : Token). number_of t.text) tokens
 
 abbrev somes : List ℤ → List (Option ℤ)
 somes numbers = map (λ (z : ℤ). Some z) numbers
-
-push_all : {X : Type 0} (P : X → Type 0) (xs : List X) (x : X) → AllByRecursion P xs → P x → AllByRecursion P (xs ++ x ∷ [])
-push_all P [] x all one = (one, tt)
-push_all P (y ∷ xs) x all one = (all.0, push_all P xs x all.1 one)
 
 -- ## the tokens read so far
 
@@ -45,7 +42,7 @@ read_literal vars count tokens t closed begun l read is literal short room = rec
   numbers = numbers_push tokens t (flat_map ended closed ++ begun) l read.numbers is ∙ ap somes (append_assoc (flat_map ended closed) begun (l ∷ []));
   closed_within = read.closed_within;
   begun_within = record {
-    within = push_all (IsLiteral vars) begun l read.begun_within.within literal;
+    within = All-push (IsLiteral vars) begun l read.begun_within.within literal;
     size = omega (arith, length-append begun (l ∷ []));
   };
   closed_count = read.closed_count;
@@ -57,7 +54,7 @@ read_end vars count tokens t closed begun read is room = record {
   numbers =
       numbers_push tokens t (flat_map ended closed ++ begun) (pos 0) read.numbers is
       ∙ ap somes (append_assoc (flat_map ended closed) begun (pos 0 ∷ []) ∙ flat_map_more ended [] closed begun ∙ sym (append-nil (flat_map ended (closed ++ begun ∷ []))));
-  closed_within = push_all (IsWritten vars) closed begun read.closed_within read.begun_within;
+  closed_within = All-push (IsWritten vars) closed begun read.closed_within read.begun_within;
   begun_within = record { within = tt; size = omega arith };
   closed_count = omega (arith, length-append closed (begun ∷ []));
   begun_count = λ some. absurd (omega arith);
@@ -208,7 +205,7 @@ stands vars count all left f clause written remaining t later h next = record {
   read = h.built.read;
 }
 
-pub bad_number : (vars count : ℕ) (all left : List Token) (f : Cnf) (clause : List ℤ) (written remaining line : ℕ) (text : List ℕ) (later : List Token) → Reads vars count all left f clause written remaining → Takes text line left later → number_of text ≡ None → HasBadNumber line vars count all
+pub bad_number : (vars count : ℕ) (all left : List Token) (f : Cnf) (clause : List ℤ) (written remaining line : ℕ) (text : List ℕ) (later : List Token) → Reads vars count all left f clause written remaining → IsFirstToken text line left later → number_of text ≡ None → HasBadNumber line vars count all
 bad_number vars count all left f clause written remaining line text later h next none = record {
   text = text;
   closed = h.built.closed;
@@ -217,7 +214,7 @@ bad_number vars count all left f clause written remaining line text later h next
   fault = none;
 }
 
-pub large_variable : (vars count : ℕ) (all left : List Token) (f : Cnf) (clause : List ℤ) (written remaining line : ℕ) (text : List ℕ) (later : List Token) (z : ℤ) → Reads vars count all left f clause written remaining → Takes text line left later → number_of text ≡ Some z → vars < nat_abs z → HasLargeVariable line vars count all
+pub large_variable : (vars count : ℕ) (all left : List Token) (f : Cnf) (clause : List ℤ) (written remaining line : ℕ) (text : List ℕ) (later : List Token) (z : ℤ) → Reads vars count all left f clause written remaining → IsFirstToken text line left later → number_of text ≡ Some z → vars < nat_abs z → HasLargeVariable line vars count all
 large_variable vars count all left f clause written remaining line text later z h next is large = record {
   text = text;
   number = z;
@@ -232,7 +229,7 @@ none_or_some : (n : ℕ) → (n ≡ 0) ⊎ (0 < n)
 none_or_some zero = inl refl
 none_or_some (suc n) = inr (omega arith)
 
-pub more_clauses : (vars count : ℕ) (all left : List Token) (f : Cnf) (clause : List ℤ) (written remaining line : ℕ) (text : List ℕ) (later : List Token) (z : ℤ) → Reads vars count all left f clause written remaining → Takes text line left later → number_of text ≡ Some z → nat_abs z ≤ vars → remaining ≡ 0 → HasMoreClauses line vars count all
+pub more_clauses : (vars count : ℕ) (all left : List Token) (f : Cnf) (clause : List ℤ) (written remaining line : ℕ) (text : List ℕ) (later : List Token) (z : ℤ) → Reads vars count all left f clause written remaining → IsFirstToken text line left later → number_of text ≡ Some z → nat_abs z ≤ vars → remaining ≡ 0 → HasMoreClauses line vars count all
 more_clauses vars count all left f clause written remaining line text later z h next is within none =
     let built = h.built in
     let full : length built.closed ≡ count = omega (arith, h.remaining_is, length-sets built.closed f.clauses built.sets) in
@@ -246,7 +243,7 @@ more_clauses vars count all left f clause written remaining line text later z h 
       fault = full;
     }
 
-pub long_clause : (vars count : ℕ) (all left : List Token) (f : Cnf) (clause : List ℤ) (written remaining line : ℕ) (text : List ℕ) (later : List Token) (l : ℤ) → Reads vars count all left f clause written remaining → Takes text line left later → number_of text ≡ Some l → IsLiteral vars l → max_clause_literals ≤ written → HasLongClause vars count all
+pub long_clause : (vars count : ℕ) (all left : List Token) (f : Cnf) (clause : List ℤ) (written remaining line : ℕ) (text : List ℕ) (later : List Token) (l : ℤ) → Reads vars count all left f clause written remaining → IsFirstToken text line left later → number_of text ≡ Some l → IsLiteral vars l → max_clause_literals ≤ written → HasLongClause vars count all
 long_clause vars count all left f clause written remaining line text later l h next is literal long = record {
   token = record { line = line; text = text };
   number = l;

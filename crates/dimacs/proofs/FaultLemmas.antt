@@ -8,14 +8,14 @@ use Rattle.dimacs.specs.Lines.{Token, lines_of}
 use Rattle.dimacs.specs.Numerals.{number_of}
 use Rattle.dimacs.specs.FormulaText.{InBodyOf}
 use Rattle.dimacs.specs.FormulaFault.{IsBodyFault}
-use Rattle.dimacs.specs.Places.{Takes, IsSmallHeader, lines_at, tokens_at}
+use Rattle.dimacs.specs.Places.{IsFirstToken, IsSmallHeader, lines_at, tokens_at}
 use Rattle.dimacs.proofs.BuildLemmas.{Reads, more_clauses, long_clause, ends_open, ends_early}
 
-pub zero_fault : (vars count : ℕ) (all left : List Token) (f : Cnf) (clause : List ℤ) (written remaining line : ℕ) (text : List ℕ) (later : List Token) (fault : DimacsFault) → Reads vars count all left f clause written remaining → Takes text line left later → number_of text ≡ Some (pos 0) → (fault ≡ Memory) ⊎ ((fault ≡ TooMany line) × (remaining ≡ 0)) → fault ≢ Memory → IsBodyFault fault vars count all
+pub zero_fault : (vars count : ℕ) (all left : List Token) (f : Cnf) (clause : List ℤ) (written remaining line : ℕ) (text : List ℕ) (later : List Token) (fault : DimacsFault) → Reads vars count all left f clause written remaining → IsFirstToken text line left later → number_of text ≡ Some (pos 0) → (fault ≡ Memory) ⊎ ((fault ≡ TooMany line) × (remaining ≡ 0)) → fault ≢ Memory → IsBodyFault fault vars count all
 zero_fault vars count all left f clause written remaining line text later fault h next is which other =
     ⊎_elim (λ memory. absurd (other memory)) (λ many. rw many.0 (more_clauses vars count all left f clause written remaining line text later (pos 0) h next is (omega arith) many.1)) which
 
-pub literal_fault : (vars count : ℕ) (all left : List Token) (f : Cnf) (clause : List ℤ) (written remaining line : ℕ) (text : List ℕ) (later : List Token) (l : ℤ) (fault : DimacsFault) → Reads vars count all left f clause written remaining → Takes text line left later → number_of text ≡ Some l → IsLiteral vars l → (fault ≡ Memory) ⊎ ((fault ≡ TooMany line) × (remaining ≡ 0)) ⊎ ((fault ≡ Limit) × (0 < remaining) × (max_clause_literals ≤ written)) → fault ≢ Memory → IsBodyFault fault vars count all
+pub literal_fault : (vars count : ℕ) (all left : List Token) (f : Cnf) (clause : List ℤ) (written remaining line : ℕ) (text : List ℕ) (later : List Token) (l : ℤ) (fault : DimacsFault) → Reads vars count all left f clause written remaining → IsFirstToken text line left later → number_of text ≡ Some l → IsLiteral vars l → (fault ≡ Memory) ⊎ ((fault ≡ TooMany line) × (remaining ≡ 0)) ⊎ ((fault ≡ Limit) × (0 < remaining) × (max_clause_literals ≤ written)) → fault ≢ Memory → IsBodyFault fault vars count all
 literal_fault vars count all left f clause written remaining line text later l fault h next is literal which other =
     ⊎_elim (λ memory. absurd (other memory))
     (λ faulty. ⊎_elim

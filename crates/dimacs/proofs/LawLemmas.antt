@@ -55,7 +55,7 @@ within_at : (vars : ℕ) (before : List ℤ) (z : ℤ) (rest : List ℤ) → All
 within_at vars [] z rest all = all.0
 within_at vars (y ∷ before) z rest all = within_at vars before z rest all.1
 
--- a token that stands behind tokens without a fault, with them and others without one
+-- a token that stands after tokens without a fault, with them and others without one
 pub record IsFine (vars count : ℕ) (token : Token) (closed : List (List ℤ)) (begun : List ℤ) : Type 0 where
   pub number : ℤ
   pub spelled : number_of token.text ≡ Some number
@@ -103,7 +103,7 @@ somes-injective (x ∷ xs) (y ∷ ys) e =
     let tail : somes xs ≡ somes ys = cc in
     let below = somes-injective xs ys tail in cc
 
--- two readings have as many clauses, and as many literals behind them
+-- two readings have as many clauses, and as many literals after them
 pub one_reading : (vars count : ℕ) (all : List Token) (closed closed' : List (List ℤ)) (begun begun' : List ℤ) → IsRead vars count all closed begun → IsRead vars count all closed' begun' → (length closed ≡ length closed') × (length begun ≡ length begun')
 one_reading vars count all closed closed' begun begun' one other =
     let same = somes-injective (numbers closed begun) (numbers closed' begun') (sym one.numbers ∙ other.numbers) in
@@ -179,9 +179,9 @@ in_lines [] f fault text faulty = absurd text
 in_lines (header ∷ lines) f fault text faulty =
     ⊎_elim
     (λ of_header. no_header_fault fault header lines text.vars text.count text.spelled text.few_variables text.few_clauses of_header)
-    (λ behind.
-    let same = one_header header.tokens text.vars text.count behind.vars behind.count text.spelled behind.spelled in
-    let there : IsBodyFault fault text.vars text.count (all_tokens lines) = rw (same.0, same.1) behind.later in
+    (λ other.
+    let same = one_header header.tokens text.vars text.count other.vars other.count text.spelled other.spelled in
+    let there : IsBodyFault fault text.vars text.count (all_tokens lines) = rw (same.0, same.1) other.later in
     no_body_fault fault f text.vars text.count (all_tokens lines) text.later there)
     faulty
 

@@ -5,8 +5,8 @@ use Rattle.std.proofs.lemmas.List.{nil_from_length}
 use Rattle.lrup_model.specs.Literal.{max_variable}
 use Rattle.dimacs.specs.Lines.{is_separator}
 use Rattle.dimacs.specs.Numerals.{is_digit, all_digits, value_after, value, is_numeral}
-use Rattle.dimacs.specs.Places.{run, behind, IsCapped, ReadsNumeral}
-use Rattle.dimacs.proofs.LineLemmas.{run-begun, run-ended, run-nil, behind-begun, behind-ended, behind-nil}
+use Rattle.dimacs.specs.Places.{run, after_run, IsCapped, ReadsNumeral}
+use Rattle.dimacs.proofs.LineLemmas.{run-begun, run-ended, run-nil, after_run-begun, after_run-ended, after_run-nil}
 
 pub digit_begins : (b : ℕ) → 48 ≤ b → is_separator b ≡ false
 digit_begins b h = rw (ne_eqb b 32 (λ e. omega (arith, e)), ne_eqb b 9 (λ e. omega (arith, e)), ne_eqb b 13 (λ e. omega (arith, e)), ne_eqb b 10 (λ e. omega (arith, e))) refl
@@ -14,12 +14,12 @@ digit_begins b h = rw (ne_eqb b 32 (λ e. omega (arith, e)), ne_eqb b 9 (λ e. o
 is_digit-from : (b : ℕ) → 48 ≤ b → b ≤ 57 → is_digit b ≡ true
 is_digit-from b low high = and_from (leb 48 b) (leb b 57) (le-leb 48 b low) (le-leb b 57 high)
 
-pub length-behind : (bs : List ℕ) → length (behind bs) ≤ length bs
-unfolding behind
-length-behind [] = omega arith
-length-behind (b ∷ bs) =
-    let below = length-behind bs in
-    elim (is_separator b) as (λ t. length (cond t (b ∷ bs) (behind bs)) ≤ length (b ∷ bs)) [ true ↦ omega arith | false ↦ omega (arith, below) ]
+pub length-after_run : (bs : List ℕ) → length (after_run bs) ≤ length bs
+unfolding after_run
+length-after_run [] = omega arith
+length-after_run (b ∷ bs) =
+    let below = length-after_run bs in
+    elim (is_separator b) as (λ t. length (cond t (b ∷ bs) (after_run bs)) ≤ length (b ∷ bs)) [ true ↦ omega arith | false ↦ omega (arith, below) ]
 
 pub value_after-le : (n : ℕ) (bs : List ℕ) → n ≤ value_after n bs
 value_after-le n [] = omega arith
@@ -33,8 +33,8 @@ digits_more b bs low high = rw (run-begun b bs (digit_begins b low), is_digit-fr
 pub number_more : (b n : ℕ) (bs : List ℕ) → 48 ≤ b → value_after n (run (b ∷ bs)) ≡ value_after (10 * n + (b - 48)) (run bs)
 number_more b n bs low = rw (run-begun b bs (digit_begins b low)) refl
 
-pub behind_more : (b : ℕ) (bs : List ℕ) → 48 ≤ b → behind (b ∷ bs) ≡ behind bs
-behind_more b bs low = behind-begun b bs (digit_begins b low)
+pub after_run_more : (b : ℕ) (bs : List ℕ) → 48 ≤ b → after_run (b ∷ bs) ≡ after_run bs
+after_run_more b bs low = after_run-begun b bs (digit_begins b low)
 
 -- a byte in a number's place that is none
 pub digits_broken : (b : ℕ) (bs : List ℕ) → is_separator b ≡ false → is_digit b ≡ false → all_digits (run (b ∷ bs)) ≡ false
@@ -73,7 +73,7 @@ numeral_stops text b after rest d more whole low high same rest_is begins none =
     ap (λ (x : List ℕ). is_numeral (run x)) whole ∙ is_numeral-begun b after low high ∙ sym same ∙ ap (λ (x : List ℕ). all_digits (run x)) rest_is ∙ digits_broken d more begins none
 
 -- the end of the number
-pub numeral_read : (text : List ℕ) (b : ℕ) (after rest : List ℕ) (n first : ℕ) → text ≡ b ∷ after → 49 ≤ b → b ≤ 57 → first ≡ b - 48 → all_digits (run rest) ≡ all_digits (run after) → IsCapped (value_after n (run rest)) (value_after first (run after)) → 0 < n → behind rest ≡ behind after → run rest ≡ [] → behind rest ≡ rest → ReadsNumeral text n rest
+pub numeral_read : (text : List ℕ) (b : ℕ) (after rest : List ℕ) (n first : ℕ) → text ≡ b ∷ after → 49 ≤ b → b ≤ 57 → first ≡ b - 48 → all_digits (run rest) ≡ all_digits (run after) → IsCapped (value_after n (run rest)) (value_after first (run after)) → 0 < n → after_run rest ≡ after_run after → run rest ≡ [] → after_run rest ≡ rest → ReadsNumeral text n rest
 numeral_read text b after rest n first whole low high first_is same number positive left ended here = record {
   numeral = ap (λ (x : List ℕ). is_numeral (run x)) whole ∙ is_numeral-begun b after low high ∙ sym same ∙ ap all_digits ended;
   number =
@@ -81,21 +81,21 @@ numeral_read text b after rest n first whole low high first_is same number posit
       let kept : value_after n (run rest) ≡ n = ap (value_after n) ended in
       rw (← kept, ← m) number;
   positive = positive;
-  rest_is = sym here ∙ left ∙ sym (ap behind whole ∙ behind_more b after (omega arith));
+  rest_is = sym here ∙ left ∙ sym (ap after_run whole ∙ after_run_more b after (omega arith));
 }
 
 -- a number that is known to be large before its end
-pub numeral_large : (text : List ℕ) (b : ℕ) (after rest left : List ℕ) (n first : ℕ) → text ≡ b ∷ after → 49 ≤ b → b ≤ 57 → first ≡ b - 48 → all_digits (run rest) ≡ all_digits (run after) → value_after n (run rest) ≡ value_after first (run after) → behind rest ≡ behind after → max_variable < n → all_digits (run rest) ≡ true → left ≡ behind rest → ReadsNumeral text n left
-numeral_large text b after rest left n first whole low high first_is same number behind_is large digits left_is =
+pub numeral_large : (text : List ℕ) (b : ℕ) (after rest left : List ℕ) (n first : ℕ) → text ≡ b ∷ after → 49 ≤ b → b ≤ 57 → first ≡ b - 48 → all_digits (run rest) ≡ all_digits (run after) → value_after n (run rest) ≡ value_after first (run after) → after_run rest ≡ after_run after → max_variable < n → all_digits (run rest) ≡ true → left ≡ after_run rest → ReadsNumeral text n left
+numeral_large text b after rest left n first whole low high first_is same number after_is large digits left_is =
     let m : value_after n (run rest) ≡ value (run text) = number ∙ ap (λ (k : ℕ). value_after k (run after)) first_is ∙ sym (value-begun b after low) ∙ ap (λ (x : List ℕ). value (run x)) (sym whole) in record {
       numeral = ap (λ (x : List ℕ). is_numeral (run x)) whole ∙ is_numeral-begun b after low high ∙ sym same ∙ digits;
       number = inr (large, omega (arith, value_after-le n (run rest), m));
       positive = omega arith;
-      rest_is = left_is ∙ behind_is ∙ sym (ap behind whole ∙ behind_more b after (omega arith));
+      rest_is = left_is ∙ after_is ∙ sym (ap after_run whole ∙ after_run_more b after (omega arith));
     }
 
-pub ended_at_separator : (rest : List ℕ) (b : ℕ) (bs : List ℕ) → rest ≡ b ∷ bs → is_separator b ≡ true → (run rest ≡ []) × (behind rest ≡ rest)
-ended_at_separator rest b bs e separates = (ap run e ∙ run-ended b bs separates, ap behind e ∙ behind-ended b bs separates ∙ sym e)
+pub ended_at_separator : (rest : List ℕ) (b : ℕ) (bs : List ℕ) → rest ≡ b ∷ bs → is_separator b ≡ true → (run rest ≡ []) × (after_run rest ≡ rest)
+ended_at_separator rest b bs e separates = (ap run e ∙ run-ended b bs separates, ap after_run e ∙ after_run-ended b bs separates ∙ sym e)
 
-pub ended_at_end : (rest : List ℕ) → length rest ≡ 0 → (run rest ≡ []) × (behind rest ≡ rest)
-ended_at_end rest none = let e = nil_from_length rest none in (ap run e ∙ run-nil, ap behind e ∙ behind-nil ∙ sym e)
+pub ended_at_end : (rest : List ℕ) → length rest ≡ 0 → (run rest ≡ []) × (after_run rest ≡ rest)
+ended_at_end rest none = let e = nil_from_length rest none in (ap run e ∙ run-nil, ap after_run e ∙ after_run-nil ∙ sym e)

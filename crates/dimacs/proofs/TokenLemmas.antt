@@ -6,16 +6,16 @@ use Rattle.memchr.specs.Find.{IsFirstByte, is_byte}
 use Rattle.lrup_model.specs.Literal.{IsLiteral, max_variable}
 use Rattle.dimacs.specs.Lines.{is_separator, runs, all_tokens}
 use Rattle.dimacs.specs.Numerals.{is_numeral, is_zero, value, number_of}
-use Rattle.dimacs.specs.Places.{lines_at, tokens_at, run, behind, IsCapped, IsAtToken}
-use Rattle.dimacs.proofs.LineLemmas.{tokens_at-token, tokens_at-nil, behind-begun, run-begun, lines_at-line, behind-nil, behind-ended, ends_from_run}
-use Rattle.dimacs.proofs.NumeralLemmas.{length-behind}
+use Rattle.dimacs.specs.Places.{lines_at, tokens_at, run, after_run, IsCapped, IsAtToken}
+use Rattle.dimacs.proofs.LineLemmas.{tokens_at-token, tokens_at-nil, after_run-begun, run-begun, lines_at-line, after_run-nil, after_run-ended, ends_from_run}
+use Rattle.dimacs.proofs.NumeralLemmas.{length-after_run}
 
 pub tokens_from_lines : (n m : ℕ) (xs ys : List ℕ) → lines_at n xs ≡ lines_at m ys → tokens_at n xs ≡ tokens_at m ys
 unfolding tokens_at
 tokens_from_lines n m xs ys e = ap all_tokens e
 
 -- old tokens, in line n from a place on that is after separators and comments
-pub token_taken : (n m : ℕ) (old rest : List ℕ) (b : ℕ) (after : List ℕ) → lines_at n rest ≡ lines_at m old → IsAtToken rest → rest ≡ b ∷ after → tokens_at m old ≡ record { line = n; text = b ∷ run after } ∷ tokens_at n (behind after)
+pub token_taken : (n m : ℕ) (old rest : List ℕ) (b : ℕ) (after : List ℕ) → lines_at n rest ≡ lines_at m old → IsAtToken rest → rest ≡ b ∷ after → tokens_at m old ≡ record { line = n; text = b ∷ run after } ∷ tokens_at n (after_run after)
 token_taken n m old rest b after same place whole =
     let begins : is_separator b ≡ false = rw whole at place in
     tokens_from_lines m n old rest (sym same) ∙ ap (tokens_at n) whole ∙ tokens_at-token n b after begins
@@ -58,7 +58,7 @@ not_positive : (b : ℕ) (bs : List ℕ) → (b == 48) ≡ false → (b == 45) �
 unfolding number_of
 not_positive b bs other unsigned e = rw (is_zero-other b bs other, e, unsigned) refl
 
--- the digits are what stands behind a minus sign, or all of the token
+-- the digits are what stands after a minus sign, or all of the token
 abbrev pub IsDigitsOf : ℕ → List ℕ → List ℕ → List ℕ → Type 0
 IsDigitsOf b after rest digits = ((b ≡ 45) × (digits ≡ after)) ⊎ ((b ≡ 45 → ⊥) × (digits ≡ rest))
 
@@ -90,14 +90,14 @@ number_of-some b after rest digits whole place other which some =
     (positive b (run after) (ne_eqb b 48 other) (ap is_numeral (sym same) ∙ some) ∙ ap (λ (x : List ℕ). Some (pos (value x))) (sym same)))
     which
 
-pub behind_digits : (b : ℕ) (after rest digits : List ℕ) → rest ≡ b ∷ after → IsAtToken rest → IsDigitsOf b after rest digits → behind digits ≡ behind after
-behind_digits b after rest digits whole place which =
+pub after_run_digits : (b : ℕ) (after rest digits : List ℕ) → rest ≡ b ∷ after → IsAtToken rest → IsDigitsOf b after rest digits → after_run digits ≡ after_run after
+after_run_digits b after rest digits whole place which =
     let begins : is_separator b ≡ false = rw whole at place in
-    ⊎_elim (λ minus. ap behind minus.1) (λ plain. ap behind (plain.1 ∙ whole) ∙ behind-begun b after begins) which
+    ⊎_elim (λ minus. ap after_run minus.1) (λ plain. ap after_run (plain.1 ∙ whole) ∙ after_run-begun b after begins) which
 
-pub digits_within : (b : ℕ) (after rest digits : List ℕ) → rest ≡ b ∷ after → IsDigitsOf b after rest digits → length (behind digits) ≤ length rest
+pub digits_within : (b : ℕ) (after rest digits : List ℕ) → rest ≡ b ∷ after → IsDigitsOf b after rest digits → length (after_run digits) ≤ length rest
 digits_within b after rest digits whole which =
-    ⊎_elim (λ minus. omega (arith, length-behind digits, ap length minus.1, ap length whole)) (λ plain. omega (arith, length-behind digits, ap length plain.1)) which
+    ⊎_elim (λ minus. omega (arith, length-after_run digits, ap length minus.1, ap length whole)) (λ plain. omega (arith, length-after_run digits, ap length plain.1)) which
 
 -- ## its magnitude
 
@@ -119,6 +119,6 @@ within_range t n m vars few kept within some =
 pub line_taken : (n m : ℕ) (old rest : List ℕ) (found : Option ℕ) (end : ℕ) → lines_at n rest ≡ lines_at m old → IsAtToken rest → 0 < length rest → IsFirstByte (is_byte 10) rest found → end ≡ unwrap_or found (length rest) → lines_at m old ≡ record { number = n; tokens = runs (take end rest) } ∷ lines_at n (drop end rest)
 line_taken n m old rest found end same place some first is = sym same ∙ lines_at-line n rest found end place some first is
 
-pub behind_at_end : (bs : List ℕ) → run bs ≡ [] → behind bs ≡ bs
-behind_at_end [] none = behind-nil
-behind_at_end (b ∷ bs) none = behind-ended b bs (ends_from_run b bs none)
+pub after_run_at_end : (bs : List ℕ) → run bs ≡ [] → after_run bs ≡ bs
+after_run_at_end [] none = after_run-nil
+after_run_at_end (b ∷ bs) none = after_run-ended b bs (ends_from_run b bs none)

@@ -13,7 +13,7 @@ use Rattle.dimacs.proofs.LawLemmas.{IsFine, fine, fine_at, one_reading, one_head
 
 -- ## which fault a token has
 
--- the fault of this token, behind so many clauses and literals
+-- the fault of this token, after so many clauses and literals
 abbrev IsTokenFault : DimacsFault → ℕ → ℕ → Token → ℕ → ℕ → Type 0
 IsTokenFault fault vars count t clauses literals =
     ((fault ≡ BadNumber t.line) × (number_of t.text ≡ None))

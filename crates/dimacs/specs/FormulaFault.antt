@@ -1,5 +1,5 @@
 -- The first fault of a file that is no text of a formula, in byte order: the header is judged as a whole, the tokens
--- behind it one by one. Of several faults of one token, or of the header, it is the first by the order of DimacsFault.
+-- after it one by one. Of several faults of one token, or of the header, it is the first by the order of DimacsFault.
 -- (The faults and their order are this project's own.)
 use Rattle.std.specs.Prelude.{◌≡◌, ◌⊎◌, ◌≤◌, ◌<◌, ℕ, ℤ, nat_abs, Some, None, List, [], ◌∷◌, ◌++◌, codes, length}
 use Rattle.lrup_model.specs.Literal.{IsLiteral, max_variable}
@@ -57,7 +57,7 @@ pub record HasLargeVariable (line vars count : ℕ) (tokens : List Token) : Type
   pub spelled : number_of text ≡ Some number
   pub fault : vars < nat_abs number
 
--- a token behind the last clause that the header announces
+-- a token after the last clause that the header announces
 pub record HasMoreClauses (line vars count : ℕ) (tokens : List Token) : Type 0 where
   pub text : List ℕ
   pub number : ℤ
@@ -90,7 +90,7 @@ pub record EndsEarly (vars count : ℕ) (tokens : List Token) : Type 0 where
   pub read : IsRead vars count tokens closed []
   pub fault : length closed < count
 
--- the first fault of the tokens behind a header that has none
+-- the first fault of the tokens after a header that has none
 abbrev pub IsBodyFault : DimacsFault → ℕ → ℕ → List Token → Type 0
 IsBodyFault (BadNumber line) vars count tokens = HasBadNumber line vars count tokens
 IsBodyFault (VariableRange line) vars count tokens = HasLargeVariable line vars count tokens
@@ -109,6 +109,6 @@ IsHeaderFault BadHeader lines = HasBadHeader lines
 IsHeaderFault Limit lines = HasLargeHeader lines
 IsHeaderFault _ lines = ⊥
 
--- the first fault of the file; want of memory is no file's fault
+-- the first fault of the file; out of memory is no file's fault
 abbrev pub IsFaultOf : List ℕ → DimacsFault → Type 0
 IsFaultOf bytes fault = IsHeaderFault fault (lines_of bytes) ⊎ InBody bytes (IsBodyFault fault)

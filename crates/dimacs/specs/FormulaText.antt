@@ -17,8 +17,8 @@ IsHeader (p ∷ cnf ∷ variables ∷ clauses ∷ []) vars count =
     (p ≡ codes "p") × (cnf ≡ codes "cnf") × IsCount variables vars × IsCount clauses count
 IsHeader _ vars count = ⊥
 
--- what holds behind a header that is spelled right and within the limits: of its two counts, and of the later tokens
-pub record BehindHeader (header : Line) (lines : List Line) (P : ℕ → ℕ → List Token → Type 0) : Type 0 where
+-- what holds after a header that is spelled right and within the limits: of its two counts, and of the later tokens
+pub record AfterHeader (header : Line) (lines : List Line) (P : ℕ → ℕ → List Token → Type 0) : Type 0 where
   pub vars : ℕ
   pub count : ℕ
   pub spelled : IsHeader header.tokens vars count
@@ -29,7 +29,7 @@ pub record BehindHeader (header : Line) (lines : List Line) (P : ℕ → ℕ →
 -- the header is the first of the lines, which are those that are no comments and hold a token
 abbrev pub InBodyOf : List Line → (ℕ → ℕ → List Token → Type 0) → Type 0
 InBodyOf [] P = ⊥
-InBodyOf (header ∷ lines) P = BehindHeader header lines P
+InBodyOf (header ∷ lines) P = AfterHeader header lines P
 
 abbrev pub InBody : List ℕ → (ℕ → ℕ → List Token → Type 0) → Type 0
 InBody bytes P = InBodyOf (lines_of bytes) P
@@ -64,7 +64,7 @@ AreSetsOf (literals ∷ rest) (clause ∷ clauses) = IsSetOf literals clause × 
 AreSetsOf [] (clause ∷ clauses) = ⊥
 AreSetsOf (literals ∷ rest) [] = ⊥
 
--- the tokens behind the header are the formula's clauses
+-- the tokens after the header are the formula's clauses
 pub record AreClauses (f : Cnf) (vars count : ℕ) (tokens : List Token) : Type 0 where
   pub written : List (List ℤ)
   pub vars_are : f.vars ≡ vars

@@ -33,22 +33,22 @@ unfoldable pub run : List ℕ → List ℕ
 run [] = []
 run (b ∷ bs) = if is_separator b then [] else b ∷ run bs
 
-unfoldable pub behind : List ℕ → List ℕ
-behind [] = []
-behind (b ∷ bs) = if is_separator b then b ∷ bs else behind bs
+unfoldable pub after_run : List ℕ → List ℕ
+after_run [] = []
+after_run (b ∷ bs) = if is_separator b then b ∷ bs else after_run bs
 
 -- n is what a reader keeps of the number m: the same, or with it above every variable
 abbrev pub IsCapped : ℕ → ℕ → Type 0
 IsCapped n m = (n ≡ m) ⊎ ((max_variable < n) × (max_variable < m))
 
--- the text begins with a numeral, up to the next separator: what is kept of its number, and what is left behind it
+-- the text begins with a numeral, up to the next separator: what is kept of its number, and what is left after it
 pub record ReadsNumeral (text : List ℕ) (n : ℕ) (rest : List ℕ) : Type 0 where
   pub numeral : is_numeral (run text) ≡ true
   pub number : IsCapped n (value (run text))
   pub positive : 0 < n
-  pub rest_is : rest ≡ behind text
+  pub rest_is : rest ≡ after_run text
 
--- the run and those behind it, none where it is empty
+-- the run and those after it, none where it is empty
 abbrev pub with_run : List ℕ → List (List ℕ) → List (List ℕ)
 with_run [] later = []
 with_run (b ∷ bs) later = (b ∷ bs) ∷ later
@@ -64,7 +64,7 @@ pub record IsSmallHeader (tokens : List (List ℕ)) (vars count : ℕ) : Type 0 
   pub few_variables : vars ≤ max_variable
   pub few_clauses : count ≤ max_clauses
 
--- the fault of a line that begins with its first token, whatever comes behind it
+-- the fault of a line that begins with its first token, whatever comes after it
 abbrev pub IsLineFault : List (List ℕ) → DimacsFault → Type 0
 IsLineFault tokens fault = (n : ℕ) (lines : List Line) → IsHeaderFault fault (record { number = n; tokens = tokens } ∷ lines)
 
@@ -96,13 +96,13 @@ IsAtToken [] = Unit {0}
 IsAtToken (b ∷ bs) = is_separator b ≡ false
 
 -- the token is the first of the old ones
-abbrev pub Takes : List ℕ → ℕ → List Token → List Token → Type 0
-Takes text line old new = old ≡ record { line = line; text = text } ∷ new
+abbrev pub IsFirstToken : List ℕ → ℕ → List Token → List Token → Type 0
+IsFirstToken text line old new = old ≡ record { line = line; text = text } ∷ new
 
--- what stands next among the tokens, of a formula of so many variables, and which tokens are left behind it
+-- what stands next among the tokens, of a formula of so many variables, and which tokens are left after it
 abbrev pub Finds : ℕ → ℕ → List Token → List Token → Next → Type 0
 Finds vars line old new End = old ≡ []
-Finds vars line old new Bad = (text : List ℕ) × (later : List Token) × Takes text line old later × (number_of text ≡ None)
-Finds vars line old new Range = (text : List ℕ) × (later : List Token) × Takes text line old later × (z : ℤ) × (number_of text ≡ Some z) × (vars < nat_abs z)
-Finds vars line old new Zero = (text : List ℕ) × Takes text line old new × (number_of text ≡ Some (pos 0))
-Finds vars line old new (Literal l) = (text : List ℕ) × Takes text line old new × (number_of text ≡ Some l) × IsLiteral vars l
+Finds vars line old new Bad = (text : List ℕ) × (later : List Token) × IsFirstToken text line old later × (number_of text ≡ None)
+Finds vars line old new Range = (text : List ℕ) × (later : List Token) × IsFirstToken text line old later × (z : ℤ) × (number_of text ≡ Some z) × (vars < nat_abs z)
+Finds vars line old new Zero = (text : List ℕ) × IsFirstToken text line old new × (number_of text ≡ Some (pos 0))
+Finds vars line old new (Literal l) = (text : List ℕ) × IsFirstToken text line old new × (number_of text ≡ Some l) × IsLiteral vars l

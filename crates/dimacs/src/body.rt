@@ -1,4 +1,4 @@
-//! The clauses behind the header.
+//! The clauses after the header.
 ghost use Rattle.std.specs.Prelude.{◌≡◌, ◌≢◌, ◌⊎◌, ◌<◌, ◌≤◌, ◌+◌, ◌-◌, ℕ, ℤ, [], ◌∷◌, ◌++◌, List, length, OnOk, IfOk, IfErr};
 ghost use Rattle.lrup_model.specs.Literal.{max_variable};
 ghost use Rattle.lrup_model.specs.Formula.{max_clauses, max_clause_literals, IsFormulaClause};
@@ -82,21 +82,21 @@ impl Builder {
     }
 }
 
-/// Reads the clauses of a formula from the tokens behind its header.
+/// Reads the clauses of a formula from the tokens after its header.
 #[inline(never)]
 pub fn read_clauses(
     alloc: Global,
-    behind_header: Tokens<'_>,
+    after_header: Tokens<'_>,
     header: Header,
 ) -> Result<Formula, DimacsFault>
     requires vars { header.vars ≤ max_variable }
     requires clauses { header.clauses ≤ max_clauses }
     ensures ok { IfOk result (λ f.
-        AreClauses f header.vars header.clauses (tokens_at behind_header.entry.line behind_header.entry.rest.now)) }
+        AreClauses f header.vars header.clauses (tokens_at after_header.entry.line after_header.entry.rest.now)) }
     ensures err { IfErr result (λ fault. fault ≢ Memory →
-        IsBodyFault fault header.vars header.clauses (tokens_at behind_header.entry.line behind_header.entry.rest.now)) }
+        IsBodyFault fault header.vars header.clauses (tokens_at after_header.entry.line after_header.entry.rest.now)) }
 {
-    let mut tokens = behind_header;
+    let mut tokens = after_header;
     let mut builder = Builder {
         formula: Formula::new(alloc, header.vars),
         clause: OpenClause::new(alloc),

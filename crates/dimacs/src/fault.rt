@@ -5,7 +5,7 @@ ghost use Rattle.dimacs.specs.declared.fault.DimacsFault.TheVariants.{Memory};
 use std::alloc::AllocError;
 use thiserror::Error;
 
-/// Why a file was refused: its first fault in byte order. The header is judged as a whole line, the tokens behind it one
+/// Why a file was refused: its first fault in byte order. The header is judged as a whole line, the tokens after it one
 /// by one; of several faults of one token, or of the header, the first in this order is given. Lines count from 1.
 #[derive(Clone, Copy, Debug, PartialEq, Eq, Error)]
 pub enum DimacsFault {
@@ -27,7 +27,7 @@ pub enum DimacsFault {
     /// The file has fewer clauses than the header says.
     #[error("formula refused: too few clauses")]
     TooFew,
-    /// A token in this line stands behind the last clause that the header announces.
+    /// A token in this line stands after the last clause that the header announces.
     #[error("formula refused: too many clauses in line {0}")]
     TooMany(u64),
     /// More than 16,777,215 variables or clauses, or more than 1,048,575 literals written in one clause.

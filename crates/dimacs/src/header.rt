@@ -2,7 +2,7 @@
 ghost use Rattle.std.specs.Prelude.{◌≡◌, false, length, MatchOption, MatchResult};
 ghost use Rattle.dimacs.specs.Lines.{runs};
 ghost use Rattle.dimacs.specs.Numerals.{is_count};
-ghost use Rattle.dimacs.specs.Places.{run, behind, with_run, IsAtToken, ReadsCount, IsSmallHeader, IsLineFault};
+ghost use Rattle.dimacs.specs.Places.{run, after_run, with_run, IsAtToken, ReadsCount, IsSmallHeader, IsLineFault};
 
 use crate::fault::DimacsFault;
 use crate::tokens::{MAX_VARIABLE, is_separator, numeral};
@@ -35,7 +35,7 @@ fn skip_separators(line: &[u8]) -> &[u8]
 /// The bytes before the next separator, and those from it on.
 fn split_run(text: &[u8]) -> (&[u8], &[u8])
     ensures run { result.0.now ≡ run text.now }
-    ensures behind { result.1.now ≡ behind text.now }
+    ensures after { result.1.now ≡ after_run text.now }
 {
     let mut end = 0;
     while end < text.len() && !is_separator(text[end]) {
@@ -44,7 +44,7 @@ fn split_run(text: &[u8]) -> (&[u8], &[u8])
     text.split_at(end)
 }
 
-/// The first token of a line and what stands behind it; an empty one where there is none.
+/// The first token of a line and what stands after it; an empty one where there is none.
 fn next_run(line: &[u8]) -> (&[u8], &[u8])
     ensures runs { runs line.now ≡ with_run result.0.now (runs result.1.now) }
     ensures whole { run result.0.now ≡ result.0.now }

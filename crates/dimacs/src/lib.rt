@@ -22,7 +22,7 @@ use lrup_model::Formula;
 use std::alloc::Global;
 
 /// Reads the formula of a whole file. What is given is what the bytes say: a literal that a clause repeats stands in it
-/// once. A file that is no formula is refused with its first fault in byte order, and nothing is left behind; `Memory` says
+/// once. A file that is no formula is refused with its first fault in byte order, and keeps no memory; `Memory` says
 /// nothing of the file. The time is linear in the file, however long clauses and numbers are. Beside the file and the formula
 /// this takes at most some 13 MB, for the clause that is being read.
 pub fn parse(alloc: Global, bytes: &[u8]) -> Result<Formula, DimacsFault>

@@ -141,6 +141,40 @@ fn long_texts(rt: HostRuntime) -> Result<(), Fail> {
     Ok(())
 }
 
+#[test]
+fn largest_counts(rt: HostRuntime) -> Result<(), Fail> {
+    check(&rt, b"p cnf 16777215 0\n", "16777215 0:")?;
+    let most = repeated(rt.alloc(), "p cnf 0 16777215\n", "0\n", 16_777_215)?;
+    let formula = parse(rt.alloc(), most.as_bytes())?;
+    assert_eq!(rt; formula.len(), 16_777_215);
+    assert_eq!(rt; formula.literals(), 0);
+    Ok(())
+}
+
+// Were repeats looked for in the whole clause, or all marks taken away after each clause, these would take minutes.
+#[test]
+fn long_clauses_take_linear_time(rt: HostRuntime) -> Result<(), Fail> {
+    let mut largest = String::from_str(rt.alloc(), "p cnf 1048575 1\n")?;
+    for variable in 1..=1_048_575 {
+        write!(largest, "{variable} ")?;
+    }
+    largest.push_str("0\n")?;
+    let formula = parse(rt.alloc(), largest.as_bytes())?;
+    assert_eq!(rt; formula.literals(), 1_048_575);
+    let text = "1 2 3 4 5 6 7 8 9 0\n";
+    let many = repeated(rt.alloc(), "p cnf 9 300000\n", text, 300_000)?;
+    let formula = parse(rt.alloc(), many.as_bytes())?;
+    assert_eq!(rt; formula.literals(), 2_700_000);
+    Ok(())
+}
+
+#[test]
+fn memory_text(rt: HostRuntime) -> Result<(), Fail> {
+    let text = DimacsFault::Memory.to_string(rt.alloc())?;
+    assert_eq!(rt; text.as_str(), "out of memory");
+    Ok(())
+}
+
 // With an allocation that fails the answer is `Memory`, and else the formula.
 #[test]
 fn growth(rt: HostRuntime) {

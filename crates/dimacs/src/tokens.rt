@@ -1,7 +1,7 @@
 //! Lines, comments and tokens, read once from the left.
 ghost use Rattle.std.specs.Prelude.{if◌then◌else◌, neg_ℤ, pos, ◌↔◌, true, false, MatchOption, IsTrue, ◌≡◌, ◌+◌, ◌-◌, ◌<◌, ◌≤◌, ◌^◌, ℕ, List, [], ◌∷◌, length, drop};
 ghost use Rattle.dimacs.specs.Lines.{lines_of, runs, is_separator as separates};
-ghost use Rattle.dimacs.specs.Places.{lines_at, lines_at_start, tokens_at, run, behind, IsAtToken, ReadsNumeral, Finds};
+ghost use Rattle.dimacs.specs.Places.{lines_at, lines_at_start, tokens_at, run, after_run, IsAtToken, ReadsNumeral, Finds};
 ghost use Rattle.dimacs.specs.Numerals.{is_numeral, all_digits, is_digit as counts};
 ghost use Rattle.lrup_model.specs.Literal.{max_variable};
 
@@ -11,7 +11,7 @@ use memchr::memchr;
 /// The first byte of a comment.
 const COMMENT: u8 = b'c';
 
-/// What is left of a file behind some place that is not inside a token or a comment.
+/// What is left of a file after some place that is not inside a token or a comment.
 #[derive(Drop)]
 pub struct Tokens<'a> {
     rest: &'a [u8],
@@ -67,7 +67,7 @@ pub(crate) const MAX_VARIABLE: u32 = Lit::MAX_VARIABLE;
 fn skip_digits(text: &[u8]) -> Option<&[u8]>
     ensures { MatchOption result
         (all_digits (run text.now) ≡ false)
-        (λ rest. (all_digits (run text.now) ≡ true) × (rest.now ≡ behind text.now)) }
+        (λ rest. (all_digits (run text.now) ≡ true) × (rest.now ≡ after_run text.now)) }
 {
     let mut rest = text;
     while let Some((&byte, after)) = rest.split_first() {
@@ -113,8 +113,8 @@ pub(crate) fn numeral(text: &[u8]) -> Option<(u32, &[u8])>
     Some((value, rest))
 }
 
-/// The text behind its sign, if it has one.
-fn behind_sign(text: &[u8], signed: bool) -> &[u8]
+/// The text after its sign, if it has one.
+fn after_sign(text: &[u8], signed: bool) -> &[u8]
     requires { IsTrue signed → 0 < length text.now }
     ensures { result.now ≡ (if signed then drop 1 text.now else text.now) }
 {
@@ -187,7 +187,7 @@ impl<'a> Tokens<'a> {
             return Next::Zero;
         }
         let negative = first == b'-';
-        let digits = behind_sign(self.rest, negative);
+        let digits = after_sign(self.rest, negative);
         let Some((value, rest)) = numeral(digits) else {
             return Next::Bad;
         };

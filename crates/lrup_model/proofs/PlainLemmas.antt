@@ -183,11 +183,13 @@ moves_retire old new s id retiring.NotLive owns after =
 fetched_is : (m : Plain) (s id : ℕ) (x : Stored) → stored_at m id ≡ x → IsFetched (plain_place m s) id (fetched_of id x)
 fetched_is m s id vacant here = ap kept_of here
 fetched_is m s id (live kept) here =
-    let there : kept_of (stored_at m id) ≡ Some kept = ap kept_of here in
-    (refl, record {
-      kept = there ∙ ap (λ (c : Clause). Some (record { start = kept.start; literals = c })) (sym (ap literals_in there));
-      len = sym (ap length (ap literals_in there));
-    })
+    let there : kept_of (stored_at m id) ≡ Some kept = ap kept_of here in (
+      refl,
+      record {
+        kept = there ∙ ap (λ (c : Clause). Some (record { start = kept.start; literals = c })) (sym (ap literals_in there));
+        len = sym (ap length (ap literals_in there));
+      },
+    )
 fetched_is m s id (retired kept) here = (kept, ap kept_of here)
 
 pub fetch_fetched : (m : Plain) (s id : ℕ) (r : Fetched) → r ≡ fetched_of id (stored_at m id) → IsFetched (plain_place m s) id r

@@ -43,6 +43,24 @@ fn literals_have_a_limit(rt: HostRuntime) -> Result<(), Fail> {
 }
 
 #[test]
+fn literals_have_codes(rt: HostRuntime) -> Result<(), Fail> {
+    for (value, code) in [
+        (1, 2),
+        (-1, 3),
+        (2, 4),
+        (-2, 5),
+        (16_777_215, 33_554_430),
+        (-16_777_215, 33_554_431),
+    ] {
+        let literal = Lit::new(value).ok_or("no literal")?;
+        assert_eq!(rt; literal.code(), code, "at {value}");
+        assert!(rt; 2 <= code && code <= 33_554_431);
+        assert_eq!(rt; Lit::from_code(code), literal, "at {value}");
+    }
+    Ok(())
+}
+
+#[test]
 fn layouts_have_limits(rt: HostRuntime) {
     const ALL: u64 = u64::MAX;
     use LayoutFault::{BadStreamCount, RowTooLong, TooManyClauses, TooManyVariables};
@@ -167,13 +185,32 @@ fn a_formula_keeps_its_clauses(rt: HostRuntime) -> Result<(), Fail> {
     Ok(())
 }
 
-/// Also where its allocations are refused, one after the other.
+/// The gate runs this test with each of its allocations refused, one after the other; the second attempt then has memory.
 #[test]
-fn a_refused_push_changes_nothing(rt: HostRuntime) {
+fn a_refused_push_changes_nothing(rt: HostRuntime) -> Result<(), Fail> {
     let mut formula = Formula::new(rt.alloc(), 2);
-    let kept = formula.push(&[lit(1), lit(2)]).is_ok();
-    let counts = (formula.len(), formula.literals());
-    assert_eq!(rt; counts, if kept { (1, 2) } else { (0, 0) });
+    if formula.push(&[lit(1), lit(2)]).is_err() {
+        assert_eq!(rt; (formula.len(), formula.literals()), (0, 0));
+        formula = Formula::new(rt.alloc(), 2);
+        formula.push(&[lit(1), lit(2)])?;
+    }
+    assert_eq!(rt; (formula.len(), formula.literals()), (1, 2));
+    Ok(())
+}
+
+/// As the test above.
+#[test]
+fn a_refused_open_can_be_made_again(rt: HostRuntime) -> Result<(), Fail> {
+    let formula = Formula::new(rt.alloc(), 2);
+    let layout = Layout::new(2, 0, 0, 2, 3, 4)?;
+    assert!(rt; layout.fits(&formula));
+    let map = match PlainMap::open(rt.alloc(), &formula, &layout) {
+        Ok(map) => map,
+        Err(_) => PlainMap::open(rt.alloc(), &formula, &layout)?,
+    };
+    assert_eq!(rt; map.layout().last_identity(), 6);
+    assert!(rt; formula.is_empty());
+    Ok(())
 }
 
 #[test]
@@ -272,6 +309,20 @@ fn second_desk(rt: &impl Abort, map: &mut PlainMap)
     assert_eq!(rt; desk.room(), 1);
 }
 
+/// The last of 64 streams has its own room and identities.
+fn last_desk(rt: &impl Abort, map: &mut PlainMap)
+    requires formula { formula_of map.old ≡ four }
+    requires stream { IsStream map.old.layout 64 }
+{
+    let mut desk = map.desk(64);
+    assert_eq!(rt; (desk.stream(), desk.room()), (64, 2));
+    assert_eq!(rt; publish_two(&mut desk, 67), None);
+    assert_eq!(rt; publish_two(&mut desk, 68), Some(Published::Done));
+    assert!(rt; reads_as(&mut desk, 68, &[lit(2)]));
+    assert_eq!(rt; look(&mut desk, 196), Some(Fetched::Vacant));
+    assert_eq!(rt; look(&mut desk, 197), None);
+}
+
 /// Has the live clause these literals, in this order?
 fn reads_as<M: ClauseMap>(desk: &mut M, id: Id, literals: &[Lit]) -> bool
     ensures { (es : History) × M.moves desk.old desk.new es }
@@ -302,6 +353,16 @@ fn two_desks_use_one_map(rt: HostRuntime) -> Result<(), Fail> {
     assert_eq!(rt; map.layout().last_identity(), 6);
     first_desk(&rt, &mut map);
     second_desk(&rt, &mut map);
+    Ok(())
+}
+
+#[test]
+fn sixty_four_streams_have_a_map(rt: HostRuntime) -> Result<(), Fail> {
+    let formula = four_clauses(rt.alloc())?;
+    let layout = Layout::new(2, 4, 8, 64, 3, 2)?;
+    assert!(rt; layout.fits(&formula));
+    let mut map = PlainMap::open(rt.alloc(), &formula, &layout)?;
+    last_desk(&rt, &mut map);
     Ok(())
 }
 

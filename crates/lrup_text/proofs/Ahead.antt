@@ -7,9 +7,9 @@ use Rattle.std.specs.List.{AllByRecursion, flat_map}
 use Rattle.std.proofs.lemmas.List.{append_assoc, append-nil, length-append, length-take-le, take-take}
 use Rattle.lrup_text.specs.declared.machine.Place.TheVariants as places
 use Rattle.lrup_text.specs.declared.machine.PartialLine.{PartialLine}
-use Rattle.lrup_text.specs.Grammar.{IsDigit, IsNumber, IsLiteral, space, minus}
+use Rattle.lrup_text.specs.Grammar.{IsDigit, SpellsNumber, SpellsLiteral, space, minus}
 use Rattle.lrup_text.specs.Kernel.{ReadsLiterals, ReadsItems, numbers_text}
-use Rattle.lrup_text.specs.Lines.{IsPositive, IsNonzero}
+use Rattle.lrup_text.specs.Lines.{IsStreamNumber, IsStreamLiteral}
 use Rattle.lrup_text.specs.Reading.{Reads, ReadsAhead, pending, pending_at, spot_at, IsRoomy, literals_text, items_text, clause_front, list_front, literals_of, identities_of}
 use Rattle.lrup_text.specs.Rests.{Spot, BeforeLiteral, AfterMinus, InLiteral, BeforeItem, InItem, Tracks}
 use Rattle.lrup_text.proofs.Steps.{tracks_more, item_digit, number_digit, number_space, body_minus, body_digit, minus_digit, literal_digit, literal_space}
@@ -26,7 +26,7 @@ number_digits p deletes k j (c ∷ cs) h t =
     tracks_as (number_digits (p ++ c ∷ []) deletes (k + 1) j cs h.1 (tracks_more p _ _ c t (number_digit deletes k j c h.0)))
     (append_assoc p (c ∷ []) cs) (ap (λ n. InItem deletes n j) (omega arith))
 
-tracks_number : (p : List ℕ) (deletes : Bool) (j : ℕ) (word : List ℕ) → IsNumber 18 word → Tracks p (BeforeItem deletes j) → Tracks (p ++ (word ++ space ∷ [])) (BeforeItem deletes (j + 1))
+tracks_number : (p : List ℕ) (deletes : Bool) (j : ℕ) (word : List ℕ) → SpellsNumber 18 word → Tracks p (BeforeItem deletes j) → Tracks (p ++ (word ++ space ∷ [])) (BeforeItem deletes (j + 1))
 tracks_number p deletes j [] h t = absurd h
 tracks_number p deletes j (c ∷ cs) h t =
     let first = tracks_more p _ _ c t (item_digit deletes j c h.0 h.1) in
@@ -34,7 +34,7 @@ tracks_number p deletes j (c ∷ cs) h t =
     tracks_as (tracks_more ((p ++ c ∷ []) ++ cs) _ _ space digits (number_space deletes (1 + length cs) j (omega (arith, h.3))))
     (ap (λ t. t ++ space ∷ []) (append_assoc p (c ∷ []) cs) ∙ append_assoc p (c ∷ cs) (space ∷ [])) refl
 
-tracks_numbers : (p : List ℕ) (deletes : Bool) (j : ℕ) (ns : List ℕ) → AllByRecursion IsPositive ns → Tracks p (BeforeItem deletes j) → Tracks (p ++ numbers_text ns) (BeforeItem deletes (j + length ns))
+tracks_numbers : (p : List ℕ) (deletes : Bool) (j : ℕ) (ns : List ℕ) → AllByRecursion IsStreamNumber ns → Tracks p (BeforeItem deletes j) → Tracks (p ++ numbers_text ns) (BeforeItem deletes (j + length ns))
 unfolding numbers_text
 tracks_numbers p deletes j [] h t = tracks_as t (sym (append-nil p)) (ap (BeforeItem deletes) (omega arith))
 tracks_numbers p deletes j (n ∷ ns) h t =
@@ -53,7 +53,7 @@ tracks_rest p n c cs h few t =
     tracks_as (tracks_more ((p ++ c ∷ []) ++ cs) _ _ space (literal_digits (p ++ c ∷ []) 1 n cs h t) (literal_space (1 + length cs) n (omega arith)))
     (ap (λ t. t ++ space ∷ []) (append_assoc p (c ∷ []) cs) ∙ append_assoc p (c ∷ cs) (space ∷ [])) refl
 
-tracks_literal : (p : List ℕ) (n : ℕ) (word : List ℕ) → IsLiteral 18 word → Tracks p (BeforeLiteral n) → Tracks (p ++ (word ++ space ∷ [])) (BeforeLiteral (n + 1))
+tracks_literal : (p : List ℕ) (n : ℕ) (word : List ℕ) → SpellsLiteral 18 word → Tracks p (BeforeLiteral n) → Tracks (p ++ (word ++ space ∷ [])) (BeforeLiteral (n + 1))
 tracks_literal p n [] h t = absurd h
 tracks_literal p n (c ∷ cs) (inl h) t = tracks_rest p n c cs h.2 h.3 (tracks_more p _ _ c t (body_digit n c h.0 h.1))
 tracks_literal p n (c ∷ []) (inr h) t = absurd h.1
@@ -62,7 +62,7 @@ tracks_literal p n (c ∷ d ∷ ds) (inr h) t =
     let digits = tracks_rest (p ++ minus ∷ []) n d ds h.1.2 h.1.3 (tracks_more (p ++ minus ∷ []) _ _ d signed (minus_digit n d h.1.0 h.1.1)) in
     tracks_as digits (append_assoc p (minus ∷ []) ((d ∷ ds) ++ space ∷ []) ∙ ap (λ x. p ++ (x ∷ ((d ∷ ds) ++ space ∷ []))) (sym h.0)) refl
 
-tracks_literals : (p : List ℕ) (n : ℕ) (zs : List ℤ) → AllByRecursion IsNonzero zs → Tracks p (BeforeLiteral n) → Tracks (p ++ literals_text zs) (BeforeLiteral (n + length zs))
+tracks_literals : (p : List ℕ) (n : ℕ) (zs : List ℤ) → AllByRecursion IsStreamLiteral zs → Tracks p (BeforeLiteral n) → Tracks (p ++ literals_text zs) (BeforeLiteral (n + length zs))
 unfolding literals_text
 tracks_literals p n [] h t = tracks_as t (sym (append-nil p)) (ap BeforeLiteral (omega arith))
 tracks_literals p n (z ∷ zs) h t =
@@ -112,7 +112,7 @@ items_ahead m v count used last ids piece h at items size inside found =
           few_literals = h.kept.few_literals;
           few_identities = omega (arith, found.few, size);
           literals = h.kept.literals;
-          identities = subst (AllByRecursion IsPositive) (sym lists) (all_append IsPositive (identities_of m) found.more h.kept.identities found.each);
+          identities = subst (AllByRecursion IsStreamNumber) (sym lists) (all_append IsStreamNumber (identities_of m) found.more h.kept.identities found.each);
         };
         number = h.number;
         roomy = tt;
@@ -146,7 +146,7 @@ literals_ahead m v count used last lits piece h at items size inside found =
           few_literals = omega (arith, found.few, size);
           few_identities = h.kept.few_identities;
           identities = h.kept.identities;
-          literals = subst (AllByRecursion IsNonzero) (sym lists) (all_append IsNonzero (literals_of m) found.more h.kept.literals found.each);
+          literals = subst (AllByRecursion IsStreamLiteral) (sym lists) (all_append IsStreamLiteral (literals_of m) found.more h.kept.literals found.each);
         };
         number = h.number;
         roomy = subst (λ p. IsRoomy p m) at h.roomy;

@@ -12,9 +12,9 @@ use Rattle.lrup_text.specs.declared.machine.Place.TheVariants as places
 use Rattle.lrup_text.specs.declared.machine.PartialLine.{PartialLine}
 use Rattle.lrup_text.specs.Grammar.{space, minus, zero_digit, letter_d, line_feed, IsDigit, list_text, clause_text}
 use Rattle.lrup_text.specs.Faults.{Decides}
-use Rattle.lrup_text.specs.Lines.{Fits, IsPositive, IsNonzero, LineText, text_of}
+use Rattle.lrup_text.specs.Lines.{IsWithinLimits, IsStreamNumber, IsStreamLiteral, LineText, line_text}
 use Rattle.lrup_text.specs.Rests.{InLead, BeforeLiteral, AfterMinus, InLiteral, BeforeList, BeforeItem, InItem, AtEnd, Tracks, Moves, Blocks, Allows}
-use Rattle.lrup_text.specs.Reading.{HasDigits, IsKept, Reads, pending_at, spot_at, pending, IsRoomy, clause_front, list_front, item_front, literal_front, literals_of, identities_of, literals_text, items_text, read_line, line_of_parts}
+use Rattle.lrup_text.specs.Reading.{FitsDigits, IsKept, Reads, pending_at, spot_at, pending, IsRoomy, clause_front, list_front, item_front, literal_front, literals_of, identities_of, literals_text, items_text, line_so_far, line_of_parts}
 use Rattle.lrup_text.proofs.Decisions.{decides_spelling, decides_long, decides_rat}
 use Rattle.lrup_text.proofs.Numerals.{decimal_one, decimal_byte, power_more, power_below}
 use Rattle.lrup_text.proofs.Steps.{
@@ -95,21 +95,21 @@ module _ (m next : PartialLine) (place : Place) (at : m.place ≡ place) (reads 
   pending_next is = is ∙ ap (λ p. pending_at p m ++ b ∷ []) (sym at)
 
 -- a number after its first digit, and after one more
-pub first_digit : (b : ℕ) → 49 ≤ b → b ≤ 57 → HasDigits (b - 48) 1
+pub first_digit : (b : ℕ) → 49 ≤ b → b ≤ 57 → FitsDigits (b - 48) 1
 first_digit b low high = record { low = omega arith; high = omega arith; few = omega arith }
 
-pub more_digits : (n k b : ℕ) → HasDigits n k → k < 18 → IsDigit b → HasDigits (n * 10 + (b - 48)) (k + 1)
+pub more_digits : (n k b : ℕ) → FitsDigits n k → k < 18 → IsDigit b → FitsDigits (n * 10 + (b - 48)) (k + 1)
 more_digits n k b h few digit = record { low = omega (arith, h.low); high = power_more k n (b - 48) h.high (omega arith); few = omega arith }
 
 -- it keeps below the limit, and is a word
-pub below_limit : (n k : ℕ) → HasDigits n k → n < 10 ^ 18
+pub below_limit : (n k : ℕ) → FitsDigits n k → n < 10 ^ 18
 below_limit n k h = omega (arith, h.high, power_below k h.few)
 
-pub decimal_next : (n k b : ℕ) → HasDigits n k → k < 18 → IsDigit b → decimal (n * 10 + (b - 48)) ≡ decimal n ++ b ∷ []
+pub decimal_next : (n k b : ℕ) → FitsDigits n k → k < 18 → IsDigit b → decimal (n * 10 + (b - 48)) ≡ decimal n ++ b ∷ []
 decimal_next n k b h few digit =
     decimal_byte n b h.low (below_limit n k h) digit (omega (arith, below_limit (n * 10 + (b - 48)) (k + 1) (more_digits n k b h few digit)))
 
-pub positive : (n k : ℕ) → HasDigits n k → IsPositive n
+pub positive : (n k : ℕ) → FitsDigits n k → IsStreamNumber n
 positive n k h = (h.low, below_limit n k h)
 
 -- one more element at the end
@@ -136,14 +136,14 @@ literals_end (z ∷ zs) after =
 
 -- the whole text of a line, from its front
 pub line_end : (deletes : Bool) (lead : ℕ) (lits : List ℤ) (ids : List ℕ)
-    → ((list_front deletes lead lits ++ items_text ids) ++ space ∷ zero_digit ∷ []) ++ line_feed ∷ [] ≡ text_of (line_of_parts deletes lead lits ids)
+    → ((list_front deletes lead lits ++ items_text ids) ++ space ∷ zero_digit ∷ []) ++ line_feed ∷ [] ≡ line_text (line_of_parts deletes lead lits ids)
 line_end deletes lead lits ids =
     append_assoc (list_front deletes lead lits ++ items_text ids) (space ∷ zero_digit ∷ []) (line_feed ∷ [])
     ∙ append_assoc (list_front deletes lead lits) (items_text ids) (space ∷ zero_digit ∷ line_feed ∷ [])
     ∙ ap (λ t. list_front deletes lead lits ++ t) (items_end ids)
     ∙ front deletes
   where
-    front : (deletes : Bool) → list_front deletes lead lits ++ list_text (map decimal ids) ≡ text_of (line_of_parts deletes lead lits ids)
+    front : (deletes : Bool) → list_front deletes lead lits ++ list_text (map decimal ids) ≡ line_text (line_of_parts deletes lead lits ids)
     front true = append_assoc (decimal lead) (space ∷ letter_d ∷ []) (list_text (map decimal ids))
     front false =
         append_assoc (clause_front lead lits) (zero_digit ∷ []) (list_text (map decimal ids))
@@ -151,7 +151,7 @@ line_end deletes lead lits ids =
         ∙ ap (λ t. decimal lead ++ space ∷ t) (literals_end lits (list_text (map decimal ids)))
 
 pub line_fits : (deletes : Bool) (lead : ℕ) (lits : List ℤ) (n : ℕ) (ids : List ℕ) (j : ℕ) → IsKept lead lits n ids j → n ≤ length lits → j ≤ length ids
-    → Fits (line_of_parts deletes lead (take n lits) (take j ids))
+    → IsWithinLimits (line_of_parts deletes lead (take n lits) (take j ids))
 line_fits true lead lits n ids j h n_in j_in =
     (h.lead, record { count = omega (arith, length-take-le j ids j_in, h.few_identities); each = h.identities })
 line_fits false lead lits n ids j h n_in j_in = (
@@ -321,7 +321,7 @@ module _ (m : PartialLine) (b : ℕ) (h : Reads m) where
   -- Literal
 
   -- a literal that grows by a digit
-  literal_more : (negative : Bool) (n k : ℕ) → HasDigits n k → k < 18 → IsDigit b → literal_front negative (n * 10 + (b - 48)) ≡ literal_front negative n ++ b ∷ []
+  literal_more : (negative : Bool) (n k : ℕ) → FitsDigits n k → k < 18 → IsDigit b → literal_front negative (n * 10 + (b - 48)) ≡ literal_front negative n ++ b ∷ []
   literal_more true n k number few digit = ap (λ t. minus ∷ t) (decimal_next n k b number few digit)
   literal_more false n k number few digit = decimal_next n k b number few digit
 
@@ -369,7 +369,7 @@ module _ (m : PartialLine) (b : ℕ) (h : Reads m) where
       ∙ sym (append_assoc (decimal m.lead) (space ∷ literals_text (literals_of m)) (word ++ space ∷ []))
       ∙ sym (append_assoc front word (space ∷ []))
       ∙ ap (λ x. (front ++ word) ++ x ∷ []) (sym e) in
-      let literal : IsNonzero z = subst IsPositive (sym magnitude) (positive m.number m.digits h.number) in (
+      let literal : IsStreamLiteral z = subst IsStreamNumber (sym magnitude) (positive m.number m.digits h.number) in (
         record {
           room = record { literals = ap length items ∙ length-set m.literals.items m.literal_count z ∙ count; identities = h.room.identities };
           kept = record {
@@ -377,7 +377,7 @@ module _ (m : PartialLine) (b : ℕ) (h : Reads m) where
             few_literals = omega arith;
             few_identities = h.kept.few_identities;
             identities = h.kept.identities;
-            literals = subst (AllByRecursion IsNonzero) (sym more) (all_more IsNonzero (literals_of m) z h.kept.literals literal);
+            literals = subst (AllByRecursion IsStreamLiteral) (sym more) (all_more IsStreamLiteral (literals_of m) z h.kept.literals literal);
           };
           number = h.number;
           roomy = roomy.0;
@@ -526,8 +526,8 @@ module _ (m : PartialLine) (b : ℕ) (h : Reads m) where
             few_literals = h.kept.few_literals;
             few_identities = omega arith;
             literals = h.kept.literals;
-            identities = subst (AllByRecursion IsPositive) (sym more)
-                (all_more IsPositive (identities_of m) m.number h.kept.identities (positive m.number m.digits h.number));
+            identities = subst (AllByRecursion IsStreamNumber) (sym more)
+                (all_more IsStreamNumber (identities_of m) m.number h.kept.identities (positive m.number m.digits h.number));
           };
           number = h.number;
           roomy = tt;
@@ -556,7 +556,7 @@ module _ (m : PartialLine) (b : ℕ) (h : Reads m) where
 
   -- the line is whole, and the next may begin
   pub end_ends : m.place ≡ places.LineEnd → b ≡ line_feed
-      → let next : PartialLine = record m { place = places.Start } in Reads next × (pending next ≡ []) × LineText (read_line next) (pending m ++ b ∷ [])
+      → let next : PartialLine = record m { place = places.Start } in Reads next × (pending next ≡ []) × LineText (line_so_far next) (pending m ++ b ∷ [])
   unfolding pending_at spot_at IsRoomy
   end_ends at e = (
     record { room = h.room; kept = h.kept; number = h.number; roomy = tt; tracks = at_start },

@@ -3,21 +3,21 @@ use Rattle.std.proofs.Common.{ℕ, Bool, true, false, List, [], ◌∷◌, ◌++
 use Rattle.lrup_text.specs.declared.LineFault.TheVariants.{Spelling, TooLong, RatHint}
 use Rattle.lrup_text.specs.Faults.{Decides}
 use Rattle.lrup_text.specs.Grammar.{IsLine, standard, Begins, BeginsLifted}
-use Rattle.lrup_text.specs.Rests.{Spot, Follows, Tracks, Blocks, Allows}
+use Rattle.lrup_text.specs.Rests.{Spot, MayComplete, Tracks, Blocks, Allows}
 use Rattle.lrup_text.proofs.TextLaws.{tracks_pending}
 use Rattle.lrup_text.proofs.Steps.{IsBounded, Exceeds, one_more, standard_lifted}
 
 module _ (read : List ℕ) (spot : Spot) (b : ℕ) (tracks : Tracks read spot) (bounded : IsBounded spot) where
   begins_none : (signed : Bool) → Blocks signed spot b → ¬ BeginsLifted signed (read ++ b ∷ [])
   begins_none signed blocks h =
-      blocks h.0 h.1 h.2.0 (tracks.follows signed h.0 h.1 (b ∷ h.2.0) (subst (IsLine h.0) (one_more read b h.2.0) h.2.1))
+      blocks h.0 h.1 h.2.0 (tracks.completes signed h.0 h.1 (b ∷ h.2.0) (subst (IsLine h.0) (one_more read b h.2.0) h.2.1))
 
   begins_lifted : (signed : Bool) → Allows signed spot b → BeginsLifted signed (read ++ b ∷ [])
   begins_lifted signed allows =
-      (allows.limits, allows.lifted, (allows.rest, subst (IsLine allows.limits) (sym (one_more read b allows.rest)) (tracks.line signed allows.limits allows.lifted (b ∷ allows.rest) allows.follows)))
+      (allows.limits, allows.lifted, (allows.rest, subst (IsLine allows.limits) (sym (one_more read b allows.rest)) (tracks.line signed allows.limits allows.lifted (b ∷ allows.rest) allows.completes)))
 
-  ends : ((rest : List ℕ) → ¬ Follows standard spot (b ∷ rest)) → ¬ Begins (read ++ b ∷ [])
-  ends stops h = stops h.0 (tracks.follows false standard standard_lifted (b ∷ h.0) (subst (IsLine standard) (one_more read b h.0) h.1))
+  ends : ((rest : List ℕ) → ¬ MayComplete standard spot (b ∷ rest)) → ¬ Begins (read ++ b ∷ [])
+  ends stops h = stops h.0 (tracks.completes false standard standard_lifted (b ∷ h.0) (subst (IsLine standard) (one_more read b h.0) h.1))
 
   pub decides_spelling : ((signed : Bool) → Blocks signed spot b) → Decides read b Spelling
   decides_spelling blocks = record {

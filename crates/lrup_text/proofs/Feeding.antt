@@ -7,7 +7,7 @@ use Rattle.lrup_text.specs.declared.machine.PartialLine.{PartialLine}
 use Rattle.lrup_text.specs.declared.reader.Turn.{Turn}
 use Rattle.lrup_text.specs.declared.reader.Turn.TheVariants as turns
 use Rattle.lrup_text.specs.Lines.{IsPending, LineText, line_of}
-use Rattle.lrup_text.specs.Reading.{TakesPiece, pending, read_line}
+use Rattle.lrup_text.specs.Reading.{StepsThrough, pending, line_so_far}
 use Rattle.lrup_text.specs.Feeding.{ReaderState, state_of, Feeds, Leaves}
 use Rattle.lrup_text.proofs.TextLaws.{empty_pending}
 use Rattle.lrup_text.proofs.Readers.{reads_pending}
@@ -18,13 +18,13 @@ pub record Fed (old : ReaderState) (piece : List ℕ) (used : ℕ) (turn : Turn)
   pub gives : Feeds old piece used turn
 
 module _ (m next : PartialLine) (piece : List ℕ) (used : ℕ) where
-  pub fed_more : TakesPiece m piece used More next → Fed (Ok (pending m)) piece used turns.NeedMore (Ok (pending next))
+  pub fed_more : StepsThrough m piece used More next → Fed (Ok (pending m)) piece used turns.NeedMore (Ok (pending next))
   fed_more h = record { leaves = (ap Ok h.2, subst IsPending h.2 (reads_pending next h.1)); gives = h.0 }
 
-  pub fed_line : (line : Line) → line_of line ≡ read_line next → TakesPiece m piece used Done next → Fed (Ok (pending m)) piece used (turns.Line line) (Ok (pending next))
+  pub fed_line : (line : Line) → line_of line ≡ line_so_far next → StepsThrough m piece used Done next → Fed (Ok (pending m)) piece used (turns.Line line) (Ok (pending next))
   fed_line line is h = record { leaves = (ap Ok h.3, empty_pending); gives = (h.0, h.1, subst (λ l. LineText l (pending m ++ take used piece)) (sym is) h.4) }
 
-  pub fed_fault : (fault : LineFault) → TakesPiece m piece used (Refused fault) next → Fed (Ok (pending m)) piece used (turns.Fault fault) (Err fault)
+  pub fed_fault : (fault : LineFault) → StepsThrough m piece used (Refused fault) next → Fed (Ok (pending m)) piece used (turns.Fault fault) (Err fault)
   fed_fault fault h = record { leaves = refl; gives = h }
 
 -- the same at equal values

@@ -11,3 +11,4 @@ pub mod Puts
 pub mod LineTexts
 pub mod WholeLines
 pub mod Ahead
+pub mod Cuts

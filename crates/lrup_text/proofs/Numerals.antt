@@ -8,7 +8,7 @@ use Rattle.std.proofs.lemmas.Int.Digits.{digits_of_step, length-digits_of-le, al
 use Rattle.std.proofs.lemmas.Grind.{pow_more}
 use Rattle.std.proofs.Math.Nat.{pow-le-pow_right}
 use Rattle.std.proofs.lemmas.List.{map-append, length-map}
-use Rattle.lrup_text.specs.Grammar.{IsDigit, IsNumber}
+use Rattle.lrup_text.specs.Grammar.{IsDigit, SpellsNumber}
 
 -- a number with one more digit
 pub decimal_more : (n d : ℕ) → 0 < n → d < 10 → n * 10 + d < 2 ^ 64 → decimal (n * 10 + d) ≡ decimal n ++ (48 + d) ∷ []
@@ -43,16 +43,16 @@ all_digits : (ds : List ℕ) → AllByRecursion (λ d. d < 10) ds → AllByRecur
 all_digits [] h = tt
 all_digits (d ∷ ds) h = ((omega (arith, h.0), omega (arith, h.0)), all_digits ds h.1)
 
-digits_word : (ds : List ℕ) → AllByRecursion (λ d. d < 10) ds → 0 < get_or ds 0 0 → length ds ≤ 18 → IsNumber 18 (map (λ x. 48 + x) ds)
+digits_word : (ds : List ℕ) → AllByRecursion (λ d. d < 10) ds → 0 < get_or ds 0 0 → length ds ≤ 18 → SpellsNumber 18 (map (λ x. 48 + x) ds)
 digits_word [] h some few = let none : 0 < 0 = some in absurd (omega arith)
 digits_word (d ∷ ds) h some few =
     let first : 0 < d = some in
     (omega arith, omega (arith, h.0), all_digits ds h.1, omega (arith, length-map ds (λ x. 48 + x)))
 
 -- a number is spelled by its decimal text
-pub number_word : (n : ℕ) → 0 < n → n < 10 ^ 18 → IsNumber 18 (decimal n)
+pub number_word : (n : ℕ) → 0 < n → n < 10 ^ 18 → SpellsNumber 18 (decimal n)
 number_word n some few =
-    subst (IsNumber 18) (sym (decimal-digits_of n some (omega arith)))
+    subst (SpellsNumber 18) (sym (decimal-digits_of n some (omega arith)))
     (digits_word (digits_of 10 n) (all_below_base_digits_of 10 n (omega arith)) (first_digits_of 10 n (omega arith) some) (length-digits_of-le 10 18 n (omega arith) few))
 
 -- a number without its last digit, and that digit

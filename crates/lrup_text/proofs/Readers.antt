@@ -9,9 +9,9 @@ use Rattle.lrup_text.specs.declared.machine.Step.{Step}
 use Rattle.lrup_text.specs.declared.machine.Step.TheVariants.{More, Done, Refused}
 use Rattle.lrup_text.specs.Faults.{IsRefused}
 use Rattle.lrup_text.specs.declared.machine.PartialLine.{PartialLine}
-use Rattle.lrup_text.specs.Grammar.{space, minus, zero_digit, IsNumber}
-use Rattle.lrup_text.specs.Lines.{IsPending, IsPositive, LineText}
-use Rattle.lrup_text.specs.Reading.{HasRoom, HasDigits, IsKept, Reads, ReadsAhead, Takes, TakesPiece, pending_at, spot_at, pending, IsRoomy, read_line, clause_front, list_front, item_front, literal_front, literals_text, literals_of}
+use Rattle.lrup_text.specs.Grammar.{space, minus, zero_digit, SpellsNumber}
+use Rattle.lrup_text.specs.Lines.{IsPending, IsStreamNumber, LineText}
+use Rattle.lrup_text.specs.Reading.{HasRoom, FitsDigits, IsKept, Reads, ReadsAhead, Steps, StepsThrough, pending_at, spot_at, pending, IsRoomy, line_so_far, clause_front, list_front, item_front, literal_front, literals_text, literals_of}
 use Rattle.lrup_text.proofs.Bytes.{bounded, below_limit}
 use Rattle.lrup_text.proofs.TextLaws.{tracks_pending}
 use Rattle.lrup_text.proofs.Numerals.{number_word}
@@ -23,7 +23,7 @@ reads_pending m h = tracks_pending (pending m) (spot_at m.place m) h.tracks (bou
 
 -- before the first byte
 pub start_reads : (m : PartialLine) → m.place ≡ places.Start → HasRoom m.literals.items m.identities.items → IsKept m.lead m.literals.items m.literal_count m.identities.items m.identity_count
-    → HasDigits m.number m.digits → Reads m × (pending m ≡ [])
+    → FitsDigits m.number m.digits → Reads m × (pending m ≡ [])
 unfolding pending_at spot_at IsRoomy
 start_reads m at room kept number = (
   record {
@@ -48,11 +48,11 @@ list_started : (deletes : Bool) (lead : ℕ) (lits : List ℤ) → list_front de
 list_started true lead lits e = some_byte (decimal lead) space _ e
 list_started false lead lits e = some_byte (clause_front lead lits) zero_digit _ e
 
-word_some : (w : List ℕ) → IsNumber 18 w → w ≡ [] → ⊥
+word_some : (w : List ℕ) → SpellsNumber 18 w → w ≡ [] → ⊥
 word_some [] h e = h
 word_some (c ∷ cs) h e = cc
 
-started : (m : PartialLine) (place : Place) → place ≢ places.Start → HasDigits m.number m.digits → pending_at place m ≡ [] → ⊥
+started : (m : PartialLine) (place : Place) → place ≢ places.Start → FitsDigits m.number m.digits → pending_at place m ≡ [] → ⊥
 unfolding pending_at
 started m places.Start ne h e = ne refl
 started m places.Lead ne h e = word_some (decimal m.number) (number_word m.number h.low (below_limit m.number m.digits h)) e
@@ -78,22 +78,22 @@ read_more read before piece i byte now h is so step =
     step ∙ ap (λ t. t ++ byte ∷ []) so ∙ append_assoc read (take i piece) (byte ∷ []) ∙ ap (λ x. read ++ (take i piece ++ x ∷ [])) is ∙ ap (λ t. read ++ t) (sym (take_more piece i 0 h))
 
 -- no list is kept
-pub kept_none : (first : ℕ) (lits : List ℤ) (ids : List ℕ) → IsPositive first → IsKept first lits 0 ids 0
+pub kept_none : (first : ℕ) (lits : List ℤ) (ids : List ℕ) → IsStreamNumber first → IsKept first lits 0 ids 0
 kept_none first lits ids h = record { lead = h; few_literals = omega arith; few_identities = omega arith; literals = tt; identities = tt }
 
 -- with other lists
 pub restarts : (next : PartialLine) (lits : List ℤ) (ids : List ℕ) → next.place ≡ places.Start → next.literals.items ≡ lits → next.identities.items ≡ ids → length lits ≡ 65535 → length ids ≡ 65536
-    → IsKept next.lead lits next.literal_count ids next.identity_count → HasDigits next.number next.digits → Reads next × (pending next ≡ [])
+    → IsKept next.lead lits next.literal_count ids next.identity_count → FitsDigits next.number next.digits → Reads next × (pending next ≡ [])
 restarts next lits ids at lits_are ids_are room_lits room_ids kept number =
     start_reads next at (record { literals = ap length lits_are ∙ room_lits; identities = ap length ids_are ∙ room_ids })
     (subst (λ x. IsKept next.lead x next.literal_count next.identities.items next.identity_count) (sym lits_are)
     (subst (λ x. IsKept next.lead lits next.literal_count x next.identity_count) (sym ids_are) kept)) number
 
 -- nothing but the pending text says what a piece does
-pub takes_from : (old other : PartialLine) (piece : List ℕ) (used : ℕ) (step : Step) (new : PartialLine) → pending other ≡ pending old → TakesPiece other piece used step new → TakesPiece old piece used step new
-takes_from old other piece used More new same h = (h.0, h.1, h.2 ∙ ap (λ t. t ++ piece) same)
-takes_from old other piece used Done new same h = (h.0, h.1, h.2, h.3, subst (λ t. LineText (read_line new) (t ++ take used piece)) same h.4)
-takes_from old other piece used (Refused fault) new same h = (h.0, h.1, subst (λ t. IsRefused (t ++ take used piece) fault) same h.2)
+pub steps_from : (old other : PartialLine) (piece : List ℕ) (used : ℕ) (step : Step) (new : PartialLine) → pending other ≡ pending old → StepsThrough other piece used step new → StepsThrough old piece used step new
+steps_from old other piece used More new same h = (h.0, h.1, h.2 ∙ ap (λ t. t ++ piece) same)
+steps_from old other piece used Done new same h = (h.0, h.1, h.2, h.3, subst (λ t. LineText (line_so_far new) (t ++ take used piece)) same h.4)
+steps_from old other piece used (Refused fault) new same h = (h.0, h.1, subst (λ t. IsRefused (t ++ take used piece) fault) same h.2)
 
 -- a part of a piece, and then the next
 pub ahead_then : (old mid new : PartialLine) (piece rest : List ℕ) (used more : ℕ) → ReadsAhead old piece used mid → rest ≡ drop used piece → ReadsAhead mid rest more new → ReadsAhead old piece (used + more) new
@@ -110,14 +110,14 @@ byte_after old mid piece used byte same inside is =
     ap (λ t. t ++ byte ∷ []) same ∙ append_assoc (pending old) (take used piece) (byte ∷ []) ∙ ap (λ x. pending old ++ (take used piece ++ x ∷ [])) is
     ∙ ap (λ t. pending old ++ t) (sym (take_more piece used 0 inside))
 
-pub ahead_byte : (old mid new : PartialLine) (piece : List ℕ) (used byte : ℕ) → ReadsAhead old piece used mid → used < length piece → byte ≡ get_or piece used 0 → Takes mid byte More new → ReadsAhead old piece (used + 1) new
+pub ahead_byte : (old mid new : PartialLine) (piece : List ℕ) (used byte : ℕ) → ReadsAhead old piece used mid → used < length piece → byte ≡ get_or piece used 0 → Steps mid byte More new → ReadsAhead old piece (used + 1) new
 ahead_byte old mid new piece used byte h inside is k = record { bound = omega arith; reads = k.0; is = k.1 ∙ byte_after old mid piece used byte h.is inside is }
 
-pub takes_byte : (old mid new : PartialLine) (piece : List ℕ) (used byte : ℕ) (step : Step) → ReadsAhead old piece used mid → used < length piece → byte ≡ get_or piece used 0 → (step ≡ More → ⊥) → Takes mid byte step new
-    → TakesPiece old piece (used + 1) step new
-takes_byte old mid new piece used byte More h inside is ends k = absurd (ends refl)
-takes_byte old mid new piece used byte Done h inside is ends k = (omega arith, omega arith, k.0, k.1, subst (LineText (read_line new)) (byte_after old mid piece used byte h.is inside is) k.2)
-takes_byte old mid new piece used byte (Refused fault) h inside is ends k = (omega arith, omega arith, (pending mid, byte, sym (byte_after old mid piece used byte h.is inside is), k))
+pub steps_byte : (old mid new : PartialLine) (piece : List ℕ) (used byte : ℕ) (step : Step) → ReadsAhead old piece used mid → used < length piece → byte ≡ get_or piece used 0 → (step ≡ More → ⊥) → Steps mid byte step new
+    → StepsThrough old piece (used + 1) step new
+steps_byte old mid new piece used byte More h inside is ends k = absurd (ends refl)
+steps_byte old mid new piece used byte Done h inside is ends k = (omega arith, omega arith, k.0, k.1, subst (LineText (line_so_far new)) (byte_after old mid piece used byte h.is inside is) k.2)
+steps_byte old mid new piece used byte (Refused fault) h inside is ends k = (omega arith, omega arith, (pending mid, byte, sym (byte_after old mid piece used byte h.is inside is), k))
 
-pub takes_all : (old new : PartialLine) (piece : List ℕ) (used : ℕ) → ReadsAhead old piece used new → length piece ≤ used → TakesPiece old piece used More new
+pub takes_all : (old new : PartialLine) (piece : List ℕ) (used : ℕ) → ReadsAhead old piece used new → length piece ≤ used → StepsThrough old piece used More new
 takes_all old new piece used h all = (omega (arith, h.bound), h.reads, h.is ∙ ap (λ t. pending old ++ t) (take_all used piece all))

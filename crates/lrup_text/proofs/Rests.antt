@@ -2,8 +2,8 @@
 use Rattle.std.proofs.Common.{◌≡◌, ℕ, ◌+◌, ◌<◌, ◌≤◌, ◌⊎◌, inl, inr, Bool, true, false, List, [], ◌∷◌, ◌++◌, length, refl, sym, ◌∙◌, ap, subst, arith}
 use Rattle.std.specs.Prelude.{MatchBool}
 use Rattle.std.specs.List.{AllByRecursion}
-use Rattle.lrup_text.specs.Grammar.{Limits, AreWords, IsDigit, IsNumber, IsLiteral, IsLine, Words, Adds, Deletes, IsWithin, text, list_text, clause_text, line_feed, space, letter_d, minus, zero_digit}
-use Rattle.lrup_text.specs.Rests.{IsItem, ListFollows, ClauseFollows, BodyFollows, DigitsFollow, NumberFollows}
+use Rattle.lrup_text.specs.Grammar.{Limits, AreWords, IsDigit, SpellsNumber, SpellsLiteral, IsLine, Words, Adds, Deletes, IsWithin, text, list_text, clause_text, line_feed, space, letter_d, minus, zero_digit}
+use Rattle.lrup_text.specs.Rests.{SpellsItem, ListFollows, ClauseFollows, BodyFollows, DigitsFollow, NumberFollows}
 
 pub same_head : {a b : ℕ} {xs ys : List ℕ} → a ∷ xs ≡ b ∷ ys → a ≡ b
 same_head e = cc
@@ -43,12 +43,12 @@ pub number_from : (limits : Limits) (Next : List ℕ → Type 0) (b : ℕ) (rest
 number_from limits Next b rest low high f = record { first = b; low = low; high = high; after = rest; is = refl; digits = f }
 
 -- a word that is a number, and what follows it
-pub number_word : (limits : Limits) (Next : List ℕ → Type 0) (c : ℕ) (cs after rest : List ℕ) → IsNumber limits.digits (c ∷ cs) → rest ≡ cs ++ space ∷ after → Next after → DigitsFollow limits 1 Next rest
+pub number_word : (limits : Limits) (Next : List ℕ → Type 0) (c : ℕ) (cs after rest : List ℕ) → SpellsNumber limits.digits (c ∷ cs) → rest ≡ cs ++ space ∷ after → Next after → DigitsFollow limits 1 Next rest
 number_word limits Next c cs after rest h is next =
     let few : length cs < limits.digits = h.3 in
     record { more = cs; each = h.2; count = omega arith; after = after; is = is; next = next }
 
-pub word_of_number : (limits : Limits) (Next : List ℕ → Type 0) (b : ℕ) (rest : List ℕ) → 49 ≤ b → b ≤ 57 → (f : DigitsFollow limits 1 Next rest) → IsNumber limits.digits (b ∷ f.more)
+pub word_of_number : (limits : Limits) (Next : List ℕ → Type 0) (b : ℕ) (rest : List ℕ) → 49 ≤ b → b ≤ 57 → (f : DigitsFollow limits 1 Next rest) → SpellsNumber limits.digits (b ∷ f.more)
 word_of_number limits Next b rest low high f =
     let few : 1 + length f.more ≤ limits.digits = f.count in
     (low, high, f.each, omega arith)
@@ -69,24 +69,24 @@ list_to_space limits deletes j b rest f = same_head (f.is ∙ list_text-space f.
 
 -- an item is a number, or, where hints are signed, a sign and a number
 pub data ItemKind (digits : ℕ) (signed deletes : Bool) : List ℕ → Type 0 where
-  unsigned : {word : List ℕ} → IsNumber digits word → ItemKind digits signed deletes word
+  unsigned : {word : List ℕ} → SpellsNumber digits word → ItemKind digits signed deletes word
   negative : {c : ℕ} {cs : List ℕ} → c ≡ minus → deletes ≡ false → signed ≡ true → ItemKind digits signed deletes (c ∷ cs)
 
-literal_kind : (digits : ℕ) (word : List ℕ) → IsLiteral digits word → ItemKind digits true false word
+literal_kind : (digits : ℕ) (word : List ℕ) → SpellsLiteral digits word → ItemKind digits true false word
 literal_kind digits [] h = absurd h
 literal_kind digits (c ∷ cs) (inl h) = unsigned h
 literal_kind digits (c ∷ cs) (inr h) = negative h.0 refl refl
 
-pub item_kind : (digits : ℕ) (signed deletes : Bool) (word : List ℕ) → MatchBool deletes (IsNumber digits word) (MatchBool signed (IsLiteral digits word) (IsNumber digits word)) → ItemKind digits signed deletes word
+pub item_kind : (digits : ℕ) (signed deletes : Bool) (word : List ℕ) → MatchBool deletes (SpellsNumber digits word) (MatchBool signed (SpellsLiteral digits word) (SpellsNumber digits word)) → ItemKind digits signed deletes word
 item_kind digits signed true word h = unsigned h
 item_kind digits true false word h = literal_kind digits word h
 item_kind digits false false word h = unsigned h
 
-pub literal_of_number : (digits : ℕ) (word : List ℕ) → IsNumber digits word → IsLiteral digits word
+pub literal_of_number : (digits : ℕ) (word : List ℕ) → SpellsNumber digits word → SpellsLiteral digits word
 literal_of_number digits [] h = h
 literal_of_number digits (c ∷ cs) h = inl h
 
-pub item_of_number : (digits : ℕ) (signed deletes : Bool) (word : List ℕ) → IsNumber digits word → MatchBool deletes (IsNumber digits word) (MatchBool signed (IsLiteral digits word) (IsNumber digits word))
+pub item_of_number : (digits : ℕ) (signed deletes : Bool) (word : List ℕ) → SpellsNumber digits word → MatchBool deletes (SpellsNumber digits word) (MatchBool signed (SpellsLiteral digits word) (SpellsNumber digits word))
 item_of_number digits signed true word h = h
 item_of_number digits true false word h = literal_of_number digits word h
 item_of_number digits false false word h = h
@@ -98,7 +98,7 @@ pub data ItemTo (limits : Limits) (deletes : Bool) (j b : ℕ) (rest : List ℕ)
   signs : b ≡ minus → deletes ≡ false → limits.signed ≡ true → ItemTo limits deletes j b rest
 
 module _ (limits : Limits) (deletes : Bool) (j b : ℕ) (rest : List ℕ) where
-  item_word : (word : List ℕ) (ws : List (List ℕ)) → ItemKind limits.digits limits.signed deletes word → AllByRecursion (IsItem limits deletes) ws
+  item_word : (word : List ℕ) (ws : List (List ℕ)) → ItemKind limits.digits limits.signed deletes word → AllByRecursion (SpellsItem limits deletes) ws
       → (j + 1) + length ws ≤ limits.identities → b ∷ rest ≡ word ++ list_text ws → ItemTo limits deletes j b rest
   item_word [] ws (unsigned h) each count is = absurd h
   item_word (c ∷ cs) ws (unsigned h) each count is =
@@ -111,7 +111,7 @@ module _ (limits : Limits) (deletes : Bool) (j b : ℕ) (rest : List ℕ) where
   pub item_to : ListFollows limits deletes j (space ∷ b ∷ rest) → ItemTo limits deletes j b rest
   item_to f = cases f.words f.each f.count f.is
     where
-      cases : (ws : List (List ℕ)) → AllByRecursion (IsItem limits deletes) ws → j + length ws ≤ limits.identities → space ∷ b ∷ rest ≡ list_text ws → ItemTo limits deletes j b rest
+      cases : (ws : List (List ℕ)) → AllByRecursion (SpellsItem limits deletes) ws → j + length ws ≤ limits.identities → space ∷ b ∷ rest ≡ list_text ws → ItemTo limits deletes j b rest
       cases [] each count is = closes (same_head (same_tail is)) (same_tail (same_tail is))
       cases (w ∷ ws) each count is = item_word w ws (item_kind limits.digits limits.signed deletes w each.0) each.1 (omega arith) (same_tail is)
 
@@ -122,7 +122,7 @@ pub item_from_digit : (limits : Limits) (deletes : Bool) (j b : ℕ) (rest : Lis
     → ListFollows limits deletes j (space ∷ b ∷ rest)
 item_from_digit limits deletes j b rest low high f =
     let few : (j + 1) + length f.next.words ≤ limits.identities = f.next.count in
-    let word : IsNumber limits.digits (b ∷ f.more) = word_of_number limits _ b rest low high f in
+    let word : SpellsNumber limits.digits (b ∷ f.more) = word_of_number limits _ b rest low high f in
     record {
       words = (b ∷ f.more) ∷ f.next.words;
       count = omega arith;
@@ -139,7 +139,7 @@ pub data ClauseTo (limits : Limits) (n b : ℕ) (rest : List ℕ) : Type 0 where
   signs : b ≡ minus → n < limits.literals → NumberFollows limits (ClauseFollows limits (n + 1)) rest → ClauseTo limits n b rest
 
 module _ (limits : Limits) (n b : ℕ) (rest after : List ℕ) (hints : ListFollows limits false 0 after) where
-  literal_word : (word : List ℕ) (ws : List (List ℕ)) → IsLiteral limits.digits word → AllByRecursion (IsLiteral limits.digits) ws
+  literal_word : (word : List ℕ) (ws : List (List ℕ)) → SpellsLiteral limits.digits word → AllByRecursion (SpellsLiteral limits.digits) ws
       → (n + 1) + length ws ≤ limits.literals → b ∷ rest ≡ word ++ space ∷ clause_text ws after → ClauseTo limits n b rest
   literal_word [] ws h each count is = absurd h
   literal_word (c ∷ cs) ws (inl h) each count is =
@@ -153,7 +153,7 @@ module _ (limits : Limits) (n b : ℕ) (rest after : List ℕ) (hints : ListFoll
       number_from limits _ d _ h.1.0 h.1.1 (number_word limits _ d ds (clause_text ws after) _ h.1 refl next) in
       signs (same_head is ∙ h.0) (omega arith) (subst (NumberFollows limits (ClauseFollows limits (n + 1))) (sym (same_tail is)) number)
 
-  clause_words : (ws : List (List ℕ)) → AllByRecursion (IsLiteral limits.digits) ws → n + length ws ≤ limits.literals → b ∷ rest ≡ clause_text ws after → ClauseTo limits n b rest
+  clause_words : (ws : List (List ℕ)) → AllByRecursion (SpellsLiteral limits.digits) ws → n + length ws ≤ limits.literals → b ∷ rest ≡ clause_text ws after → ClauseTo limits n b rest
   clause_words [] each count is = closes (same_head is) (subst (ListFollows limits false 0) (sym (same_tail is)) hints)
   clause_words (w ∷ ws) each count is = literal_word w ws each.0 each.1 (omega arith) is
 
@@ -166,7 +166,7 @@ clause_from_zero limits n rest few hints = record { words = []; count = omega ar
 pub clause_from_digit : (limits : Limits) (n b : ℕ) (rest : List ℕ) → 49 ≤ b → b ≤ 57 → DigitsFollow limits 1 (ClauseFollows limits (n + 1)) rest → ClauseFollows limits n (b ∷ rest)
 clause_from_digit limits n b rest low high f =
     let few : (n + 1) + length f.next.words ≤ limits.literals = f.next.count in
-    let word : IsNumber limits.digits (b ∷ f.more) = word_of_number limits _ b rest low high f in
+    let word : SpellsNumber limits.digits (b ∷ f.more) = word_of_number limits _ b rest low high f in
     record {
       words = (b ∷ f.more) ∷ f.next.words;
       count = omega arith;
@@ -179,7 +179,7 @@ clause_from_digit limits n b rest low high f =
 pub clause_from_minus : (limits : Limits) (n : ℕ) (rest : List ℕ) → NumberFollows limits (ClauseFollows limits (n + 1)) rest → ClauseFollows limits n (minus ∷ rest)
 clause_from_minus limits n rest f =
     let few : (n + 1) + length f.digits.next.words ≤ limits.literals = f.digits.next.count in
-    let word : IsNumber limits.digits (f.first ∷ f.digits.more) = word_of_number limits _ f.first f.after f.low f.high f.digits in
+    let word : SpellsNumber limits.digits (f.first ∷ f.digits.more) = word_of_number limits _ f.first f.after f.low f.high f.digits in
     record {
       words = (minus ∷ f.first ∷ f.digits.more) ∷ f.digits.next.words;
       count = omega arith;
@@ -191,12 +191,12 @@ clause_from_minus limits n rest f =
 
 -- Lines.
 
-list_of_words : (limits : Limits) (deletes : Bool) (ws : List (List ℕ)) → AreWords limits.identities (IsItem limits deletes) ws → ListFollows limits deletes 0 (list_text ws)
+list_of_words : (limits : Limits) (deletes : Bool) (ws : List (List ℕ)) → AreWords limits.identities (SpellsItem limits deletes) ws → ListFollows limits deletes 0 (list_text ws)
 list_of_words limits deletes ws h =
     let few : length ws ≤ limits.identities = h.count in
     record { words = ws; count = omega arith; each = h.each; is = refl }
 
-words_of_list : (limits : Limits) (deletes : Bool) (rest : List ℕ) (f : ListFollows limits deletes 0 rest) → AreWords limits.identities (IsItem limits deletes) f.words
+words_of_list : (limits : Limits) (deletes : Bool) (rest : List ℕ) (f : ListFollows limits deletes 0 rest) → AreWords limits.identities (SpellsItem limits deletes) f.words
 words_of_list limits deletes rest f =
     let few : 0 + length f.words ≤ limits.identities = f.count in
     record { count = omega arith; each = f.each }
@@ -204,7 +204,7 @@ words_of_list limits deletes rest f =
 pub line_to : (limits : Limits) (bytes : List ℕ) → IsLine limits bytes → NumberFollows limits (BodyFollows limits 0) bytes
 line_to limits bytes line = cases line.0 line.1 line.2
   where
-    start : (word after : List ℕ) → IsNumber limits.digits word → bytes ≡ word ++ space ∷ after → BodyFollows limits 0 after → NumberFollows limits (BodyFollows limits 0) bytes
+    start : (word after : List ℕ) → SpellsNumber limits.digits word → bytes ≡ word ++ space ∷ after → BodyFollows limits 0 after → NumberFollows limits (BodyFollows limits 0) bytes
     start [] after h is body = absurd h
     start (c ∷ cs) after h is body =
         subst (NumberFollows limits (BodyFollows limits 0)) (sym is) (number_from limits _ c _ h.0 h.1 (number_word limits _ c cs after _ h refl body))
@@ -220,7 +220,7 @@ line_to limits bytes line = cases line.0 line.1 line.2
 pub line_from : (limits : Limits) (bytes : List ℕ) → NumberFollows limits (BodyFollows limits 0) bytes → IsLine limits bytes
 line_from limits bytes f = cases f.digits.next
   where
-    word : IsNumber limits.digits (f.first ∷ f.digits.more)
+    word : SpellsNumber limits.digits (f.first ∷ f.digits.more)
     word = word_of_number limits _ f.first f.after f.low f.high f.digits
 
     is : (after : List ℕ) → f.digits.after ≡ after → bytes ≡ (f.first ∷ f.digits.more) ++ space ∷ after
@@ -229,7 +229,7 @@ line_from limits bytes f = cases f.digits.next
     cases : BodyFollows limits 0 f.digits.after → IsLine limits bytes
     cases (inl c) =
         let few : 0 + length c.words ≤ limits.literals = c.count in
-        let lits : AreWords limits.literals (IsLiteral limits.digits) c.words = record { count = omega arith; each = c.each } in (
+        let lits : AreWords limits.literals (SpellsLiteral limits.digits) c.words = record { count = omega arith; each = c.each } in (
           Adds (f.first ∷ f.digits.more) c.words c.hints.words,
           (word, lits, words_of_list limits false c.after c.hints),
           is _ (c.is ∙ ap (clause_text c.words) c.hints.is),

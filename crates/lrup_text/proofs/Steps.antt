@@ -2,7 +2,7 @@
 use Rattle.std.proofs.Common.{◌≡◌, ℕ, ◌+◌, ◌<◌, ◌≤◌, ◌≢◌, inl, inr, Bool, true, false, List, [], ◌∷◌, ◌++◌, refl, sym, ◌∙◌, subst, arith}
 use Rattle.std.proofs.lemmas.List.{append_assoc}
 use Rattle.lrup_text.specs.Grammar.{Limits, AreLifted, IsDigit, IsLine, standard, line_feed, space, letter_d, minus, zero_digit, Begins}
-use Rattle.lrup_text.specs.Rests.{Spot, AtStart, InLead, BeforeLiteral, AfterMinus, InLiteral, BeforeList, BeforeItem, InItem, AtEnd, ListFollows, ClauseFollows, DeletionFollows, BodyFollows, DigitsFollow, NumberFollows, Follows, Tracks, Moves, Blocks, Allows}
+use Rattle.lrup_text.specs.Rests.{Spot, AtStart, InLead, BeforeLiteral, AfterMinus, InLiteral, BeforeList, BeforeItem, InItem, AtEnd, ListFollows, ClauseFollows, DeletionFollows, BodyFollows, DigitsFollow, NumberFollows, MayComplete, Tracks, Moves, Blocks, Allows}
 use Rattle.lrup_text.proofs.Rests as rests
 use Rattle.lrup_text.proofs.Rests.{digits_to, digits_from_digit, digits_from_space, number_to, number_from, list_to_space, item_to, item_from_zero, item_from_digit, clause_to, clause_from_zero, clause_from_digit, clause_from_minus, line_to, line_from}
 
@@ -10,7 +10,7 @@ use Rattle.lrup_text.proofs.Rests.{digits_to, digits_from_digit, digits_from_spa
 
 pub at_start : Tracks [] AtStart
 at_start = record {
-  follows = λ signed limits lifted rest h. line_to limits rest h;
+  completes = λ signed limits lifted rest h. line_to limits rest h;
   line = λ signed limits lifted rest h. line_from limits rest h;
 }
 
@@ -211,7 +211,7 @@ wider_lifted signed = record { digits = omega arith; literals = omega arith; ide
 
 -- the byte keeps within wider limits, and not within those of a stream
 pub record Exceeds (spot : Spot) (byte : ℕ) : Type 0 where
-  pub stops : (rest : List ℕ) → ¬ Follows standard spot (byte ∷ rest)
+  pub stops : (rest : List ℕ) → ¬ MayComplete standard spot (byte ∷ rest)
   pub allows : Allows false spot byte
 
 many_digits : (Next : List ℕ → Type 0) (b : ℕ) (rest : List ℕ) → IsDigit b → ¬ DigitsFollow standard 18 Next (b ∷ rest)
@@ -232,19 +232,19 @@ last_digit Next b rest digit next = digits_from_digit (wider false) 18 Next b (s
 pub lead_exceeds : (b : ℕ) → IsDigit b → Exceeds (InLead 18) b
 lead_exceeds b digit = record {
   stops = λ rest h. many_digits _ b rest digit h;
-  allows = record { limits = wider false; lifted = wider_lifted false; rest = _; follows = last_digit _ b _ digit (inl (empty_clause 0 (omega arith))) };
+  allows = record { limits = wider false; lifted = wider_lifted false; rest = _; completes = last_digit _ b _ digit (inl (empty_clause 0 (omega arith))) };
 }
 
 pub literal_exceeds : (n b : ℕ) → n < 65535 → IsDigit b → Exceeds (InLiteral 18 n) b
 literal_exceeds n b few digit = record {
   stops = λ rest h. many_digits _ b rest digit h;
-  allows = record { limits = wider false; lifted = wider_lifted false; rest = _; follows = last_digit _ b _ digit (empty_clause (n + 1) (omega arith)) };
+  allows = record { limits = wider false; lifted = wider_lifted false; rest = _; completes = last_digit _ b _ digit (empty_clause (n + 1) (omega arith)) };
 }
 
 pub number_exceeds : (deletes : Bool) (j b : ℕ) → j < 65536 → IsDigit b → Exceeds (InItem deletes 18 j) b
 number_exceeds deletes j b few digit = record {
   stops = λ rest h. many_digits _ b rest digit h;
-  allows = record { limits = wider false; lifted = wider_lifted false; rest = _; follows = last_digit _ b _ digit (empty_list false deletes (j + 1) (omega arith)) };
+  allows = record { limits = wider false; lifted = wider_lifted false; rest = _; completes = last_digit _ b _ digit (empty_list false deletes (j + 1) (omega arith)) };
 }
 
 no_more_literals : (b : ℕ) (rest : List ℕ) → b ≢ zero_digit → b ≢ letter_d → ¬ BodyFollows standard 65535 (b ∷ rest)
@@ -262,7 +262,7 @@ one_more_literal b low high = digits_from_space (wider false) 1 _ _ (omega arith
 pub body_exceeds_digit : (b : ℕ) → 49 ≤ b → b ≤ 57 → Exceeds (BeforeLiteral 65535) b
 body_exceeds_digit b low high = record {
   stops = λ rest h. no_more_literals b rest (λ e. let e' : b ≡ zero_digit = e in omega arith) (λ e. let e' : b ≡ letter_d = e in omega arith) h;
-  allows = record { limits = wider false; lifted = wider_lifted false; rest = _; follows = inl (clause_from_digit (wider false) 65535 b _ low high (one_more_literal b low high)) };
+  allows = record { limits = wider false; lifted = wider_lifted false; rest = _; completes = inl (clause_from_digit (wider false) 65535 b _ low high (one_more_literal b low high)) };
 }
 
 pub body_exceeds_minus : Exceeds (BeforeLiteral 65535) minus
@@ -272,7 +272,7 @@ body_exceeds_minus = record {
     limits = wider false;
     lifted = wider_lifted false;
     rest = _;
-    follows = inl (clause_from_minus (wider false) 65535 _ (number_from (wider false) _ 49 _ (omega arith) (omega arith) (one_more_literal 49 (omega arith) (omega arith))));
+    completes = inl (clause_from_minus (wider false) 65535 _ (number_from (wider false) _ 49 _ (omega arith) (omega arith) (one_more_literal 49 (omega arith) (omega arith))));
   };
 }
 
@@ -288,7 +288,7 @@ item_exceeds deletes b low high = record {
     limits = wider false;
     lifted = wider_lifted false;
     rest = _;
-    follows = item_from_digit (wider false) deletes 65536 b _ low high (digits_from_space (wider false) 1 _ _ (omega arith) (empty_list false deletes 65537 (omega arith)));
+    completes = item_from_digit (wider false) deletes 65536 b _ low high (digits_from_space (wider false) 1 _ _ (omega arith) (empty_list false deletes 65537 (omega arith)));
   };
 }
 
@@ -299,13 +299,13 @@ hint_allows j few = record {
   limits = wider true;
   lifted = wider_lifted true;
   rest = 49 ∷ space ∷ zero_digit ∷ line_feed ∷ [];
-  follows = record { words = (minus ∷ 49 ∷ []) ∷ []; count = omega arith; each = (inr (refl, (omega arith, omega arith, tt, omega arith)), tt); is = refl };
+  completes = record { words = (minus ∷ 49 ∷ []) ∷ []; count = omega arith; each = (inr (refl, (omega arith, omega arith, tt, omega arith)), tt); is = refl };
 }
 
 -- Some rest always follows, and so what was read begins a line.
 
 abbrev pub IsOpen : Spot → Type 0
-IsOpen spot = (first : ℕ) × (rest : List ℕ) × Follows standard spot (first ∷ rest)
+IsOpen spot = (first : ℕ) × (rest : List ℕ) × MayComplete standard spot (first ∷ rest)
 
 open_list : (deletes : Bool) (j : ℕ) → j ≤ 65536 → ListFollows standard deletes j (space ∷ zero_digit ∷ line_feed ∷ [])
 open_list deletes j few = item_from_zero standard deletes j few
@@ -352,7 +352,7 @@ one_more read b rest = append_assoc read (b ∷ []) rest
 
 pub tracks_more : (read : List ℕ) (spot next : Spot) (b : ℕ) → Tracks read spot → Moves spot b next → Tracks (read ++ b ∷ []) next
 tracks_more read spot next b tracks moves = record {
-  follows = λ signed limits lifted rest h. moves.to signed limits lifted rest (tracks.follows signed limits lifted (b ∷ rest) (subst (IsLine limits) (one_more read b rest) h));
+  completes = λ signed limits lifted rest h. moves.to signed limits lifted rest (tracks.completes signed limits lifted (b ∷ rest) (subst (IsLine limits) (one_more read b rest) h));
   line = λ signed limits lifted rest h. subst (IsLine limits) (sym (one_more read b rest)) (tracks.line signed limits lifted (b ∷ rest) (moves.from signed limits lifted rest h));
 }
 

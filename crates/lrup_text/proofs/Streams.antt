@@ -8,12 +8,12 @@ use Rattle.lrup_text.specs.declared.LineFault.{LineFault}
 use Rattle.lrup_text.specs.declared.LineFault.TheVariants.{Spelling, TooLong, Truncated, RatHint}
 use Rattle.lrup_text.specs.declared.reader.Turn.{Turn}
 use Rattle.lrup_text.specs.declared.reader.Turn.TheVariants.{Line, NeedMore, Fault}
-use Rattle.lrup_text.specs.Grammar.{standard, IsDigit, IsNumber, IsLiteral, AreWords, Words, Adds, Deletes, IsWithin, IsLine, text, minus, Begins}
-use Rattle.lrup_text.specs.Lines.{StreamLine, Addition, Deletion, IsPositive, IsNonzero, AreFew, Fits, LineText, words_of, text_of, HasNoLine, Cut, line_of}
+use Rattle.lrup_text.specs.Grammar.{standard, IsDigit, SpellsNumber, SpellsLiteral, AreWords, Words, Adds, Deletes, IsWithin, IsLine, text, minus, Begins}
+use Rattle.lrup_text.specs.Lines.{StreamLine, Addition, Deletion, IsStreamNumber, IsStreamLiteral, AreFew, IsWithinLimits, LineText, words_of, line_text, HasNoLine, Cut, line_of}
 use Rattle.lrup_text.specs.Faults.{IsFaultOf, Decides, IsRefused}
 use Rattle.lrup_text.specs.Feeding.{ReaderState, Feeds, Leaves}
 use Rattle.lrup_text.specs.Cutting.{used_bytes, line_given, lines_given, IsCut}
-use Rattle.lrup_text.specs.Laws.{OneText, OneLine, NoTextBegins, TextsAreLines, OneCut, OneFault, EmptyCut, CallCuts, CallsCut}
+use Rattle.lrup_text.specs.Laws.{OneText, OneLine, NoTextBegins, TextsAreLines, OneCut, OneFault, EmptyCut, CallCuts, CallsCut, RefusedStays, OneFirstLine}
 use Rattle.lrup_text.proofs.Numerals.{decimal_byte, decimal_one, power_more, power_below}
 use Rattle.lrup_text.proofs.Rests.{same_head, same_tail}
 use Rattle.lrup_text.proofs.TextLaws.{fits_within, words_apart, empty_pending}
@@ -25,7 +25,7 @@ one_text line bytes others a b = a.1 ∙ sym b.1
 
 -- A text spells one line.
 
-numbers_same : (ms ns : List ℕ) → AllByRecursion IsPositive ms → AllByRecursion IsPositive ns → map decimal ms ≡ map decimal ns → ms ≡ ns
+numbers_same : (ms ns : List ℕ) → AllByRecursion IsStreamNumber ms → AllByRecursion IsStreamNumber ns → map decimal ms ≡ map decimal ns → ms ≡ ns
 numbers_same [] [] hm hn e = refl
 numbers_same [] (n ∷ ns) hm hn e = cc
 numbers_same (m ∷ ms) [] hm hn e = cc
@@ -36,7 +36,7 @@ numbers_same (m ∷ ms) (n ∷ ns) hm hn e =
     let rest : ms ≡ ns = numbers_same ms ns hm.1 hn.1 tail in
     cc
 
-literals_same : (ys zs : List ℤ) → AllByRecursion IsNonzero ys → AllByRecursion IsNonzero zs → map signed_decimal ys ≡ map signed_decimal zs → ys ≡ zs
+literals_same : (ys zs : List ℤ) → AllByRecursion IsStreamLiteral ys → AllByRecursion IsStreamLiteral zs → map signed_decimal ys ≡ map signed_decimal zs → ys ≡ zs
 literals_same [] [] hy hz e = refl
 literals_same [] (z ∷ zs) hy hz e = cc
 literals_same (y ∷ ys) [] hy hz e = cc
@@ -47,11 +47,11 @@ literals_same (y ∷ ys) (z ∷ zs) hy hz e =
     let rest : ys ≡ zs = literals_same ys zs hy.1 hz.1 tail in
     cc
   where
-    below : (x : ℤ) → IsNonzero x → lib.Signed.mag x < 2 ^ 63
+    below : (x : ℤ) → IsStreamLiteral x → lib.Signed.mag x < 2 ^ 63
     below (pos n) h = omega (arith, h.1)
     below (negsuc n) h = let high : suc n < 10 ^ 18 = h.1 in omega arith
 
-lines_same : (line other : StreamLine) → Fits line → Fits other → words_of line ≡ words_of other → line ≡ other
+lines_same : (line other : StreamLine) → IsWithinLimits line → IsWithinLimits other → words_of line ≡ words_of other → line ≡ other
 lines_same (Addition i ls hs) (Addition j ms gs) h k e =
     let first : decimal i ≡ decimal j = cc in
     let second : map signed_decimal ls ≡ map signed_decimal ms = cc in
@@ -70,7 +70,7 @@ lines_same (Deletion i ds) (Deletion j es) h k e =
     cc
 
 -- the texts of two lines, and what follows them
-pub texts_apart : (line other : StreamLine) (x y : List ℕ) → Fits line → Fits other → text_of line ++ x ≡ text_of other ++ y → (line ≡ other) × (x ≡ y)
+pub texts_apart : OneFirstLine
 texts_apart line other x y h k e =
     let words = words_apart (words_of line) (words_of other) x y (fits_within line h) (fits_within other k) e in
     (lines_same line other h k words.0, words.1)
@@ -80,13 +80,13 @@ one_line line other bytes a b = (texts_apart line other [] [] a.0 b.0 (ap (λ t.
 
 pub no_text_begins : NoTextBegins
 no_text_begins line other bytes others more a b e =
-    (texts_apart line other more [] a.0 b.0 (ap (λ t. t ++ more) (sym a.1) ∙ sym e ∙ b.1 ∙ sym (append-nil (text_of other)))).1
+    (texts_apart line other more [] a.0 b.0 (ap (λ t. t ++ more) (sym a.1) ∙ sym e ∙ b.1 ∙ sym (append-nil (line_text other)))).1
 
 -- What the grammar takes is the text of a line.
 
 -- a number with these digits after it
 abbrev Spelled : List ℕ → Type 0
-Spelled word = (n : ℕ) × IsPositive n × (decimal n ≡ word)
+Spelled word = (n : ℕ) × IsStreamNumber n × (decimal n ≡ word)
 
 spelled_from : (n k : ℕ) (cs : List ℕ) → 0 < n → n < 10 ^ k → AllByRecursion IsDigit cs → k + length cs ≤ 18 → Spelled (decimal n ++ cs)
 spelled_from n k [] low high h few = (n, (low, omega (arith, high, power_below k (omega arith))), sym (append-nil (decimal n)))
@@ -98,7 +98,7 @@ spelled_from n k (c ∷ cs) low high h few =
     let word = spelled_from (n * 10 + (c - 48)) (k + 1) cs (omega arith) next h.1 (omega arith) in
     (word.0, word.1, word.2 ∙ ap (λ t. t ++ cs) longer ∙ append_assoc (decimal n) (c ∷ []) cs)
 
-spelled : (word : List ℕ) → IsNumber 18 word → Spelled word
+spelled : (word : List ℕ) → SpellsNumber 18 word → Spelled word
 spelled [] h = absurd h
 spelled (c ∷ cs) h =
     let one : decimal (c - 48) ≡ c ∷ [] = decimal_one c (omega (arith, h.0), h.1) in
@@ -106,13 +106,13 @@ spelled (c ∷ cs) h =
     (word.0, word.1, word.2 ∙ ap (λ t. t ++ cs) one)
 
 abbrev SpelledSigned : List ℕ → Type 0
-SpelledSigned word = (z : ℤ) × IsNonzero z × (signed_decimal z ≡ word)
+SpelledSigned word = (z : ℤ) × IsStreamLiteral z × (signed_decimal z ≡ word)
 
 negative : (cs : List ℕ) → Spelled cs → SpelledSigned (minus ∷ cs)
 negative cs (zero, h, e) = let none : 0 < 0 = h.0 in absurd (omega arith)
 negative cs (suc n, h, e) = (negsuc n, h, ap (λ t. minus ∷ t) e)
 
-spelled_signed : (word : List ℕ) → IsLiteral 18 word → SpelledSigned word
+spelled_signed : (word : List ℕ) → SpellsLiteral 18 word → SpelledSigned word
 spelled_signed [] h = absurd h
 spelled_signed (c ∷ cs) (inl h) = let word = spelled (c ∷ cs) h in (pos word.0, word.1, word.2)
 spelled_signed (c ∷ cs) (inr h) =
@@ -133,18 +133,18 @@ few_spelled {X} most f P Q each ws h =
     let all : (xs : List X) × AllByRecursion P xs × (map f xs ≡ ws) = all_spelled f P Q each ws h.each in
     (all.0, record { count = omega (arith, h.count, length-map all.0 f, ap length all.2); each = all.1 }, all.2)
 
-line_spelled : (words : Words) → IsWithin standard words → (line : StreamLine) × Fits line × (words_of line ≡ words)
+line_spelled : (words : Words) → IsWithin standard words → (line : StreamLine) × IsWithinLimits line × (words_of line ≡ words)
 line_spelled (Adds id lits hints) h =
     let first = spelled id h.0 in
-    let second = few_spelled 65535 signed_decimal IsNonzero (IsLiteral 18) spelled_signed lits h.1 in
-    let third = few_spelled 65536 decimal IsPositive (IsNumber 18) spelled hints h.2 in (
+    let second = few_spelled 65535 signed_decimal IsStreamLiteral (SpellsLiteral 18) spelled_signed lits h.1 in
+    let third = few_spelled 65536 decimal IsStreamNumber (SpellsNumber 18) spelled hints h.2 in (
       Addition first.0 second.0 third.0,
       (first.1, second.1, third.1),
       ap (λ x. Adds x (map signed_decimal second.0) (map decimal third.0)) first.2 ∙ ap (λ x. Adds id x (map decimal third.0)) second.2 ∙ ap (λ x. Adds id lits x) third.2,
     )
 line_spelled (Deletes lead ids) h =
     let first = spelled lead h.0 in
-    let second = few_spelled 65536 decimal IsPositive (IsNumber 18) spelled ids h.1 in
+    let second = few_spelled 65536 decimal IsStreamNumber (SpellsNumber 18) spelled ids h.1 in
     (Deletion first.0 second.0, (first.1, second.1), ap (λ x. Deletes x (map decimal second.0)) first.2 ∙ ap (λ x. Deletes lead x) second.2)
 
 pub texts_are_lines : TextsAreLines
@@ -157,12 +157,12 @@ texts_are_lines bytes = (
 
 pub one_cut : OneCut
 one_cut stream [] [] rest left a b = (refl, sym a.bytes ∙ b.bytes)
-one_cut stream [] (m ∷ ms) rest left a b = absurd (a.last m (flat_map text_of ms ++ left) b.each.0 (sym a.bytes ∙ b.bytes ∙ append_assoc (text_of m) (flat_map text_of ms) left))
-one_cut stream (l ∷ ls) [] rest left a b = absurd (b.last l (flat_map text_of ls ++ rest) a.each.0 (sym b.bytes ∙ a.bytes ∙ append_assoc (text_of l) (flat_map text_of ls) rest))
+one_cut stream [] (m ∷ ms) rest left a b = absurd (a.last m (flat_map line_text ms ++ left) b.each.0 (sym a.bytes ∙ b.bytes ∙ append_assoc (line_text m) (flat_map line_text ms) left))
+one_cut stream (l ∷ ls) [] rest left a b = absurd (b.last l (flat_map line_text ls ++ rest) a.each.0 (sym b.bytes ∙ a.bytes ∙ append_assoc (line_text l) (flat_map line_text ls) rest))
 one_cut stream (l ∷ ls) (m ∷ ms) rest left a b =
-    let here = texts_apart l m (flat_map text_of ls ++ rest) (flat_map text_of ms ++ left) a.each.0 b.each.0
-    (sym (append_assoc (text_of l) (flat_map text_of ls) rest) ∙ sym a.bytes ∙ b.bytes ∙ append_assoc (text_of m) (flat_map text_of ms) left) in
-    let others = one_cut (flat_map text_of ls ++ rest) ls ms rest left (record { bytes = refl; each = a.each.1; last = a.last }) (record { bytes = here.1; each = b.each.1; last = b.last }) in
+    let here = texts_apart l m (flat_map line_text ls ++ rest) (flat_map line_text ms ++ left) a.each.0 b.each.0
+    (sym (append_assoc (line_text l) (flat_map line_text ls) rest) ∙ sym a.bytes ∙ b.bytes ∙ append_assoc (line_text m) (flat_map line_text ms) left) in
+    let others = one_cut (flat_map line_text ls ++ rest) ls ms rest left (record { bytes = refl; each = a.each.1; last = a.last }) (record { bytes = here.1; each = b.each.1; last = b.last }) in
     (ap (λ x. x ∷ ls) here.0 ∙ ap (λ t. m ∷ t) others.0, others.1)
 
 -- A rest has one fault.
@@ -226,23 +226,19 @@ one_fault rest fault other h = (
 
 -- However a stream comes, it is cut into the lines that were given.
 
-last_byte : (p t more : List ℕ) (b : ℕ) → p ++ b ∷ [] ≡ t ++ more → (more ≡ []) ⊎ ((less : List ℕ) × (p ≡ t ++ less))
-last_byte p [] more b e = inr (p, refl)
-last_byte [] (c ∷ t) more b e = inl (nil_from_length more (omega (arith, ap length (same_tail e), length-append t more)))
-last_byte (d ∷ p) (c ∷ t) more b e = elim (last_byte p t more b (same_tail e)) [
-  | inl none ↦ inl none
-  | inr h ↦ inr (h.0, ap (λ x. x ∷ p) (same_head e) ∙ ap (λ u. c ∷ u) h.1)
-]
-
--- a text that was refused has no line in it
-decides_no_line : (p : List ℕ) (b : ℕ) (fault : LineFault) → Decides p b fault → HasNoLine (p ++ b ∷ [])
-decides_no_line p b fault h line more fits e = elim (last_byte p (text_of line) more b e) [
-  | inl none ↦ h.after ([], (words_of line, fits_within line fits, append-nil (p ++ b ∷ []) ∙ e ∙ ap (λ t. text_of line ++ t) none ∙ append-nil (text_of line)))
+-- a text that was refused has no line in it, whatever follows
+decides_no_line : (p : List ℕ) (b : ℕ) (more : List ℕ) (fault : LineFault) → Decides p b fault → HasNoLine (p ++ b ∷ more)
+decides_no_line p b more fault h line rest fits e = elim (shorter (line_text line) p rest more b (sym e)) [
+  | inl longer ↦ h.after (longer.0, (words_of line, fits_within line fits, sym longer.1))
   | inr less ↦ h.before.whole line less.0 fits less.1
 ]
 
+pub refused_stays : RefusedStays
+refused_stays bytes more fault h =
+    subst HasNoLine (sym (ap (λ t. t ++ more) h.2 ∙ append_assoc h.0 (h.1 ∷ []) more)) (decides_no_line h.0 h.1 more fault h.3)
+
 refused_no_line : (bytes : List ℕ) (fault : LineFault) → IsRefused bytes fault → HasNoLine bytes
-refused_no_line bytes fault h = subst HasNoLine (sym h.2) (decides_no_line h.0 h.1 fault h.3)
+refused_no_line bytes fault h = subst HasNoLine (append-nil bytes) (refused_stays bytes [] fault h)
 
 all_more : {X : Type 0} (P : X → Type 0) (xs : List X) (x : X) → AllByRecursion P xs → P x → AllByRecursion P (xs ++ x ∷ [])
 all_more P [] x all one = (one, tt)
@@ -252,15 +248,15 @@ all_more P (y ∷ ys) x all one = (all.0, all_more P ys x all.1 one)
 cut_longer : (stream : List ℕ) (lines : List StreamLine) (read more : List ℕ) → Cut stream lines read → HasNoLine (read ++ more) → Cut (stream ++ more) (lines ++ []) (read ++ more)
 cut_longer stream lines read more cut last =
     subst (λ ls. Cut (stream ++ more) ls (read ++ more)) (sym (append-nil lines))
-    (record { bytes = ap (λ t. t ++ more) cut.bytes ∙ append_assoc (flat_map text_of lines) read more; each = cut.each; last = last })
+    (record { bytes = ap (λ t. t ++ more) cut.bytes ∙ append_assoc (flat_map line_text lines) read more; each = cut.each; last = last })
 
 -- one more line
 cut_line : (stream : List ℕ) (lines : List StreamLine) (read more : List ℕ) (line : StreamLine) → Cut stream lines read → LineText line (read ++ more) → HasNoLine []
     → Cut (stream ++ more) (lines ++ line ∷ []) []
 cut_line stream lines read more line cut text none = record {
-  bytes = ap (λ t. t ++ more) cut.bytes ∙ append_assoc (flat_map text_of lines) read more ∙ ap (λ t. flat_map text_of lines ++ t) text.1
-      ∙ flat_map_more text_of [] lines line ∙ sym (append-nil (flat_map text_of (lines ++ line ∷ [])));
-  each = all_more Fits lines line cut.each text.0;
+  bytes = ap (λ t. t ++ more) cut.bytes ∙ append_assoc (flat_map line_text lines) read more ∙ ap (λ t. flat_map line_text lines ++ t) text.1
+      ∙ flat_map_more line_text [] lines line ∙ sym (append-nil (flat_map line_text (lines ++ line ∷ [])));
+  each = all_more IsWithinLimits lines line cut.each text.0;
   last = none;
 }
 

@@ -3,8 +3,9 @@ use Rattle.std.proofs.Common.{◌≡◌, ◌≢◌, ℕ, suc, ℤ, pos, negsuc, 
 use Rattle.std.specs.Fmt.{decimal, signed_decimal}
 use Rattle.std.specs.List.{AllByRecursion}
 use Rattle.std.proofs.lemmas.List.{append_assoc, length-append, length-map, append-nil}
-use Rattle.lrup_text.specs.Grammar.{standard, IsDigit, IsNumber, IsLiteral, AreWords, Words, Adds, Deletes, IsWithin, IsLine, text, list_text, clause_text, space, minus, zero_digit, letter_d}
-use Rattle.lrup_text.specs.Lines.{StreamLine, Addition, Deletion, IsPositive, IsNonzero, AreFew, Fits, words_of, text_of, HasNoLine, IsPending}
+use Rattle.lrup_text.specs.Grammar.{standard, IsDigit, SpellsNumber, SpellsLiteral, AreWords, Words, Adds, Deletes, IsWithin, IsLine, text, list_text, clause_text, space, minus, zero_digit, letter_d}
+use Rattle.lrup_text.specs.Laws.{EmptyPending}
+use Rattle.lrup_text.specs.Lines.{StreamLine, Addition, Deletion, IsStreamNumber, IsStreamLiteral, AreFew, IsWithinLimits, words_of, line_text, HasNoLine, IsPending}
 use Rattle.lrup_text.specs.Rests.{Spot, AtStart, Tracks}
 use Rattle.lrup_text.proofs.Numerals.{number_word}
 use Rattle.lrup_text.proofs.Rests.{same_head, same_tail, literal_of_number, list_rest, list_text-space}
@@ -19,11 +20,11 @@ digits_no_space : (cs : List ℕ) → AllByRecursion IsDigit cs → NoSpace cs
 digits_no_space [] h = tt
 digits_no_space (c ∷ cs) h = ((λ e. let low : 48 ≤ c = h.0.0 in let e' : c ≡ space = e in omega arith), digits_no_space cs h.1)
 
-number_no_space : (most : ℕ) (word : List ℕ) → IsNumber most word → NoSpace word
+number_no_space : (most : ℕ) (word : List ℕ) → SpellsNumber most word → NoSpace word
 number_no_space most [] h = tt
 number_no_space most (c ∷ cs) h = ((λ e. let low : 49 ≤ c = h.0 in let e' : c ≡ space = e in omega arith), digits_no_space cs h.2)
 
-literal_no_space : (most : ℕ) (word : List ℕ) → IsLiteral most word → NoSpace word
+literal_no_space : (most : ℕ) (word : List ℕ) → SpellsLiteral most word → NoSpace word
 literal_no_space most [] h = tt
 literal_no_space most (c ∷ cs) (inl h) = number_no_space most (c ∷ cs) h
 literal_no_space most (c ∷ cs) (inr h) = ((λ e. let e' : c ≡ space = e in let m : c ≡ minus = h.0 in omega arith), number_no_space most cs h.1)
@@ -37,19 +38,19 @@ word_apart (c ∷ v) (d ∷ w) x y hv hw e =
     (ap (λ z. z ∷ v) (same_head e) ∙ ap (λ t. d ∷ t) rest.0, rest.1)
 
 abbrev AreNumbers : List (List ℕ) → Type 0
-AreNumbers ws = AllByRecursion (IsNumber 18) ws
+AreNumbers ws = AllByRecursion (SpellsNumber 18) ws
 
 -- a word is no 0
-number_no_zero : (w : List ℕ) (x y : List ℕ) → IsNumber 18 w → w ++ x ≡ zero_digit ∷ y → ⊥
+number_no_zero : (w : List ℕ) (x y : List ℕ) → SpellsNumber 18 w → w ++ x ≡ zero_digit ∷ y → ⊥
 number_no_zero [] x y h e = h
 number_no_zero (c ∷ cs) x y h e = let low : 49 ≤ c = h.0 in let e' : c ≡ zero_digit = same_head e in omega arith
 
-literal_no_zero : (w : List ℕ) (x y : List ℕ) → IsLiteral 18 w → w ++ x ≡ zero_digit ∷ y → ⊥
+literal_no_zero : (w : List ℕ) (x y : List ℕ) → SpellsLiteral 18 w → w ++ x ≡ zero_digit ∷ y → ⊥
 literal_no_zero [] x y h e = h
 literal_no_zero (c ∷ cs) x y (inl h) e = number_no_zero (c ∷ cs) x y h e
 literal_no_zero (c ∷ cs) x y (inr h) e = let m : c ≡ minus = h.0 in let e' : c ≡ zero_digit = same_head e in absurd (omega arith)
 
-literal_no_d : (w : List ℕ) (x y : List ℕ) → IsLiteral 18 w → w ++ x ≡ letter_d ∷ y → ⊥
+literal_no_d : (w : List ℕ) (x y : List ℕ) → SpellsLiteral 18 w → w ++ x ≡ letter_d ∷ y → ⊥
 literal_no_d [] x y h e = h
 literal_no_d (c ∷ cs) x y (inl h) e = let high : c ≤ 57 = h.1 in let e' : c ≡ letter_d = same_head e in absurd (omega arith)
 literal_no_d (c ∷ cs) x y (inr h) e = let m : c ≡ minus = h.0 in let e' : c ≡ letter_d = same_head e in absurd (omega arith)
@@ -70,7 +71,7 @@ list_apart (v ∷ vs) (w ∷ ws) x y hv hw e =
     let rest = list_apart vs ws x y hv.1 hw.1 both in
     (ap (λ z. z ∷ vs) one.0 ∙ ap (λ t. w ∷ t) rest.0, rest.1)
 
-clause_apart : (vs ws : List (List ℕ)) (x y : List ℕ) → AllByRecursion (IsLiteral 18) vs → AllByRecursion (IsLiteral 18) ws → clause_text vs x ≡ clause_text ws y → (vs ≡ ws) × (x ≡ y)
+clause_apart : (vs ws : List (List ℕ)) (x y : List ℕ) → AllByRecursion (SpellsLiteral 18) vs → AllByRecursion (SpellsLiteral 18) ws → clause_text vs x ≡ clause_text ws y → (vs ≡ ws) × (x ≡ y)
 clause_apart [] [] x y hv hw e = (refl, same_tail e)
 clause_apart [] (w ∷ ws) x y hv hw e = absurd (literal_no_zero w _ _ hw.0 (sym e))
 clause_apart (v ∷ vs) [] x y hv hw e = absurd (literal_no_zero v _ _ hv.0 e)
@@ -83,7 +84,7 @@ clause_append : (ws : List (List ℕ)) (x y : List ℕ) → clause_text ws x ++ 
 clause_append [] x y = refl
 clause_append (w ∷ ws) x y = append_assoc w (space ∷ clause_text ws x) y ∙ ap (λ t. w ++ space ∷ t) (clause_append ws x y)
 
-clause_no_d : (ws : List (List ℕ)) (x y : List ℕ) → AllByRecursion (IsLiteral 18) ws → clause_text ws x ≡ letter_d ∷ y → ⊥
+clause_no_d : (ws : List (List ℕ)) (x y : List ℕ) → AllByRecursion (SpellsLiteral 18) ws → clause_text ws x ≡ letter_d ∷ y → ⊥
 clause_no_d [] x y h e = let e' : zero_digit ≡ letter_d = same_head e in omega arith
 clause_no_d (w ∷ ws) x y h e = literal_no_d w _ _ h.0 e
 
@@ -112,7 +113,7 @@ words_apart (Deletes i ds) (Deletes j es) x y hv hw e =
 
 -- The words of a line that fits are within the limits.
 
-pub signed_word : (z : ℤ) → IsNonzero z → IsLiteral 18 (signed_decimal z)
+pub signed_word : (z : ℤ) → IsStreamLiteral z → SpellsLiteral 18 (signed_decimal z)
 signed_word (pos n) h = literal_of_number 18 (decimal n) (number_word n h.0 h.1)
 signed_word (negsuc n) h = inr (refl, number_word (suc n) h.0 h.1)
 
@@ -123,13 +124,13 @@ all_map f P Q each (x ∷ xs) h = (each x h.0, all_map f P Q each xs h.1)
 few_map : {X : Type 0} (most : ℕ) (f : X → List ℕ) (P : X → Type 0) (Q : List ℕ → Type 0) → ((x : X) → P x → Q (f x)) → (xs : List X) → AreFew most P xs → AreWords most Q (map f xs)
 few_map most f P Q each xs h = record { count = omega (arith, length-map xs f, h.count); each = all_map f P Q each xs h.each }
 
-pub decimal_word : (n : ℕ) → IsPositive n → IsNumber 18 (decimal n)
+pub decimal_word : (n : ℕ) → IsStreamNumber n → SpellsNumber 18 (decimal n)
 decimal_word n h = number_word n h.0 h.1
 
-pub fits_within : (line : StreamLine) → Fits line → IsWithin standard (words_of line)
+pub fits_within : (line : StreamLine) → IsWithinLimits line → IsWithin standard (words_of line)
 fits_within (Addition id lits hints) h =
-    (decimal_word id h.0, few_map 65535 signed_decimal IsNonzero (IsLiteral 18) signed_word lits h.1, few_map 65536 decimal IsPositive (IsNumber 18) decimal_word hints h.2)
-fits_within (Deletion lead ids) h = (decimal_word lead h.0, few_map 65536 decimal IsPositive (IsNumber 18) decimal_word ids h.1)
+    (decimal_word id h.0, few_map 65535 signed_decimal IsStreamLiteral (SpellsLiteral 18) signed_word lits h.1, few_map 65536 decimal IsStreamNumber (SpellsNumber 18) decimal_word hints h.2)
+fits_within (Deletion lead ids) h = (decimal_word lead h.0, few_map 65536 decimal IsStreamNumber (SpellsNumber 18) decimal_word ids h.1)
 
 -- What begins a line, and goes on, has no whole line in it.
 
@@ -137,7 +138,7 @@ fits_within (Deletion lead ids) h = (decimal_word lead h.0, few_map 65536 decima
 within_line : (read : List ℕ) (first : ℕ) (rest : List ℕ) → IsLine standard (read ++ first ∷ rest) → HasNoLine read
 within_line read first rest longer line more fits e =
     let same = words_apart (words_of line) longer.0 (more ++ first ∷ rest) [] (fits_within line fits) longer.1
-    (sym (append_assoc (text_of line) more (first ∷ rest)) ∙ ap (λ t. t ++ first ∷ rest) (sym e) ∙ longer.2 ∙ sym (append-nil (text longer.0))) in
+    (sym (append_assoc (line_text line) more (first ∷ rest)) ∙ ap (λ t. t ++ first ∷ rest) (sym e) ∙ longer.2 ∙ sym (append-nil (text longer.0))) in
     let none : length (more ++ first ∷ rest) ≡ 0 = ap length same.1 in
     omega (arith, none, length-append more (first ∷ rest))
 
@@ -150,5 +151,5 @@ tracks_pending read spot tracks bounded =
     }
 
 -- before the first byte
-pub empty_pending : IsPending []
+pub empty_pending : EmptyPending
 empty_pending = tracks_pending [] AtStart at_start tt

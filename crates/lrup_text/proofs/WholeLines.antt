@@ -6,9 +6,9 @@ use Rattle.std.proofs.Math.Nat.{mod-eq_of_lt}
 use Rattle.std.proofs.lemmas.Bool.{cases_lt}
 use Rattle.std.proofs.lemmas.List.{append_assoc, take_more, take_more_set, length-set, take_all, append-nil}
 use Rattle.lrup_text.specs.Grammar.{space, minus, zero_digit, letter_d, line_feed}
-use Rattle.lrup_text.specs.Lines.{IsPositive, IsNonzero}
+use Rattle.lrup_text.specs.Lines.{IsStreamNumber, IsStreamLiteral}
 use Rattle.lrup_text.specs.Kernel.{EndsLine, EndsWord, ReadsNumber, ReadsLiterals, ReadsItems, ReadsList, IsWhole, numbers_text}
-use Rattle.lrup_text.specs.Reading.{HasDigits, IsKept, literals_text, items_text, literal_front, list_front}
+use Rattle.lrup_text.specs.Reading.{FitsDigits, IsKept, literals_text, items_text, literal_front, list_front}
 use Rattle.lrup_text.proofs.Numerals.{decimal_one}
 use Rattle.lrup_text.proofs.Bytes.{first_digit, more_digits, decimal_next, below_limit, positive, all_more, text_more, line_end, line_fits}
 
@@ -33,7 +33,7 @@ inside_more line at ends inside ne = elim (cases_lt (at + 1) (length line)) [
 pub record SoFar (line : List ℕ) (start number end : ℕ) : Type 0 where
   pub after : start < end
   pub inside : end < length line
-  pub exact : end - start ≤ 18 → HasDigits number (end - start) × (take end line ≡ take start line ++ decimal number)
+  pub exact : end - start ≤ 18 → FitsDigits number (end - start) × (take end line ≡ take start line ++ decimal number)
 
 pub first_so_far : (line : List ℕ) (start : ℕ) → EndsWord line → start < length line → 49 ≤ get_or line start 0 → get_or line start 0 ≤ 57 → SoFar line start (get_or line start 0 - 48) (start + 1)
 first_so_far line start ends inside low high =
@@ -43,7 +43,7 @@ first_so_far line start ends inside low high =
       after = omega arith;
       inside = inside_word line start ends inside (omega arith);
       exact = λ few. (
-        subst (HasDigits (byte - 48)) (sym one) (first_digit byte low high),
+        subst (FitsDigits (byte - 48)) (sym one) (first_digit byte low high),
         take_more line start 0 inside ∙ ap (λ t. take start line ++ t) (sym (decimal_one byte (omega arith, high))),
       );
     }
@@ -60,7 +60,7 @@ more_so_far line start number end next ends so low high is =
           let less : end - start < 18 = omega (arith, one) in
           let old = so.exact (omega (arith, less)) in
           let number_is = is less in (
-            subst (HasDigits next) (sym one) (subst (λ n. HasDigits n ((end - start) + 1)) (sym number_is) (more_digits number (end - start) byte old.0 less (low, high))),
+            subst (FitsDigits next) (sym one) (subst (λ n. FitsDigits n ((end - start) + 1)) (sym number_is) (more_digits number (end - start) byte old.0 less (low, high))),
             take_more line end 0 so.inside ∙ ap (λ t. t ++ byte ∷ []) old.1 ∙ append_assoc (take start line) (decimal number) (byte ∷ [])
                 ∙ ap (λ t. take start line ++ t) (sym (ap decimal number_is ∙ decimal_next number (end - start) byte old.0 less (low, high))),
           );
@@ -113,7 +113,7 @@ literals_next text start old lits first count at negative digits magnitude end z
       more = so.more ++ z ∷ [];
       few = omega (arith, length-set lits count z, room);
       lits = take_more_set lits count z room ∙ ap (λ t. t ++ z ∷ []) so.lits ∙ append_assoc (take first old) so.more (z ∷ []);
-      each = all_more IsNonzero so.more z so.each (subst IsPositive (sym size) number.positive);
+      each = all_more IsStreamLiteral so.more z so.each (subst IsStreamNumber (sym size) number.positive);
       inside = omega (arith, number.inside);
       is =
           take_more text end 0 number.inside
@@ -139,7 +139,7 @@ items_next text start old ids first count at identity end so number is room =
       more = so.more ++ identity ∷ [];
       few = omega (arith, length-set ids count identity, room);
       ids = take_more_set ids count identity room ∙ ap (λ t. t ++ identity ∷ []) so.ids ∙ append_assoc (take first old) so.more (identity ∷ []);
-      each = all_more IsPositive so.more identity so.each number.positive;
+      each = all_more IsStreamNumber so.more identity so.each number.positive;
       inside = omega (arith, number.inside);
       is =
           take_more text end 0 number.inside
@@ -172,7 +172,7 @@ list_read line start old new count close ends inside is items size nought =
     take_more line (close + 1) 0 (omega arith) ∙ ap (λ x. take (close + 1) line ++ x ∷ []) feed ∙ ap (λ t. t ++ line_feed ∷ []) two in
     record {
       few = items.few;
-      each = subst (AllByRecursion IsPositive) (sym items.ids) items.each;
+      each = subst (AllByRecursion IsStreamNumber) (sym items.ids) items.each;
       text =
           sym (take_all ((close + 1) + 1) line (omega arith)) ∙ three ∙ append_assoc (take close line) (zero_digit ∷ []) (line_feed ∷ [])
           ∙ ap (λ t. t ++ end) (items.is ∙ ap (λ t. t ++ numbers_text items.more) one)
@@ -212,7 +212,7 @@ whole_addition line old lits ids lead end literals close count room_lits room_id
       lead = number.positive;
       few_literals = omega (arith, clause.few, room_lits);
       few_identities = omega (arith, list.few, room_ids);
-      literals = subst (AllByRecursion IsNonzero) (sym clause.lits) clause.each;
+      literals = subst (AllByRecursion IsStreamLiteral) (sym clause.lits) clause.each;
       identities = list.each;
     } in
     let front : take (close + 1) line ≡ list_front false lead (take literals lits) =

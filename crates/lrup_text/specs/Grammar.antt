@@ -48,18 +48,18 @@ abbrev pub IsDigit : ℕ → Type 0
 IsDigit c = (48 ≤ c) × (c ≤ 57)
 
 -- num, of at most so many digits
-abbrev pub IsNumber : ℕ → List ℕ → Type 0
-IsNumber most [] = ⊥
-IsNumber most (c ∷ cs) = (49 ≤ c) × (c ≤ 57) × AllByRecursion IsDigit cs × (length cs < most)
+abbrev pub SpellsNumber : ℕ → List ℕ → Type 0
+SpellsNumber most [] = ⊥
+SpellsNumber most (c ∷ cs) = (49 ≤ c) × (c ≤ 57) × AllByRecursion IsDigit cs × (length cs < most)
 
 -- lit
-abbrev pub IsLiteral : ℕ → List ℕ → Type 0
-IsLiteral most [] = ⊥
-IsLiteral most (c ∷ cs) = IsNumber most (c ∷ cs) ⊎ ((c ≡ minus) × IsNumber most cs)
+abbrev pub SpellsLiteral : ℕ → List ℕ → Type 0
+SpellsLiteral most [] = ⊥
+SpellsLiteral most (c ∷ cs) = SpellsNumber most (c ∷ cs) ⊎ ((c ≡ minus) × SpellsNumber most cs)
 
 -- a hint: num, or lit where hints are signed
-abbrev pub IsHint : Limits → List ℕ → Type 0
-IsHint limits word = MatchBool limits.signed (IsLiteral limits.digits word) (IsNumber limits.digits word)
+abbrev pub SpellsHint : Limits → List ℕ → Type 0
+SpellsHint limits word = MatchBool limits.signed (SpellsLiteral limits.digits word) (SpellsNumber limits.digits word)
 
 -- the words of a line
 pub data Words : Type 0 where
@@ -74,8 +74,8 @@ pub record AreWords (most : ℕ) (IsWord : List ℕ → Type 0) (words : List (L
 -- words of a line within the limits
 abbrev pub IsWithin : Limits → Words → Type 0
 IsWithin limits (Adds id lits hints) =
-    IsNumber limits.digits id × AreWords limits.literals (IsLiteral limits.digits) lits × AreWords limits.identities (IsHint limits) hints
-IsWithin limits (Deletes lead ids) = IsNumber limits.digits lead × AreWords limits.identities (IsNumber limits.digits) ids
+    SpellsNumber limits.digits id × AreWords limits.literals (SpellsLiteral limits.digits) lits × AreWords limits.identities (SpellsHint limits) hints
+IsWithin limits (Deletes lead ids) = SpellsNumber limits.digits lead × AreWords limits.identities (SpellsNumber limits.digits) ids
 
 -- *( SP num ) SP "0" LF
 abbrev pub list_text : List (List ℕ) → List ℕ

@@ -4,7 +4,7 @@ use Rattle.std.specs.Fmt.{decimal}
 use Rattle.std.specs.List.{AllByRecursion, flat_map}
 use Rattle.lrup_text.specs.declared.kernel.Whole.{Whole}
 use Rattle.lrup_text.specs.Grammar.{space, zero_digit, line_feed}
-use Rattle.lrup_text.specs.Lines.{LineText, IsPositive, IsNonzero}
+use Rattle.lrup_text.specs.Lines.{LineText, IsStreamNumber, IsStreamLiteral}
 use Rattle.lrup_text.specs.Reading.{literals_text, items_text, line_of_parts, IsKept}
 
 -- the last byte is LF
@@ -21,17 +21,17 @@ numbers_text numbers = flat_map (λ n. decimal n ++ space ∷ []) numbers
 
 -- a number stands from one place up to another
 pub record ReadsNumber (text : List ℕ) (start number end : ℕ) : Type 0 where
-  pub positive : IsPositive number
+  pub positive : IsStreamNumber number
   pub after : start < end
   pub inside : end < length text
   pub is : take end text ≡ take start text ++ decimal number
 
--- Literals stand from one place up to another. They stand in the buffer too, behind the first.
+-- Literals stand from one place up to another. They stand in the buffer too, after the first.
 pub record ReadsLiterals (text : List ℕ) (start : ℕ) (old : List ℤ) (first : ℕ) (new : List ℤ) (count end : ℕ) : Type 0 where
   pub more : List ℤ
   pub few : count ≤ length new
   pub lits : take count new ≡ take first old ++ more
-  pub each : AllByRecursion IsNonzero more
+  pub each : AllByRecursion IsStreamLiteral more
   pub inside : end ≤ length text
   pub is : take end text ≡ take start text ++ literals_text more
 
@@ -40,14 +40,14 @@ pub record ReadsItems (text : List ℕ) (start : ℕ) (old : List ℕ) (first : 
   pub more : List ℕ
   pub few : count ≤ length new
   pub ids : take count new ≡ take first old ++ more
-  pub each : AllByRecursion IsPositive more
+  pub each : AllByRecursion IsStreamNumber more
   pub inside : end ≤ length text
   pub is : take end text ≡ take start text ++ numbers_text more
 
 -- so many items stand there, and the end of the line
 pub record ReadsList (line : List ℕ) (start : ℕ) (ids : List ℕ) (count : ℕ) : Type 0 where
   pub few : count ≤ length ids
-  pub each : AllByRecursion IsPositive (take count ids)
+  pub each : AllByRecursion IsStreamNumber (take count ids)
   pub text : line ≡ (take start line ++ items_text (take count ids)) ++ space ∷ zero_digit ∷ line_feed ∷ []
 
 -- it is the text of the line with this first number, and these lists in front of the buffers

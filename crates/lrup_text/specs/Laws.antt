@@ -1,9 +1,9 @@
 -- The laws of the lines' texts, which the functions of `laws.rt` prove.
-use Rattle.std.specs.Prelude.{◌≡◌, ℕ, List, [], ◌++◌, take, Ok, ◌↔◌}
+use Rattle.std.specs.Prelude.{◌≡◌, ℕ, List, [], ◌++◌, take, Ok, ◌↔◌, ◌⊎◌}
 use Rattle.lrup_text.specs.declared.LineFault.{LineFault}
-use Rattle.lrup_text.specs.Faults.{HasTextFault}
+use Rattle.lrup_text.specs.Faults.{IsRefused, HasTextFault}
 use Rattle.lrup_text.specs.Grammar.{IsLine, standard, Begins}
-use Rattle.lrup_text.specs.Lines.{StreamLine, LineText, Cut}
+use Rattle.lrup_text.specs.Lines.{StreamLine, IsWithinLimits, line_text, LineText, HasNoLine, IsPending, Cut}
 use Rattle.lrup_text.specs.declared.reader.Turn.{Turn}
 use Rattle.lrup_text.specs.Feeding.{ReaderState, Feeds, Leaves}
 use Rattle.lrup_text.specs.Cutting.{Call, AreCalls, used_bytes, line_given, lines_given, IsCut}
@@ -20,6 +20,11 @@ OneLine = (line other : StreamLine) (bytes : List ℕ) → LineText line bytes �
 abbrev pub NoTextBegins : Type 0
 NoTextBegins = (line other : StreamLine) (bytes others more : List ℕ) → LineText line bytes → LineText other others → others ≡ bytes ++ more → more ≡ []
 
+-- bytes begin with the text of one line at most, and what follows it is the same
+abbrev pub OneFirstLine : Type 0
+OneFirstLine = (line other : StreamLine) (more after : List ℕ) → IsWithinLimits line → IsWithinLimits other
+    → line_text line ++ more ≡ line_text other ++ after → (line ≡ other) × (more ≡ after)
+
 -- what the grammar takes within the limits of a stream is the text of a line
 abbrev pub TextsAreLines : Type 0
 TextsAreLines = (bytes : List ℕ) → IsLine standard bytes ↔ ((line : StreamLine) × LineText line bytes)
@@ -28,9 +33,25 @@ TextsAreLines = (bytes : List ℕ) → IsLine standard bytes ↔ ((line : Stream
 abbrev pub OneCut : Type 0
 OneCut = (stream : List ℕ) (lines others : List StreamLine) (rest left : List ℕ) → Cut stream lines rest → Cut stream others left → (lines ≡ others) × (rest ≡ left)
 
+-- every list of bytes is cut into lines
+abbrev pub EveryCut : Type 0
+EveryCut = (stream : List ℕ) → (lines : List StreamLine) × (rest : List ℕ) × Cut stream lines rest
+
+-- a rest in which no line is whole may become one, or has a fault
+abbrev pub PendingOrFaulty : Type 0
+PendingOrFaulty = (rest : List ℕ) → HasNoLine rest → IsPending rest ⊎ ((fault : LineFault) × HasTextFault rest fault)
+
+-- a text that begins no line holds none, whatever follows it
+abbrev pub RefusedStays : Type 0
+RefusedStays = (bytes more : List ℕ) (fault : LineFault) → IsRefused bytes fault → HasNoLine (bytes ++ more)
+
 -- a rest has one fault, and what begins a line has none
 abbrev pub OneFault : Type 0
 OneFault = (rest : List ℕ) (fault other : LineFault) → HasTextFault rest fault → (HasTextFault rest other → fault ≡ other) × ¬ Begins rest
+
+-- no bytes may become a line
+abbrev pub EmptyPending : Type 0
+EmptyPending = IsPending []
 
 -- no bytes are cut into no lines
 abbrev pub EmptyCut : Type 0
@@ -45,3 +66,16 @@ CallCuts = (stream : List ℕ) (lines : List StreamLine) (old new : ReaderState)
 abbrev pub CallsCut : Type 0
 CallsCut = (stream : List ℕ) (lines : List StreamLine) (old new : ReaderState) (calls : List Call)
     → IsCut stream lines old → AreCalls old calls new → IsCut (stream ++ used_bytes calls) (lines ++ lines_given calls) new
+
+-- The laws that a proof about a whole stream rests on, as one premise.
+pub record CutLaws : Type 0 where
+  pub one_first_line : OneFirstLine
+  pub one_cut : OneCut
+  pub every_cut : EveryCut
+  pub empty_pending : EmptyPending
+  pub empty_cut : EmptyCut
+  pub call_cuts : CallCuts
+  pub calls_cut : CallsCut
+  pub refused_stays : RefusedStays
+  pub pending_or_faulty : PendingOrFaulty
+  pub one_fault : OneFault

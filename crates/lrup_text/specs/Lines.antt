@@ -22,11 +22,12 @@ words_of (Addition id lits hints) = Adds (decimal id) (map signed_decimal lits) 
 words_of (Deletion lead ids) = Deletes (decimal lead) (map decimal ids)
 
 -- a number of 1 to 18 digits that isn't 0
-abbrev pub IsPositive : ℕ → Type 0
-IsPositive n = (0 < n) × (n < 10 ^ 18)
+abbrev pub IsStreamNumber : ℕ → Type 0
+IsStreamNumber n = (0 < n) × (n < 10 ^ 18)
 
-abbrev pub IsNonzero : ℤ → Type 0
-IsNonzero z = IsPositive (unsigned_abs z)
+-- a literal whose variable is such a number
+abbrev pub IsStreamLiteral : ℤ → Type 0
+IsStreamLiteral z = IsStreamNumber (unsigned_abs z)
 
 -- at most so many elements, each of a kind
 pub record AreFew {X : Type 0} (most : ℕ) (Is : X → Type 0) (xs : List X) : Type 0 where
@@ -34,26 +35,26 @@ pub record AreFew {X : Type 0} (most : ℕ) (Is : X → Type 0) (xs : List X) : 
   pub each : AllByRecursion Is xs
 
 -- it has a text within the limits of a stream
-abbrev pub Fits : StreamLine → Type 0
-Fits (Addition id lits hints) = IsPositive id × AreFew 65535 IsNonzero lits × AreFew 65536 IsPositive hints
-Fits (Deletion lead ids) = IsPositive lead × AreFew 65536 IsPositive ids
+abbrev pub IsWithinLimits : StreamLine → Type 0
+IsWithinLimits (Addition id lits hints) = IsStreamNumber id × AreFew 65535 IsStreamLiteral lits × AreFew 65536 IsStreamNumber hints
+IsWithinLimits (Deletion lead ids) = IsStreamNumber lead × AreFew 65536 IsStreamNumber ids
 
 -- the bytes that spell a line, with its LF
-abbrev pub text_of : StreamLine → List ℕ
-text_of line = text (words_of line)
+abbrev pub line_text : StreamLine → List ℕ
+line_text line = text (words_of line)
 
 -- the bytes are the text of the line
 abbrev pub LineText : StreamLine → List ℕ → Type 0
-LineText line bytes = Fits line × (bytes ≡ text_of line)
+LineText line bytes = IsWithinLimits line × (bytes ≡ line_text line)
 
 -- no line's text is a beginning of it
 abbrev pub HasNoLine : List ℕ → Type 0
-HasNoLine bytes = (line : StreamLine) (more : List ℕ) → Fits line → ¬ (bytes ≡ text_of line ++ more)
+HasNoLine bytes = (line : StreamLine) (more : List ℕ) → IsWithinLimits line → ¬ (bytes ≡ line_text line ++ more)
 
 -- the bytes are the texts of the lines, and then a rest in which no line is whole
 pub record Cut (stream : List ℕ) (lines : List StreamLine) (rest : List ℕ) : Type 0 where
-  pub bytes : stream ≡ flat_map text_of lines ++ rest
-  pub each : AllByRecursion Fits lines
+  pub bytes : stream ≡ flat_map line_text lines ++ rest
+  pub each : AllByRecursion IsWithinLimits lines
   pub last : HasNoLine rest
 
 -- what a reader may wait for more of: it begins a line, and has no whole one

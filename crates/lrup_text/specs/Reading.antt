@@ -9,7 +9,7 @@ use Rattle.lrup_text.specs.declared.machine.Step.TheVariants.{More, Done, Refuse
 use Rattle.lrup_text.specs.declared.machine.PartialLine.{PartialLine}
 use Rattle.lrup_text.specs.Grammar.{space, minus, zero_digit, letter_d}
 use Rattle.lrup_text.specs.Faults.{IsRefused, Decides}
-use Rattle.lrup_text.specs.Lines.{StreamLine, Addition, Deletion, LineText, IsPositive, IsNonzero}
+use Rattle.lrup_text.specs.Lines.{StreamLine, Addition, Deletion, LineText, IsStreamNumber, IsStreamLiteral}
 use Rattle.lrup_text.specs.Rests.{Spot, AtStart, InLead, BeforeLiteral, AfterMinus, InLiteral, BeforeList, BeforeItem, InItem, AtEnd, Tracks}
 
 -- the literals, and the hints or identities, read so far
@@ -24,8 +24,8 @@ abbrev pub line_of_parts : Bool → ℕ → List ℤ → List ℕ → StreamLine
 line_of_parts deletes lead lits ids = if deletes then Deletion lead ids else Addition lead lits ids
 
 -- the line that was read
-abbrev pub read_line : PartialLine → StreamLine
-read_line m = line_of_parts m.deletes m.lead (literals_of m) (identities_of m)
+abbrev pub line_so_far : PartialLine → StreamLine
+line_so_far m = line_of_parts m.deletes m.lead (literals_of m) (identities_of m)
 
 -- literals and the space after each; items and the space before each
 unfoldable pub literals_text : List ℤ → List ℕ
@@ -93,14 +93,14 @@ pub record HasRoom (lits : List ℤ) (ids : List ℕ) : Type 0 where
 
 -- the first number, and the literals and identities in front of the buffers, can stand in a line
 pub record IsKept (first : ℕ) (lits : List ℤ) (literal_count : ℕ) (ids : List ℕ) (identity_count : ℕ) : Type 0 where
-  pub lead : IsPositive first
+  pub lead : IsStreamNumber first
   pub few_literals : literal_count ≤ 65535
   pub few_identities : identity_count ≤ 65536
-  pub literals : AllByRecursion IsNonzero (take literal_count lits)
-  pub identities : AllByRecursion IsPositive (take identity_count ids)
+  pub literals : AllByRecursion IsStreamLiteral (take literal_count lits)
+  pub identities : AllByRecursion IsStreamNumber (take identity_count ids)
 
 -- a number of so many digits
-pub record HasDigits (number digits : ℕ) : Type 0 where
+pub record FitsDigits (number digits : ℕ) : Type 0 where
   pub low : 0 < number
   pub high : number < 10 ^ digits
   pub few : digits ≤ 18
@@ -109,15 +109,15 @@ pub record HasDigits (number digits : ℕ) : Type 0 where
 pub record Reads (m : PartialLine) : Type 0 where
   pub room : HasRoom m.literals.items m.identities.items
   pub kept : IsKept m.lead m.literals.items m.literal_count m.identities.items m.identity_count
-  pub number : HasDigits m.number m.digits
+  pub number : FitsDigits m.number m.digits
   pub roomy : IsRoomy m.place m
   pub tracks : Tracks (pending m) (spot_at m.place m)
 
 -- What a byte does. The line goes on; or it is whole, and reading stands before the next; or no line begins so.
-abbrev pub Takes : PartialLine → ℕ → Step → PartialLine → Type 0
-Takes old byte More new = Reads new × (pending new ≡ pending old ++ byte ∷ [])
-Takes old byte Done new = Reads new × (pending new ≡ []) × LineText (read_line new) (pending old ++ byte ∷ [])
-Takes old byte (Refused fault) new = Decides (pending old) byte fault
+abbrev pub Steps : PartialLine → ℕ → Step → PartialLine → Type 0
+Steps old byte More new = Reads new × (pending new ≡ pending old ++ byte ∷ [])
+Steps old byte Done new = Reads new × (pending new ≡ []) × LineText (line_so_far new) (pending old ++ byte ∷ [])
+Steps old byte (Refused fault) new = Decides (pending old) byte fault
 
 -- So many bytes of a piece were read, and the line goes on.
 pub record ReadsAhead (old : PartialLine) (piece : List ℕ) (used : ℕ) (new : PartialLine) : Type 0 where
@@ -126,8 +126,8 @@ pub record ReadsAhead (old : PartialLine) (piece : List ℕ) (used : ℕ) (new :
   pub is : pending new ≡ pending old ++ take used piece
 
 -- What the bytes of a piece do, of which so many were used.
-abbrev pub TakesPiece : PartialLine → List ℕ → ℕ → Step → PartialLine → Type 0
-TakesPiece old piece used More new = (used ≡ length piece) × Reads new × (pending new ≡ pending old ++ piece)
-TakesPiece old piece used Done new =
-    (0 < used) × (used ≤ length piece) × Reads new × (pending new ≡ []) × LineText (read_line new) (pending old ++ take used piece)
-TakesPiece old piece used (Refused fault) new = (0 < used) × (used ≤ length piece) × IsRefused (pending old ++ take used piece) fault
+abbrev pub StepsThrough : PartialLine → List ℕ → ℕ → Step → PartialLine → Type 0
+StepsThrough old piece used More new = (used ≡ length piece) × Reads new × (pending new ≡ pending old ++ piece)
+StepsThrough old piece used Done new =
+    (0 < used) × (used ≤ length piece) × Reads new × (pending new ≡ []) × LineText (line_so_far new) (pending old ++ take used piece)
+StepsThrough old piece used (Refused fault) new = (0 < used) × (used ≤ length piece) × IsRefused (pending old ++ take used piece) fault

@@ -2,7 +2,7 @@
 -- the counts that the limits speak of: how many digits of a number, literals or items of a list stand there.
 use Rattle.std.specs.Prelude.{◌≡◌, ℕ, ◌+◌, ◌≤◌, ◌⊎◌, Bool, true, false, List, [], ◌∷◌, ◌++◌, length, MatchBool}
 use Rattle.std.specs.List.{AllByRecursion}
-use Rattle.lrup_text.specs.Grammar.{Limits, AreLifted, IsDigit, IsNumber, IsLiteral, IsHint, IsLine, list_text, clause_text, line_feed, space, letter_d}
+use Rattle.lrup_text.specs.Grammar.{Limits, AreLifted, IsDigit, SpellsNumber, SpellsLiteral, SpellsHint, IsLine, list_text, clause_text, line_feed, space, letter_d}
 
 pub data Spot : Type 0 where
   AtStart : Spot
@@ -16,21 +16,21 @@ pub data Spot : Type 0 where
   AtEnd : Spot
 
 -- an item of a list: an identity to delete, or a hint
-abbrev pub IsItem : Limits → Bool → List ℕ → Type 0
-IsItem limits deletes word = MatchBool deletes (IsNumber limits.digits word) (IsHint limits word)
+abbrev pub SpellsItem : Limits → Bool → List ℕ → Type 0
+SpellsItem limits deletes word = MatchBool deletes (SpellsNumber limits.digits word) (SpellsHint limits word)
 
 -- the items after so many, and the end of the line
 pub record ListFollows (limits : Limits) (deletes : Bool) (items : ℕ) (rest : List ℕ) : Type 0 where
   pub words : List (List ℕ)
   pub count : items + length words ≤ limits.identities
-  pub each : AllByRecursion (IsItem limits deletes) words
+  pub each : AllByRecursion (SpellsItem limits deletes) words
   pub is : rest ≡ list_text words
 
 -- the literals after so many, and the hints
 pub record ClauseFollows (limits : Limits) (literals : ℕ) (rest : List ℕ) : Type 0 where
   pub words : List (List ℕ)
   pub count : literals + length words ≤ limits.literals
-  pub each : AllByRecursion (IsLiteral limits.digits) words
+  pub each : AllByRecursion (SpellsLiteral limits.digits) words
   pub after : List ℕ
   pub is : rest ≡ clause_text words after
   pub hints : ListFollows limits false 0 after
@@ -63,36 +63,36 @@ pub record NumberFollows (limits : Limits) (Next : List ℕ → Type 0) (rest : 
   pub is : rest ≡ first ∷ after
   pub digits : DigitsFollow limits 1 Next after
 
--- the rests that may follow a spot
-abbrev pub Follows : Limits → Spot → List ℕ → Type 0
-Follows limits AtStart rest = NumberFollows limits (BodyFollows limits 0) rest
-Follows limits (InLead digits) rest = DigitsFollow limits digits (BodyFollows limits 0) rest
-Follows limits (BeforeLiteral literals) rest = BodyFollows limits literals rest
-Follows limits (AfterMinus literals) rest = NumberFollows limits (ClauseFollows limits (literals + 1)) rest
-Follows limits (InLiteral digits literals) rest = DigitsFollow limits digits (ClauseFollows limits (literals + 1)) rest
-Follows limits (BeforeList deletes) rest = ListFollows limits deletes 0 rest
-Follows limits (BeforeItem deletes items) rest = ListFollows limits deletes items (space ∷ rest)
-Follows limits (InItem deletes digits items) rest =
+-- the rests that may complete a line whose beginning ends at the spot
+abbrev pub MayComplete : Limits → Spot → List ℕ → Type 0
+MayComplete limits AtStart rest = NumberFollows limits (BodyFollows limits 0) rest
+MayComplete limits (InLead digits) rest = DigitsFollow limits digits (BodyFollows limits 0) rest
+MayComplete limits (BeforeLiteral literals) rest = BodyFollows limits literals rest
+MayComplete limits (AfterMinus literals) rest = NumberFollows limits (ClauseFollows limits (literals + 1)) rest
+MayComplete limits (InLiteral digits literals) rest = DigitsFollow limits digits (ClauseFollows limits (literals + 1)) rest
+MayComplete limits (BeforeList deletes) rest = ListFollows limits deletes 0 rest
+MayComplete limits (BeforeItem deletes items) rest = ListFollows limits deletes items (space ∷ rest)
+MayComplete limits (InItem deletes digits items) rest =
     DigitsFollow limits digits (λ after. ListFollows limits deletes (items + 1) (space ∷ after)) rest
-Follows limits AtEnd rest = rest ≡ line_feed ∷ []
+MayComplete limits AtEnd rest = rest ≡ line_feed ∷ []
 
 -- what was read ends at the spot: the same rests make a line of it, whatever the limits
 pub record Tracks (read : List ℕ) (spot : Spot) : Type 0 where
-  pub follows : (signed : Bool) (limits : Limits) → AreLifted signed limits → (rest : List ℕ) → IsLine limits (read ++ rest) → Follows limits spot rest
-  pub line : (signed : Bool) (limits : Limits) → AreLifted signed limits → (rest : List ℕ) → Follows limits spot rest → IsLine limits (read ++ rest)
+  pub completes : (signed : Bool) (limits : Limits) → AreLifted signed limits → (rest : List ℕ) → IsLine limits (read ++ rest) → MayComplete limits spot rest
+  pub line : (signed : Bool) (limits : Limits) → AreLifted signed limits → (rest : List ℕ) → MayComplete limits spot rest → IsLine limits (read ++ rest)
 
 -- with the byte a spot becomes another
 pub record Moves (spot : Spot) (byte : ℕ) (next : Spot) : Type 0 where
-  pub to : (signed : Bool) (limits : Limits) → AreLifted signed limits → (rest : List ℕ) → Follows limits spot (byte ∷ rest) → Follows limits next rest
-  pub from : (signed : Bool) (limits : Limits) → AreLifted signed limits → (rest : List ℕ) → Follows limits next rest → Follows limits spot (byte ∷ rest)
+  pub to : (signed : Bool) (limits : Limits) → AreLifted signed limits → (rest : List ℕ) → MayComplete limits spot (byte ∷ rest) → MayComplete limits next rest
+  pub from : (signed : Bool) (limits : Limits) → AreLifted signed limits → (rest : List ℕ) → MayComplete limits next rest → MayComplete limits spot (byte ∷ rest)
 
 -- no rest may follow the byte
 abbrev pub Blocks : Bool → Spot → ℕ → Type 0
-Blocks signed spot byte = (limits : Limits) → AreLifted signed limits → (rest : List ℕ) → ¬ Follows limits spot (byte ∷ rest)
+Blocks signed spot byte = (limits : Limits) → AreLifted signed limits → (rest : List ℕ) → ¬ MayComplete limits spot (byte ∷ rest)
 
 -- some rest may follow the byte, where the limits are wide enough
 pub record Allows (signed : Bool) (spot : Spot) (byte : ℕ) : Type 0 where
   pub limits : Limits
   pub lifted : AreLifted signed limits
   pub rest : List ℕ
-  pub follows : Follows limits spot (byte ∷ rest)
+  pub completes : MayComplete limits spot (byte ∷ rest)

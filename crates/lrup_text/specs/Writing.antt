@@ -2,7 +2,7 @@
 use Rattle.std.specs.Prelude.{◌≡◌, List, ℕ, ◌++◌, Option, Result, MatchResult}
 use Rattle.std.specs.Io.KnownBytes.{Appends}
 
--- The bytes went out behind those held before, and the last of them are held now.
+-- The bytes went out after those held before, and the last of them are held now.
 pub record Puts (before after : Option (List ℕ)) (held holds bytes : List ℕ) : Type 0 where
   pub went : List ℕ
   pub appends : Appends before after went

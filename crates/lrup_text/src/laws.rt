@@ -9,6 +9,12 @@ ghost use Rattle.lrup_text.specs.Laws.{
   EmptyCut,
   CallCuts,
   CallsCut,
+  EveryCut,
+  PendingOrFaulty,
+  RefusedStays,
+  OneFirstLine,
+  EmptyPending,
+  CutLaws,
 };
 
 /// A line has one text.
@@ -26,6 +32,11 @@ pub fn no_text_begins_another()
     ensures { NoTextBegins }
 {}
 
+/// Bytes begin with the text of one line at most, and what follows it is the same.
+pub fn bytes_begin_with_one_line()
+    ensures { OneFirstLine }
+{}
+
 /// What the grammar takes within the limits of a stream is the text of a line.
 pub fn texts_are_lines()
     ensures { TextsAreLines }
@@ -36,9 +47,29 @@ pub fn a_stream_is_cut_in_one_way()
     ensures { OneCut }
 {}
 
+/// Every list of bytes is cut into lines.
+pub fn every_stream_is_cut()
+    ensures { EveryCut }
+{}
+
+/// Bytes that hold no whole line in front may become one, or have a fault.
+pub fn a_rest_is_pending_or_faulty()
+    ensures { PendingOrFaulty }
+{}
+
+/// A text that begins no line holds none, whatever follows it.
+pub fn a_refused_text_holds_no_line()
+    ensures { RefusedStays }
+{}
+
 /// A text has one fault at most, and none where it begins a line.
 pub fn a_text_has_one_fault()
     ensures { OneFault }
+{}
+
+/// No bytes may still become a line.
+pub fn no_bytes_may_become_a_line()
+    ensures { EmptyPending }
 {}
 
 /// No bytes are cut into no lines.
@@ -54,4 +85,9 @@ pub fn a_call_cuts_on()
 /// The lines that a reader gives are those that the stream is cut into, however it comes in pieces.
 pub fn calls_cut_the_stream()
     ensures { CallsCut }
+{}
+
+/// The laws that a proof about a whole stream rests on, at one call.
+pub fn streams_are_cut()
+    ensures { CutLaws }
 {}

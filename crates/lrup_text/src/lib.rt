@@ -2,7 +2,7 @@
 #![tactic(auto)]
 
 ghost use Rattle.std.specs.Prelude.{◌↔◌, IsTrue};
-ghost use Rattle.lrup_text.specs.Lines.{line_of, Fits, IsPositive, IsNonzero, AreFew};
+ghost use Rattle.lrup_text.specs.Lines.{line_of, IsWithinLimits, IsStreamNumber, IsStreamLiteral, AreFew};
 
 mod device;
 mod kernel;
@@ -37,36 +37,36 @@ impl Line<'_> {
     /// Whether the line has a text: its numbers aren't 0 and have at most 18 digits, and its lists keep to
     /// 65,535 literals, and to 65,536 hints or identities to delete.
     pub fn fits(&self) -> bool
-        ensures { IsTrue result ↔ Fits (line_of self.now) }
+        ensures { IsTrue result ↔ IsWithinLimits (line_of self.now) }
     {
         match *self {
             Line::Add { id, lits, hints } => {
-                is_positive(id) && are_few_literals(lits) && are_few_identities(hints)
+                is_stream_number(id) && are_few_literals(lits) && are_few_identities(hints)
             }
-            Line::Delete { lead, ids } => is_positive(lead) && are_few_identities(ids),
+            Line::Delete { lead, ids } => is_stream_number(lead) && are_few_identities(ids),
         }
     }
 }
 
-fn is_positive(number: u64) -> bool
-    ensures { IsTrue result ↔ IsPositive number }
+fn is_stream_number(number: u64) -> bool
+    ensures { IsTrue result ↔ IsStreamNumber number }
 {
     number > 0 && number <= MOST_NUMBER
 }
 
 fn are_few_literals(lits: &[i64]) -> bool
-    ensures { IsTrue result ↔ AreFew 65535 IsNonzero lits.now }
+    ensures { IsTrue result ↔ AreFew 65535 IsStreamLiteral lits.now }
 {
     lits.len() <= MOST_LITERALS
         && lits
             .iter()
-            .all(|literal| is_positive(literal.unsigned_abs()))
+            .all(|literal| is_stream_number(literal.unsigned_abs()))
 }
 
 fn are_few_identities(ids: &[u64]) -> bool
-    ensures { IsTrue result ↔ AreFew 65536 IsPositive ids.now }
+    ensures { IsTrue result ↔ AreFew 65536 IsStreamNumber ids.now }
 {
-    ids.len() <= MOST_IDENTITIES && ids.iter().all(|id| is_positive(*id))
+    ids.len() <= MOST_IDENTITIES && ids.iter().all(|id| is_stream_number(*id))
 }
 
 /// Why a text is no line.

@@ -4,7 +4,7 @@ ghost use Rattle.std.specs.Fmt.{signed_decimal};
 ghost use Rattle.lrup_text.specs.Grammar.{IsDigit};
 ghost use Rattle.lrup_text.specs.Kernel.{EndsLine};
 ghost use Rattle.lrup_text.specs.Lines.{line_of, LineText};
-ghost use Rattle.lrup_text.specs.Reading.{Reads, ReadsAhead, Takes, TakesPiece, literal_front, pending, read_line};
+ghost use Rattle.lrup_text.specs.Reading.{Reads, ReadsAhead, Steps, StepsThrough, literal_front, pending, line_so_far};
 
 use crate::kernel::{read_items, read_line, read_literals};
 use crate::{Line, LineFault};
@@ -121,7 +121,7 @@ impl PartialLine {
     /// The line that was read.
     pub fn line(&self) -> Line<'_>
         requires { Reads self.now }
-        ensures { line_of result ≡ read_line self.now }
+        ensures { line_of result ≡ line_so_far self.now }
     {
         let identities = &self.identities[..self.identity_count];
         if self.deletes {
@@ -141,7 +141,7 @@ impl PartialLine {
     /// Takes bytes of a piece up to the end of the line, or up to the byte that decides that it is none.
     pub fn read(&mut self, piece: &[u8]) -> Taken
         requires { Reads self.old }
-        ensures { TakesPiece self.old piece.now result.used result.step self.new }
+        ensures { StepsThrough self.old piece.now result.used result.step self.new }
     {
         match self.read_at_once(piece) {
             Some(used) => Taken {
@@ -157,7 +157,7 @@ impl PartialLine {
     /// `None` says nothing of the piece. Nothing was read then.
     fn read_at_once(&mut self, piece: &[u8]) -> Option<usize>
         requires { Reads self.old }
-        ensures whole { IfSome result (λ used. TakesPiece self.old piece.now used Step.Done self.new) }
+        ensures whole { IfSome result (λ used. StepsThrough self.old piece.now used Step.Done self.new) }
         ensures reads { IfNone result (Reads self.new) }
         ensures same { IfNone result (pending self.new ≡ pending self.old) }
     {
@@ -179,7 +179,7 @@ impl PartialLine {
         requires ends { EndsLine line.now }
         ensures reads { Reads self.new }
         ensures empty { pending self.new ≡ [] }
-        ensures line { IsTrue result → LineText (read_line self.new) line.now }
+        ensures line { IsTrue result → LineText (line_so_far self.new) line.now }
     {
         self.literal_count = 0;
         self.identity_count = 0;
@@ -199,7 +199,7 @@ impl PartialLine {
     #[inline(never)]
     fn read_bytes(&mut self, piece: &[u8]) -> Taken
         requires { Reads self.old }
-        ensures { TakesPiece self.old piece.now result.used result.step self.new }
+        ensures { StepsThrough self.old piece.now result.used result.step self.new }
     {
         let mut used = 0;
         while used < piece.len() {
@@ -261,7 +261,7 @@ impl PartialLine {
     /// Takes the next byte of the line.
     pub fn step(&mut self, byte: u8) -> Step
         requires { Reads self.old }
-        ensures { Takes self.old byte result self.new }
+        ensures { Steps self.old byte result self.new }
     {
         match self.place {
             Place::Start => self.step_at_start(byte),
@@ -299,7 +299,7 @@ impl PartialLine {
     fn step_at_start(&mut self, byte: u8) -> Step
         requires reads { Reads self.old }
         requires place { self.old.place ≡ Place.Start }
-        ensures { Takes self.old byte result self.new }
+        ensures { Steps self.old byte result self.new }
     {
         match byte {
             b'1'..=b'9' => {
@@ -314,7 +314,7 @@ impl PartialLine {
     fn step_in_lead(&mut self, byte: u8) -> Step
         requires reads { Reads self.old }
         requires place { self.old.place ≡ Place.Lead }
-        ensures { Takes self.old byte result self.new }
+        ensures { Steps self.old byte result self.new }
     {
         match byte {
             b'0'..=b'9' if self.digits < MOST_DIGITS => {
@@ -336,7 +336,7 @@ impl PartialLine {
     fn step_in_body(&mut self, byte: u8) -> Step
         requires reads { Reads self.old }
         requires place { self.old.place ≡ Place.Body }
-        ensures { Takes self.old byte result self.new }
+        ensures { Steps self.old byte result self.new }
     {
         match byte {
             b'0' => {
@@ -367,7 +367,7 @@ impl PartialLine {
     fn step_after_minus(&mut self, byte: u8) -> Step
         requires reads { Reads self.old }
         requires place { self.old.place ≡ Place.Minus }
-        ensures { Takes self.old byte result self.new }
+        ensures { Steps self.old byte result self.new }
     {
         match byte {
             b'1'..=b'9' => {
@@ -383,7 +383,7 @@ impl PartialLine {
     fn step_in_literal(&mut self, byte: u8) -> Step
         requires reads { Reads self.old }
         requires place { self.old.place ≡ Place.Literal }
-        ensures { Takes self.old byte result self.new }
+        ensures { Steps self.old byte result self.new }
     {
         match byte {
             b'0'..=b'9' if self.digits < MOST_DIGITS => {
@@ -404,7 +404,7 @@ impl PartialLine {
     fn step_before_list(&mut self, byte: u8) -> Step
         requires reads { Reads self.old }
         requires place { self.old.place ≡ Place.List }
-        ensures { Takes self.old byte result self.new }
+        ensures { Steps self.old byte result self.new }
     {
         match byte {
             b' ' => {
@@ -418,7 +418,7 @@ impl PartialLine {
     fn step_before_item(&mut self, byte: u8) -> Step
         requires reads { Reads self.old }
         requires place { self.old.place ≡ Place.Item }
-        ensures { Takes self.old byte result self.new }
+        ensures { Steps self.old byte result self.new }
     {
         match byte {
             b'0' => {
@@ -441,7 +441,7 @@ impl PartialLine {
     fn step_in_number(&mut self, byte: u8) -> Step
         requires reads { Reads self.old }
         requires place { self.old.place ≡ Place.Number }
-        ensures { Takes self.old byte result self.new }
+        ensures { Steps self.old byte result self.new }
     {
         match byte {
             b'0'..=b'9' if self.digits < MOST_DIGITS => {
@@ -462,7 +462,7 @@ impl PartialLine {
     fn step_at_end(&mut self, byte: u8) -> Step
         requires reads { Reads self.old }
         requires place { self.old.place ≡ Place.LineEnd }
-        ensures { Takes self.old byte result self.new }
+        ensures { Steps self.old byte result self.new }
     {
         match byte {
             b'\n' => {

@@ -1,15 +1,16 @@
 // Reading texts that were spelled by hand, in every cutting, and writing.
-ghost use Rattle.std.specs.Prelude.{Some};
+ghost use Rattle.std.specs.Prelude.{◌≡◌, Some, IfOk};
 
 use crate::{
     End, Line, LineFault, LineReader, ReadFault, Reading, Sink, Source, Turn, WriteFault, Writing,
     write_line,
 };
 use std::alloc::Global;
+use std::io;
 use std::process::Abort;
 use std::test::Fail;
 
-/// Feeds the bytes in two pieces, cut at a place.
+/// Feeds the bytes in two pieces, cut at a place, and then the end.
 fn feed_cut(
     rt: &impl Abort,
     alloc: Global,
@@ -17,6 +18,7 @@ fn feed_cut(
     cut: usize,
     used: usize,
     turn: Turn,
+    end: End,
 ) -> Result<(), Fail> {
     let mut reader = LineReader::new(alloc)?;
     let cut = cut.min(bytes.len());
@@ -24,22 +26,25 @@ fn feed_cut(
     if first.turn != Turn::NeedMore {
         assert_eq!(rt; first.used, used);
         assert_eq!(rt; first.turn, turn);
+        assert_eq!(rt; reader.end(), end);
         return Ok(());
     }
     assert_eq!(rt; first.used, cut);
     let second = reader.feed(&bytes[cut..]);
     assert_eq!(rt; second.used, used.saturating_sub(cut));
     assert_eq!(rt; second.turn, turn);
+    assert_eq!(rt; reader.end(), end);
     Ok(())
 }
 
-/// Feeds the bytes one by one.
+/// Feeds the bytes one by one, and then the end.
 fn feed_each(
     rt: &impl Abort,
     alloc: Global,
     bytes: &[u8],
     used: usize,
     turn: Turn,
+    end: End,
 ) -> Result<(), Fail> {
     let mut reader = LineReader::new(alloc)?;
     for (i, byte) in bytes.iter().enumerate() {
@@ -48,15 +53,17 @@ fn feed_each(
         if fed.turn != Turn::NeedMore {
             assert_eq!(rt; i + 1, used);
             assert_eq!(rt; fed.turn, turn);
+            assert_eq!(rt; reader.end(), end);
             return Ok(());
         }
     }
     assert_eq!(rt; bytes.len(), used);
     assert_eq!(rt; turn, Turn::NeedMore);
+    assert_eq!(rt; reader.end(), end);
     Ok(())
 }
 
-/// Feeds the bytes in each cutting into two pieces, and one by one.
+/// Feeds the bytes in each cutting into two pieces, and one by one, and then the end.
 fn feed_every_way(
     rt: &impl Abort,
     alloc: Global,
@@ -64,10 +71,15 @@ fn feed_every_way(
     used: usize,
     turn: Turn,
 ) -> Result<(), Fail> {
+    let end = match turn {
+        Turn::Fault(fault) => End::Fault(fault),
+        Turn::NeedMore if !bytes.is_empty() => End::Fault(LineFault::Truncated),
+        _ => End::Clean,
+    };
     for cut in 0..=bytes.len() {
-        feed_cut(rt, alloc, bytes, cut, used, turn)?;
+        feed_cut(rt, alloc, bytes, cut, used, turn, end)?;
     }
-    feed_each(rt, alloc, bytes, used, turn)
+    feed_each(rt, alloc, bytes, used, turn, end)
 }
 
 #[test]
@@ -106,6 +118,13 @@ fn lines(rt: HostRuntime) -> Result<(), Fail> {
     };
     let text = b"999999999999999999 -1 999999999999999999 -999999999999999999 0 10 0\n";
     feed_every_way(&rt, alloc, text, 68, Turn::Line(signs))
+}
+
+#[test]
+fn unfinished(rt: HostRuntime) -> Result<(), Fail> {
+    let alloc = rt.alloc();
+    feed_every_way(&rt, alloc, b"", 0, Turn::NeedMore)?;
+    feed_every_way(&rt, alloc, b"5 2 0", 5, Turn::NeedMore)
 }
 
 #[test]
@@ -161,9 +180,13 @@ fn feed_repeated(
         text.extend_from_slice(part)?;
     }
     text.extend_from_slice(end)?;
-    feed_cut(rt, alloc, &text, 0, used, turn)?;
-    feed_cut(rt, alloc, &text, 65_536, used, turn)?;
-    feed_each(rt, alloc, &text, used, turn)
+    let end = match turn {
+        Turn::Fault(fault) => End::Fault(fault),
+        _ => End::Clean,
+    };
+    feed_cut(rt, alloc, &text, 0, used, turn, end)?;
+    feed_cut(rt, alloc, &text, 65_536, used, turn, end)?;
+    feed_each(rt, alloc, &text, used, turn, end)
 }
 
 #[test]
@@ -445,6 +468,111 @@ fn sources_end_and_fail(rt: HostRuntime) -> Result<(), Fail> {
         let mut source = Reading::new(&text[..end]);
         assert_eq!(rt; count_lines(&rt, rt.alloc(), &mut source)?, end / 8);
         assert!(rt; !source.failed());
+    }
+    Ok(())
+}
+
+/// A device that moves all bytes it is given room for, and fails at one of its calls alone.
+#[derive(Drop)]
+struct FailsOnce {
+    calls: usize,
+    fails_at: usize,
+}
+
+impl FailsOnce {
+    fn new(fails_at: usize) -> FailsOnce {
+        FailsOnce { calls: 0, fails_at }
+    }
+
+    fn call(&mut self, bytes: usize) -> io::Result<usize>
+        ensures { IfOk result (λ count. count ≡ bytes) }
+    {
+        self.calls = self.calls.saturating_add(1);
+        if self.calls == self.fails_at {
+            return Err(io::Error::from(io::ErrorKind::Interrupted));
+        }
+        Ok(bytes)
+    }
+}
+
+impl io::Read for FailsOnce {
+    fn read(&mut self, buffer: &mut [u8]) -> io::Result<usize> {
+        buffer.fill(b'1');
+        self.call(buffer.len())
+    }
+}
+
+impl io::Write for FailsOnce {
+    fn write(&mut self, bytes: &[u8]) -> io::Result<usize> {
+        self.call(bytes.len())
+    }
+
+    fn flush(&mut self) -> io::Result<()> {
+        Ok(())
+    }
+}
+
+#[test]
+fn failed_reads_are_not_repeated(rt: HostRuntime) -> Result<(), Fail> {
+    for size in [8usize, 70_000] {
+        let mut buffer = vec![in rt.alloc(); 0u8; size]?;
+        for fails_at in 1..=5usize {
+            let mut source = Reading::new(FailsOnce::new(fails_at));
+            for call in 1..=8usize {
+                if source.failed() {
+                    break;
+                }
+                let wanted = if call == fails_at {
+                    Err(ReadFault)
+                } else {
+                    Ok(size)
+                };
+                assert_eq!(rt; source.read(&mut buffer), wanted);
+            }
+            assert!(rt; source.failed());
+            assert_eq!(rt; source.into_inner().calls, fails_at);
+        }
+    }
+    Ok(())
+}
+
+#[test]
+fn failed_writes_are_not_repeated(rt: HostRuntime) -> Result<(), Fail> {
+    for size in [8usize, 512, 513, 70_000] {
+        let bytes = vec![in rt.alloc(); b'1'; size]?;
+        for fails_at in 1..=5usize {
+            let mut sink = Writing::new(FailsOnce::new(fails_at));
+            for call in 1..=8usize {
+                if sink.failed() {
+                    break;
+                }
+                let wanted = if call == fails_at {
+                    Err(WriteFault)
+                } else {
+                    Ok(size)
+                };
+                assert_eq!(rt; sink.write(&bytes), wanted);
+            }
+            assert!(rt; sink.failed());
+            assert_eq!(rt; sink.into_inner().calls, fails_at);
+        }
+    }
+    Ok(())
+}
+
+#[test]
+fn long_lines_are_written_up_to_a_fault(rt: HostRuntime) -> Result<(), Fail> {
+    let ids = vec![in rt.alloc(); 999_999_999_999_999_999; 65_536]?;
+    let line = Line::Delete { lead: 5, ids: &ids };
+    for fails_at in [0usize, 1, 2, 3, 1_000] {
+        let mut sink = Writing::new(FailsOnce::new(fails_at));
+        if line.fits() {
+            let wrote = write_line(&line, &mut sink);
+            assert_eq!(rt; wrote.is_err(), fails_at > 0);
+        }
+        assert_eq!(rt; sink.failed(), fails_at > 0);
+        let calls = sink.into_inner().calls;
+        assert!(rt; calls > 1_000 || calls == fails_at);
     }
     Ok(())
 }

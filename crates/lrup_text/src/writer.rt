@@ -3,7 +3,7 @@ ghost use Rattle.std.specs.Prelude.{◌≡◌, ◌<◌, ◌≤◌, ◌+◌, [], 
 ghost use Rattle.std.specs.Fmt.{decimal, signed_decimal};
 ghost use Rattle.std.specs.List.{AllByRecursion};
 ghost use Rattle.lrup_text.specs.Grammar.{list_text, space};
-ghost use Rattle.lrup_text.specs.Lines.{line_of, text_of, Fits, IsPositive, IsNonzero};
+ghost use Rattle.lrup_text.specs.Lines.{line_of, line_text, IsWithinLimits, IsStreamNumber, IsStreamLiteral};
 ghost use Rattle.lrup_text.specs.Reading.{literals_text};
 ghost use Rattle.lrup_text.specs.Writing.{PutsAll, WritesText};
 
@@ -45,7 +45,7 @@ impl Word {
 
     /// A line's first number, and the space after it.
     fn lead(number: u64) -> Word
-        requires { IsPositive number }
+        requires { IsStreamNumber number }
         ensures text { result ≡ decimal number ++ space ∷ [] }
         ensures room { length result < 24 }
     {
@@ -57,7 +57,7 @@ impl Word {
 
     /// A literal, and the space after it.
     fn literal(literal: i64) -> Word
-        requires { IsNonzero literal }
+        requires { IsStreamLiteral literal }
         ensures { result ≡ signed_decimal literal ++ space ∷ [] }
     {
         let mut word = Word::lead(literal.unsigned_abs());
@@ -69,7 +69,7 @@ impl Word {
 
     /// An item of a list, and the space before it.
     fn item(number: u64) -> Word
-        requires { IsPositive number }
+        requires { IsStreamNumber number }
         ensures { result ≡ space ∷ decimal number }
     {
         let mut word = Word::new();
@@ -94,7 +94,7 @@ impl Word {
 
     /// Puts a number's decimal text in front.
     fn push_number(&mut self, number: u64)
-        requires positive { IsPositive number }
+        requires positive { IsStreamNumber number }
         requires room { length self.old ≤ 6 }
         ensures text { self.new ≡ decimal number ++ self.old }
         ensures room { length self.new ≤ length self.old + 18 }
@@ -162,7 +162,7 @@ impl Chunk {
         self.len += 1;
     }
 
-    /// Puts a byte behind those that are held, which may go out.
+    /// Puts a byte after those that are held, which may go out.
     fn put_byte<W: Sink>(&mut self, byte: u8, sink: &mut W) -> Result<(), WriteFault>
         requires { W.has_failed sink.old ≡ false }
         ensures puts { PutsAll result (W.written sink.old) (W.written sink.new)
@@ -176,7 +176,7 @@ impl Chunk {
         Ok(())
     }
 
-    /// Puts bytes behind those that are held, which may go out.
+    /// Puts bytes after those that are held, which may go out.
     fn put<W: Sink>(&mut self, bytes: &[u8], sink: &mut W) -> Result<(), WriteFault>
         requires { W.has_failed sink.old ≡ false }
         ensures puts { PutsAll result (W.written sink.old) (W.written sink.new)
@@ -192,7 +192,7 @@ impl Chunk {
     /// Puts literals, and a space after each.
     fn put_literals<W: Sink>(&mut self, lits: &[i64], sink: &mut W) -> Result<(), WriteFault>
         requires running { W.has_failed sink.old ≡ false }
-        requires fits { AllByRecursion IsNonzero lits.now }
+        requires fits { AllByRecursion IsStreamLiteral lits.now }
         ensures puts { PutsAll result (W.written sink.old) (W.written sink.new)
             self.old self.new (literals_text lits.now) }
         ensures failed { W.has_failed sink.new ≡ is_err result }
@@ -206,7 +206,7 @@ impl Chunk {
     /// Puts the items of a list, each after a space, and the end of the line.
     fn put_list<W: Sink>(&mut self, ids: &[u64], sink: &mut W) -> Result<(), WriteFault>
         requires running { W.has_failed sink.old ≡ false }
-        requires fits { AllByRecursion IsPositive ids.now }
+        requires fits { AllByRecursion IsStreamNumber ids.now }
         ensures puts { PutsAll result (W.written sink.old) (W.written sink.new)
             self.old self.new (list_text (map decimal ids.now)) }
         ensures failed { W.has_failed sink.new ≡ is_err result }
@@ -220,7 +220,7 @@ impl Chunk {
     /// Puts the first number of a line.
     fn put_lead<W: Sink>(&mut self, lead: u64, sink: &mut W) -> Result<(), WriteFault>
         requires running { W.has_failed sink.old ≡ false }
-        requires fits { IsPositive lead }
+        requires fits { IsStreamNumber lead }
         ensures puts { PutsAll result (W.written sink.old) (W.written sink.new)
             self.old self.new (decimal lead ++ space ∷ []) }
         ensures failed { W.has_failed sink.new ≡ is_err result }
@@ -231,9 +231,9 @@ impl Chunk {
     /// Puts a whole line.
     fn put_line<W: Sink>(&mut self, line: &Line, sink: &mut W) -> Result<(), WriteFault>
         requires running { W.has_failed sink.old ≡ false }
-        requires fits { Fits (line_of line.now) }
+        requires fits { IsWithinLimits (line_of line.now) }
         ensures puts { PutsAll result (W.written sink.old) (W.written sink.new)
-            self.old self.new (text_of (line_of line.now)) }
+            self.old self.new (line_text (line_of line.now)) }
         ensures failed { W.has_failed sink.new ≡ is_err result }
     {
         match *line {
@@ -267,10 +267,10 @@ fn write_all<W: Sink>(bytes: &[u8], sink: &mut W) -> Result<(), WriteFault>
 
 /// Writes a line. After a fault, what went out is a beginning of its text.
 pub fn write_line<W: Sink>(line: &Line, sink: &mut W) -> Result<(), WriteFault>
-    requires fits { Fits (line_of line.now) }
+    requires fits { IsWithinLimits (line_of line.now) }
     requires running { W.has_failed sink.old ≡ false }
     ensures text { WritesText result (W.written sink.old) (W.written sink.new)
-        (text_of (line_of line.now)) }
+        (line_text (line_of line.now)) }
     ensures failed { W.has_failed sink.new ≡ is_err result }
 {
     let mut chunk = Chunk::new();

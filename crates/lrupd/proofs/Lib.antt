@@ -1,6 +1,1 @@
-pub mod FoundLemmas
-pub mod LeadLemmas
-pub mod AddLemmas
-pub mod StreamLemmas
-pub mod SoFarLemmas
-pub mod FirstLemmas
+pub mod AppendLemmas

@@ -1,22 +1,24 @@
 //! `lrupd FORMULA STREAM`: checks a solver's stream of hinted clause additions against a formula.
 #![tactic(auto)]
 
-ghost use Rattle.std.specs.Prelude.{◌≡◌, ◌⊎◌, IfOk, IsTrue};
-ghost use Rattle.std.specs.Result.{IsOk, IsErr};
+ghost use Rattle.std.specs.Prelude.{◌≡◌, ◌≢◌, ◌↔◌, ◌∷◌, [], drop, false, IfOk, IsTrue, Err, MatchOption};
+ghost use Rattle.std.specs.Result.{IsErrOf};
 ghost use Rattle.std.specs.IoError.{error_kind};
+ghost use Rattle.std.specs.Vec.Iter.{into_iter_items, into_iter_len};
+ghost use Rattle.dimacs.specs.declared.fault.DimacsFault.{DimacsFault};
+ghost use Rattle.dimacs.specs.FormulaFault.{IsFaultOf};
 ghost use Rattle.lrup_model.specs.Entailment.{IsUnsatisfiable};
-ghost use Rattle.lrupd.specs.Program.{IsStopOf, status_of, stop_of, verdict_of};
+ghost use Rattle.first_path.specs.First.{ChecksAll, IsRefused};
+ghost use Rattle.first_path.specs.declared.answer.First.{First};
+ghost use Rattle.lrupd.specs.Program.{IsReportOf, IsStopOf, status_of, stop_of};
 
-mod answer;
-mod check;
-mod checking;
-mod stream;
-#[cfg(test)]
-mod tests;
+mod report;
 
-use answer::{First, FirstFault};
-use checking::first;
-use lrup_text::Reading;
+use first_path::{FirstFault, first};
+use lrup_text::{Reading, Source, Writing};
+use report::{Report, print_report, report_of};
+use std::alloc::{AllocError, Global};
+use std::env::Args;
 use std::fs::File;
 use std::process::ExitCode;
 use std::rt::{Env, Files};
@@ -32,14 +34,14 @@ enum Stop {
     Unread,
     /// The formula or the stream was refused.
     Refused(FirstFault),
-    /// A growth was refused.
+    /// Out of memory.
     Memory,
 }
 
 impl From<io::Error> for Stop {
     ghost from_gives = { λ error stop. IsStopOf (error_kind error) stop };
 
-    /// Of a file: want of memory, or anything else.
+    /// Of a file: out of memory, or anything else.
     fn from(error: io::Error) -> Stop {
         if error.kind() == io::ErrorKind::OutOfMemory {
             Stop::Memory
@@ -61,72 +63,74 @@ impl From<FirstFault> for Stop {
     }
 }
 
+impl From<AllocError> for Stop {
+    ghost use Rattle.lrupd.specs.declared.Stop.TheVariants.{Memory};
+
+    ghost from_gives = { λ _ stop. stop ≡ Memory };
+
+    fn from(_error: AllocError) -> Stop {
+        Stop::Memory
+    }
+}
+
 fn main(rt: HostRuntime) -> ExitCode {
     let status = match check_files(&rt) {
-        Ok(first) => report(&rt, &first),
+        Ok(report) => print_report(&mut Writing::new(io::writer(&rt)), &report),
         Err(stop) => refuse(&rt, &stop),
     };
     ExitCode::from(status)
 }
 
 /// Reads the two files that the words name, the stream as it is checked.
-fn check_files<R: Env + Files + AllocGlobal + Wait>(rt: &R) -> Result<First, Stop>
-    ensures { IfOk result (λ first. IsTrue first.empty → IsUnsatisfiable first.formula) }
+///
+/// It waits for the stream.
+fn check_files<R: Env + Files + AllocGlobal + Wait>(rt: &R) -> Result<Report, Stop>
+    ensures { IfOk result (λ report. (first : First) × IsReportOf first report × (IsTrue first.empty → IsUnsatisfiable first.formula)) }
 {
-    let (formula, stream) = paths(rt)?;
+    let (formula, stream) = words(rt)?;
     let formula = fs::read(rt, formula.as_str())?;
     let mut stream = Reading::new(File::open(rt, stream.as_str())?);
-    Ok(first(rt, rt.alloc(), &formula, &mut stream)?)
+    check(rt, rt.alloc(), &formula, &mut stream)
 }
 
-/// The two words behind the program's name.
-fn paths<R: Env + AllocGlobal>(rt: &R) -> Result<(String, String), Stop> {
+/// Checks a stream against a formula's text, and reports on it.
+///
+/// It waits for the stream.
+fn check<W: Wait, S: Source>(
+    wait: &W,
+    alloc: Global,
+    formula: &[u8],
+    stream: &mut S,
+) -> Result<Report, Stop>
+    requires { S.has_failed stream.old ≡ false }
+    ensures ok { IfOk result (λ report. (first : First) × ChecksAll formula.now (S.left stream.old) (S.left stream.new) first × IsReportOf first report) }
+    ensures refused { IsErrOf result (Stop.Refused FirstFault.Refused) → IsRefused formula.now (S.left stream.old) (S.left stream.new) }
+    ensures formula { (fault : DimacsFault) → result ≡ Err (Stop.Refused (FirstFault.Formula fault)) → IsFaultOf formula.now fault }
+    ensures failed { IsTrue (S.has_failed stream.new) ↔ IsErrOf result Stop.Unread }
+{
+    let first = first(wait, alloc, formula, stream)?;
+    let report = report_of(alloc, &first)?;
+    Ok(report)
+}
+
+/// The two words after the program's name.
+fn words<R: Env + AllocGlobal>(rt: &R) -> Result<(String, String), Stop> {
     let mut words = match env::args(rt) {
         Ok(words) => words,
         Err(error) if error.kind() == io::ErrorKind::OutOfMemory => return Err(Stop::Memory),
         Err(_) => return Err(Stop::Words),
     };
-    let _name = words.next();
+    two_words(&mut words).ok_or(Stop::Words)
+}
+
+/// The two words after a first one, where there are three in all.
+fn two_words(words: &mut Args) -> Option<(String, String)>
+    ensures { MatchOption result (into_iter_len words.old ≢ 3) (λ two. drop 1 (into_iter_items words.old) ≡ two.0 ∷ two.1 ∷ []) }
+{
+    let _name = words.next()?;
     match (words.next(), words.next(), words.next()) {
-        (Some(formula), Some(stream), None) => Ok((formula, stream)),
-        _ => Err(Stop::Words),
-    }
-}
-
-/// Prints the report, and gives the status behind it.
-fn report(rt: &impl Print, first: &First) -> u8
-    ensures { (result ≡ verdict_of first.now.empty) ⊎ (result ≡ 7) }
-{
-    let printed = print_report(rt, first);
-    status_behind(&printed, first.empty)
-}
-
-/// The status behind a report: 0 for unsatisfiable, 3 for unknown, and 7 where it couldn't be written.
-fn status_behind(printed: &io::Result<()>, empty: bool) -> u8
-    ensures written { IsOk printed.now → result ≡ verdict_of empty }
-    ensures unwritten { IsErr printed.now → result ≡ 7 }
-{
-    if printed.is_err() {
-        return 7;
-    }
-    if empty { 0 } else { 3 }
-}
-
-fn print_report(rt: &impl Print, first: &First) -> io::Result<()> {
-    let added = first.added;
-    println!(rt; "c stream 1: {added} added, 0 deleted, ended")?;
-    match first.last {
-        Some(last) => {
-            let id = last.id;
-            let len = last.len;
-            println!(rt; "c main: {id} live {len}")?;
-        }
-        None => println!(rt; "c main: nothing")?,
-    }
-    if first.empty {
-        println!(rt; "s UNSATISFIABLE")
-    } else {
-        println!(rt; "s UNKNOWN")
+        (Some(formula), Some(stream), None) => Some((formula, stream)),
+        _ => None,
     }
 }
 

@@ -5,7 +5,7 @@ ghost use Rattle.lrup_model.specs.Literal.{IsLiteral, max_variable};
 ghost use Rattle.lrup_model.specs.Clause.{Has, IsClause, IsTautology};
 ghost use Rattle.lrup_model.specs.Place.{IsKnown, AllFollow, text_of};
 ghost use Rattle.lrup_model.specs.Propagation.{IsConflict, IsUnit};
-ghost use Rattle.propagate.specs.Different.{different};
+ghost use Rattle.propagate.specs.Distinct.{distinct};
 ghost use Rattle.propagate.specs.Marks.{Propagation, Steps};
 ghost use Rattle.propagate.specs.Left.{IsLeft};
 
@@ -74,7 +74,7 @@ impl Marks {
     pub fn begin(&mut self, clause: &[Lit]) -> Result<(), Tautology>
         requires { AllByRecursion (IsLiteral self.old.vars) clause.now }
         ensures tautology { IsErr result ↔ IsTautology clause.now }
-        ensures ok { OnOk result (self.new ≡ record { vars = self.old.vars; clause = different clause.now; falses = different clause.now; ready = true }) }
+        ensures ok { OnOk result (self.new ≡ record { vars = self.old.vars; clause = distinct clause.now; falses = distinct clause.now; ready = true }) }
         ensures err { OnErr result (self.new ≡ record { vars = self.old.vars; clause = []; falses = []; ready = false }) }
 
         // The clause that was taken up is the argument's, each literal once.
@@ -95,6 +95,7 @@ impl Marks {
     }
 
     /// The literals of the clause that was taken up, each once, in the order of their first places.
+    #[inline]
     pub fn clause(&self) -> &[Lit]
         ensures { result.now ≡ self.now.clause }
     {
@@ -102,6 +103,7 @@ impl Marks {
     }
 
     /// Is a clause taken up, and was every hint since unit?
+    #[inline]
     pub fn ready(&self) -> bool
         ensures { result ≡ self.now.ready }
     {

@@ -16,7 +16,7 @@ use Rattle.lrup_model.specs.Place.{Caller, Place, Tells, IsVacantAbove}
 use Rattle.lrup_model.specs.declared.clause_map.Published.{Published}
 use Rattle.lrup_model.specs.declared.clause_map.Published.TheVariants as publishing
 use Rattle.lrup_model.specs.Laws.{PropagationSound}
-use Rattle.propagate.specs.Different.{different}
+use Rattle.propagate.specs.Distinct.{distinct}
 use Rattle.propagate.specs.Marks.{Propagation}
 use Rattle.stream_check.specs.Setting.{Setting}
 use Rattle.stream_check.specs.Standing.{Standing}
@@ -61,27 +61,27 @@ still_at c p q es at tells = record {
 -- The conditions of the publish
 
 -- a list without repeats is no longer
-pub length-different : (ls : List ℤ) → length (different ls) ≤ length ls
-length-different [] = omega arith
-length-different (x ∷ ls) = omega (arith, length-different ls, length-filter_both (λ y. not (int_eq y x)) (λ y. not (not (int_eq y x))) (λ y. refl) (different ls))
+pub length-distinct : (ls : List ℤ) → length (distinct ls) ≤ length ls
+length-distinct [] = omega arith
+length-distinct (x ∷ ls) = omega (arith, length-distinct ls, length-filter_both (λ y. not (int_eq y x)) (λ y. not (not (int_eq y x))) (λ y. refl) (distinct ls))
 
 -- the clause of the marks, after the hints, is the addition's
-pub clause_is : (c : Setting) (st : Standing) (id : ℕ) (lits : List ℤ) (old new : Propagation) (clause : Clause) → Admits c st id lits old → KeepsClause old new → clause ≡ new.clause → clause ≡ different lits
+pub clause_is : (c : Setting) (st : Standing) (id : ℕ) (lits : List ℤ) (old new : Propagation) (clause : Clause) → Admits c st id lits old → KeepsClause old new → clause ≡ new.clause → clause ≡ distinct lits
 clause_is c st id lits old new clause admits kept is = is ∙ kept.1 ∙ ap (λ (m : Propagation). m.clause) admits.marks_are
 
 -- the hints show the addition's clause
 pub shown_is : (c : Setting) (st : Standing) (gone : ℕ → Bool) (f : Cnf) (id : ℕ) (lits : List ℤ) (hints : List ℕ) (marks : Propagation) (es : History) → Admits c st id lits marks
-    → Shows c gone f marks.falses hints es None → Shows c gone f (different lits) hints es None
+    → Shows c gone f marks.falses hints es None → Shows c gone f (distinct lits) hints es None
 shown_is c st gone f id lits hints marks es admits shown = subst (λ (d : Clause). Shows c gone f d hints es None) (ap (λ (m : Propagation). m.falses) admits.marks_are) shown
 
 pub publishable : (c : Setting) (p q : Place) (st : Standing) (gone : ℕ → Bool) (es : History) (id : ℕ) (lits : List ℤ) (hints : List ℕ) (marks : Propagation) → PropagationSound → IsAt c p → Tells p q es
-    → Admits c st id lits marks → length lits ≤ max_line_literals → Shows c gone p.caller.formula (different lits) hints es None → IsPublishable q.caller.formula (different lits)
+    → Admits c st id lits marks → length lits ≤ max_line_literals → Shows c gone p.caller.formula (distinct lits) hints es None → IsPublishable q.caller.formula (distinct lits)
 publishable c p q st gone es id lits hints marks sound at tells admits few shown =
-    subst (λ (f : Cnf). IsPublishable f (different lits)) (sym (ap (λ (r : Caller). r.formula) tells.caller))
+    subst (λ (f : Cnf). IsPublishable f (distinct lits)) (sym (ap (λ (r : Caller). r.formula) tells.caller))
     (record {
-      clause = subst (λ (v : ℕ). IsClause v (different lits)) (sym at.variables) admits.clause;
-      length = omega (arith, length-different lits);
-      follows = sound p.caller.formula (different lits) shown.0 shown.1 shown.2;
+      clause = subst (λ (v : ℕ). IsClause v (distinct lits)) (sym at.variables) admits.clause;
+      length = omega (arith, length-distinct lits);
+      follows = sound p.caller.formula (distinct lits) shown.0 shown.1 shown.2;
     })
 
 pub still_vacant : (c : Setting) (p q : Place) (es : History) (last id : ℕ) → IsAt c p → Tells p q es → AllByRecursion IsFetch es → IsVacantAbove p last → Owns c.layout c.stream id → last < id → q.own id ≡ absent
@@ -90,9 +90,9 @@ still_vacant c p q es last id at tells quiet vacant owns newer =
     tells.own id mine ∙ ap (λ (m : State). m id) (run-fetches p.own es quiet) ∙ vacant id mine newer
 
 -- the event of the publish
-pub published_is : (c : Setting) (p q : Place) (es : History) (id : ℕ) (clause : Clause) (lits : List ℤ) (r : Published) → IsAt c p → Tells p q es → clause ≡ different lits → r ≡ publishing.Done
+pub published_is : (c : Setting) (p q : Place) (es : History) (id : ℕ) (clause : Clause) (lits : List ℤ) (r : Published) → IsAt c p → Tells p q es → clause ≡ distinct lits → r ≡ publishing.Done
     → ◌≡◌ {A = History} (events.publish q.caller.stream id clause r ∷ []) (published_by c id lits ∷ [])
 published_is c p q es id clause lits r at tells is done =
     ap (λ (s : ℕ). events.publish s id clause r ∷ []) (ap (λ (x : Caller). x.stream) tells.caller ∙ at.stream)
     ∙ ap (λ (d : Clause). events.publish c.stream id d r ∷ []) is
-    ∙ ap (λ (x : Published). events.publish c.stream id (different lits) x ∷ []) done
+    ∙ ap (λ (x : Published). events.publish c.stream id (distinct lits) x ∷ []) done

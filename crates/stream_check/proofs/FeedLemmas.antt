@@ -7,7 +7,7 @@ use Rattle.lrup_model.specs.Layout.{LayoutValue}
 use Rattle.lrup_model.specs.Event.{History}
 use Rattle.lrup_text.specs.Feeding.{ReaderState}
 use Rattle.lrup_text.specs.Lines.{StreamLine}
-use Rattle.lrup_text.proofs.Streams.{texts_are_lines, empty_cut}
+use Rattle.stream_check.specs.Laws.{FreshLeft}
 use Rattle.stream_check.specs.declared.report.Ending.{Ending}
 use Rattle.stream_check.specs.declared.held.Held.{Held}
 use Rattle.stream_check.specs.declared.deletion.Stop.{Stop}
@@ -18,7 +18,6 @@ use Rattle.stream_check.specs.Leaving.{Going, Over, CheckerState, Leaves, IsFres
 use Rattle.stream_check.specs.CheckerValue.{CheckerValue}
 use Rattle.stream_check.specs.Checker.{read_of, value_of, state_of, report_at, tally_at, LeavesOn, IsNew}
 use Rattle.stream_check.specs.Taking.{hold, Takes, ending_of}
-use Rattle.stream_check.proofs.LeavingLemmas.{fresh_left}
 use Rattle.stream_check.proofs.LineLemmas.{tally_is}
 
 pub some_of : (o : Option Ending) → is_some o ≡ true → (ending : Ending) × (o ≡ Some ending)
@@ -58,9 +57,9 @@ none_gone : (s : Bool) → false ≡ (s && false)
 none_gone true = refl
 none_gone false = refl
 
-pub new_left : (layout : LayoutValue) (stream tries : ℕ) (h : Held) (r : ReaderState) → h.setting ≡ record { layout = layout; stream = stream; tries = tries } → h.last ≡ layout.clauses → h.dropped ≡ [] → h.retired ≡ 0 → h.added ≡ 0
+pub new_left : FreshLeft → (layout : LayoutValue) (stream tries : ℕ) (h : Held) (r : ReaderState) → h.setting ≡ record { layout = layout; stream = stream; tries = tries } → h.last ≡ layout.clauses → h.dropped ≡ [] → h.retired ≡ 0 → h.added ≡ 0
     → h.empty ≡ false → h.line ≡ 1 → r ≡ Ok [] → IsNew layout stream tries (value_of h (read_of r) None)
-new_left layout stream tries h r setting last dropped retired added empty line reads =
+new_left law layout stream tries h r setting last dropped retired added empty line reads =
     let c : Setting = h.setting in
     let same : c.layout ≡ layout = ap (λ (s : Setting). s.layout) setting in
     let fresh : IsFresh c (hold h (read_of r) layout.room) = record {
@@ -73,4 +72,4 @@ new_left layout stream tries h r setting last dropped retired added empty line r
       pending = ap read_of reads;
       line = line;
     } in
-    record { setting = setting; last = last; retired = retired; ending = refl; left = fresh_left texts_are_lines empty_cut c (hold h (read_of r) layout.room) fresh }
+    record { setting = setting; last = last; retired = retired; ending = refl; left = law c (hold h (read_of r) layout.room) fresh }

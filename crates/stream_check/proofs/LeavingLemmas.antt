@@ -1,24 +1,22 @@
 -- What a checker is left as.
-use Rattle.std.proofs.Common.{◌≡◌, ◌+◌, ◌-◌, ◌^◌, min, ℕ, Bool, List, [], ◌∷◌, ◌++◌, length, inl, inr, refl, sym, ap, subst, ◌∙◌, arith, append_assoc, append-nil, length-append, Ok}
+use Rattle.std.proofs.Common.{◌≡◌, ◌+◌, ◌-◌, ◌^◌, min, ℕ, List, [], ◌∷◌, ◌++◌, length, inl, inr, refl, sym, ap, subst, ◌∙◌, arith, append_assoc, append-nil, length-append}
 use Rattle.std.specs.List.{flat_map, AllByRecursion}
 use Rattle.std.proofs.lemmas.Grind.{flat_map-append}
 use Rattle.lrup_model.specs.Event.{History}
 use Rattle.lrup_text.specs.declared.LineFault.{LineFault}
-use Rattle.lrup_text.specs.Grammar.{Begins}
-use Rattle.lrup_text.specs.Lines.{StreamLine, Addition, Deletion, Fits, LineText, text_of, Cut, HasNoLine, IsPending, IsPositive, AreFew}
+use Rattle.lrup_text.specs.Lines.{StreamLine, Deletion, IsWithinLimits, LineText, line_text, Cut, IsPending}
 use Rattle.lrup_text.specs.Faults.{IsRefused, HasTextFault}
 use Rattle.lrup_text.specs.Laws.{TextsAreLines, EmptyCut}
-use Rattle.stream_check.specs.declared.fault.Fault.{Fault}
 use Rattle.stream_check.specs.declared.fault.Fault.TheVariants as faults
 use Rattle.stream_check.specs.declared.report.Ending.{Ending}
 use Rattle.stream_check.specs.declared.report.Ending.TheVariants as endings
 use Rattle.stream_check.specs.declared.report.Report.{Report}
 use Rattle.stream_check.specs.Setting.{Setting}
-use Rattle.stream_check.specs.Standing.{Standing, standing_of, Tally, tally_of, line_number}
-use Rattle.stream_check.specs.Verdicts.{Verdict, Good, Bad}
+use Rattle.stream_check.specs.Standing.{Standing, standing_of, tally_of, line_number}
+use Rattle.stream_check.specs.Verdicts.{Good, Bad}
 use Rattle.stream_check.specs.Deletions.{StopsDeletion}
-use Rattle.stream_check.specs.Judging.{JudgesLine, AreGood, joined, BeginsGood, report_of, EndsAtLine, EndsAtText, EndsAtMemory, EndsAtEnd, EndsAfter, StreamEnd, ended, failed, ending_at, JudgesBlocks, Judges}
-use Rattle.stream_check.specs.Leaving.{Holding, Going, Over, SameStanding, LeavesGoing, Leaves, standing_after, tally_after, TakesLine, IsFresh}
+use Rattle.stream_check.specs.Judging.{JudgesLine, AreGood, joined, BeginsGood, report_of, EndsAtLine, EndsAtText, EndsAtMemory, EndsAtEnd, EndsAfter, StreamEnd, ended, failed, ending_at, Judges}
+use Rattle.stream_check.specs.Leaving.{Holding, SameStanding, LeavesGoing, standing_after, tally_after}
 use Rattle.stream_check.specs.Laws.{FreshLeft, PendingGrows, GoodLineTaken, BadLineTaken, BadTextRead, MemoryWanted, EndJudged, OverStays}
 use Rattle.stream_check.proofs.StandingLemmas.{standing_of-snoc, tally_of-snoc, same_standing}
 
@@ -41,19 +39,19 @@ joined-append a b = flat_map-append (λ block. block) a b
 joined-snoc : (blocks : List History) (block : History) → joined (blocks ++ block ∷ []) ≡ joined blocks ++ block
 joined-snoc blocks block = joined-append blocks (block ∷ []) ∙ ap (λ b. joined blocks ++ b) (append-nil block)
 
--- more bytes behind the texts of lines
+-- more bytes after the texts of lines
 text_grows : (texts bytes rest piece : List ℕ) → bytes ≡ texts ++ rest → bytes ++ piece ≡ texts ++ (rest ++ piece)
 text_grows texts bytes rest piece e = ap (λ b. b ++ piece) e ∙ append_assoc texts rest piece
 
 -- and these bytes are one line more
-line_grows : (lines : List StreamLine) (line : StreamLine) (bytes rest piece : List ℕ) → bytes ≡ flat_map text_of lines ++ rest → rest ++ piece ≡ text_of line
-    → bytes ++ piece ≡ flat_map text_of (lines ++ line ∷ []) ++ []
+line_grows : (lines : List StreamLine) (line : StreamLine) (bytes rest piece : List ℕ) → bytes ≡ flat_map line_text lines ++ rest → rest ++ piece ≡ line_text line
+    → bytes ++ piece ≡ flat_map line_text (lines ++ line ∷ []) ++ []
 line_grows lines line bytes rest piece e whole =
-    text_grows (flat_map text_of lines) bytes rest piece e
-    ∙ ap (λ t. flat_map text_of lines ++ t) whole
-    ∙ sym (append-nil (flat_map text_of (lines ++ line ∷ [])) ∙ flat_map-append text_of lines (line ∷ []) ∙ ap (λ t. flat_map text_of lines ++ t) (append-nil (text_of line)))
+    text_grows (flat_map line_text lines) bytes rest piece e
+    ∙ ap (λ t. flat_map line_text lines ++ t) whole
+    ∙ sym (append-nil (flat_map line_text (lines ++ line ∷ [])) ∙ flat_map-append line_text lines (line ∷ []) ∙ ap (λ t. flat_map line_text lines ++ t) (append-nil (line_text line)))
 
-all_snoc : (lines : List StreamLine) (line : StreamLine) → AllByRecursion Fits lines → Fits line → AllByRecursion Fits (lines ++ line ∷ [])
+all_snoc : (lines : List StreamLine) (line : StreamLine) → AllByRecursion IsWithinLimits lines → IsWithinLimits line → AllByRecursion IsWithinLimits (lines ++ line ∷ [])
 all_snoc [] line all one = (one, tt)
 all_snoc (l ∷ lines) line all one = (all.0, all_snoc lines line all.1 one)
 
@@ -61,8 +59,8 @@ all_snoc (l ∷ lines) line all one = (all.0, all_snoc lines line all.1 one)
 pub nothing_pending : TextsAreLines → EmptyCut → IsPending []
 nothing_pending texts none =
     let line = Deletion 1 [] in
-    let fits : Fits line = ((omega arith, omega arith), record { count = omega arith; each = tt }) in
-    record { begins = (text_of line, (texts (text_of line)).1 (line, (fits, refl))); whole = none.last }
+    let fits : IsWithinLimits line = ((omega arith, omega arith), record { count = omega arith; each = tt }) in
+    record { begins = (line_text line, (texts (line_text line)).1 (line, (fits, refl))); whole = none.last }
 
 pub fresh_left : TextsAreLines → EmptyCut → FreshLeft
 fresh_left texts none c now fresh =
@@ -84,7 +82,7 @@ fresh_left texts none c now fresh =
 pub pending_grows : PendingGrows
 pending_grows c bytes piece es old before pending = record {
   lines = before.lines;
-  cut = record { bytes = text_grows (flat_map text_of before.lines) bytes old.pending piece before.cut.bytes; each = before.cut.each; last = pending.whole };
+  cut = record { bytes = text_grows (flat_map line_text before.lines) bytes old.pending piece before.cut.bytes; each = before.cut.each; last = pending.whole };
   pending = pending;
   blocks = before.blocks;
   good = before.good;
@@ -131,7 +129,7 @@ good_line_taken texts none c bytes piece es block old new line before text judge
       line = taken.line ∙ ap (λ n. min (n + 1) (2 ^ 64 - 1)) before.line ∙ next_number lines line;
     }
 
--- A stream that ends in some way behind the good lines that a checker holds.
+-- A stream that ends in some way after the good lines that a checker holds.
 ends_behind : (c : Setting) (bytes piece : List ℕ) (es block : History) (back : List History) (old : Holding) (end : StreamEnd) (report : Report)
     → (before : LeavesGoing c bytes es old) → joined back ≡ block
     → EndsAfter c before.lines (old.pending ++ piece) end back report
@@ -145,7 +143,7 @@ ends_behind c bytes piece es block back old end report before one ends = record 
     front = before.blocks;
     back = back;
     split = refl;
-    begins = record { text = text_grows (flat_map text_of before.lines) bytes old.pending piece before.cut.bytes; fits = before.cut.each; good = before.good };
+    begins = record { text = text_grows (flat_map line_text before.lines) bytes old.pending piece before.cut.bytes; fits = before.cut.each; good = before.good };
     ends = ends;
   };
 }
@@ -156,8 +154,8 @@ held_report : (c : Setting) (bytes : List ℕ) (es : History) (old : Holding) (d
 held_report c bytes es old deleted ending before =
     ap (λ t. report_of t deleted (ending old.line)) before.tally ∙ ap (λ n. report_of (tally_of before.lines) deleted (ending n)) before.line
 
-whole_text : (line : StreamLine) (bytes : List ℕ) → LineText line bytes → bytes ≡ text_of line ++ []
-whole_text line bytes text = text.1 ∙ sym (append-nil (text_of line))
+whole_text : (line : StreamLine) (bytes : List ℕ) → LineText line bytes → bytes ≡ line_text line ++ []
+whole_text line bytes text = text.1 ∙ sym (append-nil (line_text line))
 
 pub bad_line_taken : BadLineTaken
 bad_line_taken c bytes piece es block old line deleted fault before text judged =
@@ -235,7 +233,7 @@ fault_stays : (rest more : List ℕ) (fault : LineFault) → HasTextFault rest f
 fault_stays rest more fault text = (text.0, text.1 ++ more, ap (λ r. r ++ more) text.2 ∙ append_assoc text.0 text.1 more, text.3)
 
 begins_longer : (c : Setting) (bytes more : List ℕ) (lines : List StreamLine) (rest : List ℕ) (front : List History) → BeginsGood c bytes lines rest front → BeginsGood c (bytes ++ more) lines (rest ++ more) front
-begins_longer c bytes more lines rest front begins = record { text = text_grows (flat_map text_of lines) bytes rest more begins.text; fits = begins.fits; good = begins.good }
+begins_longer c bytes more lines rest front begins = record { text = text_grows (flat_map line_text lines) bytes rest more begins.text; fits = begins.fits; good = begins.good }
 
 judges_longer : (c : Setting) (bytes more : List ℕ) (end other : StreamEnd) (es : History) (report : Report) → (j : Judges c bytes end es report)
     → EndsAfter c j.judges.lines (j.judges.rest ++ more) other j.judges.back report → Judges c (bytes ++ more) other es report
@@ -257,7 +255,7 @@ line_longer : (c : Setting) (lines : List StreamLine) (rest more : List ℕ) (ba
 line_longer c lines rest more back report e = record {
   line = e.line;
   more = e.more ++ more;
-  text = ap (λ r. r ++ more) e.text ∙ append_assoc (text_of e.line) e.more more;
+  text = ap (λ r. r ++ more) e.text ∙ append_assoc (line_text e.line) e.more more;
   fits = e.fits;
   block = e.block;
   one_block = e.one_block;
@@ -272,7 +270,7 @@ memory_longer c lines rest more back report e = record {
   lead = e.lead;
   ids = e.ids;
   more = e.more ++ more;
-  text = ap (λ r. r ++ more) e.text ∙ append_assoc (text_of (Deletion e.lead e.ids)) e.more more;
+  text = ap (λ r. r ++ more) e.text ∙ append_assoc (line_text (Deletion e.lead e.ids)) e.more more;
   fits = e.fits;
   block = e.block;
   one_block = e.one_block;

@@ -7,3 +7,15 @@ pub mod DroppedLemmas
 pub mod LineLemmas
 pub mod TakeLemmas
 pub mod FeedLemmas
+pub mod ForkLemmas
+pub mod AgreeLemmas
+pub mod StreamLemmas
+pub mod LegalLemmas
+pub mod ReducedLemmas
+pub mod EventLemmas
+pub mod FindingLemmas
+pub mod CutLemmas
+pub mod CountLemmas
+pub mod DeletedLemmas
+pub mod WithinLemmas
+pub mod WorkedLemmas

@@ -15,7 +15,7 @@ use Rattle.lrup_model.specs.declared.clause_map.Published.TheVariants as publish
 use Rattle.lrup_model.specs.declared.clause_map.Retired.{Retired}
 use Rattle.lrup_model.specs.declared.clause_map.Retired.TheVariants as retiring
 use Rattle.lrup_text.specs.Lines.{StreamLine, Addition, Deletion}
-use Rattle.propagate.specs.Different.{different}
+use Rattle.propagate.specs.Distinct.{distinct}
 use Rattle.stream_check.specs.declared.fault.Fault.{Fault}
 use Rattle.stream_check.specs.declared.held.Held.{Held}
 use Rattle.stream_check.specs.declared.deletion.Stop.{Stop}
@@ -92,8 +92,8 @@ ready_retires old new p q es tells quiet setting last counted ready = record {
 
 -- The place after a publish
 
-published_run : (m : State) (fetches : History) (c : Setting) (id : ℕ) (lits : List ℤ) → AllByRecursion IsFetch fetches → run m (fetches ++ published_by c id lits ∷ []) ≡ put m id (live (different lits))
-published_run m fetches c id lits quiet = run-append m fetches (published_by c id lits ∷ []) ∙ ap (λ (n : State). put n id (live (different lits))) (run-fetches m fetches quiet)
+published_run : (m : State) (fetches : History) (c : Setting) (id : ℕ) (lits : List ℤ) → AllByRecursion IsFetch fetches → run m (fetches ++ published_by c id lits ∷ []) ≡ put m id (live (distinct lits))
+published_run m fetches c id lits quiet = run-append m fetches (published_by c id lits ∷ []) ∙ ap (λ (n : State). put n id (live (distinct lits))) (run-fetches m fetches quiet)
 
 or_true : (a : Bool) → (a || true) ≡ true
 or_true true = refl
@@ -103,31 +103,31 @@ pub ready_publish : (old new : Held) (p q : Place) (es : History) (id : ℕ) (li
     → IsReady old p → IsReady new q
 ready_publish old new p q es id lits tells made setting last retired above ready =
     let c = old.setting in
-    let there : run p.own es ≡ put p.own id (live (different lits)) = ap (run p.own) made.2 ∙ published_run p.own made.0 c id lits made.1 in
-    let owned : (j : ℕ) → Owns q.caller.layout q.caller.stream j → q.own j ≡ put p.own id (live (different lits)) j =
+    let there : run p.own es ≡ put p.own id (live (distinct lits)) = ap (run p.own) made.2 ∙ published_run p.own made.0 c id lits made.1 in
+    let owned : (j : ℕ) → Owns q.caller.layout q.caller.stream j → q.own j ≡ put p.own id (live (distinct lits)) j =
     λ j theirs. tells.own j (own_before p q es j tells theirs) ∙ ap (λ (m : State). m j) there in
     record {
       at = subst (λ (x : Setting). IsAt x q) (sym setting) (still_at c p q es ready.at tells);
       vacant = λ j theirs higher.
           let over : id < j = omega (arith, higher, last) in
           let other : j ≡ id → ⊥ = λ same. omega (arith, over, same) in
-          owned j theirs ∙ put-other p.own id (live (different lits)) j other ∙ ready.vacant j (own_before p q es j tells theirs) (omega (arith, over, above));
+          owned j theirs ∙ put-other p.own id (live (distinct lits)) j other ∙ ready.vacant j (own_before p q es j tells theirs) (omega (arith, over, above));
       counted = record {
         live = id ∷ ready.counted.live;
         few = omega (arith, ready.counted.few, above, last, retired);
         all = λ j theirs alive. elim (cases_eq j id) [
           | inl same ↦ ap (λ (b : Bool). b || is_among ready.counted.live j) (eq-eqb id j (sym same))
-          | inr other ↦ ap (λ (b : Bool). id == j || b) (ready.counted.all j (own_before p q es j tells theirs) (subst IsLive (owned j theirs ∙ put-other p.own id (live (different lits)) j other) alive))
+          | inr other ↦ ap (λ (b : Bool). id == j || b) (ready.counted.all j (own_before p q es j tells theirs) (subst IsLive (owned j theirs ∙ put-other p.own id (live (distinct lits)) j other) alive))
               ∙ or_true (id == j)
         ];
       };
     }
 
-pub room_publish : (old : Held) (p q : Place) (es : History) (id : ℕ) (lits : List ℤ) → IsAt old.setting p → Tells p q es → MakesEvents old.setting id lits es None → q.room ≡ p.room - length (different lits)
+pub room_publish : (old : Held) (p q : Place) (es : History) (id : ℕ) (lits : List ℤ) → IsAt old.setting p → Tells p q es → MakesEvents old.setting id lits es None → q.room ≡ p.room - length (distinct lits)
 room_publish old p q es id lits at tells made =
     let e : Event = published_by old.setting id lits in
-    let one : spent p.caller.stream (e ∷ []) ≡ length (different lits) = spent_one p.caller.stream e (sym at.stream) in
-    let all : spent p.caller.stream es ≡ length (different lits) =
+    let one : spent p.caller.stream (e ∷ []) ≡ length (distinct lits) = spent_one p.caller.stream e (sym at.stream) in
+    let all : spent p.caller.stream es ≡ length (distinct lits) =
     ap (spent p.caller.stream) made.2 ∙ spent-append p.caller.stream made.0 (e ∷ []) ∙ omega (arith, spent-fetches p.caller.stream made.0 made.1, one) in
     omega (arith, tells.room, all)
 
@@ -162,7 +162,7 @@ pub record Adds (old new : Held) (id : ℕ) (is_empty : Bool) : Type 0 where
   pub retired : new.retired ≡ old.retired
 
 pub takes_addition : (old new : Held) (free left : ℕ) (id : ℕ) (lits : List ℤ) (hints : List ℕ) (es : History) (is_empty : Bool) → Adds old new id is_empty
-    → is_empty ≡ (length lits == 0) → left ≡ free - length (different lits)
+    → is_empty ≡ (length lits == 0) → left ≡ free - length (distinct lits)
     → JudgesAddition old.setting (standing_at old free) id lits hints es Good → TakesBy old free new left (Addition id lits hints) es None
 takes_addition old new free left id lits hints es is_empty adds is room judged =
     let line : StreamLine = Addition id lits hints in (

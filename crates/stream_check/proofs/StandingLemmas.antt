@@ -1,15 +1,15 @@
 -- What one good line more leaves.
-use Rattle.std.proofs.Common.{◌≡◌, ◌+◌, ◌-◌, ◌<◌, ◌≤◌, ◌&&◌, ◌||◌, ℕ, ℤ, Bool, true, false, max, List, [], ◌∷◌, ◌++◌, length, inl, inr, refl, sym, ap, subst, ◌∙◌, arith, append_assoc, append-nil}
+use Rattle.std.proofs.Common.{◌≡◌, ◌<◌, ◌&&◌, ◌||◌, ℕ, ℤ, Bool, true, false, max, List, [], ◌∷◌, ◌++◌, length, inl, inr, refl, sym, ap, ◌∙◌, arith}
 use mathlib.Core.Path.{fun_ext}
-use Rattle.std.specs.List.{list_any, sum_by}
+use Rattle.std.specs.List.{list_any}
 use Rattle.std.proofs.lemmas.List.Folds.{list_any-append}
 use Rattle.std.proofs.lemmas.List.Sums.{sum_by-append}
 use Rattle.lrup_model.specs.Layout.{LayoutValue}
 use Rattle.lrup_model.specs.Event.{History}
 use Rattle.lrup_text.specs.Lines.{StreamLine, Addition, Deletion}
 use Rattle.stream_check.specs.Setting.{Setting, side_of, is_shared}
-use Rattle.stream_check.specs.Standing.{Standing, Tally, last_in, size_of, deleted_by, added_by, adds_empty, is_among, is_gone, standing_of, tally_of}
-use Rattle.stream_check.specs.Verdicts.{Verdict, Good, Bad}
+use Rattle.stream_check.specs.Standing.{Standing, Tally, last_in, size_of, deleted_by, added_by, adds_empty, is_among, standing_of, tally_of}
+use Rattle.stream_check.specs.Verdicts.{Good, Bad}
 use Rattle.stream_check.specs.Judging.{JudgesLine}
 use Rattle.stream_check.specs.Leaving.{SameStanding, standing_after, tally_after, last_after}
 
@@ -25,10 +25,10 @@ last_in-snoc_deletion p (Addition j ls hs ∷ lines) lead ids = ap (max j) (last
 last_in-snoc_deletion p (Deletion l is ∷ lines) lead ids = last_in-snoc_deletion p lines lead ids
 
 -- a good addition has an identity above those before it
-last_below : (c : Setting) (st : Standing) (id : ℕ) (lits : List ℤ) (hints : List ℕ) (es : History) → JudgesLine c st (Addition id lits hints) es Good → st.last < id
+pub last_below : (c : Setting) (st : Standing) (id : ℕ) (lits : List ℤ) (hints : List ℕ) (es : History) → JudgesLine c st (Addition id lits hints) es Good → st.last < id
 last_below c st id lits hints es j = elim j [ inl bad ↦ absurd (let e : Good ≡ Bad 0 _ = bad.1.1 in cc) | inr next ↦ next.0.1 ]
 
-same_last : (c : Setting) (lines : List StreamLine) (line : StreamLine) (es : History) → JudgesLine c (standing_of c lines) line es Good → last_in c.layout (lines ++ line ∷ []) ≡ last_after (last_in c.layout lines) line
+pub same_last : (c : Setting) (lines : List StreamLine) (line : StreamLine) (es : History) → JudgesLine c (standing_of c lines) line es Good → last_in c.layout (lines ++ line ∷ []) ≡ last_after (last_in c.layout lines) line
 same_last c lines (Addition id lits hints) es j =
     let below = last_below c (standing_of c lines) id lits hints es j in
     omega (arith, last_in-snoc c.layout lines id lits hints, below)

@@ -4,7 +4,6 @@ use Rattle.lrup_model.specs.Event.{History}
 use Rattle.lrup_text.specs.Lines.{StreamLine, Deletion, LineText, IsPending}
 use Rattle.lrup_text.specs.declared.LineFault.{LineFault}
 use Rattle.lrup_text.specs.Faults.{IsRefused}
-use Rattle.lrup_text.proofs.Streams.{texts_are_lines, empty_cut}
 use Rattle.stream_check.specs.declared.fault.Fault.{Fault}
 use Rattle.stream_check.specs.declared.fault.Fault.TheVariants as faults
 use Rattle.stream_check.specs.declared.report.Ending.{Ending}
@@ -20,7 +19,8 @@ use Rattle.stream_check.specs.Judging.{report_of}
 use Rattle.stream_check.specs.Leaving.{Going, Over, CheckerState, Leaves}
 use Rattle.stream_check.specs.Checker.{tally_at, report_at, LeavesOn}
 use Rattle.stream_check.specs.Taking.{hold, DeletesMore, TakesBy, Takes, taken_of, ending_of}
-use Rattle.stream_check.proofs.LeavingLemmas.{pending_grows, good_line_taken, bad_line_taken, bad_text_read, memory_wanted}
+use Rattle.stream_check.specs.Laws.{GoodLineTaken}
+use Rattle.stream_check.proofs.LeavingLemmas.{pending_grows, bad_line_taken, bad_text_read, memory_wanted}
 
 -- the report after a line that stopped: what it deleted is counted already
 report_is : (old new : Held) (count : ℕ) (ending : ℕ → Ending) → DeletesMore old new count → report_of (tally_at old) count (ending old.line) ≡ report_at (tally_at new) (ending new.line)
@@ -32,16 +32,16 @@ report_is old new count ending more =
     ∙ ap (λ n. made new.added (tally_at new).deleted new.empty (ending n)) (sym more.line)
 
 -- a line that ends after so many bytes
-pub takes_line : (old new : Held) (free left : ℕ) (read piece : List ℕ) (used : ℕ) (line : StreamLine) (es : History) (stop : Option Stop)
+pub takes_line : GoodLineTaken → (old new : Held) (free left : ℕ) (read piece : List ℕ) (used : ℕ) (line : StreamLine) (es : History) (stop : Option Stop)
     → LineText line (read ++ take used piece) → TakesBy old free new left line es stop → Takes old read free piece es (taken_of used stop) new left
-takes_line old new free left read piece used line es None text takes = (
-  λ bytes before leaves. good_line_taken texts_are_lines empty_cut old.setting bytes (take used piece) before es (hold old read free) (hold new [] left) line leaves text takes.0 (takes.1 read),
+takes_line law old new free left read piece used line es None text takes = (
+  λ bytes before leaves. law old.setting bytes (take used piece) before es (hold old read free) (hold new [] left) line leaves text takes.0 (takes.1 read),
   (line, text),
 )
-takes_line old new free left read piece used line es (Some (stops.Bad fault)) text takes = λ bytes before leaves.
+takes_line law old new free left read piece used line es (Some (stops.Bad fault)) text takes = λ bytes before leaves.
     subst (λ (r : Report). Leaves old.setting (bytes ++ take used piece) (before ++ es) (Over r)) (report_is old new takes.0 (λ n. endings.Bad n fault) takes.2)
     (bad_line_taken old.setting bytes (take used piece) before es (hold old read free) line takes.0 fault leaves text takes.1)
-takes_line old new free left read piece used line es (Some stops.Memory) text takes = λ bytes before leaves.
+takes_line law old new free left read piece used line es (Some stops.Memory) text takes = λ bytes before leaves.
     subst (λ (r : Report). Leaves old.setting (bytes ++ take used piece) (before ++ es) (Over r)) (report_is old new (length takes.2) (λ n. endings.Memory n) takes.5)
     (memory_wanted old.setting bytes (take used piece) before es (hold old read free) takes.0 takes.1 takes.2 leaves (subst (λ (l : StreamLine). LineText l (read ++ take used piece)) takes.3 text) takes.4)
 

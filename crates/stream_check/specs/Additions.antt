@@ -7,7 +7,7 @@ use Rattle.lrup_model.specs.Event as events
 use Rattle.lrup_model.specs.Event.{Event, History, Reply}
 use Rattle.lrup_model.specs.Propagation.{IsConflict, IsUnit}
 use Rattle.lrup_model.specs.declared.clause_map.Published.TheVariants as publishing
-use Rattle.propagate.specs.Different.{different}
+use Rattle.propagate.specs.Distinct.{distinct}
 use Rattle.stream_check.specs.declared.fault.Fault.TheVariants as faults
 use Rattle.stream_check.specs.Setting.{Setting}
 use Rattle.stream_check.specs.Standing.{Standing}
@@ -41,7 +41,7 @@ JudgesHints c gone published n (h ∷ hints) es v =
 
 -- the publish of an addition that is good
 abbrev pub published_by : Setting → ℕ → List ℤ → Event
-published_by c id lits = events.publish c.stream id (different lits) publishing.Done
+published_by c id lits = events.publish c.stream id (distinct lits) publishing.Done
 
 -- an addition's events and its verdict, after the lines that left this standing
 abbrev pub JudgesAddition : Setting → Standing → ℕ → List ℤ → List ℕ → History → Verdict → Type 0
@@ -49,5 +49,5 @@ JudgesAddition c st id lits hints es v =
     Test (Owns c.layout c.stream id × (st.last < id)) faults.Identity es v
     (Test (AllByRecursion (λ l. nat_abs l ≤ c.layout.vars) lits) faults.Literal es v
     (Test (¬ IsTautology lits) faults.Tautology es v
-    (Test (length (different lits) ≤ st.free) faults.NoRoom es v
-    (JudgesHints c st.gone (published_by c id lits) (different lits) hints es v))))
+    (Test (length (distinct lits) ≤ st.free) faults.NoRoom es v
+    (JudgesHints c st.gone (published_by c id lits) (distinct lits) hints es v))))

@@ -7,7 +7,7 @@ use Rattle.lrup_model.specs.Layout.{LayoutValue, Owns}
 use Rattle.lrup_model.specs.Place.{Place, IsVacantAbove}
 use Rattle.lrup_text.specs.Feeding.{ReaderState}
 use Rattle.lrup_text.specs.Lines.{StreamLine, Cut, IsPending, LineText}
-use Rattle.propagate.specs.Different.{different}
+use Rattle.propagate.specs.Distinct.{distinct}
 use Rattle.propagate.specs.Marks.{Propagation}
 use Rattle.stream_check.specs.declared.fault.Fault.{Fault}
 use Rattle.stream_check.specs.declared.report.Ending.{Ending}
@@ -47,16 +47,16 @@ pub record KeepsLines (old new : Held) : Type 0 where
 pub record Admits (c : Setting) (st : Standing) (id : ℕ) (lits : List ℤ) (marks : Propagation) : Type 0 where
   pub owns : Owns c.layout c.stream id
   pub above : st.last < id
-  pub fits : length (different lits) ≤ st.free
-  pub clause : IsClause c.layout.vars (different lits)
-  pub consistent : ¬ IsTautology (different lits)
-  pub marks_are : marks ≡ record { vars = c.layout.vars; clause = different lits; falses = different lits; ready = true }
+  pub fits : length (distinct lits) ≤ st.free
+  pub clause : IsClause c.layout.vars (distinct lits)
+  pub consistent : ¬ IsTautology (distinct lits)
+  pub marks_are : marks ≡ record { vars = c.layout.vars; clause = distinct lits; falses = distinct lits; ready = true }
 
 -- the tests before the hints: they hold, and the hints decide, or one fails
 abbrev pub AdmitsBy : Setting → Standing → ℕ → List ℤ → Propagation → Option Fault → Type 0
 AdmitsBy c st id lits marks None =
     Admits c st id lits marks
-    × ((hints : List ℕ) (es : History) (v : Verdict) → JudgesHints c st.gone (published_by c id lits) (different lits) hints es v → JudgesAddition c st id lits hints es v)
+    × ((hints : List ℕ) (es : History) (v : Verdict) → JudgesHints c st.gone (published_by c id lits) (distinct lits) hints es v → JudgesAddition c st id lits hints es v)
 AdmitsBy c st id lits marks (Some fault) = (hints : List ℕ) → JudgesAddition c st id lits hints [] (Bad 0 fault)
 
 -- the text that a reader has read of a line

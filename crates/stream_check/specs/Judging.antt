@@ -4,7 +4,7 @@ use Rattle.std.specs.List.{AllByRecursion, flat_map}
 use Rattle.lrup_model.specs.Event.{History}
 use Rattle.lrup_text.specs.declared.LineFault.TheVariants as texts
 use Rattle.lrup_text.specs.declared.LineFault.{LineFault}
-use Rattle.lrup_text.specs.Lines.{StreamLine, Addition, Deletion, Fits, text_of, IsPending}
+use Rattle.lrup_text.specs.Lines.{StreamLine, Addition, Deletion, IsWithinLimits, line_text, IsPending}
 use Rattle.lrup_text.specs.Faults.{HasTextFault}
 use Rattle.stream_check.specs.declared.fault.Fault.{Fault}
 use Rattle.stream_check.specs.declared.fault.Fault.TheVariants as faults
@@ -35,20 +35,20 @@ joined blocks = flat_map (λ block. block) blocks
 
 -- the bytes are the texts of good lines, and a rest
 pub record BeginsGood (c : Setting) (bytes : List ℕ) (lines : List StreamLine) (rest : List ℕ) (blocks : List History) : Type 0 where
-  pub text : bytes ≡ flat_map text_of lines ++ rest
-  pub fits : AllByRecursion Fits lines
+  pub text : bytes ≡ flat_map line_text lines ++ rest
+  pub fits : AllByRecursion IsWithinLimits lines
   pub good : AreGood c [] lines blocks
 
 -- the report after these counts, some more deleted identities, and this ending
 abbrev pub report_of : Tally → ℕ → Ending → Report
 report_of t deleted ending = record { added = t.added; deleted = t.deleted + deleted; empty = t.empty; ending = ending }
 
--- Behind good lines: a line that is bad, whatever follows it.
+-- After good lines: a line that is bad, whatever follows it.
 pub record EndsAtLine (c : Setting) (lines : List StreamLine) (rest : List ℕ) (blocks : List History) (report : Report) : Type 0 where
   pub line : StreamLine
   pub more : List ℕ
-  pub text : rest ≡ text_of line ++ more
-  pub fits : Fits line
+  pub text : rest ≡ line_text line ++ more
+  pub fits : IsWithinLimits line
   pub block : History
   pub one_block : blocks ≡ block ∷ []
   pub deleted : ℕ
@@ -56,20 +56,20 @@ pub record EndsAtLine (c : Setting) (lines : List StreamLine) (rest : List ℕ) 
   pub bad : JudgesLine c (standing_of c lines) line block (Bad deleted fault)
   pub says : report ≡ report_of (tally_of lines) deleted (endings.Bad (line_number (length lines)) fault)
 
--- Behind good lines: a text that begins no line, whatever follows it.
+-- After good lines: a text that begins no line, whatever follows it.
 pub record EndsAtText (lines : List StreamLine) (rest : List ℕ) (blocks : List History) (report : Report) : Type 0 where
   pub fault : LineFault
   pub text : HasTextFault rest fault
   pub no_block : blocks ≡ []
   pub says : report ≡ report_of (tally_of lines) 0 (endings.Bad (line_number (length lines)) (faults.Text fault))
 
--- Behind good lines: a deletion that stopped for want of memory, whatever follows it.
+-- After good lines: a deletion that stopped for want of memory, whatever follows it.
 pub record EndsAtMemory (c : Setting) (lines : List StreamLine) (rest : List ℕ) (blocks : List History) (report : Report) : Type 0 where
   pub lead : ℕ
   pub ids : List ℕ
   pub more : List ℕ
-  pub text : rest ≡ text_of (Deletion lead ids) ++ more
-  pub fits : Fits (Deletion lead ids)
+  pub text : rest ≡ line_text (Deletion lead ids) ++ more
+  pub fits : IsWithinLimits (Deletion lead ids)
   pub block : History
   pub one_block : blocks ≡ block ∷ []
   pub earlier : List ℕ
@@ -87,7 +87,7 @@ ending_at ended [] number = endings.Ended
 ending_at ended (byte ∷ bytes) number = endings.Bad number (faults.Text texts.Truncated)
 ending_at failed rest number = endings.ReadFailed number
 
--- Behind good lines: the end of the stream, with a rest that may still become a line.
+-- After good lines: the end of the stream, with a rest that may still become a line.
 pub record EndsAtEnd (lines : List StreamLine) (rest : List ℕ) (end : StreamEnd) (blocks : List History) (report : Report) : Type 0 where
   pub pending : IsPending rest
   pub no_block : blocks ≡ []

@@ -1,17 +1,30 @@
 -- Laws of judging. Each is the contract of a function of laws.
-use Rattle.std.specs.Prelude.{◌≡◌, ◌++◌, ℕ, List, [], ◌∷◌, length}
-use Rattle.lrup_model.specs.Event.{History}
+use Rattle.std.specs.Prelude.{◌≡◌, ◌↔◌, ◌≤◌, ◌++◌, ℕ, ℤ, Bool, IsTrue, List, [], ◌∷◌, map, length}
+use Rattle.std.specs.List.{AllByRecursion}
+use Rattle.lrup_model.specs.Formula.{Cnf}
+use Rattle.lrup_model.specs.Entailment.{Follows}
+use Rattle.lrup_model.specs.Layout.{LayoutValue, last_identity}
+use Rattle.lrup_model.specs.State.{State}
+use Rattle.lrup_model.specs.History.{LegalFrom, IsLegal}
+use Rattle.lrup_model.specs.Event as events
+use Rattle.lrup_model.specs.Event.{Event, History, stream_of, own}
 use Rattle.lrup_text.specs.declared.LineFault.{LineFault}
-use Rattle.lrup_text.specs.Lines.{StreamLine, Deletion, LineText, IsPending}
+use Rattle.lrup_text.specs.Lines.{StreamLine, Addition, Deletion, Cut, LineText, IsPending}
 use Rattle.lrup_text.specs.Faults.{IsRefused}
 use Rattle.stream_check.specs.declared.fault.Fault.{Fault}
 use Rattle.stream_check.specs.declared.fault.Fault.TheVariants as faults
 use Rattle.stream_check.specs.declared.report.Ending.TheVariants as endings
 use Rattle.stream_check.specs.declared.report.Report.{Report}
 use Rattle.stream_check.specs.Setting.{Setting}
-use Rattle.stream_check.specs.Verdicts.{Good, Bad}
 use Rattle.stream_check.specs.Deletions.{StopsDeletion}
-use Rattle.stream_check.specs.Judging.{JudgesLine, report_of, StreamEnd, ending_at, Judges}
+use Rattle.stream_check.specs.Judging.{JudgesLine, joined, report_of, StreamEnd, ending_at, JudgesBlocks, Judges}
+use Rattle.stream_check.specs.Forks.{NeverFork}
+use Rattle.propagate.specs.Distinct.{distinct}
+use Rattle.stream_check.specs.Standing.{Standing}
+use Rattle.stream_check.specs.Additions.{JudgesAddition}
+use Rattle.stream_check.specs.Reducing.{reduced, IsEarly, TriesAgain}
+use Rattle.stream_check.specs.Finding.{IsGoodAddition, FindsSound}
+use Rattle.stream_check.specs.Verdicts.{Verdict, Good, Bad}
 use Rattle.stream_check.specs.Leaving.{Holding, Going, Over, Leaves, IsFresh, TakesLine}
 
 -- What a checker is left as, step by step
@@ -63,3 +76,108 @@ EndJudged = (c : Setting) (bytes : List ℕ) (es : History) (old : Holding) (end
 abbrev pub OverStays : Type 0
 OverStays = (c : Setting) (bytes more : List ℕ) (es : History) (report : Report)
     → Leaves c bytes es (Over report) → Leaves c (bytes ++ more) es (Over report)
+
+-- One report
+
+-- the report tells of want of memory
+abbrev pub IsOfMemory : Report → Type 0
+IsOfMemory report = (line : ℕ) × (report.ending ≡ endings.Memory line)
+
+-- a stream's bytes, end and events have one report at most, and one list of blocks, but for want of memory
+abbrev pub OneReport : Type 0
+OneReport = (c : Setting) (bytes : List ℕ) (end : StreamEnd) (blocks others : List History) (report other : Report)
+    → joined blocks ≡ joined others
+    → JudgesBlocks c bytes end blocks report → JudgesBlocks c bytes end others other
+    → ¬ IsOfMemory report → ¬ IsOfMemory other
+    → (blocks ≡ others) × (report ≡ other)
+
+-- replies decide: events that never fork are judged alike
+abbrev pub RepliesDecide : Type 0
+RepliesDecide = (c : Setting) (bytes : List ℕ) (end : StreamEnd) (blocks others : List History) (report other : Report)
+    → NeverFork (joined blocks) (joined others)
+    → JudgesBlocks c bytes end blocks report → JudgesBlocks c bytes end others other
+    → ¬ IsOfMemory report → ¬ IsOfMemory other
+    → (blocks ≡ others) × (report ≡ other)
+
+-- legal histories never fork
+abbrev pub LegalNeverFork : Type 0
+LegalNeverFork = (f : Cnf) (p : LayoutValue) (m : State) (g h : History) → LegalFrom f p m g → LegalFrom f p m h → NeverFork g h
+
+-- so one stream alone has one report, whatever legal history it has
+abbrev pub AloneDecides : Type 0
+AloneDecides = (f : Cnf) (p : LayoutValue) (c : Setting) (bytes : List ℕ) (end : StreamEnd) (g h : History) (report other : Report)
+    → IsLegal f p g → IsLegal f p h
+    → Judges c bytes end g report → Judges c bytes end h other
+    → ¬ IsOfMemory report → ¬ IsOfMemory other
+    → (g ≡ h) × (report ≡ other)
+
+-- Good additions
+
+-- an addition is good exactly if its hints were found and the clauses found accept its clause
+abbrev pub GoodExactlyIf : Type 0
+GoodExactlyIf = (c : Setting) (st : Standing) (id : ℕ) (lits : List ℤ) (hints : List ℕ) (es : History)
+    → JudgesAddition c st id lits hints es Good ↔ IsGoodAddition c st id lits hints es
+
+-- so its clause follows from the formula where the clauses found do
+abbrev pub GoodFollows : Type 0
+GoodFollows = (f : Cnf) (c : Setting) (st : Standing) (id : ℕ) (lits : List ℤ) (hints : List ℕ) (es : History)
+    → JudgesAddition c st id lits hints es Good → AllByRecursion (FindsSound f) es → Follows f (distinct lits)
+
+-- The events of a line
+
+-- all events of a line are calls of its stream
+abbrev pub LineCalls : Type 0
+LineCalls = (c : Setting) (st : Standing) (line : StreamLine) (es : History) (v : Verdict)
+    → JudgesLine c st line es v → AllByRecursion (λ e. stream_of e ≡ c.stream) es
+
+-- before a line's last event there are only fetches, and retires with Done
+abbrev pub EarlyEvents : Type 0
+EarlyEvents = (c : Setting) (st : Standing) (line : StreamLine) (es front : History) (last : Event) (v : Verdict)
+    → JudgesLine c st line es v → es ≡ front ++ last ∷ [] → AllByRecursion IsEarly front
+
+-- in a line a vacant fetch is the last event, or the same identity is fetched again
+abbrev pub VacantTriesAgain : Type 0
+VacantTriesAgain = (c : Setting) (st : Standing) (line : StreamLine) (es : History) (v : Verdict) → JudgesLine c st line es v → TriesAgain es
+
+-- a line without the vacant fetches of the hints that it found is judged alike
+abbrev pub ReducedLine : Type 0
+ReducedLine = (c : Setting) (st : Standing) (line : StreamLine) (es : History) (v : Verdict) → JudgesLine c st line es v → JudgesLine c st line (reduced es) v
+
+-- and so is a stream
+abbrev pub ReducedStream : Type 0
+ReducedStream = (c : Setting) (bytes : List ℕ) (end : StreamEnd) (blocks : List History) (report : Report)
+    → JudgesBlocks c bytes end blocks report → JudgesBlocks c bytes end (map reduced blocks) report
+
+-- What hints cite
+
+-- the hints of an addition
+abbrev pub hints_of : StreamLine → List ℕ
+hints_of (Addition id lits hints) = hints
+hints_of (Deletion lead ids) = []
+
+-- a fetch is of an identity that passes the test
+abbrev pub FetchesOnly : (ℕ → Bool) → Event → Type 0
+FetchesOnly p (events.fetch s id r) = IsTrue (p id)
+FetchesOnly p (events.publish s id c r) = Unit {0}
+FetchesOnly p (events.retire s id r) = Unit {0}
+
+-- the lines that a stream is judged by are the first of those that its bytes are cut into
+abbrev pub JudgedLinesCut : Type 0
+JudgedLinesCut = (c : Setting) (bytes : List ℕ) (end : StreamEnd) (blocks : List History) (report : Report) (all : List StreamLine) (rest : List ℕ)
+    → (j : JudgesBlocks c bytes end blocks report) → Cut bytes all rest → (more : List StreamLine) × (all ≡ j.lines ++ more)
+
+-- a stream fetches no identity but the hints of its lines: where all hints pass a test, so does what it fetches
+abbrev pub HintsFetched : Type 0
+HintsFetched = (c : Setting) (bytes : List ℕ) (end : StreamEnd) (blocks : List History) (report : Report) (all : List StreamLine) (rest : List ℕ) (p : ℕ → Bool)
+    → JudgesBlocks c bytes end blocks report → Cut bytes all rest
+    → AllByRecursion (λ line. AllByRecursion (λ h. IsTrue (p h)) (hints_of line)) all
+    → AllByRecursion (FetchesOnly p) (joined blocks)
+
+-- Counts
+
+-- In a legal history a stream adds and deletes no more than there are identities.
+abbrev pub CountsWithin : Type 0
+CountsWithin = (f : Cnf) (c : Setting) (h : History) (bytes : List ℕ) (end : StreamEnd) (blocks : List History) (report : Report)
+    → IsLegal f c.layout h → own h c.stream ≡ joined blocks
+    → JudgesBlocks c bytes end blocks report
+    → (report.added ≤ last_identity c.layout) × (report.deleted ≤ last_identity c.layout)

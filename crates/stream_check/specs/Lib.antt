@@ -11,4 +11,8 @@ pub mod Checking
 pub mod CheckerValue
 pub mod Checker
 pub mod Taking
+pub mod Forks
+pub mod Reducing
+pub mod Finding
 pub mod Laws
+pub mod Worked

@@ -3,7 +3,7 @@ use Rattle.std.specs.Prelude.{◌==◌, ◌+◌, ◌-◌, ◌^◌, ◌&&◌, ℕ
 use Rattle.std.specs.List.{list_any, sum_by}
 use Rattle.lrup_model.specs.Layout.{LayoutValue}
 use Rattle.lrup_text.specs.Lines.{StreamLine, Addition, Deletion}
-use Rattle.propagate.specs.Different.{different}
+use Rattle.propagate.specs.Distinct.{distinct}
 use Rattle.stream_check.specs.Setting.{Setting, side_of, is_shared}
 
 -- the greatest identity that was added, the room that is left, in literals, and the identities that were dropped
@@ -20,7 +20,7 @@ last_in p (Deletion lead ids ∷ lines) = last_in p lines
 
 -- the size of the clause that a line adds
 abbrev pub size_of : StreamLine → ℕ
-size_of (Addition id lits hints) = length (different lits)
+size_of (Addition id lits hints) = length (distinct lits)
 size_of (Deletion lead ids) = 0
 
 -- the identities that a line deletes

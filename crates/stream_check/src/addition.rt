@@ -6,7 +6,7 @@ ghost use Rattle.lrup_model.specs.Literal.{IsLiteral, max_variable};
 ghost use Rattle.lrup_model.specs.Event.{History};
 ghost use Rattle.lrup_model.specs.History.{max_line_literals};
 ghost use Rattle.lrup_model.specs.Place.{IsVacantAbove};
-ghost use Rattle.lrup_text.specs.Lines.{IsNonzero};
+ghost use Rattle.lrup_text.specs.Lines.{IsStreamLiteral};
 ghost use Rattle.stream_check.specs.Additions.{JudgesAddition};
 ghost use Rattle.stream_check.specs.Checking.{IsAt, verdict_of, MakesEvents};
 ghost use Rattle.stream_check.specs.Checker.{standing_at, AdmitsBy};
@@ -51,7 +51,7 @@ impl Buffers {
         requires at { IsAt held.now.setting (M.place map.now) }
         requires variables { held.now.setting.layout.vars ≡ self.old.vars }
         requires count { length lits.now ≤ max_line_literals }
-        requires nonzero { AllByRecursion IsNonzero lits.now }
+        requires nonzero { AllByRecursion IsStreamLiteral lits.now }
         ensures vars { self.new.vars ≡ self.old.vars }
         ensures admitted { AdmitsBy held.now.setting (standing_at held.now (M.place map.now).room) id lits.now self.new.marks result }
     {
@@ -85,7 +85,7 @@ impl Buffers {
         requires tries { held.now.setting.tries < 2 ^ 63 }
         requires vacant { IsVacantAbove (M.place map.old) held.now.last }
         requires count { length lits.now ≤ max_line_literals }
-        requires nonzero { AllByRecursion IsNonzero lits.now }
+        requires nonzero { AllByRecursion IsStreamLiteral lits.now }
         ensures vars { self.new.vars ≡ self.old.vars }
         ensures judged { (es : History) × M.moves map.old map.new es × MakesEvents held.now.setting id lits.now es result × JudgesAddition held.now.setting (standing_at held.now (M.place map.old).room) id lits.now hints.now es (verdict_of result) }
     {

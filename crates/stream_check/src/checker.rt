@@ -9,6 +9,7 @@ use crate::addition::Buffers;
 use crate::fault::Fault;
 use crate::gate::Gate;
 use crate::held::Held;
+use crate::laws::fresh_left;
 use crate::line::{Taken, take_line};
 use crate::progress::{Progress, Turn};
 use crate::report::{Ending, Report};
@@ -53,6 +54,7 @@ impl Checker {
         requires tries { tries ≤ 1000000 }
         ensures { IfOk result (IsNew layout.now stream tries) }
     {
+        fresh_left();
         Ok(Checker {
             held: Held::new(alloc, layout, stream, tries),
             buffers: Buffers::new(alloc, layout.vars())?,

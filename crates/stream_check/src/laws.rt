@@ -1,7 +1,11 @@
 //! Laws of judging. Each function does nothing; its contract is the law, which holds of every stream, layout and history.
-ghost use Rattle.stream_check.specs.Laws.{FreshLeft, PendingGrows, GoodLineTaken, BadLineTaken, BadTextRead, MemoryWanted, EndJudged, OverStays};
+ghost use Rattle.stream_check.specs.Laws.{FreshLeft, PendingGrows, GoodLineTaken, BadLineTaken, BadTextRead, MemoryWanted, EndJudged, OverStays, OneReport, RepliesDecide, LegalNeverFork, AloneDecides, GoodExactlyIf, GoodFollows, LineCalls, EarlyEvents, VacantTriesAgain, ReducedLine, ReducedStream, JudgedLinesCut, HintsFetched, CountsWithin};
 
-use lrup_text::laws::{no_bytes_have_no_lines, texts_are_lines};
+use lrup_model::laws::propagation_sound;
+use lrup_text::laws::{
+    a_text_has_one_fault, a_text_spells_one_line, no_bytes_have_no_lines, no_text_begins_another,
+    texts_are_lines,
+};
 
 /// No bytes and no events leave a checker fresh.
 pub fn fresh_left()
@@ -47,4 +51,101 @@ pub fn end_judged()
 /// A checker that is over stays as it is, whatever follows.
 pub fn over_stays()
     ensures { OverStays }
+{}
+
+/// A stream's bytes, end and events have one report and one list of blocks, but for want of memory.
+pub fn one_report()
+    ensures { OneReport }
+{
+    a_text_spells_one_line();
+    no_text_begins_another();
+    texts_are_lines();
+    a_text_has_one_fault();
+}
+
+/// Where the same call, after the same events, never has another reply, a stream is judged alike.
+pub fn replies_decide()
+    ensures { RepliesDecide }
+{
+    a_text_spells_one_line();
+    no_text_begins_another();
+    texts_are_lines();
+    a_text_has_one_fault();
+}
+
+/// In legal histories the same call, after the same events, never has another reply.
+pub fn legal_never_fork()
+    ensures { LegalNeverFork }
+{}
+
+/// So a stream that is alone has one report, but for want of memory.
+pub fn alone_decides()
+    ensures { AloneDecides }
+{
+    a_text_spells_one_line();
+    no_text_begins_another();
+    texts_are_lines();
+    a_text_has_one_fault();
+}
+
+/// An addition is good exactly if its hints were found and the clauses found accept its clause.
+pub fn good_exactly_if()
+    ensures { GoodExactlyIf }
+{}
+
+/// The clause of a good addition follows from the formula where the clauses that its hints found do.
+pub fn good_follows()
+    ensures { GoodFollows }
+{
+    propagation_sound();
+}
+
+/// All events of a line are calls of its stream.
+pub fn line_calls()
+    ensures { LineCalls }
+{}
+
+/// Before a line's last event there are only fetches, and retires with Done.
+pub fn early_events()
+    ensures { EarlyEvents }
+{}
+
+/// A vacant fetch is a line's last event, or the same identity is fetched again.
+pub fn vacant_tries_again()
+    ensures { VacantTriesAgain }
+{}
+
+/// A line without the vacant fetches of the hints that it found is judged alike.
+pub fn reduced_line()
+    ensures { ReducedLine }
+{}
+
+/// A stream without the vacant fetches of the hints that its lines found is judged alike.
+pub fn reduced_stream()
+    ensures { ReducedStream }
+{}
+
+/// The lines that a stream is judged by are the first of those that its bytes are cut into.
+pub fn judged_lines_cut()
+    ensures { JudgedLinesCut }
+{
+    a_text_spells_one_line();
+    no_text_begins_another();
+    texts_are_lines();
+    a_text_has_one_fault();
+}
+
+/// A stream fetches no identity but the hints of its lines.
+pub fn hints_fetched()
+    ensures { HintsFetched }
+{
+    a_text_spells_one_line();
+    no_text_begins_another();
+    texts_are_lines();
+    a_text_has_one_fault();
+}
+
+/// In a legal history a stream adds and deletes no more than there are identities.
+pub fn counts_within()
+    ensures { CountsWithin }
 {}

@@ -1,7 +1,7 @@
 //! The line that stands next in a piece.
 ghost use Rattle.std.specs.Prelude.{◌≡◌, ◌≤◌, ◌<◌, ◌^◌, ℕ, Ok, take, length};
 ghost use Rattle.lrup_model.specs.Event.{History};
-ghost use Rattle.lrup_text.specs.Lines.{Fits, Addition, Deletion};
+ghost use Rattle.lrup_text.specs.Lines.{IsWithinLimits, Addition, Deletion};
 ghost use Rattle.stream_check.specs.Checker.{read_of};
 ghost use Rattle.stream_check.specs.Taking.{IsReady, TakesBy, Takes, ReadsOn, taken_of, ending_of};
 
@@ -10,6 +10,7 @@ use crate::deletion::{Stop, delete};
 use crate::fault::Fault;
 use crate::gate::Gate;
 use crate::held::Held;
+use crate::laws::good_line_taken;
 use crate::report::Ending;
 use lrup_model::{ClauseMap, Id};
 use lrup_text::{Line, LineReader, Turn};
@@ -50,7 +51,7 @@ fn take_addition<M: ClauseMap, G: Gate>(
     requires ready { IsReady held.old (M.place map.old) }
     requires variables { held.old.setting.layout.vars ≡ buffers.old.vars }
     requires tries { held.old.setting.tries < 2 ^ 63 }
-    requires fits { Fits (Addition id lits.now hints.now) }
+    requires fits { IsWithinLimits (Addition id lits.now hints.now) }
     ensures taken { (es : History) × M.moves map.old map.new es × TakesBy held.old (M.place map.old).room held.new (M.place map.new).room (Addition id lits.now hints.now) es result }
     ensures ready { IsReady held.new (M.place map.new) }
     ensures setting { held.new.setting ≡ held.old.setting }
@@ -106,6 +107,7 @@ pub fn take_line<M: ClauseMap, G: Gate>(
     ensures setting { held.new.setting ≡ held.old.setting }
     ensures variables { buffers.new.vars ≡ buffers.old.vars }
 {
+    good_line_taken();
     let fed = reader.feed(piece);
     let used = fed.used;
     match fed.turn {

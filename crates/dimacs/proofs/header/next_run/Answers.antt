@@ -1,6 +1,6 @@
 use Rattle.std.proofs.Common.{List, ℕ, ap, sym, ◌∙◌}
 use Rattle.dimacs.specs.Lines.{runs}
-use Rattle.dimacs.specs.Places.{run, behind, with_run}
+use Rattle.dimacs.specs.Places.{run, after_run, with_run}
 use Rattle.dimacs.proofs.HeaderLemmas.{runs-at_token, run-run}
 use Rattle.dimacs.proofs.header.next_run.Goals as goal
 
@@ -8,8 +8,8 @@ pub returns-clause-runs : goal.returns-clause-runs
 returns-clause-runs c =
     let at = c.skip_separators.result.now in
     sym c.skip_separators.ensures.same ∙ runs-at_token at c.skip_separators.ensures.place
-    ∙ ap (λ (x : List ℕ). with_run x (runs (behind at))) (sym c.split_run.ensures.run)
-    ∙ ap (λ (x : List ℕ). with_run c.split_run.result.0.now (runs x)) (sym c.split_run.ensures.behind)
+    ∙ ap (λ (x : List ℕ). with_run x (runs (after_run at))) (sym c.split_run.ensures.run)
+    ∙ ap (λ (x : List ℕ). with_run c.split_run.result.0.now (runs x)) (sym c.split_run.ensures.after)
 
 pub returns-clause-whole : goal.returns-clause-whole
 returns-clause-whole c =

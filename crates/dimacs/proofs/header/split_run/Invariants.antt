@@ -1,12 +1,12 @@
 use Rattle.std.proofs.Common.{◌≡◌, ◌≤◌, ◌-◌, ◌++◌, length, take, drop}
-use Rattle.dimacs.specs.Places.{run, behind}
+use Rattle.dimacs.specs.Places.{run, after_run}
 use Rattle.dimacs.proofs.header.split_run.Given as goal
 
 abbrev pub invariant-loop-end : goal.invariant-loop-end
 invariant-loop-end l = record {
   within : l.end ≤ length l.text;
   run_is : run l.text ≡ take l.end l.text ++ run (drop l.end l.text);
-  left : behind l.text ≡ behind (drop l.end l.text);
+  left : after_run l.text ≡ after_run (drop l.end l.text);
 }
 
 abbrev pub decreases-loop-end : goal.decreases-loop-end

@@ -1,6 +1,6 @@
 use Rattle.std.proofs.Common.{◌≡◌, ◌<◌, length}
 use Rattle.dimacs.specs.Numerals.{all_digits, value_after}
-use Rattle.dimacs.specs.Places.{run, behind}
+use Rattle.dimacs.specs.Places.{run, after_run}
 use Rattle.dimacs.proofs.tokens.numeral.Given as goal
 
 abbrev pub invariant-loop-byte : goal.invariant-loop-byte
@@ -8,7 +8,7 @@ invariant-loop-byte l = record {
   digits : all_digits (run l.rest) ≡ all_digits (run l.initial.rest);
   number : value_after l.value (run l.rest) ≡ value_after l.initial.value (run l.initial.rest);
   positive : 0 < l.value;
-  left : behind l.rest ≡ behind l.initial.rest;
+  left : after_run l.rest ≡ after_run l.initial.rest;
 }
 
 abbrev pub decreases-loop-byte : goal.decreases-loop-byte

@@ -3,7 +3,7 @@ use Rattle.lrup_model.specs.Place.{text_of}
 use Rattle.lrup_model.specs.PassLemmas.{known_follows}
 use Rattle.propagate.specs.Left.{IsLeft}
 use Rattle.propagate.specs.declared.marks.Left.TheVariants.{More}
-use Rattle.propagate.proofs.HasLemmas.{Has-at}
+use Rattle.lrup_model.specs.ClauseLemmas.{Has-at}
 use Rattle.propagate.proofs.MarkLemmas.{IsLiteral-read}
 use Rattle.propagate.proofs.LeftLemmas.{IsLeft-next, IsLeft-whole}
 use Rattle.propagate.proofs.marks.rest_of.Goals as goal

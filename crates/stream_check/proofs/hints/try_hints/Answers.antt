@@ -3,7 +3,7 @@ use Rattle.lrup_model.specs.Event.{History}
 use Rattle.lrup_model.specs.Place.{Caller, Place}
 use Rattle.lrup_model.specs.Formula.{Cnf}
 use Rattle.propagate.specs.Marks.{Propagation}
-use Rattle.propagate.proofs.HintLemmas.{leads_on, accepts_exactly}
+use Rattle.propagate.specs.HintLemmas.{leads_on, accepts_exactly}
 use Rattle.stream_check.specs.declared.fault.Fault.{Fault}
 use Rattle.stream_check.specs.declared.hints.Tried.{Tried}
 use Rattle.stream_check.specs.declared.hints.Tried.TheVariants as tried

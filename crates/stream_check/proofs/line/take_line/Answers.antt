@@ -30,7 +30,7 @@ returns-in-Line-Add-clause-taken g c =
       taken.0,
       taken.1,
       subst (λ (t : Taken). Takes old read p.room piece taken.0 t new q.room) (sym c.line_through.ensures)
-          (takes_line old new p.room q.room read piece used spelt taken.0 c.take_addition.result text taken.2),
+          (takes_line c.good_line_taken.ensures old new p.room q.room read piece used spelt taken.0 c.take_addition.result text taken.2),
     )
 
 pub returns-in-Line-Delete-clause-taken : goal.returns-in-Line-Delete-clause-taken
@@ -52,7 +52,7 @@ returns-in-Line-Delete-clause-taken g c =
       taken.0,
       taken.1,
       subst (λ (t : Taken). Takes old read p.room piece taken.0 t new q.room) (sym c.line_through-in-Line-Delete.ensures)
-          (takes_line old new p.room q.room read piece used spelt taken.0 c.take_deletion.result text (taken.2 line.field-0-0)),
+          (takes_line c.good_line_taken.ensures old new p.room q.room read piece used spelt taken.0 c.take_deletion.result text (taken.2 line.field-0-0)),
     )
 
 pub returns-in-NeedMore-clause-taken : goal.returns-in-NeedMore-clause-taken

@@ -1,6 +1,6 @@
 use Rattle.std.proofs.Common.{◌≤◌, ◌+◌, ◌++◌, length, take, refl, sym, ◌∙◌, subst, arith}
 use Rattle.lrup_text.specs.Lines.{LineText}
-use Rattle.lrup_text.specs.Reading.{read_line}
+use Rattle.lrup_text.specs.Reading.{line_so_far}
 use Rattle.lrup_text.proofs.Readers.{is_empty}
 use Rattle.lrup_text.proofs.machine.PartialLine.read_at_once.Goals as goal
 
@@ -12,7 +12,7 @@ returns-then-read_whole-clause-whole c =
       inside,
       whole.reads,
       whole.empty,
-      subst (λ t. LineText (read_line c.read_whole.new.self) (t ++ take (c.in_ok-used.field-0 + 1) c.args.piece.now)) (sym (is_empty c.args.self.now c.in-Start.is)) (whole.line refl),
+      subst (λ t. LineText (line_so_far c.read_whole.new.self) (t ++ take (c.in_ok-used.field-0 + 1) c.args.piece.now)) (sym (is_empty c.args.self.now c.in-Start.is)) (whole.line refl),
     )
 
 pub returns-else-read_whole-clause-same : goal.returns-else-read_whole-clause-same

@@ -4,7 +4,7 @@ use Rattle.lrup_model.specs.Event.{Event, History}
 use Rattle.lrup_model.specs.History.{IsPublishable}
 use Rattle.lrup_model.specs.EntailmentLemmas.{accepted_follows}
 use Rattle.lrup_model.specs.declared.clause_map.Published.TheVariants as publishing
-use Rattle.propagate.specs.Different.{different}
+use Rattle.propagate.specs.Distinct.{distinct}
 use Rattle.propagate.specs.Marks.{Propagation}
 use Rattle.stream_check.specs.Standing.{Standing, is_among}
 use Rattle.stream_check.specs.Verdicts.{Good, Bad}
@@ -24,7 +24,7 @@ returns-in-Some-try_hints-clause-judged g c =
     let admitted = c.in_default.ensures.admitted in
     let shown = c.in-Some-try_hints.ensures.shown in
     let e : Event = published_by s c.args.id c.args.lits.now in
-    let bad : JudgesHints s st.gone e (different c.args.lits.now) c.args.hints.now shown.0 (Bad 0 c.in-Some-try_hints.fault) =
+    let bad : JudgesHints s st.gone e (distinct c.args.lits.now) c.args.hints.now shown.0 (Bad 0 c.in-Some-try_hints.fault) =
     subst (λ n. JudgesHints s st.gone e n c.args.hints.now shown.0 (Bad 0 c.in-Some-try_hints.fault)) (ap (λ (m : Propagation). m.falses) admitted.0.marks_are) (shown.3 e) in
     (shown.0, shown.1, shown.2, admitted.1 c.args.hints.now shown.0 (Bad 0 c.in-Some-try_hints.fault) bad)
 

@@ -1,0 +1,67 @@
+#!/usr/bin/env python3
+"""generate.py KIND [MEGABYTES]
+
+Writes a formula or a stream of additions to measure with, 40 MB unless said, the same bytes each time.
+
+    random  a formula of random clauses of three literals
+    wide    a formula of clauses of 100,000 literals
+    short   a stream with 1 to 3 literals and 1 to 5 hints a line
+    long    a stream with 20 to 100 literals and 40 to 200 hints a line
+    huge    a stream with 100 literals and 50,000 hints a line, some 380 KB: longer than a piece of a stream
+"""
+
+import random
+import sys
+
+# literals and hints of a line, least and most
+STREAMS = {"short": ((1, 3), (1, 5)), "long": ((20, 100), (40, 200)), "huge": ((100, 100), (50_000, 50_000))}
+# literals of a clause, some bytes that it takes, and a number of variables for so many clauses
+FORMULAS = {
+    "random": (3, 25.5, lambda clauses: max(3, int(clauses / 4.26))),
+    "wide": (100_000, 840_000, lambda clauses: 2_000_000),
+}
+VARIABLES = 20_000
+FIRST = 1_000_000
+
+
+def literal(variables):
+    return random.choice((-1, 1)) * random.randint(1, variables)
+
+
+def write_formula(size, bytes_each, variables_for, left):
+    clauses = max(1, int(left / bytes_each))
+    variables = variables_for(clauses)
+    sys.stdout.write(f"p cnf {variables} {clauses}\n")
+    for _ in range(clauses):
+        sys.stdout.write(" ".join(str(literal(variables)) for _ in range(size)) + " 0\n")
+
+
+def line(identity, literals, hints):
+    words = [literal(VARIABLES) for _ in range(random.randint(*literals))]
+    cited = [random.randint(1, identity - 1) for _ in range(random.randint(*hints))]
+    return " ".join(map(str, [identity, *words, 0, *cited, 0])) + "\n"
+
+
+def write_stream(literals, hints, left):
+    identity = FIRST
+    while left > 0:
+        text = line(identity, literals, hints)
+        sys.stdout.write(text)
+        left -= len(text)
+        identity += 1
+
+
+def main():
+    if len(sys.argv) not in (2, 3) or sys.argv[1] not in {**FORMULAS, **STREAMS}:
+        sys.exit(__doc__)
+    kind = sys.argv[1]
+    left = int(float(sys.argv[2]) * 1e6) if len(sys.argv) == 3 else 40_000_000
+    random.seed(1)
+    if kind in FORMULAS:
+        write_formula(*FORMULAS[kind], left)
+    else:
+        write_stream(*STREAMS[kind], left)
+
+
+if __name__ == "__main__":
+    main()

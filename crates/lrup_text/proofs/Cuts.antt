@@ -1,0 +1,203 @@
+-- Every list of bytes is cut into lines: bytes are taken one by one, up to the end of a line or the byte that decides.
+use Rattle.std.proofs.Common.{◌≡◌, ◌≢◌, ℕ, suc, zero, ◌+◌, ◌<◌, ◌≤◌, ◌⊎◌, inl, inr, Bool, true, false, List, [], ◌∷◌, ◌++◌, length, refl, sym, ◌∙◌, ap, subst, arith}
+use Rattle.std.specs.List.{flat_map}
+use Rattle.std.proofs.lemmas.Bool.{cases_eq, cases_lt}
+use Rattle.std.proofs.lemmas.List.{append_assoc, append-nil, length-append, nil_from_length}
+use Rattle.lrup_text.specs.declared.LineFault.{LineFault}
+use Rattle.lrup_text.specs.declared.LineFault.TheVariants.{Spelling, TooLong, RatHint}
+use Rattle.lrup_text.specs.Faults.{Decides, HasTextFault}
+use Rattle.lrup_text.specs.Grammar.{IsDigit, IsLine, standard, line_feed, space, minus, zero_digit, letter_d}
+use Rattle.lrup_text.specs.Laws.{EveryCut, PendingOrFaulty}
+use Rattle.lrup_text.specs.Lines.{StreamLine, IsWithinLimits, line_text, HasNoLine, Cut, IsPending}
+use Rattle.lrup_text.specs.Rests.{Spot, AtStart, InLead, BeforeLiteral, AfterMinus, InLiteral, BeforeList, BeforeItem, InItem, AtEnd, MayComplete, Tracks, Moves, Blocks, Allows}
+use Rattle.lrup_text.proofs.Decisions.{decides_spelling, decides_long, decides_rat}
+use Rattle.lrup_text.proofs.Steps.{IsBounded, Exceeds, NoFirst, NoDigit, at_start, start_digit, lead_digit, lead_space, body_zero, body_deletion, body_minus, body_digit, minus_digit, literal_digit, literal_space, list_space, item_zero, item_digit, number_digit, number_space, start_blocks, lead_blocks, body_blocks, minus_blocks, literal_blocks, list_blocks, item_blocks, number_blocks, end_blocks, lead_exceeds, literal_exceeds, number_exceeds, body_exceeds_digit, body_exceeds_minus, item_exceeds, hint_allows, standard_lifted, one_more, tracks_more}
+use Rattle.lrup_text.proofs.Streams.{texts_are_lines, refused_stays}
+use Rattle.lrup_text.proofs.TextLaws.{empty_pending, tracks_pending}
+
+-- What a byte is at a spot.
+data ByteAt (spot : Spot) (b : ℕ) : Type 0 where
+  moves : (next : Spot) → Moves spot b next → IsBounded next → ByteAt spot b
+  blocked : ((signed : Bool) → Blocks signed spot b) → ByteAt spot b
+  exceeds : Exceeds spot b → ByteAt spot b
+  signed_hint : Blocks false spot b → Allows true spot b → ByteAt spot b
+  ends_line : spot ≡ AtEnd → b ≡ line_feed → ByteAt spot b
+
+first_or_not : (b : ℕ) → ((49 ≤ b) × (b ≤ 57)) ⊎ NoFirst b
+first_or_not b = elim (cases_lt b 49) [
+  | inl low ↦ inr (λ l h. omega arith)
+  | inr low ↦ elim (cases_lt 57 b) [ inl high ↦ inr (λ l h. omega arith) | inr high ↦ inl (low, high) ]
+]
+
+digit_or_not : (b : ℕ) → IsDigit b ⊎ NoDigit b
+digit_or_not b = elim (cases_lt b 48) [
+  | inl low ↦ inr (λ l h. omega arith)
+  | inr low ↦ elim (cases_lt 57 b) [ inl high ↦ inr (λ l h. omega arith) | inr high ↦ inl (low, high) ]
+]
+
+-- at most so many are fewer, or just as many
+less_or_same : (n most : ℕ) → n ≤ most → (n < most) ⊎ (n ≡ most)
+less_or_same n most few = elim (cases_lt n most) [ inl less ↦ inl less | inr many ↦ inr (omega arith) ]
+
+-- inside a number: a digit, a space, or another byte
+number_byte : (spot : Spot) (k b : ℕ) → k ≤ 18
+    → (IsDigit b → k < 18 → ByteAt spot b) → (IsDigit b → k ≡ 18 → ByteAt spot b) → ByteAt spot space → (NoDigit b → b ≢ space → ByteAt spot b) → ByteAt spot b
+number_byte spot k b few digit digit_more closes none = elim (digit_or_not b) [
+  | inl d ↦ elim (less_or_same k 18 few) [ inl less ↦ digit d less | inr same ↦ digit_more d same ]
+  | inr never ↦ elim (cases_eq b space) [ inl is ↦ subst (ByteAt spot) (sym is) closes | inr ne ↦ none never ne ]
+]
+
+body_byte : (n b : ℕ) → n ≤ 65535 → ByteAt (BeforeLiteral n) b
+body_byte n b few = elim (cases_eq b zero_digit) [
+  | inl is ↦ subst (ByteAt (BeforeLiteral n)) (sym is) (moves (BeforeList false) (body_zero n few) tt)
+  | inr not_zero ↦ elim (cases_eq b letter_d) [
+    | inl is ↦ elim (cases_eq n 0) [
+      | inl none ↦ subst (λ k. ByteAt (BeforeLiteral k) b) (sym none) (subst (ByteAt (BeforeLiteral 0)) (sym is) (moves (BeforeList true) body_deletion tt))
+      | inr some ↦ blocked (λ signed. body_blocks signed n b not_zero (λ e. omega (arith, e, is)) (λ low high. omega (arith, is)) (λ none. absurd (some none)))
+    ]
+    | inr not_d ↦ elim (cases_eq b minus) [
+      | inl is ↦ subst (ByteAt (BeforeLiteral n)) (sym is) (sign (less_or_same n 65535 few))
+      | inr not_minus ↦ elim (first_or_not b) [
+        | inl first ↦ digit first (less_or_same n 65535 few)
+        | inr never ↦ blocked (λ signed. body_blocks signed n b not_zero not_minus never (λ none. not_d))
+      ]
+    ]
+  ]
+]
+  where
+    sign : (n < 65535) ⊎ (n ≡ 65535) → ByteAt (BeforeLiteral n) minus
+    sign (inl less) = moves (AfterMinus n) (body_minus n) less
+    sign (inr same) = subst (λ k. ByteAt (BeforeLiteral k) minus) (sym same) (exceeds body_exceeds_minus)
+
+    digit : (49 ≤ b) × (b ≤ 57) → (n < 65535) ⊎ (n ≡ 65535) → ByteAt (BeforeLiteral n) b
+    digit first (inl less) = moves (InLiteral 1 n) (body_digit n b first.0 first.1) (omega arith, less)
+    digit first (inr same) = subst (λ k. ByteAt (BeforeLiteral k) b) (sym same) (exceeds (body_exceeds_digit b first.0 first.1))
+
+item_byte : (deletes : Bool) (j b : ℕ) → j ≤ 65536 → ByteAt (BeforeItem deletes j) b
+item_byte deletes j b few = elim (cases_eq b zero_digit) [
+  | inl is ↦ subst (ByteAt (BeforeItem deletes j)) (sym is) (moves AtEnd (item_zero deletes j few) tt)
+  | inr not_zero ↦ elim (first_or_not b) [
+    | inl first ↦ digit first (less_or_same j 65536 few)
+    | inr never ↦ elim (cases_eq b minus) [
+      | inl is ↦ subst (ByteAt (BeforeItem deletes j)) (sym is) (sign deletes)
+      | inr not_minus ↦ blocked (λ signed. item_blocks signed deletes j b not_zero never (λ e d s. not_minus e))
+    ]
+  ]
+]
+  where
+    digit : (49 ≤ b) × (b ≤ 57) → (j < 65536) ⊎ (j ≡ 65536) → ByteAt (BeforeItem deletes j) b
+    digit first (inl less) = moves (InItem deletes 1 j) (item_digit deletes j b first.0 first.1) (omega arith, less)
+    digit first (inr same) = subst (λ k. ByteAt (BeforeItem deletes k) b) (sym same) (exceeds (item_exceeds deletes b first.0 first.1))
+
+    sign : (kind : Bool) → ByteAt (BeforeItem kind j) minus
+    sign true = blocked (λ signed. item_blocks signed true j minus (λ e. let e' : minus ≡ zero_digit = e in omega arith) (λ low high. omega arith) (λ e d s. let d' : true ≡ false = d in cc))
+    sign false = signed_hint
+        (item_blocks false false j minus (λ e. let e' : minus ≡ zero_digit = e in omega arith) (λ low high. omega arith) (λ e d s. let s' : false ≡ true = s in cc))
+        (hint_allows j few)
+
+byte_at : (spot : Spot) (b : ℕ) → IsBounded spot → ByteAt spot b
+byte_at AtStart b bounded = elim (first_or_not b) [
+  | inl first ↦ moves (InLead 1) (start_digit b first.0 first.1) (omega arith)
+  | inr never ↦ blocked (λ signed. start_blocks signed b never)
+]
+byte_at (InLead k) b bounded =
+    number_byte (InLead k) k b bounded
+    (λ d less. moves (InLead (k + 1)) (lead_digit k b d) (omega arith))
+    (λ d same. subst (λ n. ByteAt (InLead n) b) (sym same) (exceeds (lead_exceeds b d)))
+    (moves (BeforeLiteral 0) (lead_space k bounded) (omega arith))
+    (λ never ne. blocked (λ signed. lead_blocks signed k b never ne))
+byte_at (BeforeLiteral n) b bounded = body_byte n b bounded
+byte_at (AfterMinus n) b bounded = elim (first_or_not b) [
+  | inl first ↦ moves (InLiteral 1 n) (minus_digit n b first.0 first.1) (omega arith, bounded)
+  | inr never ↦ blocked (λ signed. minus_blocks signed n b never)
+]
+byte_at (InLiteral k n) b bounded =
+    number_byte (InLiteral k n) k b bounded.0
+    (λ d less. moves (InLiteral (k + 1) n) (literal_digit k n b d) (omega arith, bounded.1))
+    (λ d same. subst (λ x. ByteAt (InLiteral x n) b) (sym same) (exceeds (literal_exceeds n b bounded.1 d)))
+    (moves (BeforeLiteral (n + 1)) (literal_space k n bounded.0) (omega (arith, bounded.1)))
+    (λ never ne. blocked (λ signed. literal_blocks signed k n b never ne))
+byte_at (BeforeList deletes) b bounded = elim (cases_eq b space) [
+  | inl is ↦ subst (ByteAt (BeforeList deletes)) (sym is) (moves (BeforeItem deletes 0) (list_space deletes) (omega arith))
+  | inr ne ↦ blocked (λ signed. list_blocks signed deletes b ne)
+]
+byte_at (BeforeItem deletes j) b bounded = item_byte deletes j b bounded
+byte_at (InItem deletes k j) b bounded =
+    number_byte (InItem deletes k j) k b bounded.0
+    (λ d less. moves (InItem deletes (k + 1) j) (number_digit deletes k j b d) (omega arith, bounded.1))
+    (λ d same. subst (λ x. ByteAt (InItem deletes x j) b) (sym same) (exceeds (number_exceeds deletes j b bounded.1 d)))
+    (moves (BeforeItem deletes (j + 1)) (number_space deletes k j bounded.0) (omega (arith, bounded.1)))
+    (λ never ne. blocked (λ signed. number_blocks signed deletes k j b never ne))
+byte_at AtEnd b bounded = elim (cases_eq b line_feed) [ inl is ↦ ends_line refl is | inr ne ↦ blocked (λ signed. end_blocks signed b ne) ]
+
+-- How bytes begin: with a line, with bytes that may become one, or with a text that begins none.
+data Front (bytes : List ℕ) : Type 0 where
+  whole_line : (line : StreamLine) (rest : List ℕ) → IsWithinLimits line → bytes ≡ line_text line ++ rest → Front bytes
+  part : IsPending bytes → Front bytes
+  faulty : (fault : LineFault) → HasTextFault bytes fault → Front bytes
+
+-- from the spot where what was read ends
+front_from : (read : List ℕ) (spot : Spot) → Tracks read spot → IsBounded spot → (bytes : List ℕ) → Front (read ++ bytes)
+front_from read spot tracks bounded [] = subst Front (sym (append-nil read)) (part (tracks_pending read spot tracks bounded))
+front_from read spot tracks bounded (b ∷ bytes) = elim (byte_at spot b bounded) [
+  | moves next step small ↦ subst Front (one_more read b bytes) (front_from (read ++ b ∷ []) next (tracks_more read spot next b tracks step) small bytes)
+  | blocked stops ↦ decided Spelling (decides_spelling read spot b tracks bounded stops)
+  | exceeds long ↦ decided TooLong (decides_long read spot b tracks bounded long)
+  | signed_hint stops allows ↦ decided RatHint (decides_rat read spot b tracks bounded stops allows)
+  | ends_line here is ↦ line (tracks.line false standard standard_lifted (b ∷ []) (subst (λ s. MayComplete standard s (b ∷ [])) (sym here) (ap (λ x. x ∷ []) is)))
+]
+  where
+    decided : (fault : LineFault) → Decides read b fault → Front (read ++ b ∷ bytes)
+    decided fault h = faulty fault (read ++ b ∷ [], bytes, sym (one_more read b bytes), (read, b, refl, h))
+
+    line : IsLine standard (read ++ b ∷ []) → Front (read ++ b ∷ bytes)
+    line h =
+        let spelled = (texts_are_lines (read ++ b ∷ [])).0 h in
+        whole_line spelled.0 bytes spelled.1.0 (sym (one_more read b bytes) ∙ ap (λ t. t ++ bytes) spelled.1.1)
+
+front_of : (bytes : List ℕ) → Front bytes
+front_of bytes = front_from [] AtStart at_start tt bytes
+
+-- bytes that hold no whole line in front
+pub pending_or_faulty : PendingOrFaulty
+pending_or_faulty rest none = elim (front_of rest) [
+  | whole_line line more fits is ↦ absurd (none line more fits is)
+  | part pending ↦ inl pending
+  | faulty fault h ↦ inr (fault, h)
+]
+
+-- no line's text is empty
+text_some : (line : StreamLine) → IsWithinLimits line → 0 < length (line_text line)
+text_some line fits = elim (cases_eq (length (line_text line)) 0) [
+  | inl none ↦ absurd (empty_pending.whole line [] fits (sym (append-nil (line_text line) ∙ nil_from_length (line_text line) none)))
+  | inr some ↦ omega (arith, some)
+]
+
+-- a line, and the cut of what follows it
+cut_more : (line : StreamLine) (stream more : List ℕ) → IsWithinLimits line → stream ≡ line_text line ++ more → (lines : List StreamLine) × (rest : List ℕ) × Cut more lines rest
+    → (lines : List StreamLine) × (rest : List ℕ) × Cut stream lines rest
+cut_more line stream more fits is cut = (
+  line ∷ cut.0,
+  cut.1,
+  record {
+    bytes = is ∙ ap (λ t. line_text line ++ t) cut.2.bytes ∙ sym (append_assoc (line_text line) (flat_map line_text cut.0) cut.1);
+    each = (fits, cut.2.each);
+    last = cut.2.last;
+  },
+)
+
+cut_up_to : (most : ℕ) (stream : List ℕ) → length stream ≤ most → (lines : List StreamLine) × (rest : List ℕ) × Cut stream lines rest
+cut_up_to zero stream few =
+    let none : stream ≡ [] = nil_from_length stream (omega arith) in
+    ([], [], record { bytes = none; each = tt; last = empty_pending.whole })
+cut_up_to (suc most) stream few = elim (front_of stream) [
+  | whole_line line more fits is ↦
+      let size : length stream ≡ length (line_text line) + length more = ap length is ∙ length-append (line_text line) more in
+      cut_more line stream more fits is (cut_up_to most more (omega (arith, text_some line fits)))
+  | part pending ↦ ([], stream, record { bytes = refl; each = tt; last = pending.whole })
+  | faulty fault h ↦
+      ([], stream, record { bytes = refl; each = tt; last = subst HasNoLine (sym h.2) (refused_stays h.0 h.1 fault h.3) })
+]
+
+pub every_cut : EveryCut
+every_cut stream = cut_up_to (length stream) stream (omega arith)

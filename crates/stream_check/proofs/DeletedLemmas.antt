@@ -1,0 +1,270 @@
+-- The identities that a stream deletes in a legal history differ from each other.
+use Rattle.std.proofs.Common.{◌≡◌, ◌<◌, ◌+◌, ◌==◌, ◌&&◌, ◌||◌, ℕ, Bool, true, false, List, [], ◌∷◌, ◌++◌, length, length-append, eqb, nat_eq, nat_le, inl, inr, refl, sym, ap, subst, ◌∙◌, arith, append_assoc, append-nil}
+use Rattle.std.specs.List.{AllByRecursion, IsDistinct, list_any, sum_by}
+use Rattle.std.proofs.lemmas.Bool.{cond-true, cond-false}
+use Rattle.std.proofs.lemmas.Bool.Decides.{eqb_tells, leb_tells, Decides-eqb}
+use Rattle.std.proofs.lemmas.List.Folds.{list_any-append}
+use Rattle.std.proofs.lemmas.List.Sums.{sum_by-append}
+use Rattle.lrup_model.specs.Layout.{LayoutValue, last_identity, IsIdentity, owner}
+use Rattle.lrup_model.specs.declared.layout.Owner.TheVariants as owners
+use Rattle.lrup_model.specs.Event as events
+use Rattle.lrup_model.specs.Event.{Event, History, Reply, stream_of}
+use Rattle.lrup_model.specs.State.{State, Slot, absent, live, retired, IsLive, IsRetired, retire_slot, after, run}
+use Rattle.lrup_model.specs.Running.{run-append}
+use Rattle.lrup_model.specs.declared.clause_map.Retired.TheVariants as retiring
+use Rattle.lrup_text.specs.Lines.{StreamLine, Addition, Deletion}
+use Rattle.stream_check.specs.declared.fault.Fault.{Fault}
+use Rattle.stream_check.specs.declared.fault.Fault.TheVariants as faults
+use Rattle.stream_check.specs.Setting.{Setting, Side, formula, own, foreign, outside, side_of, is_shared}
+use Rattle.stream_check.specs.Standing.{standing_of, is_among, is_gone, deleted_by}
+use Rattle.stream_check.specs.Verdicts.{Verdict, Good, Bad}
+use Rattle.stream_check.specs.Deletions.{is_dropped, DeletesAt, JudgesIdentities}
+use Rattle.stream_check.specs.Judging.{JudgesLine, AreGood, joined}
+use Rattle.stream_check.proofs.CountLemmas.{put_same, OwnAnswers, OwnRun, run_retired, run_on, stays_retired}
+
+-- Sides and identities
+
+pub identity_below : (p : LayoutValue) (id : ℕ) → (owner p id ≡ owners.Outside → ⊥) → IsIdentity p id
+identity_below p id inside = elim (eqb_tells id 0) [
+  | inl none ↦ absurd (inside (cond-true (nat_eq id 0) owners.Outside _ none.0))
+  | inr some ↦
+      let positive : 0 < id = omega (arith, some.1) in
+      elim (leb_tells id p.clauses) [
+        | inl low ↦ (positive, omega (arith, low.1))
+        | inr high ↦ elim (leb_tells id (last_identity p)) [
+          | inl within ↦ (positive, within.1)
+          | inr above ↦ absurd (inside (cond-false (nat_eq id 0) owners.Outside _ some.0 ∙ cond-false (nat_le id p.clauses) owners.Formula _ high.0 ∙ cond-false (nat_le id (last_identity p)) _ owners.Outside above.0))
+        ]
+      ]
+]
+
+-- An identity that was taken
+
+-- it was retired, or it is among the dropped ones
+abbrev pub TakenAt : Side → State → (ℕ → Bool) → List ℕ → ℕ → Type 0
+TakenAt formula n gone earlier id = is_dropped gone earlier id ≡ true
+TakenAt own n gone earlier id = IsRetired (n id)
+TakenAt foreign n gone earlier id = is_dropped gone earlier id ≡ true
+TakenAt outside n gone earlier id = ⊥
+
+abbrev pub Taken : Setting → State → (ℕ → Bool) → List ℕ → ℕ → Type 0
+Taken c n gone earlier id = TakenAt (side_of c id) n gone earlier id
+
+abbrev pub Apart : List ℕ → Type 0
+Apart [] = Unit {0}
+Apart (x ∷ xs) = AllByRecursion (λ y. eqb x y ≡ false) xs × Apart xs
+
+pub are_distinct : (xs : List ℕ) → Apart xs → IsDistinct eqb xs
+unfolding IsDistinct
+are_distinct [] apart = tt
+are_distinct (x ∷ xs) apart = (apart.0, are_distinct xs apart.1)
+
+-- the identities taken so far: they differ, each was taken, and there are so many
+pub record AreTaken (c : Setting) (n : State) (gone : ℕ → Bool) (earlier : List ℕ) (many : ℕ) : Type 0 where
+  pub ids : List ℕ
+  pub apart : Apart ids
+  pub taken : AllByRecursion (Taken c n gone earlier) ids
+  pub count : length ids ≡ many
+
+all_map : (P Q : ℕ → Type 0) (xs : List ℕ) → ((x : ℕ) → P x → Q x) → AllByRecursion P xs → AllByRecursion Q xs
+all_map P Q [] maps all = tt
+all_map P Q (x ∷ xs) maps all = (maps x all.0, all_map P Q xs maps all.1)
+
+-- an identity that wasn't taken differs from those that were
+fresh : (c : Setting) (n : State) (gone : ℕ → Bool) (earlier : List ℕ) (id : ℕ) (ids : List ℕ) → ¬ Taken c n gone earlier id → AllByRecursion (Taken c n gone earlier) ids → AllByRecursion (λ y. eqb id y ≡ false) ids
+fresh c n gone earlier id [] new all = tt
+fresh c n gone earlier id (y ∷ ids) new all = elim (eqb_tells id y) [
+  | inl same ↦ absurd (new (subst (Taken c n gone earlier) (sym same.1) all.0))
+  | inr other ↦ (other.0, fresh c n gone earlier id ids new all.1)
+]
+
+or_more : (a b d : Bool) → (a || b) ≡ true → (a || (b || d)) ≡ true
+or_more true b d e = refl
+or_more false true d e = refl
+or_more false false d e = absurd (let f : false ≡ true = e in cc)
+
+or_last : (a b : Bool) → (a || (b || true)) ≡ true
+or_last true b = refl
+or_last false true = refl
+or_last false false = refl
+
+among_more : (earlier : List ℕ) (id y : ℕ) → is_among (earlier ++ id ∷ []) y ≡ (is_among earlier y || ((id == y) || false))
+among_more earlier id y = list_any-append (λ j. j == y) earlier (id ∷ [])
+
+dropped_more : (gone : ℕ → Bool) (earlier : List ℕ) (id y : ℕ) → is_dropped gone earlier y ≡ true → is_dropped gone (earlier ++ id ∷ []) y ≡ true
+dropped_more gone earlier id y e = ap (λ b. gone y || b) (among_more earlier id y) ∙ or_more (gone y) (is_among earlier y) ((id == y) || false) e
+
+dropped_now : (gone : ℕ → Bool) (earlier : List ℕ) (id : ℕ) → is_dropped gone (earlier ++ id ∷ []) id ≡ true
+dropped_now gone earlier id =
+    ap (λ b. gone id || b) (among_more earlier id id)
+    ∙ ap (λ b. gone id || (is_among earlier id || (b || false))) ((Decides-eqb id id).1 refl)
+    ∙ or_last (gone id) (is_among earlier id)
+
+taken_more : (side : Side) (n m : State) (gone : ℕ → Bool) (earlier : List ℕ) (id y : ℕ) → (IsRetired (n y) → IsRetired (m y)) → TakenAt side n gone earlier y → TakenAt side m gone (earlier ++ id ∷ []) y
+taken_more formula n m gone earlier id y stays t = dropped_more gone earlier id y t
+taken_more own n m gone earlier id y stays t = stays t
+taken_more foreign n m gone earlier id y stays t = dropped_more gone earlier id y t
+taken_more outside n m gone earlier id y stays t = t
+
+-- one identity more
+take_more : (c : Setting) (n m : State) (gone : ℕ → Bool) (earlier : List ℕ) (id many : ℕ) → ((y : ℕ) → IsRetired (n y) → IsRetired (m y))
+    → ¬ Taken c n gone earlier id → Taken c m gone (earlier ++ id ∷ []) id → AreTaken c n gone earlier many → AreTaken c m gone (earlier ++ id ∷ []) (many + 1)
+take_more c n m gone earlier id many stays new now are = record {
+  ids = id ∷ are.ids;
+  apart = (fresh c n gone earlier id are.ids new are.taken, are.apart);
+  taken = (now, all_map (Taken c n gone earlier) (Taken c m gone (earlier ++ id ∷ [])) are.ids (λ y t. taken_more (side_of c y) n m gone earlier id y (stays y) t) are.taken);
+  count = omega (arith, are.count);
+}
+
+-- What a deletion took
+
+-- good: all its identities; bad: those before the fault
+abbrev pub Took : Setting → State → (ℕ → Bool) → List ℕ → List ℕ → ℕ → History → Verdict → Type 0
+Took c n gone earlier ids many es Good = AreTaken c (run n es) gone (earlier ++ ids) (many + length ids)
+Took c n gone earlier ids many es (Bad deleted fault) = (m : State) × (taken : List ℕ) × (all : ℕ) × AreTaken c m gone taken all × (all + length earlier ≡ many + deleted)
+
+took_none : (c : Setting) (n : State) (gone : ℕ → Bool) (earlier : List ℕ) (many : ℕ) (es : History) (v : Verdict) → es ≡ [] → v ≡ Good → AreTaken c n gone earlier many → Took c n gone earlier [] many es v
+took_none c n gone earlier many es v none good are =
+    subst (λ w. Took c n gone earlier [] many es w) (sym good)
+    (subst (λ e. AreTaken c (run n e) gone (earlier ++ []) (many + 0)) (sym none)
+    (subst (λ e. AreTaken c n gone e (many + 0)) (sym (append-nil earlier))
+    (subst (AreTaken c n gone earlier) (omega arith) are)))
+
+took_failed : (c : Setting) (n : State) (gone : ℕ → Bool) (earlier ids : List ℕ) (many : ℕ) (es : History) (v : Verdict) (fault : Fault) → v ≡ Bad (length earlier) fault → AreTaken c n gone earlier many → Took c n gone earlier ids many es v
+took_failed c n gone earlier ids many es v fault bad are = subst (λ w. Took c n gone earlier ids many es w) (sym bad) (n, earlier, many, are, refl)
+
+-- what is taken after one identity, counted from before it
+took_back : (c : Setting) (n : State) (gone : ℕ → Bool) (earlier : List ℕ) (id : ℕ) (ids : List ℕ) (many : ℕ) (es : History) (v : Verdict)
+    → Took c n gone (earlier ++ id ∷ []) ids (many + 1) es v → Took c n gone earlier (id ∷ ids) many es v
+took_back c n gone earlier id ids many es Good took =
+    subst (λ e. AreTaken c (run n es) gone e (many + length (id ∷ ids))) (append_assoc earlier (id ∷ []) ids)
+    (subst (AreTaken c (run n es) gone ((earlier ++ id ∷ []) ++ ids)) (omega arith) took)
+took_back c n gone earlier id ids many es (Bad deleted fault) took =
+    (took.0, took.1, took.2, took.3, omega (arith, took.4, length-append earlier (id ∷ [])))
+
+-- and from before one event
+took_later : (c : Setting) (n : State) (gone : ℕ → Bool) (earlier ids : List ℕ) (many : ℕ) (e : Event) (es rest : History) (v : Verdict)
+    → es ≡ e ∷ rest → Took c (after n e) gone earlier ids many rest v → Took c n gone earlier ids many es v
+took_later c n gone earlier ids many e es rest Good is took = subst (λ x. AreTaken c (run n x) gone (earlier ++ ids) (many + length ids)) (sym is) took
+took_later c n gone earlier ids many e es rest (Bad deleted fault) is took = took
+
+live_not_retired : (slot : Slot) → IsLive slot → IsRetired slot → ⊥
+live_not_retired absent a b = a
+live_not_retired (live d) a b = b
+live_not_retired (retired d) a b = a
+
+retired_now : (slot : Slot) → IsLive slot → IsRetired (retire_slot slot)
+retired_now absent a = a
+retired_now (live d) a = tt
+retired_now (retired d) a = tt
+
+-- an own identity that was live is retired
+took_own : (c : Setting) (n : State) (gone : ℕ → Bool) (earlier : List ℕ) (id many : ℕ) → side_of c id ≡ own → OwnAnswers n (events.retire c.stream id retiring.Done)
+    → AreTaken c n gone earlier many → AreTaken c (after n (events.retire c.stream id retiring.Done)) gone (earlier ++ id ∷ []) (many + 1)
+unfolding OwnAnswers
+took_own c n gone earlier id many side is_live are =
+    let e = events.retire c.stream id retiring.Done in
+    take_more c n (after n e) gone earlier id many (λ y is. stays_retired n e y is_live is)
+    (λ t. live_not_retired (n id) is_live (subst (λ x. TakenAt x n gone earlier id) side t))
+    (subst (λ x. TakenAt x (after n e) gone (earlier ++ id ∷ []) id) (sym side)
+    (subst IsRetired (sym (put_same n id id (retire_slot (n id)) refl)) (retired_now (n id) is_live)))
+    are
+
+took_formula : (c : Setting) (n : State) (gone : ℕ → Bool) (earlier : List ℕ) (id many : ℕ) → side_of c id ≡ formula → is_dropped gone earlier id ≡ false
+    → AreTaken c n gone earlier many → AreTaken c n gone (earlier ++ id ∷ []) (many + 1)
+took_formula c n gone earlier id many side new are = take_more c n n gone earlier id many (λ y is. is)
+    (λ t. let d : is_dropped gone earlier id ≡ true = subst (λ x. TakenAt x n gone earlier id) side t in let f : true ≡ false = sym d ∙ new in cc)
+    (subst (λ x. TakenAt x n gone (earlier ++ id ∷ []) id) (sym side) (dropped_now gone earlier id)) are
+
+took_foreign : (c : Setting) (n : State) (gone : ℕ → Bool) (earlier : List ℕ) (id many : ℕ) → side_of c id ≡ foreign → is_dropped gone earlier id ≡ false
+    → AreTaken c n gone earlier many → AreTaken c n gone (earlier ++ id ∷ []) (many + 1)
+took_foreign c n gone earlier id many side new are = take_more c n n gone earlier id many (λ y is. is)
+    (λ t. let d : is_dropped gone earlier id ≡ true = subst (λ x. TakenAt x n gone earlier id) side t in let f : true ≡ false = sym d ∙ new in cc)
+    (subst (λ x. TakenAt x n gone (earlier ++ id ∷ []) id) (sym side) (dropped_now gone earlier id)) are
+
+took_at : (side : Side) (c : Setting) (n : State) (gone : ℕ → Bool) (earlier : List ℕ) (id : ℕ) (ids : List ℕ) (many : ℕ) (es rest : History) (v : Verdict) (A : History → Type 0)
+    → side_of c id ≡ side
+    → ((m : State) (left : History) → A left → OwnRun m (left ++ rest) → AreTaken c m gone (earlier ++ id ∷ []) (many + 1) → Took c m gone (earlier ++ id ∷ []) ids (many + 1) left v)
+    → DeletesAt side c gone earlier id es v A → OwnRun n (es ++ rest) → AreTaken c n gone earlier many → Took c n gone earlier (id ∷ ids) many es v
+unfolding OwnRun
+took_at formula c n gone earlier id ids many es rest v A side next (inl bad) answers are = took_failed c n gone earlier (id ∷ ids) many es v (faults.NotLive id) bad.1.1 are
+took_at formula c n gone earlier id ids many es rest v A side next (inr good) answers are =
+    took_back c n gone earlier id ids many es v (next n es good.1 answers (took_formula c n gone earlier id many side good.0 are))
+took_at foreign c n gone earlier id ids many es rest v A side next (inl bad) answers are = took_failed c n gone earlier (id ∷ ids) many es v (faults.NotLive id) bad.1.1 are
+took_at foreign c n gone earlier id ids many es rest v A side next (inr good) answers are =
+    took_back c n gone earlier id ids many es v (next n es good.1 answers (took_foreign c n gone earlier id many side good.0 are))
+took_at outside c n gone earlier id ids many es rest v A side next at answers are = took_failed c n gone earlier (id ∷ ids) many es v (faults.NotLive id) at.1 are
+took_at own c n gone earlier id ids many es rest v A side next at answers are = elim at.decided [
+  | inl good ↦
+      let e = events.retire c.stream id retiring.Done in
+      let here = subst (λ x. OwnRun n (x ++ rest)) good.0 answers in
+      took_back c n gone earlier id ids many es v
+      (took_later c n gone (earlier ++ id ∷ []) ids (many + 1) e es at.rest v good.0
+      (next (after n e) at.rest good.1 here.1 (took_own c n gone earlier id many side here.0 are)))
+  | inr bad ↦ took_failed c n gone earlier (id ∷ ids) many es v (faults.NotLive id) bad.2 are
+]
+
+pub identities_took : (c : Setting) (n : State) (gone : ℕ → Bool) (earlier ids : List ℕ) (many : ℕ) (es rest : History) (v : Verdict)
+    → JudgesIdentities c gone earlier ids es v → OwnRun n (es ++ rest) → AreTaken c n gone earlier many → Took c n gone earlier ids many es v
+identities_took c n gone earlier [] many es rest v judged answers are = took_none c n gone earlier many es v judged.0 judged.1 are
+identities_took c n gone earlier (id ∷ ids) many es rest v judged answers are =
+    took_at (side_of c id) c n gone earlier id ids many es rest v (λ left. JudgesIdentities c gone (earlier ++ id ∷ []) ids left v) refl
+    (λ m left k answers are. identities_took c m gone (earlier ++ id ∷ []) ids (many + 1) left rest v k answers are)
+    judged answers are
+
+-- What lines took
+
+gone_bool : (s a b : Bool) → s ≡ true → ((s && a) || b) ≡ true → ((s && (a || (b || false))) || false) ≡ true
+gone_bool true true b e h = refl
+gone_bool true false true e h = refl
+gone_bool true false false e h = absurd (let f : false ≡ true = h in cc)
+gone_bool false a b e h = absurd (let f : false ≡ true = e in cc)
+
+gone_more : (c : Setting) (before : List StreamLine) (line : StreamLine) (y : ℕ) → is_shared (side_of c y) ≡ true
+    → is_dropped (is_gone c before) (deleted_by line) y ≡ true → is_dropped (is_gone c (before ++ line ∷ [])) [] y ≡ true
+gone_more c before line y shared e =
+    let test : StreamLine → Bool = λ l. is_among (deleted_by l) y in
+    ap (λ b. (is_shared (side_of c y) && b) || false) (list_any-append test before (line ∷ []))
+    ∙ gone_bool (is_shared (side_of c y)) (list_any test before) (test line) shared e
+
+taken_line : (side : Side) (c : Setting) (n m : State) (before : List StreamLine) (line : StreamLine) (y : ℕ) → side_of c y ≡ side → (IsRetired (n y) → IsRetired (m y))
+    → TakenAt side n (is_gone c before) (deleted_by line) y → TakenAt side m (is_gone c (before ++ line ∷ [])) [] y
+taken_line formula c n m before line y side stays t = gone_more c before line y (ap is_shared side) t
+taken_line own c n m before line y side stays t = stays t
+taken_line foreign c n m before line y side stays t = gone_more c before line y (ap is_shared side) t
+taken_line outside c n m before line y side stays t = t
+
+line_taken : (c : Setting) (n m : State) (before : List StreamLine) (line : StreamLine) (many : ℕ) → ((y : ℕ) → IsRetired (n y) → IsRetired (m y))
+    → AreTaken c n (is_gone c before) (deleted_by line) many → AreTaken c m (is_gone c (before ++ line ∷ [])) [] many
+line_taken c n m before line many stays are = record {
+  ids = are.ids;
+  apart = are.apart;
+  taken = all_map (Taken c n (is_gone c before) (deleted_by line)) (Taken c m (is_gone c (before ++ line ∷ [])) []) are.ids
+      (λ y t. taken_line (side_of c y) c n m before line y refl (stays y) t) are.taken;
+  count = are.count;
+}
+
+line_took : (c : Setting) (n : State) (before : List StreamLine) (line : StreamLine) (many : ℕ) (es rest : History)
+    → JudgesLine c (standing_of c before) line es Good → OwnRun n (es ++ rest) → AreTaken c n (is_gone c before) [] many
+    → AreTaken c (run n es) (is_gone c (before ++ line ∷ [])) [] (many + length (deleted_by line))
+line_took c n before (Addition id lits hints) many es rest judged answers are =
+    subst (AreTaken c (run n es) (is_gone c (before ++ Addition id lits hints ∷ [])) []) (omega arith)
+    (line_taken c n (run n es) before (Addition id lits hints) many (λ y is. run_retired n es rest y answers is) are)
+line_took c n before (Deletion lead ids) many es rest judged answers are =
+    line_taken c (run n es) (run n es) before (Deletion lead ids) (many + length ids) (λ y is. is)
+    (identities_took c n (is_gone c before) [] ids many es rest Good judged answers are)
+
+pub lines_took : (c : Setting) (n : State) (before lines : List StreamLine) (blocks : List History) (many : ℕ) (rest : History)
+    → AreGood c before lines blocks → OwnRun n (joined blocks ++ rest) → AreTaken c n (is_gone c before) [] many
+    → AreTaken c (run n (joined blocks)) (is_gone c (before ++ lines)) [] (many + sum_by (λ l. length (deleted_by l)) lines)
+lines_took c n before [] [] many rest good answers are =
+    subst (λ b. AreTaken c n (is_gone c b) [] (many + 0)) (sym (append-nil before)) (subst (AreTaken c n (is_gone c before) []) (omega arith) are)
+lines_took c n before [] (block ∷ blocks) many rest good answers are = absurd good
+lines_took c n before (line ∷ lines) [] many rest good answers are = absurd good
+lines_took c n before (line ∷ lines) (block ∷ blocks) many rest good answers are =
+    let split = subst (OwnRun n) (append_assoc block (joined blocks) rest) answers in
+    let one = line_took c n before line many block (joined blocks ++ rest) good.0 split are in
+    let later = lines_took c (run n block) (before ++ line ∷ []) lines blocks (many + length (deleted_by line)) rest good.1 (run_on n block (joined blocks ++ rest) split) one in
+    subst (λ m. AreTaken c m (is_gone c (before ++ (line ∷ lines))) [] (many + sum_by (λ l. length (deleted_by l)) (line ∷ lines))) (sym (run-append n block (joined blocks)))
+    (subst (λ b. AreTaken c (run (run n block) (joined blocks)) (is_gone c b) [] (many + sum_by (λ l. length (deleted_by l)) (line ∷ lines))) (append_assoc before (line ∷ []) lines)
+    (subst (AreTaken c (run (run n block) (joined blocks)) (is_gone c ((before ++ line ∷ []) ++ lines)) []) (omega (arith, sum_by-append (λ l. length (deleted_by l)) (line ∷ []) lines)) later))

@@ -1,0 +1,216 @@
+-- Two judgements of one stream, of events that never fork, agree.
+use Rattle.std.proofs.Common.{◌≡◌, ◌⊎◌, ℕ, List, [], ◌∷◌, ◌++◌, length, inl, inr, refl, sym, ap, subst, ◌∙◌, append_assoc, append-nil}
+use Rattle.std.specs.List.{AllByRecursion, flat_map}
+use Rattle.std.proofs.lemmas.List.{append_cancel_left}
+use Rattle.lrup_model.specs.Event.{History}
+use Rattle.lrup_text.specs.declared.LineFault.{LineFault}
+use Rattle.lrup_text.specs.Grammar.{Begins, IsLine, standard}
+use Rattle.lrup_text.specs.Lines.{StreamLine, IsWithinLimits, line_text, HasNoLine}
+use Rattle.lrup_text.specs.Faults.{HasTextFault}
+use Rattle.lrup_text.specs.Laws.{OneLine, NoTextBegins, TextsAreLines, OneFault}
+use Rattle.stream_check.specs.declared.fault.Fault.TheVariants as faults
+use Rattle.stream_check.specs.declared.report.Ending.TheVariants as endings
+use Rattle.stream_check.specs.declared.report.Report.{Report}
+use Rattle.stream_check.specs.Setting.{Setting}
+use Rattle.stream_check.specs.Standing.{standing_of, tally_of, line_number}
+use Rattle.stream_check.specs.Verdicts.{Good, Bad}
+use Rattle.stream_check.specs.Judging.{JudgesLine, AreGood, joined, report_of, EndsAtLine, EndsAtText, EndsAtMemory, EndsAtEnd, EndsAfter, StreamEnd}
+use Rattle.stream_check.specs.Forks.{NeverFork}
+use Rattle.stream_check.specs.Laws.{IsOfMemory, RepliesDecide, OneReport}
+use Rattle.stream_check.proofs.ForkLemmas.{never_fork_turned, never_fork_alone, never_fork_behind}
+use Rattle.stream_check.proofs.AgreeLemmas.{line_agrees}
+use Rattle.stream_check.proofs.LeavingLemmas.{joined-append}
+
+-- what is known of the texts of lines
+pub record TextLaws : Type 0 where
+  pub line : OneLine
+  pub begins : NoTextBegins
+  pub lines : TextsAreLines
+  pub fault : OneFault
+
+-- of two beginnings of one list one begins the other
+one_begins : (a b m n : List ℕ) → a ++ m ≡ b ++ n → ((x : List ℕ) × (b ≡ a ++ x)) ⊎ ((x : List ℕ) × (a ≡ b ++ x))
+one_begins [] b m n e = inl (b, refl)
+one_begins (x ∷ a) [] m n e = inr (x ∷ a, refl)
+one_begins (x ∷ a) (y ∷ b) m n e =
+    let head : x ≡ y = cc in
+    let tail : a ++ m ≡ b ++ n = cc in
+    elim (one_begins a b m n tail) [
+      | inl longer ↦ inl (longer.0, ap (λ z. z ∷ b) (sym head) ∙ ap (λ t. x ∷ t) longer.1)
+      | inr longer ↦ inr (longer.0, ap (λ z. z ∷ a) head ∙ ap (λ t. y ∷ t) longer.1)
+    ]
+
+same_text : TextLaws → (l o : StreamLine) → IsWithinLimits l → IsWithinLimits o → line_text l ≡ line_text o → l ≡ o
+same_text laws l o a b e = laws.line l o (line_text l) (a, refl) (b, e)
+
+-- bytes begin with the text of one line at most
+pub same_first : TextLaws → (l o : StreamLine) (m n : List ℕ) → IsWithinLimits l → IsWithinLimits o → line_text l ++ m ≡ line_text o ++ n → (l ≡ o) × (m ≡ n)
+same_first laws l o m n a b e =
+    let same : line_text l ≡ line_text o = elim (one_begins (line_text l) (line_text o) m n e) [
+      | inl longer ↦ sym (longer.1 ∙ ap (λ x. line_text l ++ x) (laws.begins l o (line_text l) (line_text o) longer.0 (a, refl) (b, refl) longer.1) ∙ append-nil (line_text l))
+      | inr longer ↦ longer.1 ∙ ap (λ x. line_text o ++ x) (laws.begins o l (line_text o) (line_text l) longer.0 (b, refl) (a, refl) longer.1) ∙ append-nil (line_text o)
+    ] in
+    (same_text laws l o a b same, append_cancel_left (line_text o) m n (subst (λ t. t ++ m ≡ line_text o ++ n) same e))
+
+-- a line that begins with what was read goes on with the byte
+goes_on : (read : List ℕ) (byte : ℕ) (after more text x : List ℕ) → IsLine standard text → text ≡ read ++ x → read ++ (byte ∷ after) ≡ text ++ more → (text ≡ read) ⊎ Begins (read ++ byte ∷ [])
+goes_on read byte after more text [] whole e split = inl (e ∙ append-nil read)
+goes_on read byte after more text (y ∷ x) whole e split =
+    let tails : byte ∷ after ≡ (y ∷ x) ++ more = append_cancel_left read (byte ∷ after) ((y ∷ x) ++ more)
+    (split ∙ ap (λ t. t ++ more) e ∙ append_assoc read (y ∷ x) more) in
+    let head : byte ≡ y = cc in
+    inr (x, subst (IsLine standard) (e ∙ ap (λ z. read ++ (z ∷ x)) (sym head) ∙ sym (append_assoc read (byte ∷ []) x)) whole)
+
+-- no line is whole in what has a text fault
+pub faulty_has_no_line : TextLaws → (rest : List ℕ) (fault : LineFault) → HasTextFault rest fault → HasNoLine rest
+faulty_has_no_line laws rest fault text line more fits e =
+    let refused = text.3 in
+    let read = refused.0 in
+    let byte = refused.1 in
+    let decides = refused.3 in
+    let whole : IsLine standard (line_text line) = (laws.lines (line_text line)).1 (line, (fits, refl)) in
+    let split : read ++ (byte ∷ text.1) ≡ line_text line ++ more =
+    sym (append_assoc read (byte ∷ []) text.1) ∙ ap (λ b. b ++ text.1) (sym refused.2) ∙ sym text.2 ∙ e in
+    elim (one_begins read (line_text line) (byte ∷ text.1) more split) [
+      | inl longer ↦ elim (goes_on read byte text.1 more (line_text line) longer.0 whole longer.1 split) [
+        | inl same ↦ decides.before.whole line [] fits (sym same ∙ sym (append-nil (line_text line)))
+        | inr begins ↦ decides.after begins
+      ]
+      | inr longer ↦ decides.before.whole line longer.0 fits longer.1
+    ]
+
+-- After the same good lines
+
+-- a bad line, twice
+lines_agree : TextLaws → (c : Setting) (lines : List StreamLine) (rest : List ℕ) (back aft : List History) (report other : Report)
+    → EndsAtLine c lines rest back report → EndsAtLine c lines rest aft other → NeverFork (joined back) (joined aft) → (back ≡ aft) × (report ≡ other)
+lines_agree laws c lines rest back aft report other a b never =
+    let same = same_first laws a.line b.line a.more b.more a.fits b.fits (sym a.text ∙ b.text) in
+    let here = subst (λ x. NeverFork (joined x) (b.block ++ [])) a.one_block (subst (λ x. NeverFork (joined back) (joined x)) b.one_block never) in
+    let bad = subst (λ l. JudgesLine c (standing_of c lines) l a.block (Bad a.deleted a.fault)) same.0 a.bad in
+    let agree = line_agrees c (standing_of c lines) b.line a.block b.block [] [] (Bad a.deleted a.fault) (Bad b.deleted b.fault) bad b.bad here in
+    let verdict = agree.verdict in
+    let deleted : a.deleted ≡ b.deleted = cc in
+    let fault : a.fault ≡ b.fault = cc in (
+      a.one_block ∙ ap (λ x. x ∷ []) agree.events ∙ sym b.one_block,
+      a.says ∙ ap (λ d. report_of (tally_of lines) d (endings.Bad (line_number (length lines)) a.fault)) deleted
+          ∙ ap (λ f. report_of (tally_of lines) b.deleted (endings.Bad (line_number (length lines)) f)) fault ∙ sym b.says,
+    )
+
+-- where a text has a fault or the stream ends, no line is whole
+rest_has_no_line : TextLaws → (lines : List StreamLine) (rest : List ℕ) (end : StreamEnd) (back : List History) (report : Report)
+    → EndsAtText lines rest back report ⊎ EndsAtEnd lines rest end back report → HasNoLine rest
+rest_has_no_line laws lines rest end back report (inl text) = faulty_has_no_line laws rest text.fault text.text
+rest_has_no_line laws lines rest end back report (inr at_end) = at_end.pending.whole
+
+-- a text fault or the end, twice
+rests_agree : TextLaws → (lines : List StreamLine) (rest : List ℕ) (end : StreamEnd) (back aft : List History) (report other : Report)
+    → EndsAtText lines rest back report ⊎ EndsAtEnd lines rest end back report → EndsAtText lines rest aft other ⊎ EndsAtEnd lines rest end aft other
+    → (back ≡ aft) × (report ≡ other)
+rests_agree laws lines rest end back aft report other (inl a) (inl b) = (
+  a.no_block ∙ sym b.no_block,
+  a.says ∙ ap (λ f. report_of (tally_of lines) 0 (endings.Bad (line_number (length lines)) (faults.Text f))) ((laws.fault rest a.fault b.fault a.text).0 b.text) ∙ sym b.says,
+)
+rests_agree laws lines rest end back aft report other (inl a) (inr b) = absurd ((laws.fault rest a.fault a.fault a.text).1 b.pending.begins)
+rests_agree laws lines rest end back aft report other (inr a) (inl b) = absurd ((laws.fault rest b.fault b.fault b.text).1 a.pending.begins)
+rests_agree laws lines rest end back aft report other (inr a) (inr b) = (a.no_block ∙ sym b.no_block, a.says ∙ sym b.says)
+
+-- what ends a stream without want of memory: a bad line, or else
+EndsWithout : Setting → List StreamLine → List ℕ → StreamEnd → List History → Report → Type 0
+EndsWithout c lines rest end back report =
+    EndsAtLine c lines rest back report ⊎ (EndsAtText lines rest back report ⊎ EndsAtEnd lines rest end back report)
+
+memory_says : (c : Setting) (lines : List StreamLine) (rest : List ℕ) (back : List History) (report : Report) → EndsAtMemory c lines rest back report → IsOfMemory report
+memory_says c lines rest back report e = (line_number (length lines), ap (λ (r : Report). r.ending) e.says)
+
+without : (c : Setting) (lines : List StreamLine) (rest : List ℕ) (end : StreamEnd) (back : List History) (report : Report)
+    → EndsAfter c lines rest end back report → ¬ IsOfMemory report → EndsWithout c lines rest end back report
+unfolding EndsWithout
+without c lines rest end back report (inl line) no_memory = inl line
+without c lines rest end back report (inr (inl text)) no_memory = inr (inl text)
+without c lines rest end back report (inr (inr (inl memory))) no_memory = absurd (no_memory (memory_says c lines rest back report memory))
+without c lines rest end back report (inr (inr (inr at_end))) no_memory = inr (inr at_end)
+
+ends_agree : TextLaws → (c : Setting) (lines : List StreamLine) (rest : List ℕ) (end : StreamEnd) (back aft : List History) (report other : Report)
+    → EndsWithout c lines rest end back report → EndsWithout c lines rest end aft other → NeverFork (joined back) (joined aft) → (back ≡ aft) × (report ≡ other)
+unfolding EndsWithout
+ends_agree laws c lines rest end back aft report other (inl a) (inl b) never = lines_agree laws c lines rest back aft report other a b never
+ends_agree laws c lines rest end back aft report other (inl a) (inr b) never = absurd (rest_has_no_line laws lines rest end aft other b a.line a.more a.fits a.text)
+ends_agree laws c lines rest end back aft report other (inr a) (inl b) never = absurd (rest_has_no_line laws lines rest end back report a b.line b.more b.fits b.text)
+ends_agree laws c lines rest end back aft report other (inr a) (inr b) never = rests_agree laws lines rest end back aft report other a b
+
+-- a stream doesn't end at a line that is good
+ends_not_good : TextLaws → (c : Setting) (lines : List StreamLine) (rest more : List ℕ) (end : StreamEnd) (back : List History) (report : Report) (line : StreamLine) (block r : History)
+    → EndsWithout c lines rest end back report → IsWithinLimits line → rest ≡ line_text line ++ more → JudgesLine c (standing_of c lines) line block Good
+    → NeverFork (joined back) (block ++ r) → ⊥
+unfolding EndsWithout
+ends_not_good laws c lines rest more end back report line block r (inr a) fits text good never = rest_has_no_line laws lines rest end back report a line more fits text
+ends_not_good laws c lines rest more end back report line block r (inl a) fits text good never =
+    let same = same_first laws a.line line a.more more a.fits fits (sym a.text ∙ text) in
+    let bad = subst (λ l. JudgesLine c (standing_of c lines) l a.block (Bad a.deleted a.fault)) same.0 a.bad in
+    let here = subst (λ x. NeverFork (joined x) (block ++ r)) a.one_block never in
+    let agree = line_agrees c (standing_of c lines) line a.block block [] r (Bad a.deleted a.fault) Good bad good here in
+    let verdict = agree.verdict in cc
+
+-- one line moves from the lines to those before them
+behind_one : (before : List StreamLine) (line : StreamLine) (lines all : List StreamLine) → all ≡ before ++ (line ∷ lines) → all ≡ (before ++ line ∷ []) ++ lines
+behind_one before line lines all e = e ∙ sym (append_assoc before (line ∷ []) lines)
+
+pub split_first : (line : StreamLine) (lines : List StreamLine) (rest : List ℕ) → flat_map line_text (line ∷ lines) ++ rest ≡ line_text line ++ (flat_map line_text lines ++ rest)
+split_first line lines rest = append_assoc (line_text line) (flat_map line_text lines) rest
+
+-- the good lines, their blocks, what comes after, and the report are the same
+streams_agree : TextLaws → (c : Setting) (end : StreamEnd) (before lines others all both : List StreamLine) (rest left : List ℕ)
+    (front back fore aft : List History) (report other : Report)
+    → all ≡ before ++ lines → both ≡ before ++ others
+    → flat_map line_text lines ++ rest ≡ flat_map line_text others ++ left
+    → AllByRecursion IsWithinLimits lines → AllByRecursion IsWithinLimits others
+    → AreGood c before lines front → AreGood c before others fore
+    → EndsWithout c all rest end back report → EndsWithout c both left end aft other
+    → NeverFork (joined front ++ joined back) (joined fore ++ joined aft)
+    → (front ≡ fore) × (back ≡ aft) × (report ≡ other)
+streams_agree laws c end before [] [] all both rest left [] back [] aft report other is also text fit fits good fine ends stops never =
+    let same = is ∙ sym also in
+    let agree = ends_agree laws c both left end back aft report other
+    (subst (λ r. EndsWithout c both r end back report) text (subst (λ ls. EndsWithout c ls rest end back report) same ends)) stops never in
+    (refl, agree.0, agree.1)
+streams_agree laws c end before [] others all both rest left (b ∷ front) back fore aft report other is also text fit fits good fine ends stops never = absurd good
+streams_agree laws c end before lines [] all both rest left front back (b ∷ fore) aft report other is also text fit fits good fine ends stops never = absurd fine
+streams_agree laws c end before (l ∷ lines) others all both rest left [] back fore aft report other is also text fit fits good fine ends stops never = absurd good
+streams_agree laws c end before lines (o ∷ others) all both rest left front back [] aft report other is also text fit fits good fine ends stops never = absurd fine
+streams_agree laws c end before [] (o ∷ others) all both rest left [] back (b ∷ fore) aft report other is also text fit fits good fine ends stops never =
+    let here = subst (λ ls. EndsWithout c ls rest end back report) (is ∙ append-nil before) ends in
+    absurd (ends_not_good laws c before rest (flat_map line_text others ++ left) end back report o b (joined fore ++ joined aft)
+    here fits.0 (text ∙ split_first o others left) fine.0 (subst (λ e. NeverFork (joined back) e) (append_assoc b (joined fore) (joined aft)) never))
+streams_agree laws c end before (l ∷ lines) [] all both rest left (b ∷ front) back [] aft report other is also text fit fits good fine ends stops never =
+    let here = subst (λ ls. EndsWithout c ls left end aft other) (also ∙ append-nil before) stops in
+    absurd (ends_not_good laws c before left (flat_map line_text lines ++ rest) end aft other l b (joined front ++ joined back)
+    here fit.0 (sym text ∙ split_first l lines rest) good.0
+    (subst (λ e. NeverFork (joined aft) e) (append_assoc b (joined front) (joined back)) (never_fork_turned ((b ++ joined front) ++ joined back) (joined aft) never)))
+streams_agree laws c end before (l ∷ lines) (o ∷ others) all both rest left (b ∷ front) back (d ∷ fore) aft report other is also text fit fits good fine ends stops never =
+    let same = same_first laws l o (flat_map line_text lines ++ rest) (flat_map line_text others ++ left) fit.0 fits.0
+    (sym (split_first l lines rest) ∙ text ∙ split_first o others left) in
+    let here = subst (λ e. NeverFork e (d ++ (joined fore ++ joined aft))) (append_assoc b (joined front) (joined back))
+    (subst (λ e. NeverFork ((b ++ joined front) ++ joined back) e) (append_assoc d (joined fore) (joined aft)) never) in
+    let first = subst (λ x. JudgesLine c (standing_of c before) x b Good) same.0 good.0 in
+    let agree = line_agrees c (standing_of c before) o b d (joined front ++ joined back) (joined fore ++ joined aft) Good Good first fine.0 here in
+    let later = never_fork_behind d (joined front ++ joined back) (joined fore ++ joined aft)
+    (subst (λ e. NeverFork (e ++ (joined front ++ joined back)) (d ++ (joined fore ++ joined aft))) agree.events here) in
+    let step = streams_agree laws c end (before ++ o ∷ []) lines others all both rest left front back fore aft report other
+    (behind_one before o lines all (subst (λ x. all ≡ before ++ (x ∷ lines)) same.0 is)) (behind_one before o others both also)
+    same.1 fit.1 fits.1
+    (subst (λ x. AreGood c (before ++ x ∷ []) lines front) same.0 good.1) fine.1 ends stops later in
+    (ap (λ x. x ∷ front) agree.events ∙ ap (λ x. d ∷ x) step.0, step.1, step.2)
+
+pub replies_decide : TextLaws → RepliesDecide
+replies_decide laws c bytes end blocks others report other never a b no_memory none =
+    let split = subst (λ e. NeverFork e (joined b.front ++ joined b.back)) (ap joined a.split ∙ joined-append a.front a.back)
+    (subst (λ e. NeverFork (joined blocks) e) (ap joined b.split ∙ joined-append b.front b.back) never) in
+    let agree = streams_agree laws c end [] a.lines b.lines a.lines b.lines a.rest b.rest a.front a.back b.front b.back report other
+    refl refl (sym a.begins.text ∙ b.begins.text) a.begins.fits b.begins.fits a.begins.good b.begins.good
+    (without c a.lines a.rest end a.back report a.ends no_memory) (without c b.lines b.rest end b.back other b.ends none) split in
+    (a.split ∙ ap (λ x. x ++ a.back) agree.0 ∙ ap (λ x. b.front ++ x) agree.1 ∙ sym b.split, agree.2)
+
+pub one_report : TextLaws → OneReport
+one_report laws c bytes end blocks others report other same a b no_memory none =
+    replies_decide laws c bytes end blocks others report other (subst (λ e. NeverFork (joined blocks) e) same (never_fork_alone (joined blocks))) a b no_memory none

@@ -1,0 +1,192 @@
+-- The counts of a report are at most the identities, in a legal history.
+use Rattle.std.proofs.Common.{◌≡◌, ◌<◌, ◌≤◌, ◌+◌, ◌||◌, ℕ, ℤ, nat_abs, Bool, true, false, List, [], ◌∷◌, ◌++◌, length, eqb, inl, inr, refl, sym, ap, subst, ◌∙◌, arith, append_assoc, append-nil}
+use Rattle.std.specs.List.{AllByRecursion, list_any, sum_by}
+use Rattle.std.proofs.lemmas.Bool.Decides.{eqb_tells}
+use Rattle.std.proofs.lemmas.List.Sums.{sum_by-append}
+use Rattle.std.proofs.lemmas.Map.Steps.{length-le_from_distinct_below}
+use Rattle.lrup_model.specs.Clause.{IsTautology}
+use Rattle.lrup_model.specs.Layout.{LayoutValue, last_identity, IsIdentity, Owns}
+use Rattle.lrup_model.specs.declared.layout.Owner.TheVariants as owners
+use Rattle.lrup_model.specs.Event as events
+use Rattle.lrup_model.specs.Event.{Event, History, Reply, own}
+use Rattle.lrup_model.specs.State.{State, run, opening}
+use Rattle.lrup_text.specs.Lines.{StreamLine, Addition, Deletion}
+use Rattle.propagate.specs.Distinct.{distinct}
+use Rattle.stream_check.specs.declared.fault.Fault.{Fault}
+use Rattle.stream_check.specs.declared.fault.Fault.TheVariants as faults
+use Rattle.stream_check.specs.declared.report.Report.{Report}
+use Rattle.stream_check.specs.Setting.{Setting, side_for}
+use Rattle.stream_check.specs.Standing.{Standing, standing_of, is_gone, deleted_by, added_by, last_in}
+use Rattle.stream_check.specs.Verdicts.{Verdict, Good, Bad, Fails, Test}
+use Rattle.stream_check.specs.Additions.{AtConflict, AtReply, JudgesHints, published_by, JudgesAddition}
+use Rattle.stream_check.specs.Judging.{JudgesLine, AreGood, joined, EndsAfter, StreamEnd}
+use Rattle.stream_check.specs.Laws.{CountsWithin}
+use Rattle.stream_check.proofs.StandingLemmas.{last_below, same_last}
+use Rattle.stream_check.proofs.LeavingLemmas.{joined-append}
+use Rattle.stream_check.proofs.CountLemmas.{SameOwn, OwnRun, own_runs, run_on}
+use Rattle.stream_check.proofs.DeletedLemmas.{identity_below, TakenAt, Taken, Apart, are_distinct, AreTaken, identities_took, lines_took}
+
+-- Identities that differ are at most as many as there are
+
+all_below : (xs : List ℕ) (n : ℕ) → AllByRecursion (λ x. x < n) xs → (q : ℕ) → list_any (eqb q) xs ≡ true → q < n
+all_below [] n all q e = absurd (let f : false ≡ true = e in cc)
+all_below (x ∷ xs) n all q e = elim (eqb_tells q x) [
+  | inl same ↦ subst (λ y. y < n) (sym same.1) all.0
+  | inr other ↦ all_below xs n all.1 q (sym (ap (λ b. b || list_any (eqb q) xs) other.0) ∙ e)
+]
+
+-- an identity that was taken is one
+taken_is : (c : Setting) (n : State) (gone : ℕ → Bool) (earlier : List ℕ) (id : ℕ) → Taken c n gone earlier id → IsIdentity c.layout id
+taken_is c n gone earlier id t = identity_below c.layout id
+    (λ e. subst (λ o. TakenAt (side_for c.stream o) n gone earlier id) e t)
+
+not_zero : (c : Setting) (n : State) (gone : ℕ → Bool) (earlier ids : List ℕ) → AllByRecursion (Taken c n gone earlier) ids → AllByRecursion (λ y. eqb 0 y ≡ false) ids
+not_zero c n gone earlier [] all = tt
+not_zero c n gone earlier (id ∷ ids) all =
+    let is = taken_is c n gone earlier id all.0 in
+    (elim (eqb_tells 0 id) [ inl same ↦ absurd (omega (arith, same.1, is.0)) | inr other ↦ other.0 ], not_zero c n gone earlier ids all.1)
+
+taken_below : (c : Setting) (n : State) (gone : ℕ → Bool) (earlier ids : List ℕ) → AllByRecursion (Taken c n gone earlier) ids → AllByRecursion (λ x. x < last_identity c.layout + 1) ids
+taken_below c n gone earlier [] all = tt
+taken_below c n gone earlier (id ∷ ids) all =
+    let is = taken_is c n gone earlier id all.0 in (omega (arith, is.1), taken_below c n gone earlier ids all.1)
+
+taken_within : (c : Setting) (n : State) (gone : ℕ → Bool) (earlier : List ℕ) (many : ℕ) → AreTaken c n gone earlier many → many ≤ last_identity c.layout
+taken_within c n gone earlier many are =
+    let with_zero : Apart (0 ∷ are.ids) = (not_zero c n gone earlier are.ids are.taken, are.apart) in
+    let below : AllByRecursion (λ x. x < last_identity c.layout + 1) (0 ∷ are.ids) = (omega arith, taken_below c n gone earlier are.ids are.taken) in
+    let few : length (0 ∷ are.ids) ≤ last_identity c.layout + 1 =
+    length-le_from_distinct_below (0 ∷ are.ids) (last_identity c.layout + 1) (are_distinct (0 ∷ are.ids) with_zero) (all_below (0 ∷ are.ids) (last_identity c.layout + 1) below) in
+    omega (arith, few, are.count)
+
+-- A bad addition deletes nothing
+
+deleted_of : Verdict → ℕ
+deleted_of Good = 0
+deleted_of (Bad deleted fault) = deleted
+
+failed_none : (fault : Fault) (es : History) (v : Verdict) → Fails fault es v → deleted_of v ≡ 0
+unfolding deleted_of
+failed_none fault es v f = ap deleted_of f.1
+
+test_none : (Holds : Type 0) (fault : Fault) (es : History) (v : Verdict) (A : Type 0) → (A → deleted_of v ≡ 0) → Test Holds fault es v A → deleted_of v ≡ 0
+test_none Holds fault es v A next (inl bad) = failed_none fault es v bad.1
+test_none Holds fault es v A next (inr good) = next good.1
+
+conflict_none : (hints : List ℕ) (published : Event) (es : History) (v : Verdict) → AtConflict hints published es v → deleted_of v ≡ 0
+unfolding deleted_of
+conflict_none [] published es v at = ap deleted_of at.1
+conflict_none (h ∷ hints) published es v at = failed_none (faults.Excess h) es v at
+
+reply_none : (x : Reply) (n : List ℤ) (h : ℕ) (hints : List ℕ) (published : Event) (es : History) (v : Verdict) (A : List ℤ → Type 0)
+    → ((m : List ℤ) → A m → deleted_of v ≡ 0) → AtReply x n h hints published es v A → deleted_of v ≡ 0
+reply_none events.vacant n h hints published es v A next at = failed_none (faults.Missing h) es v at
+reply_none events.retired n h hints published es v A next at = failed_none (faults.Retired h) es v at
+reply_none (events.live d) n h hints published es v A next (inl conflict) = conflict_none hints published es v conflict.1
+reply_none (events.live d) n h hints published es v A next (inr (inl unit)) = next _ unit.2
+reply_none (events.live d) n h hints published es v A next (inr (inr neither)) = failed_none (faults.NotUnit h) es v neither.2
+
+hints_none : (c : Setting) (gone : ℕ → Bool) (published : Event) (n : List ℤ) (hints : List ℕ) (es : History) (v : Verdict) → JudgesHints c gone published n hints es v → deleted_of v ≡ 0
+hints_none c gone published n [] es v judged = failed_none faults.NoConflict es v judged
+hints_none c gone published n (h ∷ hints) es v judged =
+    test_none (gone h ≡ false) (faults.Dropped h) es v _
+    (λ a. reply_none a.reply n h hints published a.rest v (λ m. JudgesHints c gone published m hints a.rest v)
+    (λ m k. hints_none c gone published m hints a.rest v k) a.next)
+    judged
+
+addition_none : (c : Setting) (st : Standing) (id : ℕ) (lits : List ℤ) (hints : List ℕ) (es : History) (v : Verdict) → JudgesAddition c st id lits hints es v → deleted_of v ≡ 0
+addition_none c st id lits hints es v judged =
+    test_none (Owns c.layout c.stream id × (st.last < id)) faults.Identity es v _
+    (λ a. test_none (AllByRecursion (λ l. nat_abs l ≤ c.layout.vars) lits) faults.Literal es v _
+    (λ a. test_none (¬ IsTautology lits) faults.Tautology es v _
+    (λ a. test_none (length (distinct lits) ≤ st.free) faults.NoRoom es v _
+    (λ a. hints_none c st.gone (published_by c id lits) (distinct lits) hints es v a) a) a) a) judged
+
+-- Deleted
+
+line_deletes : (c : Setting) (n : State) (before : List StreamLine) (line : StreamLine) (many deleted : ℕ) (fault : Fault) (es rest : History)
+    → JudgesLine c (standing_of c before) line es (Bad deleted fault) → OwnRun n (es ++ rest) → AreTaken c n (is_gone c before) [] many → many + deleted ≤ last_identity c.layout
+unfolding deleted_of
+line_deletes c n before (Addition id lits hints) many deleted fault es rest judged answers are =
+    let none = addition_none c (standing_of c before) id lits hints es (Bad deleted fault) judged in
+    omega (arith, none, taken_within c n (is_gone c before) [] many are)
+line_deletes c n before (Deletion lead ids) many deleted fault es rest judged answers are =
+    let took = identities_took c n (is_gone c before) [] ids many es rest (Bad deleted fault) judged answers are in
+    omega (arith, took.4, taken_within c took.0 (is_gone c before) took.1 took.2 took.3)
+
+ends_delete : (c : Setting) (n : State) (lines : List StreamLine) (rest : List ℕ) (end : StreamEnd) (back : List History) (report : Report)
+    → OwnRun n (joined back) → AreTaken c n (is_gone c lines) [] (sum_by (λ l. length (deleted_by l)) lines) → EndsAfter c lines rest end back report
+    → report.deleted ≤ last_identity c.layout
+ends_delete c n lines rest end back report answers are (inl e) =
+    let here = subst (λ b. OwnRun n (joined b)) e.one_block answers in
+    let few = line_deletes c n lines e.line (sum_by (λ l. length (deleted_by l)) lines) e.deleted e.fault e.block [] e.bad here are in
+    subst (λ (r : Report). r.deleted ≤ last_identity c.layout) (sym e.says) few
+ends_delete c n lines rest end back report answers are (inr (inl e)) =
+    let few = taken_within c n (is_gone c lines) [] (sum_by (λ l. length (deleted_by l)) lines) are in
+    subst (λ (r : Report). r.deleted ≤ last_identity c.layout) (sym e.says) (omega (arith, few))
+ends_delete c n lines rest end back report answers are (inr (inr (inl e))) =
+    let here = subst (λ b. OwnRun n (joined b)) e.one_block answers in
+    let took = identities_took c n (is_gone c lines) [] e.earlier (sum_by (λ l. length (deleted_by l)) lines) e.block [] Good e.stops.before here are in
+    let few = taken_within c (run n e.block) (is_gone c lines) e.earlier (sum_by (λ l. length (deleted_by l)) lines + length e.earlier) took in
+    subst (λ (r : Report). r.deleted ≤ last_identity c.layout) (sym e.says) few
+ends_delete c n lines rest end back report answers are (inr (inr (inr e))) =
+    let few = taken_within c n (is_gone c lines) [] (sum_by (λ l. length (deleted_by l)) lines) are in
+    subst (λ (r : Report). r.deleted ≤ last_identity c.layout) (sym e.says) (omega (arith, few))
+
+-- Added
+
+-- an addition that is good has an identity of the stream's own
+owns_good : (c : Setting) (st : Standing) (id : ℕ) (lits : List ℤ) (hints : List ℕ) (es : History) → JudgesAddition c st id lits hints es Good → Owns c.layout c.stream id
+owns_good c st id lits hints es (inl bad) = absurd (let e : Good ≡ Bad 0 faults.Identity = bad.1.1 in cc)
+owns_good c st id lits hints es (inr good) = good.0.0
+
+owns_below : (p : LayoutValue) (s id : ℕ) → Owns p s id → id ≤ last_identity p
+owns_below p s id owns = (identity_below p id (λ e. let f : owners.Outside ≡ owners.Stream s = sym e ∙ owns in cc)).1
+
+-- so many were added that the last identity is at least that far from the formula's
+record AreFewAdded (c : Setting) (lines : List StreamLine) : Type 0 where
+  few : sum_by added_by lines + c.layout.clauses ≤ last_in c.layout lines
+  below : last_in c.layout lines ≤ last_identity c.layout
+
+one_added : (c : Setting) (before : List StreamLine) (line : StreamLine) (es : History) → JudgesLine c (standing_of c before) line es Good → AreFewAdded c before → AreFewAdded c (before ++ line ∷ [])
+one_added c before (Addition id lits hints) es judged are =
+    let last = same_last c before (Addition id lits hints) es judged in
+    let above = last_below c (standing_of c before) id lits hints es judged in
+    let within = owns_below c.layout c.stream id (owns_good c (standing_of c before) id lits hints es judged) in
+    record {
+      few = omega (arith, last, above, are.few, sum_by-append added_by before (Addition id lits hints ∷ []));
+      below = omega (arith, last, within);
+    }
+one_added c before (Deletion lead ids) es judged are =
+    let last = same_last c before (Deletion lead ids) es judged in
+    record {
+      few = omega (arith, last, are.few, sum_by-append added_by before (Deletion lead ids ∷ []));
+      below = omega (arith, last, are.below);
+    }
+
+lines_added : (c : Setting) (before lines : List StreamLine) (blocks : List History) → AreGood c before lines blocks → AreFewAdded c before → AreFewAdded c (before ++ lines)
+lines_added c before [] blocks good are = subst (AreFewAdded c) (sym (append-nil before)) are
+lines_added c before (line ∷ lines) [] good are = absurd good
+lines_added c before (line ∷ lines) (block ∷ blocks) good are =
+    subst (AreFewAdded c) (append_assoc before (line ∷ []) lines)
+    (lines_added c (before ++ line ∷ []) lines blocks good.1 (one_added c before line block good.0 are))
+
+added_is : (c : Setting) (lines : List StreamLine) (rest : List ℕ) (end : StreamEnd) (back : List History) (report : Report) → EndsAfter c lines rest end back report → report.added ≡ sum_by added_by lines
+added_is c lines rest end back report (inl e) = ap (λ (r : Report). r.added) e.says
+added_is c lines rest end back report (inr (inl e)) = ap (λ (r : Report). r.added) e.says
+added_is c lines rest end back report (inr (inr (inl e))) = ap (λ (r : Report). r.added) e.says
+added_is c lines rest end back report (inr (inr (inr e))) = ap (λ (r : Report). r.added) e.says
+
+pub counts_within : CountsWithin
+unfolding SameOwn
+counts_within f c h bytes end blocks report legal mine j =
+    let answers : OwnRun (opening f) (own h c.stream) = own_runs f c.layout c.stream (opening f) (opening f) h legal.events (λ id owns. refl) in
+    let split = subst (OwnRun (opening f)) (mine ∙ ap joined j.split ∙ joined-append j.front j.back) answers in
+    let none : AreTaken c (opening f) (is_gone c []) [] 0 = record { ids = []; apart = tt; taken = tt; count = refl } in
+    let taken = lines_took c (opening f) [] j.lines j.front 0 (joined j.back) j.begins.good split none in
+    let exact : AreTaken c (run (opening f) (joined j.front)) (is_gone c j.lines) [] (sum_by (λ l. length (deleted_by l)) j.lines) =
+    subst (AreTaken c (run (opening f) (joined j.front)) (is_gone c j.lines) []) (omega arith) taken in
+    let added = lines_added c [] j.lines j.front j.begins.good (record { few = omega arith; below = omega arith }) in (
+      omega (arith, added_is c j.lines j.rest end j.back report j.ends, added.few, added.below),
+      ends_delete c (run (opening f) (joined j.front)) j.lines j.rest end j.back report (run_on (opening f) (joined j.front) (joined j.back) split) exact j.ends,
+    )
