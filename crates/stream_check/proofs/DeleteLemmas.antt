@@ -20,47 +20,7 @@ use Rattle.stream_check.specs.Setting.{Setting, Side, formula, own, foreign, out
 use Rattle.stream_check.specs.Standing.{is_among}
 use Rattle.stream_check.specs.Verdicts.{Verdict, Good, Bad}
 use Rattle.stream_check.specs.Deletions.{is_dropped, DeletesAt, JudgesIdentities, JudgesDeletion, StopsDeletion}
-use Rattle.stream_check.specs.Checking.{IsAt, DeletesSide, DeletesOne, AreDropped, AreCounted}
-
--- The own identities that are live
-
-among_without : (xs : List ℕ) (id k : ℕ) → (k ≡ id → ⊥) → is_among xs k ≡ true → is_among (remove_key (λ j. j == id) xs) k ≡ true
-among_without [] id k other among = among
-among_without (x ∷ xs) id k other among =
-    elim (cases_Bool (x == id)) [
-      | inl same ↦ elim (cases_Bool (x == k)) [
-        | inl here ↦ absurd (other (sym (eqb-true x k here) ∙ eqb-true x id same))
-        | inr not_here ↦ subst (λ (ys : List ℕ). is_among ys k ≡ true) (sym (ap (λ (b : Bool). cond b xs (x ∷ remove_key (λ j. j == id) xs)) same))
-            (sym (ap (λ (b : Bool). b || is_among xs k) not_here) ∙ among)
-      ]
-      | inr apart ↦ subst (λ (ys : List ℕ). is_among ys k ≡ true) (sym (ap (λ (b : Bool). cond b xs (x ∷ remove_key (λ j. j == id) xs)) apart)) (elim (cases_Bool (x == k)) [
-        | inl here ↦ ap (λ (b : Bool). b || is_among (remove_key (λ j. j == id) xs) k) here
-        | inr not_here ↦ ap (λ (b : Bool). b || is_among (remove_key (λ j. j == id) xs) k) not_here
-            ∙ among_without xs id k other (sym (ap (λ (b : Bool). b || is_among xs k) not_here) ∙ among)
-      ])
-    ]
-
-not_retired : (slot : Slot) → IsLive (retire_slot slot) → ⊥
-not_retired absent h = h
-not_retired (live c) h = h
-not_retired (retired c) h = h
-
--- one of them is retired
-pub counted_retire : (p q : Place) (s id retired_before last : ℕ) → s ≡ p.caller.stream → Tells p q (events.retire s id retiring.Done ∷ []) → Owns p.caller.layout p.caller.stream id → IsLive (p.own id)
-    → AreCounted p retired_before last → AreCounted q (retired_before + 1) last
-counted_retire p q s id retired_before last is tells owns alive counted =
-    let fewer = remove_key (λ j. j == id) counted.live in
-    record {
-      live = fewer;
-      few = omega (arith, counted.few, length-remove_key (λ j. j == id) counted.live (counted.all id owns alive));
-      all = λ j theirs left.
-          let mine : Owns p.caller.layout p.caller.stream j = subst (λ (r : Caller). Owns r.layout r.stream j) tells.caller theirs in
-          let here : IsLive (put p.own id (retire_slot (p.own id)) j) = subst IsLive (tells.own j mine) left in
-          elim (cases_eq j id) [
-            | inl same ↦ absurd (not_retired (p.own id) (subst IsLive (put-same p.own id (retire_slot (p.own id)) j same) here))
-            | inr other ↦ among_without counted.live id j other (counted.all j mine (subst IsLive (put-other p.own id (retire_slot (p.own id)) j other) here))
-          ];
-    }
+use Rattle.stream_check.specs.Checking.{IsAt, DeletesSide, DeletesOne, AreDropped}
 
 -- The dropped ones
 

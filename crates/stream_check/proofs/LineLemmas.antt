@@ -21,12 +21,12 @@ use Rattle.stream_check.specs.declared.held.Held.{Held}
 use Rattle.stream_check.specs.declared.deletion.Stop.{Stop}
 use Rattle.stream_check.specs.declared.deletion.Stop.TheVariants as stops
 use Rattle.stream_check.specs.Setting.{Setting, side_of, is_shared}
-use Rattle.stream_check.specs.Standing.{Standing, Tally, is_among, size_of as line_size, deleted_by, added_by, adds_empty}
+use Rattle.stream_check.specs.Standing.{Standing, Tally, capped, is_among, size_of as line_size, deleted_by, added_by, adds_empty}
 use Rattle.stream_check.specs.Verdicts.{Good, Bad}
 use Rattle.stream_check.specs.Additions.{published_by, JudgesAddition}
 use Rattle.stream_check.specs.Judging.{JudgesLine}
 use Rattle.stream_check.specs.Leaving.{Holding, TakesLine, SameStanding, standing_after, tally_after}
-use Rattle.stream_check.specs.Checking.{IsAt, IsFetch, IsRetire, MakesEvents, AreCounted, AreDropped, Deletes}
+use Rattle.stream_check.specs.Checking.{IsAt, IsFetch, IsRetire, MakesEvents, AreDropped, Deletes}
 use Rattle.stream_check.specs.Checker.{standing_at, tally_at, deleted_at, KeepsLines}
 use Rattle.stream_check.specs.Taking.{hold, IsReady, DeletesMore, TakesBy}
 use Rattle.stream_check.proofs.AddLemmas.{spent-skips, spent-fetches, run-fetches, still_at}
@@ -37,15 +37,6 @@ use Rattle.stream_check.proofs.AddLemmas.{spent-skips, spent-fetches, run-fetche
 own_before : (p q : Place) (es : History) (j : ℕ) → Tells p q es → Owns q.caller.layout q.caller.stream j → Owns p.caller.layout p.caller.stream j
 own_before p q es j tells theirs = subst (λ (r : Caller). Owns r.layout r.stream j) tells.caller theirs
 
--- own identities that are live stay among those that were, where nothing becomes live
-counted_on : (p q : Place) (es : History) (retired last : ℕ) → Tells p q es → ((j : ℕ) → IsLive (run p.own es j) → IsLive (p.own j)) → AreCounted p retired last → AreCounted q retired last
-counted_on p q es retired last tells fewer counted = record {
-  live = counted.live;
-  few = counted.few;
-  all = λ j theirs alive.
-      let mine = own_before p q es j tells theirs in counted.all j mine (fewer j (subst IsLive (tells.own j mine) alive));
-}
-
 vacant_on : (p q : Place) (es : History) (last : ℕ) → Tells p q es → ((j : ℕ) → p.own j ≡ absent → run p.own es j ≡ absent) → IsVacantAbove p last → IsVacantAbove q last
 vacant_on p q es last tells stays vacant j theirs above =
     let mine = own_before p q es j tells theirs in tells.own j mine ∙ stays j (vacant j mine above)
@@ -54,7 +45,6 @@ pub ready_fetches : (h : Held) (p q : Place) (es : History) → Tells p q es →
 ready_fetches h p q es tells quiet ready = record {
   at = still_at h.setting p q es ready.at tells;
   vacant = vacant_on p q es h.last tells (λ j none. ap (λ (m : State). m j) (run-fetches p.own es quiet) ∙ none) ready.vacant;
-  counted = counted_on p q es h.retired h.last tells (λ j alive. subst (λ (m : State). IsLive (m j)) (run-fetches p.own es quiet) alive) ready.counted;
 }
 
 -- The place after retires alone
@@ -83,11 +73,10 @@ pub room_retires : (p q : Place) (es : History) → Tells p q es → AllByRecurs
 room_retires p q es tells quiet = omega (arith, tells.room, spent-retires p.caller.stream es quiet)
 
 -- after the retires of a deletion
-pub ready_retires : (old new : Held) (p q : Place) (es : History) → Tells p q es → AllByRecursion IsRetire es → new.setting ≡ old.setting → new.last ≡ old.last → AreCounted q new.retired new.last → IsReady old p → IsReady new q
-ready_retires old new p q es tells quiet setting last counted ready = record {
+pub ready_retires : (old new : Held) (p q : Place) (es : History) → Tells p q es → AllByRecursion IsRetire es → new.setting ≡ old.setting → new.last ≡ old.last → IsReady old p → IsReady new q
+ready_retires old new p q es tells quiet setting last ready = record {
   at = subst (λ (c : Setting). IsAt c q) (sym setting) (still_at old.setting p q es ready.at tells);
   vacant = subst (IsVacantAbove q) (sym last) (vacant_on p q es old.last tells (λ j none. run-retires-absent p.own es j quiet none) ready.vacant);
-  counted = counted;
 }
 
 -- The place after a publish
@@ -95,13 +84,9 @@ ready_retires old new p q es tells quiet setting last counted ready = record {
 published_run : (m : State) (fetches : History) (c : Setting) (id : ℕ) (lits : List ℤ) → AllByRecursion IsFetch fetches → run m (fetches ++ published_by c id lits ∷ []) ≡ put m id (live (distinct lits))
 published_run m fetches c id lits quiet = run-append m fetches (published_by c id lits ∷ []) ∙ ap (λ (n : State). put n id (live (distinct lits))) (run-fetches m fetches quiet)
 
-or_true : (a : Bool) → (a || true) ≡ true
-or_true true = refl
-or_true false = refl
-
-pub ready_publish : (old new : Held) (p q : Place) (es : History) (id : ℕ) (lits : List ℤ) → Tells p q es → MakesEvents old.setting id lits es None → new.setting ≡ old.setting → new.last ≡ id → new.retired ≡ old.retired → old.last < id
+pub ready_publish : (old new : Held) (p q : Place) (es : History) (id : ℕ) (lits : List ℤ) → Tells p q es → MakesEvents old.setting id lits es None → new.setting ≡ old.setting → new.last ≡ id → old.last < id
     → IsReady old p → IsReady new q
-ready_publish old new p q es id lits tells made setting last retired above ready =
+ready_publish old new p q es id lits tells made setting last above ready =
     let c = old.setting in
     let there : run p.own es ≡ put p.own id (live (distinct lits)) = ap (run p.own) made.2 ∙ published_run p.own made.0 c id lits made.1 in
     let owned : (j : ℕ) → Owns q.caller.layout q.caller.stream j → q.own j ≡ put p.own id (live (distinct lits)) j =
@@ -112,15 +97,6 @@ ready_publish old new p q es id lits tells made setting last retired above ready
           let over : id < j = omega (arith, higher, last) in
           let other : j ≡ id → ⊥ = λ same. omega (arith, over, same) in
           owned j theirs ∙ put-other p.own id (live (distinct lits)) j other ∙ ready.vacant j (own_before p q es j tells theirs) (omega (arith, over, above));
-      counted = record {
-        live = id ∷ ready.counted.live;
-        few = omega (arith, ready.counted.few, above, last, retired);
-        all = λ j theirs alive. elim (cases_eq j id) [
-          | inl same ↦ ap (λ (b : Bool). b || is_among ready.counted.live j) (eq-eqb id j (sym same))
-          | inr other ↦ ap (λ (b : Bool). id == j || b) (ready.counted.all j (own_before p q es j tells theirs) (subst IsLive (owned j theirs ∙ put-other p.own id (live (distinct lits)) j other) alive))
-              ∙ or_true (id == j)
-        ];
-      };
     }
 
 pub room_publish : (old : Held) (p q : Place) (es : History) (id : ℕ) (lits : List ℤ) → IsAt old.setting p → Tells p q es → MakesEvents old.setting id lits es None → q.room ≡ p.room - length (distinct lits)
@@ -190,7 +166,7 @@ pub record Counts (mid new : Held) : Type 0 where
   pub dropped : new.dropped ≡ mid.dropped
   pub retired : new.retired ≡ mid.retired
 
-pub takes_deletion : (old mid new : Held) (free left : ℕ) (lead : ℕ) (ids : List ℕ) (es : History) (count : ℕ) → KeepsLines old mid → Counts mid new → deleted_at mid ≡ deleted_at old + count → left ≡ free
+pub takes_deletion : (old mid new : Held) (free left : ℕ) (lead : ℕ) (ids : List ℕ) (es : History) (count : ℕ) → KeepsLines old mid → Counts mid new → deleted_at mid ≡ capped (deleted_at old + count) → left ≡ free
     → Deletes old.setting old.dropped mid.dropped ids es count None → TakesBy old free new left (Deletion lead ids) es None
 takes_deletion old mid new free left lead ids es count kept counts more room deletes =
     let line : StreamLine = Deletion lead ids in (
@@ -212,10 +188,10 @@ takes_deletion old mid new free left lead ids es count kept counts more room del
 
 -- What is held after a line that stopped
 
-pub deletes_more : (old mid : Held) (count : ℕ) → KeepsLines old mid → deleted_at mid ≡ deleted_at old + count → DeletesMore old mid count
+pub deletes_more : (old mid : Held) (count : ℕ) → KeepsLines old mid → deleted_at mid ≡ capped (deleted_at old + count) → DeletesMore old mid count
 deletes_more old mid count kept more = record { added = kept.added; deleted = more; empty = kept.empty; line = kept.line }
 
-pub stops_deletion : (old mid : Held) (free left : ℕ) (lead : ℕ) (ids : List ℕ) (es : History) (count : ℕ) (stop : Stop) → KeepsLines old mid → deleted_at mid ≡ deleted_at old + count
+pub stops_deletion : (old mid : Held) (free left : ℕ) (lead : ℕ) (ids : List ℕ) (es : History) (count : ℕ) (stop : Stop) → KeepsLines old mid → deleted_at mid ≡ capped (deleted_at old + count)
     → Deletes old.setting old.dropped mid.dropped ids es count (Some stop) → TakesBy old free mid left (Deletion lead ids) es (Some stop)
 stops_deletion old mid free left lead ids es count (stops.Bad fault) kept more deletes = (count, deletes, deletes_more old mid count kept more)
 stops_deletion old mid free left lead ids es count stops.Memory kept more deletes =

@@ -14,7 +14,7 @@ use Rattle.stream_check.specs.declared.deletion.Stop.{Stop}
 use Rattle.stream_check.specs.declared.deletion.Stop.TheVariants as stops
 use Rattle.stream_check.specs.declared.line.Taken.TheVariants as taken
 use Rattle.stream_check.specs.Setting.{Setting}
-use Rattle.stream_check.specs.Standing.{Tally}
+use Rattle.stream_check.specs.Standing.{capped, Tally}
 use Rattle.stream_check.specs.Judging.{report_of}
 use Rattle.stream_check.specs.Leaving.{Going, Over, CheckerState, Leaves}
 use Rattle.stream_check.specs.Checker.{tally_at, report_at, LeavesOn}
@@ -26,7 +26,7 @@ use Rattle.stream_check.proofs.LeavingLemmas.{pending_grows, bad_line_taken, bad
 report_is : (old new : Held) (count : ℕ) (ending : ℕ → Ending) → DeletesMore old new count → report_of (tally_at old) count (ending old.line) ≡ report_at (tally_at new) (ending new.line)
 report_is old new count ending more =
     let made : ℕ → ℕ → Bool → Ending → Report = λ a d e x. record { added = a; deleted = d; empty = e; ending = x } in
-    ap (λ a. made a ((tally_at old).deleted + count) old.empty (ending old.line)) (sym more.added)
+    ap (λ a. made a (capped ((tally_at old).deleted + count)) old.empty (ending old.line)) (sym more.added)
     ∙ ap (λ d. made new.added d old.empty (ending old.line)) (sym more.deleted)
     ∙ ap (λ e. made new.added (tally_at new).deleted e (ending old.line)) (sym more.empty)
     ∙ ap (λ n. made new.added (tally_at new).deleted new.empty (ending n)) (sym more.line)

@@ -16,12 +16,12 @@ use Rattle.stream_check.specs.declared.held.Held.{Held}
 use Rattle.stream_check.specs.declared.progress.Turn.{Turn}
 use Rattle.stream_check.specs.declared.progress.Turn.TheVariants as turns
 use Rattle.stream_check.specs.Setting.{Setting}
-use Rattle.stream_check.specs.Standing.{Standing, Tally, is_among}
+use Rattle.stream_check.specs.Standing.{capped, Standing, Tally, is_among}
 use Rattle.stream_check.specs.Verdicts.{Verdict, Bad}
 use Rattle.stream_check.specs.Additions.{JudgesHints, JudgesAddition, published_by}
 use Rattle.stream_check.specs.Judging.{StreamEnd, ending_at, Judges}
 use Rattle.stream_check.specs.Leaving.{Holding, CheckerState, Going, Over, Leaves}
-use Rattle.stream_check.specs.Checking.{IsAt, AreCounted}
+use Rattle.stream_check.specs.Checking.{IsAt}
 use Rattle.stream_check.specs.CheckerValue.{CheckerValue}
 
 -- what the good lines so far leave, where so much room is left
@@ -30,7 +30,7 @@ standing_at h free = record { last = h.last; free = free; gone = is_among h.drop
 
 -- how many identities were deleted
 abbrev pub deleted_at : Held → ℕ
-deleted_at h = h.retired + length h.dropped
+deleted_at h = capped (h.retired + length h.dropped)
 
 abbrev pub tally_at : Held → Tally
 tally_at h = record { added = h.added; deleted = deleted_at h; empty = h.empty }
@@ -97,12 +97,10 @@ state_by v free (Some ending) = Over (report_at v.tally ending)
 abbrev pub state_of : CheckerValue → ℕ → CheckerState
 state_of v free = state_by v free v.ending
 
--- What a checker needs of a place: it is the checker's, its own identities above the last one that was added are vacant,
--- and those that are live are few.
+-- What a checker needs of a place: it is the checker's, and its own identities above the last one that was added are vacant.
 pub record IsReadyAt (v : CheckerValue) (p : Place) : Type 0 where
   pub at : IsAt v.setting p
   pub vacant : IsVacantAbove p v.last
-  pub counted : AreCounted p v.retired v.last
 
 -- Whatever bytes and events left the checker as it was, these bytes and events more leave it as it is.
 abbrev pub LeavesOn : Setting → CheckerState → List ℕ → History → CheckerState → Type 0

@@ -139,9 +139,3 @@ abbrev pub Deletes : Setting → List ℕ → List ℕ → List ℕ → History 
 Deletes c old new ids es count None = JudgesDeletion c (is_among old) ids es Good × (count ≡ length ids) × AreDropped c old ids new
 Deletes c old new ids es count (Some (stops.Bad fault)) = JudgesDeletion c (is_among old) ids es (Bad count fault)
 Deletes c old new ids es count (Some stops.Memory) = (earlier : List ℕ) × (count ≡ length earlier) × StopsDeletion c (is_among old) ids es earlier
-
--- The own identities that are live are few: with those that were retired, they are at most as many as the last one says.
-pub record AreCounted (p : Place) (retired last : ℕ) : Type 0 where
-  pub live : List ℕ
-  pub few : retired + length live ≤ last
-  pub all : (id : ℕ) → Owns p.caller.layout p.caller.stream id → IsLive (p.own id) → is_among live id ≡ true

@@ -12,12 +12,12 @@ use Rattle.stream_check.specs.declared.deletion.Stop.{Stop}
 use Rattle.stream_check.specs.declared.deletion.Stop.TheVariants as stops
 use Rattle.stream_check.specs.declared.line.Taken.{Taken}
 use Rattle.stream_check.specs.declared.line.Taken.TheVariants as taken
-use Rattle.stream_check.specs.Standing.{Tally, is_among}
+use Rattle.stream_check.specs.Standing.{capped, Tally, is_among}
 use Rattle.stream_check.specs.Verdicts.{Good, Bad}
 use Rattle.stream_check.specs.Deletions.{StopsDeletion}
 use Rattle.stream_check.specs.Judging.{JudgesLine}
 use Rattle.stream_check.specs.Leaving.{Holding, Going, Over, TakesLine}
-use Rattle.stream_check.specs.Checking.{IsAt, AreCounted}
+use Rattle.stream_check.specs.Checking.{IsAt}
 use Rattle.stream_check.specs.Checker.{standing_at, tally_at, deleted_at, report_at, LeavesOn}
 
 -- what is held, with this text read of the next line, where so much room is left
@@ -28,12 +28,11 @@ hold h pending free = record { tally = tally_at h; standing = standing_at h free
 pub record IsReady (h : Held) (p : Place) : Type 0 where
   pub at : IsAt h.setting p
   pub vacant : IsVacantAbove p h.last
-  pub counted : AreCounted p h.retired h.last
 
 -- so many identities more were deleted, and nothing else was counted
 pub record DeletesMore (old new : Held) (count : ℕ) : Type 0 where
   pub added : new.added ≡ old.added
-  pub deleted : deleted_at new ≡ deleted_at old + count
+  pub deleted : deleted_at new ≡ capped (deleted_at old + count)
   pub empty : new.empty ≡ old.empty
   pub line : new.line ≡ old.line
 

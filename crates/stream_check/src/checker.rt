@@ -143,7 +143,7 @@ impl Checker {
     {
         Report {
             added: self.held.added,
-            deleted: self.held.retired + self.held.dropped.count(),
+            deleted: self.held.retired.saturating_add(self.held.dropped.count()),
             empty: self.held.empty,
             ending: self.ending.unwrap(),
         }

@@ -3,7 +3,8 @@ ghost use Rattle.std.specs.Prelude.{◌≡◌, ◌+◌, ℕ, length};
 ghost use Rattle.std.specs.List.{AllByRecursion};
 ghost use Rattle.lrup_model.specs.Event.{History};
 ghost use Rattle.lrup_model.specs.Layout.{Owns};
-ghost use Rattle.stream_check.specs.Checking.{IsAt, AreCounted, DropsShared, DeletesOwn, DeletesOne, Deletes, IsRetire, counted};
+ghost use Rattle.stream_check.specs.Checking.{IsAt, DropsShared, DeletesOwn, DeletesOne, Deletes, IsRetire, counted};
+ghost use Rattle.stream_check.specs.Standing.{capped};
 ghost use Rattle.stream_check.specs.Checker.{KeepsLines, deleted_at};
 
 use crate::dropped::Dropped;
@@ -51,16 +52,14 @@ fn drop_shared(dropped: &mut Dropped, id: Id) -> Deleted
 fn retire_own<M: ClauseMap>(held: &mut Held, map: &mut M, id: Id) -> Deleted
     requires at { IsAt held.old.setting (M.place map.old) }
     requires owns { Owns held.old.setting.layout held.old.setting.stream id }
-    requires counted { AreCounted (M.place map.old) held.old.retired held.old.last }
     ensures deletes { (es : History) × M.moves map.old map.new es × AllByRecursion IsRetire es × DeletesOwn held.old.setting id held.old.dropped held.new.dropped es result }
-    ensures retired { held.new.retired ≡ held.old.retired + counted result }
+    ensures count { deleted_at held.new ≡ capped (deleted_at held.old + counted result) }
     ensures dropped { held.new.dropped ≡ held.old.dropped }
     ensures kept { KeepsLines held.old held.new }
-    ensures counted { AreCounted (M.place map.new) held.new.retired held.new.last }
 {
     match map.retire(id) {
         Retired::Done => {
-            held.retired += 1;
+            held.retired = held.retired.saturating_add(1);
             Deleted::Done
         }
         Retired::NotLive => Deleted::NotLive,
@@ -70,11 +69,9 @@ fn retire_own<M: ClauseMap>(held: &mut Held, map: &mut M, id: Id) -> Deleted
 /// Deletes one identity.
 fn delete_one<M: ClauseMap>(held: &mut Held, map: &mut M, id: Id) -> Deleted
     requires at { IsAt held.old.setting (M.place map.old) }
-    requires counted { AreCounted (M.place map.old) held.old.retired held.old.last }
     ensures deletes { (es : History) × M.moves map.old map.new es × AllByRecursion IsRetire es × DeletesOne held.old.setting id held.old.dropped held.new.dropped es result }
-    ensures count { deleted_at held.new ≡ deleted_at held.old + counted result }
+    ensures count { deleted_at held.new ≡ capped (deleted_at held.old + counted result) }
     ensures kept { KeepsLines held.old held.new }
-    ensures counted { AreCounted (M.place map.new) held.new.retired held.new.last }
 {
     match held.setting.side(id) {
         Side::Own => retire_own(held, map, id),
@@ -87,11 +84,9 @@ fn delete_one<M: ClauseMap>(held: &mut Held, map: &mut M, id: Id) -> Deleted
 /// Deletes the identities one after the other. None where all are deleted.
 pub fn delete<M: ClauseMap>(held: &mut Held, map: &mut M, ids: &[Id]) -> Option<Stop>
     requires at { IsAt held.old.setting (M.place map.old) }
-    requires counted { AreCounted (M.place map.old) held.old.retired held.old.last }
-    ensures deleted { (es : History) × M.moves map.old map.new es × AllByRecursion IsRetire es × ((count : ℕ) × (deleted_at held.new ≡ deleted_at held.old + count)
+    ensures deleted { (es : History) × M.moves map.old map.new es × AllByRecursion IsRetire es × ((count : ℕ) × (deleted_at held.new ≡ capped (deleted_at held.old + count))
         × Deletes held.old.setting held.old.dropped held.new.dropped ids.now es count result) }
     ensures kept { KeepsLines held.old held.new }
-    ensures counted { AreCounted (M.place map.new) held.new.retired held.new.last }
 {
     for id in ids {
         match delete_one(held, map, *id) {

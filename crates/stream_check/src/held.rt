@@ -2,7 +2,7 @@
 ghost use Rattle.std.specs.Prelude.{◌≡◌, ◌≤◌, ◌<◌, ◌^◌, ◌+◌, ◌-◌, ◌||◌, min, [], false};
 
 use crate::dropped::Dropped;
-use crate::setting::{Setting, last_of_formula};
+use crate::setting::Setting;
 use lrup_model::{Id, Layout};
 use std::alloc::Global;
 
@@ -13,7 +13,7 @@ pub struct Held {
     /// The last identity that was added; with none, the last of the formula.
     pub last: Id,
     pub dropped: Dropped,
-    /// How many of the stream's own identities were retired.
+    /// How many of the stream's own identities were retired, which stays at 2^64 - 1.
     pub retired: u64,
     /// How many clauses were added.
     pub added: u64,
@@ -22,7 +22,6 @@ pub struct Held {
     /// The number of the next line, which stays at 2^64 - 1.
     pub line: u64,
     ghost few_added: { added ≤ last },
-    ghost few_retired: { retired ≤ last },
     ghost small: { last < 2 ^ 63 },
 }
 
@@ -39,7 +38,7 @@ impl Held {
     {
         Held {
             setting: Setting::new(layout, stream, tries),
-            last: last_of_formula(layout),
+            last: u64::from(layout.clauses()),
             dropped: Dropped::new(alloc),
             retired: 0,
             added: 0,

@@ -1,5 +1,5 @@
 //! Whose lines are checked.
-ghost use Rattle.std.specs.Prelude.{◌≡◌, ◌<◌, ◌^◌};
+ghost use Rattle.std.specs.Prelude.{◌≡◌};
 ghost use Rattle.stream_check.specs.Setting.{side_of};
 ghost use Rattle.stream_check.specs.Checking.{side_is};
 
@@ -71,22 +71,4 @@ impl Setting {
             Owner::Outside => Side::Outside,
         }
     }
-}
-
-/// The last identity of the formula's clauses, which come before all others.
-pub fn last_of_formula(layout: &Layout) -> Id
-    ensures last { result ≡ layout.now.clauses }
-    ensures small { result < 2 ^ 63 }
-{
-    let mut low = 0;
-    let mut high = layout.last_identity();
-    'halves: while low < high {
-        let middle = high - (high - low) / 2;
-        if let Owner::Formula = layout.owner(middle) {
-            low = middle;
-        } else {
-            high = middle - 1;
-        }
-    }
-    low
 }

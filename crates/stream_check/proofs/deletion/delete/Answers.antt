@@ -78,7 +78,6 @@ loop-id-preserved g c =
     let more : take (i + 1) ids ≡ take i ids ++ id ∷ [] = take_more ids i 0 c.loop-id-test.true in
     record {
       kept = keeps_on old c.loop-id.held c.delete_one.new.held c.loop-id.invariant.kept c.delete_one.ensures.kept;
-      counted = c.delete_one.ensures.counted;
       count = omega (arith, c.in-Done.ensures.count, c.loop-id.invariant.count);
       dropped = subst (λ (js : List ℕ). AreDropped s old.dropped js c.delete_one.new.held.dropped) (sym more)
           (dropped_more s old.dropped (take i ids) c.loop-id.held.dropped c.delete_one.new.held.dropped id one.0 c.loop-id.invariant.dropped deletes);

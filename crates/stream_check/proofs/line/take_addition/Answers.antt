@@ -36,5 +36,5 @@ returns-clause-ready g c =
     let q = g.M.ClauseMap.place c.add.new.map in
     let judged = c.in_default.ensures.judged in
     let added = c.take_addition.ensures in
-    ready_publish old c.take_addition.new.self p q judged.0 c.args.id c.args.lits.now (g.met.M.ClauseMap.moves_tells c.args.map.now c.add.new.map judged.0 judged.1) judged.2 added.setting added.last added.retired
+    ready_publish old c.take_addition.new.self p q judged.0 c.args.id c.args.lits.now (g.met.M.ClauseMap.moves_tells c.args.map.now c.add.new.map judged.0 judged.1) judged.2 added.setting added.last
     (above_last old.setting (standing_at old p.room) c.args.id c.args.lits.now c.args.hints.now judged.0 judged.3) c.requires.ready
