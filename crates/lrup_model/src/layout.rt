@@ -150,6 +150,14 @@ impl Layout {
         self.vars
     }
 
+    /// The number of the formula's clauses, at most 16,777,215.
+    pub fn clauses(&self) -> u32
+        ensures clauses { result ≡ self.now.clauses }
+        ensures limits { IsLayout self.now }
+    {
+        self.clauses
+    }
+
     /// The number of streams, 1 to 64.
     pub fn streams(&self) -> u64
         ensures streams { result ≡ self.now.streams }

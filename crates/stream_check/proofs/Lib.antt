@@ -1,5 +1,12 @@
 pub mod StandingLemmas
 pub mod LeavingLemmas
+pub mod TryLemmas
+pub mod AddLemmas
+pub mod DeleteLemmas
+pub mod DroppedLemmas
+pub mod LineLemmas
+pub mod TakeLemmas
+pub mod FeedLemmas
 pub mod ForkLemmas
 pub mod AgreeLemmas
 pub mod StreamLemmas

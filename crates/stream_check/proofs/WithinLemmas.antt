@@ -120,7 +120,7 @@ ends_delete : (c : Setting) (n : State) (lines : List StreamLine) (rest : List �
 ends_delete c n lines rest end back report answers are (inl e) =
     let here = subst (λ b. OwnRun n (joined b)) e.one_block answers in
     let few = line_deletes c n lines e.line (sum_by (λ l. length (deleted_by l)) lines) e.deleted e.fault e.block [] e.bad here are in
-    subst (λ (r : Report). r.deleted ≤ last_identity c.layout) (sym e.says) few
+    subst (λ (r : Report). r.deleted ≤ last_identity c.layout) (sym e.says) (omega (arith, few))
 ends_delete c n lines rest end back report answers are (inr (inl e)) =
     let few = taken_within c n (is_gone c lines) [] (sum_by (λ l. length (deleted_by l)) lines) are in
     subst (λ (r : Report). r.deleted ≤ last_identity c.layout) (sym e.says) (omega (arith, few))
@@ -128,7 +128,7 @@ ends_delete c n lines rest end back report answers are (inr (inr (inl e))) =
     let here = subst (λ b. OwnRun n (joined b)) e.one_block answers in
     let took = identities_took c n (is_gone c lines) [] e.earlier (sum_by (λ l. length (deleted_by l)) lines) e.block [] Good e.stops.before here are in
     let few = taken_within c (run n e.block) (is_gone c lines) e.earlier (sum_by (λ l. length (deleted_by l)) lines + length e.earlier) took in
-    subst (λ (r : Report). r.deleted ≤ last_identity c.layout) (sym e.says) few
+    subst (λ (r : Report). r.deleted ≤ last_identity c.layout) (sym e.says) (omega (arith, few))
 ends_delete c n lines rest end back report answers are (inr (inr (inr e))) =
     let few = taken_within c n (is_gone c lines) [] (sum_by (λ l. length (deleted_by l)) lines) are in
     subst (λ (r : Report). r.deleted ≤ last_identity c.layout) (sym e.says) (omega (arith, few))

@@ -12,7 +12,7 @@ use Rattle.stream_check.specs.declared.report.Ending.{Ending}
 use Rattle.stream_check.specs.declared.report.Ending.TheVariants as endings
 use Rattle.stream_check.specs.declared.report.Report.{Report}
 use Rattle.stream_check.specs.Setting.{Setting}
-use Rattle.stream_check.specs.Standing.{Standing, standing_of, Tally, tally_of, line_number}
+use Rattle.stream_check.specs.Standing.{Standing, standing_of, Tally, tally_of, capped, line_number}
 use Rattle.stream_check.specs.Verdicts.{Verdict, Good, Bad}
 use Rattle.stream_check.specs.Additions.{JudgesAddition}
 use Rattle.stream_check.specs.Deletions.{JudgesDeletion, StopsDeletion}
@@ -41,7 +41,7 @@ pub record BeginsGood (c : Setting) (bytes : List ℕ) (lines : List StreamLine)
 
 -- the report after these counts, some more deleted identities, and this ending
 abbrev pub report_of : Tally → ℕ → Ending → Report
-report_of t deleted ending = record { added = t.added; deleted = t.deleted + deleted; empty = t.empty; ending = ending }
+report_of t deleted ending = record { added = t.added; deleted = capped (t.deleted + deleted); empty = t.empty; ending = ending }
 
 -- After good lines: a line that is bad, whatever follows it.
 pub record EndsAtLine (c : Setting) (lines : List StreamLine) (rest : List ℕ) (blocks : List History) (report : Report) : Type 0 where

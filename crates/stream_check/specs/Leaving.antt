@@ -4,7 +4,7 @@ use Rattle.lrup_model.specs.Event.{History}
 use Rattle.lrup_text.specs.Lines.{StreamLine, Addition, Deletion, Cut, IsPending}
 use Rattle.stream_check.specs.declared.report.Report.{Report}
 use Rattle.stream_check.specs.Setting.{Setting, side_of, is_shared}
-use Rattle.stream_check.specs.Standing.{Standing, standing_of, is_among, size_of, deleted_by, added_by, adds_empty, Tally, tally_of, line_number}
+use Rattle.stream_check.specs.Standing.{Standing, standing_of, is_among, size_of, deleted_by, added_by, adds_empty, Tally, tally_of, capped, line_number}
 use Rattle.stream_check.specs.Judging.{AreGood, joined, ended, failed, Judges}
 
 -- what a checker holds that isn't over: its counts, what good lines left, the text read of the next line, and that line's number
@@ -57,7 +57,7 @@ standing_after c st line = record {
 abbrev pub tally_after : Tally → StreamLine → Tally
 tally_after t line = record {
   added = t.added + added_by line;
-  deleted = t.deleted + length (deleted_by line);
+  deleted = capped (t.deleted + length (deleted_by line));
   empty = t.empty || adds_empty line;
 }
 
@@ -66,7 +66,7 @@ pub record TakesLine (c : Setting) (old : Holding) (taken : StreamLine) (new : H
   pub tally : new.tally ≡ tally_after old.tally taken
   pub standing : SameStanding new.standing (standing_after c old.standing taken)
   pub pending : new.pending ≡ []
-  pub line : new.line ≡ min (old.line + 1) (2 ^ 64 - 1)
+  pub line : new.line ≡ capped (old.line + 1)
 
 -- what a checker holds before the first byte
 pub record IsFresh (c : Setting) (now : Holding) : Type 0 where

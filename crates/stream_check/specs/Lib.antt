@@ -7,6 +7,10 @@ pub mod Additions
 pub mod Deletions
 pub mod Judging
 pub mod Leaving
+pub mod Checking
+pub mod CheckerValue
+pub mod Checker
+pub mod Taking
 pub mod Forks
 pub mod Reducing
 pub mod Finding

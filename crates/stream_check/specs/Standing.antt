@@ -43,6 +43,10 @@ standing_of c lines = record {
   gone = is_gone c lines;
 }
 
+-- what 64 bits show of a count: above 2^64 - 1 it stands as that
+abbrev pub capped : ℕ → ℕ
+capped n = min n (2 ^ 64 - 1)
+
 -- the good additions, the good deleted identities, and whether an addition has the empty clause
 pub record Tally : Type 0 where
   pub added : ℕ
@@ -61,10 +65,10 @@ adds_empty (Deletion lead ids) = false
 abbrev pub tally_of : List StreamLine → Tally
 tally_of lines = record {
   added = sum_by added_by lines;
-  deleted = sum_by (λ line. length (deleted_by line)) lines;
+  deleted = capped (sum_by (λ line. length (deleted_by line)) lines);
   empty = list_any adds_empty lines;
 }
 
--- the number of the line after so many: it stays at 2^64 - 1
+-- the number of the line after so many
 abbrev pub line_number : ℕ → ℕ
-line_number count = min (count + 1) (2 ^ 64 - 1)
+line_number count = capped (count + 1)

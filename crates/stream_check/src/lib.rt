@@ -1,11 +1,25 @@
 //! The judge of one proof stream: what a stream's bytes, their end and its events at a clause map come to.
 #![tactic(auto)]
 
+mod addition;
+mod asking;
+mod checker;
+mod deletion;
+mod dropped;
 mod fault;
+mod gate;
+mod held;
+mod hints;
 pub mod laws;
+mod line;
+mod progress;
 mod report;
+mod setting;
 #[cfg(test)]
 mod worked;
 
+pub use checker::Checker;
 pub use fault::Fault;
+pub use gate::Gate;
+pub use progress::{Progress, Turn};
 pub use report::{Ending, Report};

@@ -1,0 +1,98 @@
+-- An addition that is checked and published.
+use Rattle.std.proofs.Common.{◌≡◌, ◌≤◌, ◌<◌, ◌+◌, ℕ, ℤ, Bool, true, false, cond, List, [], ◌∷◌, ◌++◌, length, Option, None, Some, refl, sym, ap, subst, ◌∙◌, arith}
+use Rattle.std.specs.Prelude.{not, ◌==◌}
+use Rattle.std.specs.Ordering.{int_eq}
+use Rattle.std.specs.List.{AllByRecursion, sum_by}
+use Rattle.std.proofs.lemmas.List.Sums.{sum_by-cons}
+use Rattle.std.proofs.lemmas.List.Filters.{length-filter_both}
+use Rattle.lrup_model.specs.Clause.{Clause, IsClause}
+use Rattle.lrup_model.specs.Formula.{Cnf}
+use Rattle.lrup_model.specs.Layout.{LayoutValue, Owns}
+use Rattle.lrup_model.specs.Event as events
+use Rattle.lrup_model.specs.Event.{Event, History, own, spent, size_of, stream_of}
+use Rattle.lrup_model.specs.State.{State, absent, run}
+use Rattle.lrup_model.specs.History.{IsPublishable, max_line_literals}
+use Rattle.lrup_model.specs.Place.{Caller, Place, Tells, IsVacantAbove}
+use Rattle.lrup_model.specs.declared.clause_map.Published.{Published}
+use Rattle.lrup_model.specs.declared.clause_map.Published.TheVariants as publishing
+use Rattle.lrup_model.specs.Laws.{PropagationSound}
+use Rattle.propagate.specs.Distinct.{distinct}
+use Rattle.propagate.specs.Marks.{Propagation}
+use Rattle.stream_check.specs.Setting.{Setting}
+use Rattle.stream_check.specs.Standing.{Standing}
+use Rattle.stream_check.specs.Additions.{published_by}
+use Rattle.stream_check.specs.Checking.{IsAt, IsFetch, KeepsClause, Shows}
+use Rattle.stream_check.specs.Checker.{Admits}
+
+-- Fetches take no room and change nothing
+
+pub spent-skips : (e : Event) (es : History) (b : Bool) → size_of e ≡ 0 → sum_by size_of (cond b (e ∷ es) es) ≡ sum_by size_of es
+spent-skips e es true h = omega (arith, sum_by-cons size_of e es, h)
+spent-skips e es false h = refl
+
+pub spent-fetches : (s : ℕ) (es : History) → AllByRecursion IsFetch es → spent s es ≡ 0
+spent-fetches s [] h = refl
+spent-fetches s (events.fetch t id r ∷ es) h = spent-skips (events.fetch t id r) (own es s) (stream_of (events.fetch t id r) == s) refl ∙ spent-fetches s es h.1
+spent-fetches s (events.publish t id c r ∷ es) h = absurd h.0
+spent-fetches s (events.retire t id r ∷ es) h = absurd h.0
+
+pub run-fetches : (m : State) (es : History) → AllByRecursion IsFetch es → run m es ≡ m
+run-fetches m [] h = refl
+run-fetches m (events.fetch s id r ∷ es) h = run-fetches m es h.1
+run-fetches m (events.publish s id c r ∷ es) h = absurd h.0
+run-fetches m (events.retire s id r ∷ es) h = absurd h.0
+
+pub room_stays : (p q : Place) (es : History) → Tells p q es → AllByRecursion IsFetch es → q.room ≡ p.room
+room_stays p q es tells quiet = omega (arith, tells.room, spent-fetches p.caller.stream es quiet)
+
+-- an owned identity, as a place of the setting sees it
+pub owns_at : (c : Setting) (p : Place) (id : ℕ) → IsAt c p → Owns c.layout c.stream id → Owns p.caller.layout p.caller.stream id
+owns_at c p id at owns =
+    subst (λ (l : LayoutValue). Owns l p.caller.stream id) (sym at.layout) (subst (λ (s : ℕ). Owns c.layout s id) (sym at.stream) owns)
+
+-- the place stays one of the setting
+pub still_at : (c : Setting) (p q : Place) (es : History) → IsAt c p → Tells p q es → IsAt c q
+still_at c p q es at tells = record {
+  layout = ap (λ (r : Caller). r.layout) tells.caller ∙ at.layout;
+  stream = ap (λ (r : Caller). r.stream) tells.caller ∙ at.stream;
+  variables = ap (λ (r : Caller). r.formula.vars) tells.caller ∙ at.variables;
+}
+
+-- The conditions of the publish
+
+-- a list without repeats is no longer
+pub length-distinct : (ls : List ℤ) → length (distinct ls) ≤ length ls
+length-distinct [] = omega arith
+length-distinct (x ∷ ls) = omega (arith, length-distinct ls, length-filter_both (λ y. not (int_eq y x)) (λ y. not (not (int_eq y x))) (λ y. refl) (distinct ls))
+
+-- the clause of the marks, after the hints, is the addition's
+pub clause_is : (c : Setting) (st : Standing) (id : ℕ) (lits : List ℤ) (old new : Propagation) (clause : Clause) → Admits c st id lits old → KeepsClause old new → clause ≡ new.clause → clause ≡ distinct lits
+clause_is c st id lits old new clause admits kept is = is ∙ kept.1 ∙ ap (λ (m : Propagation). m.clause) admits.marks_are
+
+-- the hints show the addition's clause
+pub shown_is : (c : Setting) (st : Standing) (gone : ℕ → Bool) (f : Cnf) (id : ℕ) (lits : List ℤ) (hints : List ℕ) (marks : Propagation) (es : History) → Admits c st id lits marks
+    → Shows c gone f marks.falses hints es None → Shows c gone f (distinct lits) hints es None
+shown_is c st gone f id lits hints marks es admits shown = subst (λ (d : Clause). Shows c gone f d hints es None) (ap (λ (m : Propagation). m.falses) admits.marks_are) shown
+
+pub publishable : (c : Setting) (p q : Place) (st : Standing) (gone : ℕ → Bool) (es : History) (id : ℕ) (lits : List ℤ) (hints : List ℕ) (marks : Propagation) → PropagationSound → IsAt c p → Tells p q es
+    → Admits c st id lits marks → length lits ≤ max_line_literals → Shows c gone p.caller.formula (distinct lits) hints es None → IsPublishable q.caller.formula (distinct lits)
+publishable c p q st gone es id lits hints marks sound at tells admits few shown =
+    subst (λ (f : Cnf). IsPublishable f (distinct lits)) (sym (ap (λ (r : Caller). r.formula) tells.caller))
+    (record {
+      clause = subst (λ (v : ℕ). IsClause v (distinct lits)) (sym at.variables) admits.clause;
+      length = omega (arith, length-distinct lits);
+      follows = sound p.caller.formula (distinct lits) shown.0 shown.1 shown.2;
+    })
+
+pub still_vacant : (c : Setting) (p q : Place) (es : History) (last id : ℕ) → IsAt c p → Tells p q es → AllByRecursion IsFetch es → IsVacantAbove p last → Owns c.layout c.stream id → last < id → q.own id ≡ absent
+still_vacant c p q es last id at tells quiet vacant owns newer =
+    let mine = owns_at c p id at owns in
+    tells.own id mine ∙ ap (λ (m : State). m id) (run-fetches p.own es quiet) ∙ vacant id mine newer
+
+-- the event of the publish
+pub published_is : (c : Setting) (p q : Place) (es : History) (id : ℕ) (clause : Clause) (lits : List ℤ) (r : Published) → IsAt c p → Tells p q es → clause ≡ distinct lits → r ≡ publishing.Done
+    → ◌≡◌ {A = History} (events.publish q.caller.stream id clause r ∷ []) (published_by c id lits ∷ [])
+published_is c p q es id clause lits r at tells is done =
+    ap (λ (s : ℕ). events.publish s id clause r ∷ []) (ap (λ (x : Caller). x.stream) tells.caller ∙ at.stream)
+    ∙ ap (λ (d : Clause). events.publish c.stream id d r ∷ []) is
+    ∙ ap (λ (x : Published). events.publish c.stream id (distinct lits) x ∷ []) done

@@ -1,0 +1,152 @@
+-- Identities that are deleted one after the other.
+use Rattle.std.proofs.Common.{◌≡◌, ◌≤◌, ◌<◌, ◌+◌, ℕ, Bool, true, false, cond, List, [], ◌∷◌, ◌++◌, length, take, drop, get_or, Option, None, Some, inl, inr, refl, sym, ap, subst, ◌∙◌, arith, append_assoc, append-nil, eqb, take-append-drop, drop-cons, add-one}
+use Rattle.std.specs.Prelude.{◌||◌, ◌&&◌, ◌==◌}
+use Rattle.std.specs.List.{AllByRecursion, list_any}
+use Rattle.std.proofs.lemmas.Bool.{cases_Bool, cases_eq, both_ways, eqb-true, eq-eqb}
+use Rattle.std.proofs.lemmas.List.Folds.{list_any-append}
+use Rattle.std.proofs.lemmas.Map.Made.{length-remove_key}
+use Rattle.std.specs.Set.{remove_key}
+use Rattle.lrup_model.specs.Layout.{LayoutValue, Owns}
+use Rattle.lrup_model.specs.Event as events
+use Rattle.lrup_model.specs.Event.{Event, History}
+use Rattle.lrup_model.specs.State.{Slot, State, IsLive, absent, live, retired, put, retire_slot, run}
+use Rattle.lrup_model.specs.Place.{Caller, Place, Tells}
+use Rattle.lrup_model.specs.HistoryLemmas.{put-same, put-other}
+use Rattle.lrup_model.specs.declared.clause_map.Retired.TheVariants as retiring
+use Rattle.stream_check.specs.declared.fault.Fault.TheVariants as faults
+use Rattle.stream_check.specs.declared.deletion.Deleted.{Deleted}
+use Rattle.stream_check.specs.declared.deletion.Deleted.TheVariants as deleting
+use Rattle.stream_check.specs.Setting.{Setting, Side, formula, own, foreign, outside, side_of, is_shared}
+use Rattle.stream_check.specs.Standing.{is_among}
+use Rattle.stream_check.specs.Verdicts.{Verdict, Good, Bad}
+use Rattle.stream_check.specs.Deletions.{is_dropped, DeletesAt, JudgesIdentities, JudgesDeletion, StopsDeletion}
+use Rattle.stream_check.specs.Checking.{IsAt, DeletesSide, DeletesOne, AreDropped}
+
+-- The dropped ones
+
+drop_bool : (f s e b : Bool) → (b ≡ true → s ≡ true) → ((f || s && e) || b) ≡ (f || s && (e || (b || false)))
+drop_bool true s e b h = refl
+drop_bool false true true b h = refl
+drop_bool false true false true h = refl
+drop_bool false true false false h = refl
+drop_bool false false e true h = sym (h refl)
+drop_bool false false e false h = refl
+
+own_bool : (f s e b : Bool) → (b ≡ true → s ≡ false) → (f || s && e) ≡ (f || s && (e || (b || false)))
+own_bool true s e b h = refl
+own_bool false true true b h = refl
+own_bool false true false true h = sym (h refl)
+own_bool false true false false h = refl
+own_bool false false e b h = refl
+
+-- what is dropped after one identity more, which is a shared one or an own one
+dropped_shared : (c : Setting) (first earlier old new : List ℕ) (id : ℕ) → is_shared (side_of c id) ≡ true → AreDropped c first earlier old
+    → ((j : ℕ) → is_among new j ≡ (is_among old j || id == j)) → AreDropped c first (earlier ++ id ∷ []) new
+dropped_shared c first earlier old new id shared before added j =
+    added j ∙ ap (λ (b : Bool). b || id == j) (before j)
+    ∙ drop_bool (is_among first j) (is_shared (side_of c j)) (is_among earlier j) (id == j) (λ same. ap (λ k. is_shared (side_of c k)) (sym (eqb-true id j same)) ∙ shared)
+    ∙ sym (ap (λ (b : Bool). is_among first j || is_shared (side_of c j) && b) (list_any-append (λ k. k == j) earlier (id ∷ [])))
+
+dropped_own : (c : Setting) (first earlier old new : List ℕ) (id : ℕ) → is_shared (side_of c id) ≡ false → AreDropped c first earlier old
+    → new ≡ old → AreDropped c first (earlier ++ id ∷ []) new
+dropped_own c first earlier old new id mine before same j =
+    ap (λ (ids : List ℕ). is_among ids j) same ∙ before j
+    ∙ own_bool (is_among first j) (is_shared (side_of c j)) (is_among earlier j) (id == j) (λ is. ap (λ k. is_shared (side_of c k)) (sym (eqb-true id j is)) ∙ mine)
+    ∙ sym (ap (λ (b : Bool). is_among first j || is_shared (side_of c j) && b) (list_any-append (λ k. k == j) earlier (id ∷ [])))
+
+dropped_at : (side : Side) (c : Setting) (first earlier old new : List ℕ) (id : ℕ) (es : History) → side_of c id ≡ side → AreDropped c first earlier old
+    → DeletesSide side c id old new es deleting.Done → AreDropped c first (earlier ++ id ∷ []) new
+dropped_at formula c first earlier old new id es is before deletes = dropped_shared c first earlier old new id (ap is_shared is) before deletes.1.1
+dropped_at own c first earlier old new id es is before deletes = dropped_own c first earlier old new id (ap is_shared is) before deletes.1
+dropped_at foreign c first earlier old new id es is before deletes = dropped_shared c first earlier old new id (ap is_shared is) before deletes.1.1
+dropped_at outside c first earlier old new id es is before deletes = absurd (let e : deleting.Done ≡ deleting.NotLive = deletes.1 in cc)
+
+pub dropped_more : (c : Setting) (first earlier old new : List ℕ) (id : ℕ) (es : History) → AreDropped c first earlier old → DeletesOne c id old new es deleting.Done → AreDropped c first (earlier ++ id ∷ []) new
+dropped_more c first earlier old new id es before deletes = dropped_at (side_of c id) c first earlier old new id es refl before deletes
+
+-- a shared identity is dropped exactly if it is among those that are kept
+is_dropped_shared : (c : Setting) (first earlier old : List ℕ) (id : ℕ) (b : Bool) → is_shared (side_of c id) ≡ true → AreDropped c first earlier old → is_among old id ≡ b → is_dropped (is_among first) earlier id ≡ b
+is_dropped_shared c first earlier old id b shared before among =
+    sym (ap (λ (s : Bool). is_among first id || s && is_among earlier id) shared) ∙ sym (before id) ∙ among
+
+-- One identity
+
+done_at : (side : Side) (c : Setting) (first earlier old new : List ℕ) (id : ℕ) (es rest : History) (v : Verdict) (Next : History → Type 0) → side_of c id ≡ side → AreDropped c first earlier old
+    → DeletesSide side c id old new es deleting.Done → Next rest → DeletesAt side c (is_among first) earlier id (es ++ rest) v Next
+done_at formula c first earlier old new id es rest v Next is before deletes next =
+    inr (is_dropped_shared c first earlier old id false (ap is_shared is) before deletes.1.0, subst Next (sym (ap (λ (x : History). x ++ rest) deletes.0)) next)
+done_at own c first earlier old new id es rest v Next is before deletes next =
+    record { rest = rest; decided = inl (ap (λ (x : History). x ++ rest) deletes.0, next) }
+done_at foreign c first earlier old new id es rest v Next is before deletes next =
+    inr (is_dropped_shared c first earlier old id false (ap is_shared is) before deletes.1.0, subst Next (sym (ap (λ (x : History). x ++ rest) deletes.0)) next)
+done_at outside c first earlier old new id es rest v Next is before deletes next = absurd (let e : deleting.Done ≡ deleting.NotLive = deletes.1 in cc)
+
+not_live_at : (side : Side) (c : Setting) (first earlier old new : List ℕ) (id : ℕ) (es : History) (Next : History → Type 0) → side_of c id ≡ side → AreDropped c first earlier old
+    → DeletesSide side c id old new es deleting.NotLive → DeletesAt side c (is_among first) earlier id es (Bad (length earlier) (faults.NotLive id)) Next
+not_live_at formula c first earlier old new id es Next is before deletes = inl (is_dropped_shared c first earlier old id true (ap is_shared is) before deletes.1, (deletes.0, refl))
+not_live_at own c first earlier old new id es Next is before deletes = record { rest = []; decided = inr (deletes, refl, refl) }
+not_live_at foreign c first earlier old new id es Next is before deletes = inl (is_dropped_shared c first earlier old id true (ap is_shared is) before deletes.1, (deletes.0, refl))
+not_live_at outside c first earlier old new id es Next is before deletes = (deletes.0, refl)
+
+no_memory_at : (side : Side) (c : Setting) (first earlier old new : List ℕ) (id : ℕ) (es : History) → side_of c id ≡ side → AreDropped c first earlier old
+    → DeletesSide side c id old new es deleting.NoMemory → (es ≡ []) × (is_shared (side_of c id) ≡ true) × (is_dropped (is_among first) earlier id ≡ false)
+no_memory_at formula c first earlier old new id es is before deletes = (deletes.0, ap is_shared is, is_dropped_shared c first earlier old id false (ap is_shared is) before deletes.1)
+no_memory_at own c first earlier old new id es is before deletes = absurd deletes
+no_memory_at foreign c first earlier old new id es is before deletes = (deletes.0, ap is_shared is, is_dropped_shared c first earlier old id false (ap is_shared is) before deletes.1)
+no_memory_at outside c first earlier old new id es is before deletes = absurd (let e : deleting.NoMemory ≡ deleting.NotLive = deletes.1 in cc)
+
+-- One after the other
+
+-- what the identities that are left are judged to be gives what all are
+abbrev pub GoesOn : Setting → List ℕ → List ℕ → History → Type 0
+GoesOn c first earlier es = (more : List ℕ) (rest : History) (v : Verdict)
+    → JudgesIdentities c (is_among first) earlier more rest v → JudgesIdentities c (is_among first) [] (earlier ++ more) (es ++ rest) v
+
+pub goes_on : (c : Setting) (first earlier old new : List ℕ) (id : ℕ) (es fs : History) → GoesOn c first earlier es → AreDropped c first earlier old
+    → DeletesOne c id old new fs deleting.Done → GoesOn c first (earlier ++ id ∷ []) (es ++ fs)
+goes_on c first earlier old new id es fs before dropped deletes more rest v judged =
+    let here : JudgesIdentities c (is_among first) earlier (id ∷ more) (fs ++ rest) v =
+    done_at (side_of c id) c first earlier old new id fs rest v (λ x. JudgesIdentities c (is_among first) (earlier ++ id ∷ []) more x v) refl dropped deletes judged in
+    subst (λ (x : History). JudgesIdentities c (is_among first) [] ((earlier ++ id ∷ []) ++ more) x v) (sym (append_assoc es fs rest))
+    (subst (λ (ids : List ℕ). JudgesIdentities c (is_among first) [] ids (es ++ (fs ++ rest)) v) (sym (append_assoc earlier (id ∷ []) more)) (before (id ∷ more) (fs ++ rest) v here))
+
+-- the identity that is deleted, among the others
+pub among_ids : (ids : List ℕ) (i : ℕ) → i < length ids → ids ≡ take i ids ++ get_or ids i 0 ∷ drop (i + 1) ids
+among_ids ids i lt = sym (take-append-drop i ids) ∙ ap (λ (js : List ℕ). take i ids ++ js) (rw (add-one, drop-cons ids i 0) refl)
+
+-- it is bad
+pub bad_deletion : (c : Setting) (first earlier old new : List ℕ) (id : ℕ) (later ids : List ℕ) (es fs : History) → ids ≡ earlier ++ id ∷ later → GoesOn c first earlier es → AreDropped c first earlier old
+    → DeletesOne c id old new fs deleting.NotLive → JudgesDeletion c (is_among first) ids (es ++ fs) (Bad (length earlier) (faults.NotLive id))
+bad_deletion c first earlier old new id later ids es fs is before dropped deletes =
+    let v : Verdict = Bad (length earlier) (faults.NotLive id) in
+    let here : JudgesIdentities c (is_among first) earlier (id ∷ later) fs v =
+    not_live_at (side_of c id) c first earlier old new id fs (λ x. JudgesIdentities c (is_among first) (earlier ++ id ∷ []) later x v) refl dropped deletes in
+    subst (λ (js : List ℕ). JudgesIdentities c (is_among first) [] js (es ++ fs) v) (sym is) (before (id ∷ later) fs v here)
+
+-- those before it are good
+good_front : (c : Setting) (first earlier : List ℕ) (es : History) → GoesOn c first earlier es → JudgesDeletion c (is_among first) earlier es Good
+good_front c first earlier es before =
+    subst (λ (ids : List ℕ). JudgesIdentities c (is_among first) [] ids es Good) (append-nil earlier)
+    (subst (λ (x : History). JudgesIdentities c (is_among first) [] (earlier ++ []) x Good) (append-nil es) (before [] [] Good (refl, refl)))
+
+-- there is no memory for it
+pub stopped_deletion : (c : Setting) (first earlier old new : List ℕ) (id : ℕ) (later ids : List ℕ) (es fs : History) → ids ≡ earlier ++ id ∷ later → GoesOn c first earlier es → AreDropped c first earlier old
+    → DeletesOne c id old new fs deleting.NoMemory → StopsDeletion c (is_among first) ids (es ++ fs) earlier
+stopped_deletion c first earlier old new id later ids es fs is before dropped deletes =
+    let at = no_memory_at (side_of c id) c first earlier old new id fs refl dropped deletes in
+    record {
+      id = id;
+      later = later;
+      identities = is;
+      before = subst (λ (x : History). JudgesDeletion c (is_among first) earlier x Good) (sym (ap (λ (x : History). es ++ x) at.0 ∙ append-nil es)) (good_front c first earlier es before);
+      shared = at.1;
+      new = at.2;
+    }
+
+-- all are deleted
+pub good_deletion : (c : Setting) (first earlier ids : List ℕ) (es : History) → earlier ≡ ids → GoesOn c first earlier es → JudgesDeletion c (is_among first) ids es Good
+good_deletion c first earlier ids es is before = subst (λ (js : List ℕ). JudgesDeletion c (is_among first) js es Good) is (good_front c first earlier es before)
+
+pub retires-append : (Is : Event → Type 0) (es fs : History) → AllByRecursion Is es → AllByRecursion Is fs → AllByRecursion Is (es ++ fs)
+retires-append Is [] fs h k = k
+retires-append Is (e ∷ es) fs h k = (h.0, retires-append Is es fs h.1 k)

@@ -1,0 +1,206 @@
+-- What one line leaves of what is held, and of the place.
+use Rattle.std.proofs.Common.{◌≡◌, ◌≤◌, ◌<◌, ◌+◌, ◌-◌, ℕ, ℤ, Bool, true, false, List, [], ◌∷◌, ◌++◌, length, take, Option, None, Some, refl, sym, ap, subst, ◌∙◌, inl, inr, arith, append-nil}
+use Rattle.std.specs.Prelude.{◌||◌, ◌&&◌, ◌==◌, min, ◌^◌}
+use Rattle.std.specs.List.{AllByRecursion, list_any, sum_by}
+use Rattle.std.proofs.lemmas.Bool.{cases_Bool, cases_eq, eq-eqb}
+use Rattle.std.proofs.Math.Dec.{eqb-suc-zero}
+use Rattle.lrup_model.specs.Layout.{LayoutValue, Owns}
+use Rattle.lrup_model.specs.Event as events
+use Rattle.lrup_model.specs.Event.{Event, History, stream_of, size_of, own, spent}
+use Rattle.lrup_model.specs.State.{State, Slot, IsLive, absent, live, put, retire_slot, run}
+use Rattle.lrup_model.specs.Place.{Caller, Place, Tells, IsVacantAbove}
+use Rattle.lrup_model.specs.Running.{run-append, spent-append}
+use Rattle.lrup_model.specs.HistoryLemmas.{put-same, put-other, spent_one}
+use Rattle.lrup_model.specs.declared.clause_map.Published.TheVariants as publishing
+use Rattle.lrup_model.specs.declared.clause_map.Retired.{Retired}
+use Rattle.lrup_model.specs.declared.clause_map.Retired.TheVariants as retiring
+use Rattle.lrup_text.specs.Lines.{StreamLine, Addition, Deletion}
+use Rattle.propagate.specs.Distinct.{distinct}
+use Rattle.stream_check.specs.declared.fault.Fault.{Fault}
+use Rattle.stream_check.specs.declared.held.Held.{Held}
+use Rattle.stream_check.specs.declared.deletion.Stop.{Stop}
+use Rattle.stream_check.specs.declared.deletion.Stop.TheVariants as stops
+use Rattle.stream_check.specs.Setting.{Setting, side_of, is_shared}
+use Rattle.stream_check.specs.Standing.{Standing, Tally, capped, is_among, size_of as line_size, deleted_by, added_by, adds_empty}
+use Rattle.stream_check.specs.Verdicts.{Good, Bad}
+use Rattle.stream_check.specs.Additions.{published_by, JudgesAddition}
+use Rattle.stream_check.specs.Judging.{JudgesLine}
+use Rattle.stream_check.specs.Leaving.{Holding, TakesLine, SameStanding, standing_after, tally_after}
+use Rattle.stream_check.specs.Checking.{IsAt, IsFetch, IsRetire, MakesEvents, AreDropped, Deletes}
+use Rattle.stream_check.specs.Checker.{standing_at, tally_at, deleted_at, KeepsLines}
+use Rattle.stream_check.specs.Taking.{hold, IsReady, DeletesMore, TakesBy}
+use Rattle.stream_check.proofs.AddLemmas.{spent-skips, spent-fetches, run-fetches, still_at}
+
+-- The place after fetches alone
+
+-- what the place before has at an own identity
+own_before : (p q : Place) (es : History) (j : ℕ) → Tells p q es → Owns q.caller.layout q.caller.stream j → Owns p.caller.layout p.caller.stream j
+own_before p q es j tells theirs = subst (λ (r : Caller). Owns r.layout r.stream j) tells.caller theirs
+
+vacant_on : (p q : Place) (es : History) (last : ℕ) → Tells p q es → ((j : ℕ) → p.own j ≡ absent → run p.own es j ≡ absent) → IsVacantAbove p last → IsVacantAbove q last
+vacant_on p q es last tells stays vacant j theirs above =
+    let mine = own_before p q es j tells theirs in tells.own j mine ∙ stays j (vacant j mine above)
+
+pub ready_fetches : (h : Held) (p q : Place) (es : History) → Tells p q es → AllByRecursion IsFetch es → IsReady h p → IsReady h q
+ready_fetches h p q es tells quiet ready = record {
+  at = still_at h.setting p q es ready.at tells;
+  vacant = vacant_on p q es h.last tells (λ j none. ap (λ (m : State). m j) (run-fetches p.own es quiet) ∙ none) ready.vacant;
+}
+
+-- The place after retires alone
+
+retired_absent : (slot : Slot) → slot ≡ absent → retire_slot slot ≡ absent
+retired_absent slot none = subst (λ (s : Slot). retire_slot s ≡ absent) (sym none) refl
+
+run-retires-absent : (m : State) (es : History) (j : ℕ) → AllByRecursion IsRetire es → m j ≡ absent → run m es j ≡ absent
+run-retires-absent m [] j quiet none = none
+run-retires-absent m (events.fetch s id r ∷ es) j quiet none = absurd quiet.0
+run-retires-absent m (events.publish s id c r ∷ es) j quiet none = absurd quiet.0
+run-retires-absent m (events.retire s id retiring.NotLive ∷ es) j quiet none = run-retires-absent m es j quiet.1 none
+run-retires-absent m (events.retire s id retiring.Done ∷ es) j quiet none =
+    run-retires-absent (put m id (retire_slot (m id))) es j quiet.1 (elim (cases_eq j id) [
+      | inl same ↦ put-same m id (retire_slot (m id)) j same ∙ retired_absent (m id) (ap m (sym same) ∙ none)
+      | inr other ↦ put-other m id (retire_slot (m id)) j other ∙ none
+    ])
+
+spent-retires : (s : ℕ) (es : History) → AllByRecursion IsRetire es → spent s es ≡ 0
+spent-retires s [] h = refl
+spent-retires s (events.fetch t id r ∷ es) h = absurd h.0
+spent-retires s (events.publish t id c r ∷ es) h = absurd h.0
+spent-retires s (events.retire t id r ∷ es) h = spent-skips (events.retire t id r) (own es s) (stream_of (events.retire t id r) == s) refl ∙ spent-retires s es h.1
+
+pub room_retires : (p q : Place) (es : History) → Tells p q es → AllByRecursion IsRetire es → q.room ≡ p.room
+room_retires p q es tells quiet = omega (arith, tells.room, spent-retires p.caller.stream es quiet)
+
+-- after the retires of a deletion
+pub ready_retires : (old new : Held) (p q : Place) (es : History) → Tells p q es → AllByRecursion IsRetire es → new.setting ≡ old.setting → new.last ≡ old.last → IsReady old p → IsReady new q
+ready_retires old new p q es tells quiet setting last ready = record {
+  at = subst (λ (c : Setting). IsAt c q) (sym setting) (still_at old.setting p q es ready.at tells);
+  vacant = subst (IsVacantAbove q) (sym last) (vacant_on p q es old.last tells (λ j none. run-retires-absent p.own es j quiet none) ready.vacant);
+}
+
+-- The place after a publish
+
+published_run : (m : State) (fetches : History) (c : Setting) (id : ℕ) (lits : List ℤ) → AllByRecursion IsFetch fetches → run m (fetches ++ published_by c id lits ∷ []) ≡ put m id (live (distinct lits))
+published_run m fetches c id lits quiet = run-append m fetches (published_by c id lits ∷ []) ∙ ap (λ (n : State). put n id (live (distinct lits))) (run-fetches m fetches quiet)
+
+pub ready_publish : (old new : Held) (p q : Place) (es : History) (id : ℕ) (lits : List ℤ) → Tells p q es → MakesEvents old.setting id lits es None → new.setting ≡ old.setting → new.last ≡ id → old.last < id
+    → IsReady old p → IsReady new q
+ready_publish old new p q es id lits tells made setting last above ready =
+    let c = old.setting in
+    let there : run p.own es ≡ put p.own id (live (distinct lits)) = ap (run p.own) made.2 ∙ published_run p.own made.0 c id lits made.1 in
+    let owned : (j : ℕ) → Owns q.caller.layout q.caller.stream j → q.own j ≡ put p.own id (live (distinct lits)) j =
+    λ j theirs. tells.own j (own_before p q es j tells theirs) ∙ ap (λ (m : State). m j) there in
+    record {
+      at = subst (λ (x : Setting). IsAt x q) (sym setting) (still_at c p q es ready.at tells);
+      vacant = λ j theirs higher.
+          let over : id < j = omega (arith, higher, last) in
+          let other : j ≡ id → ⊥ = λ same. omega (arith, over, same) in
+          owned j theirs ∙ put-other p.own id (live (distinct lits)) j other ∙ ready.vacant j (own_before p q es j tells theirs) (omega (arith, over, above));
+    }
+
+pub room_publish : (old : Held) (p q : Place) (es : History) (id : ℕ) (lits : List ℤ) → IsAt old.setting p → Tells p q es → MakesEvents old.setting id lits es None → q.room ≡ p.room - length (distinct lits)
+room_publish old p q es id lits at tells made =
+    let e : Event = published_by old.setting id lits in
+    let one : spent p.caller.stream (e ∷ []) ≡ length (distinct lits) = spent_one p.caller.stream e (sym at.stream) in
+    let all : spent p.caller.stream es ≡ length (distinct lits) =
+    ap (spent p.caller.stream) made.2 ∙ spent-append p.caller.stream made.0 (e ∷ []) ∙ omega (arith, spent-fetches p.caller.stream made.0 made.1, one) in
+    omega (arith, tells.room, all)
+
+-- What is held after a good line
+
+pub tally_is : (a b : Tally) → a.added ≡ b.added → a.deleted ≡ b.deleted → a.empty ≡ b.empty → a ≡ b
+tally_is a b added deleted empty =
+    let made : ℕ → ℕ → Bool → Tally = λ x y z. record { added = x; deleted = y; empty = z } in
+    ap (λ x. made x a.deleted a.empty) added ∙ ap (λ y. made b.added y a.empty) deleted ∙ ap (λ z. made b.added b.deleted z) empty
+
+none_gone : (a s : Bool) → a ≡ (a || s && false)
+none_gone true s = refl
+none_gone false true = refl
+none_gone false false = refl
+
+or_false : (a : Bool) → a ≡ (a || false)
+or_false true = refl
+or_false false = refl
+
+-- the literals of a line are none exactly if its clause is empty
+empty_is : (b : Bool) (id : ℕ) (lits : List ℤ) (hints : List ℕ) → b ≡ (length lits == 0) → b ≡ adds_empty (Addition id lits hints)
+empty_is b id [] hints is = is
+empty_is b id (l ∷ lits) hints is = is ∙ eqb-suc-zero (length lits)
+
+-- what a good addition changes
+pub record Adds (old new : Held) (id : ℕ) (is_empty : Bool) : Type 0 where
+  pub last : new.last ≡ id
+  pub added : new.added ≡ old.added + 1
+  pub empty : new.empty ≡ (old.empty || is_empty)
+  pub line : new.line ≡ min (old.line + 1) (2 ^ 64 - 1)
+  pub dropped : new.dropped ≡ old.dropped
+  pub retired : new.retired ≡ old.retired
+
+pub takes_addition : (old new : Held) (free left : ℕ) (id : ℕ) (lits : List ℤ) (hints : List ℕ) (es : History) (is_empty : Bool) → Adds old new id is_empty
+    → is_empty ≡ (length lits == 0) → left ≡ free - length (distinct lits)
+    → JudgesAddition old.setting (standing_at old free) id lits hints es Good → TakesBy old free new left (Addition id lits hints) es None
+takes_addition old new free left id lits hints es is_empty adds is room judged =
+    let line : StreamLine = Addition id lits hints in (
+      judged,
+      λ read. record {
+        tally = tally_is (tally_at new) (tally_after (tally_at old) line) adds.added
+            (omega (arith, adds.retired, ap (λ (ids : List ℕ). length ids) adds.dropped))
+            (adds.empty ∙ ap (λ (b : Bool). old.empty || b) (empty_is is_empty id lits hints is));
+        standing = record {
+          last = adds.last;
+          free = room;
+          gone = λ j. ap (λ (ids : List ℕ). is_among ids j) adds.dropped ∙ none_gone (is_among old.dropped j) (is_shared (side_of old.setting j));
+        };
+        pending = refl;
+        line = adds.line;
+      },
+    )
+
+-- what a good deletion changes
+pub record Counts (mid new : Held) : Type 0 where
+  pub line : new.line ≡ min (mid.line + 1) (2 ^ 64 - 1)
+  pub last : new.last ≡ mid.last
+  pub added : new.added ≡ mid.added
+  pub empty : new.empty ≡ mid.empty
+  pub dropped : new.dropped ≡ mid.dropped
+  pub retired : new.retired ≡ mid.retired
+
+pub takes_deletion : (old mid new : Held) (free left : ℕ) (lead : ℕ) (ids : List ℕ) (es : History) (count : ℕ) → KeepsLines old mid → Counts mid new → deleted_at mid ≡ capped (deleted_at old + count) → left ≡ free
+    → Deletes old.setting old.dropped mid.dropped ids es count None → TakesBy old free new left (Deletion lead ids) es None
+takes_deletion old mid new free left lead ids es count kept counts more room deletes =
+    let line : StreamLine = Deletion lead ids in (
+      deletes.0,
+      λ read. record {
+        tally = tally_is (tally_at new) (tally_after (tally_at old) line)
+            (omega (arith, counts.added, kept.added))
+            (omega (arith, counts.retired, ap (λ (js : List ℕ). length js) counts.dropped, more, deletes.1))
+            (counts.empty ∙ kept.empty ∙ or_false old.empty);
+        standing = record {
+          last = counts.last ∙ kept.last;
+          free = omega (arith, room);
+          gone = λ j. ap (λ (js : List ℕ). is_among js j) counts.dropped ∙ deletes.2 j;
+        };
+        pending = refl;
+        line = counts.line ∙ ap (λ n. min (n + 1) (2 ^ 64 - 1)) kept.line;
+      },
+    )
+
+-- What is held after a line that stopped
+
+pub deletes_more : (old mid : Held) (count : ℕ) → KeepsLines old mid → deleted_at mid ≡ capped (deleted_at old + count) → DeletesMore old mid count
+deletes_more old mid count kept more = record { added = kept.added; deleted = more; empty = kept.empty; line = kept.line }
+
+pub stops_deletion : (old mid : Held) (free left : ℕ) (lead : ℕ) (ids : List ℕ) (es : History) (count : ℕ) (stop : Stop) → KeepsLines old mid → deleted_at mid ≡ capped (deleted_at old + count)
+    → Deletes old.setting old.dropped mid.dropped ids es count (Some stop) → TakesBy old free mid left (Deletion lead ids) es (Some stop)
+stops_deletion old mid free left lead ids es count (stops.Bad fault) kept more deletes = (count, deletes, deletes_more old mid count kept more)
+stops_deletion old mid free left lead ids es count stops.Memory kept more deletes =
+    (lead, ids, deletes.0, refl, deletes.2, deletes_more old mid (length deletes.0) kept (omega (arith, more, deletes.1)))
+
+pub stops_addition : (old : Held) (free left : ℕ) (id : ℕ) (lits : List ℤ) (hints : List ℕ) (es : History) (fault : Fault)
+    → JudgesAddition old.setting (standing_at old free) id lits hints es (Bad 0 fault) → TakesBy old free old left (Addition id lits hints) es (Some (stops.Bad fault))
+stops_addition old free left id lits hints es fault judged = (0, judged, record { added = refl; deleted = omega arith; empty = refl; line = refl })
+
+-- a good addition's identity is above the last one
+pub above_last : (c : Setting) (st : Standing) (id : ℕ) (lits : List ℤ) (hints : List ℕ) (es : History) → JudgesAddition c st id lits hints es Good → st.last < id
+above_last c st id lits hints es j = elim j [ inl bad ↦ absurd (let e : Good ≡ Bad 0 _ = bad.1.1 in cc) | inr next ↦ next.0.1 ]

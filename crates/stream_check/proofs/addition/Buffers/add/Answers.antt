@@ -1,0 +1,87 @@
+use Rattle.std.proofs.Common.{◌≡◌, ◌++◌, ◌∷◌, [], ℕ, Bool, None, sym, subst, ap, length, refl, arith, append-nil}
+use Rattle.lrup_model.specs.Event as events
+use Rattle.lrup_model.specs.Event.{Event, History}
+use Rattle.lrup_model.specs.History.{IsPublishable}
+use Rattle.lrup_model.specs.EntailmentLemmas.{accepted_follows}
+use Rattle.lrup_model.specs.declared.clause_map.Published.TheVariants as publishing
+use Rattle.propagate.specs.Distinct.{distinct}
+use Rattle.propagate.specs.Marks.{Propagation}
+use Rattle.stream_check.specs.Standing.{Standing, is_among}
+use Rattle.stream_check.specs.Verdicts.{Good, Bad}
+use Rattle.stream_check.specs.Additions.{published_by, JudgesHints, JudgesAddition}
+use Rattle.stream_check.specs.Checker.{standing_at}
+use Rattle.stream_check.proofs.AddLemmas.{room_stays, clause_is, shown_is, publishable, still_vacant, published_is}
+use Rattle.stream_check.proofs.addition.Buffers.add.Goals as goal
+
+pub returns-in-Some-clause-judged : goal.returns-in-Some-clause-judged
+returns-in-Some-clause-judged g c = ([], g.met.M.ClauseMap.moves_none c.args.map.now, tt, c.in-Some.ensures.admitted c.args.hints.now)
+
+pub returns-in-Some-try_hints-clause-judged : goal.returns-in-Some-try_hints-clause-judged
+returns-in-Some-try_hints-clause-judged g c =
+    let p = g.M.ClauseMap.place c.args.map.now in
+    let s = c.args.held.now.setting in
+    let st : Standing = standing_at c.args.held.now p.room in
+    let admitted = c.in_default.ensures.admitted in
+    let shown = c.in-Some-try_hints.ensures.shown in
+    let e : Event = published_by s c.args.id c.args.lits.now in
+    let bad : JudgesHints s st.gone e (distinct c.args.lits.now) c.args.hints.now shown.0 (Bad 0 c.in-Some-try_hints.fault) =
+    subst (λ n. JudgesHints s st.gone e n c.args.hints.now shown.0 (Bad 0 c.in-Some-try_hints.fault)) (ap (λ (m : Propagation). m.falses) admitted.0.marks_are) (shown.3 e) in
+    (shown.0, shown.1, shown.2, admitted.1 c.args.hints.now shown.0 (Bad 0 c.in-Some-try_hints.fault) bad)
+
+pub publish-requires-clause-clause : goal.publish-requires-clause-clause
+publish-requires-clause-clause g c =
+    let p = g.M.ClauseMap.place c.args.map.now in
+    let q = g.M.ClauseMap.place c.try_hints.new.map in
+    let s = c.args.held.now.setting in
+    let st : Standing = standing_at c.args.held.now p.room in
+    let admits = c.in_default.ensures.admitted.0 in
+    let shown = c.in_default-try_hints.ensures.shown in
+    let tells = g.met.M.ClauseMap.moves_tells c.args.map.now c.try_hints.new.map shown.0 shown.1 in
+    let is = clause_is s st c.args.id c.args.lits.now c.admit.new.self.marks c.try_hints.new.marks c.clause.result.now admits c.try_hints.ensures.kept c.clause.ensures in
+    let good = shown_is s st st.gone p.caller.formula c.args.id c.args.lits.now c.args.hints.now c.admit.new.self.marks shown.0 admits shown.3 in
+    subst (IsPublishable q.caller.formula) (sym is)
+    (publishable s p q st st.gone shown.0 c.args.id c.args.lits.now c.args.hints.now c.admit.new.self.marks accepted_follows c.requires.at tells admits c.requires.count good)
+
+pub publish-requires-clause-room : goal.publish-requires-clause-room
+publish-requires-clause-room g c =
+    let p = g.M.ClauseMap.place c.args.map.now in
+    let q = g.M.ClauseMap.place c.try_hints.new.map in
+    let s = c.args.held.now.setting in
+    let st : Standing = standing_at c.args.held.now p.room in
+    let admits = c.in_default.ensures.admitted.0 in
+    let shown = c.in_default-try_hints.ensures.shown in
+    let tells = g.met.M.ClauseMap.moves_tells c.args.map.now c.try_hints.new.map shown.0 shown.1 in
+    let is = clause_is s st c.args.id c.args.lits.now c.admit.new.self.marks c.try_hints.new.marks c.clause.result.now admits c.try_hints.ensures.kept c.clause.ensures in
+    omega (arith, ap length is, room_stays p q shown.0 tells shown.2, admits.fits)
+
+pub unreachable-requires : goal.unreachable-requires
+unreachable-requires g c =
+    let p = g.M.ClauseMap.place c.args.map.now in
+    let q = g.M.ClauseMap.place c.try_hints.new.map in
+    let admits = c.in_default.ensures.admitted.0 in
+    let shown = c.in_default-try_hints.ensures.shown in
+    let tells = g.met.M.ClauseMap.moves_tells c.args.map.now c.try_hints.new.map shown.0 shown.1 in
+    let done : c.publish.result ≡ publishing.Done =
+    c.publish.ensures.done.1 (still_vacant c.args.held.now.setting p q shown.0 c.args.held.now.last c.args.id c.requires.at tells shown.2 c.requires.vacant admits.owns admits.above) in
+    let taken = c.in-Taken.is in
+    cc
+
+pub returns-clause-judged : goal.returns-clause-judged
+returns-clause-judged g c =
+    let p = g.M.ClauseMap.place c.args.map.now in
+    let q = g.M.ClauseMap.place c.try_hints.new.map in
+    let s = c.args.held.now.setting in
+    let st : Standing = standing_at c.args.held.now p.room in
+    let admitted = c.in_default.ensures.admitted in
+    let shown = c.in_default-try_hints.ensures.shown in
+    let tells = g.met.M.ClauseMap.moves_tells c.args.map.now c.try_hints.new.map shown.0 shown.1 in
+    let is = clause_is s st c.args.id c.args.lits.now c.admit.new.self.marks c.try_hints.new.marks c.clause.result.now admitted.0 c.try_hints.ensures.kept c.clause.ensures in
+    let good = shown_is s st st.gone p.caller.formula c.args.id c.args.lits.now c.args.hints.now c.admit.new.self.marks shown.0 admitted.0 shown.3 in
+    let e : Event = published_by s c.args.id c.args.lits.now in
+    let last : g.M.ClauseMap.moves c.try_hints.new.map c.publish.new.self (e ∷ []) =
+    subst (g.M.ClauseMap.moves c.try_hints.new.map c.publish.new.self) (published_is s p q shown.0 c.args.id c.clause.result.now c.args.lits.now c.publish.result c.requires.at tells is c.in-Done.is) c.publish.ensures.event in (
+      shown.0 ++ e ∷ [],
+      g.met.M.ClauseMap.moves_append c.args.map.now c.try_hints.new.map c.publish.new.self shown.0 (e ∷ []) shown.1 last,
+      (shown.0, shown.2, refl),
+      admitted.1 c.args.hints.now (shown.0 ++ e ∷ []) Good (good.3 e),
+    )

@@ -1,0 +1,44 @@
+use Rattle.std.proofs.Common.{◌≡◌, ◌+◌, ℕ, [], ◌∷◌, ◌++◌, refl, sym, ap, subst, arith, rules}
+use Rattle.std.specs.Prelude.{replicate}
+use Rattle.lrup_model.specs.Event.{Event, History, fetch, vacant}
+use Rattle.lrup_model.specs.Place.{Place, Caller}
+use Rattle.lrup_model.specs.declared.clause_map.Fetched.{Fetched}
+use Rattle.lrup_model.specs.declared.clause_map.Fetched.TheVariants as answers
+use Rattle.lrup_model.specs.Replies.{reply_of}
+use Rattle.stream_check.proofs.TryLemmas.{replicate-more}
+use Rattle.stream_check.proofs.asking.fetch_up_to.Goals as goal
+
+not_vacant : (p : Place) (r : Fetched) → (r ≡ answers.Vacant → ⊥) → reply_of p r ≡ vacant → ⊥
+not_vacant p answers.Vacant other e = other refl
+not_vacant p (answers.Live clip) other e = absurd (cc)
+not_vacant p answers.Retired other e = absurd (cc)
+
+pub returns-in_default-clause-asked : goal.returns-in_default-clause-asked
+returns-in_default-clause-asked g c =
+    let p = g.M.ClauseMap.place c.args.map.now in
+    let q = g.M.ClauseMap.place c.loop-before.map in
+    let n = g.M.ClauseMap.place c.fetch.new.self in
+    let k = c.loop-before.before in
+    let r = reply_of n c.fetch.result in
+    let front : History = replicate k (fetch p.caller.stream c.args.id vacant) in
+    let tells = g.met.M.ClauseMap.moves_tells c.args.map.now c.loop-before.map front c.loop-before.invariant in
+    let same : q.caller.stream ≡ p.caller.stream = ap (λ (s : Caller). s.stream) tells.caller in
+    let last : g.M.ClauseMap.moves c.loop-before.map c.fetch.new.self (fetch p.caller.stream c.args.id r ∷ []) =
+    subst (λ (s : ℕ). g.M.ClauseMap.moves c.loop-before.map c.fetch.new.self (fetch s c.args.id r ∷ [])) same c.fetch.ensures.event in (
+      front ++ fetch p.caller.stream c.args.id r ∷ [],
+      g.met.M.ClauseMap.moves_append c.args.map.now c.loop-before.map c.fetch.new.self front (fetch p.caller.stream c.args.id r ∷ []) c.loop-before.invariant last,
+      (k, c.loop-before.auto.before-end, (λ e. absurd (not_vacant n c.fetch.result c.in_default.not-Vacant e)), refl),
+    )
+
+pub returns-clause-asked : goal.returns-clause-asked
+returns-clause-asked g c =
+    let p = g.M.ClauseMap.place c.args.map.now in
+    let q = g.M.ClauseMap.place c.loop-before.map in
+    let k = c.loop-before.before in
+    let r = reply_of (g.M.ClauseMap.place c.fetch-2.new.self) c.fetch-2.result in
+    let front : History = replicate k (fetch p.caller.stream c.args.id vacant) in
+    let tells = g.met.M.ClauseMap.moves_tells c.args.map.now c.loop-before.map front c.loop-before.invariant in
+    let same : q.caller.stream ≡ p.caller.stream = ap (λ (s : Caller). s.stream) tells.caller in
+    let last : g.M.ClauseMap.moves c.loop-before.map c.fetch-2.new.self (fetch p.caller.stream c.args.id r ∷ []) =
+    subst (λ (s : ℕ). g.M.ClauseMap.moves c.loop-before.map c.fetch-2.new.self (fetch s c.args.id r ∷ [])) same c.fetch-2.ensures.event in
+    (front ++ fetch p.caller.stream c.args.id r ∷ [], g.met.M.ClauseMap.moves_append c.args.map.now c.loop-before.map c.fetch-2.new.self front (fetch p.caller.stream c.args.id r ∷ []) c.loop-before.invariant last, (k, c.loop-before.auto.before-end, (λ e. omega (arith, c.loop-before.auto.before-end)), refl))

@@ -1,0 +1,49 @@
+use Rattle.std.proofs.Common.{◌≡◌, ◌∙◌, ℕ, List, [], sym, ap, subst, take, length}
+use Rattle.lrup_model.specs.Event.{History}
+use Rattle.stream_check.specs.Leaving.{Over}
+use Rattle.stream_check.specs.CheckerValue.{CheckerValue}
+use Rattle.stream_check.specs.Checker.{read_of, value_of, state_of, report_at, tally_at, LeavesOn}
+use Rattle.stream_check.proofs.FeedLemmas.{some_of, none_of, leaves_still, feeds_more, feeds_stopped}
+use Rattle.stream_check.proofs.checker.Checker.feed.Goals as goal
+
+pub returns-then-is_some-clause-left : goal.returns-then-is_some-clause-left
+returns-then-is_some-clause-left g c =
+    ([], g.met.M.ClauseMap.moves_none c.args.map.now, leaves_still c.args.self.now.setting (state_of c.args.self.now (g.M.ClauseMap.place c.args.map.now).room))
+
+pub returns-then-is_some-clause-turn : goal.returns-then-is_some-clause-turn
+returns-then-is_some-clause-turn g c =
+    let over = some_of c.self.inside.ending (sym c.is_some.ensures ∙ c.if-is_some.true) in
+    (over.0, sym (ap (λ (v : CheckerValue). v.ending) c.self.view_is) ∙ over.1)
+
+pub returns-in-More-clause-left : goal.returns-in-More-clause-left
+returns-in-More-clause-left g c =
+    let p = g.M.ClauseMap.place c.args.map.now in
+    let q = g.M.ClauseMap.place c.take_line.new.map in
+    let h = c.self.inside.held in
+    let n = c.take_line.new.held in
+    let read = read_of c.self.inside.reader in
+    let piece = c.args.piece.now in
+    let taken = c.in-More.ensures.taken in
+    let none = none_of c.self.inside.ending (sym c.is_some.ensures ∙ c.if-is_some.false) in
+    let left = feeds_more h n read c.take_line.new.reader piece taken.0 p.room q.room c.self.inside.ending none c.in-More.ensures.reads taken.2 in (
+      taken.0,
+      taken.1,
+      subst (λ (v : CheckerValue). LeavesOn v.setting (state_of v p.room) (take (length piece) piece) taken.0 (state_of (value_of n (read_of c.take_line.new.reader) c.self.inside.ending) q.room)) c.self.view_is left,
+    )
+
+pub returns-in-Stopped-clause-left : goal.returns-in-Stopped-clause-left
+returns-in-Stopped-clause-left g c =
+    let p = g.M.ClauseMap.place c.args.map.now in
+    let q = g.M.ClauseMap.place c.take_line.new.map in
+    let h = c.self.inside.held in
+    let n = c.take_line.new.held in
+    let read = read_of c.self.inside.reader in
+    let piece = c.args.piece.now in
+    let used = c.in-Stopped.used in
+    let taken = c.in-Stopped.ensures.taken in
+    let none = none_of c.self.inside.ending (sym c.is_some.ensures ∙ c.if-is_some.false) in
+    let left = feeds_stopped h n read piece used taken.0 p.room q.room c.in-Stopped.stop c.self.inside.ending c.ending.result none c.ending.ensures taken.2 in (
+      taken.0,
+      taken.1,
+      subst (λ (v : CheckerValue). LeavesOn v.setting (state_of v p.room) (take used piece) taken.0 (Over (report_at (tally_at n) c.ending.result))) c.self.view_is left,
+    )

@@ -1,0 +1,114 @@
+use Rattle.std.proofs.Common.{◌≡◌, ◌∙◌, ◌+◌, ℕ, List, [], ◌∷◌, ◌++◌, length, take, drop, get_or, refl, sym, ap, subst, arith, length-take}
+use Rattle.std.proofs.lemmas.List.{take_more, take_all}
+use Rattle.lrup_model.specs.Event.{History}
+use Rattle.stream_check.specs.Setting.{Setting}
+use Rattle.stream_check.specs.declared.deletion.Deleted.TheVariants as deleting
+use Rattle.stream_check.specs.declared.fault.Fault.TheVariants as faults
+use Rattle.stream_check.specs.declared.held.Held.{Held}
+use Rattle.stream_check.specs.Standing.{is_among}
+use Rattle.stream_check.specs.Verdicts.{Bad}
+use Rattle.stream_check.specs.Deletions.{JudgesDeletion}
+use Rattle.stream_check.specs.Checking.{IsRetire, DeletesOne, AreDropped}
+use Rattle.stream_check.specs.Checker.{KeepsLines}
+use Rattle.stream_check.proofs.DeleteLemmas.{GoesOn, goes_on, among_ids, bad_deletion, stopped_deletion, good_deletion, dropped_more, retires-append}
+use Rattle.stream_check.proofs.deletion.delete.Goals as goal
+
+pub returns-in-NotLive-clause-deleted : goal.returns-in-NotLive-clause-deleted
+returns-in-NotLive-clause-deleted g c =
+    let old = c.args.held.now in
+    let s = old.setting in
+    let i = c.loop-id.id-index in
+    let ids = c.args.ids.now in
+    let id = get_or ids i 0 in
+    let deleted = c.loop-id.invariant.deleted in
+    let one = c.in-NotLive.ensures.deletes in
+    let deletes : DeletesOne s id c.loop-id.held.dropped c.delete_one.new.held.dropped one.0 deleting.NotLive =
+    subst (λ (x : Setting). DeletesOne x id c.loop-id.held.dropped c.delete_one.new.held.dropped one.0 deleting.NotLive) c.loop-id.invariant.kept.setting one.3 in
+    let count : length (take i ids) ≡ i = omega (arith, length-take i ids, c.loop-id-test.true) in (
+      deleted.0 ++ one.0,
+      g.met.M.ClauseMap.moves_append c.args.map.now c.loop-id.map c.delete_one.new.map deleted.0 one.0 deleted.1 one.1,
+      retires-append IsRetire deleted.0 one.0 deleted.2 one.2,
+      (
+        length (take i ids),
+        omega (arith, c.in-NotLive.ensures.count, c.loop-id.invariant.count, count),
+        bad_deletion s old.dropped (take i ids) c.loop-id.held.dropped c.delete_one.new.held.dropped id (drop (i + 1) ids) ids deleted.0 one.0 (among_ids ids i c.loop-id-test.true) deleted.3 c.loop-id.invariant.dropped deletes,
+      ),
+    )
+
+pub returns-in-NoMemory-clause-deleted : goal.returns-in-NoMemory-clause-deleted
+returns-in-NoMemory-clause-deleted g c =
+    let old = c.args.held.now in
+    let s = old.setting in
+    let i = c.loop-id.id-index in
+    let ids = c.args.ids.now in
+    let id = get_or ids i 0 in
+    let deleted = c.loop-id.invariant.deleted in
+    let one = c.in-NoMemory.ensures.deletes in
+    let deletes : DeletesOne s id c.loop-id.held.dropped c.delete_one.new.held.dropped one.0 deleting.NoMemory =
+    subst (λ (x : Setting). DeletesOne x id c.loop-id.held.dropped c.delete_one.new.held.dropped one.0 deleting.NoMemory) c.loop-id.invariant.kept.setting one.3 in
+    let count : length (take i ids) ≡ i = omega (arith, length-take i ids, c.loop-id-test.true) in (
+      deleted.0 ++ one.0,
+      g.met.M.ClauseMap.moves_append c.args.map.now c.loop-id.map c.delete_one.new.map deleted.0 one.0 deleted.1 one.1,
+      retires-append IsRetire deleted.0 one.0 deleted.2 one.2,
+      (
+        length (take i ids),
+        omega (arith, c.in-NoMemory.ensures.count, c.loop-id.invariant.count, count),
+        (
+          take i ids,
+          refl,
+          stopped_deletion s old.dropped (take i ids) c.loop-id.held.dropped c.delete_one.new.held.dropped id (drop (i + 1) ids) ids deleted.0 one.0 (among_ids ids i c.loop-id-test.true) deleted.3 c.loop-id.invariant.dropped deletes,
+        ),
+      ),
+    )
+
+keeps_on : (a b c : Held) → KeepsLines a b → KeepsLines b c → KeepsLines a c
+keeps_on a b c h k = record { setting = k.setting ∙ h.setting; last = k.last ∙ h.last; added = k.added ∙ h.added; empty = k.empty ∙ h.empty; line = k.line ∙ h.line }
+
+pub loop-id-preserved : goal.loop-id-preserved
+loop-id-preserved g c =
+    let old = c.args.held.now in
+    let s = old.setting in
+    let i = c.loop-id.id-index in
+    let ids = c.args.ids.now in
+    let id = get_or ids i 0 in
+    let deleted = c.loop-id.invariant.deleted in
+    let one = c.in-Done.ensures.deletes in
+    let deletes : DeletesOne s id c.loop-id.held.dropped c.delete_one.new.held.dropped one.0 deleting.Done =
+    subst (λ (x : Setting). DeletesOne x id c.loop-id.held.dropped c.delete_one.new.held.dropped one.0 deleting.Done) c.loop-id.invariant.kept.setting one.3 in
+    let more : take (i + 1) ids ≡ take i ids ++ id ∷ [] = take_more ids i 0 c.loop-id-test.true in
+    record {
+      kept = keeps_on old c.loop-id.held c.delete_one.new.held c.loop-id.invariant.kept c.delete_one.ensures.kept;
+      count = omega (arith, c.in-Done.ensures.count, c.loop-id.invariant.count);
+      dropped = subst (λ (js : List ℕ). AreDropped s old.dropped js c.delete_one.new.held.dropped) (sym more)
+          (dropped_more s old.dropped (take i ids) c.loop-id.held.dropped c.delete_one.new.held.dropped id one.0 c.loop-id.invariant.dropped deletes);
+      deleted = (
+        deleted.0 ++ one.0,
+        g.met.M.ClauseMap.moves_append c.args.map.now c.loop-id.map c.delete_one.new.map deleted.0 one.0 deleted.1 one.1,
+        retires-append IsRetire deleted.0 one.0 deleted.2 one.2,
+        subst (λ (js : List ℕ). GoesOn s old.dropped js (deleted.0 ++ one.0)) (sym more)
+            (goes_on s old.dropped (take i ids) c.loop-id.held.dropped c.delete_one.new.held.dropped id deleted.0 one.0 deleted.3 c.loop-id.invariant.dropped deletes),
+      );
+    }
+
+pub returns-clause-deleted : goal.returns-clause-deleted
+returns-clause-deleted g c =
+    let old = c.args.held.now in
+    let s = old.setting in
+    let i = c.loop-id.id-index in
+    let ids = c.args.ids.now in
+    let deleted = c.loop-id.invariant.deleted in
+    let whole : take i ids ≡ ids = take_all i ids c.loop-id-test.false in
+    let count : i ≡ length ids = omega (arith, c.loop-id-test.false, c.loop-id.auto.id-index-end) in (
+      deleted.0,
+      deleted.1,
+      deleted.2,
+      (
+        i,
+        c.loop-id.invariant.count,
+        (
+          good_deletion s old.dropped (take i ids) ids deleted.0 whole deleted.3,
+          count,
+          subst (λ (js : List ℕ). AreDropped s old.dropped js c.loop-id.held.dropped) whole c.loop-id.invariant.dropped,
+        ),
+      ),
+    )

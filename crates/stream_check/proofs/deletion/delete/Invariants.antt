@@ -1,0 +1,23 @@
+use Rattle.std.proofs.Common.{◌≡◌, ◌+◌, ◌++◌, ℕ, List, [], take}
+use Rattle.std.specs.List.{AllByRecursion}
+use Rattle.lrup_model.specs.Event.{History}
+use Rattle.stream_check.specs.Standing.{is_among, capped}
+use Rattle.stream_check.specs.Verdicts.{Verdict}
+use Rattle.stream_check.specs.Deletions.{JudgesIdentities}
+use Rattle.stream_check.specs.Checking.{IsRetire, AreDropped}
+use Rattle.stream_check.specs.Checker.{KeepsLines, deleted_at}
+use Rattle.stream_check.proofs.deletion.delete.Given as goal
+
+abbrev pub invariant-loop-id : goal.invariant-loop-id
+invariant-loop-id g l =
+    let earlier = take l.id-index l.ids in
+    let old = l.initial.held in
+    record {
+      kept : KeepsLines old l.held;
+      count : deleted_at l.held ≡ capped (deleted_at old + l.id-index);
+      dropped : AreDropped old.setting old.dropped earlier l.held.dropped;
+      deleted : (es : History) × g.M.ClauseMap.moves l.initial.map l.map es × AllByRecursion IsRetire es
+          × ((more : List ℕ) (rest : History) (v : Verdict)
+          → JudgesIdentities old.setting (is_among old.dropped) earlier more rest v
+          → JudgesIdentities old.setting (is_among old.dropped) [] (earlier ++ more) (es ++ rest) v);
+    }

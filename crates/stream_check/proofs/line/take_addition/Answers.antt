@@ -1,0 +1,40 @@
+use Rattle.std.proofs.Common.{◌≡◌, ◌∙◌, ℕ, sym, refl}
+use Rattle.stream_check.specs.Checker.{standing_at}
+use Rattle.stream_check.proofs.LineLemmas.{Adds, ready_fetches, ready_publish, room_publish, takes_addition, stops_addition, above_last}
+use Rattle.stream_check.proofs.line.take_addition.Goals as goal
+
+pub returns-in-Some-clause-taken : goal.returns-in-Some-clause-taken
+returns-in-Some-clause-taken g c =
+    let p = g.M.ClauseMap.place c.args.map.now in
+    let q = g.M.ClauseMap.place c.add.new.map in
+    let judged = c.in-Some.ensures.judged in
+    (judged.0, judged.1, stops_addition c.args.held.now p.room q.room c.args.id c.args.lits.now c.args.hints.now judged.0 c.in-Some.fault judged.3)
+
+pub returns-in-Some-clause-ready : goal.returns-in-Some-clause-ready
+returns-in-Some-clause-ready g c =
+    let p = g.M.ClauseMap.place c.args.map.now in
+    let q = g.M.ClauseMap.place c.add.new.map in
+    let judged = c.in-Some.ensures.judged in
+    ready_fetches c.args.held.now p q judged.0 (g.met.M.ClauseMap.moves_tells c.args.map.now c.add.new.map judged.0 judged.1) judged.2 c.requires.ready
+
+pub returns-clause-taken : goal.returns-clause-taken
+returns-clause-taken g c =
+    let old = c.args.held.now in
+    let new = c.take_addition.new.self in
+    let p = g.M.ClauseMap.place c.args.map.now in
+    let q = g.M.ClauseMap.place c.add.new.map in
+    let judged = c.in_default.ensures.judged in
+    let added = c.take_addition.ensures in
+    let adds : Adds old new c.args.id c.is_empty.result = record { last = added.last; added = added.added; empty = added.empty; line = added.line; dropped = added.dropped; retired = added.retired } in
+    let room = room_publish old p q judged.0 c.args.id c.args.lits.now c.requires.ready.at (g.met.M.ClauseMap.moves_tells c.args.map.now c.add.new.map judged.0 judged.1) judged.2 in
+    (judged.0, judged.1, takes_addition old new p.room q.room c.args.id c.args.lits.now c.args.hints.now judged.0 c.is_empty.result adds c.is_empty.ensures room judged.3)
+
+pub returns-clause-ready : goal.returns-clause-ready
+returns-clause-ready g c =
+    let old = c.args.held.now in
+    let p = g.M.ClauseMap.place c.args.map.now in
+    let q = g.M.ClauseMap.place c.add.new.map in
+    let judged = c.in_default.ensures.judged in
+    let added = c.take_addition.ensures in
+    ready_publish old c.take_addition.new.self p q judged.0 c.args.id c.args.lits.now (g.met.M.ClauseMap.moves_tells c.args.map.now c.add.new.map judged.0 judged.1) judged.2 added.setting added.last
+    (above_last old.setting (standing_at old p.room) c.args.id c.args.lits.now c.args.hints.now judged.0 judged.3) c.requires.ready

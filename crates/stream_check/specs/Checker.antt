@@ -1,0 +1,149 @@
+-- What a checker holds, and what it takes of a piece of its stream (this project's own).
+use Rattle.std.specs.Prelude.{◌≡◌, ◌≤◌, ◌<◌, ◌^◌, ◌+◌, ◌++◌, ℕ, ℤ, true, List, [], ◌∷◌, length, take, Option, Some, None, Ok, Err}
+use Rattle.std.specs.List.{AllByRecursion}
+use Rattle.lrup_model.specs.Clause.{IsClause, IsTautology}
+use Rattle.lrup_model.specs.Event.{History}
+use Rattle.lrup_model.specs.Layout.{LayoutValue, Owns}
+use Rattle.lrup_model.specs.Place.{Place, IsVacantAbove}
+use Rattle.lrup_text.specs.Feeding.{ReaderState}
+use Rattle.lrup_text.specs.Lines.{StreamLine, Cut, IsPending, LineText}
+use Rattle.propagate.specs.Distinct.{distinct}
+use Rattle.propagate.specs.Marks.{Propagation}
+use Rattle.stream_check.specs.declared.fault.Fault.{Fault}
+use Rattle.stream_check.specs.declared.report.Ending.{Ending}
+use Rattle.stream_check.specs.declared.report.Report.{Report}
+use Rattle.stream_check.specs.declared.held.Held.{Held}
+use Rattle.stream_check.specs.declared.progress.Turn.{Turn}
+use Rattle.stream_check.specs.declared.progress.Turn.TheVariants as turns
+use Rattle.stream_check.specs.Setting.{Setting}
+use Rattle.stream_check.specs.Standing.{capped, Standing, Tally, is_among}
+use Rattle.stream_check.specs.Verdicts.{Verdict, Bad}
+use Rattle.stream_check.specs.Additions.{JudgesHints, JudgesAddition, published_by}
+use Rattle.stream_check.specs.Judging.{StreamEnd, ending_at, Judges}
+use Rattle.stream_check.specs.Leaving.{Holding, CheckerState, Going, Over, Leaves}
+use Rattle.stream_check.specs.Checking.{IsAt}
+use Rattle.stream_check.specs.CheckerValue.{CheckerValue}
+
+-- what the good lines so far leave, where so much room is left
+abbrev pub standing_at : Held → ℕ → Standing
+standing_at h free = record { last = h.last; free = free; gone = is_among h.dropped }
+
+-- how many identities were deleted
+abbrev pub deleted_at : Held → ℕ
+deleted_at h = capped (h.retired + length h.dropped)
+
+abbrev pub tally_at : Held → Tally
+tally_at h = record { added = h.added; deleted = deleted_at h; empty = h.empty }
+
+-- what only a good line changes
+pub record KeepsLines (old new : Held) : Type 0 where
+  pub setting : new.setting ≡ old.setting
+  pub last : new.last ≡ old.last
+  pub added : new.added ≡ old.added
+  pub empty : new.empty ≡ old.empty
+  pub line : new.line ≡ old.line
+
+-- The addition passes the tests before its hints, and its clause is taken up.
+pub record Admits (c : Setting) (st : Standing) (id : ℕ) (lits : List ℤ) (marks : Propagation) : Type 0 where
+  pub owns : Owns c.layout c.stream id
+  pub above : st.last < id
+  pub fits : length (distinct lits) ≤ st.free
+  pub clause : IsClause c.layout.vars (distinct lits)
+  pub consistent : ¬ IsTautology (distinct lits)
+  pub marks_are : marks ≡ record { vars = c.layout.vars; clause = distinct lits; falses = distinct lits; ready = true }
+
+-- the tests before the hints: they hold, and the hints decide, or one fails
+abbrev pub AdmitsBy : Setting → Standing → ℕ → List ℤ → Propagation → Option Fault → Type 0
+AdmitsBy c st id lits marks None =
+    Admits c st id lits marks
+    × ((hints : List ℕ) (es : History) (v : Verdict) → JudgesHints c st.gone (published_by c id lits) (distinct lits) hints es v → JudgesAddition c st id lits hints es v)
+AdmitsBy c st id lits marks (Some fault) = (hints : List ℕ) → JudgesAddition c st id lits hints [] (Bad 0 fault)
+
+-- the text that a reader has read of a line
+abbrev pub read_of : ReaderState → List ℕ
+read_of (Ok read) = read
+read_of (Err fault) = []
+
+-- a checker of these parts
+abbrev pub value_of : Held → List ℕ → Option Ending → CheckerValue
+value_of h pending ending = record {
+  setting = h.setting;
+  tally = tally_at h;
+  last = h.last;
+  dropped = h.dropped;
+  retired = h.retired;
+  pending = pending;
+  line = h.line;
+  ending = ending;
+}
+
+-- the report of these counts, with this ending
+abbrev pub report_at : Tally → Ending → Report
+report_at t ending = record { added = t.added; deleted = t.deleted; empty = t.empty; ending = ending }
+
+abbrev pub holding_of : CheckerValue → ℕ → Holding
+holding_of v free = record {
+  tally = v.tally;
+  standing = record { last = v.last; free = free; gone = is_among v.dropped };
+  pending = v.pending;
+  line = v.line;
+}
+
+abbrev pub state_by : CheckerValue → ℕ → Option Ending → CheckerState
+state_by v free None = Going (holding_of v free)
+state_by v free (Some ending) = Over (report_at v.tally ending)
+
+-- what the checker is left as, where so much room is left
+abbrev pub state_of : CheckerValue → ℕ → CheckerState
+state_of v free = state_by v free v.ending
+
+-- What a checker needs of a place: it is the checker's, and its own identities above the last one that was added are vacant.
+pub record IsReadyAt (v : CheckerValue) (p : Place) : Type 0 where
+  pub at : IsAt v.setting p
+  pub vacant : IsVacantAbove p v.last
+
+-- Whatever bytes and events left the checker as it was, these bytes and events more leave it as it is.
+abbrev pub LeavesOn : Setting → CheckerState → List ℕ → History → CheckerState → Type 0
+LeavesOn c old used es new = (bytes : List ℕ) (before : History) → Leaves c bytes before old → Leaves c (bytes ++ used) (before ++ es) new
+
+-- What the bytes used came to: one line more, the front of a line, or the end of the reading.
+abbrev pub Turns : Turn → CheckerValue → CheckerValue → List ℕ → List ℕ → Type 0
+Turns turns.Line old new piece used =
+    (new.ending ≡ None) × (new.pending ≡ [])
+    × ((bytes : List ℕ) (lines : List StreamLine) → Cut bytes lines old.pending → (line : StreamLine) × Cut (bytes ++ used) (lines ++ line ∷ []) [])
+Turns turns.More old new piece used =
+    (new.ending ≡ None) × (used ≡ piece) × (new.pending ≡ old.pending ++ piece)
+    × ((bytes : List ℕ) (lines : List StreamLine) → Cut bytes lines old.pending → Cut (bytes ++ used) lines new.pending)
+Turns turns.Over old new piece used = (ending : Ending) × (new.ending ≡ Some ending)
+
+-- a checker that is over takes nothing
+abbrev pub StaysOver : CheckerValue → CheckerValue → List ℕ → Type 0
+StaysOver old new used = (ending : Ending) → old.ending ≡ Some ending → (new ≡ old) × (used ≡ [])
+
+-- a checker before its first byte
+pub record IsNew (layout : LayoutValue) (stream tries : ℕ) (v : CheckerValue) : Type 0 where
+  pub setting : v.setting ≡ record { layout = layout; stream = stream; tries = tries }
+  pub last : v.last ≡ layout.clauses
+  pub retired : v.retired ≡ 0
+  pub ending : v.ending ≡ None
+  pub left : Leaves v.setting [] [] (state_of v layout.room)
+
+abbrev pub EndsBy : Option Ending → StreamEnd → CheckerValue → CheckerValue → Type 0
+EndsBy None end old new = (new.setting ≡ old.setting) × (new.tally ≡ old.tally) × (new.ending ≡ Some (ending_at end old.pending old.line))
+EndsBy (Some ending) end old new = new ≡ old
+
+-- the end of the stream, or a failed read, ends a checker that isn't over
+abbrev pub Ends : StreamEnd → CheckerValue → CheckerValue → Type 0
+Ends end old new = EndsBy old.ending end old new
+
+-- The report of a checker that is over is right for whatever bytes and events left it as it was, and this end.
+abbrev pub ReportsEnd : StreamEnd → CheckerValue → CheckerValue → Type 0
+ReportsEnd end old new =
+    (bytes : List ℕ) (es : History) (free : ℕ) → Leaves old.setting bytes es (state_of old free)
+    → (ending : Ending) × (new.ending ≡ Some ending) × Judges old.setting bytes end es (report_at new.tally ending)
+
+-- a checker that isn't over reads on, and its parts are for one setting
+pub record IsSound (c : Setting) (vars : ℕ) (reader : ReaderState) (ending : Option Ending) : Type 0 where
+  pub reads : ending ≡ None → reader ≡ Ok (read_of reader)
+  pub variables : c.layout.vars ≡ vars
+  pub tries : c.tries < 2 ^ 63

@@ -1,0 +1,141 @@
+-- What the parts of a checker do: a hint, the hints of an addition, an addition, the identities of a deletion (this project's own).
+use Rattle.std.specs.Prelude.{◌≡◌, ◌≤◌, ◌==◌, ◌+◌, ◌++◌, ◌||◌, ◌&&◌, ℕ, ℤ, neg_ℤ, Bool, true, false, List, [], ◌∷◌, length, Option, Some, None}
+use Rattle.std.specs.List.{AllByRecursion}
+use Rattle.lrup_model.specs.Clause.{Clause}
+use Rattle.lrup_model.specs.Formula.{Cnf}
+use Rattle.lrup_model.specs.Entailment.{IsDerived}
+use Rattle.lrup_model.specs.Layout.{Owns}
+use Rattle.lrup_model.specs.Event as events
+use Rattle.lrup_model.specs.Event.{Event, History}
+use Rattle.lrup_model.specs.State.{IsLive}
+use Rattle.lrup_model.specs.Place.{Place, IsKnown, AllFollow}
+use Rattle.lrup_model.specs.Propagation.{IsConflict, IsUnit, Accepts}
+use Rattle.lrup_model.specs.declared.clause_map.Fetched.{Fetched}
+use Rattle.lrup_model.specs.declared.clause_map.Fetched.TheVariants as fetched
+use Rattle.lrup_model.specs.declared.clause_map.Retired.TheVariants as retiring
+use Rattle.propagate.specs.Marks.{Propagation}
+use Rattle.stream_check.specs.declared.fault.Fault.{Fault}
+use Rattle.stream_check.specs.declared.fault.Fault.TheVariants as faults
+use Rattle.stream_check.specs.declared.setting.Side.{Side}
+use Rattle.stream_check.specs.declared.setting.Side.TheVariants as sides
+use Rattle.stream_check.specs.declared.hints.Tried.{Tried}
+use Rattle.stream_check.specs.declared.hints.Tried.TheVariants as tried
+use Rattle.stream_check.specs.declared.deletion.Deleted.{Deleted}
+use Rattle.stream_check.specs.declared.deletion.Deleted.TheVariants as deleting
+use Rattle.stream_check.specs.declared.deletion.Stop.{Stop}
+use Rattle.stream_check.specs.declared.deletion.Stop.TheVariants as stops
+use Rattle.stream_check.specs.Setting as setting
+use Rattle.stream_check.specs.Setting.{Setting, side_of, is_shared}
+use Rattle.stream_check.specs.Standing.{is_among}
+use Rattle.stream_check.specs.Verdicts.{Verdict, Good, Bad}
+use Rattle.stream_check.specs.Additions.{AtConflict, JudgesHints, published_by}
+use Rattle.stream_check.specs.Deletions.{JudgesDeletion, StopsDeletion}
+
+-- the side that a `Side` is
+abbrev pub side_is : Side → setting.Side
+side_is sides.Formula = setting.formula
+side_is sides.Own = setting.own
+side_is sides.Foreign = setting.foreign
+side_is sides.Outside = setting.outside
+
+-- The place is this stream's, at this layout, which is one for the formula's variables.
+pub record IsAt (c : Setting) (p : Place) : Type 0 where
+  pub layout : p.caller.layout ≡ c.layout
+  pub stream : p.caller.stream ≡ c.stream
+  pub variables : p.caller.formula.vars ≡ c.layout.vars
+
+-- a live clause that a fetch gave is known at the place, and every clause there follows
+abbrev pub Gives : Place → Fetched → Type 0
+Gives p fetched.Vacant = Unit {0}
+Gives p (fetched.Live clip) = IsKnown p clip × AllFollow p
+Gives p fetched.Retired = Unit {0}
+
+-- the event is a fetch
+abbrev pub IsFetch : Event → Type 0
+IsFetch (events.fetch s id r) = Unit {0}
+IsFetch (events.publish s id d r) = ⊥
+IsFetch (events.retire s id r) = ⊥
+
+-- the event is a retire
+abbrev pub IsRetire : Event → Type 0
+IsRetire (events.fetch s id r) = ⊥
+IsRetire (events.publish s id d r) = ⊥
+IsRetire (events.retire s id r) = Unit {0}
+
+-- Additions
+
+-- hints leave the clause that was taken up
+abbrev pub KeepsClause : Propagation → Propagation → Type 0
+KeepsClause old new = (new.vars ≡ old.vars) × (new.clause ≡ old.clause)
+
+-- What one hint did, by its events. Whatever hints come after it, and whatever is published in the end, it judges them so.
+abbrev pub Tries : Setting → (ℕ → Bool) → Cnf → Propagation → ℕ → History → Tried → Propagation → Type 0
+Tries c gone f old h es tried.Unit new =
+    (d : Clause) × (l : ℤ) × IsDerived f d × IsUnit old.falses d l × (new ≡ record old { falses = old.falses ++ neg_ℤ l ∷ [] })
+    × ((e : Event) (hints : List ℕ) (rest : History) (v : Verdict) → JudgesHints c gone e new.falses hints rest v → JudgesHints c gone e old.falses (h ∷ hints) (es ++ rest) v)
+Tries c gone f old h es tried.Conflict new =
+    (d : Clause) × IsDerived f d × IsConflict old.falses d
+    × ((e : Event) (hints : List ℕ) (rest : History) (v : Verdict) → AtConflict hints e rest v → JudgesHints c gone e old.falses (h ∷ hints) (es ++ rest) v)
+Tries c gone f old h es (tried.Fails fault) new =
+    (e : Event) (hints : List ℕ) → JudgesHints c gone e old.falses (h ∷ hints) es (Bad 0 fault)
+
+-- what the hints of an addition come to: they show its clause, or there is a fault
+abbrev pub Shows : Setting → (ℕ → Bool) → Cnf → Clause → List ℕ → History → Option Fault → Type 0
+Shows c gone f clause hints es None =
+    (ds : List Clause) × AllByRecursion (IsDerived f) ds × Accepts clause ds × ((e : Event) → JudgesHints c gone e clause hints (es ++ e ∷ []) Good)
+Shows c gone f clause hints es (Some fault) = (e : Event) → JudgesHints c gone e clause hints es (Bad 0 fault)
+
+-- the fault of the hints that are left after the conflict, if any
+abbrev pub excess_of : List ℕ → Option Fault
+excess_of [] = None
+excess_of (h ∷ hints) = Some (faults.Excess h)
+
+-- the verdict of an addition that has this fault, if any
+abbrev pub verdict_of : Option Fault → Verdict
+verdict_of None = Good
+verdict_of (Some fault) = Bad 0 fault
+
+-- a good addition makes fetches and is published, and a bad one makes fetches alone
+abbrev pub MakesEvents : Setting → ℕ → List ℤ → History → Option Fault → Type 0
+MakesEvents c id lits es None = (fetches : History) × AllByRecursion IsFetch fetches × (es ≡ fetches ++ published_by c id lits ∷ [])
+MakesEvents c id lits es (Some fault) = AllByRecursion IsFetch es
+
+-- Deletions
+
+-- An identity to delete that is an own one: the reply to one retire decides. No other has an event.
+abbrev pub DeletesOwn : Setting → ℕ → List ℕ → List ℕ → History → Deleted → Type 0
+DeletesOwn c id old new es deleting.Done = (es ≡ events.retire c.stream id retiring.Done ∷ []) × (new ≡ old)
+DeletesOwn c id old new es deleting.NotLive = es ≡ events.retire c.stream id retiring.NotLive ∷ []
+DeletesOwn c id old new es deleting.NoMemory = ⊥
+
+-- one of the formula's or of another stream's: it is kept among the dropped ones, where it isn't yet
+abbrev pub DropsShared : ℕ → List ℕ → List ℕ → Deleted → Type 0
+DropsShared id old new deleting.Done = (is_among old id ≡ false) × ((j : ℕ) → is_among new j ≡ (is_among old j || id == j))
+DropsShared id old new deleting.NotLive = is_among old id ≡ true
+DropsShared id old new deleting.NoMemory = is_among old id ≡ false
+
+abbrev pub DeletesSide : setting.Side → Setting → ℕ → List ℕ → List ℕ → History → Deleted → Type 0
+DeletesSide setting.formula c id old new es result = (es ≡ []) × DropsShared id old new result
+DeletesSide setting.own c id old new es result = DeletesOwn c id old new es result
+DeletesSide setting.foreign c id old new es result = (es ≡ []) × DropsShared id old new result
+DeletesSide setting.outside c id old new es result = (es ≡ []) × (result ≡ deleting.NotLive)
+
+-- what became of one identity to delete, where these were dropped before, and these are afterwards
+abbrev pub DeletesOne : Setting → ℕ → List ℕ → List ℕ → History → Deleted → Type 0
+DeletesOne c id old new es result = DeletesSide (side_of c id) c id old new es result
+
+-- so many identities more were deleted with this one
+abbrev pub counted : Deleted → ℕ
+counted deleting.Done = 1
+counted deleting.NotLive = 0
+counted deleting.NoMemory = 0
+
+-- The dropped ones are those of before, and the shared ones of these identities.
+abbrev pub AreDropped : Setting → List ℕ → List ℕ → List ℕ → Type 0
+AreDropped c old ids new = (id : ℕ) → is_among new id ≡ (is_among old id || is_shared (side_of c id) && is_among ids id)
+
+-- What a deletion came to: it is good, or bad, or stopped for want of memory, after so many identities.
+abbrev pub Deletes : Setting → List ℕ → List ℕ → List ℕ → History → ℕ → Option Stop → Type 0
+Deletes c old new ids es count None = JudgesDeletion c (is_among old) ids es Good × (count ≡ length ids) × AreDropped c old ids new
+Deletes c old new ids es count (Some (stops.Bad fault)) = JudgesDeletion c (is_among old) ids es (Bad count fault)
+Deletes c old new ids es count (Some stops.Memory) = (earlier : List ℕ) × (count ≡ length earlier) × StopsDeletion c (is_among old) ids es earlier

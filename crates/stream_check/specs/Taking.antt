@@ -1,0 +1,71 @@
+-- What a checker's line leaves of it (this project's own).
+use Rattle.std.specs.Prelude.{◌≡◌, ◌≤◌, ◌+◌, ◌++◌, ℕ, List, [], ◌∷◌, length, take, Option, Some, None, Ok}
+use Rattle.lrup_model.specs.Event.{History}
+use Rattle.lrup_model.specs.Place.{Place, IsVacantAbove}
+use Rattle.lrup_text.specs.Feeding.{ReaderState}
+use Rattle.lrup_text.specs.Lines.{StreamLine, Deletion, LineText, IsPending}
+use Rattle.stream_check.specs.declared.fault.Fault.{Fault}
+use Rattle.stream_check.specs.declared.report.Ending.{Ending}
+use Rattle.stream_check.specs.declared.report.Ending.TheVariants as endings
+use Rattle.stream_check.specs.declared.held.Held.{Held}
+use Rattle.stream_check.specs.declared.deletion.Stop.{Stop}
+use Rattle.stream_check.specs.declared.deletion.Stop.TheVariants as stops
+use Rattle.stream_check.specs.declared.line.Taken.{Taken}
+use Rattle.stream_check.specs.declared.line.Taken.TheVariants as taken
+use Rattle.stream_check.specs.Standing.{capped, Tally, is_among}
+use Rattle.stream_check.specs.Verdicts.{Good, Bad}
+use Rattle.stream_check.specs.Deletions.{StopsDeletion}
+use Rattle.stream_check.specs.Judging.{JudgesLine}
+use Rattle.stream_check.specs.Leaving.{Holding, Going, Over, TakesLine}
+use Rattle.stream_check.specs.Checking.{IsAt}
+use Rattle.stream_check.specs.Checker.{standing_at, tally_at, deleted_at, report_at, LeavesOn}
+
+-- what is held, with this text read of the next line, where so much room is left
+abbrev pub hold : Held → List ℕ → ℕ → Holding
+hold h pending free = record { tally = tally_at h; standing = standing_at h free; pending = pending; line = h.line }
+
+-- the place is one where the next line can be checked
+pub record IsReady (h : Held) (p : Place) : Type 0 where
+  pub at : IsAt h.setting p
+  pub vacant : IsVacantAbove p h.last
+
+-- so many identities more were deleted, and nothing else was counted
+pub record DeletesMore (old new : Held) (count : ℕ) : Type 0 where
+  pub added : new.added ≡ old.added
+  pub deleted : deleted_at new ≡ capped (deleted_at old + count)
+  pub empty : new.empty ≡ old.empty
+  pub line : new.line ≡ old.line
+
+-- what the events of one line came to
+abbrev pub TakesBy : Held → ℕ → Held → ℕ → StreamLine → History → Option Stop → Type 0
+TakesBy old free new left line es None =
+    JudgesLine old.setting (standing_at old free) line es Good × ((read : List ℕ) → TakesLine old.setting (hold old read free) line (hold new [] left))
+TakesBy old free new left line es (Some (stops.Bad fault)) =
+    (count : ℕ) × JudgesLine old.setting (standing_at old free) line es (Bad count fault) × DeletesMore old new count
+TakesBy old free new left line es (Some stops.Memory) =
+    (lead : ℕ) × (ids earlier : List ℕ) × (line ≡ Deletion lead ids) × StopsDeletion old.setting (is_among old.dropped) ids es earlier × DeletesMore old new (length earlier)
+
+-- a line that stopped ends the reading so
+abbrev pub ending_of : ℕ → Stop → Ending
+ending_of line (stops.Bad fault) = endings.Bad line fault
+ending_of line stops.Memory = endings.Memory line
+
+abbrev pub taken_of : ℕ → Option Stop → Taken
+taken_of used None = taken.Line used
+taken_of used (Some stop) = taken.Stopped used stop
+
+-- what stands next in a piece, and what it leaves
+abbrev pub Takes : Held → List ℕ → ℕ → List ℕ → History → Taken → Held → ℕ → Type 0
+Takes old read free piece es (taken.Line used) new left =
+    LeavesOn old.setting (Going (hold old read free)) (take used piece) es (Going (hold new [] left))
+    × ((line : StreamLine) × LineText line (read ++ take used piece))
+Takes old read free piece es taken.More new left =
+    LeavesOn old.setting (Going (hold old read free)) piece es (Going (hold new (read ++ piece) left)) × IsPending (read ++ piece)
+Takes old read free piece es (taken.Stopped used stop) new left =
+    LeavesOn old.setting (Going (hold old read free)) (take used piece) es (Over (report_at (tally_at new) (ending_of new.line stop)))
+
+-- the reader after it, and how many bytes were used at most
+abbrev pub ReadsOn : List ℕ → List ℕ → Taken → ReaderState → Type 0
+ReadsOn read piece (taken.Line used) reader = (reader ≡ Ok []) × (used ≤ length piece)
+ReadsOn read piece taken.More reader = reader ≡ Ok (read ++ piece)
+ReadsOn read piece (taken.Stopped used stop) reader = used ≤ length piece

@@ -1,0 +1,124 @@
+//! One addition against a clause map.
+ghost use Rattle.std.specs.Prelude.{◌≡◌, ◌↔◌, ◌≤◌, ◌<◌, ◌^◌, IsTrue, length, IfOk, vec_capacity};
+ghost use Rattle.std.specs.Bool.{OnTrue};
+ghost use Rattle.std.specs.List.{AllByRecursion};
+ghost use Rattle.lrup_model.specs.Literal.{IsLiteral, max_variable};
+ghost use Rattle.lrup_model.specs.Event.{History};
+ghost use Rattle.lrup_model.specs.History.{max_line_literals};
+ghost use Rattle.lrup_model.specs.Place.{IsVacantAbove};
+ghost use Rattle.lrup_text.specs.Lines.{IsStreamLiteral};
+ghost use Rattle.stream_check.specs.Additions.{JudgesAddition};
+ghost use Rattle.stream_check.specs.Checking.{IsAt, verdict_of, MakesEvents};
+ghost use Rattle.stream_check.specs.Checker.{standing_at, AdmitsBy};
+
+use crate::fault::Fault;
+use crate::gate::Gate;
+use crate::held::Held;
+use crate::hints::try_hints;
+use lrup_model::{ClauseMap, Id, Lit, Published};
+use propagate::Marks;
+use std::alloc::{AllocError, Global};
+
+/// The most literals that an addition may have.
+const MAX_LITERALS: usize = 65_535;
+
+/// The buffers of a stream's additions. They are made once, and no line takes memory.
+#[derive(Drop)]
+pub struct Buffers {
+    marks: Marks,
+    literals: Vec<Lit>,
+    vars: u32,
+    ghost same_variables: { vars ≡ marks.vars },
+    ghost few_variables: { vars ≤ max_variable },
+    ghost reserved: { max_line_literals ≤ vec_capacity literals },
+}
+
+impl Buffers {
+    /// The buffers for lines over the variables 1 to `vars`, at most 16,777,215.
+    pub fn new(alloc: Global, vars: u32) -> Result<Buffers, AllocError>
+        requires { vars ≤ max_variable }
+        ensures { IfOk result (λ buffers. buffers.vars ≡ vars) }
+    {
+        Ok(Buffers {
+            marks: Marks::new(alloc, vars)?,
+            literals: Vec::with_capacity(alloc, MAX_LITERALS)?,
+            vars,
+        })
+    }
+
+    /// The tests of an addition that ask the map for no clause, in their order. The clause is taken up where all hold.
+    fn admit<M: ClauseMap>(&mut self, held: &Held, map: &M, id: Id, lits: &[i64]) -> Option<Fault>
+        requires at { IsAt held.now.setting (M.place map.now) }
+        requires variables { held.now.setting.layout.vars ≡ self.old.vars }
+        requires count { length lits.now ≤ max_line_literals }
+        requires nonzero { AllByRecursion IsStreamLiteral lits.now }
+        ensures vars { self.new.vars ≡ self.old.vars }
+        ensures admitted { AdmitsBy held.now.setting (standing_at held.now (M.place map.now).room) id lits.now self.new.marks result }
+    {
+        if !map.owns(id) || id <= held.last {
+            return Some(Fault::Identity);
+        }
+        if !read_literals(&mut self.literals, lits, self.vars) {
+            return Some(Fault::Literal);
+        }
+        if self.marks.begin(&self.literals).is_err() {
+            return Some(Fault::Tautology);
+        }
+        if self.marks.clause().len() as u64 > map.room() {
+            return Some(Fault::NoRoom);
+        }
+        None
+    }
+
+    /// Checks an addition, and publishes its clause where it has no fault.
+    pub fn add<M: ClauseMap, G: Gate>(
+        &mut self,
+        held: &Held,
+        map: &mut M,
+        gate: &mut G,
+        id: Id,
+        lits: &[i64],
+        hints: &[Id],
+    ) -> Option<Fault>
+        requires at { IsAt held.now.setting (M.place map.old) }
+        requires variables { held.now.setting.layout.vars ≡ self.old.vars }
+        requires tries { held.now.setting.tries < 2 ^ 63 }
+        requires vacant { IsVacantAbove (M.place map.old) held.now.last }
+        requires count { length lits.now ≤ max_line_literals }
+        requires nonzero { AllByRecursion IsStreamLiteral lits.now }
+        ensures vars { self.new.vars ≡ self.old.vars }
+        ensures judged { (es : History) × M.moves map.old map.new es × MakesEvents held.now.setting id lits.now es result × JudgesAddition held.now.setting (standing_at held.now (M.place map.old).room) id lits.now hints.now es (verdict_of result) }
+    {
+        if let Some(fault) = self.admit(held, map, id, lits) {
+            return Some(fault);
+        }
+        if let Some(fault) = try_hints(&held.setting, &held.dropped, map, gate, &mut self.marks, hints) {
+            return Some(fault);
+        }
+        match map.publish(id, self.marks.clause()) {
+            Published::Done => {
+                gate.after_publish(map.stream(), id);
+                None
+            }
+            Published::Taken => unreachable!(),
+        }
+    }
+}
+
+/// Makes literals of the numbers of a line. False where one is no literal over the variables 1 to `vars`.
+fn read_literals(literals: &mut Vec<Lit>, numbers: &[i64], vars: u32) -> bool
+    requires room { length numbers.now ≤ vec_capacity literals.old }
+    requires variables { vars ≤ max_variable }
+    ensures literals { OnTrue result (literals.new.items ≡ numbers.now) }
+    ensures within { IsTrue result ↔ AllByRecursion (IsLiteral vars) numbers.now }
+    ensures room { vec_capacity literals.old ≤ vec_capacity literals.new }
+{
+    literals.clear();
+    for number in numbers {
+        match Lit::new(*number) {
+            Some(lit) if lit.var() <= vars => literals.push_reserved(lit),
+            _ => return false,
+        }
+    }
+    true
+}

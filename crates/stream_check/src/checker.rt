@@ -1,0 +1,151 @@
+//! The checker of one stream.
+ghost use Rattle.std.specs.Prelude.{◌≡◌, ◌↔◌, ◌≤◌, IsTrue, IsSome, IfSome, IfOk, take, length};
+ghost use Rattle.lrup_model.specs.Event.{History};
+ghost use Rattle.lrup_model.specs.Layout.{IsStream};
+ghost use Rattle.stream_check.specs.Judging.{ended, failed};
+ghost use Rattle.stream_check.specs.Checker.{state_of, report_at, IsReadyAt, LeavesOn, Turns, StaysOver, IsNew, Ends, ReportsEnd};
+
+use crate::addition::Buffers;
+use crate::fault::Fault;
+use crate::gate::Gate;
+use crate::held::Held;
+use crate::laws::fresh_left;
+use crate::line::{Taken, take_line};
+use crate::progress::{Progress, Turn};
+use crate::report::{Ending, Report};
+use lrup_model::{ClauseMap, Layout};
+use lrup_text::{End, LineReader};
+use std::alloc::{AllocError, Global};
+use std::marker::Model;
+
+/// Checks the lines of one stream, which comes in pieces, against a clause map, and says in the end how the stream is judged.
+///
+/// Once it is over nothing changes it.
+#[derive(Drop)]
+pub struct Checker {
+    held: Held,
+    buffers: Buffers,
+    reader: LineReader,
+    ending: Option<Ending>,
+}
+
+impl Model for Checker {
+    ghost use Rattle.stream_check.specs.CheckerValue.{CheckerValue};
+
+    ghost Value = { CheckerValue };
+
+    ghost use Rattle.stream_check.specs.Checker.{value_of, read_of, IsSound};
+
+    ghost view = { λ c. value_of c.held (read_of c.reader) c.ending };
+
+    ghost invariant = { λ c. IsSound c.held.setting c.buffers.vars c.reader c.ending };
+}
+
+impl Checker {
+    /// A checker of stream `stream`, from 1 on, before its first byte. A hint of another stream is fetched again while it is
+    /// vacant, up to `tries` times, at most 1,000,000. All memory is taken here, but for the identities that the stream drops.
+    pub fn new(
+        alloc: Global,
+        stream: u64,
+        layout: &Layout,
+        tries: u64,
+    ) -> Result<Checker, AllocError>
+        requires stream { IsStream layout.now stream }
+        requires tries { tries ≤ 1000000 }
+        ensures { IfOk result (IsNew layout.now stream tries) }
+    {
+        fresh_left();
+        Ok(Checker {
+            held: Held::new(alloc, layout, stream, tries),
+            buffers: Buffers::new(alloc, layout.vars())?,
+            reader: LineReader::new(alloc)?,
+            ending: None,
+        })
+    }
+
+    /// Takes bytes of a piece: through the end of a line that is good, through the byte that ends the reading, or all of them.
+    pub fn feed<M: ClauseMap, G: Gate>(
+        &mut self,
+        map: &mut M,
+        gate: &mut G,
+        piece: &[u8],
+    ) -> Progress
+        requires { IsReadyAt self.old (M.place map.old) }
+        // Whatever bytes and events came before, the bytes used and the call's events leave the checker as it is now.
+        ensures left { (es : History) × M.moves map.old map.new es
+            × LeavesOn self.old.setting (state_of self.old (M.place map.old).room) (take result.used piece.now) es (state_of self.new (M.place map.new).room) }
+        ensures turn { Turns result.turn self.old self.new piece.now (take result.used piece.now) }
+        ensures used { result.used ≤ length piece.now }
+        ensures over { StaysOver self.old self.new (take result.used piece.now) }
+        ensures ready { IsReadyAt self.new (M.place map.new) }
+        ensures setting { self.new.setting ≡ self.old.setting }
+    {
+        if self.ending.is_some() {
+            return Progress {
+                used: 0,
+                turn: Turn::Over,
+            };
+        }
+        match take_line(&mut self.held, &mut self.buffers, &mut self.reader, map, gate, piece) {
+            Taken::Line(used) => Progress {
+                used,
+                turn: Turn::Line,
+            },
+            Taken::More => Progress {
+                used: piece.len(),
+                turn: Turn::More,
+            },
+            Taken::Stopped(used, stop) => {
+                self.ending = Some(stop.ending(self.held.line));
+                Progress {
+                    used,
+                    turn: Turn::Over,
+                }
+            }
+        }
+    }
+
+    /// Takes the end of the stream.
+    pub fn end(&mut self)
+        ensures ends { Ends ended self.old self.new }
+        ensures reports { ReportsEnd ended self.old self.new }
+    {
+        if self.ending.is_some() {
+            return;
+        }
+        self.ending = Some(match self.reader.end() {
+            End::Clean => Ending::Ended,
+            End::Fault(fault) => Ending::Bad(self.held.line, Fault::Text(fault)),
+        });
+    }
+
+    /// Takes it that the reader failed.
+    pub fn read_failed(&mut self)
+        ensures ends { Ends failed self.old self.new }
+        ensures reports { ReportsEnd failed self.old self.new }
+    {
+        if self.ending.is_none() {
+            self.ending = Some(Ending::ReadFailed(self.held.line));
+        }
+    }
+
+    /// Is nothing more taken?
+    pub fn is_over(&self) -> bool
+        ensures { IsTrue result ↔ IsSome self.now.ending }
+    {
+        self.ending.is_some()
+    }
+
+    /// What is said of the stream.
+    pub fn report(&self) -> Report
+        requires { IsSome self.now.ending }
+        ensures { IfSome self.now.ending (λ ending. result ≡ report_at self.now.tally ending) }
+    {
+        Report {
+            added: self.held.added,
+            deleted: self.held.retired.saturating_add(self.held.dropped.count()),
+            empty: self.held.empty,
+            ending: self.ending.unwrap(),
+        }
+    }
+}

@@ -1,0 +1,99 @@
+//! One deletion against a clause map.
+ghost use Rattle.std.specs.Prelude.{◌≡◌, ◌+◌, ℕ, length};
+ghost use Rattle.std.specs.List.{AllByRecursion};
+ghost use Rattle.lrup_model.specs.Event.{History};
+ghost use Rattle.lrup_model.specs.Layout.{Owns};
+ghost use Rattle.stream_check.specs.Checking.{IsAt, DropsShared, DeletesOwn, DeletesOne, Deletes, IsRetire, counted};
+ghost use Rattle.stream_check.specs.Standing.{capped};
+ghost use Rattle.stream_check.specs.Checker.{KeepsLines, deleted_at};
+
+use crate::dropped::Dropped;
+use crate::fault::Fault;
+use crate::held::Held;
+use crate::setting::Side;
+use lrup_model::{ClauseMap, Id, Retired};
+
+/// What became of an identity to delete.
+#[derive(Clone, Copy)]
+pub enum Deleted {
+    /// It is retired, or dropped.
+    Done,
+    /// It is neither: it isn't live, or was dropped before, or is no identity.
+    NotLive,
+    /// There is no memory to keep it among the dropped ones.
+    NoMemory,
+}
+
+/// Why a line wasn't taken as a good one.
+#[derive(Clone, Copy)]
+pub enum Stop {
+    /// It is bad.
+    Bad(Fault),
+    /// There was no memory to keep an identity that it drops.
+    Memory,
+}
+
+/// Drops an identity that isn't the stream's own. It is looked for first, so that one that was dropped before never wants
+/// memory.
+fn drop_shared(dropped: &mut Dropped, id: Id) -> Deleted
+    ensures drops { DropsShared id dropped.old dropped.new result }
+    ensures count { length dropped.new ≡ length dropped.old + counted result }
+{
+    if dropped.has(id) {
+        return Deleted::NotLive;
+    }
+    match dropped.add(id) {
+        Ok(()) => Deleted::Done,
+        Err(_) => Deleted::NoMemory,
+    }
+}
+
+/// Retires an identity of the stream's own.
+fn retire_own<M: ClauseMap>(held: &mut Held, map: &mut M, id: Id) -> Deleted
+    requires at { IsAt held.old.setting (M.place map.old) }
+    requires owns { Owns held.old.setting.layout held.old.setting.stream id }
+    ensures deletes { (es : History) × M.moves map.old map.new es × AllByRecursion IsRetire es × DeletesOwn held.old.setting id held.old.dropped held.new.dropped es result }
+    ensures count { deleted_at held.new ≡ capped (deleted_at held.old + counted result) }
+    ensures dropped { held.new.dropped ≡ held.old.dropped }
+    ensures kept { KeepsLines held.old held.new }
+{
+    match map.retire(id) {
+        Retired::Done => {
+            held.retired = held.retired.saturating_add(1);
+            Deleted::Done
+        }
+        Retired::NotLive => Deleted::NotLive,
+    }
+}
+
+/// Deletes one identity.
+fn delete_one<M: ClauseMap>(held: &mut Held, map: &mut M, id: Id) -> Deleted
+    requires at { IsAt held.old.setting (M.place map.old) }
+    ensures deletes { (es : History) × M.moves map.old map.new es × AllByRecursion IsRetire es × DeletesOne held.old.setting id held.old.dropped held.new.dropped es result }
+    ensures count { deleted_at held.new ≡ capped (deleted_at held.old + counted result) }
+    ensures kept { KeepsLines held.old held.new }
+{
+    match held.setting.side(id) {
+        Side::Own => retire_own(held, map, id),
+        Side::Formula => drop_shared(&mut held.dropped, id),
+        Side::Foreign => drop_shared(&mut held.dropped, id),
+        Side::Outside => Deleted::NotLive,
+    }
+}
+
+/// Deletes the identities one after the other. None where all are deleted.
+pub fn delete<M: ClauseMap>(held: &mut Held, map: &mut M, ids: &[Id]) -> Option<Stop>
+    requires at { IsAt held.old.setting (M.place map.old) }
+    ensures deleted { (es : History) × M.moves map.old map.new es × AllByRecursion IsRetire es × ((count : ℕ) × (deleted_at held.new ≡ capped (deleted_at held.old + count))
+        × Deletes held.old.setting held.old.dropped held.new.dropped ids.now es count result) }
+    ensures kept { KeepsLines held.old held.new }
+{
+    for id in ids {
+        match delete_one(held, map, *id) {
+            Deleted::Done => {}
+            Deleted::NotLive => return Some(Stop::Bad(Fault::NotLive(*id))),
+            Deleted::NoMemory => return Some(Stop::Memory),
+        }
+    }
+    None
+}

@@ -1,0 +1,12 @@
+//! What stands between a checker's steps.
+use lrup_model::Id;
+
+/// What a run does between the steps of a checker: it may wait, count, or let another thread go first. Each identity is
+/// named with the checker's stream.
+pub trait Gate {
+    /// Comes before each fetch. Attempts of one hint are counted from 1.
+    fn before_fetch(&mut self, stream: u64, id: Id, attempt: u64);
+
+    /// Comes after each publish that answered Done.
+    fn after_publish(&mut self, stream: u64, id: Id);
+}

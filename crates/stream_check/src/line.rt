@@ -1,0 +1,122 @@
+//! The line that stands next in a piece.
+ghost use Rattle.std.specs.Prelude.{◌≡◌, ◌≤◌, ◌<◌, ◌^◌, ℕ, Ok, take, length};
+ghost use Rattle.lrup_model.specs.Event.{History};
+ghost use Rattle.lrup_text.specs.Lines.{IsWithinLimits, Addition, Deletion};
+ghost use Rattle.stream_check.specs.Checker.{read_of};
+ghost use Rattle.stream_check.specs.Taking.{IsReady, TakesBy, Takes, ReadsOn, taken_of, ending_of};
+
+use crate::addition::Buffers;
+use crate::deletion::{Stop, delete};
+use crate::fault::Fault;
+use crate::gate::Gate;
+use crate::held::Held;
+use crate::laws::good_line_taken;
+use crate::report::Ending;
+use lrup_model::{ClauseMap, Id};
+use lrup_text::{Line, LineReader, Turn};
+
+/// What stands next in a piece.
+#[derive(Clone, Copy)]
+pub enum Taken {
+    /// A good line, through this many bytes.
+    Line(usize),
+    /// The front of a line, or nothing. All bytes were used.
+    More,
+    /// A line or a text that ends the reading, through this many bytes.
+    Stopped(usize, Stop),
+}
+
+impl Stop {
+    /// How the stream ends where the line of this number stopped so.
+    pub fn ending(self, line: u64) -> Ending
+        ensures { result ≡ ending_of line self }
+    {
+        match self {
+            Stop::Bad(fault) => Ending::Bad(line, fault),
+            Stop::Memory => Ending::Memory(line),
+        }
+    }
+}
+
+/// Checks an addition, and counts it where it is good.
+fn take_addition<M: ClauseMap, G: Gate>(
+    held: &mut Held,
+    buffers: &mut Buffers,
+    map: &mut M,
+    gate: &mut G,
+    id: Id,
+    lits: &[i64],
+    hints: &[Id],
+) -> Option<Stop>
+    requires ready { IsReady held.old (M.place map.old) }
+    requires variables { held.old.setting.layout.vars ≡ buffers.old.vars }
+    requires tries { held.old.setting.tries < 2 ^ 63 }
+    requires fits { IsWithinLimits (Addition id lits.now hints.now) }
+    ensures taken { (es : History) × M.moves map.old map.new es × TakesBy held.old (M.place map.old).room held.new (M.place map.new).room (Addition id lits.now hints.now) es result }
+    ensures ready { IsReady held.new (M.place map.new) }
+    ensures setting { held.new.setting ≡ held.old.setting }
+    ensures variables { buffers.new.vars ≡ buffers.old.vars }
+{
+    if let Some(fault) = buffers.add(held, map, gate, id, lits, hints) {
+        return Some(Stop::Bad(fault));
+    }
+    held.take_addition(id, lits.is_empty());
+    None
+}
+
+/// Makes a deletion, and counts it where it is good.
+fn take_deletion<M: ClauseMap>(held: &mut Held, map: &mut M, ids: &[Id]) -> Option<Stop>
+    requires ready { IsReady held.old (M.place map.old) }
+    ensures taken { (es : History) × M.moves map.old map.new es × ((lead : ℕ) → TakesBy held.old (M.place map.old).room held.new (M.place map.new).room (Deletion lead ids.now) es result) }
+    ensures ready { IsReady held.new (M.place map.new) }
+    ensures setting { held.new.setting ≡ held.old.setting }
+{
+    if let Some(stop) = delete(held, map, ids) {
+        return Some(stop);
+    }
+    held.take_deletion();
+    None
+}
+
+/// What the line that ends after so many bytes came to.
+fn line_through(used: usize, stop: Option<Stop>) -> Taken
+    ensures { result ≡ taken_of used stop }
+{
+    match stop {
+        None => Taken::Line(used),
+        Some(stop) => Taken::Stopped(used, stop),
+    }
+}
+
+/// Takes the line that ends first in a piece, if one does, and checks it.
+pub fn take_line<M: ClauseMap, G: Gate>(
+    held: &mut Held,
+    buffers: &mut Buffers,
+    reader: &mut LineReader,
+    map: &mut M,
+    gate: &mut G,
+    piece: &[u8],
+) -> Taken
+    requires ready { IsReady held.old (M.place map.old) }
+    requires variables { held.old.setting.layout.vars ≡ buffers.old.vars }
+    requires tries { held.old.setting.tries < 2 ^ 63 }
+    requires reader { reader.old ≡ Ok (read_of reader.old) }
+    ensures taken { (es : History) × M.moves map.old map.new es × Takes held.old (read_of reader.old) (M.place map.old).room piece.now es result held.new (M.place map.new).room }
+    ensures reads { ReadsOn (read_of reader.old) piece.now result reader.new }
+    ensures ready { IsReady held.new (M.place map.new) }
+    ensures setting { held.new.setting ≡ held.old.setting }
+    ensures variables { buffers.new.vars ≡ buffers.old.vars }
+{
+    good_line_taken();
+    let fed = reader.feed(piece);
+    let used = fed.used;
+    match fed.turn {
+        Turn::Line(Line::Add { id, lits, hints }) => line_through(
+            used,
+            take_addition(held, buffers, map, gate, id, lits, hints),
+        ),
+        Turn::Line(Line::Delete { ids, .. }) => line_through(used, take_deletion(held, map, ids)),
+        Turn::NeedMore => Taken::More,
+        Turn::Fault(fault) => Taken::Stopped(used, Stop::Bad(Fault::Text(fault))),
+    }
+}
