@@ -5,3 +5,8 @@ pub mod RuleLemmas
 pub mod StepLemmas
 pub mod LookLemmas
 pub mod SeatLemmas
+pub mod PlaceLemmas
+pub mod OwnLemmas
+pub mod RetireLemmas
+pub mod ClaimLemmas
+pub mod MeetLemmas

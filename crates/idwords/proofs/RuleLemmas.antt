@@ -26,7 +26,7 @@ use Rattle.idwords.proofs.ViewLemmas.{all_at, moved, times-same}
 
 -- Own events
 
-own_rest : (g h k : History) → k ≡ g → g ++ h ≡ k → h ≡ []
+pub own_rest : (g h k : History) → k ≡ g → g ++ h ≡ k → h ≡ []
 own_rest g [] k same all = refl
 own_rest g (e ∷ h) k same all = absurd (let len : length (g ++ e ∷ h) ≡ length g = ap length (all ∙ same) in omega (arith, length-append g (e ∷ h)))
 
@@ -107,6 +107,21 @@ legal_next f p log e legal answers allowed room = record {
   ];
 }
 
+-- other words serve a part as well, where its draft lies in them
+pub stands_words : (f : Cnf) (p : LayoutValue) (log : History) (words words' : List ℕ) (q : Part) → Stands f p log words q → LiesAt words' q.top q.draft → Stands f p log words' q
+stands_words f p log words words' q stands lies = record {
+  formula = stands.formula;
+  layout = stands.layout;
+  stream = stands.stream;
+  begins = stands.begins;
+  seen = stands.seen;
+  mine = stands.mine;
+  spelt = stands.spelt;
+  top = stands.top;
+  room = stands.room;
+  draft = lies;
+}
+
 -- another stream's part stands as before
 stands_on : (f : Cnf) (p : LayoutValue) (log : History) (words words' : List ℕ) (e : Event) (q : Part) → (stream_of e ≡ part_stream q → ⊥) → Stands f p log words q
     → LiesAt words' q.top q.draft → Stands f p (log ++ e ∷ []) words' q
@@ -125,6 +140,13 @@ stands_on f p log words words' e q other stands lies = record {
 
 state_next : (f : Cnf) (log : History) (e : Event) (id : ℕ) → state f (log ++ e ∷ []) id ≡ after (state f log) e id
 state_next f log e id = ap (λ (m : State). m id) (run-append (opening f) log (e ∷ []))
+
+-- the top after a call of the stream
+pub event_top : (p : LayoutValue) (s : ℕ) (mine : History) (e : Event) → stream_of e ≡ s → top_after p s (mine ++ e ∷ []) ≡ top_after p s mine + size_of e
+event_top p s mine e is =
+    let all : spent s (mine ++ e ∷ []) ≡ spent s mine + spent s (e ∷ []) = spent-append s mine (e ∷ []) in
+    let one : spent s (e ∷ []) ≡ size_of e = spent_one s e is in
+    omega arith
 
 -- what an event's words have to do
 pub record Serves (f : Cnf) (p : LayoutValue) (log : History) (words : List ℕ) (e : Event) (words' : List ℕ) : Type 0 where

@@ -63,7 +63,7 @@ pub keeps_spelt : (f : Cnf) (p : LayoutValue) (g h : History) → KeepsSpelt (ke
 keeps_spelt f p g h id kept here =
     ap (λ (xs : List Spelling). kept_in xs id) (spelling-append f p g h) ∙ kept-append_some (spelling_of f p g) (added_spelling p g h) id kept here
 
-kept_one : (x : Spelling) (id : ℕ) → id ≡ x.id → kept_in (x ∷ []) id ≡ Some x.kept
+pub kept_one : (x : Spelling) (id : ℕ) → id ≡ x.id → kept_in (x ∷ []) id ≡ Some x.kept
 kept_one x id same = cond-true (eqb x.id id) (Some x.kept) None (eq-eqb x.id id (sym same))
 
 kept_other : (x : Spelling) (id : ℕ) → (id ≡ x.id → ⊥) → kept_in (x ∷ []) id ≡ None
@@ -85,7 +85,7 @@ pub record SpellsState (m : State) (xs : List Spelling) : Type 0 where
   pub once : IsOncePerIdentity xs
   pub slots : (id : ℕ) → Spells (m id) (kept_in xs id)
 
-spells_absent : (slot : Slot) (o : Option Kept) → slot ≡ absent → Spells slot o → o ≡ None
+pub spells_absent : (slot : Slot) (o : Option Kept) → slot ≡ absent → Spells slot o → o ≡ None
 spells_absent absent None nothing spells = refl
 spells_absent absent (Some kept) nothing spells = absurd spells
 spells_absent (live c) o nothing spells = absurd (cc)
@@ -107,7 +107,7 @@ spells_retired (retired c) o spells = spells
 same_list : (m : State) (xs : List Spelling) → SpellsState m xs → SpellsState m (xs ++ [])
 same_list m xs spells = subst (λ (ys : List Spelling). SpellsState m ys) (sym (append-nil xs)) spells
 
-kept_beside : (xs : List Spelling) (x : Spelling) (j : ℕ) (o : Option Kept) → kept_in xs j ≡ o → (j ≡ x.id → ⊥) → kept_in (xs ++ x ∷ []) j ≡ o
+pub kept_beside : (xs : List Spelling) (x : Spelling) (j : ℕ) (o : Option Kept) → kept_in xs j ≡ o → (j ≡ x.id → ⊥) → kept_in (xs ++ x ∷ []) j ≡ o
 kept_beside xs x j None here other = kept-append_none xs (x ∷ []) j here ∙ kept_other x j other
 kept_beside xs x j (Some k) here other = kept-append_some xs (x ∷ []) j k here
 

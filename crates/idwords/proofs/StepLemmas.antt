@@ -7,7 +7,7 @@ use Rattle.lrup_model.specs.Formula.{Cnf}
 use Rattle.lrup_model.specs.Layout.{LayoutValue}
 use Rattle.lrup_model.specs.Event.{History}
 use Rattle.idwords.specs.Rule.{Part, Stands, Keeps, IsKept}
-use Rattle.idwords.specs.Steps.{Changes}
+use Rattle.idwords.specs.Steps.{Changes, Writes, Stores}
 use Rattle.idwords.proofs.RuleLemmas.{OwnKeeps}
 use Rattle.idwords.proofs.ViewLemmas.{all_at}
 
@@ -51,3 +51,6 @@ module _ {S : Type 0} where
   -- what is told of one part is told of a seat that has it
   pub changes : (R : ℕ → Part → ℕ → Part → Type 0) (step : Step S) (v : Part) (n : ℕ) (w : Part) → R step.word v n w → Changes R step (v ∷ [], []) n (w ∷ [], [])
   changes R step v n w told u same = let one : v ≡ u = head_of v u same in (w, refl, refl, subst (λ (x : Part). R step.word x n w) one told)
+
+  pub stores : (step : Step S) (v : Part) (n : ℕ) (w : Part) → Writes step.first v w → Stores step (v ∷ [], []) n (w ∷ [], [])
+  stores step v n w told u same = let one : v ≡ u = head_of v u same in (w, refl, refl, subst (λ (x : Part). Writes step.first x w) one told)
