@@ -55,7 +55,7 @@ module _ (f : Cnf) (p : LayoutValue) (log : History) (legal : IsLegal f p log) w
       ]
 
 -- a stream's room lies inside the row
-within_row : (p : LayoutValue) (s place all : ℕ) → IsStream p s → all ≡ row_words p → place < first_place p s + p.room → place < all
+pub within_row : (p : LayoutValue) (s place all : ℕ) → IsStream p s → all ≡ row_words p → place < first_place p s + p.room → place < all
 within_row p s place all mine count below =
     let more : (s - 1 + 1) * p.room ≤ p.streams * p.room = mul-le-mul_right p.room (omega (arith, mine.0, mine.1)) in
     omega arith
@@ -84,7 +84,7 @@ reads v seat place more words views kept here small =
 
 -- A store of a literal
 
-pub written : (v : Part) (seat : ℕ) (l : ℤ) → spent (part_stream v) v.view.mine + length v.draft < v.view.caller.layout.room
+written : (v : Part) (seat : ℕ) (l : ℤ) → spent (part_stream v) v.view.mine + length v.draft < v.view.caller.layout.room
     → OwnStep v seat (v.top + length v.draft) (λ _. code_of l) (λ n w. Writes (code_of l) v w)
 written v seat l room more words views kept here small =
     let f = v.view.caller.formula in
@@ -130,3 +130,11 @@ written v seat l room more words views kept here small =
       },
       λ k same. ap (λ (x : ℤ). record v { draft = v.draft ++ x ∷ [] }) (code_injective l k same),
     )
+
+-- the same, by the place and the code
+pub written_at : (v : Part) (seat : ℕ) (l : ℤ) (place code : ℕ) → spent (part_stream v) v.view.mine + length v.draft < v.view.caller.layout.room
+    → v.top + length v.draft ≡ place → code_of l ≡ code → OwnStep v seat place (λ _. code) (λ n w. Writes code v w)
+written_at v seat l place code room at is =
+    let here : OwnStep v seat place (λ _. code_of l) (λ n w. Writes (code_of l) v w) =
+    subst (λ (i : ℕ). OwnStep v seat i (λ _. code_of l) (λ n w. Writes (code_of l) v w)) at (written v seat l room) in
+    subst (λ (k : ℕ). OwnStep v seat place (λ _. k) (λ n w. Writes k v w)) is here

@@ -1,6 +1,7 @@
 pub mod Codes
 pub mod Words
 pub mod Spelling
+pub mod Opening
 pub mod Rule
 pub mod Steps
 pub mod Seats

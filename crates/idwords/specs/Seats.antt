@@ -3,11 +3,12 @@ use Rattle.std.specs.Prelude.{◌≡◌, ◌+◌, ◌-◌, ◌*◌, ◌≤◌, �
 use Rattle.atomic_table.specs.Seated.{TableId}
 use Rattle.atomic_table.specs.Table.{Me}
 use Rattle.lrup_model.specs.Clause.{Clause}
-use Rattle.lrup_model.specs.Layout.{row_words}
+use Rattle.lrup_model.specs.Formula.{Cnf}
+use Rattle.lrup_model.specs.Layout.{LayoutValue, row_words}
 use Rattle.lrup_model.specs.Event.{spent}
 use Rattle.lrup_model.specs.Pass.{View, IsFair}
 use Rattle.idwords.specs.Spelling.{first_place, top_after}
-use Rattle.idwords.specs.Rule.{Part, part_stream}
+use Rattle.idwords.specs.Rule.{Part, part_stream, opening_part}
 
 -- Which row it is of, what its stream knows, its first place that belongs to no published clause, and the literals stored from there on.
 pub record SeatValue : Type 0 where
@@ -38,12 +39,24 @@ abbrev pub first_part : List Part → Part
 first_part [] = no_part
 first_part (v ∷ vs) = v
 
+abbrev pub first_only : List Part → List Part
+first_only [] = []
+first_only (v ∷ vs) = v ∷ []
+
+abbrev pub others : List Part → List Part
+others [] = []
+others (v ∷ vs) = vs
+
 abbrev pub seat_value : TableId → Part → SeatValue
 seat_value table v = record { table = table; view = v.view; top = v.top; draft = v.draft }
 
 -- what the seat's stream knows
 abbrev pub part_of : SeatValue → Part
 part_of s = record { view = s.view; top = s.top; draft = s.draft }
+
+-- a stream's seat at the opening
+abbrev pub opening_seat : TableId → Cnf → LayoutValue → ℕ → SeatValue
+opening_seat table f p s = seat_value table (opening_part f p s)
 
 -- the seat has one part, fair and with a draft inside its room, and keeps the numbers of its top, its draft and the end of its room
 pub record IsSeated {S : Type 0} (table : TableId) (me : Me S (List Part)) (top drafted room : ℕ) : Type 0 where

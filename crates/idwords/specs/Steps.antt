@@ -1,6 +1,7 @@
 -- What each step tells the part that makes it (this project's own).
 use Rattle.std.specs.Prelude.{◌≡◌, ◌≢◌, ◌↔◌, ◌+◌, ◌==◌, ◌++◌, ℕ, ℤ, List, [], ◌∷◌, Some, length, slice_get, if◌then◌else◌}
 use Rattle.atomic_table.specs.Table.{Step, Me}
+use Rattle.lrup_model.specs.Clause.{Clause}
 use Rattle.lrup_model.specs.Event as events
 use Rattle.lrup_model.specs.Event.{Event, History}
 use Rattle.lrup_model.specs.State.{state, absent, IsLive}
@@ -47,6 +48,11 @@ Writes new v w = (l : ℤ) → new ≡ code_of l → w ≡ record v { draft = v.
 -- the reply of a publish that found this word
 abbrev pub published_at : ℕ → Published
 published_at word = if word == 0 then publishing.Done else publishing.Taken
+
+-- the top after a publish of a draft
+abbrev pub top_after_reply : Published → ℕ → Clause → ℕ
+top_after_reply publishing.Done top draft = top + length draft
+top_after_reply publishing.Taken top draft = top
 
 -- a publish of the draft, which is empty then
 pub record Claims (id : ℕ) (v : Part) (word : ℕ) (w : Part) : Type 0 where

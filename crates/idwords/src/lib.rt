@@ -3,9 +3,12 @@
 //! call moves it by its event, and leaves it fair.
 #![tactic(auto)]
 
+mod opening;
 mod row;
 mod rule;
 mod seat;
+mod word;
 
 pub use row::Row;
 pub use seat::Seat;
+pub use word::{LIVE, RETIRED, VACANT, len, lit, start, state};

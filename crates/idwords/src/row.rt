@@ -1,16 +1,25 @@
 //! The row and the steps on it.
-ghost use Rattle.std.specs.Prelude.{◌≡◌};
+ghost use Rattle.std.specs.Prelude.{◌≡◌, ◌↔◌, ◌+◌, ◌-◌, ◌<◌, ◌++◌, ℕ, [], ◌∷◌, Some, IfOk, length, slice_get, vec_len, if◌then◌else◌, ◌==◌};
 ghost use Rattle.lrup_model.specs.Event as events;
-ghost use Rattle.lrup_model.specs.Pass.{kept_in};
-ghost use Rattle.lrup_model.specs.Layout.{IsIdentity};
+ghost use Rattle.lrup_model.specs.History.{IsPublishable};
+ghost use Rattle.lrup_model.specs.Layout.{Fits, IsIdentity, IsStream, Owns, row_words};
+ghost use Rattle.lrup_model.specs.Pass.{kept_in, pass_place, Meets};
+ghost use Rattle.lrup_model.specs.State.{state, absent, IsLive};
 ghost use Rattle.idwords.specs.Words.{ShowsKept, reply_in};
-ghost use Rattle.idwords.specs.Steps.{Calls};
+ghost use Rattle.idwords.specs.Seats.{opening_seat};
+ghost use Rattle.idwords.specs.Steps.{Calls, IsText, top_after_reply};
 
-use crate::rule::{Look, Words};
+use crate::opening::all_words;
+use crate::rule::{Claim, Deal, Find, Hand, Look, Meet, Part, Plan, Read, Retire, Unite, Words, Write};
 use crate::seat::Seat;
+use crate::word::{LIVE, code, live_word, state};
+use lrup_model::{Formula, Layout, Lit, Published, Retired};
+use std::alloc::{AllocError, Global};
 use std::marker::Model;
+use std::snapshot::Snapshot;
 
-/// The row of words, which all streams share.
+/// The row of words, which all streams share: word 0, which is always 0, a word for each identity, and one for each
+/// literal of the formula and of the streams' room. Contracts see it as its name.
 #[derive(Drop)]
 pub struct Row {
     table: Words,
@@ -40,5 +49,101 @@ impl Row {
         ensures draft { seat.new.draft ≡ seat.old.draft }
     {
         self.table.shared.load::<Look>(&mut seat.token, id as usize)
+    }
+
+    /// The word at a place, by one load, which is no event. At a place of a clause that the pass has seen it is the code of
+    /// that literal, for good, also after the clause was retired.
+    #[inline]
+    pub fn word(&self, seat: &mut Seat, place: u64) -> u64
+        requires row { seat.old.table ≡ self.now }
+        requires within { place < row_words seat.old.view.caller.layout }
+        ensures same { seat.new ≡ seat.old }
+        ensures text { IsText seat.old.view.spelt place result }
+    {
+        self.table.shared.load::<Read>(&mut seat.token, place as usize)
+    }
+
+    /// Adds a literal to the draft, by one store above the top, where no other caller looks.
+    #[inline]
+    pub fn write(&self, seat: &mut Seat, lit: Lit)
+        requires row { seat.old.table ≡ self.now }
+        requires room { length seat.old.draft < (pass_place seat.old.view).room }
+        ensures { seat.new ≡ record seat.old { draft = seat.old.draft ++ lit ∷ [] } }
+    {
+        let place = (seat.top + seat.drafted) as usize;
+        self.table.shared.store::<Write>(&mut seat.token, place, code(lit));
+        seat.drafted += 1;
+    }
+
+    /// Publishes the draft under an identity of the stream's own, by one exchange. The draft is empty then, whatever the
+    /// reply.
+    pub fn claim(&self, seat: &mut Seat, id: u64) -> Published
+        requires row { seat.old.table ≡ self.now }
+        requires owns { Owns seat.old.view.caller.layout seat.old.view.caller.stream id }
+        requires clause { IsPublishable seat.old.view.caller.formula seat.old.draft }
+        ensures row { seat.new.table ≡ seat.old.table }
+        ensures calls { let stream = seat.old.view.caller.stream in
+            Calls seat.old.view seat.new.view (events.publish stream id seat.old.draft result) }
+        ensures done { (result ≡ Published.Done)
+            ↔ (state seat.old.view.caller.formula seat.old.view.mine id ≡ absent) }
+        ensures top { seat.new.top ≡ top_after_reply result seat.old.top seat.old.draft }
+        ensures draft { seat.new.draft ≡ [] }
+    {
+        let len = seat.drafted;
+        let word = live_word(len, seat.top);
+        let found = self.table.shared.compare_exchange::<Claim>(
+            &mut seat.token,
+            id as usize,
+            0,
+            word,
+        );
+        seat.drafted = 0;
+        if found == 0 {
+            seat.top += len;
+            seat.room -= len;
+            Published::Done
+        } else {
+            Published::Taken
+        }
+    }
+
+    /// Retires the clause under an identity of the stream's own: one load, and one exchange where the clause is live, which
+    /// always wins.
+    pub fn withdraw(&self, seat: &mut Seat, id: u64) -> Retired
+        requires row { seat.old.table ≡ self.now }
+        requires owns { Owns seat.old.view.caller.layout seat.old.view.caller.stream id }
+        ensures row { seat.new.table ≡ seat.old.table }
+        ensures calls { let stream = seat.old.view.caller.stream in
+            Calls seat.old.view seat.new.view (events.retire stream id result) }
+        ensures done { (result ≡ Retired.Done)
+            ↔ IsLive (state seat.old.view.caller.formula seat.old.view.mine id) }
+        ensures top { seat.new.top ≡ seat.old.top }
+        ensures draft { seat.new.draft ≡ seat.old.draft }
+    {
+        let shared = &self.table.shared;
+        let found = shared.load::<Find>(&mut seat.token, id as usize);
+        if state(found) != LIVE {
+            return Retired::NotLive;
+        }
+        shared.compare_exchange::<Retire>(&mut seat.token, id as usize, found, found + 1);
+        Retired::Done
+    }
+
+    /// Both seats have then seen one history, which begins with what each had seen; where one had seen all that the other
+    /// had, it is that one's. Neither makes a call.
+    pub fn meet(&self, first: &mut Seat, second: &mut Seat)
+        requires first { first.old.table ≡ self.now }
+        requires second { second.old.table ≡ self.now }
+        ensures first { first.new.table ≡ first.old.table }
+        ensures second { second.new.table ≡ second.old.table }
+        ensures meets { Meets first.old.view second.old.view first.new.view second.new.view }
+        ensures tops { (first.new.top ≡ first.old.top) × (second.new.top ≡ second.old.top) }
+        ensures drafts { (first.new.draft ≡ first.old.draft) × (second.new.draft ≡ second.old.draft) }
+    {
+        let shared = &self.table.shared;
+        let token = shared.split_seat::<Hand>(&mut second.token);
+        shared.join_seat::<Unite>(&mut first.token, token);
+        shared.load::<Meet>(&mut first.token, 0);
+        second.token = shared.split_seat::<Part>(&mut first.token);
     }
 }
