@@ -4,7 +4,7 @@ use Rattle.std.specs.List.{AllByRecursion}
 use mathlib.Core.Option.{some}
 use lib.ListN.{get_elem?}
 use Rattle.std.proofs.lemmas.List.{set-get_or}
-use Rattle.atomic_table.specs.Table.{State, Me, Act, keeps, Allows, Splits, Joins}
+use Rattle.atomic_table.specs.Table.{State, Step, Me, Act, keeps, Allows, Splits, Joins}
 use Rattle.atomic_table.proofs.Lists.{set_else}
 use Rattle.lrup_model.specs.Formula.{Cnf}
 use Rattle.lrup_model.specs.Layout.{LayoutValue}
@@ -18,7 +18,8 @@ use Rattle.lrup_model.specs.HistoryLemmas.{IsLegal-front}
 use Rattle.lrup_model.specs.PassLemmas.{moves_learn}
 use Rattle.idwords.specs.Spelling.{spelling_of}
 use Rattle.idwords.specs.Rule.{Part, part_stream, AllParts, count_in, times, Keeps, IsKept, Stands}
-use Rattle.idwords.specs.Steps.{Met}
+use Rattle.idwords.specs.Steps.{Met, Joined}
+use Rattle.idwords.specs.Seats.{first_only, others}
 use Rattle.idwords.proofs.SpellingLemmas.{keeps_spelt, spelt}
 use Rattle.idwords.proofs.ViewLemmas.{all_at, all-set, all-snoc, times-set, times-snoc}
 use Rattle.idwords.proofs.RuleLemmas.{own_rest, between, fair_part}
@@ -277,3 +278,24 @@ module _ {S : Type 0} where
         ),
         tell (slice_index s.words i) w w' pair.6,
       )
+
+module _ {S : Type 0} where
+  -- the first part goes to a new seat
+  pub splits_deal : (f : Cnf) (p : LayoutValue) (id : ℕ) (vs : List Part) → Splits {S = S} (IsKept f p) id vs (others vs) (first_only vs)
+  splits_deal f p id [] = splits_front f p id [] []
+  splits_deal f p id (v ∷ vs) = splits_front f p id (v ∷ []) vs
+
+  -- all parts do
+  pub splits_hand : (f : Cnf) (p : LayoutValue) (id : ℕ) (vs : List Part) → Splits {S = S} (IsKept f p) id vs [] vs
+  splits_hand f p id vs = splits_back f p id [] vs
+
+  -- all parts but the first do
+  pub splits_part : (f : Cnf) (p : LayoutValue) (id : ℕ) (vs : List Part) → Splits {S = S} (IsKept f p) id vs (first_only vs) (others vs)
+  splits_part f p id [] = splits_back f p id [] []
+  splits_part f p id (v ∷ vs) = splits_back f p id (v ∷ []) vs
+
+  -- what is told of two parts is told of a seat that has both
+  pub joined : (step : Step S) (v v' : Part) (n : ℕ) (w w' : Part) → Met v v' w w' → Joined step (v ∷ v' ∷ [], []) n (w ∷ w' ∷ [], [])
+  joined step v v' n w w' met u u' same =
+      let both = pair_of v v' u u' same in
+      (w, w', refl, refl, subst (λ (x : Part). Met x u' w w') both.0 (subst (λ (x : Part). Met v x w w') both.1 met))
