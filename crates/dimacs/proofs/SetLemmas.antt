@@ -1,13 +1,14 @@
 -- Clauses as sets, and the marks of their literals.
-use Rattle.std.proofs.Common.{◌≡◌, ◌↔◌, ◌⊎◌, ◌*◌, ◌/◌, ◌%◌, ◌^◌, ◌<◌, ℕ, ℤ, pos, negsuc, true, List, [], ◌∷◌, ◌++◌, length, get_or, set, zero, suc, refl, sym, ap, ◌∙◌, inl, inr, ⊎_elim, subst, arith, length-append}
+use Rattle.std.proofs.Common.{◌≡◌, ◌↔◌, ◌⊎◌, ◌*◌, ◌/◌, ◌%◌, ◌^◌, ◌<◌, ℕ, ℤ, true, List, [], ◌∷◌, ◌++◌, length, get_or, set, zero, suc, refl, sym, ap, ◌∙◌, inl, inr, ⊎_elim, subst, arith, length-append}
 use Rattle.std.proofs.lemmas.Bool.{eqb-true, cases_eq}
 use Rattle.std.proofs.lemmas.List.{get_or-set_same, get_or-set_other}
+use Rattle.lrup_model.specs.Literal.{code_of}
 use Rattle.lrup_model.specs.Clause.{Has, EachOnce}
 use Rattle.std.specs.Int.{bit_at, bit_not}
 use Rattle.std.specs.Int.RustNames.{bit_or}
 use Rattle.std.proofs.Common.{bit_and, w64, eqb, eq-eqb}
 use Rattle.std.proofs.lemmas.Nat.Bits.{shr_and_one, bit_at-zero, bit_at_set_same, bit_at_set_other, bit_at_clear_same, bit_at_clear_other}
-use Rattle.dimacs.specs.Marks.{place_of, IsMarked, MarksAre}
+use Rattle.dimacs.specs.Marks.{IsMarked, MarksAre}
 use Rattle.dimacs.specs.Places.{AddsLiteral}
 
 pub Has-push : (c : List ℤ) (l m : ℤ) → Has (c ++ l ∷ []) m ↔ (Has c m ⊎ (l ≡ m))
@@ -25,12 +26,6 @@ EachOnce-push (x ∷ c) l each other = (
   λ h. ⊎_elim (λ old. each.0 old) (λ e. other (inl (sym e))) ((Has-push c l x).0 h),
   EachOnce-push c l each.1 (λ h. other (inr h)),
 )
-
-place_of-injective : (a b : ℤ) → place_of a ≡ place_of b → a ≡ b
-place_of-injective (pos n) (pos m) e = ap pos (omega (arith, e))
-place_of-injective (pos n) (negsuc m) e = absurd (omega (arith, e))
-place_of-injective (negsuc n) (pos m) e = absurd (omega (arith, e))
-place_of-injective (negsuc n) (negsuc m) e = ap negsuc (omega (arith, e))
 
 -- ## marks
 
@@ -95,13 +90,13 @@ unfolding IsMarked
 none_marked p h = omega (arith, h, bit_at-zero (p % 64))
 
 pub MarksAre-none : MarksAre [] []
-MarksAre-none = λ l. (λ h. none_marked (place_of l) h, λ none. absurd none)
+MarksAre-none = λ l. (λ h. none_marked (code_of l) h, λ none. absurd none)
 
 pub MarksAre-fewer : (old new : List ℕ) → ((k : ℕ) → (get_or new k 0 ≡ get_or old k 0) ⊎ (get_or new k 0 ≡ 0)) → MarksAre old [] → MarksAre new []
 MarksAre-fewer old new same marks =
-    λ l. (λ h. (marks l).0 (IsMarked-fewer old new same (place_of l) h), λ none. absurd none)
+    λ l. (λ h. (marks l).0 (IsMarked-fewer old new same (code_of l) h), λ none. absurd none)
 
-pub MarksAre-push : (old new : List ℕ) (c : List ℤ) (l : ℤ) → ((m : ℤ) → IsMarked new (place_of m) ↔ (IsMarked old (place_of m) ⊎ (m ≡ l))) → MarksAre old c → MarksAre new (c ++ l ∷ [])
+pub MarksAre-push : (old new : List ℕ) (c : List ℤ) (l : ℤ) → ((m : ℤ) → IsMarked new (code_of m) ↔ (IsMarked old (code_of m) ⊎ (m ≡ l))) → MarksAre old c → MarksAre new (c ++ l ∷ [])
 MarksAre-push old new c l added h =
     λ m. (
       λ yes. (Has-push c l m).1 (⊎_elim (λ before. inl ((h m).0 before)) (λ e. inr (sym e)) ((added m).0 yes)),
@@ -129,16 +124,16 @@ AddsLiteral-none c l each has = record {
 
 -- no literal is marked but those that are left
 abbrev pub LeavesMarks : List ℕ → List ℤ → Type 0
-LeavesMarks words left = (l : ℤ) → IsMarked words (place_of l) → Has left l
+LeavesMarks words left = (l : ℤ) → IsMarked words (code_of l) → Has left l
 
 pub LeavesMarks-none : (words : List ℕ) → LeavesMarks words [] → MarksAre words []
 LeavesMarks-none words h = λ l. (h l, λ none. absurd none)
 
-pub LeavesMarks-more : (old new : List ℕ) (later : List ℤ) (l : ℤ) (p : ℕ) → p ≡ place_of l → ((q : ℕ) → IsMarked new q ↔ (IsMarked old q × (q ≡ p → ⊥))) → LeavesMarks old (l ∷ later) → LeavesMarks new later
+pub LeavesMarks-more : (old new : List ℕ) (later : List ℤ) (l : ℤ) (p : ℕ) → p ≡ code_of l → ((q : ℕ) → IsMarked new q ↔ (IsMarked old q × (q ≡ p → ⊥))) → LeavesMarks old (l ∷ later) → LeavesMarks new later
 LeavesMarks-more old new later l p is cleared h =
     λ m yes.
-    let still = (cleared (place_of m)).0 yes in
-    ⊎_elim (λ e. absurd (still.1 (ap place_of (sym e) ∙ sym is))) (λ has. has) (h m still.0)
+    let still = (cleared (code_of m)).0 yes in
+    ⊎_elim (λ e. absurd (still.1 (ap code_of (sym e) ∙ sym is))) (λ has. has) (h m still.0)
 
 pub Has-at : (c : List ℤ) (i : ℕ) (d : ℤ) → i < length c → Has c (get_or c i d)
 Has-at [] i d lt = absurd (omega arith)

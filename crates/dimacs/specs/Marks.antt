@@ -1,12 +1,8 @@
--- A mark for each literal of a clause: a bit of a row of words.
-use Rattle.std.specs.Prelude.{◌≡◌, ◌↔◌, ◌+◌, ◌*◌, ◌/◌, ◌%◌, ◌≤◌, ℕ, ℤ, pos, negsuc, Bool, true, false, List, [], length, slice_index}
+-- A mark for each literal of a clause: a bit of a row of words, and its place is the code of the literal.
+use Rattle.std.specs.Prelude.{◌≡◌, ◌↔◌, ◌/◌, ◌%◌, ◌≤◌, ℕ, ℤ, Bool, true, false, List, [], length, slice_index}
 use Rattle.std.specs.Int.{bit_at}
+use Rattle.lrup_model.specs.Literal.{code_of}
 use Rattle.lrup_model.specs.Clause.{Has}
-
--- the place of a literal's mark
-abbrev pub place_of : ℤ → ℕ
-place_of (pos n) = 2 * n
-place_of (negsuc n) = 2 * n + 3
 
 -- the mark at this place is set
 unfoldable pub IsMarked : List ℕ → ℕ → Type 0
@@ -14,7 +10,7 @@ IsMarked words place = bit_at (slice_index words (place / 64)) (place % 64) ≡ 
 
 -- just the clause's literals are marked
 abbrev pub MarksAre : List ℕ → List ℤ → Type 0
-MarksAre words clause = (l : ℤ) → IsMarked words (place_of l) ↔ Has clause l
+MarksAre words clause = (l : ℤ) → IsMarked words (code_of l) ↔ Has clause l
 
 -- the number of words that has a place for each literal
 abbrev pub all_words : ℕ

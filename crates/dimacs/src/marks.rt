@@ -1,6 +1,7 @@
 //! A mark for each literal: a bit, 4 MB for all of them.
 ghost use Rattle.std.specs.Prelude.{◌≡◌, ◌↔◌, ◌⊎◌, ◌*◌, ◌<◌, ◌≤◌, ℕ, ℤ, [], IsTrue, OnOk, OnErr, length};
-ghost use Rattle.dimacs.specs.Marks.{place_of, IsMarked, MarksAre, all_words};
+ghost use Rattle.lrup_model.specs.Literal.{code_of};
+ghost use Rattle.dimacs.specs.Marks.{IsMarked, MarksAre, all_words};
 
 use lrup_model::Lit;
 use std::alloc::AllocError;
@@ -10,11 +11,10 @@ const WORDS: usize = 524_288;
 
 /// The place of a literal's mark.
 fn place(l: Lit) -> usize
-    ensures place { result ≡ place_of l }
+    ensures place { result ≡ code_of l }
     ensures few { result < 64 * all_words }
 {
-    let place = 2 * l.var() as usize;
-    if l.value() < 0 { place + 1 } else { place }
+    l.code() as usize
 }
 
 fn is_marked(words: &[u64], place: usize) -> bool
@@ -43,7 +43,7 @@ fn unmark(words: &mut [u64], place: usize)
 /// Is the literal marked?
 pub fn has_mark(words: &[u64], l: Lit) -> bool
     requires { all_words ≤ length words.now }
-    ensures { IsTrue result ↔ IsMarked words.now (place_of l) }
+    ensures { IsTrue result ↔ IsMarked words.now (code_of l) }
 {
     is_marked(words, place(l))
 }
@@ -51,7 +51,7 @@ pub fn has_mark(words: &[u64], l: Lit) -> bool
 /// Marks one literal more.
 pub fn set_mark(words: &mut [u64], l: Lit)
     requires { all_words ≤ length words.old }
-    ensures { (m : ℤ) → IsMarked words.new (place_of m) ↔ (IsMarked words.old (place_of m) ⊎ (m ≡ l)) }
+    ensures { (m : ℤ) → IsMarked words.new (code_of m) ↔ (IsMarked words.old (code_of m) ⊎ (m ≡ l)) }
 {
     mark(words, place(l));
 }

@@ -1,3 +1,4 @@
+pub mod LiteralLemmas
 pub mod OpeningLemmas
 pub mod NumberLemmas
 pub mod PieceLemmas

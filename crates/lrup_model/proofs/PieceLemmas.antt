@@ -8,6 +8,7 @@ use Rattle.std.proofs.lemmas.List.Sums.{sum_by-cons}
 use Rattle.lrup_model.specs.Clause.{Clause}
 use Rattle.lrup_model.specs.Formula.{Cnf, IsCnf, IsFormulaClause, max_clauses}
 use Rattle.lrup_model.specs.Pieces.{pieces, AreEnds}
+use Rattle.lrup_model.specs.ClauseLemmas.{All-push}
 
 pub length-pieces : (ls : Clause) (from : ℕ) (ends : List ℕ) → length (pieces ls from ends) ≡ length ends
 length-pieces ls from [] = refl
@@ -59,11 +60,6 @@ pieces-at ls from [] i lt = absurd (omega (arith, lt))
 pieces-at ls from (end ∷ ends) zero lt = refl
 pieces-at ls from (end ∷ ends) (suc i) lt = pieces-at ls end ends i (omega (arith, lt))
 
--- one more element at the end
-pub AllByRecursion-push : {X : Type 0} (P : X → Type 0) (xs : List X) (x : X) → AllByRecursion P xs → P x → AllByRecursion P (xs ++ x ∷ [])
-AllByRecursion-push P [] x h p = (p, tt)
-AllByRecursion-push P (y ∷ xs) x h p = (h.0, AllByRecursion-push P xs x h.1 p)
-
 pub empty_from_length : {X : Type 0} (xs : List X) → length xs ≡ 0 → xs ≡ []
 empty_from_length [] h = refl
 empty_from_length (x ∷ xs) h = absurd (omega (arith, h))
@@ -74,7 +70,7 @@ pub grown : (vars : ℕ) (ls xs : Clause) (ends : List ℕ)
     → length (pieces ls 0 ends) < max_clauses → IsFormulaClause vars xs
     → IsCnf (record { vars = vars; clauses = pieces (ls ++ xs) 0 (ends ++ (length ls + length xs) ∷ []) }) × AreEnds 0 (ends ++ (length ls + length xs) ∷ []) (length ls + length xs)
 grown vars ls xs ends h room clause =
-    let clauses : AllByRecursion (IsFormulaClause vars) (pieces ls 0 ends ++ xs ∷ []) = AllByRecursion-push (IsFormulaClause vars) (pieces ls 0 ends) xs h.0.clauses clause in
+    let clauses : AllByRecursion (IsFormulaClause vars) (pieces ls 0 ends ++ xs ∷ []) = All-push (IsFormulaClause vars) (pieces ls 0 ends) xs h.0.clauses clause in
     let cut : pieces (ls ++ xs) 0 (ends ++ (length ls + length xs) ∷ []) ≡ pieces ls 0 ends ++ xs ∷ [] = pieces-push ls xs 0 ends h.1 in
     let count : length (pieces ls 0 ends ++ xs ∷ []) ≤ max_clauses = omega (arith, length-append (pieces ls 0 ends) (xs ∷ [])) in (
       rw cut (record { vars = h.0.vars; count = count; clauses = clauses }),

@@ -5,6 +5,7 @@ use Rattle.std.proofs.lemmas.Bool.{cases_Bool, cases_eq, cases_lt, true≢false}
 use Rattle.std.proofs.lemmas.List.Elements.{All-from_recursion}
 use Rattle.lrup_model.specs.Literal.{IsLiteral}
 use Rattle.lrup_model.specs.Clause.{Clause, Has, IsClause}
+use Rattle.lrup_model.specs.ClauseLemmas.{All-Has}
 use Rattle.lrup_model.specs.Formula.{Cnf, IsCnf, IsFormulaClause, clause_at}
 use Rattle.lrup_model.specs.Entailment.{Assignment, MakesTrue, Satisfies, SatisfiesAll, Follows, IsUnsatisfiable}
 use Rattle.lrup_model.specs.Layout.{LayoutValue}
@@ -65,14 +66,6 @@ decide_clause a (x ∷ c) =
       ]
     ]
 
-pub IsLiteral-in : (vars : ℕ) (c : Clause) (l : ℤ) → AllByRecursion (IsLiteral vars) c → Has c l → IsLiteral vars l
-IsLiteral-in vars [] l all here = absurd here
-IsLiteral-in vars (x ∷ c) l all here =
-    elim here [
-      | inl same ↦ subst (IsLiteral vars) same all.0
-      | inr there ↦ IsLiteral-in vars c l all.1 there
-    ]
-
 -- Soundness of propagation
 
 -- clauses that refute literals, and hold under an assignment, make one of the literals true
@@ -86,7 +79,7 @@ refuted vars a n (d ∷ e ∷ ds) hold refutes none =
     let left : ℤ = refutes.0 in
     let unit : IsUnit n d left = refutes.1 in
     let rest : MakesTrue a left → ⊥ = λ truth. refuted vars a (n ++ neg_ℤ left ∷ []) (e ∷ ds) hold.1 refutes.2
-    (MakesNone-push a n (neg_ℤ left) none (not_both a left (IsLiteral-in vars d left hold.0.0.literals unit.here).0 truth)) in
+    (MakesNone-push a n (neg_ℤ left) none (not_both a left (All-Has (IsLiteral vars) d left hold.0.0.literals unit.here).0 truth)) in
     elim (unit.others some.0 some.1) [
       | inl same ↦ rest (subst (λ (k : ℤ). MakesTrue a k) same some.2)
       | inr false_one ↦ none some.0 false_one some.2

@@ -10,8 +10,8 @@ use Rattle.lrup_model.specs.Event.{Event, Reply, History, stream_of, own, spent,
 use Rattle.lrup_model.specs.State.{State, Slot, absent, live, retired, opening, run, state, AreVacantAbove}
 use Rattle.lrup_model.specs.History.{LegalFrom, IsLegal, IsPublishable}
 use Rattle.lrup_model.specs.Propagation.{Accepts}
-use Rattle.lrup_model.specs.Place.{Kept, Place, ClipValue, text_of, IsKnown, Tells, AllFollow, KeepsSpelt}
-use Rattle.lrup_model.specs.Pass.{View, Spelling, kept_in, IsSpelt, IsFair, PassMoves, pass_place, Meets, MeetsInTurn, AllSaw}
+use Rattle.lrup_model.specs.Place.{Caller, IsCaller, Kept, Place, ClipValue, text_of, IsKnown, Tells, AllFollow, KeepsSpelt}
+use Rattle.lrup_model.specs.Pass.{View, Spelling, kept_in, IsSpelt, IsFair, PassMoves, pass_place, Meets, MeetsInTurn, AreMet, AllSaw, opened}
 
 -- Running and legality
 
@@ -195,6 +195,14 @@ PassSteps = (v : View) (between : History) (e : Event) (xs : List Spelling)
 -- a pass that meets all others in turn, and then all again, leaves all at one history
 abbrev pub MeetsTwice : Type 0
 MeetsTwice = (u v w : View) (xs ys zs : List View) → MeetsInTurn u xs v ys → MeetsInTurn v ys w zs → (w.seen ≡ v.seen) × AllSaw w.seen zs
+
+-- and changes nothing else: each went on by no call, and is fair
+abbrev pub MeetingKeeps : Type 0
+MeetingKeeps = (u v : View) (xs ys : List View) → MeetsInTurn u xs v ys → PassMoves u v [] × AreMet xs ys × (IsFair u → IsFair v)
+
+-- a pass that has seen nothing is fair, where the formula's clauses are spelt
+abbrev pub OpeningFair : Type 0
+OpeningFair = (c : Caller) (xs : List Spelling) → IsCaller c → IsSpelt c.formula [] xs → IsFair (opened c xs)
 
 -- The events of some streams
 

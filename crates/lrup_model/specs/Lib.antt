@@ -1,5 +1,7 @@
 pub mod Literal
+pub mod LiteralLaws
 pub mod Clause
+pub mod ClauseLemmas
 pub mod Formula
 pub mod Pieces
 pub mod Entailment

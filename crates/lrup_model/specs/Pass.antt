@@ -1,5 +1,5 @@
 -- A pass: one stream's place at the shared store, and what fairness, moving and meeting mean there (this project's own).
-use Rattle.std.specs.Prelude.{◌≡◌, ◌+◌, ◌-◌, ◌==◌, ◌++◌, ℕ, List, [], ◌∷◌, if◌then◌else◌, Option, None, Some}
+use Rattle.std.specs.Prelude.{◌≡◌, ◌≢◌, ◌+◌, ◌-◌, ◌==◌, ◌++◌, ℕ, List, [], ◌∷◌, if◌then◌else◌, Option, None, Some}
 use Rattle.std.specs.List.{AllByRecursion}
 use Rattle.lrup_model.specs.Formula.{Cnf}
 use Rattle.lrup_model.specs.Event.{History, own, spent, stream_of}
@@ -59,7 +59,7 @@ pass_place v = record {
   spelt = kept_in v.spelt;
 }
 
--- the pass went on by these calls of its own, and by whatever it saw of others
+-- The pass went on by these calls of its own, and by whatever it saw of others. A call leaves it fair, and with none it is as fair as before.
 pub record PassMoves (old new : View) (es : History) : Type 0 where
   pub caller : new.caller ≡ old.caller
   pub callers : AllByRecursion (λ e. stream_of e ≡ old.caller.stream) es
@@ -68,6 +68,7 @@ pub record PassMoves (old new : View) (es : History) : Type 0 where
   pub room : (pass_place new).room + spent old.caller.stream es ≡ (pass_place old).room
   pub spelt : KeepsSpelt (kept_in old.spelt) (kept_in new.spelt)
   pub fair : IsFair old → IsFair new
+  pub fair_after : es ≢ [] → IsFair new
   pub follow : AllFollow (pass_place old) → AllFollow (pass_place new)
 
 -- Two passes of one store have met: both have seen one history, which begins with what each had seen, and no more where one had seen all that
@@ -87,6 +88,17 @@ MeetsInTurn v [] w [] = w ≡ v
 MeetsInTurn v (x ∷ xs) w (y ∷ ys) = (u : View) × Meets v x u y × MeetsInTurn u xs w ys
 MeetsInTurn v [] w (y ∷ ys) = ⊥
 MeetsInTurn v (x ∷ xs) w [] = ⊥
+
+-- each pass of the one list went on by no call to the one at its place in the other, which is fair
+abbrev pub AreMet : List View → List View → Type 0
+AreMet [] [] = Unit {0}
+AreMet (x ∷ xs) (y ∷ ys) = PassMoves x y [] × IsFair y × AreMet xs ys
+AreMet [] (y ∷ ys) = ⊥
+AreMet (x ∷ xs) [] = ⊥
+
+-- a pass that has seen nothing and made no call
+abbrev pub opened : Caller → List Spelling → View
+opened c xs = record { caller = c; seen = []; mine = []; spelt = xs }
 
 -- all have seen this history
 abbrev pub AllSaw : History → List View → Type 0

@@ -9,8 +9,8 @@ use Rattle.lrup_model.specs.Event.{Event, History, stream_of, own, spent}
 use Rattle.lrup_model.specs.State.{State, Slot, absent, live, retired, opening, run, state}
 use Rattle.lrup_model.specs.History.{IsLegal}
 use Rattle.lrup_model.specs.Running.{run-append, own-append, spent-append, callers-append}
-use Rattle.lrup_model.specs.Place.{Caller, Kept, Place, ClipValue, literals_in, text_of, IsKnown, Tells, AllFollow, KeepsSpelt}
-use Rattle.lrup_model.specs.Pass.{View, Spelling, kept_in, Spells, IsSpelt, IsFair, PassMoves, pass_place, Meets, MeetsInTurn, AllSaw}
+use Rattle.lrup_model.specs.Place.{Caller, IsCaller, Kept, Place, ClipValue, literals_in, text_of, IsKnown, Tells, AllFollow, KeepsSpelt}
+use Rattle.lrup_model.specs.Pass.{View, Spelling, kept_in, Spells, IsSpelt, IsFair, PassMoves, pass_place, Meets, MeetsInTurn, AreMet, AllSaw, opened}
 use Rattle.lrup_model.specs.Laws.{Advances, HasClause, learned, stepped}
 use Rattle.lrup_model.specs.EntailmentLemmas.{clauses_follow}
 use Rattle.lrup_model.specs.EntryLemmas.{run-advances, has_stays}
@@ -27,8 +27,14 @@ moves_none v = record {
   room = omega arith;
   spelt = λ id kept there. there;
   fair = λ fair. fair;
+  fair_after = λ some. absurd (some refl);
   follow = λ all. all;
 }
+
+-- the last of two moves that makes a call leaves the pass fair
+fair_append : (a b c : View) (es fs : History) → PassMoves a b es → PassMoves b c fs → es ++ fs ≢ [] → IsFair c
+fair_append a b c es [] ab bc some = bc.fair (ab.fair_after (λ none. some (append-nil es ∙ none)))
+fair_append a b c es (f ∷ fs) ab bc some = bc.fair_after (λ none. cc)
 
 pub moves_append : (a b c : View) (es fs : History) → PassMoves a b es → PassMoves b c fs → PassMoves a c (es ++ fs)
 moves_append a b c es fs ab bc =
@@ -43,6 +49,7 @@ moves_append a b c es fs ab bc =
           omega (arith, last, ab.room, spent-append a.caller.stream es fs);
       spelt = λ id kept there. bc.spelt id kept (ab.spelt id kept there);
       fair = λ fair. bc.fair (ab.fair fair);
+      fair_after = fair_append a b c es fs ab bc;
       follow = λ all. bc.follow (ab.follow all);
     }
 
@@ -141,6 +148,7 @@ moves_on old new es before after caller callers mine seen spelt = record {
   room = room_left old new es after caller mine;
   spelt = spelt;
   fair = λ fair. after;
+  fair_after = λ some. after;
   follow = λ all. fair_follows new after;
 }
 
@@ -215,6 +223,24 @@ met_again h v w (y ∷ ys) (z ∷ zs) here behind meets =
     let stays : meets.0.seen ≡ h = met.longer behind.0.0 (here ∙ behind.0.1) ∙ here in
     let rest = met_again h meets.0 w ys zs stays behind.1 meets.2 in
     (rest.0, (met.one ∙ stays, rest.1))
+
+-- each of these passes went on to the one at its place by no call, and is fair
+pub met_keep : (u v : View) (xs ys : List View) → MeetsInTurn u xs v ys → PassMoves u v [] × AreMet xs ys × (IsFair u → IsFair v)
+met_keep u v [] [] meets = (subst (λ (w : View). PassMoves u w []) (sym meets) (moves_none u), tt, λ fair. subst IsFair (sym meets) fair)
+met_keep u v [] (y ∷ ys) meets = absurd meets
+met_keep u v (x ∷ xs) [] meets = absurd meets
+met_keep u v (x ∷ xs) (y ∷ ys) meets =
+    let rest = met_keep meets.0 v xs ys meets.2 in
+    (moves_append u meets.0 v [] [] meets.1.first rest.0, (meets.1.second, meets.1.fair', rest.1), λ fair. rest.2 meets.1.fair)
+
+-- the pass of a stream that has seen nothing
+pub opening_fair : (c : Caller) (xs : List Spelling) → IsCaller c → IsSpelt c.formula [] xs → IsFair (opened c xs)
+opening_fair c xs caller spelt = record {
+  caller = caller;
+  legal = record { events = tt; room = λ s. omega arith };
+  mine = refl;
+  spelt = spelt;
+}
 
 pub meets_twice : (u v w : View) (xs ys zs : List View) → MeetsInTurn u xs v ys → MeetsInTurn v ys w zs → (w.seen ≡ v.seen) × AllSaw w.seen zs
 meets_twice u v w xs ys zs once again =

@@ -120,13 +120,14 @@ pub trait ClauseMap {
         ensures { result ≡ (place self.now).room };
 
     /// What the map has under an identity. A formula's clause is always live, and the caller's own identities have what its
-    /// calls left there. Every clause that the caller has seen by now follows from the formula.
+    /// calls left there. The layout has the formula's variables, and every clause that the caller has seen follows from it.
     fn fetch(&mut self, id: Id) -> Fetched
         requires { IsIdentity (place self.old).caller.layout id }
         ensures event { moves self.old self.new (fetch (place self.old).caller.stream id (reply_of (place self.new) result) ∷ []) }
         ensures fetched { IsFetched (place self.new) id result }
         ensures own { AnswersOwn (place self.old) id (reply_of (place self.new) result) }
         ensures formula { AnswersFormula (place self.old) id (reply_of (place self.new) result) }
+        ensures variables { (place self.new).caller.formula.vars ≡ (place self.new).caller.layout.vars }
         ensures follow { AllFollow (place self.new) };
 
     /// Literal `k`, from 0 on, of a clause whose clip is known here. The order isn't promised, and stays.

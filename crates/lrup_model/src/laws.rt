@@ -1,6 +1,6 @@
 //! Laws of the definitions. Each function does nothing; its contract is the law, which holds of every formula, layout,
 //! history and pass.
-ghost use Rattle.lrup_model.specs.Laws.{RunsInTurn, LegalInTurn, OwnInTurn, SpentInTurn, BeginningsLegal, FormulaStays, OwnCallsDecide, OwnCallsDecideFrom, OthersLeaveOwn, VacantAboveStays, PublishedInTurn, PublishedFollow, PublishedStay, EntriesAdvance, OwnersAct, OneOwner, PropagationSound, EmptyClauseRefutes, ClausesFollow, KnownStays, KnownFollows, PassRests, PassMovesInTurn, PassTells, FairFollows, SpeltStays, PassGoesOn, PassLearns, PassSteps, MeetsTwice, AmongMembers, AmongKeepsOwn, RestrictionLegal, OwnLegal};
+ghost use Rattle.lrup_model.specs.Laws.{RunsInTurn, LegalInTurn, OwnInTurn, SpentInTurn, BeginningsLegal, FormulaStays, OwnCallsDecide, OwnCallsDecideFrom, OthersLeaveOwn, VacantAboveStays, PublishedInTurn, PublishedFollow, PublishedStay, EntriesAdvance, OwnersAct, OneOwner, PropagationSound, EmptyClauseRefutes, ClausesFollow, KnownStays, KnownFollows, PassRests, PassMovesInTurn, PassTells, FairFollows, SpeltStays, PassGoesOn, PassLearns, PassSteps, MeetsTwice, MeetingKeeps, OpeningFair, AmongMembers, AmongKeepsOwn, RestrictionLegal, OwnLegal};
 
 /// The state after two histories, one after the other, is the second's after the first's.
 pub fn runs_in_turn()
@@ -150,6 +150,16 @@ pub fn pass_steps()
 /// A pass that meets all others in turn, and then all again, leaves all at one history.
 pub fn meets_twice()
     ensures { MeetsTwice }
+{}
+
+/// Meeting in turn changes nothing else: each pass went on by no call, and is fair.
+pub fn meeting_keeps()
+    ensures { MeetingKeeps }
+{}
+
+/// A pass that has seen nothing is fair, where the formula's clauses are spelt.
+pub fn opening_fair()
+    ensures { OpeningFair }
 {}
 
 /// The events among those of a set of streams are of these streams alone.

@@ -1,29 +1,33 @@
 //! Literals as DIMACS CNF writes them.
 ghost use Rattle.std.specs.Prelude.{◌≡◌, ◌↔◌, ℤ, neg_ℤ, nat_abs, Some, IsSome, IfSome};
 ghost use Rattle.std.specs.Fmt.{signed_decimal};
-ghost use Rattle.lrup_model.specs.Literal.{IsLiteral, max_variable};
+ghost use Rattle.lrup_model.specs.Literal.{IsLiteral, max_variable, code_of, IsCode};
 
 use std::fmt;
 use std::marker::Model;
 
 /// A literal: a nonzero whole number whose magnitude, at most 16,777,215, is its variable, and whose negative is its
-/// complement. It takes 4 bytes.
+/// complement. It takes 4 bytes: they hold its code, which is twice the variable, and one more for a negative literal.
 #[derive(Clone, Copy, Debug, PartialEq, Eq)]
 pub struct Lit {
-    value: i32,
+    code: u32,
 }
 
 impl Model for Lit {
     ghost use Rattle.std.specs.Prelude.{ℤ};
-    ghost use Rattle.lrup_model.specs.Literal.{IsLiteral, max_variable};
+    ghost use Rattle.std.proofs.Common.{ap};
+    ghost use Rattle.lrup_model.specs.Literal.{max_variable, code_of, literal_of, IsCode};
+    ghost use Rattle.lrup_model.specs.LiteralLaws.{code_of-literal_of};
 
     ghost Value = { ℤ };
 
-    ghost view = { λ l. l.value };
+    ghost view = { λ l. literal_of l.code };
 
-    ghost invariant = { λ l. IsLiteral max_variable l.value };
+    ghost invariant = { λ l. IsCode max_variable l.code };
 
-    ghost inverse = { λ z. record { value = z } };
+    ghost inverse = { λ z. record { code = code_of z } };
+
+    ghost inverse_ok = { λ l h. ap (λ n. record { code = n }) (code_of-literal_of l.code h.0) };
 }
 
 impl Lit {
@@ -39,32 +43,60 @@ impl Lit {
         if magnitude == 0 || magnitude > u64::from(Lit::MAX_VARIABLE) {
             return None;
         }
-        Some(Lit {
-            value: value as i32,
-        })
+        let even = 2 * magnitude as u32;
+        let code = if value < 0 { even + 1 } else { even };
+        Some(Lit { code })
+    }
+
+    /// The literal of this code, from 2 up to 33,554,431.
+    #[inline]
+    pub fn from_code(code: u32) -> Lit
+        requires { IsCode max_variable code }
+        ensures { code_of result ≡ code }
+    {
+        Lit { code }
+    }
+
+    /// The literal's code: twice its variable, and one more for a negative literal.
+    #[inline]
+    pub fn code(self) -> u32
+        ensures code { result ≡ code_of self }
+        ensures range { IsCode max_variable result }
+    {
+        self.code
     }
 
     /// The number that DIMACS CNF writes.
+    #[inline]
     pub fn value(self) -> i64
         ensures value { result ≡ self }
         ensures literal { IsLiteral max_variable self }
     {
-        self.value as i64
+        let magnitude = (self.code >> 1) as i64;
+        if self.code & 1 == 0 {
+            magnitude
+        } else {
+            -magnitude
+        }
     }
 
     /// The literal of the same variable that is true where this one is false.
+    #[inline]
     pub fn complement(self) -> Lit
         ensures { result ≡ neg_ℤ self }
     {
-        Lit { value: -self.value }
+        Lit {
+            code: self.code ^ 1,
+        }
     }
 
     /// The variable, from 1 on.
+    #[inline]
     pub fn var(self) -> u32
         ensures variable { result ≡ nat_abs self }
         ensures literal { IsLiteral max_variable self }
     {
-        self.value.unsigned_abs()
+        self.code >> 1
     }
 }
 
@@ -72,7 +104,7 @@ impl fmt::Display for Lit {
     ghost output = { λ l. Some (signed_decimal l) };
 
     fn fmt<W: fmt::Write>(&self, f: &mut fmt::Formatter<W>) -> fmt::Result {
-        let value = self.value;
+        let value = self.value();
         write!(f, "{value}")
     }
 }

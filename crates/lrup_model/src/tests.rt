@@ -43,6 +43,24 @@ fn literals_have_a_limit(rt: HostRuntime) -> Result<(), Fail> {
 }
 
 #[test]
+fn literals_have_codes(rt: HostRuntime) -> Result<(), Fail> {
+    for (value, code) in [
+        (1, 2),
+        (-1, 3),
+        (2, 4),
+        (-2, 5),
+        (16_777_215, 33_554_430),
+        (-16_777_215, 33_554_431),
+    ] {
+        let literal = Lit::new(value).ok_or("no literal")?;
+        assert_eq!(rt; literal.code(), code, "at {value}");
+        assert!(rt; 2 <= code && code <= 33_554_431);
+        assert_eq!(rt; Lit::from_code(code), literal, "at {value}");
+    }
+    Ok(())
+}
+
+#[test]
 fn layouts_have_limits(rt: HostRuntime) {
     const ALL: u64 = u64::MAX;
     use LayoutFault::{BadStreamCount, RowTooLong, TooManyClauses, TooManyVariables};

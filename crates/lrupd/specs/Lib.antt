@@ -1,5 +1,1 @@
-pub mod Additions
-pub mod Judging
-pub mod Streams
-pub mod First
 pub mod Program

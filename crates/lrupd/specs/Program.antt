@@ -4,8 +4,8 @@ use Rattle.std.specs.declared.io.ErrorKind.{ErrorKind}
 use Rattle.std.specs.declared.io.ErrorKind.TheVariants.{OutOfMemory}
 use Rattle.lrupd.specs.declared.Stop.{Stop}
 use Rattle.lrupd.specs.declared.Stop.TheVariants as stops
-use Rattle.lrupd.specs.declared.answer.FirstFault.{FirstFault}
-use Rattle.lrupd.specs.declared.answer.FirstFault.TheVariants as faults
+use Rattle.first_path.specs.declared.answer.FirstFault.{FirstFault}
+use Rattle.first_path.specs.declared.answer.FirstFault.TheVariants as faults
 
 -- want of memory ends the program in its own way, and each other fault is a refusal
 abbrev pub stop_of : FirstFault → Stop

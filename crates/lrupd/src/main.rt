@@ -7,15 +7,7 @@ ghost use Rattle.std.specs.IoError.{error_kind};
 ghost use Rattle.lrup_model.specs.Entailment.{IsUnsatisfiable};
 ghost use Rattle.lrupd.specs.Program.{IsStopOf, status_of, stop_of, verdict_of};
 
-mod answer;
-mod check;
-mod checking;
-mod stream;
-#[cfg(test)]
-mod tests;
-
-use answer::{First, FirstFault};
-use checking::first;
+use first_path::{First, FirstFault, first};
 use lrup_text::Reading;
 use std::fs::File;
 use std::process::ExitCode;

@@ -7,7 +7,7 @@ use Rattle.lrup_model.specs.Propagation.{IsConflict, IsUnit}
 use Rattle.propagate.specs.Left.{IsLeft}
 use Rattle.propagate.specs.declared.marks.Left.{Left}
 use Rattle.propagate.specs.declared.marks.Left.TheVariants.{Nothing, One, More}
-use Rattle.propagate.proofs.HasLemmas.{Has-append_left, Has-push, Has-push_cases, Has-before, take-next}
+use Rattle.lrup_model.specs.ClauseLemmas.{Has-append_left, Has-push, Has-push_cases, Has-before, take-next}
 
 -- no literal of a list is left
 pub IsConflict-nil : (n : List ℤ) → IsConflict n []

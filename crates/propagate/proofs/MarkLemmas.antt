@@ -5,10 +5,11 @@ use Rattle.std.proofs.Math.IntN.{neg_ℤ-neg_ℤ}
 use Rattle.std.proofs.lemmas.Bool.{ne_eqb, eqb-true, or_cases, false≢true, false_from_ne_true}
 use Rattle.std.proofs.lemmas.List.{length-set, length-map, get_or-set_same, get_or-set_other}
 use Rattle.std.proofs.lemmas.Map.Steps.{length-le_from_distinct_below}
-use Rattle.lrup_model.specs.Literal.{IsLiteral}
+use Rattle.lrup_model.specs.Literal.{IsLiteral, code_of}
+use Rattle.lrup_model.specs.LiteralLaws.{code_of-injective, IsCode-code_of}
 use Rattle.lrup_model.specs.Clause.{Has, IsClause}
-use Rattle.propagate.specs.Trail.{mark_place, AreApart, AreMarks}
-use Rattle.propagate.proofs.HasLemmas.{Has-append_left, Has-push, Has-push_cases, All-Has, All-push, int_cases, take-read}
+use Rattle.propagate.specs.Trail.{AreApart, AreMarks}
+use Rattle.lrup_model.specs.ClauseLemmas.{Has-append_left, Has-push, Has-push_cases, All-Has, All-push, int_cases, take-read}
 
 pub IsLiteral-neg : (vars : ℕ) (l : ℤ) → IsLiteral vars l → IsLiteral vars (neg_ℤ l)
 IsLiteral-neg vars (pos zero) h = h
@@ -28,15 +29,8 @@ same_variable (pos (suc m)) (negsuc n) e = let s : m ≡ n = omega (arith, e) in
 same_variable (negsuc m) (pos n) e = inr (ap pos e)
 same_variable (negsuc m) (negsuc n) e = let s : m ≡ n = omega (arith, e) in inl (ap negsuc s)
 
-pub mark_place-injective : (a b : ℤ) → mark_place a ≡ mark_place b → a ≡ b
-mark_place-injective (pos m) (pos n) e = let s : m ≡ n = omega (arith, e) in ap pos s
-mark_place-injective (pos m) (negsuc n) e = absurd (omega (arith, e))
-mark_place-injective (negsuc m) (pos n) e = absurd (omega (arith, e))
-mark_place-injective (negsuc m) (negsuc n) e = let s : m ≡ n = omega (arith, e) in ap negsuc s
-
-pub mark_place-lt : (vars : ℕ) (l : ℤ) → IsLiteral vars l → mark_place l < 2 * vars + 2
-mark_place-lt vars (pos n) h = omega (arith, h.1)
-mark_place-lt vars (negsuc n) h = omega (arith, h.1)
+pub code_of-lt : (vars : ℕ) (l : ℤ) → IsLiteral vars l → code_of l < 2 * vars + 2
+code_of-lt vars l h = let code = IsCode-code_of vars l h in omega (arith, code.1)
 
 AreApart-push : (ls : List ℤ) (x : ℤ) → AreApart ls → (¬ Has ls x) → (¬ Has ls (neg_ℤ x)) → AreApart (ls ++ x ∷ [])
 AreApart-push [] x apart new new_neg = ((λ h. h), (λ h. h), tt)
@@ -80,31 +74,31 @@ AreMarks-room vars marks ls capacity x are literal new new_neg =
     let one_more = length-append ls (x ∷ []) in
     omega (arith, most, one_more, are.room)
 
-pub AreMarks-add : (vars : ℕ) (marks : List Bool) (ls : List ℤ) (capacity : ℕ) (x : ℤ) → AreMarks vars marks ls capacity → IsLiteral vars x → (¬ Has ls x) → (¬ Has ls (neg_ℤ x)) → AreMarks vars (set marks (mark_place x) true) (ls ++ x ∷ []) capacity
+pub AreMarks-add : (vars : ℕ) (marks : List Bool) (ls : List ℤ) (capacity : ℕ) (x : ℤ) → AreMarks vars marks ls capacity → IsLiteral vars x → (¬ Has ls x) → (¬ Has ls (neg_ℤ x)) → AreMarks vars (set marks (code_of x) true) (ls ++ x ∷ []) capacity
 AreMarks-add vars marks ls capacity x are literal new new_neg = record {
-  count = length-set marks (mark_place x) true ∙ are.count;
+  count = length-set marks (code_of x) true ∙ are.count;
   room = are.room;
   within = All-push (IsLiteral vars) ls x are.within literal;
   apart = AreApart-push ls x are.apart new new_neg;
   marked = λ l is. elim (int_cases l x) [ inl e ↦ here l e | inr ne ↦ (to l is ne, from l is ne) ];
 }
   where
-    inside : mark_place x < length marks
-    inside = let below = mark_place-lt vars x literal in subst (λ n. mark_place x < n) (sym are.count) below
+    inside : code_of x < length marks
+    inside = let below = code_of-lt vars x literal in subst (λ n. code_of x < n) (sym are.count) below
 
-    here : (l : ℤ) → l ≡ x → (get_or (set marks (mark_place x) true) (mark_place l) false ≡ true) ↔ Has (ls ++ x ∷ []) l
+    here : (l : ℤ) → l ≡ x → (get_or (set marks (code_of x) true) (code_of l) false ≡ true) ↔ Has (ls ++ x ∷ []) l
     here l e = (
       (λ h. subst (Has (ls ++ x ∷ [])) (sym e) (Has-push ls x)),
-      (λ h. ap (λ k. get_or (set marks (mark_place x) true) (mark_place k) false) e ∙ get_or-set_same marks (mark_place x) true false inside),
+      (λ h. ap (λ k. get_or (set marks (code_of x) true) (code_of k) false) e ∙ get_or-set_same marks (code_of x) true false inside),
     )
 
-    same : (l : ℤ) → l ≢ x → get_or (set marks (mark_place x) true) (mark_place l) false ≡ get_or marks (mark_place l) false
-    same l ne = get_or-set_other marks (mark_place x) (mark_place l) true false (λ e. ne (mark_place-injective l x e))
+    same : (l : ℤ) → l ≢ x → get_or (set marks (code_of x) true) (code_of l) false ≡ get_or marks (code_of l) false
+    same l ne = get_or-set_other marks (code_of x) (code_of l) true false (λ e. ne (code_of-injective l x e))
 
-    to : (l : ℤ) → IsLiteral vars l → l ≢ x → get_or (set marks (mark_place x) true) (mark_place l) false ≡ true → Has (ls ++ x ∷ []) l
+    to : (l : ℤ) → IsLiteral vars l → l ≢ x → get_or (set marks (code_of x) true) (code_of l) false ≡ true → Has (ls ++ x ∷ []) l
     to l is ne h = Has-append_left ls (x ∷ []) l ((are.marked l is).0 (sym (same l ne) ∙ h))
 
-    from : (l : ℤ) → IsLiteral vars l → l ≢ x → Has (ls ++ x ∷ []) l → get_or (set marks (mark_place x) true) (mark_place l) false ≡ true
+    from : (l : ℤ) → IsLiteral vars l → l ≢ x → Has (ls ++ x ∷ []) l → get_or (set marks (code_of x) true) (code_of l) false ≡ true
     from l is ne h = elim (Has-push_cases ls x l h) [ inl t ↦ same l ne ∙ (are.marked l is).1 t | inr e ↦ absurd (ne (sym e)) ]
 
 cleared-at : (marks : List Bool) (i : ℕ) → get_or (set marks i false) i false ≡ false
@@ -121,11 +115,11 @@ marked_before (x ∷ marks) (suc i) zero h = h
 marked_before (x ∷ marks) (suc i) (suc k) h = marked_before marks i k h
 
 -- the marks of one more literal are taken away
-pub cleared-next : (marks : List Bool) (ls : List ℤ) (k place : ℕ) (x : ℤ) → k < length ls → x ≡ get_or ls k x → place ≡ mark_place x → ((l : ℤ) → Has (take k ls) l → get_or marks (mark_place l) false ≡ false) → (l : ℤ) → Has (take (k + 1) ls) l → get_or (set marks place false) (mark_place l) false ≡ false
+pub cleared-next : (marks : List Bool) (ls : List ℤ) (k place : ℕ) (x : ℤ) → k < length ls → x ≡ get_or ls k x → place ≡ code_of x → ((l : ℤ) → Has (take k ls) l → get_or marks (code_of l) false ≡ false) → (l : ℤ) → Has (take (k + 1) ls) l → get_or (set marks place false) (code_of l) false ≡ false
 cleared-next marks ls k place x lt at e cleared l h =
     elim (Has-push_cases (take k ls) x l (subst (λ m. Has m l) (take-read ls k x lt at) h)) [
-      | inl t ↦ false_from_ne_true (get_or (set marks place false) (mark_place l) false) (λ set. false≢true (sym (cleared l t) ∙ marked_before marks place (mark_place l) set))
-      | inr same ↦ ap (λ j. get_or (set marks place false) j false) (ap mark_place (sym same) ∙ sym e) ∙ cleared-at marks place
+      | inl t ↦ false_from_ne_true (get_or (set marks place false) (code_of l) false) (λ set. false≢true (sym (cleared l t) ∙ marked_before marks place (code_of l) set))
+      | inr same ↦ ap (λ j. get_or (set marks place false) j false) (ap code_of (sym same) ∙ sym e) ∙ cleared-at marks place
     ]
 
 -- a literal of a clause is one over more variables too

@@ -1,6 +1,8 @@
-pub mod Different
+pub mod Distinct
 pub mod Trail
 pub mod Marks
 pub mod Left
 pub mod Hints
 pub mod Laws
+pub mod HintLemmas
+pub mod DistinctLemmas

@@ -1,7 +1,7 @@
 -- The literals that are false, and their marks (this project's own).
-use Rattle.std.specs.Prelude.{◌≡◌, ◌↔◌, ◌+◌, ◌*◌, ◌<◌, ℕ, ℤ, pos, negsuc, neg_ℤ, Bool, false, true, List, [], ◌∷◌, length, slice_index_or}
+use Rattle.std.specs.Prelude.{◌≡◌, ◌↔◌, ◌+◌, ◌*◌, ◌<◌, ℕ, ℤ, neg_ℤ, Bool, false, true, List, [], ◌∷◌, length, slice_index_or}
 use Rattle.std.specs.List.{AllByRecursion}
-use Rattle.lrup_model.specs.Literal.{IsLiteral}
+use Rattle.lrup_model.specs.Literal.{IsLiteral, code_of}
 use Rattle.lrup_model.specs.Clause.{Has}
 
 -- literals over the variables 1 to vars that are false, newest last
@@ -9,19 +9,14 @@ pub record FalseLiterals : Type 0 where
   pub vars : ℕ
   pub literals : List ℤ
 
--- twice the variable, and one more for a negative literal
-abbrev pub mark_place : ℤ → ℕ
-mark_place (pos v) = 2 * v
-mark_place (negsuc v) = 2 * v + 3
-
 -- no variable stands twice
 abbrev pub AreApart : List ℤ → Type 0
 AreApart [] = Unit {0}
 AreApart (x ∷ ls) = (¬ Has ls x) × (¬ Has ls (neg_ℤ x)) × AreApart ls
 
--- each literal has a place among the marks
+-- each literal has a mark, whose place is its code
 abbrev pub HaveMarks : List Bool → List ℤ → Type 0
-HaveMarks marks ls = AllByRecursion (λ l. mark_place l < length marks) ls
+HaveMarks marks ls = AllByRecursion (λ l. code_of l < length marks) ls
 
 -- a literal over the variables is marked exactly if it is in the list, and the list has room for one of each variable
 pub record AreMarks (vars : ℕ) (marks : List Bool) (ls : List ℤ) (capacity : ℕ) : Type 0 where
@@ -29,4 +24,4 @@ pub record AreMarks (vars : ℕ) (marks : List Bool) (ls : List ℤ) (capacity :
   pub room : vars < capacity
   pub within : AllByRecursion (IsLiteral vars) ls
   pub apart : AreApart ls
-  pub marked : (l : ℤ) → IsLiteral vars l → (slice_index_or marks (mark_place l) false ≡ true) ↔ Has ls l
+  pub marked : (l : ℤ) → IsLiteral vars l → (slice_index_or marks (code_of l) false ≡ true) ↔ Has ls l

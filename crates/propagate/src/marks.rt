@@ -3,9 +3,9 @@ ghost use Rattle.std.specs.Prelude.{◌≡◌, ◌↔◌, ◌≤◌, ◌++◌, L
 ghost use Rattle.std.specs.List.{AllByRecursion};
 ghost use Rattle.lrup_model.specs.Literal.{IsLiteral, max_variable};
 ghost use Rattle.lrup_model.specs.Clause.{Has, IsClause, IsTautology};
-ghost use Rattle.lrup_model.specs.Place.{IsKnown, text_of};
+ghost use Rattle.lrup_model.specs.Place.{IsKnown, AllFollow, text_of};
 ghost use Rattle.lrup_model.specs.Propagation.{IsConflict, IsUnit};
-ghost use Rattle.propagate.specs.Different.{different};
+ghost use Rattle.propagate.specs.Distinct.{distinct};
 ghost use Rattle.propagate.specs.Marks.{Propagation, Steps};
 ghost use Rattle.propagate.specs.Left.{IsLeft};
 
@@ -74,7 +74,7 @@ impl Marks {
     pub fn begin(&mut self, clause: &[Lit]) -> Result<(), Tautology>
         requires { AllByRecursion (IsLiteral self.old.vars) clause.now }
         ensures tautology { IsErr result ↔ IsTautology clause.now }
-        ensures ok { OnOk result (self.new ≡ record { vars = self.old.vars; clause = different clause.now; falses = different clause.now; ready = true }) }
+        ensures ok { OnOk result (self.new ≡ record { vars = self.old.vars; clause = distinct clause.now; falses = distinct clause.now; ready = true }) }
         ensures err { OnErr result (self.new ≡ record { vars = self.old.vars; clause = []; falses = []; ready = false }) }
 
         // The clause that was taken up is the argument's, each literal once.
@@ -95,6 +95,7 @@ impl Marks {
     }
 
     /// The literals of the clause that was taken up, each once, in the order of their first places.
+    #[inline]
     pub fn clause(&self) -> &[Lit]
         ensures { result.now ≡ self.now.clause }
     {
@@ -102,6 +103,7 @@ impl Marks {
     }
 
     /// Is a clause taken up, and was every hint since unit?
+    #[inline]
     pub fn ready(&self) -> bool
         ensures { result ≡ self.now.ready }
     {
@@ -112,7 +114,8 @@ impl Marks {
     pub fn hint<M: ClauseMap>(&mut self, map: &mut M, clip: &Clip) -> Step
         requires ready { IsTrue self.old.ready }
         requires known { IsKnown (M.place map.old) clip.now }
-        requires variables { (M.place map.old).formula.vars ≤ self.old.vars }
+        requires follow { AllFollow (M.place map.old) }
+        requires variables { (M.place map.old).caller.formula.vars ≤ self.old.vars }
         ensures conflict { (result ≡ Step.Conflict) ↔ IsConflict self.old.falses (text_of (M.place map.old) clip.now) }
         ensures unit { (result ≡ Step.Unit) ↔ ((l : ℤ) × IsUnit self.old.falses (text_of (M.place map.old) clip.now) l) }
         ensures step { Steps self.old (text_of (M.place map.old) clip.now) result self.new }
@@ -141,7 +144,8 @@ impl Marks {
 /// What is left of the clause. It stops reading where more than one literal is.
 fn rest_of<M: ClauseMap>(falses: &Trail, map: &mut M, clip: &Clip) -> Left
     requires known { IsKnown (M.place map.old) clip.now }
-    requires variables { (M.place map.old).formula.vars ≤ falses.now.vars }
+    requires follow { AllFollow (M.place map.old) }
+    requires variables { (M.place map.old).caller.formula.vars ≤ falses.now.vars }
     ensures left { IsLeft falses.now.literals (text_of (M.place map.old) clip.now) result }
     ensures event { M.moves map.old map.new [] }
     ensures stays { M.place map.new ≡ M.place map.old }

@@ -29,6 +29,16 @@ fn a_clause_has_each_literal_once(rt: HostRuntime) -> Result<(), Fail> {
 }
 
 #[test]
+fn the_most_variables_fit(rt: HostRuntime) -> Result<(), Fail> {
+    let mut marks = Marks::new(rt.alloc(), Lit::MAX_VARIABLE)?;
+    let (last, not_last) = (lit(16_777_215)?, lit(-16_777_215)?);
+    marks.begin(&[not_last])?;
+    assert_eq!(rt; marks.clause(), [not_last].as_slice());
+    assert_eq!(rt; marks.begin(&[last, not_last]), Err(Tautology));
+    Ok(())
+}
+
+#[test]
 fn a_tautology_leaves_no_clause(rt: HostRuntime) -> Result<(), Fail> {
     let mut marks = Marks::new(rt.alloc(), 2)?;
     let (one, two, not_two) = (lit(1)?, lit(2)?, lit(-2)?);

@@ -1,10 +1,10 @@
 //! The literals that are false.
 ghost use Rattle.std.specs.Prelude.{◌≡◌, ◌↔◌, ◌≤◌, ◌<◌, ◌++◌, [], ◌∷◌, ℕ, ℤ, Bool, false, true, neg_ℤ, length, take, slice_index_or, IsTrue, IfOk, IsErr, OnOk, OnErr};
 ghost use Rattle.std.specs.List.{AllByRecursion};
-ghost use Rattle.lrup_model.specs.Literal.{IsLiteral};
+ghost use Rattle.lrup_model.specs.Literal.{IsLiteral, code_of};
 ghost use Rattle.lrup_model.specs.Clause.{Has, IsTautology};
-ghost use Rattle.propagate.specs.Different.{different};
-ghost use Rattle.propagate.specs.Trail.{mark_place, HaveMarks};
+ghost use Rattle.propagate.specs.Distinct.{distinct};
+ghost use Rattle.propagate.specs.Trail.{HaveMarks};
 
 use crate::tautology::Tautology;
 use lrup_model::Lit;
@@ -49,17 +49,18 @@ impl Trail {
         requires { IsLiteral self.now.vars lit }
         ensures { IsTrue result ↔ Has self.now.literals lit }
     {
-        self.marks[place(lit)]
+        self.marks[lit.code() as usize]
     }
 
     /// Makes a literal false that is neither false nor true.
+    #[inline]
     pub fn add(&mut self, lit: Lit)
         requires literal { IsLiteral self.old.vars lit }
         requires not_false { ¬ Has self.old.literals lit }
         requires not_true { ¬ Has self.old.literals (neg_ℤ lit) }
         ensures { self.new ≡ record self.old { literals = self.old.literals ++ lit ∷ [] } }
     {
-        self.marks[place(lit)] = true;
+        self.marks[lit.code() as usize] = true;
         self.literals.push_reserved(lit);
     }
 
@@ -68,7 +69,7 @@ impl Trail {
         requires empty { self.old.literals ≡ [] }
         requires literals { AllByRecursion (IsLiteral self.old.vars) clause.now }
         ensures tautology { IsErr result ↔ IsTautology clause.now }
-        ensures ok { OnOk result (self.new.literals ≡ different clause.now) }
+        ensures ok { OnOk result (self.new.literals ≡ distinct clause.now) }
         ensures vars { self.new.vars ≡ self.old.vars }
     {
         for &lit in clause {
@@ -91,6 +92,7 @@ impl Trail {
     }
 
     /// The count of the false literals.
+    #[inline]
     pub fn len(&self) -> usize
         ensures { result ≡ length self.now.literals }
     {
@@ -98,6 +100,7 @@ impl Trail {
     }
 
     /// The first false literals.
+    #[inline]
     pub fn first(&self, count: usize) -> &[Lit]
         requires { count ≤ length self.now.literals }
         ensures { result.now ≡ take count self.now.literals }
@@ -106,22 +109,37 @@ impl Trail {
     }
 }
 
-/// Where the literal's mark is.
-#[inline]
-fn place(lit: Lit) -> usize
-    ensures { result ≡ mark_place lit }
-{
-    let even = 2 * lit.var() as usize;
-    if lit.value() < 0 { even + 1 } else { even }
-}
-
 /// Takes the marks of these literals away, and changes no other.
 fn unmark(marks: &mut [bool], literals: &[Lit])
     requires { HaveMarks marks.old literals.now }
-    ensures cleared { (l : ℤ) → Has literals.now l → slice_index_or marks.new (mark_place l) false ≡ false }
+    ensures cleared { (l : ℤ) → Has literals.now l → slice_index_or marks.new (code_of l) false ≡ false }
     ensures others { (k : ℕ) → slice_index_or marks.new k false ≡ true → slice_index_or marks.old k false ≡ true }
 {
     for &lit in literals {
-        marks[place(lit)] = false;
+        marks[lit.code() as usize] = false;
+    }
+}
+
+#[cfg(test)]
+mod tests {
+    use super::*;
+    use std::test::Fail;
+
+    #[test]
+    fn clauses_in_turn_take_no_more_memory(rt: HostRuntime) -> Result<(), Fail> {
+        let mut trail = Trail::new(rt.alloc(), 3)?;
+        let one = Lit::new(1).ok_or("no literal")?;
+        let two = Lit::new(2).ok_or("no literal")?;
+        let not_three = Lit::new(-3).ok_or("no literal")?;
+        let marks = trail.marks.capacity();
+        let literals = trail.literals.capacity();
+        for _ in 0..1000 {
+            trail.clear();
+            trail.add_all(&[one, two, not_three, one])?;
+        }
+        assert_eq!(rt; trail.len(), 3);
+        assert_eq!(rt; trail.marks.capacity(), marks);
+        assert_eq!(rt; trail.literals.capacity(), literals);
+        Ok(())
     }
 }

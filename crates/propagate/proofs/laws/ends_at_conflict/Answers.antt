@@ -1,4 +1,4 @@
-use Rattle.propagate.proofs.HintLemmas.{ends_at_conflict as lemma}
+use Rattle.propagate.specs.HintLemmas.{ends_at_conflict as lemma}
 use Rattle.propagate.proofs.laws.ends_at_conflict.Goals as goal
 
 pub returns : goal.returns

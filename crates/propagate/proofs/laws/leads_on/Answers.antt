@@ -1,4 +1,4 @@
-use Rattle.propagate.proofs.HintLemmas.{leads_on as lemma}
+use Rattle.propagate.specs.HintLemmas.{leads_on as lemma}
 use Rattle.propagate.proofs.laws.leads_on.Goals as goal
 
 pub returns : goal.returns

@@ -1,4 +1,4 @@
-use Rattle.propagate.proofs.HintLemmas.{leads_to_one as lemma}
+use Rattle.propagate.specs.HintLemmas.{leads_to_one as lemma}
 use Rattle.propagate.proofs.laws.leads_to_one.Goals as goal
 
 pub returns : goal.returns

@@ -1,4 +1,4 @@
-use Rattle.propagate.proofs.HintLemmas.{needs_conflict as lemma}
+use Rattle.propagate.specs.HintLemmas.{needs_conflict as lemma}
 use Rattle.propagate.proofs.laws.needs_conflict.Goals as goal
 
 pub returns : goal.returns

@@ -1,4 +1,4 @@
-use Rattle.propagate.proofs.HintLemmas.{needs_units as lemma}
+use Rattle.propagate.specs.HintLemmas.{needs_units as lemma}
 use Rattle.propagate.proofs.laws.needs_units.Goals as goal
 
 pub returns : goal.returns

@@ -1,0 +1,19 @@
+use Rattle.std.proofs.Common.{arith, rules, ◌≤◌, get_or, to_z, of_z, w64, subst, sym}
+use Rattle.std.specs.Prelude.{pos, nat_abs}
+use Rattle.std.proofs.lemmas.Int.{to_z-of_z}
+use mir.Val.{SFits}
+use Rattle.lrup_model.specs.Literal.{IsLiteral, max_variable}
+use Rattle.std.proofs.lemmas.List.Elements.{All-from_recursion}
+use Rattle.first_path.proofs.check.read_literals.Goals as goal
+
+pub returns-in_default-2-clause-within : goal.returns-in_default-2-clause-within
+returns-in_default-2-clause-within c = (
+  λ none. absurd (cc),
+  λ all.
+      let z = get_or c.args.numbers.now c.loop-number.number-index (pos 0) in
+      let here : IsLiteral c.args.vars z = All-from_recursion (IsLiteral c.args.vars) c.args.numbers.now all c.loop-number.number-index (pos 0) c.loop-number-test.true in
+      let fits : SFits w64 z = search rules in
+      let most : nat_abs z ≤ max_variable = omega (arith, here.1, c.requires.variables) in
+      let lit : IsLiteral max_variable (to_z w64 (of_z w64 z)) = subst (IsLiteral max_variable) (sym (to_z-of_z w64 z fits)) (here.0, most) in
+      c.in_default.ensures.literal.1 lit,
+)

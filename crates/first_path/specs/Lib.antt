@@ -1,0 +1,4 @@
+pub mod Additions
+pub mod Judging
+pub mod Streams
+pub mod First
