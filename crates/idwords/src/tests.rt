@@ -45,11 +45,7 @@ fn open_one(alloc: Global, formula: &Formula, layout: &Layout) -> Result<(Row, S
 }
 
 /// A row of two streams, and their seats.
-fn open_two(
-    alloc: Global,
-    formula: &Formula,
-    layout: &Layout,
-) -> Result<(Row, Seat, Seat), Fail>
+fn open_two(alloc: Global, formula: &Formula, layout: &Layout) -> Result<(Row, Seat, Seat), Fail>
     requires formula { formula.now ≡ four }
     requires fits { Fits layout.now formula.now }
     requires streams { layout.now.streams ≡ 2 }
@@ -173,13 +169,7 @@ fn two_streams_take_turns(rt: HostRuntime) -> Result<(), Fail> {
 }
 
 /// The first literal of an identity's clause, where it is live.
-fn first_literal(
-    row: &Row,
-    layout: &Layout,
-    seat: &mut Seat,
-    stream: u64,
-    id: u64,
-) -> Option<i64>
+fn first_literal(row: &Row, layout: &Layout, seat: &mut Seat, stream: u64, id: u64) -> Option<i64>
     requires { IsAt row.now layout.now stream seat.old }
     ensures { IsAt row.now layout.now stream seat.new }
 {
@@ -241,6 +231,9 @@ fn two_threads_use_one_row(rt: HostRuntime) -> Result<(), Fail> {
     row.meet(&mut first, &mut second);
     let found = look(row, layout, &mut first, 1, 6).ok_or("no word")?;
     assert_eq!(rt; (state(found), len(found)), (RETIRED, 1));
-    assert_eq!(rt; look(row, layout, &mut first, 1, 1), Some(25165833 + 4194304));
+    assert_eq!(rt;
+        look(row, layout, &mut first, 1, 1),
+        Some(25165833 + 4194304)
+    );
     Ok(())
 }
