@@ -1,0 +1,13 @@
+pub mod SpellingLemmas
+pub mod WordLemmas
+pub mod ViewLemmas
+pub mod RuleLemmas
+pub mod StepLemmas
+pub mod LookLemmas
+pub mod SeatLemmas
+pub mod PlaceLemmas
+pub mod OwnLemmas
+pub mod RetireLemmas
+pub mod ClaimLemmas
+pub mod MeetLemmas
+pub mod OpeningLemmas

@@ -1,0 +1,140 @@
+-- Lemmas on places: streams write apart from each other, from the formula and from the identities; and steps on literals.
+use Rattle.std.proofs.Common.{◌≡◌, ◌≢◌, ℕ, ℤ, ◌+◌, ◌-◌, ◌*◌, ◌<◌, ◌≤◌, ◌⊎◌, List, [], ◌∷◌, ◌++◌, length, set, slice_index, slice_set, slice_get, Some, refl, sym, ap, subst, ◌∙◌, inl, inr, ⊎_elim, arith, length-append, length-set, get_or-set_same, get_or-set_other}
+use Rattle.std.proofs.Math.Nat.{mul-le-mul_right}
+use mathlib.Core.Option.{some}
+use lib.ListN.{get_elem?}
+use Rattle.std.proofs.lemmas.Bool.{cases_eq, cases_lt}
+use Rattle.std.proofs.lemmas.List.{set-get_or}
+use Rattle.atomic_table.proofs.Lists.{set_again}
+use Rattle.lrup_model.specs.Clause.{Clause}
+use Rattle.lrup_model.specs.Formula.{Cnf}
+use Rattle.lrup_model.specs.Layout.{LayoutValue, IsIdentity, IsStream, last_identity, row_words}
+use Rattle.lrup_model.specs.Event.{History, spent}
+use Rattle.lrup_model.specs.History.{IsLegal}
+use Rattle.lrup_model.specs.Place.{Kept}
+use Rattle.lrup_model.specs.Pass.{Spelling, kept_in}
+use Rattle.lrup_model.specs.Literal.{code_of}
+use Rattle.idwords.specs.Words.{LiesAt}
+use Rattle.idwords.specs.Spelling.{first_place, top_after, spelling_of}
+use Rattle.idwords.specs.Rule.{Part, part_stream, Keeps, Stands, IsPlan}
+use Rattle.idwords.specs.Steps.{IsText, Reads, Writes}
+use Rattle.idwords.proofs.SpellingLemmas.{IsLodged, LodgedOf, LodgedFormula, lodged, keeps_spelt}
+use Rattle.idwords.proofs.WordLemmas.{lies_get, lies-snoc, lies-set, code_injective}
+use Rattle.idwords.proofs.ViewLemmas.{moved, times-same}
+use Rattle.idwords.proofs.RuleLemmas.{OwnKeeps, stands_at, stands_words, spent_log}
+use Rattle.idwords.proofs.StepLemmas.{OwnStep}
+
+-- Rooms apart
+
+-- an earlier stream's room ends before a later one's begins
+rooms_apart : (p : LayoutValue) (s t : ℕ) → 0 < s → s < t → first_place p s + p.room ≤ first_place p t
+rooms_apart p s t positive less =
+    let more : (s - 1 + 1) * p.room ≤ (t - 1) * p.room = mul-le-mul_right p.room (omega arith) in
+    omega arith
+
+-- a place in a stream's room, at or above its top, lies outside what another part of the row takes
+outside_room : (p : LayoutValue) (s t place from to : ℕ) → IsStream p s → IsStream p t → t ≢ s → first_place p s ≤ place → place < first_place p s + p.room
+    → first_place p t ≤ from → to ≤ first_place p t + p.room → (place < from) ⊎ (to ≤ place)
+outside_room p s t place from to mine theirs other above below first last =
+    elim (cases_lt s t) [
+      | inl less ↦ let apart = rooms_apart p s t mine.0 less in inl (omega arith)
+      | inr more ↦ let apart = rooms_apart p t s theirs.0 (omega arith) in inr (omega arith)
+    ]
+
+module _ (f : Cnf) (p : LayoutValue) (log : History) (legal : IsLegal f p log) where
+  -- no clause's literals lie at a place of a stream's room at or above its top
+  pub outside_text : (s place : ℕ) (kept : Kept) → IsStream p s → top_after p s log ≤ place → place < first_place p s + p.room → IsLodged p log kept
+      → (place < kept.start) ⊎ (kept.start + length kept.literals ≤ place)
+  outside_text s place kept mine above below (inl formula) = inr (omega (arith, formula.last))
+  outside_text s place kept mine above below (inr (t, lodging)) =
+      elim (cases_eq t s) [
+        | inl same ↦
+            let top : top_after p t log ≡ top_after p s log = ap (λ (u : ℕ). top_after p u log) same in
+            inr (omega (arith, lodging.last))
+        | inr other ↦ outside_room p s t place kept.start (kept.start + length kept.literals) mine lodging.stream other (omega arith) below lodging.first (omega (arith, lodging.last, legal.room t))
+      ]
+
+-- a stream's room lies inside the row
+pub within_row : (p : LayoutValue) (s place all : ℕ) → IsStream p s → all ≡ row_words p → place < first_place p s + p.room → place < all
+within_row p s place all mine count below =
+    let more : (s - 1 + 1) * p.room ≤ p.streams * p.room = mul-le-mul_right p.room (omega (arith, mine.0, mine.1)) in
+    omega arith
+
+-- A load of a literal
+
+pub reads : (v : Part) (seat place : ℕ) → OwnStep v seat place (λ n. n) (λ n w. Reads place v n w)
+reads v seat place more words views kept here small =
+    let f = v.view.caller.formula in
+    let p = v.view.caller.layout in
+    let log = v.view.seen ++ more in
+    let stands = stands_at v more words views seat kept here in
+    let same_words : slice_set words place (slice_index words place) ≡ words = set-get_or words place 0 in
+    let same_views : set views seat (v ∷ []) ≡ views = set_again views seat (v ∷ []) here in (
+      v,
+      log,
+      subst (λ (ws : List ℕ). Keeps f p log ws (set views seat (v ∷ []))) (sym same_words) (subst (λ (us : List (List Part)). Keeps f p log words us) (sym same_views) kept),
+      record {
+        same = refl;
+        text = λ id k text l there at here_is.
+            ap (λ (n : ℕ). slice_index words n) here_is
+            ∙ lies_get words text.start text.literals k l
+            (kept.texts id text (keeps_spelt f p v.view.seen more id text (ap (λ (xs : List Spelling). kept_in xs id) (sym stands.spelt) ∙ there))) at;
+      },
+    )
+
+-- A store of a literal
+
+written : (v : Part) (seat : ℕ) (l : ℤ) → spent (part_stream v) v.view.mine + length v.draft < v.view.caller.layout.room
+    → OwnStep v seat (v.top + length v.draft) (λ _. code_of l) (λ n w. Writes (code_of l) v w)
+written v seat l room more words views kept here small =
+    let f = v.view.caller.formula in
+    let p = v.view.caller.layout in
+    let s = part_stream v in
+    let log = v.view.seen ++ more in
+    let place : ℕ = v.top + length v.draft in
+    let stands = stands_at v more words views seat kept here in
+    let all : spent s v.view.mine ≡ spent s log = spent_log log v.view.mine s stands.mine in
+    let top : v.top ≡ top_after p s v.view.mine = stands.top in
+    let new : List ℕ = slice_set words place (code_of l) in
+    let above : last_identity p < place = omega arith in
+    let within : place < length words = within_row p s place (length words) stands.stream kept.count (omega arith) in
+    let w : Part = record v { draft = v.draft ++ l ∷ [] } in
+    let elsewhere : (q : Part) → part_stream q ≢ s → Stands f p log words q → Stands f p log new q = λ q other there.
+    stands_words f p log words new q there
+    (lies-set words q.top q.draft place (code_of l) there.draft
+    (outside_room p s (part_stream q) place q.top (q.top + length q.draft) stands.stream there.stream other (omega arith) (omega arith) (omega (arith, there.top)) (omega (arith, there.top, there.room)))) in
+    let mine : Stands f p log new w = record {
+      formula = stands.formula;
+      layout = stands.layout;
+      stream = stands.stream;
+      begins = stands.begins;
+      seen = stands.seen;
+      mine = stands.mine;
+      spelt = stands.spelt;
+      top = stands.top;
+      room = omega (arith, length-append v.draft (l ∷ []));
+      draft = lies-snoc new v.top v.draft l (lies-set words v.top v.draft place (code_of l) stands.draft (inr (omega arith))) (get_or-set_same words place (code_of l) 0 within);
+    } in (
+      w,
+      log,
+      record {
+        plan = kept.plan;
+        legal = kept.legal;
+        count = length-set words place (code_of l) ∙ kept.count;
+        first = get_or-set_other words place 0 (code_of l) 0 (λ same. omega arith) ∙ kept.first;
+        slots = λ id identity. get_or-set_other words place id (code_of l) 0 (λ same. omega (arith, identity.1)) ∙ kept.slots id identity;
+        texts = λ id text there. lies-set words text.start text.literals place (code_of l) (kept.texts id text there)
+            (outside_text f p log kept.legal s place text stands.stream (omega arith) (omega arith) (lodged f p log id text (omega (arith, kept.plan.layout.some_stream)) kept.plan.fits kept.legal.events there));
+        parts = moved (Stands f p log words) (Stands f p log new) views seat v w here (kept.once s) kept.parts elsewhere mine;
+        once = times-same views seat v w here refl kept.once;
+      },
+      λ k same. ap (λ (x : ℤ). record v { draft = v.draft ++ x ∷ [] }) (code_injective l k same),
+    )
+
+-- the same, by the place and the code
+pub written_at : (v : Part) (seat : ℕ) (l : ℤ) (place code : ℕ) → spent (part_stream v) v.view.mine + length v.draft < v.view.caller.layout.room
+    → v.top + length v.draft ≡ place → code_of l ≡ code → OwnStep v seat place (λ _. code) (λ n w. Writes code v w)
+written_at v seat l place code room at is =
+    let here : OwnStep v seat place (λ _. code_of l) (λ n w. Writes (code_of l) v w) =
+    subst (λ (i : ℕ). OwnStep v seat i (λ _. code_of l) (λ n w. Writes (code_of l) v w)) at (written v seat l room) in
+    subst (λ (k : ℕ). OwnStep v seat place (λ _. k) (λ n w. Writes k v w)) is here

@@ -1,0 +1,216 @@
+-- Lemmas on the rule: how a part and the others stand after one event more.
+use Rattle.std.proofs.Common.{◌≡◌, ◌≢◌, ℕ, ◌+◌, ◌-◌, ◌*◌, ◌<◌, ◌≤◌, List, [], ◌∷◌, ◌++◌, length, set, slice_index, slice_set, Option, None, Some, refl, sym, ap, ap₂, subst, ◌∙◌, inl, inr, arith, append-nil, append_assoc, length-append}
+use Rattle.std.specs.List.{AllByRecursion, sum_by}
+use mathlib.Core.Option.{some}
+use lib.ListN.{get_elem?}
+use Rattle.std.proofs.lemmas.Bool.{cases_eq}
+use Rattle.lrup_model.specs.Clause.{Clause}
+use Rattle.lrup_model.specs.Formula.{Cnf}
+use Rattle.lrup_model.specs.Layout.{LayoutValue, IsIdentity, Owns, row_words}
+use Rattle.lrup_model.specs.Event as events
+use Rattle.lrup_model.specs.Event.{Event, Reply, History, stream_of, size_of, own, spent}
+use Rattle.lrup_model.specs.State.{State, Slot, absent, live, retired, opening, after, run, state, Answers, IsLive}
+use Rattle.lrup_model.specs.History.{IsAllowed, LegalFrom, IsLegal}
+use Rattle.lrup_model.specs.Place.{Kept, KeepsSpelt}
+use Rattle.lrup_model.specs.Pass.{View, Spelling, kept_in, Spells, IsSpelt, IsFair, PassMoves}
+use Rattle.lrup_model.specs.Laws.{stepped}
+use Rattle.lrup_model.specs.Running.{run-append, legal-append, own-append, spent-append}
+use Rattle.lrup_model.specs.HistoryLemmas.{IsLegal-front, own-mine, own-other, own-none, spent-own, spent_one, run-own}
+use Rattle.lrup_model.specs.PassLemmas.{moves_step}
+use Rattle.idwords.specs.Words.{word_of, LiesAt, ShowsKept, reply_in}
+use Rattle.idwords.specs.Spelling.{first_place, top_after, event_spelling, spelling_of}
+use Rattle.idwords.specs.Rule.{Part, part_stream, Stands, AllParts, Keeps, IsPlan}
+use Rattle.idwords.specs.Steps.{Calls}
+use Rattle.idwords.proofs.SpellingLemmas.{lies_within, spelling-snoc, spelling-append, keeps_spelt, spelt, own_kept}
+use Rattle.idwords.proofs.ViewLemmas.{all_at, moved, times-same}
+
+-- Own events
+
+pub own_rest : (g h k : History) → k ≡ g → g ++ h ≡ k → h ≡ []
+own_rest g [] k same all = refl
+own_rest g (e ∷ h) k same all = absurd (let len : length (g ++ e ∷ h) ≡ length g = ap length (all ∙ same) in omega (arith, length-append g (e ∷ h)))
+
+others_from_own : (h : History) (s : ℕ) → own h s ≡ [] → AllByRecursion (λ d. stream_of d ≢ s) h
+others_from_own [] s none = tt
+others_from_own (e ∷ h) s none =
+    elim (cases_eq (stream_of e) s) [
+      | inl mine ↦ absurd (let own_first : own (e ∷ h) s ≡ e ∷ own h s = own-mine e h s mine in cc)
+      | inr other ↦ (other, others_from_own h s (sym (own-other e h s other) ∙ none))
+    ]
+
+-- between what a part has seen and the log, its stream made no call
+pub between : (seen more mine : History) (s : ℕ) → own seen s ≡ mine → own (seen ++ more) s ≡ mine → AllByRecursion (λ d. stream_of d ≢ s) more
+between seen more mine s here all = others_from_own more s (own_rest (own seen s) (own more s) mine (sym here) (sym (own-append seen more s) ∙ all))
+
+-- what a part's calls spent is what its stream spent in the log
+pub spent_log : (log mine : History) (s : ℕ) → own log s ≡ mine → spent s mine ≡ spent s log
+spent_log log mine s all = ap (λ (h : History). spent s h) (sym all) ∙ spent-own s log
+
+-- A part by its own plan
+
+module _ (v : Part) (more : History) where
+  abbrev pub own_log : History
+  own_log = v.view.seen ++ more
+
+  -- the row is kept by this log, which the part's own plan has
+  abbrev pub OwnKeeps : List ℕ → List (List Part) → Type 0
+  OwnKeeps words views = Keeps v.view.caller.formula v.view.caller.layout (v.view.seen ++ more) words views
+
+-- the part after it saw the log and made a call, with this draft
+abbrev pub advanced : Part → History → Event → Clause → Part
+advanced v more e draft = record {
+  view = stepped v.view more e (spelling_of v.view.caller.formula v.view.caller.layout (v.view.seen ++ more ++ e ∷ []));
+  top = top_after v.view.caller.layout (part_stream v) (v.view.mine ++ e ∷ []);
+  draft = draft;
+}
+
+pub stands_at : (v : Part) (more : History) (words : List ℕ) (views : List (List Part)) (id : ℕ) → OwnKeeps v more words views → get_elem? views id ≡ some (v ∷ [])
+    → Stands v.view.caller.formula v.view.caller.layout (v.view.seen ++ more) words v
+stands_at v more words views id keeps here =
+    (all_at (Stands v.view.caller.formula v.view.caller.layout (v.view.seen ++ more) words) views id (v ∷ []) here keeps.parts).0
+
+-- a part that stands is fair
+pub fair_part : (v : Part) (more : History) (words : List ℕ) (plan : IsPlan v.view.caller.formula v.view.caller.layout) → IsLegal v.view.caller.formula v.view.caller.layout (v.view.seen ++ more)
+    → Stands v.view.caller.formula v.view.caller.layout (v.view.seen ++ more) words v → IsFair v.view
+fair_part v more words plan legal stands =
+    let f = v.view.caller.formula in
+    let p = v.view.caller.layout in
+    let front : IsLegal f p v.view.seen = IsLegal-front f p v.view.seen more legal in
+    record {
+      caller = record { formula = plan.formula; layout = plan.layout; fits = plan.fits; stream = stands.stream };
+      legal = front;
+      mine = stands.seen;
+      spelt = subst (λ (xs : List Spelling). IsSpelt f v.view.seen xs) (sym stands.spelt) (spelt f p v.view.seen front.events);
+    }
+
+-- One event more
+
+own_past : (log : History) (e : Event) (t : ℕ) → (stream_of e ≡ t → ⊥) → own (log ++ e ∷ []) t ≡ own log t
+own_past log e t other = own-append log (e ∷ []) t ∙ ap (λ (h : History). own log t ++ h) (own-other e [] t other) ∙ append-nil (own log t)
+
+own_next : (log : History) (e : Event) (s : ℕ) → stream_of e ≡ s → own (log ++ e ∷ []) s ≡ own log s ++ e ∷ []
+own_next log e s mine = own-append log (e ∷ []) s ∙ ap (λ (h : History). own log s ++ h) (own-mine e [] s mine)
+
+legal_next : (f : Cnf) (p : LayoutValue) (log : History) (e : Event) → IsLegal f p log → Answers (state f log) e → IsAllowed f p e
+    → spent (stream_of e) log + size_of e ≤ p.room → IsLegal f p (log ++ e ∷ [])
+legal_next f p log e legal answers allowed room = record {
+  events = legal-append f p (opening f) log (e ∷ []) legal.events (answers, allowed, tt);
+  room = λ t. elim (cases_eq (stream_of e) t) [
+    | inl mine ↦
+        let all : spent t (log ++ e ∷ []) ≡ spent t log + spent t (e ∷ []) = spent-append t log (e ∷ []) in
+        let one : spent t (e ∷ []) ≡ size_of e = spent_one t e mine in
+        let here : spent (stream_of e) log ≡ spent t log = ap (λ (s : ℕ). spent s log) mine in
+        omega arith
+    | inr other ↦
+        let same : spent t (log ++ e ∷ []) ≡ spent t log = ap (sum_by size_of) (own_past log e t other) in
+        omega (arith, legal.room t)
+  ];
+}
+
+-- other words serve a part as well, where its draft lies in them
+pub stands_words : (f : Cnf) (p : LayoutValue) (log : History) (words words' : List ℕ) (q : Part) → Stands f p log words q → LiesAt words' q.top q.draft → Stands f p log words' q
+stands_words f p log words words' q stands lies = record {
+  formula = stands.formula;
+  layout = stands.layout;
+  stream = stands.stream;
+  begins = stands.begins;
+  seen = stands.seen;
+  mine = stands.mine;
+  spelt = stands.spelt;
+  top = stands.top;
+  room = stands.room;
+  draft = lies;
+}
+
+-- another stream's part stands as before
+stands_on : (f : Cnf) (p : LayoutValue) (log : History) (words words' : List ℕ) (e : Event) (q : Part) → (stream_of e ≡ part_stream q → ⊥) → Stands f p log words q
+    → LiesAt words' q.top q.draft → Stands f p (log ++ e ∷ []) words' q
+stands_on f p log words words' e q other stands lies = record {
+  formula = stands.formula;
+  layout = stands.layout;
+  stream = stands.stream;
+  begins = (stands.begins.0 ++ e ∷ [], ap (λ (h : History). h ++ e ∷ []) stands.begins.1 ∙ append_assoc q.view.seen stands.begins.0 (e ∷ []));
+  seen = stands.seen;
+  mine = own_past log e (part_stream q) other ∙ stands.mine;
+  spelt = stands.spelt;
+  top = stands.top;
+  room = stands.room;
+  draft = lies;
+}
+
+state_next : (f : Cnf) (log : History) (e : Event) (id : ℕ) → state f (log ++ e ∷ []) id ≡ after (state f log) e id
+state_next f log e id = ap (λ (m : State). m id) (run-append (opening f) log (e ∷ []))
+
+-- the top after a call of the stream
+pub event_top : (p : LayoutValue) (s : ℕ) (mine : History) (e : Event) → stream_of e ≡ s → top_after p s (mine ++ e ∷ []) ≡ top_after p s mine + size_of e
+event_top p s mine e is =
+    let all : spent s (mine ++ e ∷ []) ≡ spent s mine + spent s (e ∷ []) = spent-append s mine (e ∷ []) in
+    let one : spent s (e ∷ []) ≡ size_of e = spent_one s e is in
+    omega arith
+
+-- what an event's words have to do
+pub record Serves (f : Cnf) (p : LayoutValue) (log : History) (words : List ℕ) (e : Event) (words' : List ℕ) : Type 0 where
+  pub count : length words' ≡ row_words p
+  pub first : slice_index words' 0 ≡ 0
+  pub slots : (id : ℕ) → IsIdentity p id → slice_index words' id ≡ word_of (after (state f log) e id) (kept_in (spelling_of f p log ++ event_spelling p log e) id)
+  pub texts : (id : ℕ) (kept : Kept) → kept_in (spelling_of f p log ++ event_spelling p log e) id ≡ Some kept → LiesAt words' kept.start kept.literals
+  pub others : (q : Part) → part_stream q ≢ stream_of e → Stands f p log words q → LiesAt words' q.top q.draft
+
+module _ (v : Part) (more : History) (words words' : List ℕ) (views : List (List Part)) (id : ℕ) (e : Event) (draft : Clause) where
+  pub advance : OwnKeeps v more words views → get_elem? views id ≡ some (v ∷ [])
+      → stream_of e ≡ part_stream v → Answers (state v.view.caller.formula (v.view.seen ++ more)) e → IsAllowed v.view.caller.formula v.view.caller.layout e
+      → spent (part_stream v) v.view.mine + size_of e + length draft ≤ v.view.caller.layout.room
+      → Serves v.view.caller.formula v.view.caller.layout (v.view.seen ++ more) words e words'
+      → LiesAt words' (top_after v.view.caller.layout (part_stream v) (v.view.mine ++ e ∷ [])) draft
+      → Keeps v.view.caller.formula v.view.caller.layout (v.view.seen ++ more ++ e ∷ []) words' (set views id (advanced v more e draft ∷ []))
+      × Calls v.view (advanced v more e draft).view e
+  advance keeps here mine answers allowed room serves lies =
+      let f = v.view.caller.formula in
+      let p = v.view.caller.layout in
+      let s = part_stream v in
+      let log = v.view.seen ++ more in
+      let stands = stands_at v more words views id keeps here in
+      let spent_here : spent s v.view.mine ≡ spent s log = spent_log log v.view.mine s stands.mine in
+      let spent_there : spent (stream_of e) log ≡ spent s log = ap (λ (t : ℕ). spent t log) mine in
+      let legal : IsLegal f p (log ++ e ∷ []) = legal_next f p log e keeps.legal answers allowed (omega arith) in
+      let all_mine : own (log ++ e ∷ []) s ≡ v.view.mine ++ e ∷ [] = own_next log e s mine ∙ ap (λ (h : History). h ++ e ∷ []) stands.mine in
+      let spelling_there : spelling_of f p (log ++ e ∷ []) ≡ spelling_of f p log ++ event_spelling p log e = spelling-snoc f p log e in
+      let spent_next : spent s (v.view.mine ++ e ∷ []) ≡ spent s v.view.mine + spent s (e ∷ []) = spent-append s v.view.mine (e ∷ []) in
+      let spent_event : spent s (e ∷ []) ≡ size_of e = spent_one s e mine in
+      let keeps_on : KeepsSpelt (kept_in v.view.spelt) (kept_in (spelling_of f p (log ++ e ∷ []))) = λ j kept there.
+      ap (λ (h : History). kept_in (spelling_of f p h) j) (append_assoc v.view.seen more (e ∷ []))
+      ∙ keeps_spelt f p v.view.seen (more ++ e ∷ []) j kept (ap (λ (xs : List Spelling). kept_in xs j) (sym stands.spelt) ∙ there) in
+      let step = moves_step v.view more e (spelling_of f p (log ++ e ∷ [])) (fair_part v more words keeps.plan keeps.legal stands)
+      (between v.view.seen more v.view.mine s stands.seen stands.mine) mine legal (spelt f p (log ++ e ∷ []) legal.events) keeps_on in
+      let w : Part = advanced v more e draft in
+      let new : Stands f p (log ++ e ∷ []) words' w = record {
+        formula = refl;
+        layout = refl;
+        stream = stands.stream;
+        begins = ([], sym (append-nil (log ++ e ∷ [])));
+        seen = all_mine;
+        mine = all_mine;
+        spelt = refl;
+        top = refl;
+        room = omega arith;
+        draft = lies;
+      } in (
+        record {
+          plan = keeps.plan;
+          legal = legal;
+          count = serves.count;
+          first = serves.first;
+          slots = λ j identity. serves.slots j identity
+              ∙ ap₂ (λ (slot : Slot) (xs : List Spelling). word_of slot (kept_in xs j)) (sym (state_next f log e j)) (sym spelling_there);
+          texts = λ j kept there. serves.texts j kept (ap (λ (xs : List Spelling). kept_in xs j) (sym spelling_there) ∙ there);
+          parts = moved (Stands f p log words) (Stands f p (log ++ e ∷ []) words') views id v w here (keeps.once s) keeps.parts
+              (λ q other there. stands_on f p log words words' e q (λ same. other (sym same ∙ mine)) there (serves.others q (λ same. other (same ∙ mine)) there)) new;
+          once = times-same views id v w here refl keeps.once;
+        },
+        record {
+          moves = step.0;
+          last = (log, refl);
+          fair = step.1;
+          within = lies_within f p (log ++ e ∷ []) keeps.plan.layout.some_stream keeps.plan.fits legal;
+        },
+      )

@@ -1,0 +1,137 @@
+-- Lemmas on a seat: what a step asks of its token, from what the contract's value of the seat has.
+use Rattle.std.proofs.Common.{◌≡◌, ◌≢◌, ◌+◌, ◌-◌, ◌<◌, ◌≤◌, ℕ, cond, eqb, List, [], ◌∷◌, length, refl, sym, ap, ap₂, subst, ◌∙◌, arith, eq-eqb, ne_eqb}
+use Rattle.std.proofs.lemmas.Bool.{cond-true, cond-false}
+use Rattle.atomic_table.specs.Seated.{TableId}
+use Rattle.atomic_table.specs.Table.{Step, Me, Allows}
+use Rattle.lrup_model.specs.Formula.{Cnf}
+use Rattle.lrup_model.specs.Layout.{LayoutValue, row_words}
+use Rattle.lrup_model.specs.Event as events
+use Rattle.lrup_model.specs.Event.{Event, History, size_of, spent}
+use Rattle.lrup_model.specs.Place.{Caller}
+use Rattle.lrup_model.specs.Pass.{IsFair, PassMoves}
+use Rattle.lrup_model.specs.Running.{spent-append}
+use Rattle.lrup_model.specs.HistoryLemmas.{spent_one}
+use Rattle.lrup_model.specs.declared.clause_map.Published.{Published}
+use Rattle.lrup_model.specs.declared.clause_map.Published.TheVariants as publishing
+use Rattle.idwords.specs.Spelling.{first_place}
+use Rattle.idwords.specs.Rule.{Part, part_stream, IsKept}
+use Rattle.idwords.specs.Steps.{Changes, Claims, published_at}
+use Rattle.idwords.specs.Seats.{SeatValue, first_part, seat_value, part_of, IsSeated}
+use Rattle.idwords.proofs.StepLemmas.{OwnStep, allows}
+
+-- the row that a seat is of has as many words as the seat's layout says
+pub words_of : {S : Type 0} (table row : TableId) (me : Me S (List Part)) (top drafted room : ℕ) → IsSeated table me top drafted room → table ≡ row
+    → row.words ≡ row_words (first_part me.0).view.caller.layout
+words_of table row me top drafted room seated same = ap (λ (t : TableId). t.words) (sym same) ∙ seated.words
+
+module _ {S : Type 0} where
+  -- by the token's own part
+  pub asks_part : (f : Cnf) (p : LayoutValue) (slots id i : ℕ) (g : ℕ → ℕ) (told : Part → ℕ → Part → Type 0) (then : Me S (List Part) → ℕ → Me S (List Part) → Type 0)
+      (table row : TableId) (me : Me S (List Part)) (v : Part)
+      → me ≡ (v ∷ [], []) → table ≡ row → i < row.words → OwnStep v id i g (told v)
+      → ((u : Part) (n : ℕ) (w : Part) → told u n w → then (u ∷ [], []) n (w ∷ [], []))
+      → (table ≡ row) × (i < row.words) × Allows {S = S} (IsKept f p) slots id me i g (then me)
+  asks_part f p slots id i g told then table row me v one same within own tell = (
+    same,
+    within,
+    subst (λ (m : Me S (List Part)). Allows {S = S} (IsKept f p) slots id m i g (then m)) (sym one) (allows f p slots id v i g (told v) (then (v ∷ [], [])) own (tell v)),
+  )
+
+  pub asks : (f : Cnf) (p : LayoutValue) (slots id i : ℕ) (g : ℕ → ℕ) (told : Part → ℕ → Part → Type 0) (then : Me S (List Part) → ℕ → Me S (List Part) → Type 0)
+      (table row : TableId) (me : Me S (List Part)) (seat : SeatValue) (top drafted room : ℕ)
+      → IsSeated table me top drafted room → seat_value table (first_part me.0) ≡ seat → seat.table ≡ row → i < row_words seat.view.caller.layout
+      → OwnStep (part_of seat) id i g (told (part_of seat))
+      → ((v : Part) (n : ℕ) (w : Part) → told v n w → then (v ∷ [], []) n (w ∷ [], []))
+      → (table ≡ row) × (i < row.words) × Allows {S = S} (IsKept f p) slots id me i g (then me)
+  asks f p slots id i g told then table row me seat top drafted room seated view same within own tell =
+      let here : first_part me.0 ≡ part_of seat = ap part_of view in
+      let tables : table ≡ row = ap (λ (s : SeatValue). s.table) view ∙ same in
+      let words : row.words ≡ row_words seat.view.caller.layout = words_of table row me top drafted room seated tables ∙ ap (λ (u : Part). row_words u.view.caller.layout) here in
+      asks_part f p slots id i g told then table row me (part_of seat) (seated.one ∙ ap (λ (u : Part). (u ∷ [], [])) here) tables (omega arith) own tell
+
+-- A seat after a step
+
+module _ {S : Type 0} where
+  -- a token of one part, with the numbers that fit it
+  pub seat_of : (table : TableId) (me : Me S (List Part)) (w : Part) (top drafted room : ℕ) → me.0 ≡ w ∷ [] → me.1 ≡ []
+      → IsSeated {S = S} table (w ∷ [], []) top drafted room → IsSeated table me top drafted room
+  seat_of table me w top drafted room one none seated =
+      let whole : (w ∷ [], []) ≡ me = sym (ap₂ (λ (vs : List Part) (slots : List (ℕ × S)). (vs, slots)) one none) in
+      subst (λ (m : Me S (List Part)). IsSeated table m top drafted room) whole seated
+
+  -- after a step in which the stream spent nothing and its draft stayed
+  pub seated_on : (table table' : TableId) (me me' : Me S (List Part)) (top drafted room : ℕ) (w : Part) (es : History) → IsSeated table me top drafted room → table' ≡ table
+      → me'.0 ≡ w ∷ [] → me'.1 ≡ [] → PassMoves (first_part me.0).view w.view es → IsFair w.view → spent (part_stream (first_part me.0)) es ≡ 0
+      → w.top ≡ (first_part me.0).top → w.draft ≡ (first_part me.0).draft → IsSeated table' me' top drafted room
+  seated_on table table' me me' top drafted room w es seated same one none moves fair nothing top_stays draft_stays =
+      let v : Part = first_part me.0 in
+      let s = part_stream v in
+      let p = v.view.caller.layout in
+      let stream : part_stream w ≡ s = ap (λ (r : Caller). r.stream) moves.caller in
+      let layout : w.view.caller.layout ≡ p = ap (λ (r : Caller). r.layout) moves.caller in
+      let room_is : p.room ≡ w.view.caller.layout.room = ap (λ (q : LayoutValue). q.room) (sym layout) in
+      let words : table'.words ≡ row_words w.view.caller.layout = ap (λ (t : TableId). t.words) same ∙ seated.words ∙ ap row_words (sym layout) in
+      let spends : spent (part_stream w) w.view.mine ≡ spent s v.view.mine + spent s es = ap₂ (λ (t : ℕ) (h : History). spent t h) stream moves.mine ∙ spent-append s v.view.mine es in
+      let first : first_place w.view.caller.layout (part_stream w) ≡ first_place p s = ap₂ (λ (q : LayoutValue) (t : ℕ). first_place q t) layout stream in
+      let len : length w.draft ≡ length v.draft = ap length draft_stays in
+      seat_of table' me' w top drafted room one none (record {
+        one = refl;
+        fair = fair;
+        words = words;
+        top_is = omega (arith, seated.top_is);
+        draft_is = omega (arith, seated.draft_is);
+        top_kept = omega (arith, seated.top_kept);
+        room_kept = omega (arith, seated.room_kept);
+        within = seated.within;
+      })
+
+  -- after a publish that found a word
+  pub seated_claim : (table table' : TableId) (me me' : Me S (List Part)) (top drafted room found id : ℕ) (one : Step S) → IsSeated table me top drafted room → table' ≡ table
+      → Changes Claims one me found me'
+      → (found ≡ 0 → IsSeated table' me' (top + drafted) 0 (room - drafted)) × (found ≢ 0 → IsSeated table' me' top 0 room)
+  seated_claim table table' me me' top drafted room found id one seated same told =
+      let v : Part = first_part me.0 in
+      let s = part_stream v in
+      let p = v.view.caller.layout in
+      let all = told v (ap (λ (m : Me S (List Part)). m.0) seated.one) in
+      let w : Part = all.0 in
+      let claim : Claims one.word v found w = all.3 in
+      let none : me'.1 ≡ [] = all.2 ∙ ap (λ (m : Me S (List Part)). m.1) seated.one in
+      let stream : part_stream w ≡ s = ap (λ (r : Caller). r.stream) claim.calls.moves.caller in
+      let layout : w.view.caller.layout ≡ p = ap (λ (r : Caller). r.layout) claim.calls.moves.caller in
+      let room_is : p.room ≡ w.view.caller.layout.room = ap (λ (q : LayoutValue). q.room) (sym layout) in
+      let words : table'.words ≡ row_words w.view.caller.layout = ap (λ (t : TableId). t.words) same ∙ seated.words ∙ ap row_words (sym layout) in
+      let nil : length w.draft ≡ 0 = ap length claim.draft in
+      let e : Published → Event = λ r. events.publish s one.word v.draft r in
+      let spends : spent (part_stream w) w.view.mine ≡ spent s v.view.mine + size_of (e (published_at found)) =
+      ap₂ (λ (t : ℕ) (h : History). spent t h) stream claim.calls.moves.mine ∙ spent-append s v.view.mine (e (published_at found) ∷ []) ∙ ap (λ (n : ℕ). spent s v.view.mine + n) (spent_one s (e (published_at found)) refl) in
+      let first : first_place w.view.caller.layout (part_stream w) ≡ first_place p s = ap₂ (λ (q : LayoutValue) (t : ℕ). first_place q t) layout stream in (
+        λ is.
+            let done : published_at found ≡ publishing.Done = cond-true (eqb found 0) publishing.Done publishing.Taken (eq-eqb found 0 is) in
+            let size : size_of (e (published_at found)) ≡ length v.draft = ap (λ (r : Published). size_of (e r)) done in
+            let grown : w.top ≡ v.top + length v.draft = claim.top ∙ cond-true (eqb found 0) (v.top + length v.draft) v.top (eq-eqb found 0 is) in
+            seat_of table' me' w (top + drafted) 0 (room - drafted) all.1 none (record {
+              one = refl;
+              fair = claim.calls.fair;
+              words = words;
+              top_is = omega (arith, seated.top_is);
+              draft_is = sym nil;
+              top_kept = omega (arith, seated.top_kept, seated.draft_is);
+              room_kept = omega (arith, seated.room_kept, seated.draft_is, seated.within);
+              within = omega arith;
+            }),
+        λ not.
+            let taken : published_at found ≡ publishing.Taken = cond-false (eqb found 0) publishing.Done publishing.Taken (ne_eqb found 0 not) in
+            let size : size_of (e (published_at found)) ≡ 0 = ap (λ (r : Published). size_of (e r)) taken in
+            let stays : w.top ≡ v.top = claim.top ∙ cond-false (eqb found 0) (v.top + length v.draft) v.top (ne_eqb found 0 not) in
+            seat_of table' me' w top 0 room all.1 none (record {
+              one = refl;
+              fair = claim.calls.fair;
+              words = words;
+              top_is = omega (arith, seated.top_is);
+              draft_is = sym nil;
+              top_kept = omega (arith, seated.top_kept);
+              room_kept = omega (arith, seated.room_kept);
+              within = omega arith;
+            }),
+      )

@@ -1,0 +1,7 @@
+pub mod Words
+pub mod Spelling
+pub mod Opening
+pub mod Rule
+pub mod Steps
+pub mod Seats
+pub mod Worked

@@ -1,0 +1,48 @@
+-- Where the clauses of a history lie in the row, and their literals (this project's own): the formula's one after the other, then those of each
+-- stream in its own room, in the order in which they were published.
+use Rattle.std.specs.Prelude.{◌≡◌, ◌≤◌, ◌+◌, ◌-◌, ◌*◌, ◌++◌, ℕ, List, [], ◌∷◌, length, Some}
+use Rattle.lrup_model.specs.Clause.{Clause}
+use Rattle.lrup_model.specs.Formula.{Cnf}
+use Rattle.lrup_model.specs.Layout.{LayoutValue, last_identity}
+use Rattle.lrup_model.specs.Event as events
+use Rattle.lrup_model.specs.Event.{Event, History, spent}
+use Rattle.lrup_model.specs.Place.{Kept}
+use Rattle.lrup_model.specs.Pass.{Spelling, kept_in}
+use Rattle.lrup_model.specs.declared.clause_map.Published.TheVariants as publishing
+
+-- the clause of this identity lies at this place
+abbrev pub spelling : ℕ → ℕ → Clause → Spelling
+spelling id start c = record { id = id; kept = record { start = start; literals = c } }
+
+-- clauses under the identities from this one on, and from this place on
+abbrev pub clauses_spelling : ℕ → ℕ → List Clause → List Spelling
+clauses_spelling id start [] = []
+clauses_spelling id start (c ∷ cs) = spelling id start c ∷ clauses_spelling (id + 1) (start + length c) cs
+
+-- the first place of a stream's literals
+abbrev pub first_place : LayoutValue → ℕ → ℕ
+first_place p s = 1 + last_identity p + p.literals + (s - 1) * p.room
+
+-- the first place of a stream that belongs to no published clause
+abbrev pub top_after : LayoutValue → ℕ → History → ℕ
+top_after p s h = first_place p s + spent s h
+
+-- the clause that the event publishes, if any, lies at its stream's top
+abbrev pub event_spelling : LayoutValue → History → Event → List Spelling
+event_spelling p before (events.fetch s id r) = []
+event_spelling p before (events.publish s id c publishing.Done) = spelling id (top_after p s before) c ∷ []
+event_spelling p before (events.publish s id c publishing.Taken) = []
+event_spelling p before (events.retire s id r) = []
+
+-- what the events after some others add
+abbrev pub added_spelling : LayoutValue → History → History → List Spelling
+added_spelling p before [] = []
+added_spelling p before (e ∷ es) = event_spelling p before e ++ added_spelling p (before ++ e ∷ []) es
+
+-- all clauses of the formula and of the history
+abbrev pub spelling_of : Cnf → LayoutValue → History → List Spelling
+spelling_of f p h = clauses_spelling 1 (1 + last_identity p) f.clauses ++ added_spelling p [] h
+
+-- every clause that is kept lies inside a row of so many words
+abbrev pub LieWithin : ℕ → List Spelling → Type 0
+LieWithin words xs = (id : ℕ) (kept : Kept) → kept_in xs id ≡ Some kept → kept.start + length kept.literals ≤ words

@@ -1,0 +1,110 @@
+-- What each step tells the part that makes it (this project's own).
+use Rattle.std.specs.Prelude.{◌≡◌, ◌≢◌, ◌↔◌, ◌+◌, ◌==◌, ◌++◌, ℕ, ℤ, List, [], ◌∷◌, Some, length, slice_get, if◌then◌else◌}
+use Rattle.atomic_table.specs.Table.{Step, Me}
+use Rattle.lrup_model.specs.Clause.{Clause}
+use Rattle.lrup_model.specs.Event as events
+use Rattle.lrup_model.specs.Event.{Event, History}
+use Rattle.lrup_model.specs.State.{state, absent, IsLive}
+use Rattle.lrup_model.specs.Layout.{row_words}
+use Rattle.lrup_model.specs.Place.{Kept}
+use Rattle.lrup_model.specs.Pass.{View, Spelling, IsFair, PassMoves, kept_in, Meets}
+use Rattle.lrup_model.specs.declared.clause_map.Published.{Published}
+use Rattle.lrup_model.specs.declared.clause_map.Published.TheVariants as publishing
+use Rattle.lrup_model.specs.declared.clause_map.Retired.TheVariants as retiring
+use Rattle.lrup_model.specs.Literal.{code_of}
+use Rattle.idwords.specs.Words.{state_of, word_of, ShowsKept, reply_in}
+use Rattle.idwords.specs.Spelling.{LieWithin}
+use Rattle.idwords.specs.Rule.{Part, part_stream}
+
+-- the history ends with the event
+abbrev pub EndsWith : History → Event → Type 0
+EndsWith h e = (before : History) × (h ≡ before ++ e ∷ [])
+
+-- a fair pass that moved by one call, which is the last that it has seen; its clauses lie inside the row
+pub record Calls (old new : View) (e : Event) : Type 0 where
+  pub moves : PassMoves old new (e ∷ [])
+  pub last : EndsWith new.seen e
+  pub fair : IsFair new
+  pub within : LieWithin (row_words new.caller.layout) new.spelt
+
+-- a fetch: the word found shows the clause that is kept, and spells the reply
+pub record Looks (id : ℕ) (v : Part) (word : ℕ) (w : Part) : Type 0 where
+  pub shows : ShowsKept (kept_in w.view.spelt id) word
+  pub calls : Calls v.view w.view (events.fetch (part_stream v) id (reply_in (kept_in w.view.spelt id) word))
+  pub top : w.top ≡ v.top
+  pub draft : w.draft ≡ v.draft
+
+-- where the place is one of a clause that is kept, the word is its literal's code
+abbrev pub IsText : List Spelling → ℕ → ℕ → Type 0
+IsText xs place word =
+    (id k : ℕ) (kept : Kept) (l : ℤ) → kept_in xs id ≡ Some kept → slice_get kept.literals k ≡ Some l → place ≡ kept.start + k → word ≡ code_of l
+
+-- a load without an event
+pub record Reads (place : ℕ) (v : Part) (word : ℕ) (w : Part) : Type 0 where
+  pub same : w ≡ v
+  pub text : IsText v.view.spelt place word
+
+-- a literal is added to the draft
+abbrev pub Writes : ℕ → Part → Part → Type 0
+Writes new v w = (l : ℤ) → new ≡ code_of l → w ≡ record v { draft = v.draft ++ l ∷ [] }
+
+-- the reply of a publish that found this word
+abbrev pub published_at : ℕ → Published
+published_at word = if word == 0 then publishing.Done else publishing.Taken
+
+-- the top after a publish of a draft
+abbrev pub top_after_reply : Published → ℕ → Clause → ℕ
+top_after_reply publishing.Done top draft = top + length draft
+top_after_reply publishing.Taken top draft = top
+
+-- a publish of the draft, which is empty then
+pub record Claims (id : ℕ) (v : Part) (word : ℕ) (w : Part) : Type 0 where
+  pub calls : Calls v.view w.view (events.publish (part_stream v) id v.draft (published_at word))
+  pub absent : (word ≡ 0) ↔ (state v.view.caller.formula v.view.mine id ≡ absent)
+  pub top : w.top ≡ (if word == 0 then v.top + length v.draft else v.top)
+  pub draft : w.draft ≡ []
+
+-- a retire that finds nothing live
+pub record FindsNone (id : ℕ) (v w : Part) : Type 0 where
+  pub calls : Calls v.view w.view (events.retire (part_stream v) id retiring.NotLive)
+  pub none : ¬ IsLive (state v.view.caller.formula v.view.mine id)
+  pub top : w.top ≡ v.top
+  pub draft : w.draft ≡ v.draft
+
+-- the look of a retire: a word that isn't live ends it, and at a live one nothing has happened yet
+pub record Finds (id : ℕ) (v : Part) (word : ℕ) (w : Part) : Type 0 where
+  pub own : word ≡ word_of (state v.view.caller.formula v.view.mine id) (kept_in v.view.spelt id)
+  pub live : state_of word ≡ 1 → w ≡ v
+  pub none : state_of word ≢ 1 → FindsNone id v w
+
+-- a retire of a live clause
+pub record Retires (id : ℕ) (v w : Part) : Type 0 where
+  pub calls : Calls v.view w.view (events.retire (part_stream v) id retiring.Done)
+  pub live : IsLive (state v.view.caller.formula v.view.mine id)
+  pub top : w.top ≡ v.top
+  pub draft : w.draft ≡ v.draft
+
+-- two parts have met
+pub record Met (v v' w w' : Part) : Type 0 where
+  pub meets : Meets v.view v'.view w.view w'.view
+  pub within : LieWithin (row_words w.view.caller.layout) w.view.spelt
+  pub within' : LieWithin (row_words w'.view.caller.layout) w'.view.spelt
+  pub top : w.top ≡ v.top
+  pub draft : w.draft ≡ v.draft
+  pub top' : w'.top ≡ v'.top
+  pub draft' : w'.draft ≡ v'.draft
+
+-- a seat of one part has one part afterwards
+module _ {S : Type 0} where
+  abbrev pub Changes : (ℕ → Part → ℕ → Part → Type 0) → Step S → Me S (List Part) → ℕ → Me S (List Part) → Type 0
+  Changes R step before word after =
+      (v : Part) → before.0 ≡ v ∷ [] → (w : Part) × (after.0 ≡ w ∷ []) × (after.1 ≡ before.1) × R step.word v word w
+
+  -- one that stores
+  abbrev pub Stores : Step S → Me S (List Part) → ℕ → Me S (List Part) → Type 0
+  Stores step before word after = (v : Part) → before.0 ≡ v ∷ [] → (w : Part) × (after.0 ≡ w ∷ []) × (after.1 ≡ before.1) × Writes step.first v w
+
+  -- a seat of two parts
+  abbrev pub Joined : Step S → Me S (List Part) → ℕ → Me S (List Part) → Type 0
+  Joined step before word after =
+      (v v' : Part) → before.0 ≡ v ∷ v' ∷ [] → (w w' : Part) × (after.0 ≡ w ∷ w' ∷ []) × (after.1 ≡ before.1) × Met v v' w w'

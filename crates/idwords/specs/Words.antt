@@ -1,0 +1,49 @@
+-- Words of the shared row: an identity's state, length and start, or a literal's code (this project's own).
+use Rattle.std.specs.Prelude.{◌≡◌, ◌+◌, ◌*◌, ◌/◌, ◌%◌, ◌<◌, ◌==◌, ℕ, List, [], ◌∷◌, Option, None, Some, length, slice_index, if◌then◌else◌}
+use Rattle.lrup_model.specs.Clause.{Clause}
+use Rattle.lrup_model.specs.Event.{Reply, vacant, live, retired}
+use Rattle.lrup_model.specs.State as states
+use Rattle.lrup_model.specs.State.{Slot}
+use Rattle.lrup_model.specs.Place.{Kept, literals_in}
+use Rattle.lrup_model.specs.Literal.{code_of}
+
+-- an identity's word: 0 is vacant, 1 live and 2 retired
+abbrev pub identity_word : ℕ → ℕ → ℕ → ℕ
+identity_word state len start = state + 4 * len + 4194304 * start
+
+abbrev pub state_of : ℕ → ℕ
+state_of word = word % 4
+
+abbrev pub length_of : ℕ → ℕ
+length_of word = word / 4 % 1048576
+
+abbrev pub start_of : ℕ → ℕ
+start_of word = word / 4194304
+
+-- the word of a clause that is kept
+abbrev pub kept_word : ℕ → Option Kept → ℕ
+kept_word state None = 0
+kept_word state (Some kept) = identity_word state (length kept.literals) kept.start
+
+-- the word of what the map has under an identity, whose clause is kept so
+abbrev pub word_of : Slot → Option Kept → ℕ
+word_of states.absent kept = 0
+word_of (states.live c) kept = kept_word 1 kept
+word_of (states.retired c) kept = kept_word 2 kept
+
+-- the literals lie in the row from this place on, in their order
+abbrev pub LiesAt : List ℕ → ℕ → Clause → Type 0
+LiesAt words place [] = Unit {0}
+LiesAt words place (l ∷ c) = (slice_index words place ≡ code_of l) × LiesAt words (place + 1) c
+
+-- the word shows the clause that is kept for the identity: its length and its start
+abbrev pub ShowsKept : Option Kept → ℕ → Type 0
+ShowsKept None word = state_of word ≡ 0
+ShowsKept (Some kept) word = (0 < state_of word) × (state_of word < 3) × (length_of word ≡ length kept.literals) × (start_of word ≡ kept.start)
+
+-- the reply that an identity's word spells, where its clause is kept so
+abbrev pub reply_in : Option Kept → ℕ → Reply
+reply_in kept word =
+    if state_of word == 0 then vacant
+    else if state_of word == 1 then live (literals_in kept)
+    else retired

@@ -1,0 +1,67 @@
+//! The words of the row at the opening.
+ghost use Rattle.std.specs.Prelude.{◌≡◌, ◌+◌, ◌^◌, ◌<◌, ◌++◌, IfOk, OnOk, map};
+ghost use Rattle.lrup_model.specs.Formula.{IsCnf, literals_of};
+ghost use Rattle.lrup_model.specs.Layout.{Fits};
+ghost use Rattle.lrup_model.specs.Literal.{code_of};
+ghost use Rattle.idwords.specs.Rule.{IsPlan};
+ghost use Rattle.idwords.specs.Opening.{clause_words, literal_words, opening_words};
+
+use crate::word::live_word;
+use lrup_model::{Formula, Layout, Lit};
+use std::alloc::{AllocError, Global};
+
+/// All words, in one pass over the formula. They take 8 bytes each.
+pub(crate) fn all_words(
+    alloc: Global,
+    formula: &Formula,
+    layout: &Layout,
+) -> Result<Vec<u64>, AllocError>
+    requires { Fits layout.now formula.now }
+    ensures words { IfOk result (λ words. words.items ≡ opening_words formula.now layout.now) }
+    ensures plan { IfOk result (λ _. IsPlan formula.now layout.now) }
+{
+    let mut words = Vec::with_capacity(alloc, layout.row_words() as usize)?;
+    words.push(0)?;
+    add_clauses(&mut words, formula, layout.last_identity() + 1)?;
+    words.resize(layout.last_identity() as usize + 1, 0)?;
+    add_literals(&mut words, formula)?;
+    words.resize(layout.row_words() as usize, 0)?;
+    Ok(words)
+}
+
+/// The words of the formula's identities; the literals of the first clause lie from this place on.
+fn add_clauses(words: &mut Vec<u64>, formula: &Formula, first: u64) -> Result<(), AllocError>
+    requires { first + literals_of formula.now < 2 ^ 41 }
+    ensures words { OnOk result
+        (words.new.items ≡ words.old.items ++ clause_words first formula.now.clauses) }
+    ensures formula { IsCnf formula.now }
+{
+    let mut start = first;
+    for i in 0..formula.len() {
+        let len = formula.clause(i + 1).len() as u64;
+        words.push(live_word(len, start))?;
+        start += len;
+    }
+    Ok(())
+}
+
+/// The words of the formula's literals.
+fn add_literals(words: &mut Vec<u64>, formula: &Formula) -> Result<(), AllocError>
+    ensures { OnOk result
+        (words.new.items ≡ words.old.items ++ literal_words formula.now.clauses) }
+{
+    for i in 0..formula.len() {
+        add_clause(words, formula.clause(i + 1))?;
+    }
+    Ok(())
+}
+
+/// The words of one clause's literals.
+fn add_clause(words: &mut Vec<u64>, clause: &[Lit]) -> Result<(), AllocError>
+    ensures { OnOk result (words.new.items ≡ words.old.items ++ map code_of clause.now) }
+{
+    for lit in clause {
+        words.push(lit.code() as u64)?;
+    }
+    Ok(())
+}

@@ -1,0 +1,217 @@
+//! The row and the steps on it.
+ghost use Rattle.std.specs.Prelude.{◌≡◌, ◌↔◌, ◌+◌, ◌-◌, ◌<◌, ◌++◌, ℕ, [], ◌∷◌, Some, IfOk, length, slice_get, vec_len};
+ghost use Rattle.lrup_model.specs.Event as events;
+ghost use Rattle.lrup_model.specs.History.{IsPublishable};
+ghost use Rattle.lrup_model.specs.Layout.{Fits, IsIdentity, IsStream, Owns, row_words};
+ghost use Rattle.lrup_model.specs.Pass.{kept_in, pass_place, IsFair, Meets};
+ghost use Rattle.lrup_model.specs.State.{state, absent, IsLive};
+ghost use Rattle.idwords.specs.Words.{ShowsKept, reply_in};
+ghost use Rattle.idwords.specs.Rule.{IsPlan, opening_parts};
+ghost use Rattle.idwords.specs.Seats.{opening_seat};
+ghost use Rattle.idwords.specs.Spelling.{LieWithin, spelling_of};
+ghost use Rattle.idwords.specs.Steps.{Calls, IsText, top_after_reply};
+
+use crate::opening::all_words;
+use crate::rule::{
+    Claim, Deal, Find, Hand, Look, Meet, Part, Plan, Read, Retire, Token, Unite, Words, Write,
+};
+use crate::seat::Seat;
+use crate::word::{LIVE, live_word, state};
+use lrup_model::{Formula, Layout, Lit, Published, Retired};
+use std::alloc::{AllocError, Global};
+use std::marker::Model;
+use std::snapshot::Snapshot;
+
+/// A seat for each stream, from the one that has all parts.
+fn deal(
+    alloc: Global,
+    table: &Words,
+    mut token: Token,
+    layout: &Layout,
+) -> Result<Vec<Seat>, AllocError>
+    requires plan { IsPlan table.now.shared.key.formula.value layout.now }
+    requires layout { table.now.shared.key.layout ≡ layout.now }
+    requires words { table.now.shared.table_id.words ≡ row_words layout.now }
+    requires table { token.table_id ≡ table.now.shared.table_id }
+    requires parts { let formula = table.now.shared.key.formula.value in
+        token.me ≡ (opening_parts formula layout.now 1 layout.now.streams, []) }
+    ensures count { IfOk result (λ seats. vec_len seats ≡ layout.now.streams) }
+    ensures seats { let formula = table.now.shared.key.formula.value in
+        IfOk result (λ seats. (k : ℕ) → k < layout.now.streams
+        → slice_get seats.items k ≡ Some (opening_seat table.now.shared.table_id formula layout.now (k + 1))) }
+{
+    let mut seats = Vec::with_capacity(alloc, layout.streams() as usize)?;
+    let mut top = layout.row_words() - layout.all_room();
+    for _s in 0..layout.streams() {
+        let part = table.shared.split_seat::<Deal>(&mut token);
+        seats.push_reserved(Seat {
+            token: part,
+            top,
+            drafted: 0,
+            room: layout.room(),
+        });
+        top += layout.room();
+    }
+    Ok(seats)
+}
+
+/// The row of words, which all streams share: word 0, which is always 0, a word for each identity, and one for each
+/// literal of the formula and of the streams' room. Contracts see it as its name.
+#[derive(Drop)]
+pub struct Row {
+    table: Words,
+}
+
+impl Model for Row {
+    ghost use Rattle.atomic_table.specs.Seated.{TableId, table_id_coded};
+
+    ghost Value = { TableId };
+
+    ghost coded = { table_id_coded };
+
+    ghost view = { λ r. r.table.shared.table_id };
+}
+
+impl Row {
+    /// The row of a formula and a layout that fits it, and a seat for each stream, in their order. It takes 8 bytes a word of
+    /// the row, and as much again until it returns. A refusal leaves nothing behind.
+    pub fn open(
+        alloc: Global,
+        formula: &Formula,
+        layout: &Layout,
+    ) -> Result<(Row, Vec<Seat>), AllocError>
+        requires { Fits layout.now formula.now }
+        ensures count { IfOk result (λ opened. vec_len opened.1 ≡ layout.now.streams) }
+        ensures seats { IfOk result (λ opened. (s : ℕ) → IsStream layout.now s
+            → slice_get opened.1.items (s - 1) ≡ Some (opening_seat opened.0 formula.now layout.now s)) }
+        ensures fair { IfOk result (λ opened. (s : ℕ) → IsStream layout.now s
+            → IsFair (opening_seat opened.0 formula.now layout.now s).view) }
+        ensures within { IfOk result (λ _.
+            LieWithin (row_words layout.now) (spelling_of formula.now layout.now [])) }
+    {
+        let words = all_words(alloc, formula, layout)?;
+        let plan = Plan {
+            formula: Snapshot::of(formula),
+            layout: *layout,
+        };
+        let (table, token) = Words::of_words(alloc, words.as_slice(), &plan)?;
+        drop(words);
+        let seats = deal(alloc, &table, token, layout)?;
+        Ok((Row { table }, seats))
+    }
+
+    /// Fetches: one load of the identity's word, which spells the reply.
+    #[inline]
+    pub fn look(&self, seat: &mut Seat, id: u64) -> u64
+        requires row { seat.old.table ≡ self.now }
+        requires identity { IsIdentity seat.old.view.caller.layout id }
+        ensures row { seat.new.table ≡ seat.old.table }
+        ensures shows { ShowsKept (kept_in seat.new.view.spelt id) result }
+        ensures calls { let reply = reply_in (kept_in seat.new.view.spelt id) result in
+            Calls seat.old.view seat.new.view (events.fetch seat.old.view.caller.stream id reply) }
+        ensures top { seat.new.top ≡ seat.old.top }
+        ensures draft { seat.new.draft ≡ seat.old.draft }
+    {
+        let shared = &self.table.shared;
+        shared.load::<Look>(&mut seat.token, id as usize)
+    }
+
+    /// The word at a place, by one load, which is no event. At a place of a clause that the pass has seen it is the code of
+    /// that literal, for good, also after the clause was retired.
+    #[inline]
+    pub fn word(&self, seat: &mut Seat, place: u64) -> u64
+        requires row { seat.old.table ≡ self.now }
+        requires within { place < row_words seat.old.view.caller.layout }
+        ensures same { seat.new ≡ seat.old }
+        ensures text { IsText seat.old.view.spelt place result }
+    {
+        let shared = &self.table.shared;
+        shared.load::<Read>(&mut seat.token, place as usize)
+    }
+
+    /// Adds a literal to the draft, by one store above the top, where no other caller looks.
+    #[inline]
+    pub fn write(&self, seat: &mut Seat, lit: Lit)
+        requires row { seat.old.table ≡ self.now }
+        requires room { length seat.old.draft < (pass_place seat.old.view).room }
+        ensures { seat.new ≡ record seat.old { draft = seat.old.draft ++ lit ∷ [] } }
+    {
+        let place = (seat.top + seat.drafted) as usize;
+        let word = lit.code() as u64;
+        let shared = &self.table.shared;
+        shared.store::<Write>(&mut seat.token, place, word);
+        seat.drafted += 1;
+    }
+
+    /// Publishes the draft under an identity of the stream's own, by one exchange. The draft is empty then, whatever the
+    /// reply.
+    pub fn claim(&self, seat: &mut Seat, id: u64) -> Published
+        requires row { seat.old.table ≡ self.now }
+        requires owns { Owns seat.old.view.caller.layout seat.old.view.caller.stream id }
+        requires clause { IsPublishable seat.old.view.caller.formula seat.old.draft }
+        ensures row { seat.new.table ≡ seat.old.table }
+        ensures calls { let stream = seat.old.view.caller.stream in
+            Calls seat.old.view seat.new.view (events.publish stream id seat.old.draft result) }
+        ensures done { (result ≡ Published.Done)
+            ↔ (state seat.old.view.caller.formula seat.old.view.mine id ≡ absent) }
+        ensures top { seat.new.top ≡ top_after_reply result seat.old.top seat.old.draft }
+        ensures draft { seat.new.draft ≡ [] }
+    {
+        let len = seat.drafted;
+        let word = live_word(len, seat.top);
+        let shared = &self.table.shared;
+        let found = shared.compare_exchange::<Claim>(&mut seat.token, id as usize, 0, word);
+        seat.drafted = 0;
+        if found == 0 {
+            seat.top += len;
+            seat.room -= len;
+            Published::Done
+        } else {
+            Published::Taken
+        }
+    }
+
+    /// Retires the clause under an identity of the stream's own: one load, and one exchange where the clause is live, which
+    /// always wins.
+    pub fn withdraw(&self, seat: &mut Seat, id: u64) -> Retired
+        requires row { seat.old.table ≡ self.now }
+        requires owns { Owns seat.old.view.caller.layout seat.old.view.caller.stream id }
+        ensures row { seat.new.table ≡ seat.old.table }
+        ensures calls { let stream = seat.old.view.caller.stream in
+            Calls seat.old.view seat.new.view (events.retire stream id result) }
+        ensures done { (result ≡ Retired.Done)
+            ↔ IsLive (state seat.old.view.caller.formula seat.old.view.mine id) }
+        ensures top { seat.new.top ≡ seat.old.top }
+        ensures draft { seat.new.draft ≡ seat.old.draft }
+    {
+        let shared = &self.table.shared;
+        let found = shared.load::<Find>(&mut seat.token, id as usize);
+        if state(found) != LIVE {
+            return Retired::NotLive;
+        }
+        shared.compare_exchange::<Retire>(&mut seat.token, id as usize, found, found + 1);
+        Retired::Done
+    }
+
+    /// Both seats have then seen one history, which begins with what each had seen; where one had seen all that the other
+    /// had, it is that one's. Neither makes a call.
+    pub fn meet(&self, first: &mut Seat, second: &mut Seat)
+        requires first { first.old.table ≡ self.now }
+        requires second { second.old.table ≡ self.now }
+        ensures first { first.new.table ≡ first.old.table }
+        ensures second { second.new.table ≡ second.old.table }
+        ensures meets { Meets first.old.view second.old.view first.new.view second.new.view }
+        ensures within { let words = row_words first.new.view.caller.layout in
+            LieWithin words first.new.view.spelt }
+        ensures within_too { let words = row_words second.new.view.caller.layout in
+            LieWithin words second.new.view.spelt }
+        ensures tops { (first.new.top ≡ first.old.top) × (second.new.top ≡ second.old.top) }
+        ensures drafts { (first.new.draft ≡ first.old.draft) × (second.new.draft ≡ second.old.draft) }
+    {
+        let shared = &self.table.shared;
+        let token = shared.split_seat::<Hand>(&mut second.token);
+        shared.join_seat::<Unite>(&mut first.token, token);
+        shared.load::<Meet>(&mut first.token, 0);
+        second.token = shared.split_seat::<Part>(&mut first.token);
+    }
+}

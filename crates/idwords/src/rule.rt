@@ -1,0 +1,151 @@
+//! The rule of the row, and what each step tells.
+use atomic_table::{Join, Play, Split, Table, TableRule};
+use lrup_model::{Formula, Layout};
+use std::alloc::Global;
+use std::marker::{Model, PhantomData};
+use std::snapshot::Snapshot;
+
+/// What a seat at the table knows: a list of parts. No value of it is made.
+pub struct Knowledge {
+    none: PhantomData<u8>,
+}
+
+impl Model for Knowledge {
+    ghost use Rattle.std.specs.Prelude.{List, []};
+    ghost use Rattle.idwords.specs.Rule.{Part};
+
+    ghost Value = { List Part };
+
+    ghost view = { λ _. [] };
+}
+
+/// What the rule is about. The formula takes no bytes here.
+#[derive(Drop)]
+pub struct Plan {
+    pub formula: Snapshot<Formula>,
+    pub layout: Layout,
+}
+
+/// The rule: there is one legal history that the words spell, and each seat's parts stand in it.
+pub struct Kept;
+
+impl TableRule<u8, Knowledge, Plan> for Kept {
+    ghost use Rattle.idwords.specs.Rule.{IsKept, opening_parts};
+
+    ghost holds = { λ plan. IsKept plan.formula.value plan.layout };
+
+    ghost first = { λ plan. opening_parts plan.formula.value plan.layout 1 plan.layout.streams };
+}
+
+/// The table. It has no slots.
+pub type Words = Table<u8, Knowledge, Plan, Kept, Global>;
+
+/// A seat at the table.
+pub type Token = atomic_table::Seat<u8, Knowledge>;
+
+/// A fetch.
+pub struct Look;
+
+impl Play<u8, Knowledge> for Look {
+    ghost use Rattle.idwords.specs.Steps.{Changes, Looks};
+
+    ghost then = { Changes Looks };
+}
+
+/// A load of a literal's word.
+pub struct Read;
+
+impl Play<u8, Knowledge> for Read {
+    ghost use Rattle.idwords.specs.Steps.{Changes, Reads};
+
+    ghost then = { Changes Reads };
+}
+
+/// A store of a literal's word.
+pub struct Write;
+
+impl Play<u8, Knowledge> for Write {
+    ghost use Rattle.idwords.specs.Steps.{Stores};
+
+    ghost then = { Stores };
+}
+
+/// A publish.
+pub struct Claim;
+
+impl Play<u8, Knowledge> for Claim {
+    ghost use Rattle.idwords.specs.Steps.{Changes, Claims};
+
+    ghost then = { Changes Claims };
+}
+
+/// The load of a retire.
+pub struct Find;
+
+impl Play<u8, Knowledge> for Find {
+    ghost use Rattle.idwords.specs.Steps.{Changes, Finds};
+
+    ghost then = { Changes Finds };
+}
+
+/// The exchange of a retire.
+pub struct Retire;
+
+impl Play<u8, Knowledge> for Retire {
+    ghost use Rattle.idwords.specs.Steps.{Changes, Retires};
+
+    ghost then = { Changes (λ id v _ w. Retires id v w) };
+}
+
+/// A load by a seat that has the parts of two.
+pub struct Meet;
+
+impl Play<u8, Knowledge> for Meet {
+    ghost use Rattle.idwords.specs.Steps.{Joined};
+
+    ghost then = { Joined };
+}
+
+/// The first part goes to a new seat.
+pub struct Deal;
+
+impl Split<Knowledge> for Deal {
+    ghost use Rattle.idwords.specs.Seats.{first_only, others};
+
+    ghost left = { others };
+
+    ghost right = { first_only };
+}
+
+/// All parts go to a new seat.
+pub struct Hand;
+
+impl Split<Knowledge> for Hand {
+    ghost use Rattle.std.specs.Prelude.{[]};
+
+    ghost left = { λ _. [] };
+
+    ghost right = { λ vs. vs };
+}
+
+/// All parts but the first go to a new seat.
+pub struct Part;
+
+impl Split<Knowledge> for Part {
+    ghost use Rattle.idwords.specs.Seats.{first_only, others};
+
+    ghost left = { first_only };
+
+    ghost right = { others };
+}
+
+/// A seat takes in the parts of another.
+pub struct Unite;
+
+impl Join<Knowledge> for Unite {
+    ghost use Rattle.std.specs.Prelude.{◌++◌, []};
+
+    ghost both = { λ vs ws. vs ++ ws };
+
+    ghost spent = { [] };
+}

@@ -1,0 +1,35 @@
+//! A stream's place at the row.
+ghost use Rattle.std.specs.Prelude.{◌≡◌};
+ghost use Rattle.lrup_model.specs.Pass.{pass_place};
+
+use crate::rule::Token;
+use std::marker::Model;
+
+/// A stream's place at the row. It can't be copied.
+#[derive(Drop)]
+pub struct Seat {
+    pub(crate) token: Token,
+    pub(crate) top: u64,
+    pub(crate) drafted: u64,
+    pub(crate) room: u64,
+}
+
+impl Model for Seat {
+    ghost use Rattle.idwords.specs.Seats.{SeatValue, seat_value, first_part, IsSeated};
+
+    ghost Value = { SeatValue };
+
+    ghost view = { λ s. seat_value s.token.table_id (first_part s.token.me.0) };
+
+    ghost invariant = { λ s. IsSeated s.token.table_id s.token.me s.top s.drafted s.room };
+}
+
+impl Seat {
+    /// What is left of the stream's room, in literals.
+    #[inline]
+    pub fn room(&self) -> u64
+        ensures { result ≡ (pass_place self.now.view).room }
+    {
+        self.room
+    }
+}
