@@ -7,3 +7,4 @@ pub mod DroppedLemmas
 pub mod LineLemmas
 pub mod TakeLemmas
 pub mod FeedLemmas
+pub mod ReadyLemmas

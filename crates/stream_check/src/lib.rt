@@ -15,6 +15,8 @@ mod line;
 mod progress;
 mod report;
 mod setting;
+#[cfg(test)]
+mod tests;
 
 pub use checker::Checker;
 pub use fault::Fault;
