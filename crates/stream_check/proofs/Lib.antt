@@ -19,3 +19,4 @@ pub mod CountLemmas
 pub mod DeletedLemmas
 pub mod WithinLemmas
 pub mod WorkedLemmas
+pub mod ReadyLemmas

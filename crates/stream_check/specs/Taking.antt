@@ -1,5 +1,5 @@
 -- What a checker's line leaves of it (this project's own).
-use Rattle.std.specs.Prelude.{◌≡◌, ◌≤◌, ◌+◌, ◌++◌, ℕ, List, [], ◌∷◌, length, take, Option, Some, None, Ok}
+use Rattle.std.specs.Prelude.{◌≡◌, ◌≤◌, ◌<◌, ◌+◌, ◌++◌, ℕ, List, [], ◌∷◌, length, take, Option, Some, None, Ok}
 use Rattle.lrup_model.specs.Event.{History}
 use Rattle.lrup_model.specs.Place.{Place, IsVacantAbove}
 use Rattle.lrup_text.specs.Feeding.{ReaderState}
@@ -66,6 +66,6 @@ Takes old read free piece es (taken.Stopped used stop) new left =
 
 -- the reader after it, and how many bytes were used at most
 abbrev pub ReadsOn : List ℕ → List ℕ → Taken → ReaderState → Type 0
-ReadsOn read piece (taken.Line used) reader = (reader ≡ Ok []) × (used ≤ length piece)
+ReadsOn read piece (taken.Line used) reader = (reader ≡ Ok []) × (used ≤ length piece) × (0 < used)
 ReadsOn read piece taken.More reader = reader ≡ Ok (read ++ piece)
 ReadsOn read piece (taken.Stopped used stop) reader = used ≤ length piece

@@ -1,5 +1,5 @@
 //! The checker of one stream.
-ghost use Rattle.std.specs.Prelude.{◌≡◌, ◌↔◌, ◌≤◌, IsTrue, IsSome, IfSome, IfOk, take, length};
+ghost use Rattle.std.specs.Prelude.{◌≡◌, ◌↔◌, ◌≤◌, ◌<◌, IsTrue, IsSome, IfSome, IfOk, take, length};
 ghost use Rattle.lrup_model.specs.Event.{History};
 ghost use Rattle.lrup_model.specs.Layout.{IsStream};
 ghost use Rattle.stream_check.specs.Judging.{ended, failed};
@@ -76,6 +76,7 @@ impl Checker {
             × LeavesOn self.old.setting (state_of self.old (M.place map.old).room) (take result.used piece.now) es (state_of self.new (M.place map.new).room) }
         ensures turn { Turns result.turn self.old self.new piece.now (take result.used piece.now) }
         ensures used { result.used ≤ length piece.now }
+        ensures moves_on { result.turn ≡ Turn.Line → 0 < result.used }
         ensures over { StaysOver self.old self.new (take result.used piece.now) }
         ensures ready { IsReadyAt self.new (M.place map.new) }
         ensures setting { self.new.setting ≡ self.old.setting }

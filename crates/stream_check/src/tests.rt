@@ -1,0 +1,334 @@
+//! The worked rows at a plain map, each whole, byte by byte and in pieces of two, with the calls of the gate.
+ghost use Rattle.std.specs.Prelude.{◌≡◌, ◌≤◌, ◌<◌, ◌^◌, ℤ, IfOk, OnOk};
+ghost use Rattle.lrup_model.specs.Literal.{max_variable};
+ghost use Rattle.stream_check.specs.Checker.{IsReadyAt};
+
+use crate::{Checker, Ending, Fault, Gate, Report, Turn};
+use lrup_model::{ClauseMap, Formula, Id, Layout, Lit, PlainMap};
+use lrup_text::LineFault;
+use std::alloc::Global;
+use std::test::Fail;
+
+/// What a gate was told.
+#[derive(Clone, Copy, Debug, PartialEq, Eq)]
+struct Told {
+    fetches: u64,
+    most_attempts: u64,
+    publishes: u64,
+}
+
+impl Gate for Told {
+    fn before_fetch(&mut self, _stream: u64, _id: Id, attempt: u64) {
+        self.fetches = self.fetches.saturating_add(1);
+        self.most_attempts = self.most_attempts.max(attempt);
+    }
+
+    fn after_publish(&mut self, _stream: u64, _id: Id) {
+        self.publishes = self.publishes.saturating_add(1);
+    }
+}
+
+fn told_of(fetches: u64, most_attempts: u64, publishes: u64) -> Told {
+    Told {
+        fetches,
+        most_attempts,
+        publishes,
+    }
+}
+
+/// The options of a options.
+#[derive(Clone, Copy)]
+struct Options {
+    streams: u64,
+    stream: u64,
+    lines: u64,
+    room: u64,
+    tries: u64,
+}
+
+const DEFAULTS: Options = Options {
+    streams: 1,
+    stream: 1,
+    lines: 65_536,
+    room: 1_048_576,
+    tries: 3,
+};
+
+fn lit(value: i64) -> Result<Lit, Fail>
+    ensures { IfOk result (λ l. l ≡ value) }
+{
+    let lit = Lit::new(value).ok_or("no literal")?;
+    Ok(lit)
+}
+
+fn push_pair(formula: &mut Formula, one: Lit, other: Lit) -> Result<(), Fail>
+    ensures { OnOk result (formula.new.vars ≡ formula.old.vars) }
+{
+    let vars = formula.vars();
+    if one == other || one.var() > vars || other.var() > vars || formula.len() > 9 {
+        return Err("no pair".into());
+    }
+    formula.push(&[one, other])?;
+    Ok(())
+}
+
+/// 1 2 0 / -1 2 0 / 1 -2 0 / -1 -2 0
+fn four(alloc: Global) -> Result<Formula, Fail> {
+    let mut formula = Formula::new(alloc, 2);
+    push_pair(&mut formula, lit(1)?, lit(2)?)?;
+    push_pair(&mut formula, lit(-1)?, lit(2)?)?;
+    push_pair(&mut formula, lit(1)?, lit(-2)?)?;
+    push_pair(&mut formula, lit(-1)?, lit(-2)?)?;
+    Ok(formula)
+}
+
+/// Feeds a piece to its end, or until the checker is over.
+fn feed_whole<M: ClauseMap>(
+    checker: &mut Checker,
+    map: &mut M,
+    gate: &mut Told,
+    piece: &[u8],
+)
+    requires { IsReadyAt checker.old (M.place map.old) }
+    ensures { IsReadyAt checker.new (M.place map.new) }
+{
+    let mut rest = piece;
+    'rest: loop {
+        let progress = checker.feed(map, gate, rest);
+        match progress.turn {
+            Turn::Line => rest = &rest[progress.used..],
+            Turn::More | Turn::Over => return,
+        }
+    }
+}
+
+/// Feeds a stream in pieces of one length, and ends it.
+fn feed_cut<M: ClauseMap>(
+    checker: &mut Checker,
+    map: &mut M,
+    gate: &mut Told,
+    bytes: &[u8],
+    cut: usize,
+)
+    requires ready { IsReadyAt checker.old (M.place map.old) }
+    requires cut { 0 < cut }
+{
+    for piece in bytes.chunks(cut) {
+        feed_whole(checker, map, gate, piece);
+    }
+    checker.end();
+}
+
+/// What is said of a stream in pieces of one length, and what its gate was told.
+fn judged(alloc: Global, options: Options, bytes: &[u8], cut: usize) -> Result<(Report, Told), Fail>
+    requires { 0 < cut }
+{
+    let formula = four(alloc)?;
+    let layout = Layout::new(2, 4, 8, options.streams, options.lines, options.room)?;
+    if !layout.fits(&formula) || options.stream == 0 || options.stream > layout.streams() {
+        return Err("no such stream".into());
+    }
+    if options.tries > 1_000_000 {
+        return Err("too many tries".into());
+    }
+    let mut map = PlainMap::open(alloc, &formula, &layout)?;
+    let mut desk = map.desk(options.stream);
+    let mut gate = told_of(0, 0, 0);
+    let mut checker = Checker::new(alloc, options.stream, &layout, options.tries)?;
+    feed_cut(&mut checker, &mut desk, &mut gate, bytes, cut);
+    if !checker.is_over() {
+        return Err("not over".into());
+    }
+    Ok((checker.report(), gate))
+}
+
+fn said_of(added: u64, deleted: u64, empty: bool, ending: Ending) -> Report {
+    Report {
+        added,
+        deleted,
+        empty,
+        ending,
+    }
+}
+
+/// The report of a stream, which is the same whole, byte by byte and in pieces of two, and so are the gate's calls.
+fn one_report(alloc: Global, options: Options, bytes: &[u8]) -> Result<(Report, Told), Fail> {
+    let whole = judged(alloc, options, bytes, 65_536)?;
+    let singly = judged(alloc, options, bytes, 1)?;
+    let by_two = judged(alloc, options, bytes, 2)?;
+    if whole != singly || whole != by_two {
+        return Err("the pieces make a difference".into());
+    }
+    Ok(whole)
+}
+
+/// The report of a stream whose first line is bad.
+fn first_bad(fault: Fault) -> Report {
+    said_of(0, 0, false, Ending::Bad(1, fault))
+}
+
+/// The second of two streams isn't read before the first.
+const FIRST_OF_TWO: Options = Options {
+    streams: 2,
+    stream: 1,
+    lines: 65_536,
+    room: 1_048_576,
+    tries: 0,
+};
+
+#[test]
+fn good_lines_are_counted(rt: HostRuntime) -> Result<(), Fail> {
+    let alloc = rt.alloc();
+    let (said, told) = one_report(alloc, DEFAULTS, b"5 2 0 1 2 0\n6 0 5 3 4 0\n")?;
+    assert_eq!(rt; said, said_of(2, 0, true, Ending::Ended));
+    assert_eq!(rt; told, told_of(5, 1, 2));
+    let (said, _) = one_report(alloc, DEFAULTS, b"")?;
+    assert_eq!(rt; said, said_of(0, 0, false, Ending::Ended));
+    let options = Options {
+        room: 1,
+        ..DEFAULTS
+    };
+    let (said, _) = one_report(alloc, options, b"5 2 2 0 1 2 0\n")?;
+    assert_eq!(rt; said, said_of(1, 0, false, Ending::Ended));
+    Ok(())
+}
+
+#[test]
+fn an_empty_clause_stays_counted(rt: HostRuntime) -> Result<(), Fail> {
+    let lines = b"5 2 0 1 2 0\n6 0 5 3 4 0\n7 2 0 1 0\n";
+    let (said, _) = one_report(rt.alloc(), DEFAULTS, lines)?;
+    assert_eq!(rt; said, said_of(2, 0, true, Ending::Bad(3, Fault::NoConflict)));
+    Ok(())
+}
+
+#[test]
+fn hints_are_judged_one_after_the_other(rt: HostRuntime) -> Result<(), Fail> {
+    let alloc = rt.alloc();
+    let (said, told) = one_report(alloc, DEFAULTS, b"5 2 0 2 3 0\n")?;
+    assert_eq!(rt; said, first_bad(Fault::NotUnit(3)));
+    assert_eq!(rt; told, told_of(2, 1, 0));
+    let (said, told) = one_report(alloc, DEFAULTS, b"5 2 0 1 2 3 0\n")?;
+    assert_eq!(rt; said, first_bad(Fault::Excess(3)));
+    assert_eq!(rt; told, told_of(2, 1, 0));
+    let (said, _) = one_report(alloc, DEFAULTS, b"5 2 0 1 0\n")?;
+    assert_eq!(rt; said, first_bad(Fault::NoConflict));
+    let (said, told) = one_report(alloc, DEFAULTS, b"5 2 0 0\n")?;
+    assert_eq!(rt; said, first_bad(Fault::NoConflict));
+    assert_eq!(rt; told, told_of(0, 0, 0));
+    let (said, told) = one_report(alloc, DEFAULTS, b"5 2 0 5 0\n")?;
+    assert_eq!(rt; said, first_bad(Fault::Missing(5)));
+    assert_eq!(rt; told, told_of(1, 1, 0));
+    Ok(())
+}
+
+#[test]
+fn the_first_test_that_fails_decides(rt: HostRuntime) -> Result<(), Fail> {
+    let alloc = rt.alloc();
+    let (said, _) = one_report(alloc, DEFAULTS, b"5 d 3 0\n5 2 0 1 2 3 0\n")?;
+    assert_eq!(rt; said, said_of(0, 1, false, Ending::Bad(2, Fault::Excess(3))));
+    let (said, _) = one_report(alloc, DEFAULTS, b"5 2 0 1 2 5 0\n")?;
+    assert_eq!(rt; said, first_bad(Fault::Excess(5)));
+    let (said, told) = one_report(alloc, FIRST_OF_TWO, b"5 d 6 0\n5 2 0 6 0\n")?;
+    assert_eq!(rt; said, said_of(0, 1, false, Ending::Bad(2, Fault::Dropped(6))));
+    assert_eq!(rt; told, told_of(0, 0, 0));
+    let (said, _) = one_report(alloc, DEFAULTS, b"9999999 3 -3 0 1 0\n")?;
+    assert_eq!(rt; said, first_bad(Fault::Identity));
+    Ok(())
+}
+
+#[test]
+fn a_vacant_hint_is_fetched_again(rt: HostRuntime) -> Result<(), Fail> {
+    let alloc = rt.alloc();
+    let line = b"5 0 6 0\n";
+    let (said, told) = one_report(alloc, FIRST_OF_TWO, line)?;
+    assert_eq!(rt; said, first_bad(Fault::Missing(6)));
+    assert_eq!(rt; told, told_of(1, 1, 0));
+    let options = Options {
+        tries: 1,
+        ..FIRST_OF_TWO
+    };
+    let (said, told) = one_report(alloc, options, line)?;
+    assert_eq!(rt; said, first_bad(Fault::Missing(6)));
+    assert_eq!(rt; told, told_of(2, 2, 0));
+    let options = Options {
+        tries: 3,
+        ..FIRST_OF_TWO
+    };
+    let (said, told) = one_report(alloc, options, line)?;
+    assert_eq!(rt; said, first_bad(Fault::Missing(6)));
+    assert_eq!(rt; told, told_of(4, 4, 0));
+    let (said, told) = one_report(alloc, options, b"5 0 9999999 0\n")?;
+    assert_eq!(rt; said, first_bad(Fault::Missing(9_999_999)));
+    assert_eq!(rt; told, told_of(0, 0, 0));
+    Ok(())
+}
+
+#[test]
+fn identities_are_deleted_from_the_left(rt: HostRuntime) -> Result<(), Fail> {
+    let alloc = rt.alloc();
+    let lines = b"5 2 0 1 2 0\n5 d 5 0\n6 0 5 3 4 0\n";
+    let (said, told) = one_report(alloc, DEFAULTS, lines)?;
+    assert_eq!(rt; said, said_of(1, 1, false, Ending::Bad(3, Fault::Retired(5))));
+    assert_eq!(rt; told, told_of(3, 1, 1));
+    let (said, _) = one_report(alloc, DEFAULTS, b"5 2 0 1 2 0\n5 d 5 5 0\n")?;
+    assert_eq!(rt; said, said_of(1, 1, false, Ending::Bad(2, Fault::NotLive(5))));
+    let (said, _) = one_report(alloc, DEFAULTS, b"5 d 1 1 0\n")?;
+    assert_eq!(rt; said, said_of(0, 1, false, Ending::Bad(1, Fault::NotLive(1))));
+    let (said, _) = one_report(alloc, DEFAULTS, b"5 d 1 0\n5 2 0 1 2 0\n")?;
+    assert_eq!(rt; said, said_of(0, 1, false, Ending::Bad(2, Fault::Dropped(1))));
+    Ok(())
+}
+
+#[test]
+fn the_room_and_the_identities_end(rt: HostRuntime) -> Result<(), Fail> {
+    let alloc = rt.alloc();
+    let options = Options {
+        room: 0,
+        ..DEFAULTS
+    };
+    let (said, _) = one_report(alloc, options, b"5 0 1 0\n")?;
+    assert_eq!(rt; said, first_bad(Fault::NotUnit(1)));
+    let (said, _) = one_report(alloc, options, b"5 2 0 1 2 0\n")?;
+    assert_eq!(rt; said, first_bad(Fault::NoRoom));
+    let options = Options {
+        lines: 1,
+        ..DEFAULTS
+    };
+    let (said, _) = one_report(alloc, options, b"5 2 0 1 2 0\n6 0 5 3 4 0\n")?;
+    assert_eq!(rt; said, said_of(1, 0, false, Ending::Bad(2, Fault::Identity)));
+    let (said, _) = one_report(alloc, DEFAULTS, b"7 2 0 1 2 0\n6 0 7 3 4 0\n")?;
+    assert_eq!(rt; said, said_of(1, 0, false, Ending::Bad(2, Fault::Identity)));
+    let (said, told) = one_report(alloc, FIRST_OF_TWO, b"6 2 0 1 2 0\n")?;
+    assert_eq!(rt; said, first_bad(Fault::Identity));
+    assert_eq!(rt; told, told_of(0, 0, 0));
+    Ok(())
+}
+
+#[test]
+fn bad_clauses_are_refused_before_their_hints(rt: HostRuntime) -> Result<(), Fail> {
+    let alloc = rt.alloc();
+    let (said, told) = one_report(alloc, DEFAULTS, b"5 1 -1 0 1 0\n")?;
+    assert_eq!(rt; said, first_bad(Fault::Tautology));
+    assert_eq!(rt; told, told_of(0, 0, 0));
+    let (said, _) = one_report(alloc, DEFAULTS, b"5 3 -3 0 1 0\n")?;
+    assert_eq!(rt; said, first_bad(Fault::Literal));
+    let (said, _) = one_report(alloc, DEFAULTS, b"999999999999999999 2 0 1 2 0\n")?;
+    assert_eq!(rt; said, first_bad(Fault::Identity));
+    Ok(())
+}
+
+#[test]
+fn bad_texts_end_the_reading(rt: HostRuntime) -> Result<(), Fail> {
+    let alloc = rt.alloc();
+    let (said, _) = one_report(alloc, DEFAULTS, b"5 1 0 -2 0\n")?;
+    assert_eq!(rt; said, first_bad(Fault::Text(LineFault::RatHint)));
+    let (said, _) = one_report(alloc, DEFAULTS, b"5  2 0 1 2 0\n6 0 5 3 4 0\n")?;
+    assert_eq!(rt; said, first_bad(Fault::Text(LineFault::Spelling)));
+    let (said, _) = one_report(alloc, DEFAULTS, b"1000000000000000000 2 0 1 2 0\n")?;
+    assert_eq!(rt; said, first_bad(Fault::Text(LineFault::TooLong)));
+    let (said, _) = one_report(alloc, DEFAULTS, b"5 2 0 1 2 0")?;
+    assert_eq!(rt; said, first_bad(Fault::Text(LineFault::Truncated)));
+    let (said, _) = one_report(alloc, DEFAULTS, b"5 2 0 1 2 0\n6")?;
+    assert_eq!(rt; said, said_of(1, 0, false, Ending::Bad(2, Fault::Text(LineFault::Truncated))));
+    Ok(())
+}
