@@ -1,17 +1,15 @@
 -- Lemmas on a publish: its exchange wins exactly where the own identity is vacant.
-use Rattle.std.proofs.Common.{◌≡◌, ◌≢◌, ◌⊎◌, ℕ, ◌+◌, ◌<◌, ◌≤◌, cond, eqb, List, [], ◌∷◌, ◌++◌, length, set, slice_index, slice_set, Option, None, Some, refl, sym, ap, subst, ◌∙◌, inl, inr, arith, eq-eqb, ne_eqb}
+use Rattle.std.proofs.Common.{◌≡◌, ◌≢◌, ℕ, ◌+◌, eqb, List, [], ◌∷◌, ◌++◌, length, set, slice_index, slice_set, Option, None, Some, refl, sym, ap, subst, ◌∙◌, inl, inr, arith, eq-eqb, ne_eqb}
 use mathlib.Core.Option.{some}
 use lib.ListN.{get_elem?}
 use prog.Atomic.{either}
 use Rattle.std.proofs.lemmas.Bool.{cases_eq, cond-true, cond-false}
 use Rattle.std.proofs.lemmas.List.{set-get_or}
 use Rattle.atomic_table.proofs.Lists.{exchanged}
-use Rattle.lrup_model.specs.Clause.{Clause}
-use Rattle.lrup_model.specs.Formula.{Cnf}
-use Rattle.lrup_model.specs.Layout.{LayoutValue, IsIdentity, Owns}
+use Rattle.lrup_model.specs.Layout.{Owns}
 use Rattle.lrup_model.specs.Event as events
 use Rattle.lrup_model.specs.Event.{Event, History}
-use Rattle.lrup_model.specs.State.{State, Slot, absent, live, put, after, state}
+use Rattle.lrup_model.specs.State.{Slot, absent, live, state}
 use Rattle.lrup_model.specs.History.{IsPublishable}
 use Rattle.lrup_model.specs.Place.{Kept}
 use Rattle.lrup_model.specs.Pass.{Spelling, kept_in, IsSpelt}
@@ -19,14 +17,14 @@ use Rattle.lrup_model.specs.HistoryLemmas.{put-same, put-other}
 use Rattle.lrup_model.specs.declared.clause_map.Published.{Published}
 use Rattle.lrup_model.specs.declared.clause_map.Published.TheVariants as publishing
 use Rattle.idwords.specs.Words.{identity_word, word_of, LiesAt}
-use Rattle.idwords.specs.Spelling.{spelling, top_after, event_spelling, spelling_of}
-use Rattle.idwords.specs.Rule.{Part, part_stream, Keeps, Stands}
-use Rattle.idwords.specs.Steps.{Calls, Claims, published_at}
+use Rattle.idwords.specs.Spelling.{spelling, top_after, spelling_of}
+use Rattle.idwords.specs.Rule.{Part, part_stream, Keeps}
+use Rattle.idwords.specs.Steps.{Calls, Claims}
 use Rattle.idwords.proofs.SpellingLemmas.{spelt, spells_absent, kept-append_none, kept_one, kept_beside}
 use Rattle.idwords.proofs.RuleLemmas.{OwnKeeps, advanced, event_top, stands_at, spent_log, Serves, advance}
 use Rattle.idwords.proofs.StepLemmas.{OwnStep}
 use Rattle.idwords.proofs.LookLemmas.{IsPlain, plain_step}
-use Rattle.idwords.proofs.OwnLemmas.{absent_word, own_slot, own_identity, count-write, first-write, here-write, slots-write, literals-write, texts-write, drafts-write}
+use Rattle.idwords.proofs.OwnLemmas.{absent_word, own_slot, own_identity, count-write, first-write, here-write, slots-write, texts-write, drafts-write}
 
 one_kept : (a b : Kept) → Some a ≡ Some b → a ≡ b
 one_kept a b same = cc

@@ -1,5 +1,5 @@
 -- Lemmas on a step that changes no word: a fetch, and every other event that changes nothing of the map.
-use Rattle.std.proofs.Common.{◌≡◌, ◌≢◌, ℕ, ◌+◌, ◌<◌, ◌≤◌, cond, eqb, List, [], ◌∷◌, ◌++◌, length, set, slice_index, slice_set, Option, None, Some, refl, sym, ap, subst, ◌∙◌, inl, inr, arith, append-nil, eq-eqb, ne_eqb}
+use Rattle.std.proofs.Common.{◌≡◌, ℕ, ◌+◌, ◌<◌, ◌≤◌, cond, eqb, List, [], ◌∷◌, ◌++◌, length, set, slice_index, slice_set, Option, None, Some, refl, sym, ap, subst, ◌∙◌, arith, append-nil, eq-eqb, ne_eqb}
 use mathlib.Core.Option.{some}
 use lib.ListN.{get_elem?}
 use Rattle.std.proofs.lemmas.Bool.{cond-true, cond-false}
@@ -17,7 +17,7 @@ use Rattle.lrup_model.specs.Running.{spent-append}
 use Rattle.lrup_model.specs.HistoryLemmas.{spent_one}
 use Rattle.idwords.specs.Words.{state_of, identity_word, word_of, LiesAt, ShowsKept, reply_in}
 use Rattle.idwords.specs.Spelling.{top_after, event_spelling, spelling_of}
-use Rattle.idwords.specs.Rule.{Part, part_stream, Keeps, Stands}
+use Rattle.idwords.specs.Rule.{Part, part_stream, Keeps}
 use Rattle.idwords.specs.Steps.{Calls, Looks}
 use Rattle.idwords.proofs.SpellingLemmas.{spelling-snoc, spelt, short}
 use Rattle.idwords.proofs.WordLemmas.{IsShort, shows_slot, state-identity_word}

@@ -1,17 +1,17 @@
 -- Lemmas on a meeting: parts are dealt out and put together, and of two parts each sees the longer history.
-use Rattle.std.proofs.Common.{◌≡◌, ◌≢◌, ◌⊎◌, ℕ, ◌+◌, ◌<◌, ◌≤◌, List, [], ◌∷◌, ◌++◌, length, set, slice_index, slice_set, refl, sym, ap, subst, ◌∙◌, inl, inr, arith, ap₂, cond, eqb, append-nil, append_assoc, length-append}
+use Rattle.std.proofs.Common.{◌≡◌, ◌⊎◌, ℕ, ◌+◌, ◌≤◌, List, [], ◌∷◌, ◌++◌, length, set, slice_index, refl, sym, ap, subst, ◌∙◌, inl, inr, arith, ap₂, cond, eqb, append-nil, append_assoc, length-append}
 use Rattle.std.specs.List.{AllByRecursion}
 use mathlib.Core.Option.{some}
 use lib.ListN.{get_elem?}
 use Rattle.std.proofs.lemmas.List.{set-get_or}
-use Rattle.atomic_table.specs.Table.{State, Step, Me, Act, keeps, Allows, Splits, Joins}
+use Rattle.atomic_table.specs.Table.{Step, Me, keeps, Allows, Splits, Joins}
 use Rattle.atomic_table.proofs.Lists.{set_else}
 use Rattle.lrup_model.specs.Formula.{Cnf}
 use Rattle.lrup_model.specs.Layout.{LayoutValue, row_words}
 use Rattle.lrup_model.specs.Event.{Event, History, own}
 use Rattle.lrup_model.specs.History.{IsLegal}
 use Rattle.lrup_model.specs.Place.{KeepsSpelt}
-use Rattle.lrup_model.specs.Pass.{Spelling, kept_in, IsFair, PassMoves, Meets}
+use Rattle.lrup_model.specs.Pass.{Spelling, kept_in, IsFair, PassMoves}
 use Rattle.lrup_model.specs.Laws.{learned}
 use Rattle.lrup_model.specs.Running.{own-append}
 use Rattle.lrup_model.specs.HistoryLemmas.{IsLegal-front}

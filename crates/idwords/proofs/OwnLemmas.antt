@@ -1,19 +1,18 @@
 -- Lemmas on a stream's own identities: what lies there follows from its own calls, and only its own steps change it.
-use Rattle.std.proofs.Common.{◌≡◌, ◌≢◌, ◌⊎◌, ℕ, ◌+◌, ◌-◌, ◌*◌, ◌<◌, ◌≤◌, List, [], ◌∷◌, ◌++◌, length, set, slice_index, slice_set, Option, None, Some, refl, sym, ap, ap₂, subst, ◌∙◌, inl, inr, arith, length-set, get_or-set_same, get_or-set_other}
+use Rattle.std.proofs.Common.{◌≡◌, ◌≢◌, ℕ, ◌+◌, ◌<◌, List, [], ◌∷◌, ◌++◌, length, slice_index, slice_set, Option, None, Some, refl, sym, ap, ap₂, ◌∙◌, inl, inr, arith, length-set, get_or-set_same, get_or-set_other}
 use mathlib.Core.Option.{some}
 use lib.ListN.{get_elem?}
-use Rattle.std.proofs.lemmas.Bool.{cases_eq}
 use Rattle.lrup_model.specs.Clause.{Clause}
 use Rattle.lrup_model.specs.Formula.{Cnf}
-use Rattle.lrup_model.specs.Layout.{LayoutValue, IsIdentity, Owns, IsStream, last_identity, row_words}
+use Rattle.lrup_model.specs.Layout.{LayoutValue, IsIdentity, Owns, last_identity, row_words}
 use Rattle.lrup_model.specs.Event.{History}
-use Rattle.lrup_model.specs.State.{State, Slot, absent, live, retired, opening, run, state, IsLive, retire_slot}
+use Rattle.lrup_model.specs.State.{Slot, absent, live, retired, opening, state, IsLive, retire_slot}
 use Rattle.lrup_model.specs.Place.{Kept}
-use Rattle.lrup_model.specs.Pass.{Spelling, kept_in, Spells, IsSpelt}
+use Rattle.lrup_model.specs.Pass.{Spelling, kept_in, Spells}
 use Rattle.lrup_model.specs.HistoryLemmas.{run-own, legal-front}
 use Rattle.lrup_model.specs.OwnerLemmas.{owned}
-use Rattle.idwords.specs.Words.{state_of, identity_word, kept_word, word_of, LiesAt}
-use Rattle.idwords.specs.Spelling.{first_place, top_after, spelling_of}
+use Rattle.idwords.specs.Words.{state_of, word_of, LiesAt}
+use Rattle.idwords.specs.Spelling.{spelling_of}
 use Rattle.idwords.specs.Rule.{Part, part_stream, Keeps, Stands}
 use Rattle.idwords.proofs.SpellingLemmas.{IsLodged, lodged, own_kept}
 use Rattle.idwords.proofs.WordLemmas.{lies-set, state-identity_word}

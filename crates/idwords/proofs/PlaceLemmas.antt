@@ -1,27 +1,23 @@
 -- Lemmas on places: streams write apart from each other, from the formula and from the identities; and steps on literals.
-use Rattle.std.proofs.Common.{◌≡◌, ◌≢◌, ℕ, ℤ, ◌+◌, ◌-◌, ◌*◌, ◌<◌, ◌≤◌, ◌⊎◌, List, [], ◌∷◌, ◌++◌, length, set, slice_index, slice_set, slice_get, Some, refl, sym, ap, subst, ◌∙◌, inl, inr, ⊎_elim, arith, length-append, length-set, get_or-set_same, get_or-set_other}
+use Rattle.std.proofs.Common.{◌≡◌, ◌≢◌, ℕ, ℤ, ◌+◌, ◌-◌, ◌*◌, ◌<◌, ◌≤◌, ◌⊎◌, List, [], ◌∷◌, ◌++◌, length, set, slice_index, slice_set, refl, sym, ap, subst, ◌∙◌, inl, inr, arith, length-append, length-set, get_or-set_same, get_or-set_other}
 use Rattle.std.proofs.Math.Nat.{mul-le-mul_right}
-use mathlib.Core.Option.{some}
-use lib.ListN.{get_elem?}
 use Rattle.std.proofs.lemmas.Bool.{cases_eq, cases_lt}
 use Rattle.std.proofs.lemmas.List.{set-get_or}
 use Rattle.atomic_table.proofs.Lists.{set_again}
-use Rattle.lrup_model.specs.Clause.{Clause}
 use Rattle.lrup_model.specs.Formula.{Cnf}
-use Rattle.lrup_model.specs.Layout.{LayoutValue, IsIdentity, IsStream, last_identity, row_words}
+use Rattle.lrup_model.specs.Layout.{LayoutValue, IsStream, last_identity, row_words}
 use Rattle.lrup_model.specs.Event.{History, spent}
 use Rattle.lrup_model.specs.History.{IsLegal}
 use Rattle.lrup_model.specs.Place.{Kept}
 use Rattle.lrup_model.specs.Pass.{Spelling, kept_in}
 use Rattle.lrup_model.specs.Literal.{code_of}
-use Rattle.idwords.specs.Words.{LiesAt}
-use Rattle.idwords.specs.Spelling.{first_place, top_after, spelling_of}
-use Rattle.idwords.specs.Rule.{Part, part_stream, Keeps, Stands, IsPlan}
-use Rattle.idwords.specs.Steps.{IsText, Reads, Writes}
-use Rattle.idwords.proofs.SpellingLemmas.{IsLodged, LodgedOf, LodgedFormula, lodged, keeps_spelt}
+use Rattle.idwords.specs.Spelling.{first_place, top_after}
+use Rattle.idwords.specs.Rule.{Part, part_stream, Keeps, Stands}
+use Rattle.idwords.specs.Steps.{Reads, Writes}
+use Rattle.idwords.proofs.SpellingLemmas.{IsLodged, lodged, keeps_spelt}
 use Rattle.idwords.proofs.WordLemmas.{lies_get, lies-snoc, lies-set, code_injective}
 use Rattle.idwords.proofs.ViewLemmas.{moved, times-same}
-use Rattle.idwords.proofs.RuleLemmas.{OwnKeeps, stands_at, stands_words, spent_log}
+use Rattle.idwords.proofs.RuleLemmas.{stands_at, stands_words, spent_log}
 use Rattle.idwords.proofs.StepLemmas.{OwnStep}
 
 -- Rooms apart

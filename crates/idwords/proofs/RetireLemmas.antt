@@ -1,29 +1,26 @@
 -- Lemmas on a retire: its look, and its exchange, which always wins.
-use Rattle.std.proofs.Common.{◌≡◌, ◌≢◌, ◌⊎◌, ℕ, ◌+◌, ◌<◌, ◌≤◌, cond, eqb, List, [], ◌∷◌, ◌++◌, length, set, slice_index, slice_set, Option, None, Some, refl, sym, ap, subst, ◌∙◌, inl, inr, arith, append-nil, eq-eqb}
-use mathlib.Core.Option.{some}
-use lib.ListN.{get_elem?}
+use Rattle.std.proofs.Common.{◌≡◌, ◌≢◌, ℕ, ◌+◌, eqb, List, [], ◌∷◌, ◌++◌, set, slice_index, slice_set, Option, refl, sym, ap, subst, ◌∙◌, inl, inr, arith, append-nil, eq-eqb}
 use prog.Atomic.{either}
 use Rattle.std.proofs.lemmas.Bool.{cases_eq}
 use Rattle.std.proofs.lemmas.List.{set-get_or}
-use Rattle.atomic_table.proofs.Lists.{set_again, exchanged}
-use Rattle.lrup_model.specs.Formula.{Cnf}
-use Rattle.lrup_model.specs.Layout.{LayoutValue, IsIdentity, Owns}
+use Rattle.atomic_table.proofs.Lists.{set_again}
+use Rattle.lrup_model.specs.Layout.{Owns}
 use Rattle.lrup_model.specs.Event as events
 use Rattle.lrup_model.specs.Event.{Event, History}
-use Rattle.lrup_model.specs.State.{State, Slot, absent, live, retired, put, retire_slot, after, state, IsLive}
+use Rattle.lrup_model.specs.State.{Slot, retire_slot, after, state, IsLive}
 use Rattle.lrup_model.specs.Place.{Kept}
-use Rattle.lrup_model.specs.Pass.{Spelling, kept_in, Spells, IsSpelt}
+use Rattle.lrup_model.specs.Pass.{Spelling, kept_in, IsSpelt}
 use Rattle.lrup_model.specs.HistoryLemmas.{put-same, put-other}
 use Rattle.lrup_model.specs.declared.clause_map.Retired.TheVariants as retiring
 use Rattle.idwords.specs.Words.{state_of, word_of, LiesAt}
-use Rattle.idwords.specs.Spelling.{top_after, event_spelling, spelling_of}
-use Rattle.idwords.specs.Rule.{Part, part_stream, Keeps, Stands}
-use Rattle.idwords.specs.Steps.{FindsNone, Finds, Retires}
+use Rattle.idwords.specs.Spelling.{top_after, spelling_of}
+use Rattle.idwords.specs.Rule.{Part, part_stream, Keeps}
+use Rattle.idwords.specs.Steps.{Finds, Retires}
 use Rattle.idwords.proofs.SpellingLemmas.{spelt}
-use Rattle.idwords.proofs.RuleLemmas.{OwnKeeps, advanced, event_top, stands_at, Serves, advance}
+use Rattle.idwords.proofs.RuleLemmas.{advanced, event_top, stands_at, Serves, advance}
 use Rattle.idwords.proofs.StepLemmas.{OwnStep}
 use Rattle.idwords.proofs.LookLemmas.{IsPlain, plain_step}
-use Rattle.idwords.proofs.OwnLemmas.{live_word, other_word, retired_word, own_slot, own_text, own_identity, own_word, count-write, first-write, here-write, slots-write, texts-write, drafts-write}
+use Rattle.idwords.proofs.OwnLemmas.{live_word, other_word, retired_word, own_slot, own_identity, own_word, count-write, first-write, here-write, slots-write, texts-write, drafts-write}
 
 -- the look of a retire
 pub finds : (v : Part) (seat id : ℕ) → Owns v.view.caller.layout (part_stream v) id → OwnStep v seat id (λ n. n) (λ n w. Finds id v n w)

@@ -1,27 +1,26 @@
 -- Lemmas on the rule: how a part and the others stand after one event more.
-use Rattle.std.proofs.Common.{◌≡◌, ◌≢◌, ℕ, ◌+◌, ◌-◌, ◌*◌, ◌<◌, ◌≤◌, List, [], ◌∷◌, ◌++◌, length, set, slice_index, slice_set, Option, None, Some, refl, sym, ap, ap₂, subst, ◌∙◌, inl, inr, arith, append-nil, append_assoc, length-append}
+use Rattle.std.proofs.Common.{◌≡◌, ◌≢◌, ℕ, ◌+◌, ◌≤◌, List, [], ◌∷◌, ◌++◌, length, set, slice_index, Some, refl, sym, ap, ap₂, subst, ◌∙◌, inl, inr, arith, append-nil, append_assoc, length-append}
 use Rattle.std.specs.List.{AllByRecursion, sum_by}
 use mathlib.Core.Option.{some}
 use lib.ListN.{get_elem?}
 use Rattle.std.proofs.lemmas.Bool.{cases_eq}
 use Rattle.lrup_model.specs.Clause.{Clause}
 use Rattle.lrup_model.specs.Formula.{Cnf}
-use Rattle.lrup_model.specs.Layout.{LayoutValue, IsIdentity, Owns, row_words}
-use Rattle.lrup_model.specs.Event as events
-use Rattle.lrup_model.specs.Event.{Event, Reply, History, stream_of, size_of, own, spent}
-use Rattle.lrup_model.specs.State.{State, Slot, absent, live, retired, opening, after, run, state, Answers, IsLive}
-use Rattle.lrup_model.specs.History.{IsAllowed, LegalFrom, IsLegal}
+use Rattle.lrup_model.specs.Layout.{LayoutValue, IsIdentity, row_words}
+use Rattle.lrup_model.specs.Event.{Event, History, stream_of, size_of, own, spent}
+use Rattle.lrup_model.specs.State.{State, Slot, opening, after, state, Answers}
+use Rattle.lrup_model.specs.History.{IsAllowed, IsLegal}
 use Rattle.lrup_model.specs.Place.{Kept, KeepsSpelt}
-use Rattle.lrup_model.specs.Pass.{View, Spelling, kept_in, Spells, IsSpelt, IsFair, PassMoves}
+use Rattle.lrup_model.specs.Pass.{Spelling, kept_in, IsSpelt, IsFair}
 use Rattle.lrup_model.specs.Laws.{stepped}
 use Rattle.lrup_model.specs.Running.{run-append, legal-append, own-append, spent-append}
-use Rattle.lrup_model.specs.HistoryLemmas.{IsLegal-front, own-mine, own-other, own-none, spent-own, spent_one, run-own}
+use Rattle.lrup_model.specs.HistoryLemmas.{IsLegal-front, own-mine, own-other, spent-own, spent_one}
 use Rattle.lrup_model.specs.PassLemmas.{moves_step}
-use Rattle.idwords.specs.Words.{word_of, LiesAt, ShowsKept, reply_in}
-use Rattle.idwords.specs.Spelling.{first_place, top_after, event_spelling, spelling_of}
-use Rattle.idwords.specs.Rule.{Part, part_stream, Stands, AllParts, Keeps, IsPlan}
+use Rattle.idwords.specs.Words.{word_of, LiesAt}
+use Rattle.idwords.specs.Spelling.{top_after, event_spelling, spelling_of}
+use Rattle.idwords.specs.Rule.{Part, part_stream, Stands, Keeps, IsPlan}
 use Rattle.idwords.specs.Steps.{Calls}
-use Rattle.idwords.proofs.SpellingLemmas.{lies_within, spelling-snoc, spelling-append, keeps_spelt, spelt, own_kept}
+use Rattle.idwords.proofs.SpellingLemmas.{lies_within, spelling-snoc, keeps_spelt, spelt}
 use Rattle.idwords.proofs.ViewLemmas.{all_at, moved, times-same}
 
 -- Own events

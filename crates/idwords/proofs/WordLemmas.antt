@@ -1,13 +1,11 @@
 -- Lemmas on words: the parts of an identity's word, and literals that lie in the row.
-use Rattle.std.proofs.Common.{◌≡◌, ◌≢◌, ℕ, ◌+◌, ◌*◌, ◌/◌, ◌%◌, ◌<◌, ◌≤◌, ◌⊎◌, ℤ, pos, negsuc, zero, suc, List, [], ◌∷◌, ◌++◌, length, get_or, set, slice_index, slice_set, slice_get, Option, None, Some, refl, sym, ap, subst, ◌∙◌, inl, inr, arith, get_or-set_same, get_or-set_other}
+use Rattle.std.proofs.Common.{◌≡◌, ◌≢◌, ℕ, ◌+◌, ◌<◌, ◌≤◌, ◌⊎◌, ℤ, pos, negsuc, zero, suc, List, [], ◌∷◌, ◌++◌, length, slice_index, slice_set, slice_get, Option, None, Some, refl, ap, ◌∙◌, inl, inr, arith, get_or-set_other}
 use Rattle.lrup_model.specs.Clause.{Clause}
-use Rattle.lrup_model.specs.Event.{Reply}
-use Rattle.lrup_model.specs.Event as events
-use Rattle.lrup_model.specs.State.{Slot, absent, live, retired, IsLive, retire_slot}
+use Rattle.lrup_model.specs.State.{Slot, absent, live, retired}
 use Rattle.lrup_model.specs.Place.{Kept}
 use Rattle.lrup_model.specs.Pass.{Spells}
 use Rattle.lrup_model.specs.Literal.{code_of}
-use Rattle.idwords.specs.Words.{identity_word, state_of, length_of, start_of, kept_word, word_of, LiesAt, ShowsKept}
+use Rattle.idwords.specs.Words.{identity_word, state_of, length_of, start_of, word_of, LiesAt, ShowsKept}
 
 -- The parts of a word
 

@@ -1,5 +1,5 @@
 -- A seat as contracts see it (this project's own).
-use Rattle.std.specs.Prelude.{◌≡◌, ◌+◌, ◌-◌, ◌*◌, ◌≤◌, ℕ, List, [], ◌∷◌, length}
+use Rattle.std.specs.Prelude.{◌≡◌, ◌+◌, ◌≤◌, ℕ, List, [], ◌∷◌, length}
 pub use Rattle.atomic_table.specs.Seated.{TableId}
 use Rattle.atomic_table.specs.Table.{Me}
 use Rattle.lrup_model.specs.Clause.{Clause}
@@ -7,7 +7,7 @@ use Rattle.lrup_model.specs.Formula.{Cnf}
 use Rattle.lrup_model.specs.Layout.{LayoutValue, row_words}
 use Rattle.lrup_model.specs.Event.{spent}
 use Rattle.lrup_model.specs.Pass.{View, IsFair}
-use Rattle.idwords.specs.Spelling.{first_place, top_after}
+use Rattle.idwords.specs.Spelling.{top_after}
 use Rattle.idwords.specs.Rule.{Part, part_stream, opening_part}
 
 -- Which row it is of, what its stream knows, its first place that belongs to no published clause, and the literals stored from there on.

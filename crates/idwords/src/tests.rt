@@ -144,6 +144,20 @@ fn the_row_has_its_words(rt: HostRuntime) -> Result<(), Fail> {
     Ok(())
 }
 
+/// Where memory is refused it says so, and may be called again.
+#[test]
+fn an_open_may_be_refused(rt: HostRuntime) -> Result<(), Fail> {
+    let Ok(formula) = four_clauses(rt.alloc()) else {
+        return Ok(());
+    };
+    let layout = Layout::new(2, 4, 8, 2, 2, 1)?;
+    assert!(rt; layout.fits(&formula));
+    if Row::open(rt.alloc(), &formula, &layout).is_err() {
+        assert!(rt; Row::open(rt.alloc(), &formula, &layout).is_ok());
+    }
+    Ok(())
+}
+
 /// Two streams, each with two identities and room for one literal.
 #[test]
 fn two_streams_take_turns(rt: HostRuntime) -> Result<(), Fail> {

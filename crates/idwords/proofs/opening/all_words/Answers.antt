@@ -1,5 +1,4 @@
-use Rattle.std.proofs.Common.{◌≡◌, ◌+◌, ◌-◌, ◌++◌, ℕ, List, [], ◌∷◌, length, take, replicate, ap, ◌∙◌, arith}
-use Rattle.lrup_model.specs.Layout.{last_identity}
+use Rattle.std.proofs.Common.{◌+◌, ◌-◌, ◌++◌, ℕ, List, [], ◌∷◌, take, replicate, ap, ◌∙◌}
 use Rattle.idwords.proofs.OpeningLemmas.{opened_words}
 use Rattle.idwords.proofs.opening.all_words.Goals as goal
 

@@ -1,8 +1,7 @@
-use Rattle.std.proofs.Common.{◌≡◌, ◌<◌, ◌≤◌, ◌+◌, ◌-◌, ◌++◌, ℕ, List, [], ◌∷◌, Some, length, slice_get, sym, ap, ap₂, subst, ◌∙◌, arith, below_more}
+use Rattle.std.proofs.Common.{◌≡◌, ◌<◌, ◌+◌, ℕ, List, [], Some, length, slice_get, sym, ap, ap₂, ◌∙◌, arith, below_more}
 use Rattle.atomic_table.specs.Seated.{TableId}
 use Rattle.atomic_table.specs.Table.{Me}
-use Rattle.lrup_model.specs.Layout.{row_words}
-use Rattle.idwords.specs.Rule.{Part, opening_part, opening_parts}
+use Rattle.idwords.specs.Rule.{Part, opening_part}
 use Rattle.idwords.specs.Seats.{SeatValue, first_part, first_only, others, seat_value, opening_seat}
 use Rattle.idwords.proofs.MeetLemmas.{splits_deal}
 use Rattle.idwords.proofs.OpeningLemmas.{parts_next, first_next, dealt, get_old, get_new}

@@ -1,10 +1,10 @@
-use Rattle.std.proofs.Common.{◌≡◌, ℕ, ◌<◌, eqb, length, refl, sym, ap, ap₂, subst, ◌∙◌, arith}
+use Rattle.std.proofs.Common.{◌≡◌, ℕ, eqb, length, sym, ap, ap₂, subst, ◌∙◌, arith}
 use prog.Atomic.{either}
 use mathlib.Core.Option.{none}
 use Rattle.atomic_table.specs.Table.{step}
 use Rattle.idwords.specs.Words.{identity_word}
 use Rattle.idwords.specs.Rule.{Part}
-use Rattle.idwords.specs.Seats.{SeatValue, first_part, part_of}
+use Rattle.idwords.specs.Seats.{first_part, part_of}
 use Rattle.idwords.specs.Steps.{Changes, Claims}
 use Rattle.idwords.proofs.StepLemmas.{changes}
 use Rattle.idwords.proofs.ClaimLemmas.{claims}

@@ -1,10 +1,8 @@
-use Rattle.std.proofs.Common.{◌≡◌, ℕ, ◌<◌, ◌+◌, ◌++◌, List, [], ◌∷◌, refl, sym, ap, ap₂, subst, ◌∙◌, arith}
+use Rattle.std.proofs.Common.{◌≡◌, ℕ, ◌++◌, List, [], ◌∷◌, sym, ap, ap₂, subst, ◌∙◌, arith}
 use mathlib.Core.Option.{none}
-use Rattle.atomic_table.specs.Seated.{TableId}
 use Rattle.atomic_table.specs.Table.{step, Me, Allows}
-use Rattle.lrup_model.specs.Layout.{row_words}
 use Rattle.idwords.specs.Rule.{Part, IsKept}
-use Rattle.idwords.specs.Seats.{SeatValue, first_part, part_of}
+use Rattle.idwords.specs.Seats.{SeatValue, first_part}
 use Rattle.idwords.specs.Steps.{Joined}
 use Rattle.idwords.proofs.MeetLemmas.{splits_hand, splits_part, joins, meets, joined}
 use Rattle.idwords.proofs.SeatLemmas.{words_of}

@@ -1,6 +1,5 @@
-use Rattle.std.proofs.Common.{arith, ◌≡◌, ℕ, List, [], ◌∷◌, length, sym, ap, subst, ◌∙◌}
+use Rattle.std.proofs.Common.{arith, ℕ, List, [], ◌∷◌, length, sym, ap, subst, ◌∙◌}
 use Rattle.lrup_model.specs.Formula.{Cnf}
-use Rattle.lrup_model.specs.Layout.{Fits}
 use Rattle.idwords.specs.Rule.{Keeps, IsPlan, opening_parts}
 use Rattle.idwords.proofs.SpellingLemmas.{lies_within}
 use Rattle.idwords.proofs.OpeningLemmas.{opens, length-opening_words, opening_fair}
