@@ -11,6 +11,7 @@ use Rattle.lrup_model.specs.State.{State, Slot, absent, live, retired, opening, 
 use Rattle.lrup_model.specs.History.{LegalFrom, IsLegal, IsPublishable}
 use Rattle.lrup_model.specs.Propagation.{Accepts}
 use Rattle.lrup_model.specs.Place.{Caller, IsCaller, Kept, Place, ClipValue, text_of, IsKnown, Tells, AllFollow, KeepsSpelt}
+use Rattle.lrup_model.specs.Replies.{AnswersOwn, AnswersFormula}
 use Rattle.lrup_model.specs.Pass.{View, Spelling, kept_in, IsSpelt, IsFair, PassMoves, pass_place, Meets, MeetsInTurn, AreMet, AllSaw, opened}
 
 -- Running and legality
@@ -191,6 +192,12 @@ PassSteps = (v : View) (between : History) (e : Event) (xs : List Spelling)
     → IsLegal v.caller.formula v.caller.layout (v.seen ++ between ++ e ∷ [])
     → IsSpelt v.caller.formula (v.seen ++ between ++ e ∷ []) xs → KeepsSpelt (kept_in v.spelt) (kept_in xs)
     → PassMoves v (stepped v between e xs) (e ∷ []) × IsFair (stepped v between e xs)
+
+-- A fetch that is the last that a pass has seen answers as its own calls left its own identities, and as the formula has them.
+abbrev pub PassFetches : Type 0
+PassFetches = (old new : View) (before : History) (id : ℕ) (r : Reply)
+    → PassMoves old new (events.fetch old.caller.stream id r ∷ []) → new.seen ≡ before ++ events.fetch old.caller.stream id r ∷ []
+    → AnswersOwn (pass_place old) id r × AnswersFormula (pass_place old) id r
 
 -- a pass that meets all others in turn, and then all again, leaves all at one history
 abbrev pub MeetsTwice : Type 0

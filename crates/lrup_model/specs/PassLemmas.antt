@@ -1,20 +1,23 @@
 -- Lemmas on passes: the laws of a place at a clause map, what stays spelt, one call, and meeting.
 use Rattle.std.proofs.Common.{◌≡◌, ◌≢◌, ℕ, ◌+◌, ◌-◌, ◌≤◌, List, [], ◌∷◌, ◌++◌, length, Option, None, Some, refl, sym, ap, ap₂, subst, subst₂, ◌∙◌, arith, append_assoc, append-nil}
 use Rattle.std.specs.List.{AllByRecursion}
+use Rattle.std.proofs.lemmas.List.{append_cancel_right}
 use Rattle.lrup_model.specs.Clause.{Clause}
-use Rattle.lrup_model.specs.Formula.{Cnf}
+use Rattle.lrup_model.specs.Formula.{Cnf, clause_at}
 use Rattle.lrup_model.specs.Entailment.{IsDerived}
-use Rattle.lrup_model.specs.Layout.{LayoutValue}
-use Rattle.lrup_model.specs.Event.{Event, History, stream_of, own, spent}
-use Rattle.lrup_model.specs.State.{State, Slot, absent, live, retired, opening, run, state}
+use Rattle.lrup_model.specs.Layout.{LayoutValue, Owns}
+use Rattle.lrup_model.specs.Event as events
+use Rattle.lrup_model.specs.Event.{Event, Reply, History, stream_of, own, spent}
+use Rattle.lrup_model.specs.State.{State, Slot, absent, live, retired, IsRetired, Answers, opening, run, state}
 use Rattle.lrup_model.specs.History.{IsLegal}
 use Rattle.lrup_model.specs.Running.{run-append, own-append, spent-append, callers-append}
 use Rattle.lrup_model.specs.Place.{Caller, IsCaller, Kept, Place, ClipValue, literals_in, text_of, IsKnown, Tells, AllFollow, KeepsSpelt}
+use Rattle.lrup_model.specs.Replies.{AnswersOwn, AnswersFormula}
 use Rattle.lrup_model.specs.Pass.{View, Spelling, kept_in, Spells, IsSpelt, IsFair, PassMoves, pass_place, Meets, MeetsInTurn, AreMet, AllSaw, opened}
 use Rattle.lrup_model.specs.Laws.{Advances, HasClause, learned, stepped}
 use Rattle.lrup_model.specs.EntailmentLemmas.{clauses_follow}
 use Rattle.lrup_model.specs.EntryLemmas.{run-advances, has_stays}
-use Rattle.lrup_model.specs.HistoryLemmas.{legal-back, own-mine, own-none, spent-own}
+use Rattle.lrup_model.specs.HistoryLemmas.{legal-front, legal-back, formula_stays, own-mine, own-none, spent-own, run-own}
 
 -- The laws of a place
 
@@ -195,6 +198,52 @@ moves_step v between e xs fair others mine legal spelt keeps =
       spelt = spelt;
     } in
     (moves_on v (stepped v between e xs) (e ∷ []) fair after refl (mine, tt) refl (between ++ e ∷ [], append_assoc v.seen between (e ∷ [])) keeps, after)
+
+-- A fetch answers
+
+-- a fetch at the end of a legal history answers as the state before it
+pub last_answers : (f : Cnf) (p : LayoutValue) (before : History) (e : Event) → IsLegal f p (before ++ e ∷ []) → Answers (state f before) e
+last_answers f p before e legal = (legal-back f p (opening f) before (e ∷ []) legal.events).0
+
+fetch_at : (m n : State) (s id : ℕ) (r : Reply) → m id ≡ n id → Answers m (events.fetch s id r) → Answers n (events.fetch s id r)
+fetch_at m n s id events.vacant same answers = sym same ∙ answers
+fetch_at m n s id (events.live c) same answers = sym same ∙ answers
+fetch_at m n s id events.retired same answers = subst (λ (x : Slot). IsRetired x) same answers
+
+fetch_live : (m : State) (s id : ℕ) (c : Clause) (r : Reply) → m id ≡ live c → Answers m (events.fetch s id r) → r ≡ events.live c
+fetch_live m s id c events.vacant is answers = let no : live c ≡ absent = sym is ∙ answers in absurd (cc)
+fetch_live m s id c (events.live d) is answers = let same : live d ≡ live c = sym answers ∙ is in cc
+fetch_live m s id c events.retired is answers = absurd (subst (λ (x : Slot). IsRetired x) is answers)
+
+own_answers : (f : Cnf) (p : LayoutValue) (before mine : History) (s id : ℕ) (r : Reply) → IsLegal f p (before ++ events.fetch s id r ∷ [])
+    → own (before ++ events.fetch s id r ∷ []) s ≡ mine ++ events.fetch s id r ∷ [] → Owns p s id → Answers (state f mine) (events.fetch s id r)
+own_answers f p before mine s id r legal mine_is owns =
+    let e : Event = events.fetch s id r in
+    let fronts : own before s ≡ mine = append_cancel_right (own before s) mine (e ∷ []) (ap (λ (h : History). own before s ++ h) (sym (own-mine e [] s refl)) ∙ sym (own-append before (e ∷ []) s) ∙ mine_is) in
+    let at : state f before id ≡ state f mine id =
+    run-own f p (opening f) (opening f) before s id (legal-front f p (opening f) before (e ∷ []) legal.events) owns refl ∙ ap (λ (h : History). state f h id) fronts in
+    fetch_at (state f before) (state f mine) s id r at (last_answers f p before e legal)
+
+pub pass_fetches : (old new : View) (before : History) (id : ℕ) (r : Reply)
+    → PassMoves old new (events.fetch old.caller.stream id r ∷ []) → new.seen ≡ before ++ events.fetch old.caller.stream id r ∷ []
+    → AnswersOwn (pass_place old) id r × AnswersFormula (pass_place old) id r
+pass_fetches old new before id r moves last =
+    let s : ℕ = old.caller.stream in
+    let e : Event = events.fetch s id r in
+    let fair : IsFair new = moves.fair_after (λ none. cc) in
+    let here : IsCaller old.caller = subst IsCaller moves.caller fair.caller in
+    let legal : IsLegal old.caller.formula old.caller.layout (before ++ e ∷ []) =
+    subst (λ (c : Caller). IsLegal c.formula c.layout (before ++ e ∷ [])) moves.caller
+    (subst (λ (h : History). IsLegal new.caller.formula new.caller.layout h) last fair.legal) in
+    let mine : own (before ++ e ∷ []) s ≡ old.mine ++ e ∷ [] =
+    ap₂ (λ (h : History) (t : ℕ). own h t) (sym last) (sym (ap (λ (c : Caller). c.stream) moves.caller)) ∙ fair.mine ∙ moves.mine in (
+      λ owns. own_answers old.caller.formula old.caller.layout before old.mine s id r legal mine owns,
+      λ positive within.
+          fetch_live (state old.caller.formula before) s id (clause_at old.caller.formula id) r
+          (formula_stays old.caller.formula old.caller.layout before id here.fits
+          (legal-front old.caller.formula old.caller.layout (opening old.caller.formula) before (e ∷ []) legal.events) positive within)
+          (last_answers old.caller.formula old.caller.layout before e legal),
+    )
 
 -- Meeting
 

@@ -1,6 +1,6 @@
 //! Laws of the definitions. Each function does nothing; its contract is the law, which holds of every formula, layout,
 //! history and pass.
-ghost use Rattle.lrup_model.specs.Laws.{RunsInTurn, LegalInTurn, OwnInTurn, SpentInTurn, BeginningsLegal, FormulaStays, OwnCallsDecide, OwnCallsDecideFrom, OthersLeaveOwn, VacantAboveStays, PublishedInTurn, PublishedFollow, PublishedStay, EntriesAdvance, OwnersAct, OneOwner, PropagationSound, EmptyClauseRefutes, ClausesFollow, KnownStays, KnownFollows, PassRests, PassMovesInTurn, PassTells, FairFollows, SpeltStays, PassGoesOn, PassLearns, PassSteps, MeetsTwice, MeetingKeeps, OpeningFair, AmongMembers, AmongKeepsOwn, RestrictionLegal, OwnLegal};
+ghost use Rattle.lrup_model.specs.Laws.{RunsInTurn, LegalInTurn, OwnInTurn, SpentInTurn, BeginningsLegal, FormulaStays, OwnCallsDecide, OwnCallsDecideFrom, OthersLeaveOwn, VacantAboveStays, PublishedInTurn, PublishedFollow, PublishedStay, EntriesAdvance, OwnersAct, OneOwner, PropagationSound, EmptyClauseRefutes, ClausesFollow, KnownStays, KnownFollows, PassRests, PassMovesInTurn, PassTells, FairFollows, SpeltStays, PassGoesOn, PassLearns, PassSteps, PassFetches, MeetsTwice, MeetingKeeps, OpeningFair, AmongMembers, AmongKeepsOwn, RestrictionLegal, OwnLegal};
 
 /// The state after two histories, one after the other, is the second's after the first's.
 pub fn runs_in_turn()
@@ -145,6 +145,12 @@ pub fn pass_learns()
 /// A fair pass moves by one call of its own, whatever it saw of others before, and is fair.
 pub fn pass_steps()
     ensures { PassSteps }
+{}
+
+/// A fetch that is the last that a pass has seen answers as the pass's own calls left its own identities, and as the
+/// formula has them.
+pub fn pass_fetches()
+    ensures { PassFetches }
 {}
 
 /// A pass that meets all others in turn, and then all again, leaves all at one history.
