@@ -10,3 +10,4 @@ pub mod OwnLemmas
 pub mod RetireLemmas
 pub mod ClaimLemmas
 pub mod MeetLemmas
+pub mod OpeningLemmas

@@ -13,7 +13,7 @@ use Rattle.lrup_model.specs.Event.{History, spent}
 use Rattle.lrup_model.specs.History.{IsLegal}
 use Rattle.lrup_model.specs.Place.{Kept}
 use Rattle.lrup_model.specs.Pass.{Spelling, kept_in}
-use Rattle.idwords.specs.Codes.{code_of}
+use Rattle.lrup_model.specs.Literal.{code_of}
 use Rattle.idwords.specs.Words.{LiesAt}
 use Rattle.idwords.specs.Spelling.{first_place, top_after, spelling_of}
 use Rattle.idwords.specs.Rule.{Part, part_stream, Keeps, Stands, IsPlan}

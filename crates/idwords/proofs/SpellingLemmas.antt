@@ -221,7 +221,7 @@ pub record LodgedFormula (p : LayoutValue) (kept : Kept) : Type 0 where
 abbrev pub IsLodged : LayoutValue → History → Kept → Type 0
 IsLodged p h kept = LodgedFormula p kept ⊎ ((s : ℕ) × LodgedOf p h kept s)
 
-either_kept : (b : Bool) (a : Kept) (o : Option Kept) (k : Kept) → cond b (Some a) o ≡ Some k → (a ≡ k) ⊎ (o ≡ Some k)
+pub either_kept : (b : Bool) (a : Kept) (o : Option Kept) (k : Kept) → cond b (Some a) o ≡ Some k → (a ≡ k) ⊎ (o ≡ Some k)
 either_kept true a o k here = inl (cc)
 either_kept false a o k here = inr here
 

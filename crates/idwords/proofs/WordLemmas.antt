@@ -6,7 +6,7 @@ use Rattle.lrup_model.specs.Event as events
 use Rattle.lrup_model.specs.State.{Slot, absent, live, retired, IsLive, retire_slot}
 use Rattle.lrup_model.specs.Place.{Kept}
 use Rattle.lrup_model.specs.Pass.{Spells}
-use Rattle.idwords.specs.Codes.{code_of}
+use Rattle.lrup_model.specs.Literal.{code_of}
 use Rattle.idwords.specs.Words.{identity_word, state_of, length_of, start_of, kept_word, word_of, LiesAt, ShowsKept}
 
 -- The parts of a word

@@ -1,4 +1,3 @@
-pub mod Codes
 pub mod Words
 pub mod Spelling
 pub mod Opening

@@ -3,7 +3,7 @@ use Rattle.std.specs.Prelude.{◌+◌, ◌*◌, ◌++◌, ℕ, List, [], ◌∷�
 use Rattle.lrup_model.specs.Clause.{Clause}
 use Rattle.lrup_model.specs.Formula.{Cnf}
 use Rattle.lrup_model.specs.Layout.{LayoutValue, last_identity}
-use Rattle.idwords.specs.Codes.{code_of}
+use Rattle.lrup_model.specs.Literal.{code_of}
 use Rattle.idwords.specs.Words.{identity_word}
 
 -- the words of live clauses, whose literals lie one clause after the other, from this place on

@@ -10,7 +10,7 @@ use Rattle.lrup_model.specs.Pass.{View, Spelling, IsFair, PassMoves, kept_in, Me
 use Rattle.lrup_model.specs.declared.clause_map.Published.{Published}
 use Rattle.lrup_model.specs.declared.clause_map.Published.TheVariants as publishing
 use Rattle.lrup_model.specs.declared.clause_map.Retired.TheVariants as retiring
-use Rattle.idwords.specs.Codes.{code_of}
+use Rattle.lrup_model.specs.Literal.{code_of}
 use Rattle.idwords.specs.Words.{state_of, word_of, ShowsKept, reply_in}
 use Rattle.idwords.specs.Rule.{Part, part_stream}
 

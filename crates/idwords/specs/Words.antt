@@ -5,7 +5,7 @@ use Rattle.lrup_model.specs.Event.{Reply, vacant, live, retired}
 use Rattle.lrup_model.specs.State as states
 use Rattle.lrup_model.specs.State.{Slot}
 use Rattle.lrup_model.specs.Place.{Kept, literals_in}
-use Rattle.idwords.specs.Codes.{code_of}
+use Rattle.lrup_model.specs.Literal.{code_of}
 
 -- an identity's word: 0 is vacant, 1 live and 2 retired
 abbrev pub identity_word : ℕ → ℕ → ℕ → ℕ

@@ -1,11 +1,12 @@
 //! The words of the row at the opening.
 ghost use Rattle.std.specs.Prelude.{◌≡◌, ◌+◌, ◌^◌, ◌<◌, ◌++◌, IfOk, OnOk, map};
-ghost use Rattle.lrup_model.specs.Formula.{literals_of};
+ghost use Rattle.lrup_model.specs.Formula.{IsCnf, literals_of};
 ghost use Rattle.lrup_model.specs.Layout.{Fits};
-ghost use Rattle.idwords.specs.Codes.{code_of};
+ghost use Rattle.lrup_model.specs.Literal.{code_of};
+ghost use Rattle.idwords.specs.Rule.{IsPlan};
 ghost use Rattle.idwords.specs.Opening.{clause_words, literal_words, opening_words};
 
-use crate::word::{code, live_word};
+use crate::word::live_word;
 use lrup_model::{Formula, Layout, Lit};
 use std::alloc::{AllocError, Global};
 
@@ -16,7 +17,8 @@ pub(crate) fn all_words(
     layout: &Layout,
 ) -> Result<Vec<u64>, AllocError>
     requires { Fits layout.now formula.now }
-    ensures { IfOk result (λ words. words.items ≡ opening_words formula.now layout.now) }
+    ensures words { IfOk result (λ words. words.items ≡ opening_words formula.now layout.now) }
+    ensures plan { IfOk result (λ _. IsPlan formula.now layout.now) }
 {
     let mut words = Vec::with_capacity(alloc, layout.row_words() as usize)?;
     words.push(0)?;
@@ -30,7 +32,9 @@ pub(crate) fn all_words(
 /// The words of the formula's identities; the literals of the first clause lie from this place on.
 fn add_clauses(words: &mut Vec<u64>, formula: &Formula, first: u64) -> Result<(), AllocError>
     requires { first + literals_of formula.now < 2 ^ 41 }
-    ensures { OnOk result (words.new.items ≡ words.old.items ++ clause_words first formula.now.clauses) }
+    ensures words { OnOk result
+        (words.new.items ≡ words.old.items ++ clause_words first formula.now.clauses) }
+    ensures formula { IsCnf formula.now }
 {
     let mut start = first;
     for i in 0..formula.len() {
@@ -43,7 +47,8 @@ fn add_clauses(words: &mut Vec<u64>, formula: &Formula, first: u64) -> Result<()
 
 /// The words of the formula's literals.
 fn add_literals(words: &mut Vec<u64>, formula: &Formula) -> Result<(), AllocError>
-    ensures { OnOk result (words.new.items ≡ words.old.items ++ literal_words formula.now.clauses) }
+    ensures { OnOk result
+        (words.new.items ≡ words.old.items ++ literal_words formula.now.clauses) }
 {
     for i in 0..formula.len() {
         add_clause(words, formula.clause(i + 1))?;
@@ -56,7 +61,7 @@ fn add_clause(words: &mut Vec<u64>, clause: &[Lit]) -> Result<(), AllocError>
     ensures { OnOk result (words.new.items ≡ words.old.items ++ map code_of clause.now) }
 {
     for lit in clause {
-        words.push(code(*lit))?;
+        words.push(lit.code() as u64)?;
     }
     Ok(())
 }

@@ -1,22 +1,56 @@
 //! The row and the steps on it.
-ghost use Rattle.std.specs.Prelude.{◌≡◌, ◌↔◌, ◌+◌, ◌-◌, ◌<◌, ◌++◌, ℕ, [], ◌∷◌, Some, IfOk, length, slice_get, vec_len, if◌then◌else◌, ◌==◌};
+ghost use Rattle.std.specs.Prelude.{◌≡◌, ◌↔◌, ◌+◌, ◌-◌, ◌<◌, ◌++◌, ℕ, [], ◌∷◌, Some, IfOk, length, slice_get, vec_len};
 ghost use Rattle.lrup_model.specs.Event as events;
 ghost use Rattle.lrup_model.specs.History.{IsPublishable};
 ghost use Rattle.lrup_model.specs.Layout.{Fits, IsIdentity, IsStream, Owns, row_words};
-ghost use Rattle.lrup_model.specs.Pass.{kept_in, pass_place, Meets};
+ghost use Rattle.lrup_model.specs.Pass.{kept_in, pass_place, IsFair, Meets};
 ghost use Rattle.lrup_model.specs.State.{state, absent, IsLive};
 ghost use Rattle.idwords.specs.Words.{ShowsKept, reply_in};
+ghost use Rattle.idwords.specs.Rule.{IsPlan, opening_parts};
 ghost use Rattle.idwords.specs.Seats.{opening_seat};
 ghost use Rattle.idwords.specs.Steps.{Calls, IsText, top_after_reply};
 
 use crate::opening::all_words;
-use crate::rule::{Claim, Deal, Find, Hand, Look, Meet, Part, Plan, Read, Retire, Unite, Words, Write};
+use crate::rule::{Claim, Deal, Find, Hand, Look, Meet, Part, Plan, Read, Retire, Token, Unite, Words, Write};
 use crate::seat::Seat;
-use crate::word::{LIVE, code, live_word, state};
+use crate::word::{LIVE, live_word, state};
 use lrup_model::{Formula, Layout, Lit, Published, Retired};
 use std::alloc::{AllocError, Global};
 use std::marker::Model;
 use std::snapshot::Snapshot;
+
+/// A seat for each stream, from the one that has all parts.
+fn deal(
+    alloc: Global,
+    table: &Words,
+    mut token: Token,
+    layout: &Layout,
+) -> Result<Vec<Seat>, AllocError>
+    requires plan { IsPlan table.now.shared.key.formula.value layout.now }
+    requires layout { table.now.shared.key.layout ≡ layout.now }
+    requires words { table.now.shared.table_id.words ≡ row_words layout.now }
+    requires table { token.table_id ≡ table.now.shared.table_id }
+    requires parts { let formula = table.now.shared.key.formula.value in
+        token.me ≡ (opening_parts formula layout.now 1 layout.now.streams, []) }
+    ensures count { IfOk result (λ seats. vec_len seats ≡ layout.now.streams) }
+    ensures seats { let formula = table.now.shared.key.formula.value in
+        IfOk result (λ seats. (k : ℕ) → k < layout.now.streams
+            → slice_get seats.items k ≡ Some (opening_seat table.now.shared.table_id formula layout.now (k + 1))) }
+{
+    let mut seats = Vec::with_capacity(alloc, layout.streams() as usize)?;
+    let mut top = layout.row_words() - layout.all_room();
+    for _s in 0..layout.streams() {
+        let part = table.shared.split_seat::<Deal>(&mut token);
+        seats.push_reserved(Seat {
+            token: part,
+            top,
+            drafted: 0,
+            room: layout.room(),
+        });
+        top += layout.room();
+    }
+    Ok(seats)
+}
 
 /// The row of words, which all streams share: word 0, which is always 0, a word for each identity, and one for each
 /// literal of the formula and of the streams' room. Contracts see it as its name.
@@ -36,6 +70,31 @@ impl Model for Row {
 }
 
 impl Row {
+    /// The row of a formula and a layout that fits it, and a seat for each stream, in their order. It takes 8 bytes a word of
+    /// the row, and as much again until it returns. A refusal leaves nothing behind.
+    pub fn open(
+        alloc: Global,
+        formula: &Formula,
+        layout: &Layout,
+    ) -> Result<(Row, Vec<Seat>), AllocError>
+        requires { Fits layout.now formula.now }
+        ensures count { IfOk result (λ opened. vec_len opened.1 ≡ layout.now.streams) }
+        ensures seats { IfOk result (λ opened. (s : ℕ) → IsStream layout.now s
+            → slice_get opened.1.items (s - 1) ≡ Some (opening_seat opened.0 formula.now layout.now s)) }
+        ensures fair { IfOk result (λ opened. (s : ℕ) → IsStream layout.now s
+            → IsFair (opening_seat opened.0 formula.now layout.now s).view) }
+    {
+        let words = all_words(alloc, formula, layout)?;
+        let plan = Plan {
+            formula: Snapshot::of(formula),
+            layout: *layout,
+        };
+        let (table, token) = Words::of_words(alloc, words.as_slice(), &plan)?;
+        drop(words);
+        let seats = deal(alloc, &table, token, layout)?;
+        Ok((Row { table }, seats))
+    }
+
     /// Fetches: one load of the identity's word, which spells the reply.
     #[inline]
     pub fn look(&self, seat: &mut Seat, id: u64) -> u64
@@ -71,7 +130,8 @@ impl Row {
         ensures { seat.new ≡ record seat.old { draft = seat.old.draft ++ lit ∷ [] } }
     {
         let place = (seat.top + seat.drafted) as usize;
-        self.table.shared.store::<Write>(&mut seat.token, place, code(lit));
+        let word = lit.code() as u64;
+        self.table.shared.store::<Write>(&mut seat.token, place, word);
         seat.drafted += 1;
     }
 

@@ -2,8 +2,7 @@
 //! count of its literals and 4,194,304 times the place of the first; a literal's word is its code, twice the variable,
 //! and one more for a negative literal.
 ghost use Rattle.std.specs.Prelude.{◌≡◌, ◌^◌, ◌<◌};
-ghost use Rattle.lrup_model.specs.Literal.{max_variable};
-ghost use Rattle.idwords.specs.Codes.{code_of, IsCode};
+ghost use Rattle.lrup_model.specs.Literal.{max_variable, code_of, IsCode};
 ghost use Rattle.idwords.specs.Words.{identity_word, state_of, length_of, start_of};
 
 use lrup_model::Lit;
@@ -47,22 +46,7 @@ pub fn lit(word: u64) -> Lit
     requires { IsCode max_variable word }
     ensures { code_of result ≡ word }
 {
-    let variable = (word >> 1) as i64;
-    let value = if word & 1 == 0 { variable } else { -variable };
-    match Lit::new(value) {
-        Some(lit) => lit,
-        None => unreachable!(),
-    }
-}
-
-/// The word of a literal.
-#[inline]
-pub(crate) fn code(lit: Lit) -> u64
-    ensures code { result ≡ code_of lit }
-    ensures range { IsCode max_variable result }
-{
-    let double = 2 * u64::from(lit.var());
-    if lit.value() < 0 { double + 1 } else { double }
+    Lit::from_code(word as u32)
 }
 
 /// The word of a live clause.

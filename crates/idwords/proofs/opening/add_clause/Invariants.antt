@@ -1,6 +1,6 @@
 use Rattle.std.proofs.Common.{◌≡◌, ◌++◌, take}
 use Rattle.std.specs.Prelude.{map}
-use Rattle.idwords.specs.Codes.{code_of}
+use Rattle.lrup_model.specs.Literal.{code_of}
 use Rattle.idwords.proofs.opening.add_clause.Given as goal
 
 abbrev pub invariant-loop-lit : goal.invariant-loop-lit

@@ -1,4 +1,0 @@
-use Rattle.idwords.proofs.word.lit.Goals as goal
-
-pub returns : goal.returns
-returns c = ?
