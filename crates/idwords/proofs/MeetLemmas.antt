@@ -7,7 +7,7 @@ use Rattle.std.proofs.lemmas.List.{set-get_or}
 use Rattle.atomic_table.specs.Table.{State, Step, Me, Act, keeps, Allows, Splits, Joins}
 use Rattle.atomic_table.proofs.Lists.{set_else}
 use Rattle.lrup_model.specs.Formula.{Cnf}
-use Rattle.lrup_model.specs.Layout.{LayoutValue}
+use Rattle.lrup_model.specs.Layout.{LayoutValue, row_words}
 use Rattle.lrup_model.specs.Event.{Event, History, own}
 use Rattle.lrup_model.specs.History.{IsLegal}
 use Rattle.lrup_model.specs.Place.{KeepsSpelt}
@@ -16,11 +16,11 @@ use Rattle.lrup_model.specs.Laws.{learned}
 use Rattle.lrup_model.specs.Running.{own-append}
 use Rattle.lrup_model.specs.HistoryLemmas.{IsLegal-front}
 use Rattle.lrup_model.specs.PassLemmas.{moves_learn}
-use Rattle.idwords.specs.Spelling.{spelling_of}
+use Rattle.idwords.specs.Spelling.{spelling_of, LieWithin}
 use Rattle.idwords.specs.Rule.{Part, part_stream, AllParts, count_in, times, Keeps, IsKept, Stands}
 use Rattle.idwords.specs.Steps.{Met, Joined}
 use Rattle.idwords.specs.Seats.{first_only, others}
-use Rattle.idwords.proofs.SpellingLemmas.{keeps_spelt, spelt}
+use Rattle.idwords.proofs.SpellingLemmas.{lies_within, keeps_spelt, spelt}
 use Rattle.idwords.proofs.ViewLemmas.{all_at, all-set, all-snoc, times-set, times-snoc}
 use Rattle.idwords.proofs.RuleLemmas.{own_rest, between, fair_part}
 
@@ -131,6 +131,7 @@ pub record Learns (f : Cnf) (p : LayoutValue) (log : History) (words : List ℕ)
   pub stands : Stands f p log words w
   pub moves : PassMoves v.view w.view []
   pub fair : IsFair w.view
+  pub within : LieWithin (row_words w.view.caller.layout) w.view.spelt
   pub seen : w.view.seen ≡ h
   pub top : w.top ≡ v.top
   pub draft : w.draft ≡ v.draft
@@ -165,6 +166,7 @@ learns_own v rest more words views kept stands =
       };
       moves = step.0;
       fair = step.1;
+      within = lies_within f p (v.view.seen ++ rest) kept.plan.layout.some_stream kept.plan.fits legal;
       seen = refl;
       top = refl;
       draft = refl;
@@ -235,6 +237,8 @@ module _ (f : Cnf) (p : LayoutValue) (log : History) (words : List ℕ) (views :
             longer = λ rest is. a.2.seen ∙ longer rest is;
             longer' = λ rest is. a.2.seen ∙ longer' rest is;
           };
+          within = a.2.within;
+          within' = b.2.within;
           top = a.2.top;
           draft = a.2.draft;
           top' = b.2.top;

@@ -21,7 +21,7 @@ use Rattle.idwords.specs.Words.{word_of, LiesAt, ShowsKept, reply_in}
 use Rattle.idwords.specs.Spelling.{first_place, top_after, event_spelling, spelling_of}
 use Rattle.idwords.specs.Rule.{Part, part_stream, Stands, AllParts, Keeps, IsPlan}
 use Rattle.idwords.specs.Steps.{Calls}
-use Rattle.idwords.proofs.SpellingLemmas.{spelling-snoc, spelling-append, keeps_spelt, spelt, own_kept}
+use Rattle.idwords.proofs.SpellingLemmas.{lies_within, spelling-snoc, spelling-append, keeps_spelt, spelt, own_kept}
 use Rattle.idwords.proofs.ViewLemmas.{all_at, moved, times-same}
 
 -- Own events
@@ -211,5 +211,6 @@ module _ (v : Part) (more : History) (words words' : List ℕ) (views : List (Li
           moves = step.0;
           last = (log, refl);
           fair = step.1;
+          within = lies_within f p (log ++ e ∷ []) keeps.plan.layout.some_stream keeps.plan.fits legal;
         },
       )

@@ -5,11 +5,12 @@ use Rattle.std.proofs.lemmas.Bool.{cases_eq, cases_lt, cond-true, cond-false}
 use Rattle.std.proofs.lemmas.List.Sums.{sum_by-cons}
 use Rattle.lrup_model.specs.Clause.{Clause}
 use Rattle.lrup_model.specs.Formula.{Cnf, IsCnf, IsFormulaClause, clause_at}
-use Rattle.lrup_model.specs.Layout.{LayoutValue, Fits, IsStream, Owns, last_identity}
+use Rattle.std.proofs.Math.Nat.{mul-le-mul_right}
+use Rattle.lrup_model.specs.Layout.{LayoutValue, Fits, IsStream, Owns, last_identity, row_words}
 use Rattle.lrup_model.specs.Event as events
 use Rattle.lrup_model.specs.Event.{Event, History, spent, size_of, stream_of}
 use Rattle.lrup_model.specs.State.{State, Slot, absent, live, retired, put, retire_slot, opening, after, run, state, Answers, IsLive}
-use Rattle.lrup_model.specs.History.{LegalFrom}
+use Rattle.lrup_model.specs.History.{LegalFrom, IsLegal}
 use Rattle.lrup_model.specs.Place.{Kept, KeepsSpelt}
 use Rattle.lrup_model.specs.Pass.{Spelling, kept_in, IsOncePerIdentity, Spells, IsSpelt}
 use Rattle.lrup_model.specs.Running.{spent-append}
@@ -17,7 +18,7 @@ use Rattle.lrup_model.specs.HistoryLemmas.{put-same, put-other, spent_one, legal
 use Rattle.lrup_model.specs.OwnerLemmas.{owned}
 use Rattle.lrup_model.specs.declared.clause_map.Published.TheVariants as publishing
 use Rattle.lrup_model.specs.declared.clause_map.Retired.TheVariants as retiring
-use Rattle.idwords.specs.Spelling.{spelling, clauses_spelling, first_place, top_after, event_spelling, added_spelling, spelling_of}
+use Rattle.idwords.specs.Spelling.{spelling, clauses_spelling, first_place, top_after, event_spelling, added_spelling, spelling_of, LieWithin}
 
 -- One history behind another
 
@@ -281,6 +282,17 @@ lodged_either f p h j kept some fits legal here (Some k) there =
 pub lodged : (f : Cnf) (p : LayoutValue) (h : History) (j : ℕ) (kept : Kept) → 0 < p.streams → Fits p f → LegalFrom f p (opening f) h
     → kept_in (spelling_of f p h) j ≡ Some kept → IsLodged p h kept
 lodged f p h j kept some fits legal here = lodged_either f p h j kept some fits legal here (kept_in (clauses_spelling 1 (1 + last_identity p) f.clauses) j) refl
+
+-- Inside the row
+
+pub lies_within : (f : Cnf) (p : LayoutValue) (h : History) → 0 < p.streams → Fits p f → IsLegal f p h → LieWithin (row_words p) (spelling_of f p h)
+lies_within f p h some fits legal j kept there =
+    elim (lodged f p h j kept some fits legal.events there) [
+      | inl formula ↦ omega (arith, formula.last)
+      | inr (s, lodging) ↦
+          let more : (s - 1 + 1) * p.room ≤ p.streams * p.room = mul-le-mul_right p.room (omega (arith, lodging.stream.0, lodging.stream.1)) in
+          omega (arith, lodging.last, legal.room s)
+    ]
 
 -- Of a length that an identity's word can hold
 

@@ -1,12 +1,13 @@
 -- Where the clauses of a history lie in the row, and their literals (this project's own): the formula's one after the other, then those of each
 -- stream in its own room, in the order in which they were published.
-use Rattle.std.specs.Prelude.{◌+◌, ◌-◌, ◌*◌, ◌++◌, ℕ, List, [], ◌∷◌, length}
+use Rattle.std.specs.Prelude.{◌≡◌, ◌≤◌, ◌+◌, ◌-◌, ◌*◌, ◌++◌, ℕ, List, [], ◌∷◌, length, Some}
 use Rattle.lrup_model.specs.Clause.{Clause}
 use Rattle.lrup_model.specs.Formula.{Cnf}
 use Rattle.lrup_model.specs.Layout.{LayoutValue, last_identity}
 use Rattle.lrup_model.specs.Event as events
 use Rattle.lrup_model.specs.Event.{Event, History, spent}
-use Rattle.lrup_model.specs.Pass.{Spelling}
+use Rattle.lrup_model.specs.Place.{Kept}
+use Rattle.lrup_model.specs.Pass.{Spelling, kept_in}
 use Rattle.lrup_model.specs.declared.clause_map.Published.TheVariants as publishing
 
 -- the clause of this identity lies at this place
@@ -41,3 +42,7 @@ added_spelling p before (e ∷ es) = event_spelling p before e ++ added_spelling
 -- all clauses of the formula and of the history
 abbrev pub spelling_of : Cnf → LayoutValue → History → List Spelling
 spelling_of f p h = clauses_spelling 1 (1 + last_identity p) f.clauses ++ added_spelling p [] h
+
+-- every clause that is kept lies inside a row of so many words
+abbrev pub LieWithin : ℕ → List Spelling → Type 0
+LieWithin words xs = (id : ℕ) (kept : Kept) → kept_in xs id ≡ Some kept → kept.start + length kept.literals ≤ words

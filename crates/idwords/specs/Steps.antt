@@ -5,6 +5,7 @@ use Rattle.lrup_model.specs.Clause.{Clause}
 use Rattle.lrup_model.specs.Event as events
 use Rattle.lrup_model.specs.Event.{Event, History}
 use Rattle.lrup_model.specs.State.{state, absent, IsLive}
+use Rattle.lrup_model.specs.Layout.{row_words}
 use Rattle.lrup_model.specs.Place.{Kept}
 use Rattle.lrup_model.specs.Pass.{View, Spelling, IsFair, PassMoves, kept_in, Meets}
 use Rattle.lrup_model.specs.declared.clause_map.Published.{Published}
@@ -12,17 +13,19 @@ use Rattle.lrup_model.specs.declared.clause_map.Published.TheVariants as publish
 use Rattle.lrup_model.specs.declared.clause_map.Retired.TheVariants as retiring
 use Rattle.lrup_model.specs.Literal.{code_of}
 use Rattle.idwords.specs.Words.{state_of, word_of, ShowsKept, reply_in}
+use Rattle.idwords.specs.Spelling.{LieWithin}
 use Rattle.idwords.specs.Rule.{Part, part_stream}
 
 -- the history ends with the event
 abbrev pub EndsWith : History → Event → Type 0
 EndsWith h e = (before : History) × (h ≡ before ++ e ∷ [])
 
--- a fair pass that moved by one call, which is the last that it has seen
+-- a fair pass that moved by one call, which is the last that it has seen; its clauses lie inside the row
 pub record Calls (old new : View) (e : Event) : Type 0 where
   pub moves : PassMoves old new (e ∷ [])
   pub last : EndsWith new.seen e
   pub fair : IsFair new
+  pub within : LieWithin (row_words new.caller.layout) new.spelt
 
 -- a fetch: the word found shows the clause that is kept, and spells the reply
 pub record Looks (id : ℕ) (v : Part) (word : ℕ) (w : Part) : Type 0 where
@@ -84,6 +87,8 @@ pub record Retires (id : ℕ) (v w : Part) : Type 0 where
 -- two parts have met
 pub record Met (v v' w w' : Part) : Type 0 where
   pub meets : Meets v.view v'.view w.view w'.view
+  pub within : LieWithin (row_words w.view.caller.layout) w.view.spelt
+  pub within' : LieWithin (row_words w'.view.caller.layout) w'.view.spelt
   pub top : w.top ≡ v.top
   pub draft : w.draft ≡ v.draft
   pub top' : w'.top ≡ v'.top

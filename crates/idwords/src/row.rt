@@ -8,6 +8,7 @@ ghost use Rattle.lrup_model.specs.State.{state, absent, IsLive};
 ghost use Rattle.idwords.specs.Words.{ShowsKept, reply_in};
 ghost use Rattle.idwords.specs.Rule.{IsPlan, opening_parts};
 ghost use Rattle.idwords.specs.Seats.{opening_seat};
+ghost use Rattle.idwords.specs.Spelling.{LieWithin, spelling_of};
 ghost use Rattle.idwords.specs.Steps.{Calls, IsText, top_after_reply};
 
 use crate::opening::all_words;
@@ -83,6 +84,8 @@ impl Row {
             → slice_get opened.1.items (s - 1) ≡ Some (opening_seat opened.0 formula.now layout.now s)) }
         ensures fair { IfOk result (λ opened. (s : ℕ) → IsStream layout.now s
             → IsFair (opening_seat opened.0 formula.now layout.now s).view) }
+        ensures within { IfOk result (λ _.
+            LieWithin (row_words layout.now) (spelling_of formula.now layout.now [])) }
     {
         let words = all_words(alloc, formula, layout)?;
         let plan = Plan {
@@ -197,6 +200,10 @@ impl Row {
         ensures first { first.new.table ≡ first.old.table }
         ensures second { second.new.table ≡ second.old.table }
         ensures meets { Meets first.old.view second.old.view first.new.view second.new.view }
+        ensures within { let words = row_words first.new.view.caller.layout in
+            LieWithin words first.new.view.spelt }
+        ensures within_too { let words = row_words second.new.view.caller.layout in
+            LieWithin words second.new.view.spelt }
         ensures tops { (first.new.top ≡ first.old.top) × (second.new.top ≡ second.old.top) }
         ensures drafts { (first.new.draft ≡ first.old.draft) × (second.new.draft ≡ second.old.draft) }
     {

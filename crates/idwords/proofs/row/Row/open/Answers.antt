@@ -1,7 +1,8 @@
-use Rattle.std.proofs.Common.{◌≡◌, ℕ, List, [], ◌∷◌, length, sym, ap, subst, ◌∙◌}
+use Rattle.std.proofs.Common.{arith, ◌≡◌, ℕ, List, [], ◌∷◌, length, sym, ap, subst, ◌∙◌}
 use Rattle.lrup_model.specs.Formula.{Cnf}
 use Rattle.lrup_model.specs.Layout.{Fits}
 use Rattle.idwords.specs.Rule.{Keeps, IsPlan, opening_parts}
+use Rattle.idwords.proofs.SpellingLemmas.{lies_within}
 use Rattle.idwords.proofs.OpeningLemmas.{opens, length-opening_words, opening_fair}
 use Rattle.idwords.proofs.row.Row.open.Goals as goal
 
@@ -20,3 +21,8 @@ deal-requires-clause-words c =
 
 pub returns-clause-fair : goal.returns-clause-fair
 returns-clause-fair c = λ s stream. opening_fair c.args.formula.now c.args.layout.now s c.in_ok-words.ensures.plan stream
+
+pub returns-clause-within : goal.returns-clause-within
+returns-clause-within c =
+    let plan = c.in_ok-words.ensures.plan in
+    lies_within c.args.formula.now c.args.layout.now [] plan.layout.some_stream c.requires (record { events = tt; room = λ s. omega arith })
