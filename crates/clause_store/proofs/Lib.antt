@@ -1,0 +1,2 @@
+pub mod LiteralsRead
+pub mod MeetingLemmas
