@@ -39,7 +39,7 @@ module _ (v : Part) (more : History) (words : List ℕ) (views : List (List Part
       → stream_of e ≡ part_stream v → Answers (state v.view.caller.formula (v.view.seen ++ more)) e → IsAllowed v.view.caller.formula v.view.caller.layout e
       → IsPlain v.view.caller.formula v.view.caller.layout (v.view.seen ++ more) e → LiesAt words v.top draft → length draft ≤ length v.draft
       → Keeps v.view.caller.formula v.view.caller.layout (v.view.seen ++ more ++ e ∷ []) words (set views id (advanced v more e draft ∷ []))
-        × Calls v.view (advanced v more e draft).view e × ((advanced v more e draft).top ≡ v.top)
+      × Calls v.view (advanced v more e draft).view e × ((advanced v more e draft).top ≡ v.top)
   plain_step kept here mine answers allowed plain lies shorter =
       let f = v.view.caller.formula in
       let p = v.view.caller.layout in
@@ -59,7 +59,7 @@ module _ (v : Part) (more : History) (words : List ℕ) (views : List (List Part
         others = λ q other there. there.draft;
       } in
       let done = advance v more words words views id e draft kept here mine answers allowed (omega (arith, plain.size, stands.room)) serves
-          (subst (λ (place : ℕ). LiesAt words place draft) (sym top) lies) in
+      (subst (λ (place : ℕ). LiesAt words place draft) (sym top) lies) in
       (done.0, done.1, top)
 
 -- A fetch
@@ -101,7 +101,7 @@ short_option o (Some kept) same all = all kept same
 -- the word of an identity shows what is kept, and spells its slot
 pub shown : (f : Cnf) (p : LayoutValue) (log : History) (words : List ℕ) (views : List (List Part)) (id : ℕ) → Keeps f p log words views → IsIdentity p id
     → ShowsKept (kept_in (spelling_of f p log) id) (slice_index words id)
-      × (reply_in (kept_in (spelling_of f p log) id) (slice_index words id) ≡ slot_reply (state f log id))
+    × (reply_in (kept_in (spelling_of f p log) id) (slice_index words id) ≡ slot_reply (state f log id))
 shown f p log words views id kept identity =
     let all : IsSpelt f log (spelling_of f p log) = spelt f p log kept.legal.events in
     let o : Option Kept = kept_in (spelling_of f p log) id in

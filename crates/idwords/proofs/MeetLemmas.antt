@@ -123,7 +123,7 @@ front_nil (e ∷ g) h none = absurd (cc)
 own_all : (seen rest more mine : History) (s : ℕ) → own seen s ≡ mine → own (seen ++ (rest ++ more)) s ≡ mine → own (seen ++ rest) s ≡ mine
 own_all seen rest more mine s here all =
     let nothing : own rest s ++ own more s ≡ [] = own_rest (own seen s) (own rest s ++ own more s) mine (sym here)
-        (ap (λ (h : History). own seen s ++ h) (sym (own-append rest more s)) ∙ sym (own-append seen (rest ++ more) s) ∙ all) in
+    (ap (λ (h : History). own seen s ++ h) (sym (own-append rest more s)) ∙ sym (own-append seen (rest ++ more) s) ∙ all) in
     own-append seen rest s ∙ ap (λ (h : History). own seen s ++ h) (front_nil (own rest s) (own more s) nothing) ∙ append-nil (own seen s) ∙ here
 
 -- it stands, and has moved by no call
@@ -148,9 +148,9 @@ learns_own v rest more words views kept stands =
     let legal : IsLegal f p (v.view.seen ++ rest) = IsLegal-front f p (v.view.seen ++ rest) more (subst (λ (h : History). IsLegal f p h) (sym cut) kept.legal) in
     let mine : own (v.view.seen ++ rest) s ≡ v.view.mine = own_all v.view.seen rest more v.view.mine s stands.seen stands.mine in
     let keeps_on : KeepsSpelt (kept_in v.view.spelt) (kept_in (spelling_of f p (v.view.seen ++ rest))) = λ j text there.
-        keeps_spelt f p v.view.seen rest j text (ap (λ (xs : List Spelling). kept_in xs j) (sym stands.spelt) ∙ there) in
+    keeps_spelt f p v.view.seen rest j text (ap (λ (xs : List Spelling). kept_in xs j) (sym stands.spelt) ∙ there) in
     let step = moves_learn v.view rest (spelling_of f p (v.view.seen ++ rest)) (fair_part v (rest ++ more) words kept.plan kept.legal stands)
-        (between v.view.seen rest v.view.mine s stands.seen mine) legal (spelt f p (v.view.seen ++ rest) legal.events) keeps_on in
+    (between v.view.seen rest v.view.mine s stands.seen mine) legal (spelt f p (v.view.seen ++ rest) legal.events) keeps_on in
     record {
       stands = record {
         formula = refl;
@@ -269,7 +269,7 @@ module _ {S : Type 0} where
       let w : Part = pair.0 in
       let w' : Part = pair.1 in
       let same : (t : ℕ) → count_in t (w ∷ w' ∷ []) ≡ count_in t (v ∷ v' ∷ []) = λ t.
-          ap₂ (λ (a b : ℕ). cond (eqb a t) 1 0 + (cond (eqb b t) 1 0 + 0)) pair.2 pair.3 in (
+      ap₂ (λ (a b : ℕ). cond (eqb a t) 1 0 + (cond (eqb b t) 1 0 + 0)) pair.2 pair.3 in (
         w ∷ w' ∷ [],
         keeps,
         tt,
@@ -277,8 +277,8 @@ module _ {S : Type 0} where
           kept.0,
           subst (λ (ws : List ℕ). Keeps f p kept.0 ws (set s.views id (w ∷ w' ∷ []))) (sym (set-get_or s.words i 0))
               (with_views f p kept.0 s.words s.views (set s.views id (w ∷ w' ∷ [])) kept.1
-                  (all-set P s.views id (w ∷ w' ∷ []) kept.1.parts (pair.4, (pair.5, tt)))
-                  (λ t. omega (arith, times-set t s.views id (v ∷ v' ∷ []) (w ∷ w' ∷ []) here, same t))),
+              (all-set P s.views id (w ∷ w' ∷ []) kept.1.parts (pair.4, (pair.5, tt)))
+              (λ t. omega (arith, times-set t s.views id (v ∷ v' ∷ []) (w ∷ w' ∷ []) here, same t))),
         ),
         tell (slice_index s.words i) w w' pair.6,
       )

@@ -45,8 +45,8 @@ clause_words_more first start i cs c words old within here from is =
     ap (λ (ws : List ℕ). ws ++ identity_word 1 (length c) start ∷ []) is
     ∙ append_assoc old (clause_words first (take i cs)) (identity_word 1 (length c) start ∷ [])
     ∙ ap (λ (ws : List ℕ). old ++ ws)
-        (ap (λ (n : ℕ). clause_words first (take i cs) ++ identity_word 1 (length c) n ∷ []) from
-            ∙ sym (clause_words-append first (take i cs) (c ∷ [])) ∙ ap (clause_words first) (sym cut))
+    (ap (λ (n : ℕ). clause_words first (take i cs) ++ identity_word 1 (length c) n ∷ []) from
+    ∙ sym (clause_words-append first (take i cs) (c ∷ [])) ∙ ap (clause_words first) (sym cut))
 
 pub literal_words_more : (i : ℕ) (cs : List Clause) (c : Clause) (words old : List ℕ) → i < length cs → c ≡ get_or cs i [] → words ≡ old ++ literal_words (take i cs)
     → words ++ map code_of c ≡ old ++ literal_words (take (i + 1) cs)
@@ -55,8 +55,8 @@ literal_words_more i cs c words old within here is =
     ap (λ (ws : List ℕ). ws ++ map code_of c) is
     ∙ append_assoc old (literal_words (take i cs)) (map code_of c)
     ∙ ap (λ (ws : List ℕ). old ++ ws)
-        (ap (λ (ws : List ℕ). literal_words (take i cs) ++ ws) (sym (append-nil (map code_of c)))
-            ∙ sym (literal_words-append (take i cs) (c ∷ [])) ∙ ap literal_words (sym cut))
+    (ap (λ (ws : List ℕ). literal_words (take i cs) ++ ws) (sym (append-nil (map code_of c)))
+    ∙ sym (literal_words-append (take i cs) (c ∷ [])) ∙ ap literal_words (sym cut))
 
 pub clause_at-suc : (f : Cnf) (i : ℕ) → clause_at f (i + 1) ≡ get_or f.clauses i []
 clause_at-suc f i = let place : i + 1 - 1 ≡ i = omega arith in ap (λ n. get_or f.clauses n []) place
@@ -89,7 +89,7 @@ opened_words f p first n k w1 w2 w3 w4 w5 fits from to all e1 e2 e3 e4 e5 =
     let len2 : length w2 ≡ 1 + length cs = ap length w2_is ∙ omega (arith, length-clause_words (1 + last_identity p) cs) in
     let vacant : List ℕ = replicate (p.streams * p.lines) 0 in
     let w3_is : w3 ≡ front ++ vacant = e3 ∙ ap (λ (ws : List ℕ). ws ++ replicate (n - length w2) 0) (take_all n w2 (omega (arith, fits.clauses)) ∙ w2_is)
-        ∙ ap (λ (m : ℕ). front ++ replicate m 0) (omega (arith, fits.clauses)) in
+    ∙ ap (λ (m : ℕ). front ++ replicate m 0) (omega (arith, fits.clauses)) in
     let len3 : length w3 ≡ 1 + last_identity p = ap length w3_is ∙ omega (arith, length-append front vacant, length-clause_words (1 + last_identity p) cs, length-replicate {A = ℕ} (p.streams * p.lines) 0, fits.clauses) in
     let w4_is : w4 ≡ front ++ vacant ++ literal_words cs = e4 ∙ ap (λ (ws : List ℕ). ws ++ literal_words cs) w3_is in
     let len4 : length w4 ≡ 1 + last_identity p + p.literals = ap length e4 ∙ omega (arith, length-append w3 (literal_words cs), length-literal_words cs, fits.literals) in
@@ -104,8 +104,18 @@ length-opening_words f p fits =
     let vacant : List ℕ = replicate (p.streams * p.lines) 0 in
     let texts : List ℕ = literal_words f.clauses in
     let rooms : List ℕ = replicate (p.streams * p.room) 0 in
-    omega (arith, length-append (front ++ vacant ++ texts) rooms, length-append (front ++ vacant) texts, length-append front vacant,
-        length-clause_words (1 + last_identity p) f.clauses, length-replicate {A = ℕ} (p.streams * p.lines) 0, length-replicate {A = ℕ} (p.streams * p.room) 0, length-literal_words f.clauses, fits.clauses, fits.literals)
+    omega (
+      arith,
+      length-append (front ++ vacant ++ texts) rooms,
+      length-append (front ++ vacant) texts,
+      length-append front vacant,
+      length-clause_words (1 + last_identity p) f.clauses,
+      length-replicate {A = ℕ} (p.streams * p.lines) 0,
+      length-replicate {A = ℕ} (p.streams * p.room) 0,
+      length-literal_words f.clauses,
+      fits.clauses,
+      fits.literals,
+    )
 
 -- a clause's word is that of what is kept for it
 clause_word_at : (id start : ℕ) (cs : List Clause) (back : List ℕ) (k : ℕ) → k < length cs
@@ -183,7 +193,7 @@ opening_text f p j kept fits here =
     let rooms : List ℕ = replicate (p.streams * p.room) 0 in
     subst (λ (ws : List ℕ). LiesAt ws kept.start kept.literals) (sym (append_assoc (front ++ vacant) (literal_words f.clauses) rooms))
     (lies_clauses (front ++ vacant) rooms 1 (1 + last_identity p) f.clauses j kept
-        (omega (arith, length-append front vacant, length-clause_words (1 + last_identity p) f.clauses, length-replicate {A = ℕ} (p.streams * p.lines) 0, fits.clauses)) here)
+    (omega (arith, length-append front vacant, length-clause_words (1 + last_identity p) f.clauses, length-replicate {A = ℕ} (p.streams * p.lines) 0, fits.clauses)) here)
 
 -- The parts
 

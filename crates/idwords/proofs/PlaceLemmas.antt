@@ -78,7 +78,7 @@ reads v seat place more words views kept here small =
         text = λ id k text l there at here_is.
             ap (λ (n : ℕ). slice_index words n) here_is
             ∙ lies_get words text.start text.literals k l
-                (kept.texts id text (keeps_spelt f p v.view.seen more id text (ap (λ (xs : List Spelling). kept_in xs id) (sym stands.spelt) ∙ there))) at;
+            (kept.texts id text (keeps_spelt f p v.view.seen more id text (ap (λ (xs : List Spelling). kept_in xs id) (sym stands.spelt) ∙ there))) at;
       },
     )
 
@@ -100,9 +100,9 @@ written v seat l room more words views kept here small =
     let within : place < length words = within_row p s place (length words) stands.stream kept.count (omega arith) in
     let w : Part = record v { draft = v.draft ++ l ∷ [] } in
     let elsewhere : (q : Part) → part_stream q ≢ s → Stands f p log words q → Stands f p log new q = λ q other there.
-        stands_words f p log words new q there
-        (lies-set words q.top q.draft place (code_of l) there.draft
-            (outside_room p s (part_stream q) place q.top (q.top + length q.draft) stands.stream there.stream other (omega arith) (omega arith) (omega (arith, there.top)) (omega (arith, there.top, there.room)))) in
+    stands_words f p log words new q there
+    (lies-set words q.top q.draft place (code_of l) there.draft
+    (outside_room p s (part_stream q) place q.top (q.top + length q.draft) stands.stream there.stream other (omega arith) (omega arith) (omega (arith, there.top)) (omega (arith, there.top, there.room)))) in
     let mine : Stands f p log new w = record {
       formula = stands.formula;
       layout = stands.layout;

@@ -108,7 +108,7 @@ retires v seat id old owns is one more words views kept here small =
     } in
     let top : top_after p s (v.view.mine ++ e ∷ []) ≡ v.top = omega (arith, event_top p s v.view.mine e refl, stands.top) in
     let done = advance v more words new views seat e v.draft kept here refl alive owns (omega (arith, stands.room)) serves
-        (subst (λ (place : ℕ). LiesAt new place v.draft) (sym top) (drafts-write f p log words views id (old + 1) kept identity v stands)) in
+    (subst (λ (place : ℕ). LiesAt new place v.draft) (sym top) (drafts-write f p log words views id (old + 1) kept identity v stands)) in
     let w : Part = advanced v more e v.draft in
     let hit : either (eqb (slice_index words id) old) (old + 1) (slice_index words id) ≡ old + 1 =
     ap (λ b. either b (old + 1) (slice_index words id)) (eq-eqb (slice_index words id) old found) in (

@@ -163,7 +163,7 @@ module _ (v : Part) (more : History) (words words' : List ℕ) (views : List (Li
       → Serves v.view.caller.formula v.view.caller.layout (v.view.seen ++ more) words e words'
       → LiesAt words' (top_after v.view.caller.layout (part_stream v) (v.view.mine ++ e ∷ [])) draft
       → Keeps v.view.caller.formula v.view.caller.layout (v.view.seen ++ more ++ e ∷ []) words' (set views id (advanced v more e draft ∷ []))
-        × Calls v.view (advanced v more e draft).view e
+      × Calls v.view (advanced v more e draft).view e
   advance keeps here mine answers allowed room serves lies =
       let f = v.view.caller.formula in
       let p = v.view.caller.layout in
@@ -178,10 +178,10 @@ module _ (v : Part) (more : History) (words words' : List ℕ) (views : List (Li
       let spent_next : spent s (v.view.mine ++ e ∷ []) ≡ spent s v.view.mine + spent s (e ∷ []) = spent-append s v.view.mine (e ∷ []) in
       let spent_event : spent s (e ∷ []) ≡ size_of e = spent_one s e mine in
       let keeps_on : KeepsSpelt (kept_in v.view.spelt) (kept_in (spelling_of f p (log ++ e ∷ []))) = λ j kept there.
-          ap (λ (h : History). kept_in (spelling_of f p h) j) (append_assoc v.view.seen more (e ∷ []))
-          ∙ keeps_spelt f p v.view.seen (more ++ e ∷ []) j kept (ap (λ (xs : List Spelling). kept_in xs j) (sym stands.spelt) ∙ there) in
+      ap (λ (h : History). kept_in (spelling_of f p h) j) (append_assoc v.view.seen more (e ∷ []))
+      ∙ keeps_spelt f p v.view.seen (more ++ e ∷ []) j kept (ap (λ (xs : List Spelling). kept_in xs j) (sym stands.spelt) ∙ there) in
       let step = moves_step v.view more e (spelling_of f p (log ++ e ∷ [])) (fair_part v more words keeps.plan keeps.legal stands)
-          (between v.view.seen more v.view.mine s stands.seen stands.mine) mine legal (spelt f p (log ++ e ∷ []) legal.events) keeps_on in
+      (between v.view.seen more v.view.mine s stands.seen stands.mine) mine legal (spelt f p (log ++ e ∷ []) legal.events) keeps_on in
       let w : Part = advanced v more e draft in
       let new : Stands f p (log ++ e ∷ []) words' w = record {
         formula = refl;

@@ -105,8 +105,7 @@ module _ {S : Type 0} where
       let e : Published → Event = λ r. events.publish s one.word v.draft r in
       let spends : spent (part_stream w) w.view.mine ≡ spent s v.view.mine + size_of (e (published_at found)) =
       ap₂ (λ (t : ℕ) (h : History). spent t h) stream claim.calls.moves.mine ∙ spent-append s v.view.mine (e (published_at found) ∷ []) ∙ ap (λ (n : ℕ). spent s v.view.mine + n) (spent_one s (e (published_at found)) refl) in
-      let first : first_place w.view.caller.layout (part_stream w) ≡ first_place p s = ap₂ (λ (q : LayoutValue) (t : ℕ). first_place q t) layout stream in
-      (
+      let first : first_place w.view.caller.layout (part_stream w) ≡ first_place p s = ap₂ (λ (q : LayoutValue) (t : ℕ). first_place q t) layout stream in (
         λ is.
             let done : published_at found ≡ publishing.Done = cond-true (eqb found 0) publishing.Done publishing.Taken (eq-eqb found 0 is) in
             let size : size_of (e (published_at found)) ≡ length v.draft = ap (λ (r : Published). size_of (e r)) done in

@@ -174,8 +174,8 @@ clauses_at id start (c ∷ cs) (suc k) within =
     let next : id + suc k ≡ id + 1 + k = omega arith in (
       rest.0,
       ap (λ (j : ℕ). kept_in (clauses_spelling id start (c ∷ cs)) j) next
-      ∙ cond-false (eqb id (id + 1 + k)) (Some (record { start = start; literals = c })) (kept_in (clauses_spelling (id + 1) (start + length c) cs) (id + 1 + k)) (ne_eqb id (id + 1 + k) (λ same. omega arith))
-      ∙ rest.1,
+          ∙ cond-false (eqb id (id + 1 + k)) (Some (record { start = start; literals = c })) (kept_in (clauses_spelling (id + 1) (start + length c) cs) (id + 1 + k)) (ne_eqb id (id + 1 + k) (λ same. omega arith))
+          ∙ rest.1,
     )
 
 clauses_once : (id start : ℕ) (cs : List Clause) → IsOncePerIdentity (clauses_spelling id start cs)

@@ -59,8 +59,8 @@ lies-snoc words place (x ∷ c) l lies here = (lies.0, lies-snoc words (place + 
 pub lies-set : (words : List ℕ) (place : ℕ) (c : Clause) (at n : ℕ) → LiesAt words place c → (at < place) ⊎ (place + length c ≤ at) → LiesAt (slice_set words at n) place c
 lies-set words place [] at n lies apart = tt
 lies-set words place (l ∷ c) at n lies apart =
-    let other : place ≢ at = λ same. elim apart [ | inl below ↦ omega arith | inr above ↦ omega arith ] in
-    let rest : (at < place + 1) ⊎ (place + 1 + length c ≤ at) = elim apart [ | inl below ↦ inl (omega arith) | inr above ↦ inr (omega arith) ] in
+    let other : place ≢ at = λ same. elim apart [ inl below ↦ omega arith | inr above ↦ omega arith ] in
+    let rest : (at < place + 1) ⊎ (place + 1 + length c ≤ at) = elim apart [ inl below ↦ inl (omega arith) | inr above ↦ inr (omega arith) ] in
     (get_or-set_other words at place n 0 other ∙ lies.0, lies-set words (place + 1) c at n lies.1 rest)
 
 -- a literal has one code

@@ -12,7 +12,9 @@ ghost use Rattle.idwords.specs.Spelling.{LieWithin, spelling_of};
 ghost use Rattle.idwords.specs.Steps.{Calls, IsText, top_after_reply};
 
 use crate::opening::all_words;
-use crate::rule::{Claim, Deal, Find, Hand, Look, Meet, Part, Plan, Read, Retire, Token, Unite, Words, Write};
+use crate::rule::{
+    Claim, Deal, Find, Hand, Look, Meet, Part, Plan, Read, Retire, Token, Unite, Words, Write,
+};
 use crate::seat::Seat;
 use crate::word::{LIVE, live_word, state};
 use lrup_model::{Formula, Layout, Lit, Published, Retired};
@@ -36,7 +38,7 @@ fn deal(
     ensures count { IfOk result (λ seats. vec_len seats ≡ layout.now.streams) }
     ensures seats { let formula = table.now.shared.key.formula.value in
         IfOk result (λ seats. (k : ℕ) → k < layout.now.streams
-            → slice_get seats.items k ≡ Some (opening_seat table.now.shared.table_id formula layout.now (k + 1))) }
+        → slice_get seats.items k ≡ Some (opening_seat table.now.shared.table_id formula layout.now (k + 1))) }
 {
     let mut seats = Vec::with_capacity(alloc, layout.streams() as usize)?;
     let mut top = layout.row_words() - layout.all_room();
@@ -110,7 +112,8 @@ impl Row {
         ensures top { seat.new.top ≡ seat.old.top }
         ensures draft { seat.new.draft ≡ seat.old.draft }
     {
-        self.table.shared.load::<Look>(&mut seat.token, id as usize)
+        let shared = &self.table.shared;
+        shared.load::<Look>(&mut seat.token, id as usize)
     }
 
     /// The word at a place, by one load, which is no event. At a place of a clause that the pass has seen it is the code of
@@ -122,7 +125,8 @@ impl Row {
         ensures same { seat.new ≡ seat.old }
         ensures text { IsText seat.old.view.spelt place result }
     {
-        self.table.shared.load::<Read>(&mut seat.token, place as usize)
+        let shared = &self.table.shared;
+        shared.load::<Read>(&mut seat.token, place as usize)
     }
 
     /// Adds a literal to the draft, by one store above the top, where no other caller looks.
@@ -134,7 +138,8 @@ impl Row {
     {
         let place = (seat.top + seat.drafted) as usize;
         let word = lit.code() as u64;
-        self.table.shared.store::<Write>(&mut seat.token, place, word);
+        let shared = &self.table.shared;
+        shared.store::<Write>(&mut seat.token, place, word);
         seat.drafted += 1;
     }
 
@@ -154,12 +159,8 @@ impl Row {
     {
         let len = seat.drafted;
         let word = live_word(len, seat.top);
-        let found = self.table.shared.compare_exchange::<Claim>(
-            &mut seat.token,
-            id as usize,
-            0,
-            word,
-        );
+        let shared = &self.table.shared;
+        let found = shared.compare_exchange::<Claim>(&mut seat.token, id as usize, 0, word);
         seat.drafted = 0;
         if found == 0 {
             seat.top += len;

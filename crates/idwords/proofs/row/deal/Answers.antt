@@ -23,8 +23,8 @@ invariant_of-push_reserved c =
     let parts = ap (λ (m : Me ℕ (List Part)). m.0) c.loop-s.invariant.parts ∙ parts_next f p (i + 1) p.streams i within in
     let result = c.split_seat-part.result in
     dealt {S = ℕ} f p (i + 1) result.table_id result.me c.loop-s.top c.room.result c.requires.plan (omega arith, omega arith)
-        (ap (λ (t : TableId). t.words) (c.split_seat-part.ensures.3 ∙ c.loop-s.invariant.table) ∙ c.requires.words)
-        (c.split_seat-part.ensures.4 ∙ ap (λ (vs : List Part). (first_only vs, [])) parts) c.loop-s.invariant.top c.room.ensures.room
+    (ap (λ (t : TableId). t.words) (c.split_seat-part.ensures.3 ∙ c.loop-s.invariant.table) ∙ c.requires.words)
+    (c.split_seat-part.ensures.4 ∙ ap (λ (vs : List Part). (first_only vs, [])) parts) c.loop-s.invariant.top c.room.ensures.room
 
 pub loop-s-preserved : goal.loop-s-preserved
 loop-s-preserved c =

@@ -14,6 +14,6 @@ load-requires c =
     let token = c.seat.inside.token in
     let one = step {S = ℕ} shared.table_id.slots c.args.id 0 0 none in
     asks shared.key.formula.value shared.key.layout shared.table_id.slots token.id c.args.id (λ n. n) (Looks c.args.id) (Changes Looks one)
-        token.table_id shared.table_id token.me c.args.seat.now c.seat.inside.top c.seat.inside.drafted c.seat.inside.room
-        c.seat.invariant c.seat.view_is (c.requires.row ∙ sym c.self.view_is) (omega arith)
-        (looks (part_of c.args.seat.now) token.id c.args.id c.requires.identity) (changes Looks one)
+    token.table_id shared.table_id token.me c.args.seat.now c.seat.inside.top c.seat.inside.drafted c.seat.inside.room
+    c.seat.invariant c.seat.view_is (c.requires.row ∙ sym c.self.view_is) (omega arith)
+    (looks (part_of c.args.seat.now) token.id c.args.id c.requires.identity) (changes Looks one)

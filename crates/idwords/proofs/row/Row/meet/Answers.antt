@@ -14,9 +14,11 @@ pub split_seat-token-requires : goal.split_seat-token-requires
 split_seat-token-requires c =
     let shared = c.self.inside.table.shared in
     let token = c.second.inside.token in
-    let table : token.table_id ≡ shared.table_id = ap (λ (s : SeatValue). s.table) c.second.view_is ∙ c.requires.second ∙ sym c.self.view_is in
-    (table, omega (arith, words_of token.table_id shared.table_id token.me c.second.inside.top c.second.inside.drafted c.second.inside.room c.second.invariant table),
-        splits_hand shared.key.formula.value shared.key.layout token.id token.me.0)
+    let table : token.table_id ≡ shared.table_id = ap (λ (s : SeatValue). s.table) c.second.view_is ∙ c.requires.second ∙ sym c.self.view_is in (
+      table,
+      omega (arith, words_of token.table_id shared.table_id token.me c.second.inside.top c.second.inside.drafted c.second.inside.room c.second.invariant table),
+      splits_hand shared.key.formula.value shared.key.layout token.id token.me.0,
+    )
 
 pub join_seat-requires : goal.join_seat-requires
 join_seat-requires c =
@@ -25,8 +27,7 @@ join_seat-requires c =
     let other = c.split_seat-token.result in
     let given = c.split_seat-token.ensures in
     let table : token.table_id ≡ shared.table_id = ap (λ (s : SeatValue). s.table) c.first.view_is ∙ c.requires.first ∙ sym c.self.view_is in
-    let table' : c.second.inside.token.table_id ≡ shared.table_id = ap (λ (s : SeatValue). s.table) c.second.view_is ∙ c.requires.second ∙ sym c.self.view_is in
-    (
+    let table' : c.second.inside.token.table_id ≡ shared.table_id = ap (λ (s : SeatValue). s.table) c.second.view_is ∙ c.requires.second ∙ sym c.self.view_is in (
       table,
       given.3 ∙ table',
       ap (λ (m : Me ℕ (List Part)). m.1) given.4,
@@ -45,8 +46,7 @@ load-requires c =
     let table : token.table_id ≡ shared.table_id = ap (λ (s : SeatValue). s.table) c.first.view_is ∙ c.requires.first ∙ sym c.self.view_is in
     let other : c.split_seat-token.result.me.0 ≡ v' ∷ [] = ap (λ (m : Me ℕ (List Part)). m.0) c.split_seat-token.ensures.4 ∙ ap (λ (m : Me ℕ (List Part)). m.0) c.second.invariant.one in
     let me : new.me ≡ (v ∷ v' ∷ [], []) = c.join_seat.ensures.2
-        ∙ ap₂ (λ (m : Me ℕ (List Part)) (ws : List Part). (m.0 ++ ws, m.1)) c.first.invariant.one other in
-    (
+    ∙ ap₂ (λ (m : Me ℕ (List Part)) (ws : List Part). (m.0 ++ ws, m.1)) c.first.invariant.one other in (
       c.join_seat.ensures.0 ∙ table,
       omega (arith, words_of token.table_id shared.table_id token.me c.first.inside.top c.first.inside.drafted c.first.inside.room c.first.invariant table),
       subst (λ (m : Me ℕ (List Part)). Allows {S = ℕ} (IsKept shared.key.formula.value shared.key.layout) shared.table_id.slots new.id m 0 (λ n. n) (Joined one m)) (sym me)
@@ -58,8 +58,7 @@ split_seat-requires c =
     let shared = c.self.inside.table.shared in
     let token = c.first.inside.token in
     let new = c.load.new.seat in
-    let table : token.table_id ≡ shared.table_id = ap (λ (s : SeatValue). s.table) c.first.view_is ∙ c.requires.first ∙ sym c.self.view_is in
-    (
+    let table : token.table_id ≡ shared.table_id = ap (λ (s : SeatValue). s.table) c.first.view_is ∙ c.requires.first ∙ sym c.self.view_is in (
       c.load.ensures.0 ∙ c.join_seat.ensures.0 ∙ table,
       omega (arith, words_of token.table_id shared.table_id token.me c.first.inside.top c.first.inside.drafted c.first.inside.room c.first.invariant table),
       splits_part shared.key.formula.value shared.key.layout new.id new.me.0,

@@ -11,9 +11,11 @@ of_words-requires c =
     let f = c.args.formula.now in
     let p = c.args.layout.now in
     let plan : IsPlan f p = c.in_ok-words.ensures.plan in
-    let kept = opens {S = ℕ} f p [] plan.formula plan.layout c.requires in
-    (kept.0, subst (λ (g : Cnf). Keeps g p kept.0 c.as_slice.result.now (opening_parts g p 1 p.streams ∷ [])) (sym c.of.ensures)
-        (subst (λ (ws : List ℕ). Keeps f p kept.0 ws (opening_parts f p 1 p.streams ∷ [])) (sym (c.as_slice.ensures.value ∙ c.in_ok-words.ensures.words)) kept.1))
+    let kept = opens {S = ℕ} f p [] plan.formula plan.layout c.requires in (
+      kept.0,
+      subst (λ (g : Cnf). Keeps g p kept.0 c.as_slice.result.now (opening_parts g p 1 p.streams ∷ [])) (sym c.of.ensures)
+          (subst (λ (ws : List ℕ). Keeps f p kept.0 ws (opening_parts f p 1 p.streams ∷ [])) (sym (c.as_slice.ensures.value ∙ c.in_ok-words.ensures.words)) kept.1),
+    )
 
 pub deal-requires-clause-words : goal.deal-requires-clause-words
 deal-requires-clause-words c =

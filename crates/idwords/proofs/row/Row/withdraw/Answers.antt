@@ -24,9 +24,9 @@ load-found-requires c =
     let fair : IsFair seat.view = subst (λ (v : Part). IsFair v.view) here c.seat.invariant.fair in
     let who = owned seat.view.caller.layout seat.view.caller.stream c.args.id (omega (arith, fair.caller.layout.some_stream)) c.requires.owns in
     asks shared.key.formula.value shared.key.layout shared.table_id.slots token.id c.args.id (λ n. n) (Finds c.args.id) (Changes Finds one)
-        token.table_id shared.table_id token.me seat c.seat.inside.top c.seat.inside.drafted c.seat.inside.room
-        c.seat.invariant c.seat.view_is (c.requires.row ∙ sym c.self.view_is) (omega (arith, who.identity))
-        (finds (part_of seat) token.id c.args.id c.requires.owns) (changes Finds one)
+    token.table_id shared.table_id token.me seat c.seat.inside.top c.seat.inside.drafted c.seat.inside.room
+    c.seat.invariant c.seat.view_is (c.requires.row ∙ sym c.self.view_is) (omega (arith, who.identity))
+    (finds (part_of seat) token.id c.args.id c.requires.owns) (changes Finds one)
 
 pub compare_exchange-requires : goal.compare_exchange-requires
 compare_exchange-requires c =
@@ -40,11 +40,11 @@ compare_exchange-requires c =
     let live : state_of found ≡ 1 = sym c.state.ensures ∙ c.if-state-ne-LIVE.false in
     let stays : told.0 ≡ v = told.3.live live in
     let me : new.me ≡ (v ∷ [], []) = ap₂ (λ (vs : List Part) (slots : List (ℕ × ℕ)). (vs, slots)) (told.1 ∙ ap (λ (u : Part). u ∷ []) stays)
-        (told.2 ∙ ap (λ (m : Me ℕ (List Part)). m.1) c.seat.invariant.one) in
+    (told.2 ∙ ap (λ (m : Me ℕ (List Part)). m.1) c.seat.invariant.one) in
     let owns : Owns v.view.caller.layout (part_stream v) c.args.id = subst (λ (s : SeatValue). Owns s.view.caller.layout s.view.caller.stream c.args.id) (sym c.seat.view_is) c.requires.owns in
     let table : token.table_id ≡ shared.table_id = ap (λ (s : SeatValue). s.table) c.seat.view_is ∙ c.requires.row ∙ sym c.self.view_is in
     let who = owned v.view.caller.layout (part_stream v) c.args.id (omega (arith, c.seat.invariant.fair.caller.layout.some_stream)) owns in
     let words = words_of token.table_id shared.table_id token.me c.seat.inside.top c.seat.inside.drafted c.seat.inside.room c.seat.invariant table in
     asks_part shared.key.formula.value shared.key.layout shared.table_id.slots new.id c.args.id (λ n. either (eqb n found) (found + 1) n) (λ u n w. Retires c.args.id u w)
-        (Changes (λ id u _ w. Retires id u w) one) new.table_id shared.table_id new.me v me (c.load-found.ensures.0 ∙ table) (omega (arith, who.identity))
-        (retires v new.id c.args.id found owns told.3.own live) (changes (λ id u _ w. Retires id u w) one)
+    (Changes (λ id u _ w. Retires id u w) one) new.table_id shared.table_id new.me v me (c.load-found.ensures.0 ∙ table) (omega (arith, who.identity))
+    (retires v new.id c.args.id found owns told.3.own live) (changes (λ id u _ w. Retires id u w) one)
