@@ -1,2 +1,3 @@
 pub mod LiteralsRead
 pub mod MeetingLemmas
+pub mod OpeningLemmas

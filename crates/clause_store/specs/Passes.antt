@@ -6,6 +6,7 @@ use Rattle.idwords.specs.Seats.{SeatValue}
 use Rattle.idwords.specs.Spelling.{LieWithin}
 use Rattle.lrup_model.specs.Layout.{LayoutValue, row_words}
 use Rattle.lrup_model.specs.Event.{History, Event}
+use Rattle.lrup_model.specs.Formula.{Cnf}
 use Rattle.lrup_model.specs.Pass.{View, IsFair}
 use Rattle.idwords.specs.Steps as steps
 
@@ -22,6 +23,14 @@ pub record PassValue : Type 0 where
 -- the store that the pass is of
 abbrev pub store_of : PassValue → StoreValue
 store_of p = record { row = p.row; layout = p.view.caller.layout }
+
+-- the pass of a stream of this store and formula before anything was seen, and before its first call
+pub record IsOpened (opened : StoreValue) (f : Cnf) (s : ℕ) (p : PassValue) : Type 0 where
+  pub store : store_of p ≡ opened
+  pub caller : p.view.caller ≡ record { formula = f; layout = opened.layout; stream = s }
+  pub seen : p.view.seen ≡ []
+  pub mine : p.view.mine ≡ []
+  pub fair : IsFair p.view
 
 -- what the passes know, in their order
 abbrev pub views : List PassValue → List View

@@ -1,17 +1,18 @@
 //! The store and the calls of its passes.
-ghost use Rattle.std.specs.Prelude.{◌≡◌, ◌↔◌, ◌≤◌, ◌<◌, ℕ, IsTrue, Some, length, slice_get};
+ghost use Rattle.std.specs.Prelude.{◌≡◌, ◌↔◌, ◌-◌, ◌≤◌, ◌<◌, ℕ, IfOk, IsTrue, Some, length, slice_get, vec_len};
 ghost use Rattle.lrup_model.specs.Event as events;
 ghost use Rattle.lrup_model.specs.History.{IsPublishable};
-ghost use Rattle.lrup_model.specs.Layout.{IsIdentity, Owns};
+ghost use Rattle.lrup_model.specs.Layout.{Fits, IsIdentity, IsStream, Owns};
 ghost use Rattle.lrup_model.specs.Pass.{Meets, pass_place};
 ghost use Rattle.lrup_model.specs.Place.{IsKnown, text_of};
 ghost use Rattle.lrup_model.specs.Replies.{IsFetched, reply_of};
 ghost use Rattle.lrup_model.specs.State.{state, absent, IsLive};
-ghost use Rattle.clause_store.specs.Passes.{Calls, store_of};
+ghost use Rattle.clause_store.specs.Passes.{AreOf, Calls, IsOpened, PassValue, store_of};
 
-use crate::pass::Pass;
+use crate::pass::{Pass, passes_of};
 use idwords::{LIVE, RETIRED, Row, len, lit, start, state as state_in};
-use lrup_model::{Clip, Fetched, Id, Layout, Lit, Owner, Published, Retired};
+use lrup_model::{Clip, Fetched, Formula, Id, Layout, Lit, Owner, Published, Retired};
+use std::alloc::{AllocError, Global};
 use std::marker::Model;
 
 /// The clauses of a formula, live for good, and those that the streams publish and retire. All threads share it, and each
@@ -31,6 +32,27 @@ impl Model for Store {
 }
 
 impl Store {
+    /// The store of a formula's clauses and a layout that fits it, and a pass for each stream, in their order. It reserves all
+    /// that it will need, 8 bytes a word of the layout's row, and takes as much again until it returns. A refusal leaves
+    /// nothing behind.
+    pub fn open(
+        alloc: Global,
+        formula: &Formula,
+        layout: Layout,
+    ) -> Result<(Store, Vec<Pass>), AllocError>
+        requires { Fits layout formula.now }
+        ensures layout { IfOk result (λ opened. opened.0.layout ≡ layout) }
+        ensures count { IfOk result (λ opened. vec_len opened.1 ≡ layout.streams) }
+        ensures passes { IfOk result (λ opened. (s : ℕ) → IsStream layout s
+            → (pass : PassValue) × (slice_get opened.1.items (s - 1) ≡ Some pass)
+            × IsOpened opened.0 formula.now s pass) }
+        ensures store { IfOk result (λ opened. AreOf opened.0 opened.1.items) }
+    {
+        let (row, seats) = Row::open(alloc, formula, &layout)?;
+        let passes = passes_of(alloc, seats)?;
+        Ok((Store { row, layout }, passes))
+    }
+
     /// Is this an identity: 1 to the last?
     pub fn covers(&self, id: Id) -> bool
         ensures { IsTrue result ↔ IsIdentity self.now.layout id }
