@@ -1,0 +1,3 @@
+pub mod LiteralsRead
+pub mod MeetingLemmas
+pub mod OpeningLemmas

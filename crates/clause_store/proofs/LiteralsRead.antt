@@ -1,0 +1,42 @@
+-- Lemmas on the literals of a clip that is known at a pass.
+use Rattle.std.proofs.Common.{◌≡◌, ℕ, ℤ, ◌+◌, ◌<◌, ◌≤◌, zero, suc, [], ◌∷◌, length, Some, slice_get, refl, sym, ap, ◌∙◌, arith}
+use Rattle.std.specs.List.{AllByRecursion}
+use Rattle.lrup_model.specs.Literal.{IsLiteral, IsCode, code_of, max_variable}
+use Rattle.lrup_model.specs.LiteralLaws.{IsCode-code_of, code_of-injective}
+use Rattle.lrup_model.specs.Clause.{Clause}
+use Rattle.lrup_model.specs.Layout.{row_words}
+use Rattle.lrup_model.specs.Place.{ClipValue, Kept, IsKnown, text_of}
+use Rattle.lrup_model.specs.Pass.{View, IsFair, pass_place}
+use Rattle.lrup_model.specs.PassLemmas.{fair_follows}
+use Rattle.idwords.specs.Spelling.{LieWithin}
+use Rattle.idwords.specs.Steps.{IsText}
+
+-- a place inside a clause has a literal
+literal_at : (vars : ℕ) (c : Clause) (k : ℕ) → k < length c → AllByRecursion (IsLiteral vars) c → (l : ℤ) × (slice_get c k ≡ Some l) × IsLiteral vars l
+literal_at vars [] k below all = absurd (omega arith)
+literal_at vars (x ∷ c) zero below all = (x, refl, all.0)
+literal_at vars (x ∷ c) (suc k) below all = literal_at vars c k (omega arith) all.1
+
+module _ (v : View) (clip : ClipValue) (k place : ℕ) (known : IsKnown (pass_place v) clip) (below : k < clip.len) (lies : place ≡ clip.start + k) where
+  abbrev kept : Kept
+  kept = record { start = clip.start; literals = text_of (pass_place v) clip }
+
+  -- its place is one of the row's
+  pub place_within : LieWithin (row_words v.caller.layout) v.spelt → place < row_words v.caller.layout
+  place_within within = omega (arith, within clip.id kept known.kept, known.len, lies)
+
+  -- the literal, and the word there is its code
+  pub literal_of : IsFair v → (word : ℕ) → IsText v.spelt place word
+      → (l : ℤ) × (slice_get (text_of (pass_place v) clip) k ≡ Some l) × (word ≡ code_of l) × IsCode max_variable word
+  literal_of fair word text =
+      let derived = (fair_follows v fair).each clip.id kept known.kept in
+      let at = literal_at v.caller.formula.vars (text_of (pass_place v) clip) k (omega (arith, known.len)) derived.0.literals in
+      let is : word ≡ code_of at.0 = text clip.id k kept at.0 known.kept at.1 lies in
+      let code = IsCode-code_of max_variable at.0 (at.2.0, omega (arith, at.2.1, fair.caller.formula.vars)) in
+      (at.0, at.1, is, (omega (arith, code.0), omega (arith, code.1)))
+
+  -- the literal that has the word's code is that one
+  pub literal_is : IsFair v → (word : ℕ) (l : ℤ) → IsText v.spelt place word → code_of l ≡ word → slice_get (text_of (pass_place v) clip) k ≡ Some l
+  literal_is fair word l text code =
+      let one = literal_of fair word text in
+      one.1 ∙ ap Some (code_of-injective one.0 l (sym one.2 ∙ sym code))

@@ -1,0 +1,63 @@
+-- A pass and its store as contracts see them (this project's own).
+use Rattle.std.specs.Prelude.{◌≡◌, ℕ, List, [], ◌∷◌, map}
+use Rattle.std.specs.List.{AllByRecursion}
+use Rattle.idwords.specs.declared.row.Row.{Row}
+use Rattle.idwords.specs.Seats.{SeatValue}
+use Rattle.idwords.specs.Spelling.{LieWithin}
+use Rattle.lrup_model.specs.Layout.{LayoutValue, row_words}
+use Rattle.lrup_model.specs.Event.{History, Event}
+use Rattle.lrup_model.specs.Formula.{Cnf}
+use Rattle.lrup_model.specs.Pass.{View, IsFair}
+use Rattle.idwords.specs.Steps as steps
+
+-- the store's row, by its name, and the layout that it was opened with
+pub record StoreValue : Type 0 where
+  pub row : Row
+  pub layout : LayoutValue
+
+-- the row that the pass is of, by its name, and what its stream knows
+pub record PassValue : Type 0 where
+  pub row : Row
+  pub view : View
+
+-- the store that the pass is of
+abbrev pub store_of : PassValue → StoreValue
+store_of p = record { row = p.row; layout = p.view.caller.layout }
+
+-- the pass of a stream of this store and formula before anything was seen, and before its first call
+pub record IsOpened (opened : StoreValue) (f : Cnf) (s : ℕ) (p : PassValue) : Type 0 where
+  pub store : store_of p ≡ opened
+  pub caller : p.view.caller ≡ record { formula = f; layout = opened.layout; stream = s }
+  pub seen : p.view.seen ≡ []
+  pub mine : p.view.mine ≡ []
+  pub fair : IsFair p.view
+
+-- what the passes know, in their order
+abbrev pub views : List PassValue → List View
+views ps = map (λ p. p.view) ps
+
+-- all are passes of this store
+abbrev pub AreOf : StoreValue → List PassValue → Type 0
+AreOf store ps = AllByRecursion (λ p. store_of p ≡ store) ps
+
+-- all are fair
+abbrev pub AreFair : List View → Type 0
+AreFair vs = AllByRecursion IsFair vs
+
+-- all have seen one history
+abbrev pub HaveMet : List View → Type 0
+HaveMet vs = (h : History) × AllByRecursion (λ v. v.seen ≡ h) vs
+
+-- the pass moved by one call, which is the last that it has seen, and is fair
+abbrev pub Calls : View → View → Event → Type 0
+Calls old new e = steps.Calls old new e
+
+abbrev pub pass_value : SeatValue → PassValue
+pass_value s = record { row = s.table; view = s.view }
+
+-- the seat of a pass: between two calls it has no draft, and it is this stream's
+pub record IsAtRest (seat : SeatValue) (stream : ℕ) : Type 0 where
+  pub fair : IsFair seat.view
+  pub stream_is : stream ≡ seat.view.caller.stream
+  pub draft : seat.draft ≡ []
+  pub within : LieWithin (row_words seat.view.caller.layout) seat.view.spelt

@@ -1,0 +1,39 @@
+//! All passes of a store brought to one history.
+ghost use Rattle.std.specs.Prelude.{◌≡◌};
+ghost use Rattle.lrup_model.specs.Pass.{MeetsInTurn, AreMet, IsFair};
+ghost use Rattle.clause_store.specs.Passes.{store_of, views, AreOf, AreFair, HaveMet};
+
+use crate::pass::Pass;
+use crate::store::Store;
+
+impl Store {
+    /// All passes have then seen one history, which begins with what each had seen: the first meets all others in turn, and
+    /// then all again. It is no event.
+    pub fn meet_all(&self, passes: &mut [Pass])
+        requires { AreOf self.now passes.old }
+        ensures store { AreOf self.now passes.new }
+        ensures met { AreMet (views passes.old) (views passes.new) }
+        ensures one { HaveMet (views passes.new) }
+    {
+        let Some((first, others)) = passes.split_first_mut() else {
+            return;
+        };
+        self.meet_each(first, others);
+        self.meet_each(first, others);
+    }
+
+    /// The pass meets each of the others in turn.
+    fn meet_each(&self, pass: &mut Pass, others: &mut [Pass])
+        requires pass { store_of pass.old ≡ self.now }
+        requires others { AreOf self.now others.old }
+        ensures pass { store_of pass.new ≡ self.now }
+        ensures others { AreOf self.now others.new }
+        ensures turns { MeetsInTurn pass.old.view (views others.old) pass.new.view (views others.new) }
+        ensures fair { IsFair pass.new.view }
+    {
+        for other in others.iter_mut() {
+            self.meet(pass, other);
+        }
+        let _ = pass.stream();
+    }
+}

@@ -1,0 +1,154 @@
+//! The store and the calls of its passes.
+ghost use Rattle.std.specs.Prelude.{◌≡◌, ◌↔◌, ◌-◌, ◌≤◌, ◌<◌, ℕ, IfOk, IsTrue, Some, length, slice_get, vec_len};
+ghost use Rattle.lrup_model.specs.Event as events;
+ghost use Rattle.lrup_model.specs.History.{IsPublishable};
+ghost use Rattle.lrup_model.specs.Layout.{Fits, IsIdentity, IsStream, Owns};
+ghost use Rattle.lrup_model.specs.Pass.{Meets, pass_place};
+ghost use Rattle.lrup_model.specs.Place.{IsKnown, text_of};
+ghost use Rattle.lrup_model.specs.Replies.{IsFetched, reply_of};
+ghost use Rattle.lrup_model.specs.State.{state, absent, IsLive};
+ghost use Rattle.clause_store.specs.Passes.{AreOf, Calls, IsOpened, PassValue, store_of};
+
+use crate::pass::{Pass, passes_of};
+use idwords::{LIVE, RETIRED, Row, len, lit, start, state as state_in};
+use lrup_model::{Clip, Fetched, Formula, Id, Layout, Lit, Owner, Published, Retired};
+use std::alloc::{AllocError, Global};
+use std::marker::Model;
+
+/// The clauses of a formula, live for good, and those that the streams publish and retire. All threads share it, and each
+/// call is lock-free; no call takes memory.
+#[derive(Drop)]
+pub struct Store {
+    row: Row,
+    layout: Layout,
+}
+
+impl Model for Store {
+    ghost use Rattle.clause_store.specs.Passes.{StoreValue};
+
+    ghost Value = { StoreValue };
+
+    ghost view = { λ s. record { row = s.row; layout = s.layout } };
+}
+
+impl Store {
+    /// The store of a formula's clauses and a layout that fits it, and a pass for each stream, in their order. It reserves all
+    /// that it will need, 8 bytes a word of the layout's row, and takes as much again until it returns. A refusal leaves
+    /// nothing behind.
+    pub fn open(
+        alloc: Global,
+        formula: &Formula,
+        layout: Layout,
+    ) -> Result<(Store, Vec<Pass>), AllocError>
+        requires { Fits layout formula.now }
+        ensures layout { IfOk result (λ opened. opened.0.layout ≡ layout) }
+        ensures count { IfOk result (λ opened. vec_len opened.1 ≡ layout.streams) }
+        ensures passes { IfOk result (λ opened. (s : ℕ) → IsStream layout s
+            → (pass : PassValue) × (slice_get opened.1.items (s - 1) ≡ Some pass)
+            × IsOpened opened.0 formula.now s pass) }
+        ensures store { IfOk result (λ opened. AreOf opened.0 opened.1.items) }
+    {
+        let (row, seats) = Row::open(alloc, formula, &layout)?;
+        let passes = passes_of(alloc, seats)?;
+        Ok((Store { row, layout }, passes))
+    }
+
+    /// Is this an identity: 1 to the last?
+    pub fn covers(&self, id: Id) -> bool
+        ensures { IsTrue result ↔ IsIdentity self.now.layout id }
+    {
+        self.layout.covers(id)
+    }
+
+    /// Is this identity the pass's own?
+    pub fn owns(&self, pass: &Pass, id: Id) -> bool
+        requires { store_of pass.now ≡ self.now }
+        ensures { IsTrue result ↔ Owns pass.now.view.caller.layout pass.now.view.caller.stream id }
+    {
+        self.layout.owner(id) == Owner::Stream(pass.stream())
+    }
+
+    /// What is left of the pass's room, in literals.
+    pub fn room(&self, pass: &Pass) -> u64
+        requires { store_of pass.now ≡ self.now }
+        ensures { result ≡ (pass_place pass.now.view).room }
+    {
+        pass.seat.room()
+    }
+
+    /// What the store has under an identity, by one load.
+    #[inline]
+    pub fn fetch(&self, pass: &mut Pass, id: Id) -> Fetched
+        requires store { store_of pass.old ≡ self.now }
+        requires identity { IsIdentity pass.old.view.caller.layout id }
+        ensures store { store_of pass.new ≡ self.now }
+        ensures calls { let reply = reply_of (pass_place pass.new.view) result in
+            Calls pass.old.view pass.new.view (events.fetch pass.old.view.caller.stream id reply) }
+        ensures fetched { IsFetched (pass_place pass.new.view) id result }
+    {
+        let word = self.row.look(&mut pass.seat, id);
+        match state_in(word) {
+            LIVE => Fetched::Live(Clip::new(id, len(word) as u32, start(word) as u32)),
+            RETIRED => Fetched::Retired,
+            _ => Fetched::Vacant,
+        }
+    }
+
+    /// Literal `k`, from 0 on, of a clause whose clip the pass has fetched, by one load. The order isn't promised, and
+    /// stays, also after the clause was retired.
+    #[inline]
+    pub fn literal(&self, pass: &mut Pass, clip: &Clip, k: u32) -> Lit
+        requires store { store_of pass.old ≡ self.now }
+        requires known { IsKnown (pass_place pass.old.view) clip.now }
+        requires within { k < clip.now.len }
+        ensures value { slice_get (text_of (pass_place pass.old.view) clip.now) k ≡ Some result }
+        ensures same { pass.new ≡ pass.old }
+    {
+        let place = u64::from(clip.start()) + u64::from(k);
+        lit(self.row.word(&mut pass.seat, place))
+    }
+
+    /// Publishes a clause that follows from the formula, of at most 65,535 literals, under an identity of the pass's own.
+    /// Each literal is written once, in the order given, and then one exchange makes the clause live.
+    pub fn publish(&self, pass: &mut Pass, id: Id, clause: &[Lit]) -> Published
+        requires store { store_of pass.old ≡ self.now }
+        requires owns { Owns pass.old.view.caller.layout pass.old.view.caller.stream id }
+        requires clause { IsPublishable pass.old.view.caller.formula clause.now }
+        requires room { length clause.now ≤ (pass_place pass.old.view).room }
+        ensures store { store_of pass.new ≡ self.now }
+        ensures calls { let stream = pass.old.view.caller.stream in
+            Calls pass.old.view pass.new.view (events.publish stream id clause.now result) }
+        ensures done { (result ≡ Published.Done)
+            ↔ (state pass.old.view.caller.formula pass.old.view.mine id ≡ absent) }
+    {
+        for lit in clause {
+            self.row.write(&mut pass.seat, *lit);
+        }
+        self.row.claim(&mut pass.seat, id)
+    }
+
+    /// Retires the clause under an identity of the pass's own: one load, and one exchange where it is live.
+    pub fn retire(&self, pass: &mut Pass, id: Id) -> Retired
+        requires store { store_of pass.old ≡ self.now }
+        requires owns { Owns pass.old.view.caller.layout pass.old.view.caller.stream id }
+        ensures store { store_of pass.new ≡ self.now }
+        ensures calls { let stream = pass.old.view.caller.stream in
+            Calls pass.old.view pass.new.view (events.retire stream id result) }
+        ensures done { (result ≡ Retired.Done)
+            ↔ IsLive (state pass.old.view.caller.formula pass.old.view.mine id) }
+    {
+        self.row.withdraw(&mut pass.seat, id)
+    }
+
+    /// Both passes have then seen one history, which begins with what each had seen; where one had seen all that the other
+    /// had, it is that one's. It is no event.
+    pub fn meet(&self, first: &mut Pass, second: &mut Pass)
+        requires first { store_of first.old ≡ self.now }
+        requires second { store_of second.old ≡ self.now }
+        ensures first { store_of first.new ≡ self.now }
+        ensures second { store_of second.new ≡ self.now }
+        ensures meets { Meets first.old.view second.old.view first.new.view second.new.view }
+    {
+        self.row.meet(&mut first.seat, &mut second.seat);
+    }
+}
