@@ -21,4 +21,4 @@ feed_cut-requires-clause-ready c =
     ready_new layout c.args.options.stream c.args.options.tries c.in_ok-checker.checker (desk_place desk) c.in_ok-checker.ensures at_layout c.desk-desk.ensures.stream
     (ap (λ (l : LayoutValue). l.vars) at_layout)
     (λ id owns. ap (λ (m : Plain). state_of m id) same ∙ ap (λ (s : State). s id) c.in_ok-map.ensures.state
-        ∙ opening-owned f layout c.args.options.stream id fits (subst (λ (l : LayoutValue). Owns l c.args.options.stream id) at_layout (subst (λ (s : ℕ). Owns (map_of desk).layout s id) c.desk-desk.ensures.stream owns)))
+    ∙ opening-owned f layout c.args.options.stream id fits (subst (λ (l : LayoutValue). Owns l c.args.options.stream id) at_layout (subst (λ (s : ℕ). Owns (map_of desk).layout s id) c.desk-desk.ensures.stream owns)))
