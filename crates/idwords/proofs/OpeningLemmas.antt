@@ -37,16 +37,16 @@ literal_words-append [] ds = refl
 literal_words-append (c ∷ cs) ds = ap (λ (ws : List ℕ). map code_of c ++ ws) (literal_words-append cs ds) ∙ sym (append_assoc (map code_of c) (literal_words cs) (literal_words ds))
 
 -- one more clause
-pub clause_words_more : (first start i : ℕ) (cs : List Clause) (c : Clause) (words old : List ℕ) → i < length cs → c ≡ get_or cs i []
-    → start ≡ first + sum_by length (take i cs) → words ≡ old ++ clause_words first (take i cs)
-    → words ++ identity_word 1 (length c) start ∷ [] ≡ old ++ clause_words first (take (i + 1) cs)
-clause_words_more first start i cs c words old within here from is =
+pub clause_words_more : (first start i : ℕ) (cs : List Clause) (c : Clause) (new words old : List ℕ) (word : ℕ) → i < length cs → c ≡ get_or cs i []
+    → start ≡ first + sum_by length (take i cs) → words ≡ old ++ clause_words first (take i cs) → new ≡ words ++ word ∷ [] → word ≡ identity_word 1 (length c) start
+    → new ≡ old ++ clause_words first (take (i + 1) cs)
+clause_words_more first start i cs c new words old word within here from is pushed word_is =
     let cut : take (i + 1) cs ≡ take i cs ++ c ∷ [] = take_more cs i [] within ∙ ap (λ (d : Clause). take i cs ++ d ∷ []) (sym here) in
-    ap (λ (ws : List ℕ). ws ++ identity_word 1 (length c) start ∷ []) is
-    ∙ append_assoc old (clause_words first (take i cs)) (identity_word 1 (length c) start ∷ [])
+    let place : word ≡ identity_word 1 (length c) (first + sum_by length (take i cs)) = word_is ∙ ap (identity_word 1 (length c)) from in
+    pushed ∙ ap (λ (ws : List ℕ). ws ++ word ∷ []) is
+    ∙ append_assoc old (clause_words first (take i cs)) (word ∷ [])
     ∙ ap (λ (ws : List ℕ). old ++ ws)
-    (ap (λ (n : ℕ). clause_words first (take i cs) ++ identity_word 1 (length c) n ∷ []) from
-    ∙ sym (clause_words-append first (take i cs) (c ∷ [])) ∙ ap (clause_words first) (sym cut))
+    (ap (λ (n : ℕ). clause_words first (take i cs) ++ n ∷ []) place ∙ sym (clause_words-append first (take i cs) (c ∷ [])) ∙ ap (clause_words first) (sym cut))
 
 pub literal_words_more : (i : ℕ) (cs : List Clause) (c : Clause) (words old : List ℕ) → i < length cs → c ≡ get_or cs i [] → words ≡ old ++ literal_words (take i cs)
     → words ++ map code_of c ≡ old ++ literal_words (take (i + 1) cs)
