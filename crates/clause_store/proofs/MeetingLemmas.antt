@@ -1,6 +1,5 @@
 -- Lemmas on a pass that meets others in turn.
-use Rattle.std.proofs.Common.{◌≡◌, ℕ, ◌+◌, ◌<◌, ◌≤◌, zero, suc, List, [], ◌∷◌, length, get_or, set, map, refl, sym, ap, subst, ◌∙◌, arith}
-use Rattle.std.specs.List.{AllByRecursion}
+use Rattle.std.proofs.Common.{◌≡◌, ℕ, ◌<◌, zero, suc, List, [], ◌∷◌, length, get_or, set, refl, subst, arith}
 use Rattle.lrup_model.specs.Pass.{View, IsFair, Meets, MeetsInTurn, AreMet}
 use Rattle.lrup_model.specs.PassLemmas.{moves_append, met_keep, meets_twice}
 use Rattle.clause_store.specs.Passes.{StoreValue, PassValue, store_of, views, AreOf, HaveMet}

@@ -1,5 +1,5 @@
 -- Lemmas on the passes of a store that was opened.
-use Rattle.std.proofs.Common.{◌≡◌, ℕ, ◌+◌, ◌-◌, ◌<◌, ◌≤◌, zero, suc, List, [], ◌∷◌, length, map, Some, slice_get, refl, sym, ap, subst, ◌∙◌, arith}
+use Rattle.std.proofs.Common.{◌≡◌, ℕ, ◌+◌, ◌-◌, ◌<◌, zero, suc, List, [], ◌∷◌, length, map, Some, slice_get, refl, sym, ap, subst, ◌∙◌, arith}
 use Rattle.std.proofs.lemmas.Option.{slice_get_within}
 use Rattle.lrup_model.specs.Formula.{Cnf}
 use Rattle.lrup_model.specs.Layout.{LayoutValue, IsStream, row_words}
@@ -13,6 +13,9 @@ pub slice_get-map : {A B : Type 0} (f : A → B) (xs : List A) (k : ℕ) (x : A)
 slice_get-map f [] k x here = absurd (cc)
 slice_get-map f (y ∷ xs) zero x here = let same : y ≡ x = cc in ap (λ z. Some (f z)) same
 slice_get-map f (y ∷ xs) (suc k) x here = slice_get-map f xs k x here
+
+one_pass : (a b : PassValue) → Some a ≡ Some b → a ≡ b
+one_pass a b same = cc
 
 one_seat : (a b : SeatValue) → Some a ≡ Some b → a ≡ b
 one_seat a b same = cc
@@ -41,13 +44,13 @@ module _ (row : Row) (f : Cnf) (p : LayoutValue) (seats : List SeatValue) (count
       let rest : IsAtRest (opening_seat row f p (k + 1)) (k + 1) = record { fair = fair (k + 1) at.0; stream_is = refl; draft = refl; within = within } in
       subst (λ (s : SeatValue). IsAtRest s (k + 1)) (sym at.1) rest
 
-  pub opened_pass : ((s : ℕ) → IsStream p s → IsFair (opening_seat row f p s).view) → (s : ℕ) → IsStream p s
-      → (pass : PassValue) × (slice_get (map pass_value seats) (s - 1) ≡ Some pass) × IsOpened (record { row = row; layout = p }) f s pass
-  opened_pass fair s stream = (
-    pass_value (opening_seat row f p s),
-    slice_get-map pass_value seats (s - 1) (opening_seat row f p s) (given s stream),
-    record { store = refl; caller = refl; seen = refl; mine = refl; fair = fair s stream },
-  )
+  pub opened_pass : ((s : ℕ) → IsStream p s → IsFair (opening_seat row f p s).view) → (s : ℕ) (pass : PassValue) → IsStream p s
+      → slice_get (map pass_value seats) (s - 1) ≡ Some pass → IsOpened (record { row = row; layout = p }) f s pass
+  opened_pass fair s pass stream here =
+      let own : PassValue = pass_value (opening_seat row f p s) in
+      let opened : IsOpened (record { row = row; layout = p }) f s own = record { store = refl; caller = refl; seen = refl; mine = refl; fair = fair s stream } in
+      let there : Some own ≡ Some pass = sym (slice_get-map pass_value seats (s - 1) (opening_seat row f p s) (given s stream)) ∙ here in
+      subst (λ (q : PassValue). IsOpened (record { row = row; layout = p }) f s q) (one_pass own pass there) opened
 
   pub opened_passes : AreOf (record { row = row; layout = p }) (map pass_value seats)
   opened_passes = are_of (record { row = row; layout = p }) seats (λ k seat here. ap (λ (s : SeatValue). store_of (pass_value s)) (seat_at k seat here).1)

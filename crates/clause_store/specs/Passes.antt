@@ -1,5 +1,5 @@
 -- A pass and its store as contracts see them (this project's own).
-use Rattle.std.specs.Prelude.{◌≡◌, ℕ, List, [], ◌∷◌, map}
+use Rattle.std.specs.Prelude.{◌≡◌, ℕ, List, [], map}
 use Rattle.std.specs.List.{AllByRecursion}
 use Rattle.idwords.specs.declared.row.Row.{Row}
 use Rattle.idwords.specs.Seats.{SeatValue}

@@ -43,9 +43,8 @@ impl Store {
         requires { Fits layout formula.now }
         ensures layout { IfOk result (λ opened. opened.0.layout ≡ layout) }
         ensures count { IfOk result (λ opened. vec_len opened.1 ≡ layout.streams) }
-        ensures passes { IfOk result (λ opened. (s : ℕ) → IsStream layout s
-            → (pass : PassValue) × (slice_get opened.1.items (s - 1) ≡ Some pass)
-            × IsOpened opened.0 formula.now s pass) }
+        ensures passes { IfOk result (λ opened. (s : ℕ) (pass : PassValue) → IsStream layout s
+            → slice_get opened.1.items (s - 1) ≡ Some pass → IsOpened opened.0 formula.now s pass) }
         ensures store { IfOk result (λ opened. AreOf opened.0 opened.1.items) }
     {
         let (row, seats) = Row::open(alloc, formula, &layout)?;

@@ -1,4 +1,4 @@
-use Rattle.std.proofs.Common.{◌≡◌, ◌≤◌, map, vec_len}
+use Rattle.std.proofs.Common.{◌≡◌, map}
 use Rattle.std.specs.Vec.{vec_capacity}
 use Rattle.clause_store.specs.Passes.{pass_value}
 use Rattle.clause_store.proofs.pass.passes_of.Given as goal

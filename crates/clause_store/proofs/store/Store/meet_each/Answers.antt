@@ -1,4 +1,4 @@
-use Rattle.std.proofs.Common.{◌≡◌, ℕ, ◌+◌, ◌<◌, length, set, subst, sym, arith, add-one}
+use Rattle.std.proofs.Common.{◌≡◌, ℕ, ◌<◌, length, set, subst, sym, arith, add-one}
 use Rattle.clause_store.proofs.MeetingLemmas.{HasMet, meets_next, met_all, are_of-set}
 use Rattle.clause_store.proofs.store.Store.meet_each.Goals as goal
 

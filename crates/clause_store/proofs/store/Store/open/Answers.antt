@@ -1,6 +1,5 @@
-use Rattle.std.proofs.Common.{◌≡◌, ℕ, List, ◌-◌, Some, slice_get, map, length, sym, ap, subst, ◌∙◌, arith}
-use Rattle.lrup_model.specs.Layout.{IsStream}
-use Rattle.clause_store.specs.Passes.{StoreValue, PassValue, IsOpened, AreOf, pass_value}
+use Rattle.std.proofs.Common.{◌≡◌, List, ◌-◌, slice_get, length, sym, ap, subst, ◌∙◌, arith}
+use Rattle.clause_store.specs.Passes.{StoreValue, PassValue, AreOf}
 use Rattle.clause_store.proofs.OpeningLemmas.{at_rest, opened_pass, opened_passes}
 use Rattle.clause_store.proofs.store.Store.open.Goals as goal
 
@@ -11,12 +10,11 @@ passes_of-requires c =
     at_rest c.in_ok-row.row c.args.formula.now c.args.layout seats.items count c.in_ok-row.ensures.seats c.in_ok-row.ensures.fair c.in_ok-row.ensures.within
 
 pub returns-clause-passes : goal.returns-clause-passes
-returns-clause-passes c = λ s stream.
+returns-clause-passes c = λ s pass stream here.
     let seats = c.in_ok-row.seats in
     let count : length seats.items ≡ c.args.layout.streams = omega (arith, c.in_ok-row.ensures.count, seats.ok.0) in
-    let store : StoreValue = record { row = c.in_ok-row.row; layout = c.args.layout } in
-    subst (λ (ps : List PassValue). (pass : PassValue) × (slice_get ps (s - 1) ≡ Some pass) × IsOpened store c.args.formula.now s pass) (sym c.in_ok-passes.ensures)
-    (opened_pass c.in_ok-row.row c.args.formula.now c.args.layout seats.items count c.in_ok-row.ensures.seats c.in_ok-row.ensures.fair s stream)
+    opened_pass c.in_ok-row.row c.args.formula.now c.args.layout seats.items count c.in_ok-row.ensures.seats c.in_ok-row.ensures.fair s pass stream
+    (ap (λ (ps : List PassValue). slice_get ps (s - 1)) (sym c.in_ok-passes.ensures) ∙ here)
 
 pub returns-clause-store : goal.returns-clause-store
 returns-clause-store c =
