@@ -80,9 +80,9 @@ fn push_pair(formula: &mut Formula, one: Lit, other: Lit) -> Result<(), Fail>
 
 /// Tries the clause that the map has under the identity.
 fn try_hint<M: ClauseMap>(marks: &mut Marks, map: &mut M, id: u64) -> Result<Step, Fail>
-    requires { (M.place map.old).formula.vars ≤ marks.old.vars }
+    requires { (M.place map.old).caller.formula.vars ≤ marks.old.vars }
     ensures marks { marks.new.vars ≡ marks.old.vars }
-    ensures map { (M.place map.new).formula ≡ (M.place map.old).formula }
+    ensures map { (M.place map.new).caller.formula ≡ (M.place map.old).caller.formula }
 {
     if !marks.ready() || !map.covers(id) {
         return Err("no hint is due".into());
