@@ -1,11 +1,9 @@
 -- Where a checker may be fed: at a map that was just opened, and still after other streams' calls.
-use Rattle.std.proofs.Common.{◌≡◌, ◌≤◌, ◌+◌, ℕ, [], length, refl, sym, ap, subst, ◌∙◌, arith}
-use Rattle.lrup_model.specs.Formula.{Cnf}
+use Rattle.std.proofs.Common.{◌≡◌, ℕ, [], sym, ap, subst, ◌∙◌, arith}
 use Rattle.lrup_model.specs.Layout.{LayoutValue, Owns}
-use Rattle.lrup_model.specs.State.{Slot, IsLive, absent}
+use Rattle.lrup_model.specs.State.{IsLive, absent}
 use Rattle.lrup_model.specs.Place.{Caller, Place}
 use Rattle.stream_check.specs.Setting.{Setting}
-use Rattle.stream_check.specs.Checking.{IsAt}
 use Rattle.stream_check.specs.CheckerValue.{CheckerValue}
 use Rattle.stream_check.specs.Checker.{IsNew, IsReadyAt}
 

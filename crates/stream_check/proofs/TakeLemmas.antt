@@ -1,11 +1,10 @@
 -- A line that is taken, on whatever bytes and events came before it.
-use Rattle.std.proofs.Common.{◌≡◌, ◌+◌, ℕ, Bool, List, [], ◌∷◌, ◌++◌, length, take, Option, None, Some, Ok, refl, sym, ap, subst, ◌∙◌, append-nil, arith}
+use Rattle.std.proofs.Common.{◌≡◌, ◌+◌, ℕ, Bool, List, [], ◌++◌, length, take, Option, None, Some, refl, sym, ap, subst, ◌∙◌, append-nil, arith}
 use Rattle.lrup_model.specs.Event.{History}
-use Rattle.lrup_text.specs.Lines.{StreamLine, Deletion, LineText, IsPending}
+use Rattle.lrup_text.specs.Lines.{StreamLine, LineText, IsPending}
 use Rattle.lrup_text.specs.declared.LineFault.{LineFault}
 use Rattle.lrup_text.specs.Faults.{IsRefused}
 use Rattle.lrup_text.proofs.Streams.{texts_are_lines, empty_cut}
-use Rattle.stream_check.specs.declared.fault.Fault.{Fault}
 use Rattle.stream_check.specs.declared.fault.Fault.TheVariants as faults
 use Rattle.stream_check.specs.declared.report.Ending.{Ending}
 use Rattle.stream_check.specs.declared.report.Ending.TheVariants as endings
@@ -14,12 +13,10 @@ use Rattle.stream_check.specs.declared.held.Held.{Held}
 use Rattle.stream_check.specs.declared.deletion.Stop.{Stop}
 use Rattle.stream_check.specs.declared.deletion.Stop.TheVariants as stops
 use Rattle.stream_check.specs.declared.line.Taken.TheVariants as taken
-use Rattle.stream_check.specs.Setting.{Setting}
-use Rattle.stream_check.specs.Standing.{Tally}
 use Rattle.stream_check.specs.Judging.{report_of}
-use Rattle.stream_check.specs.Leaving.{Going, Over, CheckerState, Leaves}
-use Rattle.stream_check.specs.Checker.{tally_at, report_at, LeavesOn}
-use Rattle.stream_check.specs.Taking.{hold, DeletesMore, TakesBy, Takes, taken_of, ending_of}
+use Rattle.stream_check.specs.Leaving.{Going, Over, Leaves}
+use Rattle.stream_check.specs.Checker.{tally_at, report_at}
+use Rattle.stream_check.specs.Taking.{hold, DeletesMore, TakesBy, Takes, taken_of}
 use Rattle.stream_check.proofs.LeavingLemmas.{pending_grows, good_line_taken, bad_line_taken, bad_text_read, memory_wanted}
 
 -- the report after a line that stopped: what it deleted is counted already

@@ -92,7 +92,14 @@ impl Buffers {
         if let Some(fault) = self.admit(held, map, id, lits) {
             return Some(fault);
         }
-        if let Some(fault) = try_hints(&held.setting, &held.dropped, map, gate, &mut self.marks, hints) {
+        if let Some(fault) = try_hints(
+            &held.setting,
+            &held.dropped,
+            map,
+            gate,
+            &mut self.marks,
+            hints,
+        ) {
             return Some(fault);
         }
         match map.publish(id, self.marks.clause()) {

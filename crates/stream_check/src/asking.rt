@@ -30,12 +30,7 @@ fn fetch_up_to<M: ClauseMap, G: Gate>(most: u64, map: &mut M, gate: &mut G, id: 
 }
 
 /// What the map has under a hint. One of another stream is fetched again while it is vacant, up to the setting's tries.
-pub fn ask<M: ClauseMap, G: Gate>(
-    setting: &Setting,
-    map: &mut M,
-    gate: &mut G,
-    hint: Id,
-) -> Fetched
+pub fn ask<M: ClauseMap, G: Gate>(setting: &Setting, map: &mut M, gate: &mut G, hint: Id) -> Fetched
     requires at { IsAt setting.now (M.place map.old) }
     requires tries { setting.now.tries < 2 ^ 63 }
     ensures asked { (es : History) × M.moves map.old map.new es × Asks setting.now hint es (reply_of (M.place map.new) result) }

@@ -85,7 +85,14 @@ impl Checker {
                 turn: Turn::Over,
             };
         }
-        match take_line(&mut self.held, &mut self.buffers, &mut self.reader, map, gate, piece) {
+        match take_line(
+            &mut self.held,
+            &mut self.buffers,
+            &mut self.reader,
+            map,
+            gate,
+            piece,
+        ) {
             Taken::Line(used) => Progress {
                 used,
                 turn: Turn::Line,

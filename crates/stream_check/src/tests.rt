@@ -83,12 +83,7 @@ fn four(alloc: Global) -> Result<Formula, Fail> {
 }
 
 /// Feeds a piece to its end, or until the checker is over.
-fn feed_whole<M: ClauseMap>(
-    checker: &mut Checker,
-    map: &mut M,
-    gate: &mut Told,
-    piece: &[u8],
-)
+fn feed_whole<M: ClauseMap>(checker: &mut Checker, map: &mut M, gate: &mut Told, piece: &[u8])
     requires { IsReadyAt checker.old (M.place map.old) }
     ensures { IsReadyAt checker.new (M.place map.new) }
 {
@@ -197,7 +192,10 @@ fn good_lines_are_counted(rt: HostRuntime) -> Result<(), Fail> {
 fn an_empty_clause_stays_counted(rt: HostRuntime) -> Result<(), Fail> {
     let lines = b"5 2 0 1 2 0\n6 0 5 3 4 0\n7 2 0 1 0\n";
     let (said, _) = one_report(rt.alloc(), DEFAULTS, lines)?;
-    assert_eq!(rt; said, said_of(2, 0, true, Ending::Bad(3, Fault::NoConflict)));
+    assert_eq!(rt;
+        said,
+        said_of(2, 0, true, Ending::Bad(3, Fault::NoConflict))
+    );
     Ok(())
 }
 
@@ -225,11 +223,17 @@ fn hints_are_judged_one_after_the_other(rt: HostRuntime) -> Result<(), Fail> {
 fn the_first_test_that_fails_decides(rt: HostRuntime) -> Result<(), Fail> {
     let alloc = rt.alloc();
     let (said, _) = one_report(alloc, DEFAULTS, b"5 d 3 0\n5 2 0 1 2 3 0\n")?;
-    assert_eq!(rt; said, said_of(0, 1, false, Ending::Bad(2, Fault::Excess(3))));
+    assert_eq!(rt;
+        said,
+        said_of(0, 1, false, Ending::Bad(2, Fault::Excess(3)))
+    );
     let (said, _) = one_report(alloc, DEFAULTS, b"5 2 0 1 2 5 0\n")?;
     assert_eq!(rt; said, first_bad(Fault::Excess(5)));
     let (said, told) = one_report(alloc, FIRST_OF_TWO, b"5 d 6 0\n5 2 0 6 0\n")?;
-    assert_eq!(rt; said, said_of(0, 1, false, Ending::Bad(2, Fault::Dropped(6))));
+    assert_eq!(rt;
+        said,
+        said_of(0, 1, false, Ending::Bad(2, Fault::Dropped(6)))
+    );
     assert_eq!(rt; told, told_of(0, 0, 0));
     let (said, _) = one_report(alloc, DEFAULTS, b"9999999 3 -3 0 1 0\n")?;
     assert_eq!(rt; said, first_bad(Fault::Identity));
@@ -268,14 +272,26 @@ fn identities_are_deleted_from_the_left(rt: HostRuntime) -> Result<(), Fail> {
     let alloc = rt.alloc();
     let lines = b"5 2 0 1 2 0\n5 d 5 0\n6 0 5 3 4 0\n";
     let (said, told) = one_report(alloc, DEFAULTS, lines)?;
-    assert_eq!(rt; said, said_of(1, 1, false, Ending::Bad(3, Fault::Retired(5))));
+    assert_eq!(rt;
+        said,
+        said_of(1, 1, false, Ending::Bad(3, Fault::Retired(5)))
+    );
     assert_eq!(rt; told, told_of(3, 1, 1));
     let (said, _) = one_report(alloc, DEFAULTS, b"5 2 0 1 2 0\n5 d 5 5 0\n")?;
-    assert_eq!(rt; said, said_of(1, 1, false, Ending::Bad(2, Fault::NotLive(5))));
+    assert_eq!(rt;
+        said,
+        said_of(1, 1, false, Ending::Bad(2, Fault::NotLive(5)))
+    );
     let (said, _) = one_report(alloc, DEFAULTS, b"5 d 1 1 0\n")?;
-    assert_eq!(rt; said, said_of(0, 1, false, Ending::Bad(1, Fault::NotLive(1))));
+    assert_eq!(rt;
+        said,
+        said_of(0, 1, false, Ending::Bad(1, Fault::NotLive(1)))
+    );
     let (said, _) = one_report(alloc, DEFAULTS, b"5 d 1 0\n5 2 0 1 2 0\n")?;
-    assert_eq!(rt; said, said_of(0, 1, false, Ending::Bad(2, Fault::Dropped(1))));
+    assert_eq!(rt;
+        said,
+        said_of(0, 1, false, Ending::Bad(2, Fault::Dropped(1)))
+    );
     Ok(())
 }
 
@@ -329,6 +345,14 @@ fn bad_texts_end_the_reading(rt: HostRuntime) -> Result<(), Fail> {
     let (said, _) = one_report(alloc, DEFAULTS, b"5 2 0 1 2 0")?;
     assert_eq!(rt; said, first_bad(Fault::Text(LineFault::Truncated)));
     let (said, _) = one_report(alloc, DEFAULTS, b"5 2 0 1 2 0\n6")?;
-    assert_eq!(rt; said, said_of(1, 0, false, Ending::Bad(2, Fault::Text(LineFault::Truncated))));
+    assert_eq!(rt;
+        said,
+        said_of(
+            1,
+            0,
+            false,
+            Ending::Bad(2, Fault::Text(LineFault::Truncated))
+        )
+    );
     Ok(())
 }

@@ -1,4 +1,4 @@
-use Rattle.std.proofs.Common.{◌≡◌, refl}
+use Rattle.std.proofs.Common.{refl}
 use Rattle.stream_check.proofs.AddLemmas.{owns_at}
 use Rattle.stream_check.proofs.DeleteLemmas.{counted_retire}
 use Rattle.stream_check.proofs.deletion.retire_own.Goals as goal
