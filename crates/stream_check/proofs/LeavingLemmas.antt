@@ -1,22 +1,24 @@
 -- What a checker is left as.
-use Rattle.std.proofs.Common.{◌≡◌, ◌+◌, ◌-◌, ◌^◌, min, ℕ, List, [], ◌∷◌, ◌++◌, length, inl, inr, refl, sym, ap, subst, ◌∙◌, arith, append_assoc, append-nil, length-append}
+use Rattle.std.proofs.Common.{◌≡◌, ◌+◌, ◌-◌, ◌^◌, min, ℕ, Bool, List, [], ◌∷◌, ◌++◌, length, inl, inr, refl, sym, ap, subst, ◌∙◌, arith, append_assoc, append-nil, length-append, Ok}
 use Rattle.std.specs.List.{flat_map, AllByRecursion}
 use Rattle.std.proofs.lemmas.Grind.{flat_map-append}
 use Rattle.lrup_model.specs.Event.{History}
 use Rattle.lrup_text.specs.declared.LineFault.{LineFault}
-use Rattle.lrup_text.specs.Lines.{StreamLine, Deletion, Fits, LineText, text_of, Cut, IsPending}
+use Rattle.lrup_text.specs.Grammar.{Begins}
+use Rattle.lrup_text.specs.Lines.{StreamLine, Addition, Deletion, Fits, LineText, text_of, Cut, HasNoLine, IsPending, IsPositive, AreFew}
 use Rattle.lrup_text.specs.Faults.{IsRefused, HasTextFault}
 use Rattle.lrup_text.specs.Laws.{TextsAreLines, EmptyCut}
+use Rattle.stream_check.specs.declared.fault.Fault.{Fault}
 use Rattle.stream_check.specs.declared.fault.Fault.TheVariants as faults
 use Rattle.stream_check.specs.declared.report.Ending.{Ending}
 use Rattle.stream_check.specs.declared.report.Ending.TheVariants as endings
 use Rattle.stream_check.specs.declared.report.Report.{Report}
 use Rattle.stream_check.specs.Setting.{Setting}
-use Rattle.stream_check.specs.Standing.{Standing, standing_of, tally_of, line_number}
-use Rattle.stream_check.specs.Verdicts.{Good, Bad}
+use Rattle.stream_check.specs.Standing.{Standing, standing_of, Tally, tally_of, line_number}
+use Rattle.stream_check.specs.Verdicts.{Verdict, Good, Bad}
 use Rattle.stream_check.specs.Deletions.{StopsDeletion}
-use Rattle.stream_check.specs.Judging.{JudgesLine, AreGood, joined, BeginsGood, report_of, EndsAtLine, EndsAtText, EndsAtMemory, EndsAtEnd, EndsAfter, StreamEnd, ended, failed, ending_at, Judges}
-use Rattle.stream_check.specs.Leaving.{Holding, SameStanding, LeavesGoing, standing_after, tally_after}
+use Rattle.stream_check.specs.Judging.{JudgesLine, AreGood, joined, BeginsGood, report_of, EndsAtLine, EndsAtText, EndsAtMemory, EndsAtEnd, EndsAfter, StreamEnd, ended, failed, ending_at, JudgesBlocks, Judges}
+use Rattle.stream_check.specs.Leaving.{Holding, Going, Over, SameStanding, LeavesGoing, Leaves, standing_after, tally_after, TakesLine, IsFresh}
 use Rattle.stream_check.specs.Laws.{FreshLeft, PendingGrows, GoodLineTaken, BadLineTaken, BadTextRead, MemoryWanted, EndJudged, OverStays}
 use Rattle.stream_check.proofs.StandingLemmas.{standing_of-snoc, tally_of-snoc, same_standing}
 

@@ -52,7 +52,8 @@ fn retire_own<M: ClauseMap>(held: &mut Held, map: &mut M, id: Id) -> Deleted
     requires at { IsAt held.old.setting (M.place map.old) }
     requires owns { Owns held.old.setting.layout held.old.setting.stream id }
     requires counted { AreCounted (M.place map.old) held.old.retired held.old.last }
-    ensures deletes { (es : History) × M.moves map.old map.new es × AllByRecursion IsRetire es × DeletesOwn held.old.setting id held.old.dropped held.new.dropped es result }
+    ensures deletes { (es : History) × M.moves map.old map.new es × AllByRecursion IsRetire es
+        × DeletesOwn held.old.setting id held.old.dropped held.new.dropped es result }
     ensures retired { held.new.retired ≡ held.old.retired + counted result }
     ensures dropped { held.new.dropped ≡ held.old.dropped }
     ensures kept { KeepsLines held.old held.new }
@@ -71,7 +72,8 @@ fn retire_own<M: ClauseMap>(held: &mut Held, map: &mut M, id: Id) -> Deleted
 fn delete_one<M: ClauseMap>(held: &mut Held, map: &mut M, id: Id) -> Deleted
     requires at { IsAt held.old.setting (M.place map.old) }
     requires counted { AreCounted (M.place map.old) held.old.retired held.old.last }
-    ensures deletes { (es : History) × M.moves map.old map.new es × AllByRecursion IsRetire es × DeletesOne held.old.setting id held.old.dropped held.new.dropped es result }
+    ensures deletes { (es : History) × M.moves map.old map.new es × AllByRecursion IsRetire es
+        × DeletesOne held.old.setting id held.old.dropped held.new.dropped es result }
     ensures count { deleted_at held.new ≡ deleted_at held.old + counted result }
     ensures kept { KeepsLines held.old held.new }
     ensures counted { AreCounted (M.place map.new) held.new.retired held.new.last }
@@ -88,7 +90,8 @@ fn delete_one<M: ClauseMap>(held: &mut Held, map: &mut M, id: Id) -> Deleted
 pub fn delete<M: ClauseMap>(held: &mut Held, map: &mut M, ids: &[Id]) -> Option<Stop>
     requires at { IsAt held.old.setting (M.place map.old) }
     requires counted { AreCounted (M.place map.old) held.old.retired held.old.last }
-    ensures deleted { (es : History) × M.moves map.old map.new es × AllByRecursion IsRetire es × ((count : ℕ) × (deleted_at held.new ≡ deleted_at held.old + count)
+    ensures deleted { (es : History) × M.moves map.old map.new es × AllByRecursion IsRetire es
+        × ((count : ℕ) × (deleted_at held.new ≡ deleted_at held.old + count)
         × Deletes held.old.setting held.old.dropped held.new.dropped ids.now es count result) }
     ensures kept { KeepsLines held.old held.new }
     ensures counted { AreCounted (M.place map.new) held.new.retired held.new.last }
