@@ -1,7 +1,6 @@
 -- What a piece leaves of a checker.
-use Rattle.std.proofs.Common.{◌≡◌, ◌≤◌, ◌<◌, ◌+◌, ◌-◌, ◌^◌, ℕ, Bool, true, false, List, [], ◌++◌, length, take, Option, None, Some, Ok, refl, sym, ap, subst, ◌∙◌, append-nil, arith}
-use Rattle.std.specs.Prelude.{◌||◌, ◌&&◌, is_some}
-use Rattle.std.specs.List.{sum_by}
+use Rattle.std.proofs.Common.{◌≡◌, ℕ, Bool, true, false, List, [], ◌++◌, length, take, Option, None, Some, Ok, refl, sym, ap, subst, ◌∙◌, append-nil, arith}
+use Rattle.std.specs.Prelude.{◌&&◌, is_some}
 use Rattle.std.proofs.lemmas.List.{take_all}
 use Rattle.lrup_model.specs.Layout.{LayoutValue}
 use Rattle.lrup_model.specs.Event.{History}
@@ -13,9 +12,8 @@ use Rattle.stream_check.specs.declared.held.Held.{Held}
 use Rattle.stream_check.specs.declared.deletion.Stop.{Stop}
 use Rattle.stream_check.specs.declared.line.Taken.TheVariants as taken
 use Rattle.stream_check.specs.Setting.{Setting, side_of, is_shared}
-use Rattle.stream_check.specs.Standing.{tally_of, standing_of, is_among, size_of}
+use Rattle.stream_check.specs.Standing.{tally_of, is_among}
 use Rattle.stream_check.specs.Leaving.{Going, Over, CheckerState, Leaves, IsFresh}
-use Rattle.stream_check.specs.CheckerValue.{CheckerValue}
 use Rattle.stream_check.specs.Checker.{read_of, value_of, state_of, report_at, tally_at, LeavesOn, IsNew}
 use Rattle.stream_check.specs.Taking.{hold, Takes, ending_of}
 use Rattle.stream_check.proofs.LineLemmas.{tally_is}

@@ -5,7 +5,6 @@ use Rattle.lrup_model.specs.Layout.{LayoutValue, Owns}
 use Rattle.lrup_model.specs.State.{absent}
 use Rattle.lrup_model.specs.Place.{Caller, Place}
 use Rattle.stream_check.specs.Setting.{Setting}
-use Rattle.stream_check.specs.Checking.{IsAt}
 use Rattle.stream_check.specs.CheckerValue.{CheckerValue}
 use Rattle.stream_check.specs.Checker.{IsNew, IsReadyAt}
 

@@ -1,5 +1,5 @@
 -- A hint that is fetched and tried, and hints one after the other.
-use Rattle.std.proofs.Common.{◌≡◌, ◌+◌, ℕ, zero, suc, ℤ, neg_ℤ, Bool, false, true, List, [], ◌∷◌, ◌++◌, length, Option, None, Some, inl, inr, refl, sym, ap, subst, ◌∙◌, arith, append_assoc, append-nil}
+use Rattle.std.proofs.Common.{◌≡◌, ◌+◌, ℕ, zero, suc, ℤ, neg_ℤ, Bool, false, List, [], ◌∷◌, ◌++◌, length, Some, inl, inr, refl, sym, ap, subst, arith, append_assoc, append-nil}
 use Rattle.std.specs.Prelude.{replicate}
 use Rattle.std.specs.List.{AllByRecursion}
 use Rattle.std.proofs.lemmas.List.{replicate-append-replicate}
@@ -10,7 +10,6 @@ use Rattle.lrup_model.specs.Event as events
 use Rattle.lrup_model.specs.Event.{Event, History, Reply}
 use Rattle.lrup_model.specs.Place.{Caller, Place, Tells, ClipValue, IsKnown, AllFollow, text_of}
 use Rattle.lrup_model.specs.PassLemmas.{known_follows}
-use Rattle.lrup_model.specs.Propagation.{IsConflict, IsUnit, Accepts}
 use Rattle.propagate.specs.Marks.{Propagation, Steps}
 use Rattle.propagate.specs.declared.marks.Step.TheVariants as steps
 use Rattle.propagate.specs.Hints.{Leads}
@@ -20,8 +19,8 @@ use Rattle.stream_check.specs.declared.fault.Fault.TheVariants as faults
 use Rattle.stream_check.specs.declared.hints.Tried.TheVariants as tried
 use Rattle.stream_check.specs.Setting.{Setting, Side, formula, own, foreign, outside, side_of}
 use Rattle.stream_check.specs.Verdicts.{Verdict, Good, Bad}
-use Rattle.stream_check.specs.Asking.{FetchesUpTo, AsksAt, Asks}
-use Rattle.stream_check.specs.Additions.{AtConflict, AtReply, JudgesHints}
+use Rattle.stream_check.specs.Asking.{AsksAt, Asks}
+use Rattle.stream_check.specs.Additions.{AtReply, JudgesHints}
 use Rattle.stream_check.specs.Checking.{IsFetch, Tries, Shows, excess_of}
 
 -- one more at the end

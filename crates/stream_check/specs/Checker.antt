@@ -1,6 +1,5 @@
 -- What a checker holds, and what it takes of a piece of its stream (this project's own).
-use Rattle.std.specs.Prelude.{◌≡◌, ◌≤◌, ◌<◌, ◌^◌, ◌+◌, ◌++◌, ℕ, ℤ, true, List, [], ◌∷◌, length, take, Option, Some, None, Ok, Err}
-use Rattle.std.specs.List.{AllByRecursion}
+use Rattle.std.specs.Prelude.{◌≡◌, ◌≤◌, ◌<◌, ◌^◌, ◌+◌, ◌++◌, ℕ, ℤ, true, List, [], ◌∷◌, length, Option, Some, None, Ok, Err}
 use Rattle.lrup_model.specs.Clause.{IsClause, IsTautology}
 use Rattle.lrup_model.specs.Event.{History}
 use Rattle.lrup_model.specs.Layout.{LayoutValue, Owns}

@@ -1,10 +1,9 @@
 -- What a checker's line leaves of it (this project's own).
-use Rattle.std.specs.Prelude.{◌≡◌, ◌≤◌, ◌<◌, ◌+◌, ◌++◌, ℕ, List, [], ◌∷◌, length, take, Option, Some, None, Ok}
+use Rattle.std.specs.Prelude.{◌≡◌, ◌≤◌, ◌<◌, ◌+◌, ◌++◌, ℕ, List, [], length, take, Option, Some, None, Ok}
 use Rattle.lrup_model.specs.Event.{History}
 use Rattle.lrup_model.specs.Place.{Place, IsVacantAbove}
 use Rattle.lrup_text.specs.Feeding.{ReaderState}
 use Rattle.lrup_text.specs.Lines.{StreamLine, Deletion, LineText, IsPending}
-use Rattle.stream_check.specs.declared.fault.Fault.{Fault}
 use Rattle.stream_check.specs.declared.report.Ending.{Ending}
 use Rattle.stream_check.specs.declared.report.Ending.TheVariants as endings
 use Rattle.stream_check.specs.declared.held.Held.{Held}

@@ -53,7 +53,8 @@ impl Buffers {
         requires count { length lits.now ≤ max_line_literals }
         requires nonzero { AllByRecursion IsStreamLiteral lits.now }
         ensures vars { self.new.vars ≡ self.old.vars }
-        ensures admitted { AdmitsBy held.now.setting (standing_at held.now (M.place map.now).room) id lits.now self.new.marks result }
+        ensures admitted { let standing = standing_at held.now (M.place map.now).room in
+            AdmitsBy held.now.setting standing id lits.now self.new.marks result }
     {
         if !map.owns(id) || id <= held.last {
             return Some(Fault::Identity);
@@ -87,7 +88,9 @@ impl Buffers {
         requires count { length lits.now ≤ max_line_literals }
         requires nonzero { AllByRecursion IsStreamLiteral lits.now }
         ensures vars { self.new.vars ≡ self.old.vars }
-        ensures judged { (es : History) × M.moves map.old map.new es × MakesEvents held.now.setting id lits.now es result × JudgesAddition held.now.setting (standing_at held.now (M.place map.old).room) id lits.now hints.now es (verdict_of result) }
+        ensures judged { let standing = standing_at held.now (M.place map.old).room in
+            (es : History) × M.moves map.old map.new es × MakesEvents held.now.setting id lits.now es result
+            × JudgesAddition held.now.setting standing id lits.now hints.now es (verdict_of result) }
     {
         if let Some(fault) = self.admit(held, map, id, lits) {
             return Some(fault);

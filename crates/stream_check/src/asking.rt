@@ -14,7 +14,9 @@ use lrup_model::{ClauseMap, Fetched, Id};
 fn fetch_up_to<M: ClauseMap, G: Gate>(most: u64, map: &mut M, gate: &mut G, id: Id) -> Fetched
     requires identity { IsIdentity (M.place map.old).caller.layout id }
     requires small { most < 2 ^ 63 }
-    ensures asked { (es : History) × M.moves map.old map.new es × FetchesUpTo most (M.place map.old).caller.stream id es (reply_of (M.place map.new) result) }
+    ensures asked { let stream = (M.place map.old).caller.stream in
+        (es : History) × M.moves map.old map.new es
+        × FetchesUpTo most stream id es (reply_of (M.place map.new) result) }
     ensures gives { Gives (M.place map.new) result }
 {
     let stream = map.stream();
@@ -33,7 +35,8 @@ fn fetch_up_to<M: ClauseMap, G: Gate>(most: u64, map: &mut M, gate: &mut G, id: 
 pub fn ask<M: ClauseMap, G: Gate>(setting: &Setting, map: &mut M, gate: &mut G, hint: Id) -> Fetched
     requires at { IsAt setting.now (M.place map.old) }
     requires tries { setting.now.tries < 2 ^ 63 }
-    ensures asked { (es : History) × M.moves map.old map.new es × Asks setting.now hint es (reply_of (M.place map.new) result) }
+    ensures asked { (es : History) × M.moves map.old map.new es
+        × Asks setting.now hint es (reply_of (M.place map.new) result) }
     ensures gives { Gives (M.place map.new) result }
 {
     match setting.side(hint) {

@@ -71,9 +71,12 @@ impl Checker {
         piece: &[u8],
     ) -> Progress
         requires { IsReadyAt self.old (M.place map.old) }
-        // Whatever bytes and events came before, the bytes used and the call's events leave the checker as it is now.
-        ensures left { (es : History) × M.moves map.old map.new es
-            × LeavesOn self.old.setting (state_of self.old (M.place map.old).room) (take result.used piece.now) es (state_of self.new (M.place map.new).room) }
+        // Whatever bytes and events came before, the bytes used and the call's events leave the
+        // checker as it is now.
+        ensures left { let old = state_of self.old (M.place map.old).room in
+            let new = state_of self.new (M.place map.new).room in
+            (es : History) × M.moves map.old map.new es
+            × LeavesOn self.old.setting old (take result.used piece.now) es new }
         ensures turn { Turns result.turn self.old self.new piece.now (take result.used piece.now) }
         ensures used { result.used ≤ length piece.now }
         ensures moves_on { result.turn ≡ Turn.Line → 0 < result.used }

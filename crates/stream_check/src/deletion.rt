@@ -52,7 +52,8 @@ fn drop_shared(dropped: &mut Dropped, id: Id) -> Deleted
 fn retire_own<M: ClauseMap>(held: &mut Held, map: &mut M, id: Id) -> Deleted
     requires at { IsAt held.old.setting (M.place map.old) }
     requires owns { Owns held.old.setting.layout held.old.setting.stream id }
-    ensures deletes { (es : History) × M.moves map.old map.new es × AllByRecursion IsRetire es × DeletesOwn held.old.setting id held.old.dropped held.new.dropped es result }
+    ensures deletes { (es : History) × M.moves map.old map.new es × AllByRecursion IsRetire es
+        × DeletesOwn held.old.setting id held.old.dropped held.new.dropped es result }
     ensures count { deleted_at held.new ≡ capped (deleted_at held.old + counted result) }
     ensures dropped { held.new.dropped ≡ held.old.dropped }
     ensures kept { KeepsLines held.old held.new }
@@ -69,7 +70,8 @@ fn retire_own<M: ClauseMap>(held: &mut Held, map: &mut M, id: Id) -> Deleted
 /// Deletes one identity.
 fn delete_one<M: ClauseMap>(held: &mut Held, map: &mut M, id: Id) -> Deleted
     requires at { IsAt held.old.setting (M.place map.old) }
-    ensures deletes { (es : History) × M.moves map.old map.new es × AllByRecursion IsRetire es × DeletesOne held.old.setting id held.old.dropped held.new.dropped es result }
+    ensures deletes { (es : History) × M.moves map.old map.new es × AllByRecursion IsRetire es
+        × DeletesOne held.old.setting id held.old.dropped held.new.dropped es result }
     ensures count { deleted_at held.new ≡ capped (deleted_at held.old + counted result) }
     ensures kept { KeepsLines held.old held.new }
 {
@@ -84,7 +86,8 @@ fn delete_one<M: ClauseMap>(held: &mut Held, map: &mut M, id: Id) -> Deleted
 /// Deletes the identities one after the other. None where all are deleted.
 pub fn delete<M: ClauseMap>(held: &mut Held, map: &mut M, ids: &[Id]) -> Option<Stop>
     requires at { IsAt held.old.setting (M.place map.old) }
-    ensures deleted { (es : History) × M.moves map.old map.new es × AllByRecursion IsRetire es × ((count : ℕ) × (deleted_at held.new ≡ capped (deleted_at held.old + count))
+    ensures deleted { (es : History) × M.moves map.old map.new es × AllByRecursion IsRetire es
+        × ((count : ℕ) × (deleted_at held.new ≡ capped (deleted_at held.old + count))
         × Deletes held.old.setting held.old.dropped held.new.dropped ids.now es count result) }
     ensures kept { KeepsLines held.old held.new }
 {

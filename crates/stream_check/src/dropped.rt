@@ -39,7 +39,8 @@ impl Dropped {
     /// Keeps one identity more. Where there is no memory for it, nothing changes.
     pub fn add(&mut self, id: Id) -> Result<(), AllocError>
         requires { is_among self.old id ≡ false }
-        ensures members { OnOk result ((j : ℕ) → is_among self.new j ≡ (is_among self.old j || id == j)) }
+        ensures members { OnOk result
+            ((j : ℕ) → is_among self.new j ≡ (is_among self.old j || id == j)) }
         ensures count { OnOk result (length self.new ≡ length self.old + 1) }
         ensures err { OnErr result (self.new ≡ self.old) }
     {

@@ -28,7 +28,8 @@ pub struct Held {
 impl Held {
     /// Before the first line.
     pub fn new(alloc: Global, layout: &Layout, stream: u64, tries: u64) -> Held
-        ensures setting { result.setting ≡ record { layout = layout.now; stream = stream; tries = tries } }
+        ensures setting { result.setting
+            ≡ record { layout = layout.now; stream = stream; tries = tries } }
         ensures last { result.last ≡ layout.now.clauses }
         ensures dropped { result.dropped ≡ [] }
         ensures retired { result.retired ≡ 0 }

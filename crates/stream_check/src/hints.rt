@@ -38,7 +38,9 @@ fn try_hint<M: ClauseMap, G: Gate>(
     requires tries { setting.now.tries < 2 ^ 63 }
     requires ready { IsTrue marks.old.ready }
     requires variables { setting.now.layout.vars ≤ marks.old.vars }
-    ensures tried { (es : History) × M.moves map.old map.new es × AllByRecursion IsFetch es × Tries setting.now (is_among dropped.now) (M.place map.old).caller.formula marks.old hint es result marks.new }
+    ensures tried { let formula = (M.place map.old).caller.formula in
+        (es : History) × M.moves map.old map.new es × AllByRecursion IsFetch es
+        × Tries setting.now (is_among dropped.now) formula marks.old hint es result marks.new }
     ensures kept { KeepsClause marks.old marks.new }
 {
     if dropped.has(hint) {
@@ -77,7 +79,9 @@ pub fn try_hints<M: ClauseMap, G: Gate>(
     requires ready { IsTrue marks.old.ready }
     requires variables { setting.now.layout.vars ≤ marks.old.vars }
     requires consistent { ¬ IsTautology marks.old.falses }
-    ensures shown { (es : History) × M.moves map.old map.new es × AllByRecursion IsFetch es × Shows setting.now (is_among dropped.now) (M.place map.old).caller.formula marks.old.falses hints.now es result }
+    ensures shown { let formula = (M.place map.old).caller.formula in
+        (es : History) × M.moves map.old map.new es × AllByRecursion IsFetch es
+        × Shows setting.now (is_among dropped.now) formula marks.old.falses hints.now es result }
     ensures kept { KeepsClause marks.old marks.new }
 {
     let mut left = hints;

@@ -1,4 +1,5 @@
-//! The judge of one proof stream: what a stream's bytes, their end and its events at a clause map come to.
+//! The judge of one proof stream: what a stream's bytes, their end and its events at a clause map
+//! come to.
 #![tactic(auto)]
 
 mod addition;

@@ -52,7 +52,9 @@ fn take_addition<M: ClauseMap, G: Gate>(
     requires variables { held.old.setting.layout.vars ≡ buffers.old.vars }
     requires tries { held.old.setting.tries < 2 ^ 63 }
     requires fits { IsWithinLimits (Addition id lits.now hints.now) }
-    ensures taken { (es : History) × M.moves map.old map.new es × TakesBy held.old (M.place map.old).room held.new (M.place map.new).room (Addition id lits.now hints.now) es result }
+    ensures taken { let free = (M.place map.old).room in let left = (M.place map.new).room in
+        (es : History) × M.moves map.old map.new es
+        × TakesBy held.old free held.new left (Addition id lits.now hints.now) es result }
     ensures ready { IsReady held.new (M.place map.new) }
     ensures setting { held.new.setting ≡ held.old.setting }
     ensures variables { buffers.new.vars ≡ buffers.old.vars }
@@ -67,7 +69,9 @@ fn take_addition<M: ClauseMap, G: Gate>(
 /// Makes a deletion, and counts it where it is good.
 fn take_deletion<M: ClauseMap>(held: &mut Held, map: &mut M, ids: &[Id]) -> Option<Stop>
     requires ready { IsReady held.old (M.place map.old) }
-    ensures taken { (es : History) × M.moves map.old map.new es × ((lead : ℕ) → TakesBy held.old (M.place map.old).room held.new (M.place map.new).room (Deletion lead ids.now) es result) }
+    ensures taken { let free = (M.place map.old).room in let left = (M.place map.new).room in
+        (es : History) × M.moves map.old map.new es
+        × ((lead : ℕ) → TakesBy held.old free held.new left (Deletion lead ids.now) es result) }
     ensures ready { IsReady held.new (M.place map.new) }
     ensures setting { held.new.setting ≡ held.old.setting }
 {
@@ -101,7 +105,9 @@ pub fn take_line<M: ClauseMap, G: Gate>(
     requires variables { held.old.setting.layout.vars ≡ buffers.old.vars }
     requires tries { held.old.setting.tries < 2 ^ 63 }
     requires reader { reader.old ≡ Ok (read_of reader.old) }
-    ensures taken { (es : History) × M.moves map.old map.new es × Takes held.old (read_of reader.old) (M.place map.old).room piece.now es result held.new (M.place map.new).room }
+    ensures taken { let free = (M.place map.old).room in let left = (M.place map.new).room in
+        (es : History) × M.moves map.old map.new es
+        × Takes held.old (read_of reader.old) free piece.now es result held.new left }
     ensures reads { ReadsOn (read_of reader.old) piece.now result reader.new }
     ensures ready { IsReady held.new (M.place map.new) }
     ensures setting { held.new.setting ≡ held.old.setting }

@@ -112,6 +112,7 @@ fn feed_cut<M: ClauseMap>(
         feed_whole(checker, map, gate, piece);
     }
     checker.end();
+    checker.read_failed();
 }
 
 /// What is said of a stream in pieces of one length, and what its gate was told.
@@ -353,6 +354,26 @@ fn bad_texts_end_the_reading(rt: HostRuntime) -> Result<(), Fail> {
             false,
             Ending::Bad(2, Fault::Text(LineFault::Truncated))
         )
+    );
+    Ok(())
+}
+
+#[test]
+fn a_failed_read_is_told(rt: HostRuntime) -> Result<(), Fail> {
+    let layout = Layout::new(2, 4, 8, 1, 9, 9)?;
+    let mut checker = Checker::new(rt.alloc(), 1, &layout, 0)?;
+    assert!(rt; !checker.is_over());
+    checker.read_failed();
+    assert!(rt; checker.is_over());
+    assert_eq!(rt;
+        checker.report(),
+        said_of(0, 0, false, Ending::ReadFailed(1))
+    );
+    checker.end();
+    assert!(rt; checker.is_over());
+    assert_eq!(rt;
+        checker.report(),
+        said_of(0, 0, false, Ending::ReadFailed(1))
     );
     Ok(())
 }

@@ -1,11 +1,10 @@
-use Rattle.std.proofs.Common.{◌≡◌, ◌+◌, ℕ, [], ◌∷◌, ◌++◌, refl, sym, ap, subst, arith, rules}
+use Rattle.std.proofs.Common.{◌≡◌, ℕ, [], ◌∷◌, ◌++◌, refl, ap, subst, arith}
 use Rattle.std.specs.Prelude.{replicate}
-use Rattle.lrup_model.specs.Event.{Event, History, fetch, vacant}
+use Rattle.lrup_model.specs.Event.{History, fetch, vacant}
 use Rattle.lrup_model.specs.Place.{Place, Caller}
 use Rattle.lrup_model.specs.declared.clause_map.Fetched.{Fetched}
 use Rattle.lrup_model.specs.declared.clause_map.Fetched.TheVariants as answers
 use Rattle.lrup_model.specs.Replies.{reply_of}
-use Rattle.stream_check.proofs.TryLemmas.{replicate-more}
 use Rattle.stream_check.proofs.asking.fetch_up_to.Goals as goal
 
 not_vacant : (p : Place) (r : Fetched) → (r ≡ answers.Vacant → ⊥) → reply_of p r ≡ vacant → ⊥

@@ -1,13 +1,8 @@
-use Rattle.std.proofs.Common.{◌≡◌, ◌∙◌, ◌+◌, ℕ, List, [], ◌∷◌, ◌++◌, length, take, drop, get_or, refl, sym, ap, subst, arith, length-take}
+use Rattle.std.proofs.Common.{◌≡◌, ◌∙◌, ◌+◌, ℕ, List, [], ◌∷◌, ◌++◌, length, take, drop, get_or, refl, sym, subst, arith, length-take}
 use Rattle.std.proofs.lemmas.List.{take_more, take_all}
-use Rattle.lrup_model.specs.Event.{History}
 use Rattle.stream_check.specs.Setting.{Setting}
 use Rattle.stream_check.specs.declared.deletion.Deleted.TheVariants as deleting
-use Rattle.stream_check.specs.declared.fault.Fault.TheVariants as faults
 use Rattle.stream_check.specs.declared.held.Held.{Held}
-use Rattle.stream_check.specs.Standing.{is_among}
-use Rattle.stream_check.specs.Verdicts.{Bad}
-use Rattle.stream_check.specs.Deletions.{JudgesDeletion}
 use Rattle.stream_check.specs.Checking.{IsRetire, DeletesOne, AreDropped}
 use Rattle.stream_check.specs.Checker.{KeepsLines}
 use Rattle.stream_check.proofs.DeleteLemmas.{GoesOn, goes_on, among_ids, bad_deletion, stopped_deletion, good_deletion, dropped_more, retires-append}

@@ -1,5 +1,4 @@
-use Rattle.std.proofs.Common.{◌≡◌, ◌∙◌, ℕ, Bool, false, [], ◌++◌, sym, subst, append-nil}
-use Rattle.lrup_model.specs.Event.{History}
+use Rattle.std.proofs.Common.{◌≡◌, ◌∙◌, ℕ, Bool, false, [], sym, subst, append-nil}
 use Rattle.lrup_model.specs.Place.{text_of}
 use Rattle.stream_check.specs.Standing.{is_among}
 use Rattle.stream_check.proofs.TryLemmas.{asks_fetches, tries_vacant, tries_retired, tries_unit, tries_conflict, tries_not_unit, derived_before}

@@ -1,11 +1,9 @@
-use Rattle.std.proofs.Common.{◌≡◌, ◌∙◌, ◌≤◌, ℕ, List, Bool, Option, None, Some, [], ◌++◌, refl, sym, ap, subst}
-use Rattle.lrup_model.specs.Event.{History}
-use Rattle.lrup_model.specs.Place.{Caller, Place}
+use Rattle.std.proofs.Common.{◌≡◌, ◌∙◌, ℕ, Bool, Option, [], ◌++◌, refl, sym, ap, subst}
+use Rattle.lrup_model.specs.Place.{Caller}
 use Rattle.lrup_model.specs.Formula.{Cnf}
 use Rattle.propagate.specs.Marks.{Propagation}
 use Rattle.propagate.specs.HintLemmas.{leads_on, accepts_exactly}
 use Rattle.stream_check.specs.declared.fault.Fault.{Fault}
-use Rattle.stream_check.specs.declared.hints.Tried.{Tried}
 use Rattle.stream_check.specs.declared.hints.Tried.TheVariants as tried
 use Rattle.stream_check.specs.Standing.{is_among}
 use Rattle.stream_check.specs.Checking.{KeepsClause, Tries, Shows}

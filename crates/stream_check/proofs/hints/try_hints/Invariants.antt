@@ -1,4 +1,4 @@
-use Rattle.std.proofs.Common.{◌≡◌, ◌≤◌, ◌++◌, ℕ, List, length, true}
+use Rattle.std.proofs.Common.{◌≡◌, ◌++◌, List, length, true}
 use Rattle.std.specs.List.{AllByRecursion}
 use Rattle.lrup_model.specs.Clause.{Clause}
 use Rattle.lrup_model.specs.Entailment.{IsDerived}

@@ -1,4 +1,3 @@
-use Rattle.std.proofs.Common.{◌≡◌, ◌∙◌, ℕ, sym, refl}
 use Rattle.stream_check.specs.Checker.{standing_at}
 use Rattle.stream_check.proofs.LineLemmas.{Adds, ready_fetches, ready_publish, room_publish, takes_addition, stops_addition, above_last}
 use Rattle.stream_check.proofs.line.take_addition.Goals as goal

@@ -1,4 +1,4 @@
-use Rattle.std.proofs.Common.{◌≡◌, ◌∙◌, ℕ, sym, subst, refl}
+use Rattle.std.proofs.Common.{◌≡◌, sym, subst}
 use Rattle.stream_check.specs.Setting.{Setting}
 use Rattle.stream_check.specs.declared.held.Held.{Held}
 use Rattle.lrup_model.specs.Place.{Place, IsVacantAbove}

@@ -1,5 +1,4 @@
-use Rattle.std.proofs.Common.{◌≡◌, ℕ, List, [], Ok, Some, sym, ap, subst, take, ◌++◌, ◌∙◌, refl}
-use Rattle.lrup_model.specs.Event.{History}
+use Rattle.std.proofs.Common.{[], Ok, sym, subst, take, ◌++◌, refl}
 use Rattle.lrup_text.specs.Feeding.{ReaderState, Feeds, Leaves}
 use Rattle.lrup_text.specs.Lines.{StreamLine, LineText, line_of, Addition, Deletion}
 use Rattle.lrup_text.specs.declared.reader.Turn.{Turn}

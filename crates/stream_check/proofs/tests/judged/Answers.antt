@@ -1,9 +1,8 @@
 use Rattle.std.proofs.Common.{◌≡◌, ◌∙◌, ℕ, ap, subst, rules}
-use Rattle.lrup_model.specs.Formula.{Cnf}
 use Rattle.lrup_model.specs.Layout.{LayoutValue, Fits, Owns}
-use Rattle.lrup_model.specs.State.{State, absent, opening}
+use Rattle.lrup_model.specs.State.{State}
 use Rattle.lrup_model.specs.Plain.{Plain, state_of}
-use Rattle.lrup_model.specs.Desk.{desk_place, map_of, stream_at}
+use Rattle.lrup_model.specs.Desk.{desk_place, map_of}
 use Rattle.lrup_model.specs.HistoryLemmas.{opening-owned}
 use Rattle.stream_check.proofs.ReadyLemmas.{ready_new}
 use Rattle.stream_check.proofs.tests.judged.Goals as goal

@@ -1,14 +1,13 @@
-use Rattle.std.proofs.Common.{◌≡◌, ◌++◌, ◌∷◌, [], ℕ, Bool, None, sym, subst, ap, length, refl, arith, append-nil}
-use Rattle.lrup_model.specs.Event as events
-use Rattle.lrup_model.specs.Event.{Event, History}
+use Rattle.std.proofs.Common.{◌≡◌, ◌++◌, ◌∷◌, [], sym, subst, ap, length, refl, arith}
+use Rattle.lrup_model.specs.Event.{Event}
 use Rattle.lrup_model.specs.History.{IsPublishable}
 use Rattle.lrup_model.specs.EntailmentLemmas.{accepted_follows}
 use Rattle.lrup_model.specs.declared.clause_map.Published.TheVariants as publishing
 use Rattle.propagate.specs.Distinct.{distinct}
 use Rattle.propagate.specs.Marks.{Propagation}
-use Rattle.stream_check.specs.Standing.{Standing, is_among}
+use Rattle.stream_check.specs.Standing.{Standing}
 use Rattle.stream_check.specs.Verdicts.{Good, Bad}
-use Rattle.stream_check.specs.Additions.{published_by, JudgesHints, JudgesAddition}
+use Rattle.stream_check.specs.Additions.{published_by, JudgesHints}
 use Rattle.stream_check.specs.Checker.{standing_at}
 use Rattle.stream_check.proofs.AddLemmas.{room_stays, clause_is, shown_is, publishable, still_vacant, published_is}
 use Rattle.stream_check.proofs.addition.Buffers.add.Goals as goal

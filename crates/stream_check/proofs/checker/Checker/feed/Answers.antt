@@ -1,5 +1,4 @@
-use Rattle.std.proofs.Common.{◌≡◌, ◌∙◌, ℕ, List, [], sym, ap, subst, take, length}
-use Rattle.lrup_model.specs.Event.{History}
+use Rattle.std.proofs.Common.{◌∙◌, [], sym, ap, subst, take, length}
 use Rattle.stream_check.specs.Leaving.{Over}
 use Rattle.stream_check.specs.CheckerValue.{CheckerValue}
 use Rattle.stream_check.specs.Checker.{read_of, value_of, state_of, report_at, tally_at, LeavesOn}
