@@ -15,8 +15,8 @@ use lrup_model::{Clip, Fetched, Formula, Id, Layout, Lit, Owner, Published, Reti
 use std::alloc::{AllocError, Global};
 use std::marker::Model;
 
-/// The clauses of a formula, live for good, and those that the streams publish and retire. All threads share it, and each
-/// call is lock-free; no call takes memory.
+/// The clauses of a formula, live for good, and those that the streams publish and retire. All threads share it, without
+/// a lock; no call but `open` takes memory.
 #[derive(Drop)]
 pub struct Store {
     row: Row,
