@@ -55,7 +55,6 @@ pub still_at : (c : Setting) (p q : Place) (es : History) → IsAt c p → Tells
 still_at c p q es at tells = record {
   layout = ap (λ (r : Caller). r.layout) tells.caller ∙ at.layout;
   stream = ap (λ (r : Caller). r.stream) tells.caller ∙ at.stream;
-  variables = ap (λ (r : Caller). r.formula.vars) tells.caller ∙ at.variables;
 }
 
 -- The conditions of the publish
@@ -74,12 +73,12 @@ pub shown_is : (c : Setting) (st : Standing) (gone : ℕ → Bool) (f : Cnf) (id
     → Shows c gone f marks.falses hints es None → Shows c gone f (distinct lits) hints es None
 shown_is c st gone f id lits hints marks es admits shown = subst (λ (d : Clause). Shows c gone f d hints es None) (ap (λ (m : Propagation). m.falses) admits.marks_are) shown
 
-pub publishable : (c : Setting) (p q : Place) (st : Standing) (gone : ℕ → Bool) (es : History) (id : ℕ) (lits : List ℤ) (hints : List ℕ) (marks : Propagation) → PropagationSound → IsAt c p → Tells p q es
+pub publishable : (c : Setting) (p q : Place) (st : Standing) (gone : ℕ → Bool) (es : History) (id : ℕ) (lits : List ℤ) (hints : List ℕ) (marks : Propagation) → PropagationSound → Tells p q es
     → Admits c st id lits marks → length lits ≤ max_line_literals → Shows c gone p.caller.formula (distinct lits) hints es None → IsPublishable q.caller.formula (distinct lits)
-publishable c p q st gone es id lits hints marks sound at tells admits few shown =
+publishable c p q st gone es id lits hints marks sound tells admits few shown =
     subst (λ (f : Cnf). IsPublishable f (distinct lits)) (sym (ap (λ (r : Caller). r.formula) tells.caller))
     (record {
-      clause = subst (λ (v : ℕ). IsClause v (distinct lits)) (sym at.variables) admits.clause;
+      clause = subst (λ (v : ℕ). IsClause v (distinct lits)) (sym shown.3) admits.clause;
       length = omega (arith, length-distinct lits);
       follows = sound p.caller.formula (distinct lits) shown.0 shown.1 shown.2;
     })

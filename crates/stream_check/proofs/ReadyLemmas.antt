@@ -19,7 +19,6 @@ ready_new f layout stream tries v p new fits caller own = record {
   at = record {
     layout = ap (λ (c : Caller). c.layout) caller ∙ sym (ap (λ (c : Setting). c.layout) new.setting);
     stream = ap (λ (c : Caller). c.stream) caller ∙ sym (ap (λ (c : Setting). c.stream) new.setting);
-    variables = ap (λ (c : Caller). c.formula.vars) caller ∙ sym fits.vars ∙ sym (ap (λ (c : Setting). c.layout.vars) new.setting);
   };
   vacant = λ id owns above.
       let here = subst (λ (c : Caller). Owns c.layout c.stream id) caller owns in own id here ∙ opening-owned f layout stream id fits here;
@@ -32,7 +31,6 @@ ready_stays law v p q es ready same legal others own =
       at = record {
         layout = ap (λ (c : Caller). c.layout) same ∙ ready.at.layout;
         stream = ap (λ (c : Caller). c.stream) same ∙ ready.at.stream;
-        variables = ap (λ (c : Caller). c.formula.vars) same ∙ ready.at.variables;
       };
       vacant = λ id owns above. own id (before id owns)
           ∙ law p.caller.formula p.caller.layout p.own es p.caller.stream v.last legal others ready.vacant id (before id owns) above;

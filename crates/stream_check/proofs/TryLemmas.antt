@@ -1,11 +1,12 @@
 -- A hint that is fetched and tried, and hints one after the other.
-use Rattle.std.proofs.Common.{◌≡◌, ◌+◌, ℕ, zero, suc, ℤ, neg_ℤ, Bool, false, List, [], ◌∷◌, ◌++◌, length, Some, inl, inr, refl, sym, ap, subst, arith, append_assoc, append-nil}
+use Rattle.std.proofs.Common.{◌≡◌, ◌≤◌, ◌+◌, ◌∙◌, ℕ, zero, suc, ℤ, neg_ℤ, Bool, false, List, [], ◌∷◌, ◌++◌, length, Some, inl, inr, refl, sym, ap, subst, arith, append_assoc, append-nil}
 use Rattle.std.specs.Prelude.{replicate}
 use Rattle.std.specs.List.{AllByRecursion}
 use Rattle.std.proofs.lemmas.List.{replicate-append-replicate}
 use Rattle.lrup_model.specs.Clause.{Clause, IsTautology}
 use Rattle.lrup_model.specs.Formula.{Cnf}
 use Rattle.lrup_model.specs.Entailment.{IsDerived}
+use Rattle.lrup_model.specs.Layout.{LayoutValue}
 use Rattle.lrup_model.specs.Event as events
 use Rattle.lrup_model.specs.Event.{Event, History, Reply}
 use Rattle.lrup_model.specs.Place.{Caller, Place, Tells, ClipValue, IsKnown, AllFollow, text_of}
@@ -21,7 +22,7 @@ use Rattle.stream_check.specs.Setting.{Setting, Side, formula, own, foreign, out
 use Rattle.stream_check.specs.Verdicts.{Verdict, Good, Bad}
 use Rattle.stream_check.specs.Asking.{AsksAt, Asks}
 use Rattle.stream_check.specs.Additions.{AtReply, JudgesHints}
-use Rattle.stream_check.specs.Checking.{IsFetch, Tries, Shows, excess_of}
+use Rattle.stream_check.specs.Checking.{IsAt, IsFetch, Tries, Shows, excess_of}
 
 -- one more at the end
 pub replicate-more : (k : ℕ) (e : Event) → replicate k e ++ e ∷ [] ≡ replicate (k + 1) e
@@ -78,11 +79,13 @@ tries_unit c gone f old new h es d kept asks derived step =
           (inr (inl (step.0, step.1, subst (λ (n : List ℤ). JudgesHints c gone e n hints rest v) falses next))),
     )
 
-pub tries_conflict : (c : Setting) (gone : ℕ → Bool) (f : Cnf) (old new : Propagation) (h : ℕ) (es : History) (d : Clause) → gone h ≡ false → Asks c h es (events.live d) → IsDerived f d → Steps old d steps.Conflict new → Tries c gone f old h es tried.Conflict new
-tries_conflict c gone f old new h es d kept asks derived step = (
+pub tries_conflict : (c : Setting) (gone : ℕ → Bool) (f : Cnf) (old new : Propagation) (h : ℕ) (es : History) (d : Clause) → gone h ≡ false → Asks c h es (events.live d) → IsDerived f d → f.vars ≡ c.layout.vars → Steps old d steps.Conflict new
+    → Tries c gone f old h es tried.Conflict new
+tries_conflict c gone f old new h es d kept asks derived variables step = (
   d,
   derived,
   step.0,
+  variables,
   λ e hints rest v next. reply_decides c gone e old.falses h hints es rest (events.live d) v kept asks (inl (step.0, next)),
 )
 
@@ -94,6 +97,14 @@ tries_not_unit c gone f old new h es d kept asks step e hints =
 pub derived_before : (p q : Place) (es : History) (clip : ClipValue) → Tells p q es → IsKnown q clip → AllFollow q → IsDerived p.caller.formula (text_of q clip)
 derived_before p q es clip tells known follow =
     subst (λ (f : Cnf). IsDerived f (text_of q clip)) (ap (λ (r : Caller). r.formula) tells.caller) (known_follows q clip follow known)
+
+-- the formula's variables are those of the setting's layout, as the place before sees it
+pub variables_before : (c : Setting) (p q : Place) (es : History) → IsAt c p → Tells p q es → q.caller.formula.vars ≡ q.caller.layout.vars → p.caller.formula.vars ≡ c.layout.vars
+variables_before c p q es at tells there = subst (λ (r : Caller). r.formula.vars ≡ r.layout.vars) tells.caller there ∙ ap (λ (l : LayoutValue). l.vars) at.layout
+
+-- so the marks have all of them
+pub variables_fit : (c : Setting) (p q : Place) (es : History) (vars : ℕ) → IsAt c p → Tells p q es → q.caller.formula.vars ≡ q.caller.layout.vars → c.layout.vars ≤ vars → q.caller.formula.vars ≤ vars
+variables_fit c p q es vars at tells there most = omega (arith, ap (λ (r : Caller). r.formula.vars) tells.caller, variables_before c p q es at tells there, most)
 
 -- Hints one after the other
 
@@ -142,11 +153,12 @@ shows_conflict c gone f n hints old new h left [] es fs exactly consistent is be
   led.0 ++ tries.0 ∷ [],
   all_derived f led.0 tries.0 led.1 tries.1,
   (exactly n led.0 tries.0).1 (consistent, (old.falses, led.2, tries.2)),
+  tries.3,
   λ e. subst (λ (x : History). JudgesHints c gone e n hints x Good) (sym (append_assoc es fs (e ∷ [])))
-      (before e (fs ++ e ∷ []) Good (subst (λ (hs : List ℕ). JudgesHints c gone e old.falses hs (fs ++ e ∷ []) Good) (sym is) (tries.3 e [] (e ∷ []) Good (refl, refl)))),
+      (before e (fs ++ e ∷ []) Good (subst (λ (hs : List ℕ). JudgesHints c gone e old.falses hs (fs ++ e ∷ []) Good) (sym is) (tries.4 e [] (e ∷ []) Good (refl, refl)))),
 )
 shows_conflict c gone f n hints old new h left (i ∷ rest) es fs exactly consistent is before led tries = λ e.
     let fault : Fault = faults.Excess i in
     let here : JudgesHints c gone e old.falses (h ∷ i ∷ rest) fs (Bad 0 fault) =
-    subst (λ (x : History). JudgesHints c gone e old.falses (h ∷ i ∷ rest) x (Bad 0 fault)) (append-nil fs) (tries.3 e (i ∷ rest) [] (Bad 0 fault) (refl, refl)) in
+    subst (λ (x : History). JudgesHints c gone e old.falses (h ∷ i ∷ rest) x (Bad 0 fault)) (append-nil fs) (tries.4 e (i ∷ rest) [] (Bad 0 fault) (refl, refl)) in
     before e fs (Bad 0 fault) (subst (λ (hs : List ℕ). JudgesHints c gone e old.falses hs fs (Bad 0 fault)) (sym is) here)

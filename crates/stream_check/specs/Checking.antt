@@ -38,16 +38,15 @@ side_is sides.Own = setting.own
 side_is sides.Foreign = setting.foreign
 side_is sides.Outside = setting.outside
 
--- The place is this stream's, at this layout, which is one for the formula's variables.
+-- the place is this stream's, at this layout
 pub record IsAt (c : Setting) (p : Place) : Type 0 where
   pub layout : p.caller.layout ≡ c.layout
   pub stream : p.caller.stream ≡ c.stream
-  pub variables : p.caller.formula.vars ≡ c.layout.vars
 
--- a live clause that a fetch gave is known at the place, and every clause there follows
+-- a live clause that a fetch gave is known at the place, every clause there follows, and the layout has the formula's variables
 abbrev pub Gives : Place → Fetched → Type 0
 Gives p fetched.Vacant = Unit {0}
-Gives p (fetched.Live clip) = IsKnown p clip × AllFollow p
+Gives p (fetched.Live clip) = IsKnown p clip × AllFollow p × (p.caller.formula.vars ≡ p.caller.layout.vars)
 Gives p fetched.Retired = Unit {0}
 
 -- the event is a fetch
@@ -74,7 +73,7 @@ Tries c gone f old h es tried.Unit new =
     (d : Clause) × (l : ℤ) × IsDerived f d × IsUnit old.falses d l × (new ≡ record old { falses = old.falses ++ neg_ℤ l ∷ [] })
     × ((e : Event) (hints : List ℕ) (rest : History) (v : Verdict) → JudgesHints c gone e new.falses hints rest v → JudgesHints c gone e old.falses (h ∷ hints) (es ++ rest) v)
 Tries c gone f old h es tried.Conflict new =
-    (d : Clause) × IsDerived f d × IsConflict old.falses d
+    (d : Clause) × IsDerived f d × IsConflict old.falses d × (f.vars ≡ c.layout.vars)
     × ((e : Event) (hints : List ℕ) (rest : History) (v : Verdict) → AtConflict hints e rest v → JudgesHints c gone e old.falses (h ∷ hints) (es ++ rest) v)
 Tries c gone f old h es (tried.Fails fault) new =
     (e : Event) (hints : List ℕ) → JudgesHints c gone e old.falses (h ∷ hints) es (Bad 0 fault)
@@ -82,7 +81,7 @@ Tries c gone f old h es (tried.Fails fault) new =
 -- what the hints of an addition come to: they show its clause, or there is a fault
 abbrev pub Shows : Setting → (ℕ → Bool) → Cnf → Clause → List ℕ → History → Option Fault → Type 0
 Shows c gone f clause hints es None =
-    (ds : List Clause) × AllByRecursion (IsDerived f) ds × Accepts clause ds × ((e : Event) → JudgesHints c gone e clause hints (es ++ e ∷ []) Good)
+    (ds : List Clause) × AllByRecursion (IsDerived f) ds × Accepts clause ds × (f.vars ≡ c.layout.vars) × ((e : Event) → JudgesHints c gone e clause hints (es ++ e ∷ []) Good)
 Shows c gone f clause hints es (Some fault) = (e : Event) → JudgesHints c gone e clause hints es (Bad 0 fault)
 
 -- the fault of the hints that are left after the conflict, if any

@@ -39,7 +39,7 @@ publish-requires-clause-clause g c =
     let is = clause_is s st c.args.id c.args.lits.now c.admit.new.self.marks c.try_hints.new.marks c.clause.result.now admits c.try_hints.ensures.kept c.clause.ensures in
     let good = shown_is s st st.gone p.caller.formula c.args.id c.args.lits.now c.args.hints.now c.admit.new.self.marks shown.0 admits shown.3 in
     subst (IsPublishable q.caller.formula) (sym is)
-    (publishable s p q st st.gone shown.0 c.args.id c.args.lits.now c.args.hints.now c.admit.new.self.marks accepted_follows c.requires.at tells admits c.requires.count good)
+    (publishable s p q st st.gone shown.0 c.args.id c.args.lits.now c.args.hints.now c.admit.new.self.marks accepted_follows tells admits c.requires.count good)
 
 pub publish-requires-clause-room : goal.publish-requires-clause-room
 publish-requires-clause-room g c =
@@ -82,5 +82,5 @@ returns-clause-judged g c =
       shown.0 ++ e ∷ [],
       g.met.M.ClauseMap.moves_append c.args.map.now c.try_hints.new.map c.publish.new.self shown.0 (e ∷ []) shown.1 last,
       (shown.0, shown.2, refl),
-      admitted.1 c.args.hints.now (shown.0 ++ e ∷ []) Good (good.3 e),
+      admitted.1 c.args.hints.now (shown.0 ++ e ∷ []) Good (good.4 e),
     )
