@@ -1,5 +1,5 @@
 -- What a piece leaves of a checker.
-use Rattle.std.proofs.Common.{◌≡◌, ℕ, Bool, true, false, List, [], ◌++◌, length, take, Option, None, Some, Ok, refl, sym, ap, subst, ◌∙◌, append-nil, arith}
+use Rattle.std.proofs.Common.{◌≡◌, ℕ, Bool, true, false, List, [], ◌++◌, length, take, Option, None, Some, inl, inr, Ok, refl, sym, ap, subst, ◌∙◌, append-nil, arith}
 use Rattle.std.specs.Prelude.{◌&&◌, is_some}
 use Rattle.std.proofs.lemmas.List.{take_all}
 use Rattle.lrup_model.specs.Layout.{LayoutValue}
@@ -14,8 +14,8 @@ use Rattle.stream_check.specs.declared.line.Taken.TheVariants as taken
 use Rattle.stream_check.specs.Setting.{Setting, side_of, is_shared}
 use Rattle.stream_check.specs.Standing.{tally_of, is_among}
 use Rattle.stream_check.specs.Leaving.{Going, Over, CheckerState, Leaves, IsFresh}
-use Rattle.stream_check.specs.Checker.{read_of, value_of, state_of, report_at, tally_at, LeavesOn, IsNew}
-use Rattle.stream_check.specs.Taking.{hold, Takes, ending_of}
+use Rattle.stream_check.specs.Checker.{read_of, value_of, state_of, report_at, tally_at, LeavesOn, StopsAt, IsNew}
+use Rattle.stream_check.specs.Taking.{hold, StopsBy, Takes, ending_of}
 use Rattle.stream_check.proofs.LineLemmas.{tally_is}
 
 pub some_of : (o : Option Ending) → is_some o ≡ true → (ending : Ending) × (o ≡ Some ending)
@@ -48,6 +48,11 @@ pub feeds_stopped : (h n : Held) (read piece : List ℕ) (used : ℕ) (blocks : 
 feeds_stopped h n read piece used blocks free left stop old new none is takes =
     subst (λ (o : Option Ending). LeavesOn h.setting (state_of (value_of h read o) free) (take used piece) blocks (Over (report_at (tally_at n) new))) (sym none)
     (subst (λ (e : Ending). LeavesOn h.setting (Going (hold h read free)) (take used piece) blocks (Over (report_at (tally_at n) e))) (sym is) takes.1)
+
+-- at the text that stopped
+pub stops_at : (line : ℕ) (stop : Stop) (ending : Ending) (text : List ℕ) → ending ≡ ending_of line stop → StopsBy stop text → StopsAt ending text
+stops_at line stop ending text is (inl whole) = inl whole
+stops_at line stop ending text is (inr refused) = inr (line, refused.0, is ∙ ap (ending_of line) refused.1, refused.2)
 
 -- Before the first byte
 

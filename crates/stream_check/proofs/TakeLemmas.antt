@@ -1,5 +1,5 @@
 -- A line that is taken, on whatever bytes and events came before it.
-use Rattle.std.proofs.Common.{◌≡◌, ◌+◌, ℕ, Bool, List, [], ◌∷◌, ◌++◌, length, take, Option, None, Some, refl, sym, ap, subst, ◌∙◌, append-nil, arith}
+use Rattle.std.proofs.Common.{◌≡◌, ◌+◌, ℕ, Bool, List, [], ◌∷◌, ◌++◌, length, take, Option, None, Some, inl, inr, refl, sym, ap, subst, ◌∙◌, append-nil, arith}
 use Rattle.lrup_model.specs.Event.{History}
 use Rattle.lrup_text.specs.Lines.{StreamLine, LineText, IsPending}
 use Rattle.lrup_text.specs.declared.LineFault.{LineFault}
@@ -44,12 +44,14 @@ takes_line law old new free left read piece used line es (Some (stops.Bad fault)
   λ bytes before leaves.
       subst (λ (r : Report). Leaves old.setting (bytes ++ take used piece) (before ++ es ∷ []) (Over r)) (report_is old new takes.0 (λ n. endings.Bad n fault) takes.2)
       (bad_line_taken old.setting bytes (take used piece) before es (hold old read free) line takes.0 fault leaves text takes.1),
+  inl (line, text),
 )
 takes_line law old new free left read piece used line es (Some stops.Memory) text takes = (
   omega arith,
   λ bytes before leaves.
       subst (λ (r : Report). Leaves old.setting (bytes ++ take used piece) (before ++ es ∷ []) (Over r)) (report_is old new (length takes.2) (λ n. endings.Memory n) takes.5)
       (memory_wanted old.setting bytes (take used piece) before es (hold old read free) takes.0 takes.1 takes.2 leaves (subst (λ (l : StreamLine). LineText l (read ++ take used piece)) takes.3 text) takes.4),
+  inl (line, text),
 )
 
 -- the front of a line
@@ -73,4 +75,5 @@ takes_fault old free left read piece used fault refused = (
       (report_is old old 0 (λ n. endings.Bad n (faults.Text fault)) (record { added = refl; deleted = omega arith; empty = refl; line = refl }))
       (subst (λ (blocks : List History). Leaves old.setting (bytes ++ take used piece) blocks (Over (report_of (tally_at old) 0 (endings.Bad old.line (faults.Text fault))))) (sym (append-nil before))
       (bad_text_read old.setting bytes (take used piece) before (hold old read free) fault leaves refused)),
+  inr (fault, refl, refused),
 )

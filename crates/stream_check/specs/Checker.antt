@@ -1,15 +1,19 @@
 -- What a checker holds, and what it takes of a piece of its stream (this project's own).
-use Rattle.std.specs.Prelude.{◌≡◌, ◌≤◌, ◌<◌, ◌^◌, ◌+◌, ◌++◌, ℕ, ℤ, true, List, [], ◌∷◌, length, Option, Some, None, Ok, Err}
+use Rattle.std.specs.Prelude.{◌≡◌, ◌⊎◌, ◌≤◌, ◌<◌, ◌^◌, ◌+◌, ◌++◌, ℕ, ℤ, true, List, [], ◌∷◌, length, Option, Some, None, Ok, Err}
 use Rattle.lrup_model.specs.Clause.{IsClause, IsTautology}
 use Rattle.lrup_model.specs.Event.{History}
 use Rattle.lrup_model.specs.Layout.{LayoutValue, Owns}
 use Rattle.lrup_model.specs.Place.{Place, IsVacantAbove}
 use Rattle.lrup_text.specs.Feeding.{ReaderState}
+use Rattle.lrup_text.specs.declared.LineFault.{LineFault}
 use Rattle.lrup_text.specs.Lines.{StreamLine, Cut, IsPending, LineText}
+use Rattle.lrup_text.specs.Faults.{IsRefused}
 use Rattle.propagate.specs.Distinct.{distinct}
 use Rattle.propagate.specs.Marks.{Propagation}
 use Rattle.stream_check.specs.declared.fault.Fault.{Fault}
+use Rattle.stream_check.specs.declared.fault.Fault.TheVariants as faults
 use Rattle.stream_check.specs.declared.report.Ending.{Ending}
+use Rattle.stream_check.specs.declared.report.Ending.TheVariants as endings
 use Rattle.stream_check.specs.declared.report.Report.{Report}
 use Rattle.stream_check.specs.declared.held.Held.{Held}
 use Rattle.stream_check.specs.declared.progress.Turn.{Turn}
@@ -111,6 +115,12 @@ AreBlocksOf turns.Line blocks = length blocks ≡ 1
 AreBlocksOf turns.More blocks = blocks ≡ []
 AreBlocksOf turns.Over blocks = length blocks ≤ 1
 
+-- The text that ends the reading: a whole line, or one that begins no line, through the byte that decided it.
+abbrev pub StopsAt : Ending → List ℕ → Type 0
+StopsAt ending text =
+    ((line : StreamLine) × LineText line text)
+    ⊎ ((number : ℕ) × (fault : LineFault) × (ending ≡ endings.Bad number (faults.Text fault)) × IsRefused text fault)
+
 -- What the bytes used came to: one line more, the front of a line, or the end of the reading.
 abbrev pub Turns : Turn → CheckerValue → CheckerValue → List ℕ → List ℕ → Type 0
 Turns turns.Line old new piece used =
@@ -119,7 +129,8 @@ Turns turns.Line old new piece used =
 Turns turns.More old new piece used =
     (new.ending ≡ None) × (used ≡ piece) × (new.pending ≡ old.pending ++ piece)
     × ((bytes : List ℕ) (lines : List StreamLine) → Cut bytes lines old.pending → Cut (bytes ++ used) lines new.pending)
-Turns turns.Over old new piece used = (ending : Ending) × (new.ending ≡ Some ending)
+Turns turns.Over old new piece used =
+    (ending : Ending) × (new.ending ≡ Some ending) × (old.ending ≡ None → StopsAt ending (old.pending ++ used))
 
 -- a checker that is over takes nothing
 abbrev pub StaysOver : CheckerValue → CheckerValue → List ℕ → Type 0

@@ -1,9 +1,12 @@
 -- What a checker's line leaves of it (this project's own).
-use Rattle.std.specs.Prelude.{◌≡◌, ◌≤◌, ◌<◌, ◌+◌, ◌++◌, ℕ, List, [], length, take, Option, Some, None, Ok}
+use Rattle.std.specs.Prelude.{◌≡◌, ◌⊎◌, ◌≤◌, ◌<◌, ◌+◌, ◌++◌, ℕ, List, [], length, take, Option, Some, None, Ok}
 use Rattle.lrup_model.specs.Event.{History}
 use Rattle.lrup_model.specs.Place.{Place, IsVacantAbove}
 use Rattle.lrup_text.specs.Feeding.{ReaderState}
+use Rattle.lrup_text.specs.declared.LineFault.{LineFault}
 use Rattle.lrup_text.specs.Lines.{StreamLine, Deletion, LineText, IsPending}
+use Rattle.lrup_text.specs.Faults.{IsRefused}
+use Rattle.stream_check.specs.declared.fault.Fault.TheVariants as faults
 use Rattle.stream_check.specs.declared.report.Ending.{Ending}
 use Rattle.stream_check.specs.declared.report.Ending.TheVariants as endings
 use Rattle.stream_check.specs.declared.held.Held.{Held}
@@ -53,6 +56,10 @@ abbrev pub taken_of : ℕ → Option Stop → Taken
 taken_of used None = taken.Line used
 taken_of used (Some stop) = taken.Stopped used stop
 
+-- the text of what stopped: a line's, or one that begins no line
+abbrev pub StopsBy : Stop → List ℕ → Type 0
+StopsBy stop text = ((line : StreamLine) × LineText line text) ⊎ ((fault : LineFault) × (stop ≡ stops.Bad (faults.Text fault)) × IsRefused text fault)
+
 -- what stands next in a piece, the blocks of events that it comes to, and what it leaves
 abbrev pub Takes : Held → List ℕ → ℕ → List ℕ → List History → Taken → Held → ℕ → Type 0
 Takes old read free piece blocks (taken.Line used) new left =
@@ -66,6 +73,7 @@ Takes old read free piece blocks taken.More new left =
 Takes old read free piece blocks (taken.Stopped used stop) new left =
     (length blocks ≤ 1)
     × LeavesOn old.setting (Going (hold old read free)) (take used piece) blocks (Over (report_at (tally_at new) (ending_of new.line stop)))
+    × StopsBy stop (read ++ take used piece)
 
 -- the reader after it, and how many bytes were used at most
 abbrev pub ReadsOn : List ℕ → List ℕ → Taken → ReaderState → Type 0

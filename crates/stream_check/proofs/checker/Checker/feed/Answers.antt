@@ -1,8 +1,8 @@
-use Rattle.std.proofs.Common.{◌∙◌, [], sym, ap, subst, take, length, arith}
+use Rattle.std.proofs.Common.{◌≡◌, ◌∙◌, ℕ, List, [], ◌++◌, None, Some, refl, sym, ap, subst, take, length, arith}
 use Rattle.stream_check.specs.Leaving.{Over}
 use Rattle.stream_check.specs.CheckerValue.{CheckerValue}
-use Rattle.stream_check.specs.Checker.{read_of, value_of, state_of, report_at, tally_at, LeavesOn}
-use Rattle.stream_check.proofs.FeedLemmas.{some_of, none_of, leaves_still, feeds_more, feeds_stopped}
+use Rattle.stream_check.specs.Checker.{read_of, value_of, state_of, report_at, tally_at, LeavesOn, StopsAt}
+use Rattle.stream_check.proofs.FeedLemmas.{some_of, none_of, leaves_still, feeds_more, feeds_stopped, stops_at}
 use Rattle.stream_check.proofs.checker.Checker.feed.Goals as goal
 
 pub returns-then-is_some-clause-left : goal.returns-then-is_some-clause-left
@@ -12,7 +12,8 @@ returns-then-is_some-clause-left g c =
 pub returns-then-is_some-clause-turn : goal.returns-then-is_some-clause-turn
 returns-then-is_some-clause-turn g c =
     let over = some_of c.self.inside.ending (sym c.is_some.ensures ∙ c.if-is_some.true) in
-    (over.0, sym (ap (λ (v : CheckerValue). v.ending) c.self.view_is) ∙ over.1)
+    let now : c.args.self.now.ending ≡ Some over.0 = sym (ap (λ (v : CheckerValue). v.ending) c.self.view_is) ∙ over.1 in
+    (over.0, now, λ none. absurd (let e : None ≡ Some over.0 = sym none ∙ now in cc))
 
 pub returns-in-More-clause-left : goal.returns-in-More-clause-left
 returns-in-More-clause-left g c =
@@ -47,4 +48,14 @@ returns-in-Stopped-clause-left g c =
       taken.1,
       taken.2.0,
       subst (λ (v : CheckerValue). LeavesOn v.setting (state_of v p.room) (take used piece) taken.0 (Over (report_at (tally_at n) c.ending.result))) c.self.view_is left,
+    )
+
+pub returns-in-Stopped-clause-turn : goal.returns-in-Stopped-clause-turn
+returns-in-Stopped-clause-turn g c =
+    let used = take c.in-Stopped.used c.args.piece.now in
+    let here : read_of c.self.inside.reader ≡ c.args.self.now.pending = ap (λ (v : CheckerValue). v.pending) c.self.view_is in (
+      c.ending.result,
+      refl,
+      λ none. subst (λ (read : List ℕ). StopsAt c.ending.result (read ++ used)) here
+          (stops_at c.take_line.new.held.line c.in-Stopped.stop c.ending.result (read_of c.self.inside.reader ++ used) c.ending.ensures c.in-Stopped.ensures.taken.2.2),
     )
