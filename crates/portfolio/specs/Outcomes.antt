@@ -1,9 +1,12 @@
 -- What a run is asked for, and what it says in the end (this project's own).
-use Rattle.std.specs.Prelude.{◌≡◌, ◌↔◌, ◌≤◌, ℕ, IsTrue, List, length}
+use Rattle.std.specs.Prelude.{◌≡◌, ◌↔◌, ℕ, IsTrue, List, length, Result, Err}
 use Rattle.std.specs.List.{list_any}
 use Rattle.lrup_model.specs.Formula.{Cnf, literals_of}
-use Rattle.lrup_model.specs.Layout.{LayoutValue, layout_value}
+use Rattle.lrup_model.specs.Layout.{LayoutValue, layout_value, IsFault}
+use Rattle.lrup_model.specs.declared.layout.LayoutFault.{LayoutFault}
 use Rattle.stream_check.specs.declared.report.Report.{Report}
+use Rattle.portfolio.specs.declared.outcome.RunFault.{RunFault}
+use Rattle.portfolio.specs.declared.outcome.RunFault.TheVariants.{Layout}
 use Rattle.portfolio.specs.declared.outcome.Verdict.{Verdict}
 use Rattle.portfolio.specs.declared.outcome.Verdict.TheVariants.{Unsatisfiable}
 
@@ -24,3 +27,7 @@ layout_of options f streams = layout_value f.vars (length f.clauses) (literals_o
 -- the verdict is 'unsatisfiable' exactly if some stream added the empty clause
 abbrev pub IsVerdictOf : List Report → Verdict → Type 0
 IsVerdictOf reports verdict = (verdict ≡ Unsatisfiable) ↔ IsTrue (list_any (λ report. report.empty) reports)
+
+-- a run answers that there is no layout exactly where these numbers have none, and says why
+abbrev pub IsLayoutFault : {T : Type 0} → Result T RunFault → LayoutValue → Type 0
+IsLayoutFault result p = (fault : LayoutFault) → (result ≡ Err (Layout fault)) ↔ IsFault p fault

@@ -1,7 +1,9 @@
 //! What a run is asked for.
-ghost use Rattle.std.specs.Prelude.{◌≡◌, ◌<◌, ◌↔◌, IsNone, IfSome};
-ghost use Rattle.portfolio.specs.Outcomes.{max_tries};
+ghost use Rattle.std.specs.Prelude.{◌≡◌, ◌≤◌, ◌<◌, ◌↔◌, IsNone, IfSome, IfOk, IfErr};
+ghost use Rattle.lrup_model.specs.Layout.{IsLayout, IsFault, Fits};
+ghost use Rattle.portfolio.specs.Outcomes.{max_tries, layout_of};
 
+use lrup_model::{Formula, Layout, LayoutFault};
 use std::marker::Model;
 
 /// How often a hint of another stream is fetched again while it is vacant, and what each stream may publish.
@@ -39,5 +41,28 @@ impl Options {
             return None;
         }
         Some(Options { tries, lines, room })
+    }
+    /// How often a hint of another stream is fetched again while it is vacant: at most 1,000,000.
+    pub(crate) fn tries(&self) -> u64
+        ensures tries { result ≡ self.now.tries }
+        ensures limit { self.now.tries ≤ max_tries }
+    {
+        self.tries
+    }
+
+    /// The layout of a formula and so many streams.
+    pub(crate) fn layout(&self, formula: &Formula, streams: usize) -> Result<Layout, LayoutFault>
+        ensures layout { IfOk result (λ layout. (layout ≡ layout_of self.now formula.now streams)
+            × IsLayout layout × Fits layout formula.now) }
+        ensures fault { IfErr result (IsFault (layout_of self.now formula.now streams)) }
+    {
+        Layout::new(
+            u64::from(formula.vars()),
+            formula.len() as u64,
+            formula.literals() as u64,
+            streams as u64,
+            self.lines,
+            self.room,
+        )
     }
 }
