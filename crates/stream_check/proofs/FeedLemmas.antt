@@ -29,25 +29,25 @@ none_of (Some ending) none = absurd (cc)
 -- nothing is taken
 pub leaves_still : (c : Setting) (s : CheckerState) → LeavesOn c s [] [] s
 leaves_still c s bytes before leaves =
-    subst (λ (b : List ℕ). Leaves c b (before ++ []) s) (sym (append-nil bytes)) (subst (λ (es : History). Leaves c bytes es s) (sym (append-nil before)) leaves)
+    subst (λ (b : List ℕ). Leaves c b (before ++ []) s) (sym (append-nil bytes)) (subst (λ (blocks : List History). Leaves c bytes blocks s) (sym (append-nil before)) leaves)
 
 -- the front of a line is taken
-pub feeds_more : (h n : Held) (read : List ℕ) (r : ReaderState) (piece : List ℕ) (es : History) (free left : ℕ) (ending : Option Ending) → ending ≡ None → r ≡ Ok (read ++ piece)
-    → Takes h read free piece es taken.More n left
-    → LeavesOn h.setting (state_of (value_of h read ending) free) (take (length piece) piece) es (state_of (value_of n (read_of r) ending) left)
-feeds_more h n read r piece es free left ending none reads takes =
-    let whole : LeavesOn h.setting (Going (hold h read free)) (take (length piece) piece) es (Going (hold n (read ++ piece) left)) =
-    subst (λ (used : List ℕ). LeavesOn h.setting (Going (hold h read free)) used es (Going (hold n (read ++ piece) left))) (sym (take_all (length piece) piece (omega arith))) takes.0 in
-    subst (λ (o : Option Ending). LeavesOn h.setting (state_of (value_of h read o) free) (take (length piece) piece) es (state_of (value_of n (read_of r) o) left)) (sym none)
-    (subst (λ (text : List ℕ). LeavesOn h.setting (Going (hold h read free)) (take (length piece) piece) es (Going (hold n text left))) (sym (ap read_of reads)) whole)
+pub feeds_more : (h n : Held) (read : List ℕ) (r : ReaderState) (piece : List ℕ) (blocks : List History) (free left : ℕ) (ending : Option Ending) → ending ≡ None → r ≡ Ok (read ++ piece)
+    → Takes h read free piece blocks taken.More n left
+    → LeavesOn h.setting (state_of (value_of h read ending) free) (take (length piece) piece) blocks (state_of (value_of n (read_of r) ending) left)
+feeds_more h n read r piece blocks free left ending none reads takes =
+    let whole : LeavesOn h.setting (Going (hold h read free)) (take (length piece) piece) blocks (Going (hold n (read ++ piece) left)) =
+    subst (λ (used : List ℕ). LeavesOn h.setting (Going (hold h read free)) used blocks (Going (hold n (read ++ piece) left))) (sym (take_all (length piece) piece (omega arith))) takes.1 in
+    subst (λ (o : Option Ending). LeavesOn h.setting (state_of (value_of h read o) free) (take (length piece) piece) blocks (state_of (value_of n (read_of r) o) left)) (sym none)
+    (subst (λ (text : List ℕ). LeavesOn h.setting (Going (hold h read free)) (take (length piece) piece) blocks (Going (hold n text left))) (sym (ap read_of reads)) whole)
 
 -- the reading ends
-pub feeds_stopped : (h n : Held) (read piece : List ℕ) (used : ℕ) (es : History) (free left : ℕ) (stop : Stop) (old : Option Ending) (new : Ending) → old ≡ None → new ≡ ending_of n.line stop
-    → Takes h read free piece es (taken.Stopped used stop) n left
-    → LeavesOn h.setting (state_of (value_of h read old) free) (take used piece) es (Over (report_at (tally_at n) new))
-feeds_stopped h n read piece used es free left stop old new none is takes =
-    subst (λ (o : Option Ending). LeavesOn h.setting (state_of (value_of h read o) free) (take used piece) es (Over (report_at (tally_at n) new))) (sym none)
-    (subst (λ (e : Ending). LeavesOn h.setting (Going (hold h read free)) (take used piece) es (Over (report_at (tally_at n) e))) (sym is) takes)
+pub feeds_stopped : (h n : Held) (read piece : List ℕ) (used : ℕ) (blocks : List History) (free left : ℕ) (stop : Stop) (old : Option Ending) (new : Ending) → old ≡ None → new ≡ ending_of n.line stop
+    → Takes h read free piece blocks (taken.Stopped used stop) n left
+    → LeavesOn h.setting (state_of (value_of h read old) free) (take used piece) blocks (Over (report_at (tally_at n) new))
+feeds_stopped h n read piece used blocks free left stop old new none is takes =
+    subst (λ (o : Option Ending). LeavesOn h.setting (state_of (value_of h read o) free) (take used piece) blocks (Over (report_at (tally_at n) new))) (sym none)
+    (subst (λ (e : Ending). LeavesOn h.setting (Going (hold h read free)) (take used piece) blocks (Over (report_at (tally_at n) e))) (sym is) takes.1)
 
 -- Before the first byte
 

@@ -15,9 +15,9 @@ use Rattle.stream_check.specs.Setting.{Setting}
 use Rattle.stream_check.specs.Standing.{Standing, standing_of, tally_of, line_number}
 use Rattle.stream_check.specs.Verdicts.{Good, Bad}
 use Rattle.stream_check.specs.Deletions.{StopsDeletion}
-use Rattle.stream_check.specs.Judging.{JudgesLine, AreGood, joined, BeginsGood, report_of, EndsAtLine, EndsAtText, EndsAtMemory, EndsAtEnd, EndsAfter, StreamEnd, ended, failed, ending_at, Judges}
+use Rattle.stream_check.specs.Judging.{JudgesLine, AreGood, joined, BeginsGood, report_of, EndsAtLine, EndsAtText, EndsAtMemory, EndsAtEnd, EndsAfter, StreamEnd, ended, failed, ending_at, JudgesBlocks}
 use Rattle.stream_check.specs.Leaving.{Holding, SameStanding, LeavesGoing, standing_after, tally_after}
-use Rattle.stream_check.specs.Laws.{FreshLeft, PendingGrows, GoodLineTaken, BadLineTaken, BadTextRead, MemoryWanted, EndJudged, OverStays}
+use Rattle.stream_check.specs.Laws.{FreshLeft, PendingGrows, GoodLineTaken, BadLineTaken, BadTextRead, MemoryWanted, EndJudged, OverStays, IsDecided, EitherEnd}
 use Rattle.stream_check.proofs.StandingLemmas.{standing_of-snoc, tally_of-snoc, same_standing}
 
 -- one good line more, with its block
@@ -35,9 +35,6 @@ good_snoc c before (l ∷ lines) (b ∷ blocks) line block good judged = (
 
 pub joined-append : (a b : List History) → joined (a ++ b) ≡ joined a ++ joined b
 joined-append a b = flat_map-append (λ block. block) a b
-
-joined-snoc : (blocks : List History) (block : History) → joined (blocks ++ block ∷ []) ≡ joined blocks ++ block
-joined-snoc blocks block = joined-append blocks (block ∷ []) ∙ ap (λ b. joined blocks ++ b) (append-nil block)
 
 -- more bytes after the texts of lines
 text_grows : (texts bytes rest piece : List ℕ) → bytes ≡ texts ++ rest → bytes ++ piece ≡ texts ++ (rest ++ piece)
@@ -71,22 +68,18 @@ fresh_left texts none c now fresh =
       lines = [];
       cut = here.0;
       pending = here.1;
-      blocks = [];
       good = tt;
-      events = refl;
       tally = fresh.tally;
       standing = fresh.standing;
       line = fresh.line;
     }
 
 pub pending_grows : PendingGrows
-pending_grows c bytes piece es old before pending = record {
+pending_grows c bytes piece blocks old before pending = record {
   lines = before.lines;
   cut = record { bytes = text_grows (flat_map line_text before.lines) bytes old.pending piece before.cut.bytes; each = before.cut.each; last = pending.whole };
   pending = pending;
-  blocks = before.blocks;
   good = before.good;
-  events = before.events;
   tally = before.tally;
   standing = before.standing;
   line = before.line;
@@ -103,7 +96,7 @@ same_trans : (a b d : Standing) → SameStanding a b → SameStanding b d → Sa
 same_trans a b d x y = record { last = x.last ∙ y.last; free = x.free ∙ y.free; gone = λ id. x.gone id ∙ y.gone id }
 
 pub good_line_taken : TextsAreLines → EmptyCut → GoodLineTaken
-good_line_taken texts none c bytes piece es block old new line before text judged taken =
+good_line_taken texts none c bytes piece blocks block old new line before text judged taken =
     let lines = before.lines in
     let here : JudgesLine c (standing_of c lines) line block Good = by_lines c old lines (λ st. JudgesLine c st line block Good) before.standing judged in
     let same_old = same_standing old.standing (standing_of c lines) before.standing in
@@ -119,9 +112,7 @@ good_line_taken texts none c bytes piece es block old new line before text judge
       lines = lines ++ line ∷ [];
       cut = rest.0;
       pending = rest.1;
-      blocks = before.blocks ++ block ∷ [];
-      good = good_snoc c [] lines before.blocks line block before.good here;
-      events = ap (λ e. e ++ block) before.events ∙ sym (joined-snoc before.blocks block);
+      good = good_snoc c [] lines blocks line block before.good here;
       tally = taken.tally ∙ ap (λ t. tally_after t line) before.tally ∙ tally_of-snoc lines line;
       standing = same_trans new.standing (standing_after c (standing_of c lines) line) (standing_of c (lines ++ line ∷ []))
           (subst (λ st. SameStanding new.standing (standing_after c st line)) same_old taken.standing)
@@ -130,35 +121,31 @@ good_line_taken texts none c bytes piece es block old new line before text judge
     }
 
 -- A stream that ends in some way after the good lines that a checker holds.
-ends_behind : (c : Setting) (bytes piece : List ℕ) (es block : History) (back : List History) (old : Holding) (end : StreamEnd) (report : Report)
-    → (before : LeavesGoing c bytes es old) → joined back ≡ block
+ends_behind : (c : Setting) (bytes piece : List ℕ) (blocks back : List History) (old : Holding) (end : StreamEnd) (report : Report)
+    → (before : LeavesGoing c bytes blocks old)
     → EndsAfter c before.lines (old.pending ++ piece) end back report
-    → Judges c (bytes ++ piece) end (es ++ block) report
-ends_behind c bytes piece es block back old end report before one ends = record {
-  blocks = before.blocks ++ back;
-  events = ap (λ e. e ++ block) before.events ∙ ap (λ e. joined before.blocks ++ e) (sym one) ∙ sym (joined-append before.blocks back);
-  judges = record {
-    lines = before.lines;
-    rest = old.pending ++ piece;
-    front = before.blocks;
-    back = back;
-    split = refl;
-    begins = record { text = text_grows (flat_map line_text before.lines) bytes old.pending piece before.cut.bytes; fits = before.cut.each; good = before.good };
-    ends = ends;
-  };
+    → JudgesBlocks c (bytes ++ piece) end (blocks ++ back) report
+ends_behind c bytes piece blocks back old end report before ends = record {
+  lines = before.lines;
+  rest = old.pending ++ piece;
+  front = blocks;
+  back = back;
+  split = refl;
+  begins = record { text = text_grows (flat_map line_text before.lines) bytes old.pending piece before.cut.bytes; fits = before.cut.each; good = before.good };
+  ends = ends;
 }
 
 -- the same report by what the checker holds and by the lines
-held_report : (c : Setting) (bytes : List ℕ) (es : History) (old : Holding) (deleted : ℕ) (ending : ℕ → Ending) → (before : LeavesGoing c bytes es old)
+held_report : (c : Setting) (bytes : List ℕ) (blocks : List History) (old : Holding) (deleted : ℕ) (ending : ℕ → Ending) → (before : LeavesGoing c bytes blocks old)
     → report_of old.tally deleted (ending old.line) ≡ report_of (tally_of before.lines) deleted (ending (line_number (length before.lines)))
-held_report c bytes es old deleted ending before =
+held_report c bytes blocks old deleted ending before =
     ap (λ t. report_of t deleted (ending old.line)) before.tally ∙ ap (λ n. report_of (tally_of before.lines) deleted (ending n)) before.line
 
 whole_text : (line : StreamLine) (bytes : List ℕ) → LineText line bytes → bytes ≡ line_text line ++ []
 whole_text line bytes text = text.1 ∙ sym (append-nil (line_text line))
 
 pub bad_line_taken : BadLineTaken
-bad_line_taken c bytes piece es block old line deleted fault before text judged =
+bad_line_taken c bytes piece blocks block old line deleted fault before text judged =
     let lines = before.lines in
     let at_line : EndsAtLine c lines (old.pending ++ piece) (block ∷ []) (report_of old.tally deleted (endings.Bad old.line fault)) = record {
       line = line;
@@ -170,14 +157,14 @@ bad_line_taken c bytes piece es block old line deleted fault before text judged 
       deleted = deleted;
       fault = fault;
       bad = by_lines c old lines (λ st. JudgesLine c st line block (Bad deleted fault)) before.standing judged;
-      says = held_report c bytes es old deleted (λ n. endings.Bad n fault) before;
+      says = held_report c bytes blocks old deleted (λ n. endings.Bad n fault) before;
     } in
-    let judges : (end : StreamEnd) → Judges c (bytes ++ piece) end (es ++ block) (report_of old.tally deleted (endings.Bad old.line fault)) =
-    λ end. ends_behind c bytes piece es block (block ∷ []) old end (report_of old.tally deleted (endings.Bad old.line fault)) before (append-nil block) (inl at_line) in
+    let judges : (end : StreamEnd) → JudgesBlocks c (bytes ++ piece) end (blocks ++ block ∷ []) (report_of old.tally deleted (endings.Bad old.line fault)) =
+    λ end. ends_behind c bytes piece blocks (block ∷ []) old end (report_of old.tally deleted (endings.Bad old.line fault)) before (inl at_line) in
     (judges ended, judges failed)
 
 pub memory_wanted : MemoryWanted
-memory_wanted c bytes piece es block old lead ids earlier before text stops =
+memory_wanted c bytes piece blocks block old lead ids earlier before text stops =
     let lines = before.lines in
     let at_memory : EndsAtMemory c lines (old.pending ++ piece) (block ∷ []) (report_of old.tally (length earlier) (endings.Memory old.line)) = record {
       lead = lead;
@@ -189,43 +176,43 @@ memory_wanted c bytes piece es block old lead ids earlier before text stops =
       one_block = refl;
       earlier = earlier;
       stops = by_lines c old lines (λ st. StopsDeletion c st.gone ids block earlier) before.standing stops;
-      says = held_report c bytes es old (length earlier) (λ n. endings.Memory n) before;
+      says = held_report c bytes blocks old (length earlier) (λ n. endings.Memory n) before;
     } in
-    let judges : (end : StreamEnd) → Judges c (bytes ++ piece) end (es ++ block) (report_of old.tally (length earlier) (endings.Memory old.line)) =
-    λ end. ends_behind c bytes piece es block (block ∷ []) old end (report_of old.tally (length earlier) (endings.Memory old.line)) before (append-nil block) (inr (inr (inl at_memory))) in
+    let judges : (end : StreamEnd) → JudgesBlocks c (bytes ++ piece) end (blocks ++ block ∷ []) (report_of old.tally (length earlier) (endings.Memory old.line)) =
+    λ end. ends_behind c bytes piece blocks (block ∷ []) old end (report_of old.tally (length earlier) (endings.Memory old.line)) before (inr (inr (inl at_memory))) in
     (judges ended, judges failed)
 
 refused_alone : (bytes : List ℕ) (fault : LineFault) → IsRefused bytes fault → HasTextFault bytes fault
 refused_alone bytes fault refused = (bytes, [], sym (append-nil bytes), refused)
 
 pub bad_text_read : BadTextRead
-bad_text_read c bytes piece es old fault before refused =
+bad_text_read c bytes piece blocks old fault before refused =
     let lines = before.lines in
     let report = report_of old.tally 0 (endings.Bad old.line (faults.Text fault)) in
     let at_text : EndsAtText lines (old.pending ++ piece) [] report = record {
       fault = fault;
       text = refused_alone (old.pending ++ piece) fault refused;
       no_block = refl;
-      says = held_report c bytes es old 0 (λ n. endings.Bad n (faults.Text fault)) before;
+      says = held_report c bytes blocks old 0 (λ n. endings.Bad n (faults.Text fault)) before;
     } in
-    let judges : (end : StreamEnd) → Judges c (bytes ++ piece) end es report =
-    λ end. subst (λ e. Judges c (bytes ++ piece) end e report) (append-nil es)
-    (ends_behind c bytes piece es [] [] old end report before refl (inr (inl at_text))) in
+    let judges : (end : StreamEnd) → JudgesBlocks c (bytes ++ piece) end blocks report =
+    λ end. subst (λ b. JudgesBlocks c (bytes ++ piece) end b report) (append-nil blocks)
+    (ends_behind c bytes piece blocks [] old end report before (inr (inl at_text))) in
     (judges ended, judges failed)
 
 pub end_judged : EndJudged
-end_judged c bytes es old end before =
+end_judged c bytes blocks old end before =
     let lines = before.lines in
     let report = report_of old.tally 0 (ending_at end old.pending old.line) in
     let at_end : EndsAtEnd lines (old.pending ++ []) end [] report = record {
       pending = subst IsPending (sym (append-nil old.pending)) before.pending;
       no_block = refl;
-      says = held_report c bytes es old 0 (λ n. ending_at end old.pending n) before
+      says = held_report c bytes blocks old 0 (λ n. ending_at end old.pending n) before
           ∙ ap (λ rest. report_of (tally_of lines) 0 (ending_at end rest (line_number (length lines)))) (sym (append-nil old.pending));
     } in
-    subst (λ b. Judges c b end es report) (append-nil bytes)
-    (subst (λ e. Judges c (bytes ++ []) end e report) (append-nil es)
-    (ends_behind c bytes [] es [] [] old end report before refl (inr (inr (inr at_end)))))
+    subst (λ b. JudgesBlocks c b end blocks report) (append-nil bytes)
+    (subst (λ b. JudgesBlocks c (bytes ++ []) end b report) (append-nil blocks)
+    (ends_behind c bytes [] blocks [] old end report before (inr (inr (inr at_end)))))
 
 -- More bytes
 
@@ -235,20 +222,16 @@ fault_stays rest more fault text = (text.0, text.1 ++ more, ap (λ r. r ++ more)
 begins_longer : (c : Setting) (bytes more : List ℕ) (lines : List StreamLine) (rest : List ℕ) (front : List History) → BeginsGood c bytes lines rest front → BeginsGood c (bytes ++ more) lines (rest ++ more) front
 begins_longer c bytes more lines rest front begins = record { text = text_grows (flat_map line_text lines) bytes rest more begins.text; fits = begins.fits; good = begins.good }
 
-judges_longer : (c : Setting) (bytes more : List ℕ) (end other : StreamEnd) (es : History) (report : Report) → (j : Judges c bytes end es report)
-    → EndsAfter c j.judges.lines (j.judges.rest ++ more) other j.judges.back report → Judges c (bytes ++ more) other es report
-judges_longer c bytes more end other es report j ends = record {
-  blocks = j.blocks;
-  events = j.events;
-  judges = record {
-    lines = j.judges.lines;
-    rest = j.judges.rest ++ more;
-    front = j.judges.front;
-    back = j.judges.back;
-    split = j.judges.split;
-    begins = begins_longer c bytes more j.judges.lines j.judges.rest j.judges.front j.judges.begins;
-    ends = ends;
-  };
+judges_longer : (c : Setting) (bytes more : List ℕ) (end other : StreamEnd) (blocks : List History) (report : Report) → (j : JudgesBlocks c bytes end blocks report)
+    → EndsAfter c j.lines (j.rest ++ more) other j.back report → JudgesBlocks c (bytes ++ more) other blocks report
+judges_longer c bytes more end other blocks report j ends = record {
+  lines = j.lines;
+  rest = j.rest ++ more;
+  front = j.front;
+  back = j.back;
+  split = j.split;
+  begins = begins_longer c bytes more j.lines j.rest j.front j.begins;
+  ends = ends;
 }
 
 line_longer : (c : Setting) (lines : List StreamLine) (rest more : List ℕ) (back : List History) (report : Report) → EndsAtLine c lines rest back report → EndsAtLine c lines (rest ++ more) back report
@@ -282,6 +265,32 @@ memory_longer c lines rest more back report e = record {
 text_longer : (lines : List StreamLine) (rest more : List ℕ) (back : List History) (report : Report) → EndsAtText lines rest back report → EndsAtText lines (rest ++ more) back report
 text_longer lines rest more back report e = record { fault = e.fault; text = fault_stays rest more e.fault e.text; no_block = e.no_block; says = e.says }
 
+-- what is judged by a line, a text or want of memory is so for either end, whatever follows; what is judged by its end is left
+before_end : (c : Setting) (bytes more : List ℕ) (end other : StreamEnd) (blocks : List History) (report : Report) → (j : JudgesBlocks c bytes end blocks report)
+    → (EndsAtEnd j.lines j.rest end j.back report → JudgesBlocks c (bytes ++ more) other blocks report)
+    → JudgesBlocks c (bytes ++ more) other blocks report
+before_end c bytes more end other blocks report j at_end =
+    elim j.ends [
+      | inl line ↦ judges_longer c bytes more end other blocks report j (inl (line_longer c j.lines j.rest more j.back report line))
+      | inr rest ↦ elim rest [
+        | inl text ↦ judges_longer c bytes more end other blocks report j (inr (inl (text_longer j.lines j.rest more j.back report text)))
+        | inr rest ↦ elim rest [
+          | inl memory ↦ judges_longer c bytes more end other blocks report j (inr (inr (inl (memory_longer c j.lines j.rest more j.back report memory))))
+          | inr last ↦ at_end last
+        ]
+      ]
+    ]
+
+-- an ending by the end isn't decided before it
+not_decided : (end : StreamEnd) (rest : List ℕ) (number : ℕ) → IsDecided (ending_at end rest number) → ⊥
+not_decided ended [] number decided = decided
+not_decided ended (byte ∷ rest) number decided = decided refl
+not_decided failed rest number decided = decided
+
+pub either_end : EitherEnd
+either_end c bytes more end other blocks report decided j = before_end c bytes more end other blocks report j
+    (λ last. absurd (not_decided end j.rest (line_number (length j.lines)) (subst IsDecided (ap (λ (r : Report). r.ending) last.says) decided)))
+
 -- the ending that a failed read has is no other's
 says_failed : (lines others : List StreamLine) (rest left : List ℕ) (report : Report)
     → report ≡ report_of (tally_of lines) 0 (ending_at ended rest (line_number (length lines)))
@@ -290,28 +299,12 @@ says_failed lines others [] left report a b = let e : endings.Ended ≡ endings.
 says_failed lines others (byte ∷ rest) left report a b = let e : endings.Bad (line_number (length lines)) _ ≡ endings.ReadFailed (line_number (length others)) = ap (λ (r : Report). r.ending) (sym a ∙ b) in cc
 
 -- A report that fits both ends is decided before the end, so that it fits whatever follows.
-over_longer : (c : Setting) (bytes more : List ℕ) (es : History) (report : Report) (end : StreamEnd)
-    → Judges c bytes ended es report → Judges c bytes failed es report → Judges c (bytes ++ more) end es report
-over_longer c bytes more es report end a b =
-    elim a.judges.ends [
-      | inl line ↦ judges_longer c bytes more ended end es report a (inl (line_longer c a.judges.lines a.judges.rest more a.judges.back report line))
-      | inr rest ↦ elim rest [
-        | inl text ↦ judges_longer c bytes more ended end es report a (inr (inl (text_longer a.judges.lines a.judges.rest more a.judges.back report text)))
-        | inr rest ↦ elim rest [
-          | inl memory ↦ judges_longer c bytes more ended end es report a (inr (inr (inl (memory_longer c a.judges.lines a.judges.rest more a.judges.back report memory))))
-          | inr at_end ↦ elim b.judges.ends [
-            | inl line ↦ judges_longer c bytes more failed end es report b (inl (line_longer c b.judges.lines b.judges.rest more b.judges.back report line))
-            | inr rest ↦ elim rest [
-              | inl text ↦ judges_longer c bytes more failed end es report b (inr (inl (text_longer b.judges.lines b.judges.rest more b.judges.back report text)))
-              | inr rest ↦ elim rest [
-                | inl memory ↦ judges_longer c bytes more failed end es report b (inr (inr (inl (memory_longer c b.judges.lines b.judges.rest more b.judges.back report memory))))
-                | inr failed_end ↦ absurd (says_failed a.judges.lines b.judges.lines a.judges.rest b.judges.rest report at_end.says failed_end.says)
-              ]
-            ]
-          ]
-        ]
-      ]
-    ]
+over_longer : (c : Setting) (bytes more : List ℕ) (blocks : List History) (report : Report) (end : StreamEnd)
+    → JudgesBlocks c bytes ended blocks report → JudgesBlocks c bytes failed blocks report → JudgesBlocks c (bytes ++ more) end blocks report
+over_longer c bytes more blocks report end a b =
+    before_end c bytes more ended end blocks report a
+    (λ at_end. before_end c bytes more failed end blocks report b
+    (λ failed_end. absurd (says_failed a.lines b.lines a.rest b.rest report at_end.says failed_end.says)))
 
 pub over_stays : OverStays
-over_stays c bytes more es report over = (over_longer c bytes more es report ended over.0 over.1, over_longer c bytes more es report failed over.0 over.1)
+over_stays c bytes more blocks report over = (over_longer c bytes more blocks report ended over.0 over.1, over_longer c bytes more blocks report failed over.0 over.1)

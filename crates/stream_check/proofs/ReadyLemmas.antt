@@ -1,28 +1,32 @@
 -- Where a checker may be fed: at a map that was just opened, and still after other streams' calls.
-use Rattle.std.proofs.Common.{◌≡◌, ℕ, sym, ap, subst, ◌∙◌}
+use Rattle.std.proofs.Common.{◌≡◌, ◌≢◌, ◌∷◌, [], ℕ, sym, ap, ap₂, subst, ◌∙◌}
+use Rattle.std.specs.List.{AllByRecursion}
 use Rattle.lrup_model.specs.Formula.{Cnf}
 use Rattle.lrup_model.specs.Layout.{LayoutValue, Owns}
-use Rattle.lrup_model.specs.State.{absent}
+use Rattle.lrup_model.specs.Event.{Event, History, stream_of}
+use Rattle.lrup_model.specs.State.{State}
 use Rattle.lrup_model.specs.Place.{Caller, Place}
+use Rattle.lrup_model.specs.Plain.{plain_place}
+use Rattle.lrup_model.specs.Laws.{VacantAboveStays}
+use Rattle.lrup_model.specs.HistoryLemmas.{opening-owned}
 use Rattle.stream_check.specs.Setting.{Setting}
 use Rattle.stream_check.specs.CheckerValue.{CheckerValue}
-use Rattle.stream_check.specs.Checker.{IsNew, IsReadyAt}
+use Rattle.stream_check.specs.Checker.{IsReadyAt}
+use Rattle.stream_check.specs.Laws.{ReadyNew, ReadyStays, ReadyBeside}
 
--- at a map where none of the stream's own identities has anything
-pub ready_new : (layout : LayoutValue) (stream tries : ℕ) (v : CheckerValue) (p : Place) → IsNew layout stream tries v → p.caller.layout ≡ layout → p.caller.stream ≡ stream → p.caller.formula.vars ≡ layout.vars
-    → ((id : ℕ) → Owns p.caller.layout p.caller.stream id → p.own id ≡ absent) → IsReadyAt v p
-ready_new layout stream tries v p new at_layout at_stream variables none = record {
+pub ready_new : ReadyNew
+ready_new f layout stream tries v p new fits caller own = record {
   at = record {
-    layout = at_layout ∙ sym (ap (λ (c : Setting). c.layout) new.setting);
-    stream = at_stream ∙ sym (ap (λ (c : Setting). c.stream) new.setting);
-    variables = variables ∙ sym (ap (λ (c : Setting). c.layout.vars) new.setting);
+    layout = ap (λ (c : Caller). c.layout) caller ∙ sym (ap (λ (c : Setting). c.layout) new.setting);
+    stream = ap (λ (c : Caller). c.stream) caller ∙ sym (ap (λ (c : Setting). c.stream) new.setting);
+    variables = ap (λ (c : Caller). c.formula.vars) caller ∙ sym fits.vars ∙ sym (ap (λ (c : Setting). c.layout.vars) new.setting);
   };
-  vacant = λ id owns above. none id owns;
+  vacant = λ id owns above.
+      let here = subst (λ (c : Caller). Owns c.layout c.stream id) caller owns in own id here ∙ opening-owned f layout stream id fits here;
 }
 
--- where the stream's own identities have what they had
-pub ready_stays : (v : CheckerValue) (p q : Place) → q.caller ≡ p.caller → ((id : ℕ) → Owns p.caller.layout p.caller.stream id → q.own id ≡ p.own id) → IsReadyAt v p → IsReadyAt v q
-ready_stays v p q same keeps ready =
+pub ready_stays : VacantAboveStays → ReadyStays
+ready_stays law v p q es ready same legal others own =
     let before : (id : ℕ) → Owns q.caller.layout q.caller.stream id → Owns p.caller.layout p.caller.stream id = λ id owns. subst (λ (c : Caller). Owns c.layout c.stream id) same owns in
     record {
       at = record {
@@ -30,5 +34,18 @@ ready_stays v p q same keeps ready =
         stream = ap (λ (c : Caller). c.stream) same ∙ ready.at.stream;
         variables = ap (λ (c : Caller). c.formula.vars) same ∙ ready.at.variables;
       };
-      vacant = λ id owns above. keeps id (before id owns) ∙ ready.vacant id (before id owns) above;
+      vacant = λ id owns above. own id (before id owns)
+          ∙ law p.caller.formula p.caller.layout p.own es p.caller.stream v.last legal others ready.vacant id (before id owns) above;
     }
+
+-- calls of one stream are none of another
+calls_differ : (s t : ℕ) (es : History) → t ≢ s → AllByRecursion (λ e. stream_of e ≡ t) es → AllByRecursion (λ e. stream_of e ≢ s) es
+calls_differ s t [] other all = tt
+calls_differ s t (e ∷ es) other all = (λ is. other (sym all.0 ∙ is), calls_differ s t es other all.1)
+
+pub ready_beside : VacantAboveStays → ReadyBeside
+ready_beside law v old new t es ready moves other =
+    let s = v.setting.stream in
+    ready_stays law v (plain_place old s) (plain_place new s) es ready
+    (ap₂ (λ (f : Cnf) (p : LayoutValue). record { formula = f; layout = p; stream = s }) moves.formula moves.layout)
+    moves.answers (calls_differ s t es other moves.callers) (λ id owns. ap (λ (m : State). m id) moves.state)

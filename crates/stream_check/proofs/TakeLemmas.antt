@@ -1,5 +1,5 @@
 -- A line that is taken, on whatever bytes and events came before it.
-use Rattle.std.proofs.Common.{◌≡◌, ◌+◌, ℕ, Bool, List, [], ◌++◌, length, take, Option, None, Some, refl, sym, ap, subst, ◌∙◌, append-nil, arith}
+use Rattle.std.proofs.Common.{◌≡◌, ◌+◌, ℕ, Bool, List, [], ◌∷◌, ◌++◌, length, take, Option, None, Some, refl, sym, ap, subst, ◌∙◌, append-nil, arith}
 use Rattle.lrup_model.specs.Event.{History}
 use Rattle.lrup_text.specs.Lines.{StreamLine, LineText, IsPending}
 use Rattle.lrup_text.specs.declared.LineFault.{LineFault}
@@ -33,24 +33,32 @@ report_is old new count ending more =
 
 -- a line that ends after so many bytes
 pub takes_line : GoodLineTaken → (old new : Held) (free left : ℕ) (read piece : List ℕ) (used : ℕ) (line : StreamLine) (es : History) (stop : Option Stop)
-    → LineText line (read ++ take used piece) → TakesBy old free new left line es stop → Takes old read free piece es (taken_of used stop) new left
+    → LineText line (read ++ take used piece) → TakesBy old free new left line es stop → Takes old read free piece (es ∷ []) (taken_of used stop) new left
 takes_line law old new free left read piece used line es None text takes = (
+  refl,
   λ bytes before leaves. law old.setting bytes (take used piece) before es (hold old read free) (hold new [] left) line leaves text takes.0 (takes.1 read),
   (line, text),
 )
-takes_line law old new free left read piece used line es (Some (stops.Bad fault)) text takes = λ bytes before leaves.
-    subst (λ (r : Report). Leaves old.setting (bytes ++ take used piece) (before ++ es) (Over r)) (report_is old new takes.0 (λ n. endings.Bad n fault) takes.2)
-    (bad_line_taken old.setting bytes (take used piece) before es (hold old read free) line takes.0 fault leaves text takes.1)
-takes_line law old new free left read piece used line es (Some stops.Memory) text takes = λ bytes before leaves.
-    subst (λ (r : Report). Leaves old.setting (bytes ++ take used piece) (before ++ es) (Over r)) (report_is old new (length takes.2) (λ n. endings.Memory n) takes.5)
-    (memory_wanted old.setting bytes (take used piece) before es (hold old read free) takes.0 takes.1 takes.2 leaves (subst (λ (l : StreamLine). LineText l (read ++ take used piece)) takes.3 text) takes.4)
+takes_line law old new free left read piece used line es (Some (stops.Bad fault)) text takes = (
+  omega arith,
+  λ bytes before leaves.
+      subst (λ (r : Report). Leaves old.setting (bytes ++ take used piece) (before ++ es ∷ []) (Over r)) (report_is old new takes.0 (λ n. endings.Bad n fault) takes.2)
+      (bad_line_taken old.setting bytes (take used piece) before es (hold old read free) line takes.0 fault leaves text takes.1),
+)
+takes_line law old new free left read piece used line es (Some stops.Memory) text takes = (
+  omega arith,
+  λ bytes before leaves.
+      subst (λ (r : Report). Leaves old.setting (bytes ++ take used piece) (before ++ es ∷ []) (Over r)) (report_is old new (length takes.2) (λ n. endings.Memory n) takes.5)
+      (memory_wanted old.setting bytes (take used piece) before es (hold old read free) takes.0 takes.1 takes.2 leaves (subst (λ (l : StreamLine). LineText l (read ++ take used piece)) takes.3 text) takes.4),
+)
 
 -- the front of a line
 pub takes_more : (old : Held) (free left : ℕ) (read piece : List ℕ) → left ≡ free → IsPending (read ++ piece) → Takes old read free piece [] taken.More old left
 takes_more old free left read piece same pending = (
+  refl,
   λ bytes before leaves.
       subst (λ n. Leaves old.setting (bytes ++ piece) (before ++ []) (Going (hold old (read ++ piece) n))) (sym same)
-      (subst (λ (es : History). Leaves old.setting (bytes ++ piece) es (Going (hold old (read ++ piece) free))) (sym (append-nil before))
+      (subst (λ (blocks : List History). Leaves old.setting (bytes ++ piece) blocks (Going (hold old (read ++ piece) free))) (sym (append-nil before))
       (pending_grows old.setting bytes piece before (hold old read free) leaves pending)),
   pending,
 )
@@ -58,8 +66,11 @@ takes_more old free left read piece same pending = (
 -- a text that begins no line
 pub takes_fault : (old : Held) (free left : ℕ) (read piece : List ℕ) (used : ℕ) (fault : LineFault) → IsRefused (read ++ take used piece) fault
     → Takes old read free piece [] (taken.Stopped used (stops.Bad (faults.Text fault))) old left
-takes_fault old free left read piece used fault refused bytes before leaves =
-    subst (λ (r : Report). Leaves old.setting (bytes ++ take used piece) (before ++ []) (Over r))
-    (report_is old old 0 (λ n. endings.Bad n (faults.Text fault)) (record { added = refl; deleted = omega arith; empty = refl; line = refl }))
-    (subst (λ (es : History). Leaves old.setting (bytes ++ take used piece) es (Over (report_of (tally_at old) 0 (endings.Bad old.line (faults.Text fault))))) (sym (append-nil before))
-    (bad_text_read old.setting bytes (take used piece) before (hold old read free) fault leaves refused))
+takes_fault old free left read piece used fault refused = (
+  omega arith,
+  λ bytes before leaves.
+      subst (λ (r : Report). Leaves old.setting (bytes ++ take used piece) (before ++ []) (Over r))
+      (report_is old old 0 (λ n. endings.Bad n (faults.Text fault)) (record { added = refl; deleted = omega arith; empty = refl; line = refl }))
+      (subst (λ (blocks : List History). Leaves old.setting (bytes ++ take used piece) blocks (Over (report_of (tally_at old) 0 (endings.Bad old.line (faults.Text fault))))) (sym (append-nil before))
+      (bad_text_read old.setting bytes (take used piece) before (hold old read free) fault leaves refused)),
+)

@@ -18,7 +18,7 @@ use Rattle.stream_check.specs.Setting.{Setting}
 use Rattle.stream_check.specs.Standing.{capped, Standing, Tally, is_among}
 use Rattle.stream_check.specs.Verdicts.{Verdict, Bad}
 use Rattle.stream_check.specs.Additions.{JudgesHints, JudgesAddition, published_by}
-use Rattle.stream_check.specs.Judging.{StreamEnd, ending_at, Judges}
+use Rattle.stream_check.specs.Judging.{StreamEnd, ending_at, JudgesBlocks}
 use Rattle.stream_check.specs.Leaving.{Holding, CheckerState, Going, Over, Leaves}
 use Rattle.stream_check.specs.Checking.{IsAt}
 use Rattle.stream_check.specs.CheckerValue.{CheckerValue}
@@ -101,9 +101,15 @@ pub record IsReadyAt (v : CheckerValue) (p : Place) : Type 0 where
   pub at : IsAt v.setting p
   pub vacant : IsVacantAbove p v.last
 
--- Whatever bytes and events left the checker as it was, these bytes and events more leave it as it is.
-abbrev pub LeavesOn : Setting → CheckerState → List ℕ → History → CheckerState → Type 0
-LeavesOn c old used es new = (bytes : List ℕ) (before : History) → Leaves c bytes before old → Leaves c (bytes ++ used) (before ++ es) new
+-- Whatever bytes and blocks left the checker as it was, these bytes and blocks more leave it as it is.
+abbrev pub LeavesOn : Setting → CheckerState → List ℕ → List History → CheckerState → Type 0
+LeavesOn c old used blocks new = (bytes : List ℕ) (before : List History) → Leaves c bytes before old → Leaves c (bytes ++ used) (before ++ blocks) new
+
+-- The blocks that a call comes to: that of the line that it ends, or none, or where the reading ends that of the last line, if there is one.
+abbrev pub AreBlocksOf : Turn → List History → Type 0
+AreBlocksOf turns.Line blocks = length blocks ≡ 1
+AreBlocksOf turns.More blocks = blocks ≡ []
+AreBlocksOf turns.Over blocks = length blocks ≤ 1
 
 -- What the bytes used came to: one line more, the front of a line, or the end of the reading.
 abbrev pub Turns : Turn → CheckerValue → CheckerValue → List ℕ → List ℕ → Type 0
@@ -135,11 +141,11 @@ EndsBy (Some ending) end old new = new ≡ old
 abbrev pub Ends : StreamEnd → CheckerValue → CheckerValue → Type 0
 Ends end old new = EndsBy old.ending end old new
 
--- The report of a checker that is over is right for whatever bytes and events left it as it was, and this end.
+-- The report of a checker that is over is right for whatever bytes and blocks left it as it was, and this end.
 abbrev pub ReportsEnd : StreamEnd → CheckerValue → CheckerValue → Type 0
 ReportsEnd end old new =
-    (bytes : List ℕ) (es : History) (free : ℕ) → Leaves old.setting bytes es (state_of old free)
-    → (ending : Ending) × (new.ending ≡ Some ending) × Judges old.setting bytes end es (report_at new.tally ending)
+    (bytes : List ℕ) (blocks : List History) (free : ℕ) → Leaves old.setting bytes blocks (state_of old free)
+    → (ending : Ending) × (new.ending ≡ Some ending) × JudgesBlocks old.setting bytes end blocks (report_at new.tally ending)
 
 -- a checker that isn't over reads on, and its parts are for one setting
 pub record IsSound (c : Setting) (vars : ℕ) (reader : ReaderState) (ending : Option Ending) : Type 0 where

@@ -1,18 +1,22 @@
 -- Laws of judging. Each is the contract of a function of laws.
-use Rattle.std.specs.Prelude.{◌≡◌, ◌↔◌, ◌≤◌, ◌++◌, ℕ, ℤ, Bool, IsTrue, List, [], ◌∷◌, map, length}
+use Rattle.std.specs.Prelude.{◌≡◌, ◌≢◌, ◌↔◌, ◌≤◌, ◌++◌, ℕ, ℤ, Bool, IsTrue, List, [], ◌∷◌, map, length}
 use Rattle.std.specs.List.{AllByRecursion}
 use Rattle.lrup_model.specs.Formula.{Cnf}
 use Rattle.lrup_model.specs.Entailment.{Follows}
-use Rattle.lrup_model.specs.Layout.{LayoutValue, last_identity}
-use Rattle.lrup_model.specs.State.{State}
+use Rattle.lrup_model.specs.Layout.{LayoutValue, Fits, Owns, last_identity}
+use Rattle.lrup_model.specs.State.{State, opening, run}
 use Rattle.lrup_model.specs.History.{LegalFrom, IsLegal}
 use Rattle.lrup_model.specs.Event as events
 use Rattle.lrup_model.specs.Event.{Event, History, stream_of, own}
+use Rattle.lrup_model.specs.Place.{Place}
+use Rattle.lrup_model.specs.Plain.{Plain, plain_place, PlainMoves}
 use Rattle.lrup_text.specs.declared.LineFault.{LineFault}
+use Rattle.lrup_text.specs.declared.LineFault.TheVariants as texts
 use Rattle.lrup_text.specs.Lines.{StreamLine, Addition, Deletion, Cut, LineText, IsPending}
 use Rattle.lrup_text.specs.Faults.{IsRefused}
 use Rattle.stream_check.specs.declared.fault.Fault.{Fault}
 use Rattle.stream_check.specs.declared.fault.Fault.TheVariants as faults
+use Rattle.stream_check.specs.declared.report.Ending.{Ending}
 use Rattle.stream_check.specs.declared.report.Ending.TheVariants as endings
 use Rattle.stream_check.specs.declared.report.Report.{Report}
 use Rattle.stream_check.specs.Setting.{Setting}
@@ -26,56 +30,95 @@ use Rattle.stream_check.specs.Reducing.{reduced, IsEarly, TriesAgain}
 use Rattle.stream_check.specs.Finding.{IsGoodAddition, FindsSound}
 use Rattle.stream_check.specs.Verdicts.{Verdict, Good, Bad}
 use Rattle.stream_check.specs.Leaving.{Holding, Going, Over, Leaves, IsFresh, TakesLine}
+use Rattle.stream_check.specs.CheckerValue.{CheckerValue}
+use Rattle.stream_check.specs.Checker.{IsNew, IsReadyAt}
 
 -- What a checker is left as, step by step
 
--- no bytes and no events
+-- no bytes and no blocks
 abbrev pub FreshLeft : Type 0
 FreshLeft = (c : Setting) (now : Holding) → IsFresh c now → Leaves c [] [] (Going now)
 
 -- more bytes of a line
 abbrev pub PendingGrows : Type 0
-PendingGrows = (c : Setting) (bytes piece : List ℕ) (es : History) (old : Holding)
-    → Leaves c bytes es (Going old) → IsPending (old.pending ++ piece)
-    → Leaves c (bytes ++ piece) es (Going (record old { pending = old.pending ++ piece }))
+PendingGrows = (c : Setting) (bytes piece : List ℕ) (blocks : List History) (old : Holding)
+    → Leaves c bytes blocks (Going old) → IsPending (old.pending ++ piece)
+    → Leaves c (bytes ++ piece) blocks (Going (record old { pending = old.pending ++ piece }))
 
 -- one good line more
 abbrev pub GoodLineTaken : Type 0
-GoodLineTaken = (c : Setting) (bytes piece : List ℕ) (es block : History) (old new : Holding) (line : StreamLine)
-    → Leaves c bytes es (Going old) → LineText line (old.pending ++ piece)
+GoodLineTaken = (c : Setting) (bytes piece : List ℕ) (blocks : List History) (block : History) (old new : Holding) (line : StreamLine)
+    → Leaves c bytes blocks (Going old) → LineText line (old.pending ++ piece)
     → JudgesLine c old.standing line block Good → TakesLine c old line new
-    → Leaves c (bytes ++ piece) (es ++ block) (Going new)
+    → Leaves c (bytes ++ piece) (blocks ++ block ∷ []) (Going new)
 
 -- a bad line
 abbrev pub BadLineTaken : Type 0
-BadLineTaken = (c : Setting) (bytes piece : List ℕ) (es block : History) (old : Holding) (line : StreamLine) (deleted : ℕ) (fault : Fault)
-    → Leaves c bytes es (Going old) → LineText line (old.pending ++ piece)
+BadLineTaken = (c : Setting) (bytes piece : List ℕ) (blocks : List History) (block : History) (old : Holding) (line : StreamLine) (deleted : ℕ) (fault : Fault)
+    → Leaves c bytes blocks (Going old) → LineText line (old.pending ++ piece)
     → JudgesLine c old.standing line block (Bad deleted fault)
-    → Leaves c (bytes ++ piece) (es ++ block) (Over (report_of old.tally deleted (endings.Bad old.line fault)))
+    → Leaves c (bytes ++ piece) (blocks ++ block ∷ []) (Over (report_of old.tally deleted (endings.Bad old.line fault)))
 
 -- a text that begins no line
 abbrev pub BadTextRead : Type 0
-BadTextRead = (c : Setting) (bytes piece : List ℕ) (es : History) (old : Holding) (fault : LineFault)
-    → Leaves c bytes es (Going old) → IsRefused (old.pending ++ piece) fault
-    → Leaves c (bytes ++ piece) es (Over (report_of old.tally 0 (endings.Bad old.line (faults.Text fault))))
+BadTextRead = (c : Setting) (bytes piece : List ℕ) (blocks : List History) (old : Holding) (fault : LineFault)
+    → Leaves c bytes blocks (Going old) → IsRefused (old.pending ++ piece) fault
+    → Leaves c (bytes ++ piece) blocks (Over (report_of old.tally 0 (endings.Bad old.line (faults.Text fault))))
 
 -- a deletion that stopped for want of memory
 abbrev pub MemoryWanted : Type 0
-MemoryWanted = (c : Setting) (bytes piece : List ℕ) (es block : History) (old : Holding) (lead : ℕ) (ids earlier : List ℕ)
-    → Leaves c bytes es (Going old) → LineText (Deletion lead ids) (old.pending ++ piece)
+MemoryWanted = (c : Setting) (bytes piece : List ℕ) (blocks : List History) (block : History) (old : Holding) (lead : ℕ) (ids earlier : List ℕ)
+    → Leaves c bytes blocks (Going old) → LineText (Deletion lead ids) (old.pending ++ piece)
     → StopsDeletion c old.standing.gone ids block earlier
-    → Leaves c (bytes ++ piece) (es ++ block) (Over (report_of old.tally (length earlier) (endings.Memory old.line)))
+    → Leaves c (bytes ++ piece) (blocks ++ block ∷ []) (Over (report_of old.tally (length earlier) (endings.Memory old.line)))
 
 -- the end of the stream, or a failed read
 abbrev pub EndJudged : Type 0
-EndJudged = (c : Setting) (bytes : List ℕ) (es : History) (old : Holding) (end : StreamEnd)
-    → Leaves c bytes es (Going old)
-    → Judges c bytes end es (report_of old.tally 0 (ending_at end old.pending old.line))
+EndJudged = (c : Setting) (bytes : List ℕ) (blocks : List History) (old : Holding) (end : StreamEnd)
+    → Leaves c bytes blocks (Going old)
+    → JudgesBlocks c bytes end blocks (report_of old.tally 0 (ending_at end old.pending old.line))
 
 -- a checker that is over stays as it is, whatever follows
 abbrev pub OverStays : Type 0
-OverStays = (c : Setting) (bytes more : List ℕ) (es : History) (report : Report)
-    → Leaves c bytes es (Over report) → Leaves c (bytes ++ more) es (Over report)
+OverStays = (c : Setting) (bytes more : List ℕ) (blocks : List History) (report : Report)
+    → Leaves c bytes blocks (Over report) → Leaves c (bytes ++ more) blocks (Over report)
+
+-- the ending doesn't depend on how the stream ended, nor on what followed: a bad line or text, or want of memory
+abbrev pub IsDecided : Ending → Type 0
+IsDecided endings.Ended = ⊥
+IsDecided (endings.Bad line fault) = ¬ (fault ≡ faults.Text texts.Truncated)
+IsDecided (endings.ReadFailed line) = ⊥
+IsDecided (endings.Memory line) = Unit {0}
+
+-- so a report with such an ending is right for either end, and whatever follows
+abbrev pub EitherEnd : Type 0
+EitherEnd = (c : Setting) (bytes more : List ℕ) (end other : StreamEnd) (blocks : List History) (report : Report)
+    → IsDecided report.ending → JudgesBlocks c bytes end blocks report → JudgesBlocks c (bytes ++ more) other blocks report
+
+-- Where a checker may be fed
+
+-- a new checker, at a place of its stream at the opening of a run
+abbrev pub ReadyNew : Type 0
+ReadyNew = (f : Cnf) (layout : LayoutValue) (stream tries : ℕ) (v : CheckerValue) (p : Place)
+    → IsNew layout stream tries v → Fits layout f
+    → p.caller ≡ record { formula = f; layout = layout; stream = stream }
+    → ((id : ℕ) → Owns layout stream id → p.own id ≡ opening f id)
+    → IsReadyAt v p
+
+-- after legal events of other streams, where the stream's own identities have what these leave
+abbrev pub ReadyStays : Type 0
+ReadyStays = (v : CheckerValue) (p q : Place) (es : History)
+    → IsReadyAt v p → q.caller ≡ p.caller
+    → LegalFrom p.caller.formula p.caller.layout p.own es
+    → AllByRecursion (λ e. stream_of e ≢ p.caller.stream) es
+    → ((id : ℕ) → Owns p.caller.layout p.caller.stream id → q.own id ≡ run p.own es id)
+    → IsReadyAt v q
+
+-- so at the map of one thread, after the calls of another stream
+abbrev pub ReadyBeside : Type 0
+ReadyBeside = (v : CheckerValue) (old new : Plain) (t : ℕ) (es : History)
+    → IsReadyAt v (plain_place old v.setting.stream) → PlainMoves old new t es → t ≢ v.setting.stream
+    → IsReadyAt v (plain_place new v.setting.stream)
 
 -- One report
 

@@ -1,11 +1,11 @@
--- What a checker is, and what it is left as by the bytes and events so far (this project's own).
+-- What a checker is, and what it is left as by the bytes so far and the blocks of events of their lines (this project's own).
 use Rattle.std.specs.Prelude.{◌≡◌, ◌+◌, ◌-◌, ◌^◌, ◌&&◌, ◌||◌, ℕ, List, [], length, min}
 use Rattle.lrup_model.specs.Event.{History}
 use Rattle.lrup_text.specs.Lines.{StreamLine, Addition, Deletion, Cut, IsPending}
 use Rattle.stream_check.specs.declared.report.Report.{Report}
 use Rattle.stream_check.specs.Setting.{Setting, side_of, is_shared}
 use Rattle.stream_check.specs.Standing.{Standing, standing_of, is_among, size_of, deleted_by, added_by, adds_empty, Tally, tally_of, capped, line_number}
-use Rattle.stream_check.specs.Judging.{AreGood, joined, ended, failed, Judges}
+use Rattle.stream_check.specs.Judging.{AreGood, ended, failed, JudgesBlocks}
 
 -- what a checker holds that isn't over: its counts, what good lines left, the text read of the next line, and that line's number
 pub record Holding : Type 0 where
@@ -24,22 +24,20 @@ pub record SameStanding (a b : Standing) : Type 0 where
   pub free : a.free ≡ b.free
   pub gone : (id : ℕ) → a.gone id ≡ b.gone id
 
--- all lines are good, the rest may still become a line, and the checker holds what they leave
-pub record LeavesGoing (c : Setting) (bytes : List ℕ) (es : History) (now : Holding) : Type 0 where
+-- all lines are good, with these blocks of events, the rest may still become a line, and the checker holds what they leave
+pub record LeavesGoing (c : Setting) (bytes : List ℕ) (blocks : List History) (now : Holding) : Type 0 where
   pub lines : List StreamLine
   pub cut : Cut bytes lines now.pending
   pub pending : IsPending now.pending
-  pub blocks : List History
   pub good : AreGood c [] lines blocks
-  pub events : es ≡ joined blocks
   pub tally : now.tally ≡ tally_of lines
   pub standing : SameStanding now.standing (standing_of c lines)
   pub line : now.line ≡ line_number (length lines)
 
--- The bytes so far, and the events, leave the checker so. One that is over has a report that is right whatever the end is.
-abbrev pub Leaves : Setting → List ℕ → History → CheckerState → Type 0
-Leaves c bytes es (Going now) = LeavesGoing c bytes es now
-Leaves c bytes es (Over report) = Judges c bytes ended es report × Judges c bytes failed es report
+-- The bytes so far, whose lines have these blocks of events, leave the checker so. One that is over has a report that is right whatever the end is.
+abbrev pub Leaves : Setting → List ℕ → List History → CheckerState → Type 0
+Leaves c bytes blocks (Going now) = LeavesGoing c bytes blocks now
+Leaves c bytes blocks (Over report) = JudgesBlocks c bytes ended blocks report × JudgesBlocks c bytes failed blocks report
 
 -- One good line more
 

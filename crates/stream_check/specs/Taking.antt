@@ -53,15 +53,19 @@ abbrev pub taken_of : ℕ → Option Stop → Taken
 taken_of used None = taken.Line used
 taken_of used (Some stop) = taken.Stopped used stop
 
--- what stands next in a piece, and what it leaves
-abbrev pub Takes : Held → List ℕ → ℕ → List ℕ → History → Taken → Held → ℕ → Type 0
-Takes old read free piece es (taken.Line used) new left =
-    LeavesOn old.setting (Going (hold old read free)) (take used piece) es (Going (hold new [] left))
+-- what stands next in a piece, the blocks of events that it comes to, and what it leaves
+abbrev pub Takes : Held → List ℕ → ℕ → List ℕ → List History → Taken → Held → ℕ → Type 0
+Takes old read free piece blocks (taken.Line used) new left =
+    (length blocks ≡ 1)
+    × LeavesOn old.setting (Going (hold old read free)) (take used piece) blocks (Going (hold new [] left))
     × ((line : StreamLine) × LineText line (read ++ take used piece))
-Takes old read free piece es taken.More new left =
-    LeavesOn old.setting (Going (hold old read free)) piece es (Going (hold new (read ++ piece) left)) × IsPending (read ++ piece)
-Takes old read free piece es (taken.Stopped used stop) new left =
-    LeavesOn old.setting (Going (hold old read free)) (take used piece) es (Over (report_at (tally_at new) (ending_of new.line stop)))
+Takes old read free piece blocks taken.More new left =
+    (blocks ≡ [])
+    × LeavesOn old.setting (Going (hold old read free)) piece blocks (Going (hold new (read ++ piece) left))
+    × IsPending (read ++ piece)
+Takes old read free piece blocks (taken.Stopped used stop) new left =
+    (length blocks ≤ 1)
+    × LeavesOn old.setting (Going (hold old read free)) (take used piece) blocks (Over (report_at (tally_at new) (ending_of new.line stop)))
 
 -- the reader after it, and how many bytes were used at most
 abbrev pub ReadsOn : List ℕ → List ℕ → Taken → ReaderState → Type 0

@@ -1,9 +1,9 @@
 //! The checker of one stream.
-ghost use Rattle.std.specs.Prelude.{◌≡◌, ◌↔◌, ◌≤◌, ◌<◌, IsTrue, IsSome, IfSome, IfOk, take, length};
+ghost use Rattle.std.specs.Prelude.{◌≡◌, ◌↔◌, ◌≤◌, ◌<◌, IsTrue, IsSome, IfSome, IfOk, List, take, length};
 ghost use Rattle.lrup_model.specs.Event.{History};
 ghost use Rattle.lrup_model.specs.Layout.{IsStream};
-ghost use Rattle.stream_check.specs.Judging.{ended, failed};
-ghost use Rattle.stream_check.specs.Checker.{state_of, report_at, IsReadyAt, LeavesOn, Turns, StaysOver, IsNew, Ends, ReportsEnd};
+ghost use Rattle.stream_check.specs.Judging.{joined, ended, failed};
+ghost use Rattle.stream_check.specs.Checker.{state_of, report_at, IsReadyAt, LeavesOn, AreBlocksOf, Turns, StaysOver, IsNew, Ends, ReportsEnd};
 
 use crate::addition::Buffers;
 use crate::fault::Fault;
@@ -71,12 +71,13 @@ impl Checker {
         piece: &[u8],
     ) -> Progress
         requires { IsReadyAt self.old (M.place map.old) }
-        // Whatever bytes and events came before, the bytes used and the call's events leave the
-        // checker as it is now.
+        // Whatever bytes and blocks came before, the bytes used and the blocks of the call's events
+        // leave the checker as it is now.
         ensures left { let old = state_of self.old (M.place map.old).room in
             let new = state_of self.new (M.place map.new).room in
-            (es : History) × M.moves map.old map.new es
-            × LeavesOn self.old.setting old (take result.used piece.now) es new }
+            (blocks : List History) × M.moves map.old map.new (joined blocks)
+            × AreBlocksOf result.turn blocks
+            × LeavesOn self.old.setting old (take result.used piece.now) blocks new }
         ensures turn { Turns result.turn self.old self.new piece.now (take result.used piece.now) }
         ensures used { result.used ≤ length piece.now }
         ensures moves_on { result.turn ≡ Turn.Line → 0 < result.used }
@@ -135,9 +136,10 @@ impl Checker {
         ensures ends { Ends failed self.old self.new }
         ensures reports { ReportsEnd failed self.old self.new }
     {
-        if self.ending.is_none() {
-            self.ending = Some(Ending::ReadFailed(self.held.line));
+        if self.ending.is_some() {
+            return;
         }
+        self.ending = Some(Ending::ReadFailed(self.held.line));
     }
 
     /// Is nothing more taken?

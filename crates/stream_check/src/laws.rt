@@ -1,13 +1,13 @@
 //! Laws of judging. Each function does nothing; its contract is the law, which holds of every stream, layout and history.
-ghost use Rattle.stream_check.specs.Laws.{FreshLeft, PendingGrows, GoodLineTaken, BadLineTaken, BadTextRead, MemoryWanted, EndJudged, OverStays, OneReport, RepliesDecide, LegalNeverFork, AloneDecides, GoodExactlyIf, GoodFollows, LineCalls, EarlyEvents, VacantTriesAgain, ReducedLine, ReducedStream, JudgedLinesCut, HintsFetched, CountsWithin};
+ghost use Rattle.stream_check.specs.Laws.{FreshLeft, PendingGrows, GoodLineTaken, BadLineTaken, BadTextRead, MemoryWanted, EndJudged, OverStays, EitherEnd, ReadyNew, ReadyStays, ReadyBeside, OneReport, RepliesDecide, LegalNeverFork, AloneDecides, GoodExactlyIf, GoodFollows, LineCalls, EarlyEvents, VacantTriesAgain, ReducedLine, ReducedStream, JudgedLinesCut, HintsFetched, CountsWithin};
 
-use lrup_model::laws::propagation_sound;
+use lrup_model::laws::{propagation_sound, vacant_above_stays};
 use lrup_text::laws::{
     a_text_has_one_fault, a_text_spells_one_line, no_bytes_have_no_lines, no_text_begins_another,
     texts_are_lines,
 };
 
-/// No bytes and no events leave a checker fresh.
+/// No bytes and no blocks leave a checker fresh.
 pub fn fresh_left()
     ensures { FreshLeft }
 {
@@ -20,7 +20,7 @@ pub fn pending_grows()
     ensures { PendingGrows }
 {}
 
-/// One good line more is taken, with its events.
+/// One good line more is taken, with its block of events.
 pub fn good_line_taken()
     ensures { GoodLineTaken }
 {
@@ -52,6 +52,30 @@ pub fn end_judged()
 pub fn over_stays()
     ensures { OverStays }
 {}
+
+/// A bad line or text, or want of memory, is judged alike for either end and whatever follows.
+pub fn either_end()
+    ensures { EitherEnd }
+{}
+
+/// A new checker may be fed at the opening of a run.
+pub fn ready_new()
+    ensures { ReadyNew }
+{}
+
+/// A checker that may be fed may be fed after legal events of other streams.
+pub fn ready_stays()
+    ensures { ReadyStays }
+{
+    vacant_above_stays();
+}
+
+/// So it is at the map of one thread, after another stream's calls.
+pub fn ready_beside()
+    ensures { ReadyBeside }
+{
+    vacant_above_stays();
+}
 
 /// A stream's bytes, end and events have one report and one list of blocks, but for want of memory.
 pub fn one_report()

@@ -1,7 +1,8 @@
 //! The line that stands next in a piece.
-ghost use Rattle.std.specs.Prelude.{◌≡◌, ◌≤◌, ◌<◌, ◌^◌, ℕ, Ok, take, length};
+ghost use Rattle.std.specs.Prelude.{◌≡◌, ◌≤◌, ◌<◌, ◌^◌, ℕ, List, Ok, take, length};
 ghost use Rattle.lrup_model.specs.Event.{History};
 ghost use Rattle.lrup_text.specs.Lines.{IsWithinLimits, Addition, Deletion};
+ghost use Rattle.stream_check.specs.Judging.{joined};
 ghost use Rattle.stream_check.specs.Checker.{read_of};
 ghost use Rattle.stream_check.specs.Taking.{IsReady, TakesBy, Takes, ReadsOn, taken_of, ending_of};
 
@@ -106,8 +107,8 @@ pub fn take_line<M: ClauseMap, G: Gate>(
     requires tries { held.old.setting.tries < 2 ^ 63 }
     requires reader { reader.old ≡ Ok (read_of reader.old) }
     ensures taken { let free = (M.place map.old).room in let left = (M.place map.new).room in
-        (es : History) × M.moves map.old map.new es
-        × Takes held.old (read_of reader.old) free piece.now es result held.new left }
+        (blocks : List History) × M.moves map.old map.new (joined blocks)
+        × Takes held.old (read_of reader.old) free piece.now blocks result held.new left }
     ensures reads { ReadsOn (read_of reader.old) piece.now result reader.new }
     ensures ready { IsReady held.new (M.place map.new) }
     ensures setting { held.new.setting ≡ held.old.setting }

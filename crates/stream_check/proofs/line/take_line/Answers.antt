@@ -1,4 +1,5 @@
-use Rattle.std.proofs.Common.{[], Ok, sym, subst, take, ◌++◌, refl}
+use Rattle.std.proofs.Common.{[], ◌∷◌, Ok, sym, subst, take, ◌++◌, refl, append-nil}
+use Rattle.lrup_model.specs.Event.{History}
 use Rattle.lrup_text.specs.Feeding.{ReaderState, Feeds, Leaves}
 use Rattle.lrup_text.specs.Lines.{StreamLine, LineText, line_of, Addition, Deletion}
 use Rattle.lrup_text.specs.declared.reader.Turn.{Turn}
@@ -26,9 +27,9 @@ returns-in-Line-Add-clause-taken g c =
     let spelt : StreamLine = Addition line.id line.lits.now line.hints.now in
     let text : LineText spelt (read ++ take used piece) = subst (λ (l : Line). LineText (line_of l) (read ++ take used piece)) inner gives.2 in
     let taken = c.take_addition.ensures.taken in (
-      taken.0,
-      taken.1,
-      subst (λ (t : Taken). Takes old read p.room piece taken.0 t new q.room) (sym c.line_through.ensures)
+      taken.0 ∷ [],
+      subst (λ (es : History). g.M.ClauseMap.moves c.args.map.now c.take_addition.new.map es) (sym (append-nil taken.0)) taken.1,
+      subst (λ (t : Taken). Takes old read p.room piece (taken.0 ∷ []) t new q.room) (sym c.line_through.ensures)
           (takes_line c.good_line_taken.ensures old new p.room q.room read piece used spelt taken.0 c.take_addition.result text taken.2),
     )
 
@@ -48,9 +49,9 @@ returns-in-Line-Delete-clause-taken g c =
     let spelt : StreamLine = Deletion line.field-0-0 line.ids.now in
     let text : LineText spelt (read ++ take used piece) = subst (λ (l : Line). LineText (line_of l) (read ++ take used piece)) inner gives.2 in
     let taken = c.take_deletion.ensures.taken in (
-      taken.0,
-      taken.1,
-      subst (λ (t : Taken). Takes old read p.room piece taken.0 t new q.room) (sym c.line_through-in-Line-Delete.ensures)
+      taken.0 ∷ [],
+      subst (λ (es : History). g.M.ClauseMap.moves c.args.map.now c.take_deletion.new.map es) (sym (append-nil taken.0)) taken.1,
+      subst (λ (t : Taken). Takes old read p.room piece (taken.0 ∷ []) t new q.room) (sym c.line_through-in-Line-Delete.ensures)
           (takes_line c.good_line_taken.ensures old new p.room q.room read piece used spelt taken.0 c.take_deletion.result text (taken.2 line.field-0-0)),
     )
 

@@ -1,4 +1,4 @@
-use Rattle.std.proofs.Common.{◌∙◌, [], sym, ap, subst, take, length}
+use Rattle.std.proofs.Common.{◌∙◌, [], sym, ap, subst, take, length, arith}
 use Rattle.stream_check.specs.Leaving.{Over}
 use Rattle.stream_check.specs.CheckerValue.{CheckerValue}
 use Rattle.stream_check.specs.Checker.{read_of, value_of, state_of, report_at, tally_at, LeavesOn}
@@ -7,7 +7,7 @@ use Rattle.stream_check.proofs.checker.Checker.feed.Goals as goal
 
 pub returns-then-is_some-clause-left : goal.returns-then-is_some-clause-left
 returns-then-is_some-clause-left g c =
-    ([], g.met.M.ClauseMap.moves_none c.args.map.now, leaves_still c.args.self.now.setting (state_of c.args.self.now (g.M.ClauseMap.place c.args.map.now).room))
+    ([], g.met.M.ClauseMap.moves_none c.args.map.now, omega arith, leaves_still c.args.self.now.setting (state_of c.args.self.now (g.M.ClauseMap.place c.args.map.now).room))
 
 pub returns-then-is_some-clause-turn : goal.returns-then-is_some-clause-turn
 returns-then-is_some-clause-turn g c =
@@ -27,6 +27,7 @@ returns-in-More-clause-left g c =
     let left = feeds_more h n read c.take_line.new.reader piece taken.0 p.room q.room c.self.inside.ending none c.in-More.ensures.reads taken.2 in (
       taken.0,
       taken.1,
+      taken.2.0,
       subst (λ (v : CheckerValue). LeavesOn v.setting (state_of v p.room) (take (length piece) piece) taken.0 (state_of (value_of n (read_of c.take_line.new.reader) c.self.inside.ending) q.room)) c.self.view_is left,
     )
 
@@ -44,5 +45,6 @@ returns-in-Stopped-clause-left g c =
     let left = feeds_stopped h n read piece used taken.0 p.room q.room c.in-Stopped.stop c.self.inside.ending c.ending.result none c.ending.ensures taken.2 in (
       taken.0,
       taken.1,
+      taken.2.0,
       subst (λ (v : CheckerValue). LeavesOn v.setting (state_of v p.room) (take used piece) taken.0 (Over (report_at (tally_at n) c.ending.result))) c.self.view_is left,
     )
