@@ -1,6 +1,5 @@
 -- What a run with a thread for each stream promises (this project's own).
-use Rattle.std.specs.Prelude.{◌≡◌, ◌+◌, ℕ, Bool, List, [], ◌∷◌, length, Option}
-use Rattle.std.specs.List.{AllByRecursion}
+use Rattle.std.specs.Prelude.{◌≡◌, ◌+◌, ℕ, List, [], ◌∷◌, length}
 use Rattle.lrup_model.specs.Formula.{Cnf}
 use Rattle.lrup_model.specs.Layout.{LayoutValue}
 use Rattle.lrup_model.specs.Event.{History, own}
@@ -9,7 +8,7 @@ use Rattle.lrup_model.specs.Pass.{View}
 use Rattle.stream_check.specs.declared.report.Report.{Report}
 use Rattle.stream_check.specs.Setting.{Setting}
 use Rattle.stream_check.specs.Judging.{joined}
-use Rattle.portfolio.specs.Streams.{Stream, AreTold, JudgesStream, setting_of}
+use Rattle.portfolio.specs.Streams.{Stream, JudgesStream, setting_of}
 
 -- The passes, of the streams counted on from s: each is that stream's at this formula and layout, has seen the history, and
 -- its calls are the history's events of that stream, in order.
@@ -29,16 +28,10 @@ pub record HaveOneHistory (f : Cnf) (p : LayoutValue) (passes : List View) : Typ
 abbrev pub IsJudgedBy : Setting → Stream → History → Report → Type 0
 IsJudgedBy c stream es report = (blocks : List History) × (es ≡ joined blocks) × JudgesStream c stream blocks report
 
--- so is each stream, counted on from s, by the calls of its pass
+-- Each report is the judgement of what the stream's reader told and of the calls of the stream's pass, for the streams counted
+-- on from s.
 abbrev pub AreJudgedBy : LayoutValue → ℕ → ℕ → List Stream → List View → List Report → Type 0
 AreJudgedBy p tries s [] [] [] = Unit {0}
 AreJudgedBy p tries s (stream ∷ streams) (v ∷ vs) (report ∷ reports) =
     IsJudgedBy (setting_of p tries s) stream v.mine report × AreJudgedBy p tries (s + 1) streams vs reports
 AreJudgedBy p tries s _ _ _ = ⊥
-
--- Each report is the judgement of the bytes that the stream's reader told, of how it ended, and of the calls of its pass. The
--- entries are what the readers had left at first, the lefts what they have left now, and the faileds whether they have failed.
-pub record AreReported (p : LayoutValue) (tries : ℕ) (entries lefts : List (Option (List ℕ))) (faileds : List Bool) (passes : List View) (reports : List Report) : Type 0 where
-  pub streams : List Stream
-  pub told : AreTold entries lefts faileds streams
-  pub judged : AreJudgedBy p tries 1 streams passes reports

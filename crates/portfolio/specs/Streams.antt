@@ -1,9 +1,9 @@
 -- What a run's streams told, and in which order of lines their reports hold (this project's own).
-use Rattle.std.specs.Prelude.{◌≡◌, ◌⊎◌, ◌+◌, ◌++◌, ◌==◌, ℕ, Bool, true, false, IsTrue, List, [], ◌∷◌, Option, if◌then◌else◌}
+use Rattle.std.specs.Prelude.{◌≡◌, ◌+◌, ◌++◌, ◌==◌, ℕ, Bool, true, false, IsTrue, List, [], ◌∷◌, Option, if◌then◌else◌}
 use Rattle.std.specs.Io.KnownBytes.{Consumes, IsAtEnd}
 use Rattle.std.specs.List.{AllByRecursion, flat_map}
 use Rattle.lrup_model.specs.Formula.{Cnf}
-use Rattle.lrup_model.specs.Layout.{LayoutValue}
+use Rattle.lrup_model.specs.Layout.{LayoutValue, IsStream}
 use Rattle.lrup_model.specs.Event.{History, stream_of}
 use Rattle.lrup_model.specs.History.{IsLegal}
 use Rattle.stream_check.specs.declared.report.Ending.{Ending}
@@ -75,9 +75,10 @@ blocks_of s (block ∷ blocks) = if block.stream == s then block.events ∷ bloc
 abbrev pub events_in : List Block → History
 events_in blocks = flat_map (λ block. block.events) blocks
 
--- the block is of a stream of the set, and its events are that stream's
-abbrev pub IsBlockWithin : (ℕ → Bool) → Block → Type 0
-IsBlockWithin set block = IsTrue (set block.stream) × AllByRecursion (λ e. stream_of e ≡ block.stream) block.events
+-- the block is of a stream of the layout and of the set, and its events are that stream's
+abbrev pub IsBlockWithin : LayoutValue → (ℕ → Bool) → Block → Type 0
+IsBlockWithin p set block =
+    IsStream p block.stream × IsTrue (set block.stream) × AllByRecursion (λ e. stream_of e ≡ block.stream) block.events
 
 abbrev pub setting_of : LayoutValue → ℕ → ℕ → Setting
 setting_of p tries s = record { layout = p; stream = s; tries = tries }
@@ -94,6 +95,6 @@ AreJudged p tries set blocks s _ _ = ⊥
 -- its order, by which each stream is judged so.
 pub record IsOrdered (f : Cnf) (p : LayoutValue) (tries : ℕ) (set : ℕ → Bool) (streams : List Stream) (reports : List Report) : Type 0 where
   pub blocks : List Block
-  pub within : AllByRecursion (IsBlockWithin set) blocks
+  pub within : AllByRecursion (IsBlockWithin p set) blocks
   pub legal : IsLegal f p (events_in blocks)
   pub judged : AreJudged p tries set blocks 1 streams reports

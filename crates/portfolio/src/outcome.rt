@@ -43,6 +43,26 @@ pub enum RunFault {
     Spawn(u64),
 }
 
+impl From<LayoutFault> for RunFault {
+    ghost use Rattle.portfolio.specs.declared.outcome.RunFault.TheVariants.{Layout};
+
+    ghost from_gives = { λ fault run. run ≡ Layout fault };
+
+    fn from(fault: LayoutFault) -> RunFault {
+        RunFault::Layout(fault)
+    }
+}
+
+impl From<AllocError> for RunFault {
+    ghost use Rattle.portfolio.specs.declared.outcome.RunFault.TheVariants.{Memory};
+
+    ghost from_gives = { λ _ run. run ≡ Memory };
+
+    fn from(_error: AllocError) -> RunFault {
+        RunFault::Memory
+    }
+}
+
 /// What a run on one thread found.
 #[derive(Drop)]
 pub struct SerialOutcome<R: Drop> {
