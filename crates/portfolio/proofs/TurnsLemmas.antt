@@ -21,7 +21,7 @@ use Rattle.stream_check.specs.Checker.{IsReadyAt, report_at}
 use Rattle.stream_check.specs.Laws.{ReadyBeside}
 use Rattle.portfolio.specs.Streams.{Stream, AreTold, JudgesStream, Block, blocks_of, events_in, IsBlockWithin, setting_of, AreJudged, IsOrdered}
 use Rattle.portfolio.specs.Working.{WorkerValue, WorksBy, Works, WorksOn, IsStarted}
-use Rattle.portfolio.specs.Turns.{HasRun, IsWorking, AreWorking, Runs, IsRunning, IsOver, AreOver, AreStarted, HaveReports}
+use Rattle.portfolio.specs.Turns.{HasRun, IsWorking, AreWorking, Runs, IsRunning, GoesOn, IsOver, AreOver, IsOverAt, AreStarted, HaveReports}
 
 -- ---- blocks
 
@@ -226,3 +226,16 @@ runs_more law f p tries entries m n ws i d v bs within moves on ready setting ru
       map_is = run_more f p runs.blocks m n (i + 1) bs runs.map_is (omega arith, omega (arith, within, runs.count)) moves;
       workers_are = turn_at law p tries runs.blocks m n (i + 1) bs moves 1 i entries ws d (get_or ws i d) v (omega arith) (omega arith) within refl on ready setting runs.workers_are;
     }
+
+-- whatever run stood at the start stands after two stretches
+pub goes_twice : (a b c : Plain) (us vs ws : List WorkerValue) → GoesOn a us b vs → GoesOn b vs c ws → GoesOn a us c ws
+goes_twice a b c us vs ws front back f p tries entries runs = back f p tries entries (front f p tries entries runs)
+
+-- so some run stands
+pub running_on : (a b : Plain) (us vs : List WorkerValue) → IsRunning a us → GoesOn a us b vs → IsRunning b vs
+running_on a b us vs running on = (running.0, running.1, running.2, running.3, on running.0 running.1 running.2 running.3 running.4)
+
+-- each worker is over
+pub over_each : (ws : List WorkerValue) → ((k : ℕ) → k < length ws → IsOverAt ws k) → AreOver ws
+over_each [] over = tt
+over_each (w ∷ ws) over = (over zero (omega arith), over_each ws (λ k below. over (suc k) (omega arith)))
