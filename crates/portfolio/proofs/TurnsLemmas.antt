@@ -1,9 +1,9 @@
 -- A run on one thread: before the first turn, after one more, and when all streams are over.
-use Rattle.std.proofs.Common.{◌≡◌, ◌≢◌, ℕ, zero, suc, ◌+◌, ◌-◌, ◌<◌, ◌≤◌, Bool, true, false, cond, eqb, List, [], ◌∷◌, ◌++◌, length, get_or, set, replicate, map, Option, Some, None, refl, sym, ap, subst, ◌∙◌, inl, inr, arith, length-set, eq-eqb, ne_eqb}
+use Rattle.std.proofs.Common.{◌≡◌, ◌≢◌, IsSome, IfSome, ℕ, zero, suc, ◌+◌, ◌-◌, ◌<◌, ◌≤◌, Bool, true, false, cond, eqb, List, [], ◌∷◌, ◌++◌, length, get_or, set, replicate, map, Option, Some, None, refl, sym, ap, ap₂, subst, ◌∙◌, inl, inr, arith, length-set, eq-eqb, ne_eqb}
 use Rattle.std.specs.Prelude.{◌==◌}
 use Rattle.std.specs.List.{AllByRecursion, sum_by}
 use Rattle.std.proofs.lemmas.Bool.{cases_eq, cases_lt, cond-true, cond-false}
-use Rattle.std.proofs.lemmas.List.{append-nil, get_or-replicate}
+use Rattle.std.proofs.lemmas.List.{append-nil, map-append, get_or-replicate}
 use Rattle.std.proofs.lemmas.Grind.{flat_map-append}
 use Rattle.lrup_model.specs.Formula.{Cnf}
 use Rattle.lrup_model.specs.Layout.{LayoutValue, Fits, Owns, IsStream}
@@ -16,6 +16,7 @@ use Rattle.lrup_model.specs.Plain.{Plain, formula_of, state_of, free_at, plain_p
 use Rattle.stream_check.specs.declared.report.Ending.{Ending}
 use Rattle.stream_check.specs.declared.report.Report.{Report}
 use Rattle.stream_check.specs.Setting.{Setting}
+use Rattle.stream_check.specs.Standing.{Tally}
 use Rattle.stream_check.specs.Judging.{joined}
 use Rattle.stream_check.specs.Checker.{IsReadyAt, report_at}
 use Rattle.stream_check.specs.Laws.{ReadyBeside}
@@ -239,3 +240,26 @@ running_on a b us vs running on = (running.0, running.1, running.2, running.3, o
 pub over_each : (ws : List WorkerValue) → ((k : ℕ) → k < length ws → IsOverAt ws k) → AreOver ws
 over_each [] over = tt
 over_each (w ∷ ws) over = (over zero (omega arith), over_each ws (λ k below. over (suc k) (omega arith)))
+
+-- ---- the reports
+
+report_at_end : (o : Option Ending) (t : Tally) (r : Report) → IsSome o → IfSome o (λ ending. r ≡ report_at t ending) → (ending : Ending) × (o ≡ Some ending) × (r ≡ report_at t ending)
+report_at_end None t r over is = absurd (let none : false ≡ true = over in cc)
+report_at_end (Some ending) t r over is = (ending, refl, is)
+
+reports_more : (ws : List WorkerValue) (rs : List Report) (w : WorkerValue) (r : Report) → HaveReports ws rs → IsOver w → IfSome w.checker.ending (λ ending. r ≡ report_at w.checker.tally ending)
+    → HaveReports (ws ++ w ∷ []) (rs ++ r ∷ [])
+reports_more [] [] w r have over is = (report_at_end w.checker.ending w.checker.tally r over is, tt)
+reports_more [] (x ∷ rs) w r have over is = absurd have
+reports_more (v ∷ ws) [] w r have over is = absurd have
+reports_more (v ∷ ws) (x ∷ rs) w r have over is = (have.0, reports_more ws rs w r have.1 over is)
+
+-- one report more
+pub reports_pushed : (ws : List WorkerValue) (rs ts : List Report) (w : WorkerValue) (r : Report) → ts ≡ rs ++ r ∷ [] → HaveReports ws rs → IsOver w
+    → IfSome w.checker.ending (λ ending. r ≡ report_at w.checker.tally ending) → HaveReports (ws ++ w ∷ []) ts
+reports_pushed ws rs ts w r pushed have over is = subst (HaveReports (ws ++ w ∷ [])) (sym pushed) (reports_more ws rs w r have over is)
+
+-- two lists that map alike, with one element more each
+pub map_more : {A B C : Type 0} (f : A → C) (h : B → C) (xs zs : List A) (ys : List B) (x : A) (y : B) → zs ≡ xs ++ x ∷ [] → map f xs ≡ map h ys → f x ≡ h y → map f zs ≡ map h (ys ++ y ∷ [])
+map_more {A} {B} {C} f h xs zs ys x y is before here =
+    ap (map f) is ∙ map-append f xs (x ∷ []) ∙ ap₂ (λ (l : List C) (c : C). l ++ c ∷ []) before here ∙ sym (map-append h ys (y ∷ []))
