@@ -3,7 +3,7 @@ use Rattle.std.proofs.Common.{◌≡◌, ◌≢◌, IsSome, IfSome, ℕ, zero, s
 use Rattle.std.specs.Prelude.{◌==◌}
 use Rattle.std.specs.List.{AllByRecursion, sum_by}
 use Rattle.std.proofs.lemmas.Bool.{cases_eq, cases_lt, cond-true, cond-false}
-use Rattle.std.proofs.lemmas.List.{append-nil, map-append, get_or-replicate}
+use Rattle.std.proofs.lemmas.List.{append-nil, append_assoc, map-append, get_or-replicate}
 use Rattle.std.proofs.lemmas.Grind.{flat_map-append}
 use Rattle.lrup_model.specs.Formula.{Cnf}
 use Rattle.lrup_model.specs.Layout.{LayoutValue, Fits, Owns, IsStream}
@@ -263,3 +263,28 @@ reports_pushed ws rs ts w r pushed have over is = subst (HaveReports (ws ++ w �
 pub map_more : {A B C : Type 0} (f : A → C) (h : B → C) (xs zs : List A) (ys : List B) (x : A) (y : B) → zs ≡ xs ++ x ∷ [] → map f xs ≡ map h ys → f x ≡ h y → map f zs ≡ map h (ys ++ y ∷ [])
 map_more {A} {B} {C} f h xs zs ys x y is before here =
     ap (map f) is ∙ map-append f xs (x ∷ []) ∙ ap₂ (λ (l : List C) (c : C). l ++ c ∷ []) before here ∙ sym (map-append h ys (y ∷ []))
+
+-- ---- before the first turn
+
+-- one worker more
+started_more : (p : LayoutValue) (tries k : ℕ) (entries : List (Option (List ℕ))) (ws : List WorkerValue) (entry : Option (List ℕ)) (w : WorkerValue)
+    → AreStarted p tries k entries ws → IsStarted p (k + length ws) tries entry w → AreStarted p tries k (entries ++ entry ∷ []) (ws ++ w ∷ [])
+started_more p tries k [] [] entry w started here = let place : k + 0 ≡ k = omega arith in (subst (λ s. IsStarted p s tries entry w) place here, tt)
+started_more p tries k [] (v ∷ ws) entry w started here = absurd started
+started_more p tries k (other ∷ entries) [] entry w started here = absurd started
+started_more p tries k (other ∷ entries) (v ∷ ws) entry w started here =
+    let place : k + length (v ∷ ws) ≡ k + 1 + length ws = omega arith in
+    (started.0, started_more p tries (k + 1) entries ws entry w started.1 (subst (λ s. IsStarted p s tries entry w) place here))
+
+pub started_pushed : {X : Type 0} (p : LayoutValue) (tries s : ℕ) (f : X → Option (List ℕ)) (xs : List X) (x : X) (ws vs : List WorkerValue) (w : WorkerValue)
+    → vs ≡ ws ++ w ∷ [] → s ≡ length ws + 1 → AreStarted p tries 1 (map f xs) ws → IsStarted p s tries (f x) w → AreStarted p tries 1 (map f (xs ++ x ∷ [])) vs
+started_pushed {X} p tries s f xs x ws vs w pushed place started here =
+    let next : s ≡ 1 + length ws = omega (arith, place) in
+    let more : AreStarted p tries 1 (map f xs ++ f x ∷ []) (ws ++ w ∷ []) = started_more p tries 1 (map f xs) ws (f x) w started (subst (λ k. IsStarted p k tries (f x) w) next here) in
+    subst (AreStarted p tries 1 (map f (xs ++ x ∷ []))) (sym pushed) (subst (λ entries. AreStarted p tries 1 entries (ws ++ w ∷ [])) (sym (map-append f xs (x ∷ []))) more)
+
+-- the first of the rest is the next of those that were taken
+pub taken_first : {X Y C : Type 0} (f : X → C) (h : Y → C) (xs : List X) (x : X) (ys zs : List Y) (y : Y) (all : List C) → ys ≡ y ∷ zs → f x ≡ h y → map f xs ++ map h ys ≡ all → map f (xs ++ x ∷ []) ++ map h zs ≡ all
+taken_first {X} {Y} {C} f h xs x ys zs y all first same before =
+    ap (λ (l : List C). l ++ map h zs) (map-append f xs (x ∷ [])) ∙ append_assoc (map f xs) (f x ∷ []) (map h zs)
+    ∙ ap (λ (c : C). map f xs ++ (c ∷ map h zs)) same ∙ ap (λ (l : List Y). map f xs ++ map h l) (sym first) ∙ before
