@@ -1,2 +1,3 @@
 pub mod EmptyLemmas
+pub mod WorkingLemmas
 pub mod TurnsLemmas
