@@ -252,8 +252,8 @@ impl Chunk {
     }
 }
 
-/// Writes all bytes of a slice.
-fn write_all<W: Sink>(bytes: &[u8], sink: &mut W) -> Result<(), WriteFault>
+/// Writes all bytes of a slice. After a fault, what went out is a beginning of them.
+pub fn write_all<W: Sink>(bytes: &[u8], sink: &mut W) -> Result<(), WriteFault>
     requires { W.has_failed sink.old ≡ false }
     ensures text { WritesText result (W.written sink.old) (W.written sink.new) bytes.now }
     ensures failed { W.has_failed sink.new ≡ is_err result }
