@@ -1,4 +1,4 @@
--- What goes out, one call after another.
+-- Lemmas on what goes out, one call after another.
 use Rattle.std.proofs.Common.{◌≡◌, ℕ, ◌+◌, ◌<◌, List, [], ◌∷◌, ◌++◌, length, take, drop, get_or, Option, Some, None, refl, sym, ◌∙◌, ap, subst}
 use Rattle.std.specs.Prelude.{Result, Ok, Err, IsErr, MatchResult}
 use Rattle.std.specs.Io.KnownBytes.{Appends, Keeps}
@@ -54,13 +54,7 @@ breaks_more {a} {b} {h} {x} h' y = record {
   is = sym (append_assoc h x y) ∙ ap (λ t. t ++ y) h'.is ∙ append_assoc h'.went h'.rest y;
 }
 
--- a byte that is held, and all that is held going out
-pub puts_byte : {a : Option (List ℕ)} {h : List ℕ} (byte : ℕ) → Puts a a h (h ++ byte ∷ []) (byte ∷ [])
-puts_byte {a} {h} byte = record { went = []; appends = appends_nothing a; is = refl }
-
-pub puts_held : {a b : Option (List ℕ)} {h : List ℕ} → Appends a b h → Puts a b h [] []
-puts_held {a} {b} {h} appends = record { went = h; appends = appends; is = refl }
-
+-- a beginning of all that is held
 pub breaks_held : {a b : Option (List ℕ)} {h : List ℕ} (went rest : List ℕ) → h ≡ went ++ rest → Appends a b went → Breaks a b h []
 breaks_held {a} {b} {h} went rest is appends = record { went = went; rest = rest; appends = appends; is = append-nil h ∙ is }
 
