@@ -63,7 +63,10 @@ pub at_err : {T E : Type 0} (r : Result T E) (P Q : Type 0) → IsErr r → Q �
 at_err (Ok x) P Q h q = cc
 at_err (Err e) P Q h q = q
 
--- the same, for a text that is equal to the two parts; or that goes on after them
+-- the same, for a text that is equal to it; or to two parts; or that goes on after them
+pub breaks_as : {a b : Option (List ℕ)} {h x z : List ℕ} → Breaks a b h x → z ≡ x → Breaks a b h z
+breaks_as {a} {b} {h} broken is = subst (λ t. Breaks a b h t) (sym is) broken
+
 pub puts_next : {a b c : Option (List ℕ)} {h i j x y z : List ℕ} → Puts a b h i x → Puts b c i j y → z ≡ x ++ y → Puts a c h j z
 puts_next {a} {b} {c} {h} {i} {j} puts next is = subst (λ t. Puts a c h j t) (sym is) (puts_then puts next)
 
