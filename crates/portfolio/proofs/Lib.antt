@@ -1,0 +1,4 @@
+pub mod EmptyLemmas
+pub mod ReportLines
+pub mod WorkingLemmas
+pub mod TurnsLemmas

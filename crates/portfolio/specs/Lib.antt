@@ -1,0 +1,6 @@
+pub mod Headline
+pub mod Outcomes
+pub mod ReportText
+pub mod Streams
+pub mod Turns
+pub mod Working

@@ -1,0 +1,33 @@
+-- What a run is asked for, and what it says in the end (this project's own).
+use Rattle.std.specs.Prelude.{◌≡◌, ◌↔◌, ℕ, IsTrue, List, length, Result, Err}
+use Rattle.std.specs.List.{list_any}
+use Rattle.lrup_model.specs.Formula.{Cnf, literals_of}
+use Rattle.lrup_model.specs.Layout.{LayoutValue, layout_value, IsFault}
+use Rattle.lrup_model.specs.declared.layout.LayoutFault.{LayoutFault}
+use Rattle.stream_check.specs.declared.report.Report.{Report}
+use Rattle.portfolio.specs.declared.outcome.RunFault.{RunFault}
+use Rattle.portfolio.specs.declared.outcome.RunFault.TheVariants.{Layout}
+use Rattle.portfolio.specs.declared.outcome.Verdict.{Verdict}
+use Rattle.portfolio.specs.declared.outcome.Verdict.TheVariants.{Unsatisfiable}
+
+-- how often a hint of another stream is fetched again while it is vacant; and for each stream, identities and room in literals
+pub record OptionsValue : Type 0 where
+  pub tries : ℕ
+  pub lines : ℕ
+  pub room : ℕ
+
+-- the greatest number of tries
+abbrev pub max_tries : ℕ
+max_tries = 1000000
+
+-- the layout of a formula and so many streams
+abbrev pub layout_of : OptionsValue → Cnf → ℕ → LayoutValue
+layout_of options f streams = layout_value f.vars (length f.clauses) (literals_of f) streams options.lines options.room
+
+-- the verdict is 'unsatisfiable' exactly if some stream added the empty clause
+abbrev pub IsVerdictOf : List Report → Verdict → Type 0
+IsVerdictOf reports verdict = (verdict ≡ Unsatisfiable) ↔ IsTrue (list_any (λ report. report.empty) reports)
+
+-- a run answers that there is no layout exactly where these numbers have none, and says why
+abbrev pub IsLayoutFault : {T : Type 0} → Result T RunFault → LayoutValue → Type 0
+IsLayoutFault result p = (fault : LayoutFault) → (result ≡ Err (Layout fault)) ↔ IsFault p fault

@@ -1,0 +1,34 @@
+-- The text of a run's report (this project's own).
+use Rattle.std.specs.Prelude.{◌+◌, ◌++◌, ℕ, List, [], ◌∷◌, codes}
+use Rattle.std.specs.Fmt.{decimal}
+use Rattle.stream_check.specs.Faults.{fault_text}
+use Rattle.stream_check.specs.declared.report.Ending.{Ending}
+use Rattle.stream_check.specs.declared.report.Ending.TheVariants as endings
+use Rattle.stream_check.specs.declared.report.Report.{Report}
+use Rattle.portfolio.specs.declared.outcome.Verdict.{Verdict}
+use Rattle.portfolio.specs.declared.outcome.Verdict.TheVariants as verdicts
+
+abbrev pub ending_text : Ending → List ℕ
+ending_text endings.Ended = codes "ended"
+ending_text (endings.Bad line fault) = codes "bad line " ++ decimal line ++ codes " (" ++ fault_text fault ++ codes ")"
+ending_text (endings.ReadFailed line) = codes "read failed at line " ++ decimal line
+ending_text (endings.Memory line) = codes "out of memory at line " ++ decimal line
+
+-- the line of a stream, from 1 on, ended by LF
+abbrev pub stream_line : ℕ → Report → List ℕ
+stream_line s r =
+    codes "c stream " ++ decimal s ++ codes ": " ++ decimal r.added ++ codes " added, " ++ decimal r.deleted ++ codes " deleted, "
+    ++ ending_text r.ending ++ codes "\n"
+
+-- the lines of the streams, counted on from s
+abbrev pub stream_lines : ℕ → List Report → List ℕ
+stream_lines s [] = []
+stream_lines s (r ∷ reports) = stream_line s r ++ stream_lines (s + 1) reports
+
+abbrev pub verdict_line : Verdict → List ℕ
+verdict_line verdicts.Unsatisfiable = codes "s UNSATISFIABLE\n"
+verdict_line verdicts.Unknown = codes "s UNKNOWN\n"
+
+-- a line for each stream in order, and the verdict's line
+abbrev pub report_text : List Report → Verdict → List ℕ
+report_text reports verdict = stream_lines 1 reports ++ verdict_line verdict

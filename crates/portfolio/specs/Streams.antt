@@ -1,0 +1,100 @@
+-- What a run's streams told, and in which order of lines their reports hold (this project's own).
+use Rattle.std.specs.Prelude.{◌≡◌, ◌+◌, ◌++◌, ◌==◌, ℕ, Bool, true, false, IsTrue, List, [], ◌∷◌, Option, if◌then◌else◌}
+use Rattle.std.specs.Io.KnownBytes.{Consumes, IsAtEnd}
+use Rattle.std.specs.List.{AllByRecursion, flat_map}
+use Rattle.lrup_model.specs.Formula.{Cnf}
+use Rattle.lrup_model.specs.Layout.{LayoutValue, IsStream}
+use Rattle.lrup_model.specs.Event.{History, stream_of}
+use Rattle.lrup_model.specs.History.{IsLegal}
+use Rattle.stream_check.specs.declared.report.Ending.{Ending}
+use Rattle.stream_check.specs.declared.report.Ending.TheVariants as endings
+use Rattle.stream_check.specs.declared.report.Report.{Report}
+use Rattle.stream_check.specs.Setting.{Setting}
+use Rattle.stream_check.specs.Judging.{ended, failed, JudgesBlocks}
+
+-- Where the reading of a stream stopped: at its end, at a read that failed, or before either, since nothing more was needed.
+pub data Stop : Type 0 where
+  at_end : Stop
+  at_failure : Stop
+  early : Stop
+
+-- the bytes of a stream that were needed, and where its reading stopped
+pub record Stream : Type 0 where
+  pub bytes : List ℕ
+  pub stop : Stop
+
+-- at the end all bytes were needed and none is left; at a failure the reader has failed
+abbrev pub StopsSo : Stop → List ℕ → Option (List ℕ) → Bool → Type 0
+StopsSo at_end more left has_failed = (more ≡ []) × IsAtEnd left × (has_failed ≡ false)
+StopsSo at_failure more left has_failed = (more ≡ []) × (has_failed ≡ true)
+StopsSo early more left has_failed = has_failed ≡ false
+
+-- The stream is what a reader told: its bytes are a beginning of those read, which are a beginning of those left at first.
+pub record IsTold (entry left : Option (List ℕ)) (has_failed : Bool) (stream : Stream) : Type 0 where
+  pub more : List ℕ
+  pub consumes : Consumes entry left (stream.bytes ++ more)
+  pub stops : StopsSo stream.stop more left has_failed
+
+-- only a bad line or want of memory stops a stream early
+abbrev pub StopsReading : Ending → Type 0
+StopsReading endings.Ended = ⊥
+StopsReading (endings.Bad line fault) = Unit {0}
+StopsReading (endings.ReadFailed line) = ⊥
+StopsReading (endings.Memory line) = Unit {0}
+
+-- a stream is judged by these blocks of events; one that was stopped early is judged so whatever its end would have been
+abbrev pub JudgesTo : Stop → Setting → List ℕ → List History → Report → Type 0
+JudgesTo at_end c bytes blocks report = JudgesBlocks c bytes ended blocks report
+JudgesTo at_failure c bytes blocks report = JudgesBlocks c bytes failed blocks report
+JudgesTo early c bytes blocks report =
+    StopsReading report.ending × JudgesBlocks c bytes ended blocks report × JudgesBlocks c bytes failed blocks report
+
+abbrev pub JudgesStream : Setting → Stream → List History → Report → Type 0
+JudgesStream c stream blocks report = JudgesTo stream.stop c stream.bytes blocks report
+
+-- each stream is what its reader told: what each had left at first and has left now, and whether it has failed
+abbrev pub AreTold : List (Option (List ℕ)) → List (Option (List ℕ)) → List Bool → List Stream → Type 0
+AreTold [] [] [] [] = Unit {0}
+AreTold (entry ∷ entries) (left ∷ lefts) (has_failed ∷ faileds) (stream ∷ streams) =
+    IsTold entry left has_failed stream × AreTold entries lefts faileds streams
+AreTold _ _ _ _ = ⊥
+
+-- An order of lines
+
+-- all events of one line, and the stream, from 1 on, whose line it is
+pub record Block : Type 0 where
+  pub stream : ℕ
+  pub events : History
+
+-- the blocks of one stream, in order
+abbrev pub blocks_of : ℕ → List Block → List History
+blocks_of s [] = []
+blocks_of s (block ∷ blocks) = if block.stream == s then block.events ∷ blocks_of s blocks else blocks_of s blocks
+
+-- the events of all blocks, in order
+abbrev pub events_in : List Block → History
+events_in blocks = flat_map (λ block. block.events) blocks
+
+-- the block is of a stream of the layout and of the set, and its events are that stream's
+abbrev pub IsBlockWithin : LayoutValue → (ℕ → Bool) → Block → Type 0
+IsBlockWithin p set block =
+    IsStream p block.stream × IsTrue (set block.stream) × AllByRecursion (λ e. stream_of e ≡ block.stream) block.events
+
+abbrev pub setting_of : LayoutValue → ℕ → ℕ → Setting
+setting_of p tries s = record { layout = p; stream = s; tries = tries }
+
+-- each stream of the set, counted on from s, is judged by its blocks
+abbrev pub AreJudged : LayoutValue → ℕ → (ℕ → Bool) → List Block → ℕ → List Stream → List Report → Type 0
+AreJudged p tries set blocks s [] [] = Unit {0}
+AreJudged p tries set blocks s (stream ∷ streams) (report ∷ reports) =
+    (IsTrue (set s) → JudgesStream (setting_of p tries s) stream (blocks_of s blocks) report)
+    × AreJudged p tries set blocks (s + 1) streams reports
+AreJudged p tries set blocks s _ _ = ⊥
+
+-- The reports of a set of streams have an order of lines: a legal history of whole lines of these streams, each stream's in
+-- its order, by which each stream is judged so.
+pub record IsOrdered (f : Cnf) (p : LayoutValue) (tries : ℕ) (set : ℕ → Bool) (streams : List Stream) (reports : List Report) : Type 0 where
+  pub blocks : List Block
+  pub within : AllByRecursion (IsBlockWithin p set) blocks
+  pub legal : IsLegal f p (events_in blocks)
+  pub judged : AreJudged p tries set blocks 1 streams reports

@@ -1,0 +1,15 @@
+//! Several streams of one formula: their checking, the verdict, and the report as users read it.
+#![tactic(auto)]
+
+mod options;
+mod outcome;
+mod report_text;
+mod serial;
+#[cfg(test)]
+mod tests;
+mod worker;
+
+pub use options::Options;
+pub use outcome::{RunFault, SerialOutcome, Verdict};
+pub use report_text::write_report;
+pub use serial::run_serial;

@@ -1,0 +1,75 @@
+//! What a run says in the end.
+ghost use Rattle.std.specs.Prelude.{◌≡◌};
+ghost use Rattle.portfolio.specs.Outcomes.{IsVerdictOf};
+
+use lrup_model::LayoutFault;
+use std::alloc::AllocError;
+use stream_check::Report;
+use thiserror::Error;
+
+/// What the reports of all streams come to.
+#[derive(Clone, Copy, Debug, PartialEq, Eq)]
+pub enum Verdict {
+    /// No assignment satisfies the formula: a stream added the empty clause.
+    Unsatisfiable,
+    /// No stream added the empty clause, which says nothing of the formula.
+    Unknown,
+}
+
+impl Verdict {
+    /// The verdict of the reports of all streams.
+    pub fn of(reports: &[Report]) -> Verdict
+        ensures { IsVerdictOf reports.now result }
+    {
+        if reports.iter().any(|report| report.empty) {
+            Verdict::Unsatisfiable
+        } else {
+            Verdict::Unknown
+        }
+    }
+}
+
+/// Why a run has no outcome.
+#[derive(Clone, Copy, Debug, PartialEq, Eq, Error)]
+pub enum RunFault {
+    /// There is no layout of these numbers.
+    #[error("{0}")]
+    Layout(LayoutFault),
+    /// Out of memory before the first read.
+    #[error("out of memory")]
+    Memory,
+    /// The worker of this stream, from 1 on, couldn't be started.
+    #[error("worker {0} not started")]
+    Spawn(u64),
+}
+
+impl From<LayoutFault> for RunFault {
+    ghost use Rattle.portfolio.specs.declared.outcome.RunFault.TheVariants.{Layout};
+
+    ghost from_gives = { λ fault run. run ≡ Layout fault };
+
+    fn from(fault: LayoutFault) -> RunFault {
+        RunFault::Layout(fault)
+    }
+}
+
+impl From<AllocError> for RunFault {
+    ghost use Rattle.portfolio.specs.declared.outcome.RunFault.TheVariants.{Memory};
+
+    ghost from_gives = { λ _ run. run ≡ Memory };
+
+    fn from(_error: AllocError) -> RunFault {
+        RunFault::Memory
+    }
+}
+
+/// What a run on one thread found.
+#[derive(Drop)]
+pub struct SerialOutcome<R: Drop> {
+    /// What is said of each stream, in order.
+    pub reports: Vec<Report>,
+    /// What the reports come to.
+    pub verdict: Verdict,
+    /// The readers, as far as they were read, in order.
+    pub readers: Vec<R>,
+}

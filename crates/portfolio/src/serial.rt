@@ -1,0 +1,181 @@
+//! A run on one thread.
+ghost use Rattle.std.specs.Prelude.{◌≡◌, ◌≢◌, ◌+◌, ◌<◌, ◌≤◌, true, false, ℕ, List, [], Option, None, IfOk, Err, IsSome, length, map, vec_len, vec_capacity};
+ghost use Rattle.std.specs.List.{AllByRecursion};
+ghost use Rattle.lrup_model.specs.Entailment.{IsUnsatisfiable};
+ghost use Rattle.lrup_model.specs.Event.{History};
+ghost use Rattle.lrup_model.specs.Formula.{Cnf};
+ghost use Rattle.lrup_model.specs.Layout.{LayoutValue, IsStream};
+ghost use Rattle.lrup_model.specs.Plain.{PlainMoves, free_at, plain_place};
+ghost use Rattle.stream_check.specs.Checker.{IsReadyAt};
+ghost use Rattle.stream_check.specs.Judging.{joined};
+ghost use Rattle.portfolio.specs.Outcomes.{IsLayoutFault, IsVerdictOf, layout_of, max_tries};
+ghost use Rattle.portfolio.specs.Streams.{AreTold, IsOrdered, Stream};
+ghost use Rattle.portfolio.specs.Turns.{AreOver, AreStarted, GoesOn, HaveReports, IsOverAt, IsRunning};
+ghost use Rattle.portfolio.specs.Working.{WorksOn};
+
+use crate::options::Options;
+use crate::outcome::{RunFault, SerialOutcome, Verdict};
+use crate::worker::Worker;
+use lrup_model::{Formula, Layout, PlainMap};
+use lrup_text::Source;
+use std::alloc::{AllocError, Global};
+use std::sync::Wait;
+use stream_check::laws::ready_beside;
+use stream_check::{Gate, Report};
+
+/// Checks the streams that the readers give, stream 1 first, on this thread and by turns: a turn of a stream reads until one
+/// line was taken, or the stream is over. As many gates are wanted as readers. All memory is taken before the first read, but for
+/// the identities that streams drop. It blocks while a reader does.
+pub fn run_serial<W: Wait, R: Source + Drop, G: Gate + Drop>(
+    wait: &W,
+    alloc: Global,
+    formula: &Formula,
+    options: Options,
+    readers: Vec<R>,
+    gates: Vec<G>,
+) -> Result<SerialOutcome<R>, RunFault>
+    requires gates { vec_len gates ≡ vec_len readers }
+    requires running { AllByRecursion (λ r. R.has_failed r ≡ false) readers.items }
+    // The layout alone decides whether there is one: before anything is taken or read.
+    ensures layout { IsLayoutFault result (layout_of options formula.now (length readers.items)) }
+    ensures alone { (stream : ℕ) → result ≢ Err (RunFault.Spawn stream) }
+    // Each stream is what its reader told, and the reports have an order of lines.
+    ensures ordered { IfOk result (λ outcome. (streams : List Stream)
+        × AreTold (map R.left readers.items) (map R.left outcome.readers.items)
+        (map R.has_failed outcome.readers.items) streams
+        × IsOrdered formula.now (layout_of options formula.now (length readers.items)) options.tries
+        (λ s. true) streams outcome.reports.items) }
+    ensures verdict { IfOk result (λ outcome. IsVerdictOf outcome.reports.items outcome.verdict) }
+    // What a user relies on.
+    ensures sound { IfOk result (λ outcome. outcome.verdict ≡ Verdict.Unsatisfiable → IsUnsatisfiable formula.now) }
+{
+    let layout = options.layout(formula, readers.len())?;
+    let mut map = PlainMap::open(alloc, formula, &layout)?;
+    let mut workers = workers_of(alloc, &layout, options.tries(), readers, gates)?;
+    let reports = Vec::with_capacity(alloc, workers.len())?;
+    let readers = Vec::with_capacity(alloc, workers.len())?;
+    take_turns(wait, &mut map, &mut workers);
+    Ok(outcome_of(workers, reports, readers))
+}
+
+/// A worker for each stream.
+fn workers_of<R: Source + Drop, G: Gate + Drop>(
+    alloc: Global,
+    layout: &Layout,
+    tries: u64,
+    readers: Vec<R>,
+    gates: Vec<G>,
+) -> Result<Vec<Worker<R, G>>, AllocError>
+    requires gates { vec_len gates ≡ vec_len readers }
+    requires running { AllByRecursion (λ r. R.has_failed r ≡ false) readers.items }
+    requires streams { layout.now.streams ≡ length readers.items }
+    requires tries { tries ≤ max_tries }
+    ensures { IfOk result (λ workers. AreStarted layout.now tries 1 (map R.left readers.items) workers.items) }
+{
+    let mut workers = Vec::with_capacity(alloc, readers.len())?;
+    for (reader, gate) in readers.into_iter().zip(gates) {
+        let stream = workers.len() as u64 + 1;
+        workers.push_reserved(Worker::new(alloc, reader, gate, stream, layout, tries)?);
+    }
+    Ok(workers)
+}
+
+/// Takes turns until all streams are over.
+fn take_turns<W: Wait, R: Source + Drop, G: Gate + Drop>(
+    wait: &W,
+    map: &mut PlainMap,
+    workers: &mut [Worker<R, G>],
+)
+    requires running { IsRunning map.old workers.old }
+    ensures runs { GoesOn map.old workers.old map.new workers.new }
+    ensures over { AreOver workers.new }
+{
+    for _ in wait.forever() {
+        if !take_round(wait, map, workers) {
+            return;
+        }
+    }
+}
+
+/// One turn of each stream that isn't over, stream 1 first. False where all were over.
+fn take_round<W: Wait, R: Source + Drop, G: Gate + Drop>(
+    wait: &W,
+    map: &mut PlainMap,
+    workers: &mut [Worker<R, G>],
+) -> bool
+    requires running { IsRunning map.old workers.old }
+    ensures runs { GoesOn map.old workers.old map.new workers.new }
+    ensures over { result ≡ false → AreOver workers.new }
+{
+    let mut going = false;
+    for i in 0..workers.len() {
+        going |= take_turn(wait, map, workers, i);
+    }
+    going
+}
+
+/// One turn of stream `i + 1`. False where it was over.
+fn take_turn<W: Wait, R: Source + Drop, G: Gate + Drop>(
+    wait: &W,
+    map: &mut PlainMap,
+    workers: &mut [Worker<R, G>],
+    i: usize,
+) -> bool
+    requires running { IsRunning map.old workers.old }
+    requires within { i < length workers.old }
+    ensures runs { GoesOn map.old workers.old map.new workers.new }
+    ensures over { result ≡ false → IsOverAt workers.old i × (workers.new ≡ workers.old) }
+{
+    ready_beside();
+    if workers[i].is_over() {
+        return false;
+    }
+    turn_at_desk(wait, map, i as u64 + 1, &mut workers[i]);
+    true
+}
+
+/// One turn of the worker of stream `s`, from 1 on, at its desk.
+fn turn_at_desk<W: Wait, R: Source + Drop, G: Gate + Drop>(
+    wait: &W,
+    map: &mut PlainMap,
+    s: u64,
+    worker: &mut Worker<R, G>,
+)
+    requires stream { IsStream map.old.layout s }
+    requires ready { IsReadyAt worker.old.checker (plain_place map.old s) }
+    requires going { worker.old.checker.ending ≡ None }
+    ensures works { (blocks : List History) × PlainMoves map.old map.new s (joined blocks)
+        × WorksOn worker.old (free_at map.old s) blocks worker.new (free_at map.new s) }
+    ensures ready { IsReadyAt worker.new.checker (plain_place map.new s) }
+    ensures setting { worker.new.checker.setting ≡ worker.old.checker.setting }
+{
+    worker.turn(wait, &mut map.desk(s));
+}
+
+/// What is said of the streams, which are over.
+fn outcome_of<R: Source + Drop, G: Gate + Drop>(
+    workers: Vec<Worker<R, G>>,
+    mut reports: Vec<Report>,
+    mut readers: Vec<R>,
+) -> SerialOutcome<R>
+    requires over { AreOver workers.items }
+    requires none { (reports.items ≡ []) × (readers.items ≡ []) }
+    requires reports { vec_len workers ≤ vec_capacity reports }
+    requires readers { vec_len workers ≤ vec_capacity readers }
+    ensures reports { HaveReports workers.items result.reports.items }
+    ensures left { map R.left result.readers.items ≡ map (λ w. w.left) workers.items }
+    ensures failed { map R.has_failed result.readers.items ≡ map (λ w. w.has_failed) workers.items }
+    ensures verdict { IsVerdictOf result.reports.items result.verdict }
+{
+    for worker in workers {
+        let (report, reader) = worker.into_parts();
+        reports.push_reserved(report);
+        readers.push_reserved(reader);
+    }
+    let verdict = Verdict::of(&reports);
+    SerialOutcome {
+        reports,
+        verdict,
+        readers,
+    }
+}

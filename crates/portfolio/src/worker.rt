@@ -1,0 +1,160 @@
+//! One stream at work.
+ghost use Rattle.std.specs.Prelude.{◌≡◌, ◌↔◌, ◌≤◌, ℕ, false, List, [], None, IfOk, IfSome, IsSome, IsTrue};
+ghost use Rattle.std.specs.Bool.{OnTrue, OnFalse};
+ghost use Rattle.lrup_model.specs.Event.{History};
+ghost use Rattle.lrup_model.specs.Layout.{IsStream};
+ghost use Rattle.stream_check.specs.Checker.{IsReadyAt, report_at};
+ghost use Rattle.stream_check.specs.Judging.{joined};
+ghost use Rattle.portfolio.specs.Outcomes.{max_tries};
+ghost use Rattle.portfolio.specs.Working.{IsStarted, WorksOn};
+
+use lrup_model::{ClauseMap, Layout};
+use lrup_text::Source;
+use std::alloc::{AllocError, Global};
+use std::marker::Model;
+use std::sync::Wait;
+use stream_check::{Checker, Gate, Report, Turn};
+
+/// The most bytes that one read asks for.
+const PIECE: usize = 65_536;
+
+/// A stream's reader, its gate and its checker, and a buffer of what was read.
+#[derive(Drop)]
+pub struct Worker<R: Source + Drop, G: Gate + Drop> {
+    reader: R,
+    gate: G,
+    checker: Checker,
+    buffer: Vec<u8>,
+    from: usize,
+    to: usize,
+}
+
+impl<R: Source + Drop, G: Gate + Drop> Model for Worker<R, G> {
+    ghost use Rattle.std.specs.Prelude.{◌-◌, take, drop, length};
+    ghost use Rattle.portfolio.specs.Working.{WorkerValue, IsWorker};
+
+    ghost Value = { WorkerValue };
+
+    ghost view = { λ w. record {
+      left = R.left w.reader;
+      has_failed = R.has_failed w.reader;
+      unread = take (w.to - w.from) (drop w.from w.buffer.items);
+      checker = w.checker;
+    } };
+
+    ghost invariant = { λ w. IsWorker (R.has_failed w.reader) (length w.buffer.items) w.from w.to w.checker.ending };
+}
+
+impl<R: Source + Drop, G: Gate + Drop> Worker<R, G> {
+    /// A worker of stream `stream`, from 1 on, before its first byte. It takes all memory that it will need, but for the
+    /// identities that the stream drops.
+    pub fn new(
+        alloc: Global,
+        reader: R,
+        gate: G,
+        stream: u64,
+        layout: &Layout,
+        tries: u64,
+    ) -> Result<Worker<R, G>, AllocError>
+        requires running { R.has_failed reader ≡ false }
+        requires stream { IsStream layout.now stream }
+        requires tries { tries ≤ max_tries }
+        ensures { IfOk result (IsStarted layout.now stream tries (R.left reader)) }
+    {
+        Ok(Worker {
+            reader,
+            gate,
+            checker: Checker::new(alloc, stream, layout, tries)?,
+            buffer: vec![in alloc; 0; PIECE]?,
+            from: 0,
+            to: 0,
+        })
+    }
+
+    /// Is nothing more taken?
+    pub fn is_over(&self) -> bool
+        ensures { IsTrue result ↔ IsSome self.now.checker.ending }
+    {
+        self.checker.is_over()
+    }
+
+    /// Reads until one line was taken, or nothing more is. It blocks while the reader does.
+    pub fn turn<W: Wait, M: ClauseMap>(&mut self, wait: &W, map: &mut M)
+        requires ready { IsReadyAt self.old.checker (M.place map.old) }
+        requires going { self.old.checker.ending ≡ None }
+        ensures works { (blocks : List History) × M.moves map.old map.new (joined blocks)
+            × WorksOn self.old (M.place map.old).room blocks self.new (M.place map.new).room }
+        ensures ready { IsReadyAt self.new.checker (M.place map.new) }
+        ensures setting { self.new.checker.setting ≡ self.old.checker.setting }
+    {
+        for _ in wait.forever() {
+            if !self.read() {
+                return;
+            }
+            if self.feed(map) != Turn::More {
+                return;
+            }
+        }
+    }
+
+    /// Reads the next piece, where all bytes were taken. The end, or a read that failed, ends the checker: then the answer is
+    /// false.
+    fn read(&mut self) -> bool
+        requires { self.old.checker.ending ≡ None }
+        ensures works { (room : ℕ) → WorksOn self.old room [] self.new room }
+        ensures going { OnTrue result (self.new.checker.ending ≡ None) }
+        ensures over { OnFalse result (IsSome self.new.checker.ending) }
+        ensures last { self.new.checker.last ≡ self.old.checker.last }
+        ensures setting { self.new.checker.setting ≡ self.old.checker.setting }
+    {
+        if self.from < self.to {
+            return true;
+        }
+        match self.reader.read(&mut self.buffer) {
+            Ok(0) => {
+                self.checker.end();
+                false
+            }
+            Ok(count) => {
+                self.from = 0;
+                self.to = count;
+                true
+            }
+            Err(_) => {
+                self.checker.read_failed();
+                false
+            }
+        }
+    }
+
+    /// Lets the checker take of the bytes that were read.
+    fn feed<M: ClauseMap>(&mut self, map: &mut M) -> Turn
+        requires ready { IsReadyAt self.old.checker (M.place map.old) }
+        requires going { self.old.checker.ending ≡ None }
+        ensures works { (blocks : List History) × M.moves map.old map.new (joined blocks)
+            × WorksOn self.old (M.place map.old).room blocks self.new (M.place map.new).room }
+        ensures going { result ≡ Turn.More → self.new.checker.ending ≡ None }
+        ensures ready { IsReadyAt self.new.checker (M.place map.new) }
+        ensures setting { self.new.checker.setting ≡ self.old.checker.setting }
+    {
+        let piece = &self.buffer[self.from..self.to];
+        let progress = self.checker.feed(map, &mut self.gate, piece);
+        self.from += progress.used;
+        progress.turn
+    }
+
+    /// What is said of the stream, and its reader.
+    pub fn into_parts(self) -> (Report, R)
+        requires { IsSome self.checker.ending }
+        ensures report { IfSome self.checker.ending (λ ending. result.0 ≡ report_at self.checker.tally ending) }
+        ensures left { R.left result.1 ≡ self.left }
+        ensures failed { R.has_failed result.1 ≡ self.has_failed }
+    {
+        let Worker {
+            reader,
+            checker,
+            ..
+        } = self;
+        (checker.report(), reader)
+    }
+}
