@@ -314,7 +314,6 @@ module _ (f : Cnf) (p : LayoutValue) (m : Plain) (opened : IsOpened f p m) where
     at = record {
       layout = opened.layout ∙ sym (ap (λ (c : Setting). c.layout) started.setting);
       stream = sym (ap (λ (c : Setting). c.stream) started.setting);
-      variables = ap (λ (g : Cnf). g.vars) opened.formula ∙ sym opened.fits.vars ∙ sym (ap (λ (c : Setting). c.layout.vars) started.setting);
     };
     vacant = λ id owns above.
         ap (λ (state : State). state id) opened.state ∙ opening-owned f p s id opened.fits (subst (λ (q : LayoutValue). Owns q s id) opened.layout owns);
