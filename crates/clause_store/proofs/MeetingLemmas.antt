@@ -1,6 +1,6 @@
 -- Lemmas on a pass that meets others in turn.
-use Rattle.std.proofs.Common.{◌≡◌, ℕ, ◌<◌, zero, suc, List, [], ◌∷◌, length, get_or, set, refl, subst, arith}
-use Rattle.lrup_model.specs.Pass.{View, IsFair, Meets, MeetsInTurn, AreMet}
+use Rattle.std.proofs.Common.{◌≡◌, ℕ, ◌+◌, ◌<◌, ◌≤◌, zero, suc, List, [], ◌∷◌, length, get_or, set, refl, sym, subst, arith, add-one}
+use Rattle.lrup_model.specs.Pass.{View, IsFair, PassMoves, Meets, MeetsInTurn, AreMet}
 use Rattle.lrup_model.specs.PassLemmas.{moves_append, met_keep, meets_twice}
 use Rattle.clause_store.specs.Passes.{StoreValue, PassValue, store_of, views, AreOf, HaveMet}
 
@@ -46,11 +46,38 @@ are_met-again (x ∷ xs) [] zs once again = absurd once
 are_met-again (x ∷ xs) (y ∷ ys) [] once again = absurd again
 are_met-again (x ∷ xs) (y ∷ ys) (z ∷ zs) once again = (moves_append x y z [] [] once.0 again.0, again.1, are_met-again xs ys zs once.2 again.2)
 
--- a pass that met all others in turn, and then all again
-pub met_twice : (u v w : View) (xs ys zs : List View) → MeetsInTurn u xs v ys → MeetsInTurn v ys w zs → IsFair w → AreMet (u ∷ xs) (w ∷ zs) × HaveMet (w ∷ zs)
-met_twice u v w xs ys zs once again fair =
-    let first = met_keep u v xs ys once in
-    let second = met_keep v w ys zs again in (
-      (moves_append u v w [] [] first.0 second.0, fair, are_met-again xs ys zs first.1 second.1),
-      (w.seen, (refl, (meets_twice u v w xs ys zs once again).1)),
+-- so many rounds, in each of which the first pass meets all others in turn
+abbrev pub MeetsInRounds : ℕ → View → List View → View → List View → Type 0
+MeetsInRounds zero u xs v ys = (v ≡ u) × (ys ≡ xs)
+MeetsInRounds (suc n) u xs v ys = (w : View) × (ws : List View) × MeetsInRounds n u xs w ws × MeetsInTurn w ws v ys × IsFair v
+
+-- one more round
+pub rounds_next : (n : ℕ) (u v w : View) (xs ys zs : List View) → MeetsInRounds n u xs v ys → MeetsInTurn v ys w zs → IsFair w → MeetsInRounds (n + 1) u xs w zs
+rounds_next n u v w xs ys zs rounds turns fair = subst (λ (m : ℕ). MeetsInRounds m u xs w zs) (sym (add-one n)) (v, ys, rounds, turns, fair)
+
+-- in one round or more each pass goes on by no call
+rounds_keep : (n : ℕ) (u v : View) (xs ys : List View) → MeetsInRounds (suc n) u xs v ys → AreMet (u ∷ xs) (v ∷ ys)
+rounds_keep zero u v xs ys rounds =
+    let once = met_keep rounds.0 v rounds.1 ys rounds.3 in (
+      subst (λ (w : View). PassMoves w v []) rounds.2.0 once.0,
+      rounds.4,
+      subst (λ (ws : List View). AreMet ws ys) rounds.2.1 once.1,
     )
+rounds_keep (suc n) u v xs ys rounds =
+    let before = rounds_keep n u rounds.0 xs rounds.1 rounds.2 in
+    let last = met_keep rounds.0 v rounds.1 ys rounds.3 in
+    (moves_append u rounds.0 v [] [] before.0 last.0, rounds.4, are_met-again xs rounds.1 ys before.2 last.1)
+
+pub met_in_rounds : (n : ℕ) (p q : PassValue) (ps qs rs : List PassValue) → 0 < n → ps ≡ p ∷ qs → MeetsInRounds n p.view (views qs) q.view (views rs)
+    → AreMet (views ps) (q.view ∷ views rs)
+met_in_rounds zero p q ps qs rs some all rounds = absurd (omega arith)
+met_in_rounds (suc n) p q ps qs rs some all rounds =
+    subst (λ (os : List PassValue). AreMet (views os) (q.view ∷ views rs)) (sym all) (rounds_keep n p.view q.view (views qs) (views rs) rounds)
+
+-- in two rounds or more they come to one history
+pub one_in_rounds : (n : ℕ) (u v : View) (xs ys : List View) → 2 ≤ n → MeetsInRounds n u xs v ys → HaveMet (v ∷ ys)
+one_in_rounds zero u v xs ys two rounds = absurd (omega arith)
+one_in_rounds (suc zero) u v xs ys two rounds = absurd (omega arith)
+one_in_rounds (suc (suc n)) u v xs ys two rounds =
+    let once = rounds.2 in
+    (v.seen, (refl, (meets_twice once.0 rounds.0 v once.1 rounds.1 ys once.3 rounds.3).1))

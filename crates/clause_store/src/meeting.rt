@@ -9,6 +9,7 @@ use crate::store::Store;
 impl Store {
     /// All passes have then seen one history, which begins with what each had seen: the first meets all others in turn, and
     /// then all again. It is no event.
+    #[tactic(auto, using(crate::proofs::MeetingLemmas::rounds_next, crate::proofs::MeetingLemmas::met_in_rounds, crate::proofs::MeetingLemmas::one_in_rounds))]
     pub fn meet_all(&self, passes: &mut [Pass])
         requires { AreOf self.now passes.old }
         ensures store { AreOf self.now passes.new }
@@ -18,8 +19,10 @@ impl Store {
         let Some((first, others)) = passes.split_first_mut() else {
             return;
         };
-        self.meet_each(first, others);
-        self.meet_each(first, others);
+        // The first round brings to one pass what all had seen, the second hands it on to all.
+        for _round in 0..2u32 {
+            self.meet_each(first, others);
+        }
     }
 
     /// The pass meets each of the others in turn.

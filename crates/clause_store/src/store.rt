@@ -1,5 +1,5 @@
 //! The store and the calls of its passes.
-ghost use Rattle.std.specs.Prelude.{◌≡◌, ◌↔◌, ◌-◌, ◌≤◌, ◌<◌, ℕ, IfOk, IsTrue, Some, length, slice_get, vec_len};
+ghost use Rattle.std.specs.Prelude.{◌≡◌, ◌↔◌, ◌+◌, ◌-◌, ◌≤◌, ◌<◌, ℕ, IfOk, IsTrue, Some, length, slice_get, vec_len};
 ghost use Rattle.lrup_model.specs.Event as events;
 ghost use Rattle.lrup_model.specs.History.{IsPublishable};
 ghost use Rattle.lrup_model.specs.Layout.{Fits, IsIdentity, IsStream, Owns};
@@ -103,7 +103,7 @@ impl Store {
         ensures value { slice_get (text_of (pass_place pass.old.view) clip.now) k ≡ Some result }
         ensures same { pass.new ≡ pass.old }
     {
-        let place = u64::from(clip.start()) + u64::from(k);
+        let place = place_of(clip, k);
         lit(self.row.word(&mut pass.seat, place))
     }
 
@@ -150,4 +150,12 @@ impl Store {
     {
         self.row.meet(&mut first.seat, &mut second.seat);
     }
+}
+
+/// The place of literal `k`, from 0 on, of a clip's clause.
+#[inline]
+fn place_of(clip: &Clip, k: u32) -> u64
+    ensures { result ≡ clip.now.start + k }
+{
+    u64::from(clip.start()) + u64::from(k)
 }

@@ -16,7 +16,7 @@ two_taken ps qs (r ∷ rs) a b last first two =
     absurd (let n : length ps ≡ length (qs ++ b ∷ []) = ap length last in let m : length qs ≡ length (r ∷ rs ++ a ∷ []) = ap length first in
     omega (arith, length-append qs (b ∷ []), length-append (r ∷ rs) (a ∷ [])))
 
-is_at : (store : StoreValue) (f : Cnf) (s : ℕ) (p : PassValue) → f ≡ four → IsOpened store f s p → IsAt store p
+is_at : (store : StoreValue) (f : Cnf) (s : ℕ) (p : PassValue) → f ≡ four → IsOpened store f s p → IsAt four store p
 is_at store f s p same opened = (opened.store, ap (λ (c : Caller). c.formula) opened.caller ∙ same)
 
 pub returns-clause-first : goal.returns-clause-first
