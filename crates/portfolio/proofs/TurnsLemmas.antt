@@ -22,6 +22,7 @@ use Rattle.stream_check.specs.Judging.{joined}
 use Rattle.stream_check.specs.Checker.{IsReadyAt, report_at}
 use Rattle.stream_check.specs.Laws.{ReadyBeside}
 use Rattle.portfolio.proofs.EmptyLemmas.{sound_in_order}
+use Rattle.portfolio.specs.Outcomes.{OptionsValue, layout_of}
 use Rattle.portfolio.specs.Streams.{Stream, IsTold, AreTold, JudgesStream, Block, blocks_of, events_in, IsBlockWithin, setting_of, AreJudged, IsOrdered}
 use Rattle.portfolio.specs.Working.{WorkerValue, WorksBy, Works, WorksOn, IsStarted}
 use Rattle.portfolio.specs.Turns.{HasRun, IsWorking, AreWorking, Runs, IsRunning, GoesOn, IsOver, AreOver, IsOverAt, AreStarted, HaveReports}
@@ -422,6 +423,10 @@ run_ordered f p q tries wanted entries lefts faileds m n us vs ws xs reports ope
       subst (λ (l : List (Option (List ℕ))). AreTold entries l faileds ordered.0) (sym left) (subst (λ (l : List Bool). AreTold entries (map (λ w. w.left) xs) l ordered.0) (sym failed) ordered.1),
       subst (λ (l : LayoutValue). IsOrdered f l wanted (λ s. true) ordered.0 reports) same_layout (subst (λ k. IsOrdered f p k (λ s. true) ordered.0 reports) same_tries ordered.2),
     )
+
+-- so many streams as the layout was asked for
+pub streams_asked : (options : OptionsValue) (f : Cnf) (n : ℕ) (p : LayoutValue) → p ≡ layout_of options f n → p.streams ≡ n
+streams_asked options f n p same = ap (λ (q : LayoutValue). q.streams) same
 
 -- what is written to all of a list
 pub written_back : {A : Type 0} (n : ℕ) (xs ys : List A) → length xs ≡ n → take n (xs ++ ys) ≡ xs

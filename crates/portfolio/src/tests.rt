@@ -9,6 +9,8 @@ use std::process::Abort;
 use std::test::Fail;
 use stream_check::{Ending, Fault, Report};
 
+mod serial;
+
 /// Paper that takes so many bytes a write, at least one, until a write of this number, from 1 on.
 #[derive(Drop)]
 struct Paper {

@@ -1,9 +1,8 @@
 use Rattle.std.proofs.Common.{◌≡◌, ◌∙◌, ℕ, List, Option, length, map, drop, sym, ap, subst, arith}
 use Rattle.std.proofs.lemmas.List.{length-map}
-use Rattle.lrup_model.specs.Layout.{LayoutValue}
 use Rattle.portfolio.specs.Outcomes.{layout_of}
 use Rattle.portfolio.specs.Turns.{Runs}
-use Rattle.portfolio.proofs.TurnsLemmas.{IsOpened, runs_opened, run_ordered, sound_over, written_back}
+use Rattle.portfolio.proofs.TurnsLemmas.{IsOpened, runs_opened, run_ordered, sound_over, streams_asked, written_back}
 use Rattle.portfolio.proofs.serial.run_serial.Goals as goal
 
 pub take_turns-requires : goal.take_turns-requires
@@ -19,7 +18,7 @@ take_turns-requires g c =
       state = c.in_ok-map.ensures.state;
       room = c.in_ok-map.ensures.room;
     } in
-    let same : p.streams ≡ c.len.result = ap (λ (q : LayoutValue). q.streams) c.in_ok-layout.ensures.layout.0 in
+    let same : p.streams ≡ c.len.result = streams_asked c.args.options f c.len.result p c.in_ok-layout.ensures.layout.0 in
     let count : length entries ≡ p.streams = omega (arith, length-map c.args.readers.items g.R.Source.left, same, c.len.ensures, c.args.readers.ok.0) in
     record {
       running = (f, p, c.tries.result, entries, subst (Runs f p c.tries.result entries m) (sym c.deref_mut.ensures.value) (runs_opened f p m opened c.tries.result entries c.in_ok-workers.workers.items count c.in_ok-workers.ensures));
@@ -44,7 +43,7 @@ returns-clause-ordered g c =
     } in
     let streams : c.len.result ≡ length readers = c.len.ensures ∙ c.args.readers.ok.0 in
     let same : p ≡ layout_of c.args.options f (length readers) = c.in_ok-layout.ensures.layout.0 ∙ ap (layout_of c.args.options f) streams in
-    let each : p.streams ≡ length readers = ap (λ (q : LayoutValue). q.streams) same in
+    let each : p.streams ≡ length readers = streams_asked c.args.options f (length readers) p same in
     let count : length entries ≡ p.streams = omega (arith, length-map readers g.R.Source.left, each) in
     let back = written_back started.len worked (drop (length worked) started.items) (c.take_turns.auto.workers ∙ c.deref_mut.ensures.len) in
     run_ordered f p (layout_of c.args.options f (length readers)) c.tries.result c.args.options.tries entries (map g.R.Source.left outcome.readers.items) (map g.R.Source.has_failed outcome.readers.items)

@@ -1,0 +1,517 @@
+//! The worked rows as runs on one thread, and what the readers are asked for.
+ghost use Rattle.std.specs.Prelude.{◌≡◌, Some, None, false, IfOk};
+ghost use Rattle.std.specs.List.{AllByRecursion};
+
+use super::Paper;
+use crate::{Options, RunFault, SerialOutcome, run_serial, write_report};
+use lrup_model::{Formula, Id, LayoutFault, Lit};
+use lrup_text::{ReadFault, Source};
+use std::alloc::{AllocError, Global};
+use std::cell::Cell;
+use std::process::Abort;
+use std::sync::Wait;
+use std::test::Fail;
+use stream_check::Gate;
+
+/// A stream that comes so many bytes a read, until a read of this number, from 1 on, fails.
+#[derive(Drop)]
+struct Pieces<'a> {
+    left: &'a [u8],
+    most: usize,
+    fails_at: usize,
+    reads: usize,
+    /// The most bytes that a read asked for.
+    asked: usize,
+    failed: bool,
+}
+
+impl<'a> Pieces<'a> {
+    fn new(text: &'a str, most: usize, fails_at: usize) -> Pieces<'a>
+        ensures { result.failed ≡ false }
+    {
+        Pieces {
+            left: text.as_bytes(),
+            most,
+            fails_at,
+            reads: 0,
+            asked: 0,
+            failed: false,
+        }
+    }
+}
+
+impl<'a> Source for Pieces<'a> {
+    ghost left = { λ s. Some s.left.now };
+
+    ghost has_failed = { λ s. s.failed };
+
+    fn read(&mut self, buffer: &mut [u8]) -> Result<usize, ReadFault> {
+        self.reads = self.reads.saturating_add(1);
+        self.asked = self.asked.max(buffer.len());
+        if self.reads == self.fails_at {
+            self.failed = true;
+            return Err(ReadFault);
+        }
+        let count = buffer.len().min(self.most.max(1)).min(self.left.len());
+        let (front, rest) = self.left.split_at(count);
+        buffer[..count].copy_from_slice(front);
+        self.left = rest;
+        Ok(count)
+    }
+
+    fn failed(&self) -> bool {
+        self.failed
+    }
+}
+
+/// A gate that does nothing.
+#[derive(Clone, Copy)]
+struct Open;
+
+impl Gate for Open {
+    fn before_fetch(&mut self, _stream: u64, _id: Id, _attempt: u64) {}
+
+    fn after_publish(&mut self, _stream: u64, _id: Id) {}
+}
+
+fn lit(value: i64) -> Result<Lit, Fail> {
+    let lit = Lit::new(value).ok_or("no literal")?;
+    Ok(lit)
+}
+
+fn push_pair(formula: &mut Formula, one: Lit, other: Lit) -> Result<(), Fail> {
+    let vars = formula.vars();
+    if one == other || one.var() > vars || other.var() > vars || formula.len() > 9 {
+        return Err("no pair".into());
+    }
+    formula.push(&[one, other])?;
+    Ok(())
+}
+
+/// 1 2 0 / -1 2 0 / 1 -2 0 / -1 -2 0
+fn four_clauses(alloc: Global) -> Result<Formula, Fail> {
+    let mut formula = Formula::new(alloc, 2);
+    push_pair(&mut formula, lit(1)?, lit(2)?)?;
+    push_pair(&mut formula, lit(-1)?, lit(2)?)?;
+    push_pair(&mut formula, lit(1)?, lit(-2)?)?;
+    push_pair(&mut formula, lit(-1)?, lit(-2)?)?;
+    Ok(formula)
+}
+
+fn options(tries: u64, lines: u64, room: u64) -> Result<Options, Fail> {
+    let options = Options::new(tries, lines, room).ok_or("too many tries")?;
+    Ok(options)
+}
+
+fn defaults() -> Result<Options, Fail> {
+    options(1_000, 65_536, 1_048_576)
+}
+
+fn readers_of<'a>(
+    alloc: Global,
+    streams: &[&'a str],
+    most: usize,
+) -> Result<Vec<Pieces<'a>>, AllocError>
+    ensures { IfOk result (λ readers. AllByRecursion (λ r. r.failed ≡ false) readers.items) }
+{
+    let mut readers = Vec::new(alloc);
+    for stream in streams {
+        readers.push(Pieces::new(stream, most, 0))?;
+    }
+    Ok(readers)
+}
+
+fn run_pieces<'a, W: Wait>(
+    wait: &W,
+    alloc: Global,
+    formula: &Formula,
+    options: Options,
+    readers: Vec<Pieces<'a>>,
+) -> Result<SerialOutcome<Pieces<'a>>, Fail>
+    requires { AllByRecursion (λ r. r.failed ≡ false) readers.items }
+{
+    let gates = vec![in alloc; Open; readers.len()]?;
+    let outcome = run_serial(wait, alloc, formula, options, readers, gates)?;
+    Ok(outcome)
+}
+
+/// The report is this text, and no reader was asked for more than a piece.
+fn says(
+    rt: &impl Abort,
+    alloc: Global,
+    outcome: &SerialOutcome<Pieces<'_>>,
+    text: &str,
+) -> Result<(), Fail> {
+    let mut paper = Paper::new(alloc, usize::MAX, 0);
+    write_report(&outcome.reports, outcome.verdict, &mut paper)?;
+    assert_eq!(rt; paper.bytes.as_slice(), text.as_bytes(), "{text}");
+    for reader in &outcome.readers {
+        assert!(rt; reader.asked <= 65_536);
+    }
+    Ok(())
+}
+
+/// A run of these streams reports so, in pieces of one byte, of two, and whole.
+fn row<R: Abort + Wait>(
+    rt: &R,
+    alloc: Global,
+    formula: &Formula,
+    options: Options,
+    streams: &[&str],
+    text: &str,
+) -> Result<(), Fail> {
+    for most in [1, 2, usize::MAX] {
+        let readers = readers_of(alloc, streams, most)?;
+        let outcome = run_pieces(rt, alloc, formula, options, readers)?;
+        says(rt, alloc, &outcome, text)?;
+    }
+    Ok(())
+}
+
+/// Row 1, and row 16 in pieces.
+const ROW_1: &str = "5 2 0 1 2 0\n6 0 5 3 4 0\n";
+
+const SAYS_1: &str = "c stream 1: 2 added, 0 deleted, ended\ns UNSATISFIABLE\n";
+
+const ROW_2: [&str; 2] = ["5 2 0 1 2 0\n7 0 5 6 0\n", "6 -2 0 3 4 0\n"];
+
+const SAYS_2: &str = "c stream 1: 2 added, 0 deleted, ended
+c stream 2: 1 added, 0 deleted, ended
+s UNSATISFIABLE
+";
+
+const ROW_19: &str = "5 d 1 0\n5 2 0 1 2 0\n";
+
+const SAYS_19: &str = "c stream 1: 0 added, 1 deleted, bad line 2 (dropped 1)\ns UNKNOWN\n";
+
+/// The rows of one stream and the default options.
+#[test]
+fn rows_of_one_stream(rt: HostRuntime) -> Result<(), Fail> {
+    let formula = four_clauses(rt.alloc())?;
+    for (stream, line) in [
+        // 4 to 7
+        (
+            "5 2 0 2 3 0\n",
+            "0 added, 0 deleted, bad line 1 (not unit 3)",
+        ),
+        (
+            "5 2 0 1 2 3 0\n",
+            "0 added, 0 deleted, bad line 1 (excess 3)",
+        ),
+        (
+            "5 2 0 1 0\n",
+            "0 added, 0 deleted, bad line 1 (no conflict)",
+        ),
+        ("5 2 0 0\n", "0 added, 0 deleted, bad line 1 (no conflict)"),
+        ("5 1 0 -2 0\n", "0 added, 0 deleted, bad line 1 (rat hint)"),
+        // 9 to 11
+        (
+            "5 2 0 1 2 0\n5 d 5 0\n6 0 5 3 4 0\n",
+            "1 added, 1 deleted, bad line 3 (retired 5)",
+        ),
+        (
+            "5 2 0 1 2 0\n5 d 5 5 0\n",
+            "1 added, 1 deleted, bad line 2 (not live 5)",
+        ),
+        ("5 d 1 1 0\n", "0 added, 1 deleted, bad line 1 (not live 1)"),
+        ("5 2 0 1 2 0", "0 added, 0 deleted, bad line 1 (truncated)"),
+        // 17, 18
+        (
+            "5  2 0 1 2 0\n",
+            "0 added, 0 deleted, bad line 1 (spelling)",
+        ),
+        (
+            "7 2 0 1 2 0\n6 0 7 3 4 0\n",
+            "1 added, 0 deleted, bad line 2 (identity)",
+        ),
+        // 21 to 23
+        (
+            "5 1 -1 0 1 0\n",
+            "0 added, 0 deleted, bad line 1 (tautology)",
+        ),
+        ("5 3 -3 0 1 0\n", "0 added, 0 deleted, bad line 1 (literal)"),
+        (
+            "1000000000000000000 2 0 1 2 0\n",
+            "0 added, 0 deleted, bad line 1 (too long)",
+        ),
+        (
+            "999999999999999999 2 0 1 2 0\n",
+            "0 added, 0 deleted, bad line 1 (identity)",
+        ),
+        ("5 2 0 5 0\n", "0 added, 0 deleted, bad line 1 (missing 5)"),
+    ] {
+        let text = format!(in rt.alloc(); "c stream 1: {line}\ns UNKNOWN\n")?;
+        row(
+            &rt,
+            rt.alloc(),
+            &formula,
+            defaults()?,
+            &[stream],
+            text.as_str(),
+        )?;
+    }
+    // 24
+    row(
+        &rt,
+        rt.alloc(),
+        &formula,
+        defaults()?,
+        &["5 2 0 1 2 0\n6 0 5 3 4 0\n7 2 0 1 0\n"],
+        "c stream 1: 2 added, 0 deleted, bad line 3 (no conflict)\ns UNSATISFIABLE\n",
+    )
+}
+
+/// Rows 14, 15 and 20, of one stream and an option each.
+#[test]
+fn rows_with_options(rt: HostRuntime) -> Result<(), Fail> {
+    let formula = four_clauses(rt.alloc())?;
+    for (lines, room, stream, line) in [
+        (
+            65_536,
+            0,
+            "5 0 1 0\n",
+            "0 added, 0 deleted, bad line 1 (not unit 1)",
+        ),
+        (
+            65_536,
+            0,
+            "5 2 0 1 2 0\n",
+            "0 added, 0 deleted, bad line 1 (no room)",
+        ),
+        (
+            1,
+            1_048_576,
+            ROW_1,
+            "1 added, 0 deleted, bad line 2 (identity)",
+        ),
+        (65_536, 1, "5 2 2 0 1 2 0\n", "1 added, 0 deleted, ended"),
+    ] {
+        let text = format!(in rt.alloc(); "c stream 1: {line}\ns UNKNOWN\n")?;
+        row(
+            &rt,
+            rt.alloc(),
+            &formula,
+            options(1_000, lines, room)?,
+            &[stream],
+            text.as_str(),
+        )?;
+    }
+    Ok(())
+}
+
+/// Rows 3 and 8, of two streams.
+#[test]
+fn rows_of_two_streams(rt: HostRuntime) -> Result<(), Fail> {
+    let formula = four_clauses(rt.alloc())?;
+    row(
+        &rt,
+        rt.alloc(),
+        &formula,
+        options(0, 65_536, 1_048_576)?,
+        &["5 0 6 0\n", "6 -2 0 3 4 0\n"],
+        "c stream 1: 0 added, 0 deleted, bad line 1 (missing 6)\nc stream 2: 1 added, 0 deleted, ended\ns UNKNOWN\n",
+    )?;
+    row(
+        &rt,
+        rt.alloc(),
+        &formula,
+        defaults()?,
+        &["6 2 0 1 2 0\n", ""],
+        "c stream 1: 0 added, 0 deleted, bad line 1 (identity)\nc stream 2: 0 added, 0 deleted, ended\ns UNKNOWN\n",
+    )
+}
+
+/// Rows 12 and 13, of formulas without variables.
+#[test]
+fn rows_without_variables(rt: HostRuntime) -> Result<(), Fail> {
+    let mut formula = Formula::new(rt.alloc(), 0);
+    row(
+        &rt,
+        rt.alloc(),
+        &formula,
+        defaults()?,
+        &[""],
+        "c stream 1: 0 added, 0 deleted, ended\ns UNKNOWN\n",
+    )?;
+    formula.push(&[])?;
+    row(
+        &rt,
+        rt.alloc(),
+        &formula,
+        defaults()?,
+        &["2 0 1 0\n"],
+        "c stream 1: 1 added, 0 deleted, ended\ns UNSATISFIABLE\n",
+    )
+}
+
+/// A run that has memory answers. Rows 1, 2, 16 and 19.
+#[test]
+fn always_out_of_memory(rt: HostRuntime) -> Result<(), Fail> {
+    let formula = four_clauses(rt.alloc())?;
+    row(&rt, rt.alloc(), &formula, defaults()?, &[ROW_1], SAYS_1)?;
+    row(&rt, rt.alloc(), &formula, defaults()?, &ROW_2, SAYS_2)?;
+    row(&rt, rt.alloc(), &formula, defaults()?, &[ROW_19], SAYS_19)
+}
+
+/// A gate that writes down whose publishes were answered.
+#[derive(Drop)]
+struct Order<'a> {
+    publishes: &'a Cell<u64>,
+}
+
+impl Gate for Order<'_> {
+    fn before_fetch(&mut self, _stream: u64, _id: Id, _attempt: u64) {}
+
+    fn after_publish(&mut self, stream: u64, _id: Id) {
+        let digits = self.publishes.get().saturating_mul(10);
+        self.publishes.set(digits.saturating_add(stream));
+    }
+}
+
+/// Row 2, whose line 7 cites the other stream's line: turns go round, stream 1 first, and take one line each.
+#[test]
+fn serial_takes_streams_whole(rt: HostRuntime) -> Result<(), Fail> {
+    let formula = four_clauses(rt.alloc())?;
+    for most in [1, 2, usize::MAX] {
+        let publishes = Cell::new(0);
+        let readers = readers_of(rt.alloc(), &ROW_2, most)?;
+        let mut gates = Vec::new(rt.alloc());
+        for _ in 0..readers.len() {
+            gates.push(Order {
+                publishes: &publishes,
+            })?;
+        }
+        assert_eq!(rt; gates.len(), readers.len());
+        let outcome = run_serial(&rt, rt.alloc(), &formula, defaults()?, readers, gates)?;
+        says(&rt, rt.alloc(), &outcome, SAYS_2)?;
+        assert_eq!(rt; publishes.get(), 121);
+    }
+    Ok(())
+}
+
+/// Another stream's reader fails, at once, in the middle of its line, or after it.
+#[test]
+fn readers_that_fail(rt: HostRuntime) -> Result<(), Fail> {
+    let formula = four_clauses(rt.alloc())?;
+    for (most, fails_at, line) in [
+        (5, 1, "0 added, 0 deleted, read failed at line 1"),
+        (5, 2, "0 added, 0 deleted, read failed at line 1"),
+        (5, 3, "0 added, 0 deleted, read failed at line 1"),
+        (5, 4, "1 added, 0 deleted, read failed at line 2"),
+        (13, 2, "1 added, 0 deleted, read failed at line 2"),
+    ] {
+        let mut readers = Vec::new(rt.alloc());
+        readers.push(Pieces::new("5 2 0 1 2 0\n7 0 5 3 4 0\n", most, 0))?;
+        readers.push(Pieces::new("6 -2 0 3 4 0\n", most, fails_at))?;
+        let outcome = run_pieces(&rt, rt.alloc(), &formula, defaults()?, readers)?;
+        let text = format!(in rt.alloc();
+            "c stream 1: 2 added, 0 deleted, ended\nc stream 2: {line}\ns UNSATISFIABLE\n"
+        )?;
+        says(&rt, rt.alloc(), &outcome, text.as_str())?;
+        assert_eq!(rt; outcome.readers.len(), 2);
+        assert!(rt; !outcome.readers[0].failed() && outcome.readers[0].left.is_empty());
+        assert!(rt; outcome.readers[1].failed());
+        assert_eq!(rt; outcome.readers[1].reads, fails_at);
+    }
+    Ok(())
+}
+
+/// A stream is read through the byte that ended it, and a whole one once more.
+#[test]
+fn nothing_is_read_after_a_bad_line(rt: HostRuntime) -> Result<(), Fail> {
+    let formula = four_clauses(rt.alloc())?;
+    for (stream, needed) in [
+        ("5 2 0 1 0\n5 2 0 1 2 0\n", 10),
+        ("5 2 0 1 2 0\n7 0 5 3 0\n9 2 0 1 2 0\n", 22),
+        ("5  2 0 1 2 0\n", 3),
+        ("5 2 0 1 2 0\n5 1 0 -2 0\n", 19),
+        (ROW_1, 25),
+    ] {
+        for most in [1, 4, 64] {
+            let readers = readers_of(rt.alloc(), &[stream], most)?;
+            let outcome = run_pieces(&rt, rt.alloc(), &formula, defaults()?, readers)?;
+            assert_eq!(rt; outcome.readers.len(), 1);
+            let reads = if needed > stream.len() {
+                stream.len().div_ceil(most) + 1
+            } else {
+                needed.div_ceil(most)
+            };
+            assert_eq!(rt; outcome.readers[0].reads, reads, "{stream}");
+        }
+    }
+    Ok(())
+}
+
+/// 72,024 bytes come in two pieces: 12,000 deletions of nothing, and row 1.
+#[test]
+fn a_read_asks_for_one_piece(rt: HostRuntime) -> Result<(), Fail> {
+    let formula = four_clauses(rt.alloc())?;
+    let mut stream = String::new(rt.alloc());
+    for _ in 0..12_000 {
+        stream.push_str("1 d 0\n")?;
+    }
+    stream.push_str(ROW_1)?;
+    let readers = readers_of(rt.alloc(), &[stream.as_str()], usize::MAX)?;
+    let outcome = run_pieces(&rt, rt.alloc(), &formula, defaults()?, readers)?;
+    says(&rt, rt.alloc(), &outcome, SAYS_1)?;
+    assert_eq!(rt; outcome.readers.len(), 1);
+    assert_eq!(rt; outcome.readers[0].reads, 3);
+    Ok(())
+}
+
+/// A stream that tells when it is read.
+#[derive(Drop)]
+struct Watched<'a> {
+    read: &'a Cell<bool>,
+}
+
+impl Source for Watched<'_> {
+    ghost left = { λ _. None };
+
+    ghost has_failed = { λ _. false };
+
+    fn read(&mut self, _buffer: &mut [u8]) -> Result<usize, ReadFault> {
+        self.read.set(true);
+        Ok(0)
+    }
+
+    fn failed(&self) -> bool {
+        false
+    }
+}
+
+#[test]
+fn no_layout_no_read(rt: HostRuntime) -> Result<(), Fail> {
+    let formula = four_clauses(rt.alloc())?;
+    for (lines, fault) in [
+        (268_435_456, Some(RunFault::Layout(LayoutFault::RowTooLong))),
+        (65_536, None),
+    ] {
+        let read = Cell::new(false);
+        let mut readers = Vec::new(rt.alloc());
+        readers.push(Watched { read: &read })?;
+        let mut gates = Vec::new(rt.alloc());
+        gates.push(Open)?;
+        let ran = run_serial(
+            &rt,
+            rt.alloc(),
+            &formula,
+            options(0, lines, 0)?,
+            readers,
+            gates,
+        );
+        assert_eq!(rt; ran.err(), fault);
+        assert_eq!(rt; read.get(), fault.is_none());
+    }
+    for count in [0, 65] {
+        let streams = vec![in rt.alloc(); ""; count]?;
+        let readers = readers_of(rt.alloc(), &streams, 1)?;
+        let gates = vec![in rt.alloc(); Open; readers.len()]?;
+        let ran = run_serial(&rt, rt.alloc(), &formula, defaults()?, readers, gates);
+        assert_eq!(rt;
+            ran.err(),
+            Some(RunFault::Layout(LayoutFault::BadStreamCount))
+        );
+    }
+    Ok(())
+}
