@@ -1,0 +1,51 @@
+//! What `--help` says of the program and of its arguments.
+
+/// What the program does.
+pub const PROGRAM: &str = "\
+Checks the proofs of SAT solvers that share their clauses, while the solvers
+write them. The answer is 's UNSATISFIABLE' only if a checked line derived the
+empty clause.";
+
+/// Of FORMULA.
+pub const FORMULA: &str = "The formula, a file in DIMACS CNF.";
+
+/// Of STREAM.
+pub const STREAM: &str = "\
+The proofs, 1 to 64 files or pipes, one from each solver, in LRAT text
+without RAT steps: a line 'id literals 0 hints 0' derives a clause, a
+line 'id d ids 0' deletes clauses. With M clauses in the formula and N
+streams, the first stream derives the clauses M+1, M+1+N, M+1+2N and
+so on, the second M+2, M+2+N and so on, each in rising order.";
+
+/// Of `--tries`.
+pub const TRIES: &str = "\
+How often a hint is looked up again while another stream hasn't
+derived its clause yet, each time after a microsecond.
+0 to 1,000,000, default 1,000. Raise it to 1000000 for streams that
+cite each other, or where a report says 'missing'.";
+
+/// Of `--lines`.
+pub const LINES: &str = "\
+How many identities each stream has. Each takes 8 bytes.
+0 to 268,435,456, default 65,536. Raise it for streams that derive
+more clauses or leave gaps, or where a report says 'identity'.";
+
+/// Of `--room`.
+pub const ROOM: &str = "\
+How many literals the clauses that a stream derives may have together,
+deleted ones too. Each takes 8 bytes, in each stream.
+0 to 268,435,456, default 1,048,576. Raise it for streams with more or
+longer clauses, or where a report says 'no room'.";
+
+/// Of `--serial`.
+pub const SERIAL: &str = "\
+Check all streams on one thread, a line of each by turns, so that runs
+over the same files are alike. Without it each stream has its thread.";
+
+/// What follows the options.
+pub const EXAMPLE: &str = "\
+The clauses and literals of the formula, the identities and the room of all
+streams are at most 268,435,455 together.
+
+Example:
+  lrupd --tries 1000000 big.cnf solver1.lrup solver2.lrup";
