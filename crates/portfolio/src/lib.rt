@@ -7,6 +7,7 @@ mod report_text;
 mod serial;
 #[cfg(test)]
 mod tests;
+mod threads;
 mod worker;
 
 pub use options::Options;
