@@ -1,12 +1,17 @@
 //! A run on one thread.
-ghost use Rattle.std.specs.Prelude.{◌≡◌, ◌≢◌, ◌+◌, ◌<◌, ◌≤◌, true, false, ℕ, List, [], Option, IfOk, Err, IsSome, length, map, vec_len, vec_capacity};
+ghost use Rattle.std.specs.Prelude.{◌≡◌, ◌≢◌, ◌+◌, ◌<◌, ◌≤◌, true, false, ℕ, List, [], Option, None, IfOk, Err, IsSome, length, map, vec_len, vec_capacity};
 ghost use Rattle.std.specs.List.{AllByRecursion};
 ghost use Rattle.lrup_model.specs.Entailment.{IsUnsatisfiable};
+ghost use Rattle.lrup_model.specs.Event.{History};
 ghost use Rattle.lrup_model.specs.Formula.{Cnf};
 ghost use Rattle.lrup_model.specs.Layout.{LayoutValue, IsStream};
+ghost use Rattle.lrup_model.specs.Plain.{PlainMoves, free_at, plain_place};
+ghost use Rattle.stream_check.specs.Checker.{IsReadyAt};
+ghost use Rattle.stream_check.specs.Judging.{joined};
 ghost use Rattle.portfolio.specs.Outcomes.{IsLayoutFault, IsVerdictOf, layout_of, max_tries};
 ghost use Rattle.portfolio.specs.Streams.{AreTold, IsOrdered, Stream};
 ghost use Rattle.portfolio.specs.Turns.{AreOver, AreStarted, GoesOn, HaveReports, IsOverAt, IsRunning};
+ghost use Rattle.portfolio.specs.Working.{WorksOn};
 
 use crate::options::Options;
 use crate::outcome::{RunFault, SerialOutcome, Verdict};
@@ -15,6 +20,7 @@ use lrup_model::{Formula, Layout, PlainMap};
 use lrup_text::Source;
 use std::alloc::{AllocError, Global};
 use std::sync::Wait;
+use stream_check::laws::ready_beside;
 use stream_check::{Gate, Report};
 
 /// Checks the streams that the readers give, stream 1 first, on this thread and by turns: a turn of a stream reads until one
@@ -120,11 +126,30 @@ fn take_turn<W: Wait, R: Source + Drop, G: Gate + Drop>(
     ensures runs { GoesOn map.old workers.old map.new workers.new }
     ensures over { result ≡ false → IsOverAt workers.old i × (workers.new ≡ workers.old) }
 {
+    ready_beside();
     if workers[i].is_over() {
         return false;
     }
-    workers[i].turn(wait, &mut map.desk(i as u64 + 1));
+    turn_at_desk(wait, map, i as u64 + 1, &mut workers[i]);
     true
+}
+
+/// One turn of the worker of stream `s`, from 1 on, at its desk.
+fn turn_at_desk<W: Wait, R: Source + Drop, G: Gate + Drop>(
+    wait: &W,
+    map: &mut PlainMap,
+    s: u64,
+    worker: &mut Worker<R, G>,
+)
+    requires stream { IsStream map.old.layout s }
+    requires ready { IsReadyAt worker.old.checker (plain_place map.old s) }
+    requires going { worker.old.checker.ending ≡ None }
+    ensures works { (blocks : List History) × PlainMoves map.old map.new s (joined blocks)
+        × WorksOn worker.old (free_at map.old s) blocks worker.new (free_at map.new s) }
+    ensures ready { IsReadyAt worker.new.checker (plain_place map.new s) }
+    ensures setting { worker.new.checker.setting ≡ worker.old.checker.setting }
+{
+    worker.turn(wait, &mut map.desk(s));
 }
 
 /// What is said of the streams, which are over.

@@ -1,0 +1,174 @@
+-- Where a report says 'empty', its stream published the empty clause, and the formula is unsatisfiable.
+use Rattle.std.proofs.Common.{◌≡◌, ℕ, ℤ, Bool, true, false, List, [], ◌∷◌, ◌++◌, length, inl, inr, refl, sym, ap, subst, ◌∙◌, arith}
+use Rattle.std.specs.Prelude.{◌||◌, ◌==◌, IsTrue, if◌then◌else◌}
+use Rattle.std.specs.List.{list_any, filter}
+use Rattle.std.proofs.lemmas.Bool.{eqb-true}
+use Rattle.std.proofs.lemmas.Grind.{flat_map-append}
+use Rattle.std.proofs.lemmas.List.Folds.{list_any-append}
+use Rattle.lrup_model.specs.Clause.{Clause}
+use Rattle.lrup_model.specs.Formula.{Cnf}
+use Rattle.lrup_model.specs.Entailment.{Follows, IsUnsatisfiable}
+use Rattle.lrup_model.specs.EntailmentLemmas.{empty_refutes}
+use Rattle.lrup_model.specs.Layout.{LayoutValue}
+use Rattle.lrup_model.specs.Event as events
+use Rattle.lrup_model.specs.Event.{Event, Reply, History, own, publishes_empty}
+use Rattle.lrup_model.specs.State.{State, opening, after}
+use Rattle.lrup_model.specs.History.{LegalFrom, IsLegal}
+use Rattle.lrup_model.specs.declared.clause_map.Published.TheVariants as publishing
+use Rattle.lrup_text.specs.Lines.{StreamLine, Addition, Deletion}
+use Rattle.stream_check.specs.declared.fault.Fault.{Fault}
+use Rattle.stream_check.specs.declared.fault.Fault.TheVariants as faults
+use Rattle.stream_check.specs.declared.report.Report.{Report}
+use Rattle.stream_check.specs.Setting.{Setting}
+use Rattle.stream_check.specs.Standing.{Standing, adds_empty}
+use Rattle.stream_check.specs.Verdicts.{Good, Bad, Fails}
+use Rattle.stream_check.specs.Additions.{AtConflict, AtReply, JudgesHints, published_by}
+use Rattle.stream_check.specs.Judging.{JudgesLine, AreGood, joined, EndsAfter, StreamEnd, ended, failed, JudgesBlocks}
+use Rattle.portfolio.specs.Streams.{Stop, at_end, at_failure, early, Stream, JudgesTo, JudgesStream, Block, blocks_of, events_in}
+
+-- ---- some element of a list
+
+or_left : (a b : Bool) → a ≡ true → (a || b) ≡ true
+or_left true b e = refl
+or_left false b e = absurd (let f : false ≡ true = e in cc)
+
+or_right : (a b : Bool) → b ≡ true → (a || b) ≡ true
+or_right true b e = refl
+or_right false b e = e
+
+or_more : (a b c : Bool) → (b ≡ true → c ≡ true) → (a || b) ≡ true → (a || c) ≡ true
+or_more true b c rest e = refl
+or_more false b c rest e = rest e
+
+module _ (p : Event → Bool) where
+  any_front : (es fs : History) → list_any p es ≡ true → list_any p (es ++ fs) ≡ true
+  any_front es fs e = list_any-append p es fs ∙ or_left (list_any p es) (list_any p fs) e
+
+  any_back : (es fs : History) → list_any p fs ≡ true → list_any p (es ++ fs) ≡ true
+  any_back es fs e = list_any-append p es fs ∙ or_right (list_any p es) (list_any p fs) e
+
+  any_more : (es fs gs : History) → (list_any p fs ≡ true → list_any p gs ≡ true) → list_any p (es ++ fs) ≡ true → list_any p (es ++ gs) ≡ true
+  any_more es fs gs rest e = list_any-append p es gs ∙ or_more (list_any p es) (list_any p fs) (list_any p gs) rest (sym (list_any-append p es fs) ∙ e)
+
+  -- one of those that pass a test is one of all
+  filtered_step : (x : Event) (es fs : History) (b : Bool) → (list_any p fs ≡ true → list_any p es ≡ true) → list_any p (if b then x ∷ fs else fs) ≡ true → list_any p (x ∷ es) ≡ true
+  filtered_step x es fs true rest e = or_more (p x) (list_any p fs) (list_any p es) rest e
+  filtered_step x es fs false rest e = or_right (p x) (list_any p es) (rest e)
+
+  any_filtered : (q : Event → Bool) (es : History) → list_any p (filter q es) ≡ true → list_any p es ≡ true
+  any_filtered q [] e = e
+  any_filtered q (x ∷ es) e = filtered_step x es (filter q es) (q x) (any_filtered q es) e
+
+  -- one of a stream's blocks is one of all
+  block_step : (es all : History) (later : List History) (b : Bool) → (list_any p (joined later) ≡ true → list_any p all ≡ true) → list_any p (joined (if b then es ∷ later else later)) ≡ true → list_any p (es ++ all) ≡ true
+  block_step es all later true rest e = any_more es (joined later) all rest e
+  block_step es all later false rest e = any_back es all (rest e)
+
+  any_block : (s : ℕ) (blocks : List Block) → list_any p (joined (blocks_of s blocks)) ≡ true → list_any p (events_in blocks) ≡ true
+  any_block s [] e = e
+  any_block s (block ∷ blocks) e = block_step block.events (events_in blocks) (blocks_of s blocks) (block.stream == s) (any_block s blocks) e
+
+-- ---- the publish of a good addition
+
+fails_not : (fault : Fault) (es : History) → Fails fault es Good → ⊥
+fails_not fault es f = let e : Good ≡ Bad 0 fault = f.1 in cc
+
+module _ (p : Event → Bool) (c : Setting) (gone : ℕ → Bool) (published : Event) (passes : p published ≡ true) where
+  at_conflict : (hints : List ℕ) (es : History) → AtConflict hints published es Good → list_any p es ≡ true
+  at_conflict [] es at = ap (list_any p) at.0 ∙ or_left (p published) false passes
+  at_conflict (h ∷ hints) es at = absurd (fails_not (faults.Excess h) es at)
+
+  at_reply : (reply : Reply) (n : List ℤ) (h : ℕ) (hints : List ℕ) (es : History) (A : List ℤ → Type 0)
+      → ((m : List ℤ) → A m → list_any p es ≡ true)
+      → AtReply reply n h hints published es Good A → list_any p es ≡ true
+  at_reply events.vacant n h hints es A next at = absurd (fails_not (faults.Missing h) es at)
+  at_reply events.retired n h hints es A next at = absurd (fails_not (faults.Retired h) es at)
+  at_reply (events.live d) n h hints es A next (inl conflict) = at_conflict hints es conflict.1
+  at_reply (events.live d) n h hints es A next (inr (inl unit)) = next _ unit.2
+  at_reply (events.live d) n h hints es A next (inr (inr neither)) = absurd (fails_not (faults.NotUnit h) es neither.2)
+
+  -- hints that show the clause are followed by its publish
+  hints_publish : (n : List ℤ) (hints : List ℕ) (es : History) → JudgesHints c gone published n hints es Good → list_any p es ≡ true
+  hints_publish n [] es judged = absurd (fails_not faults.NoConflict es judged)
+  hints_publish n (h ∷ hints) es (inl bad) = absurd (fails_not (faults.Dropped h) es bad.1)
+  hints_publish n (h ∷ hints) es (inr good) =
+      let a = good.1 in
+      ap (list_any p) a.events
+      ∙ any_back p a.asked a.rest (at_reply a.reply n h hints a.rest (λ m. JudgesHints c gone published m hints a.rest Good) (λ m k. hints_publish m hints a.rest k) a.next)
+
+-- a good addition of the empty clause publishes it
+empty_line : (c : Setting) (st : Standing) (id : ℕ) (hints : List ℕ) (es : History) → JudgesLine c st (Addition id [] hints) es Good → list_any publishes_empty es ≡ true
+empty_line c st id hints es (inl bad) = absurd (fails_not faults.Identity es bad.1)
+empty_line c st id hints es (inr (a, inl bad)) = absurd (fails_not faults.Literal es bad.1)
+empty_line c st id hints es (inr (a, inr (b, inl bad))) = absurd (fails_not faults.Tautology es bad.1)
+empty_line c st id hints es (inr (a, inr (b, inr (d, inl bad)))) = absurd (fails_not faults.NoRoom es bad.1)
+empty_line c st id hints es (inr (a, inr (b, inr (d, inr (e, judged))))) = hints_publish publishes_empty c st.gone (published_by c id []) refl [] hints es judged
+
+-- ---- the lines of a stream
+
+lines_publish : (c : Setting) (before lines : List StreamLine) (blocks : List History) → AreGood c before lines blocks → list_any adds_empty lines ≡ true → list_any publishes_empty (joined blocks) ≡ true
+lines_publish c before [] [] good e = absurd (let f : false ≡ true = e in cc)
+lines_publish c before [] (block ∷ blocks) good e = absurd good
+lines_publish c before (line ∷ lines) [] good e = absurd good
+lines_publish c before (Addition id [] hints ∷ lines) (block ∷ blocks) good e = any_front publishes_empty block (joined blocks) (empty_line c _ id hints block good.0)
+lines_publish c before (Addition id (l ∷ lits) hints ∷ lines) (block ∷ blocks) good e = any_back publishes_empty block (joined blocks) (lines_publish c _ lines blocks good.1 e)
+lines_publish c before (Deletion lead ids ∷ lines) (block ∷ blocks) good e = any_back publishes_empty block (joined blocks) (lines_publish c _ lines blocks good.1 e)
+
+-- the report tells of the good lines alone
+said_empty : (c : Setting) (lines : List StreamLine) (rest : List ℕ) (end : StreamEnd) (back : List History) (report : Report) → EndsAfter c lines rest end back report → report.empty ≡ list_any adds_empty lines
+said_empty c lines rest end back report (inl line) = ap (λ (r : Report). r.empty) line.says
+said_empty c lines rest end back report (inr (inl text)) = ap (λ (r : Report). r.empty) text.says
+said_empty c lines rest end back report (inr (inr (inl memory))) = ap (λ (r : Report). r.empty) memory.says
+said_empty c lines rest end back report (inr (inr (inr ending))) = ap (λ (r : Report). r.empty) ending.says
+
+-- Where the report says 'empty', one of the events published the empty clause.
+pub empty_is_published : (c : Setting) (bytes : List ℕ) (end : StreamEnd) (blocks : List History) (report : Report)
+    → JudgesBlocks c bytes end blocks report → IsTrue report.empty → IsTrue (list_any publishes_empty (joined blocks))
+empty_is_published c bytes end blocks report judged is =
+    let said = said_empty c judged.lines judged.rest end judged.back report judged.ends in
+    let front = lines_publish c [] judged.lines judged.front judged.begins.good (sym said ∙ is) in
+    ap (λ bs. list_any publishes_empty (joined bs)) judged.split
+    ∙ ap (list_any publishes_empty) (flat_map-append (λ (block : History). block) judged.front judged.back)
+    ∙ any_front publishes_empty (joined judged.front) (joined judged.back) front
+
+pub stream_publishes : (c : Setting) (stop : Stop) (bytes : List ℕ) (blocks : List History) (report : Report)
+    → JudgesTo stop c bytes blocks report → IsTrue report.empty → IsTrue (list_any publishes_empty (joined blocks))
+stream_publishes c at_end bytes blocks report judged is = empty_is_published c bytes ended blocks report judged is
+stream_publishes c at_failure bytes blocks report judged is = empty_is_published c bytes failed blocks report judged is
+stream_publishes c early bytes blocks report judged is = empty_is_published c bytes ended blocks report judged.1 is
+
+-- ---- the formula
+
+from_zero : (c : Clause) → (length c == 0) ≡ true → c ≡ []
+from_zero [] h = refl
+from_zero (l ∷ c) h = absurd (omega (arith, eqb-true (length (l ∷ c)) 0 h))
+
+-- either the first event published it, or a later one
+follows_either : (f : Cnf) (c : Clause) (later b : Bool) → (length c == 0) ≡ b → Follows f c → ((length c == 0) || later) ≡ true → (later ≡ true → Follows f []) → Follows f []
+follows_either f c later true is follows h rest = subst (Follows f) (from_zero c is) follows
+follows_either f c later false is follows h rest = rest (ap (λ b. b || later) (sym is) ∙ h)
+
+empty_follows : (f : Cnf) (p : LayoutValue) (m : State) (es : History) → LegalFrom f p m es → list_any publishes_empty es ≡ true → Follows f []
+empty_follows f p m [] legal h = absurd (let e : false ≡ true = h in cc)
+empty_follows f p m (events.fetch s id r ∷ es) legal h = empty_follows f p m es legal.2 h
+empty_follows f p m (events.publish s id c publishing.Taken ∷ es) legal h = empty_follows f p m es legal.2 h
+empty_follows f p m (events.retire s id r ∷ es) legal h = empty_follows f p _ es legal.2 h
+empty_follows f p m (events.publish s id c publishing.Done ∷ es) legal h =
+    follows_either f c (list_any publishes_empty es) (length c == 0) refl legal.1.1.follows h (empty_follows f p (after m (events.publish s id c publishing.Done)) es legal.2)
+
+-- a legal history that publishes the empty clause is one of an unsatisfiable formula
+pub refuted : (f : Cnf) (p : LayoutValue) (h : History) → IsLegal f p h → IsTrue (list_any publishes_empty h) → IsUnsatisfiable f
+refuted f p h legal is = empty_refutes f (empty_follows f p (opening f) h legal.events is)
+
+-- So where a stream's events are its own of a legal history, and its report says 'empty', the formula is unsatisfiable.
+pub sound : (f : Cnf) (p : LayoutValue) (h : History) (c : Setting) (stream : Stream) (blocks : List History) (report : Report)
+    → IsLegal f p h → own h c.stream ≡ joined blocks → JudgesStream c stream blocks report → IsTrue report.empty → IsUnsatisfiable f
+sound f p h c stream blocks report legal mine judged is =
+    let published = stream_publishes c stream.stop stream.bytes blocks report judged is in
+    refuted f p h legal (any_filtered publishes_empty _ h (ap (list_any publishes_empty) mine ∙ published))
+
+-- So it is where the stream's blocks stand in an order of lines that is legal.
+pub sound_in_order : (f : Cnf) (p : LayoutValue) (order : List Block) (s : ℕ) (c : Setting) (stream : Stream) (report : Report)
+    → IsLegal f p (events_in order) → JudgesStream c stream (blocks_of s order) report → IsTrue report.empty → IsUnsatisfiable f
+sound_in_order f p order s c stream report legal judged is =
+    refuted f p (events_in order) legal (any_block publishes_empty s order (stream_publishes c stream.stop stream.bytes (blocks_of s order) report judged is))

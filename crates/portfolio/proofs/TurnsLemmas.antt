@@ -1,0 +1,290 @@
+-- A run on one thread: before the first turn, after one more, and when all streams are over.
+use Rattle.std.proofs.Common.{◌≡◌, ◌≢◌, IsSome, IfSome, ℕ, zero, suc, ◌+◌, ◌-◌, ◌<◌, ◌≤◌, Bool, true, false, cond, eqb, List, [], ◌∷◌, ◌++◌, length, get_or, set, replicate, map, Option, Some, None, refl, sym, ap, ap₂, subst, ◌∙◌, inl, inr, arith, length-set, eq-eqb, ne_eqb}
+use Rattle.std.specs.Prelude.{◌==◌}
+use Rattle.std.specs.List.{AllByRecursion, sum_by}
+use Rattle.std.proofs.lemmas.Bool.{cases_eq, cases_lt, cond-true, cond-false}
+use Rattle.std.proofs.lemmas.List.{append-nil, append_assoc, map-append, get_or-replicate}
+use Rattle.std.proofs.lemmas.Grind.{flat_map-append}
+use Rattle.lrup_model.specs.Formula.{Cnf}
+use Rattle.lrup_model.specs.Layout.{LayoutValue, Fits, Owns, IsStream}
+use Rattle.lrup_model.specs.Event.{History, Event, stream_of, own, size_of, spent}
+use Rattle.lrup_model.specs.State.{State, opening, run}
+use Rattle.lrup_model.specs.History.{LegalFrom, IsLegal}
+use Rattle.lrup_model.specs.HistoryLemmas.{opening-owned}
+use Rattle.lrup_model.specs.Running.{run-append, legal-append, spent-append}
+use Rattle.lrup_model.specs.Plain.{Plain, formula_of, state_of, free_at, plain_place, PlainMoves}
+use Rattle.stream_check.specs.declared.report.Ending.{Ending}
+use Rattle.stream_check.specs.declared.report.Report.{Report}
+use Rattle.stream_check.specs.Setting.{Setting}
+use Rattle.stream_check.specs.Standing.{Tally}
+use Rattle.stream_check.specs.Judging.{joined}
+use Rattle.stream_check.specs.Checker.{IsReadyAt, report_at}
+use Rattle.stream_check.specs.Laws.{ReadyBeside}
+use Rattle.portfolio.specs.Streams.{Stream, AreTold, JudgesStream, Block, blocks_of, events_in, IsBlockWithin, setting_of, AreJudged, IsOrdered}
+use Rattle.portfolio.specs.Working.{WorkerValue, WorksBy, Works, WorksOn, IsStarted}
+use Rattle.portfolio.specs.Turns.{HasRun, IsWorking, AreWorking, Runs, IsRunning, GoesOn, IsOver, AreOver, IsOverAt, AreStarted, HaveReports}
+
+-- ---- blocks
+
+all-append : {X : Type 0} (P : X → Type 0) (xs ys : List X) → AllByRecursion P xs → AllByRecursion P ys → AllByRecursion P (xs ++ ys)
+all-append P [] ys front back = back
+all-append P (x ∷ xs) ys front back = (front.0, all-append P xs ys front.1 back)
+
+all-front : {X : Type 0} (P : X → Type 0) (xs ys : List X) → AllByRecursion P (xs ++ ys) → AllByRecursion P xs
+all-front P [] ys all = tt
+all-front P (x ∷ xs) ys all = (all.0, all-front P xs ys all.1)
+
+all-back : {X : Type 0} (P : X → Type 0) (xs ys : List X) → AllByRecursion P (xs ++ ys) → AllByRecursion P ys
+all-back P [] ys all = all
+all-back P (x ∷ xs) ys all = all-back P xs ys all.1
+
+-- the blocks of one stream's lines
+pub tagged : ℕ → List History → List Block
+tagged s [] = []
+tagged s (events ∷ blocks) = record { stream = s; events = events } ∷ tagged s blocks
+
+events_in-append : (xs ys : List Block) → events_in (xs ++ ys) ≡ events_in xs ++ events_in ys
+events_in-append xs ys = flat_map-append (λ (block : Block). block.events) xs ys
+
+events_in-tagged : (s : ℕ) (bs : List History) → events_in (tagged s bs) ≡ joined bs
+unfolding tagged
+events_in-tagged s [] = refl
+events_in-tagged s (b ∷ bs) = ap (λ (es : History). b ++ es) (events_in-tagged s bs)
+
+-- the events of the blocks so far, and of a stream's further ones
+events_more : (s : ℕ) (blocks : List Block) (bs : List History) → events_in (blocks ++ tagged s bs) ≡ events_in blocks ++ joined bs
+events_more s blocks bs = events_in-append blocks (tagged s bs) ∙ ap (λ (es : History). events_in blocks ++ es) (events_in-tagged s bs)
+
+blocks_of-append : (s : ℕ) (xs ys : List Block) → blocks_of s (xs ++ ys) ≡ blocks_of s xs ++ blocks_of s ys
+blocks_of-append s [] ys = refl
+blocks_of-append s (x ∷ xs) ys =
+    let rest = blocks_of-append s xs ys in
+    elim (eqb x.stream s) as (λ b. cond b (x.events ∷ blocks_of s (xs ++ ys)) (blocks_of s (xs ++ ys)) ≡ cond b (x.events ∷ blocks_of s xs) (blocks_of s xs) ++ blocks_of s ys) [
+      | true ↦ ap (λ (bs : List History). x.events ∷ bs) rest
+      | false ↦ rest
+    ]
+
+blocks_of-own : (s : ℕ) (bs : List History) → blocks_of s (tagged s bs) ≡ bs
+unfolding tagged
+blocks_of-own s [] = refl
+blocks_of-own s (b ∷ bs) =
+    let here = blocks_of s (tagged s bs) in
+    cond-true (eqb s s) (b ∷ here) here (eq-eqb s s refl) ∙ ap (λ (xs : List History). b ∷ xs) (blocks_of-own s bs)
+
+blocks_of-other : (s t : ℕ) (bs : List History) → s ≢ t → blocks_of t (tagged s bs) ≡ []
+unfolding tagged
+blocks_of-other s t [] other = refl
+blocks_of-other s t (b ∷ bs) other =
+    let here = blocks_of t (tagged s bs) in
+    cond-false (eqb s t) (b ∷ here) here (ne_eqb s t other) ∙ blocks_of-other s t bs other
+
+blocks_more : (s : ℕ) (blocks : List Block) (bs : List History) → blocks_of s (blocks ++ tagged s bs) ≡ blocks_of s blocks ++ bs
+blocks_more s blocks bs = blocks_of-append s blocks (tagged s bs) ∙ ap (λ (xs : List History). blocks_of s blocks ++ xs) (blocks_of-own s bs)
+
+blocks_beside : (s t : ℕ) (blocks : List Block) (bs : List History) → s ≢ t → blocks_of t (blocks ++ tagged s bs) ≡ blocks_of t blocks
+blocks_beside s t blocks bs other =
+    blocks_of-append t blocks (tagged s bs) ∙ ap (λ (xs : List History). blocks_of t blocks ++ xs) (blocks_of-other s t bs other) ∙ append-nil (blocks_of t blocks)
+
+within-tagged : (p : LayoutValue) (s : ℕ) (bs : List History) → IsStream p s → AllByRecursion (λ e. stream_of e ≡ s) (joined bs) → AllByRecursion (IsBlockWithin p (λ t. true)) (tagged s bs)
+unfolding tagged
+within-tagged p s [] stream calls = tt
+within-tagged p s (b ∷ bs) stream calls =
+    ((stream, refl, all-front (λ e. stream_of e ≡ s) b (joined bs) calls), within-tagged p s bs stream (all-back (λ e. stream_of e ≡ s) b (joined bs) calls))
+
+-- ---- room
+
+-- what other streams publish takes nothing of a stream's room
+spent-others : (s t : ℕ) (es : History) → AllByRecursion (λ e. stream_of e ≡ s) es → s ≢ t → spent t es ≡ 0
+spent-others s t [] calls other = refl
+spent-others s t (e ∷ es) calls other =
+    let not_mine : eqb (stream_of e) t ≡ false = ne_eqb (stream_of e) t (λ same. other (sym calls.0 ∙ same)) in
+    ap (sum_by size_of) (cond-false (eqb (stream_of e) t) (e ∷ own es t) (own es t) not_mine) ∙ spent-others s t es calls.1 other
+
+-- nor what is no stream of the layout
+spent-outside : (p : LayoutValue) (t : ℕ) (blocks : List Block) → AllByRecursion (IsBlockWithin p (λ s. true)) blocks → ¬ IsStream p t → spent t (events_in blocks) ≡ 0
+spent-outside p t [] within outside = refl
+spent-outside p t (block ∷ blocks) within outside =
+    let other : block.stream ≢ t = λ same. outside (subst (IsStream p) same within.0.0) in
+    omega (arith, spent-append t block.events (events_in blocks), spent-others block.stream t block.events within.0.2 other, spent-outside p t blocks within.1 outside)
+
+-- so the events are within the streams' room
+within_room : (f : Cnf) (p : LayoutValue) (blocks : List Block) (m : Plain) → HasRun f p blocks m → (t : ℕ) → spent t (events_in blocks) ≤ p.room
+within_room f p blocks m has t =
+    elim (cases_lt 0 t) [
+      | inl positive ↦ elim (cases_lt p.streams t) [
+        | inl above ↦ omega (arith, spent-outside p t blocks has.within (λ stream. omega (arith, above, stream.1)))
+        | inr below ↦ omega (arith, has.room t (positive, below))
+      ]
+      | inr none ↦ omega (arith, spent-outside p t blocks has.within (λ stream. omega (arith, none, stream.0)))
+    ]
+
+-- ---- a turn
+
+-- the map, after the events of a stream's further blocks
+pub run_more : (f : Cnf) (p : LayoutValue) (blocks : List Block) (m n : Plain) (s : ℕ) (bs : List History) → HasRun f p blocks m → IsStream p s → PlainMoves m n s (joined bs) → HasRun f p (blocks ++ tagged s bs) n
+run_more f p blocks m n s bs has stream moves =
+    let before = events_in blocks in
+    let same : before ++ joined bs ≡ events_in (blocks ++ tagged s bs) = sym (events_more s blocks bs) in
+    let later : LegalFrom f p (run (opening f) before) (joined bs) =
+    subst (λ (g : Cnf). LegalFrom g p (run (opening f) before) (joined bs)) has.formula
+    (subst (λ (q : LayoutValue). LegalFrom (formula_of m) q (run (opening f) before) (joined bs)) has.layout
+    (subst (λ (state : State). LegalFrom (formula_of m) m.layout state (joined bs)) has.state moves.answers)) in
+    let room : (t : ℕ) → IsStream p t → free_at n t + spent t (before ++ joined bs) ≡ p.room = λ t here.
+    elim (cases_eq s t) [
+      | inl mine ↦ let left : free_at n t + spent t (joined bs) ≡ free_at m t = subst (λ k. free_at n k + spent k (joined bs) ≡ free_at m k) mine moves.room in
+          omega (arith, spent-append t before (joined bs), left, has.room t here)
+      | inr other ↦ omega (arith, spent-append t before (joined bs), spent-others s t (joined bs) moves.callers other, moves.others t here.0 (λ is. other (sym is)), has.room t here)
+    ] in
+    record {
+      layout = moves.layout ∙ has.layout;
+      formula = moves.formula ∙ has.formula;
+      within = all-append (IsBlockWithin p (λ t. true)) blocks (tagged s bs) has.within (within-tagged p s bs stream moves.callers);
+      legal = subst (LegalFrom f p (opening f)) same (legal-append f p (opening f) before (joined bs) has.legal later);
+      state = moves.state ∙ ap (λ (state : State). run state (joined bs)) has.state ∙ sym (run-append (opening f) before (joined bs)) ∙ ap (run (opening f)) same;
+      room = subst (λ (es : History). (t : ℕ) → IsStream p t → free_at n t + spent t es ≡ p.room) same room;
+    }
+
+-- the worker whose turn it was
+working_on : (p : LayoutValue) (tries : ℕ) (blocks : List Block) (m n : Plain) (s : ℕ) (bs : List History) (entry : Option (List ℕ)) (w v : WorkerValue) → IsWorking p tries blocks m s entry w
+    → WorksOn w (free_at m s) bs v (free_at n s) → IsReadyAt v.checker (plain_place n s) → v.checker.setting ≡ w.checker.setting → IsWorking p tries (blocks ++ tagged s bs) n s entry v
+working_on p tries blocks m n s bs entry w v working on ready setting = record {
+  setting = setting ∙ working.setting;
+  works = subst (Works entry v (free_at n s)) (sym (blocks_more s blocks bs)) (on entry (blocks_of s blocks) working.works);
+  ready = ready;
+}
+
+-- the other workers
+module _ (law : ReadyBeside) (p : LayoutValue) (tries : ℕ) (blocks : List Block) (m n : Plain) (s : ℕ) (bs : List History) (moves : PlainMoves m n s (joined bs)) where
+  working_beside : (t : ℕ) (entry : Option (List ℕ)) (w : WorkerValue) → 0 < t → s ≢ t → IsWorking p tries blocks m t entry w → IsWorking p tries (blocks ++ tagged s bs) n t entry w
+  working_beside t entry w positive other working =
+      let stream : w.checker.setting.stream ≡ t = ap (λ (c : Setting). c.stream) working.setting in
+      let here : IsReadyAt w.checker (plain_place m w.checker.setting.stream) = subst (λ k. IsReadyAt w.checker (plain_place m k)) (sym stream) working.ready in
+      record {
+        setting = working.setting;
+        works = subst (λ k. Works entry w k (blocks_of t (blocks ++ tagged s bs))) (sym (moves.others t positive (λ is. other (sym is))))
+            (subst (Works entry w (free_at m t)) (sym (blocks_beside s t blocks bs other)) working.works);
+        ready = subst (λ k. IsReadyAt w.checker (plain_place n k)) stream (law w.checker m n s (joined bs) here moves (λ is. other (is ∙ stream)));
+      }
+
+  working_above : (k : ℕ) (entries : List (Option (List ℕ))) (ws : List WorkerValue) → s < k → AreWorking p tries blocks m k entries ws → AreWorking p tries (blocks ++ tagged s bs) n k entries ws
+  working_above k [] [] above working = tt
+  working_above k [] (w ∷ ws) above working = absurd working
+  working_above k (entry ∷ entries) [] above working = absurd working
+  working_above k (entry ∷ entries) (w ∷ ws) above working =
+      (working_beside k entry w (omega arith) (λ is. omega (arith, is, above)) working.0, working_above (k + 1) entries ws (omega arith) working.1)
+
+  -- the turn of the worker at place i, which is now v
+  turn_at : (k i : ℕ) (entries : List (Option (List ℕ))) (ws : List WorkerValue) (d w v : WorkerValue) → 0 < k → s ≡ k + i → i < length ws → get_or ws i d ≡ w
+      → WorksOn w (free_at m s) bs v (free_at n s) → IsReadyAt v.checker (plain_place n s) → v.checker.setting ≡ w.checker.setting
+      → AreWorking p tries blocks m k entries ws → AreWorking p tries (blocks ++ tagged s bs) n k entries (set ws i v)
+  turn_at k i [] [] d w v positive place within is on ready setting working = absurd (omega (arith, within))
+  turn_at k i [] (x ∷ ws) d w v positive place within is on ready setting working = absurd working
+  turn_at k i (entry ∷ entries) [] d w v positive place within is on ready setting working = absurd working
+  turn_at k zero (entry ∷ entries) (x ∷ ws) d w v positive place within is on ready setting working =
+      let here : s ≡ k = omega (arith, place) in
+      let mine : IsWorking p tries blocks m s entry w = subst (λ (y : WorkerValue). IsWorking p tries blocks m s entry y) is (subst (λ t. IsWorking p tries blocks m t entry x) (sym here) working.0) in (
+        subst (λ t. IsWorking p tries (blocks ++ tagged s bs) n t entry v) here (working_on p tries blocks m n s bs entry w v mine on ready setting),
+        working_above (k + 1) entries ws (omega (arith, here)) working.1,
+      )
+  turn_at k (suc i) (entry ∷ entries) (x ∷ ws) d w v positive place within is on ready setting working = (
+    working_beside k entry x positive (λ same. omega (arith, same, place)) working.0,
+    turn_at (k + 1) i entries ws d w v (omega arith) (omega (arith, place)) (omega (arith, within)) is on ready setting working.1,
+  )
+
+-- ---- what a worker has before its turn
+
+-- the worker at place i, where they are counted on from k
+pub working_at : (p : LayoutValue) (tries : ℕ) (blocks : List Block) (m : Plain) (k i : ℕ) (entries : List (Option (List ℕ))) (ws : List WorkerValue) (d w : WorkerValue) → i < length ws → get_or ws i d ≡ w
+    → AreWorking p tries blocks m k entries ws → IsReadyAt w.checker (plain_place m (k + i))
+working_at p tries blocks m k i [] [] d w within is working = absurd (omega (arith, within))
+working_at p tries blocks m k i [] (x ∷ ws) d w within is working = absurd working
+working_at p tries blocks m k i (entry ∷ entries) [] d w within is working = absurd working
+working_at p tries blocks m k zero (entry ∷ entries) (x ∷ ws) d w within is working =
+    let place : k ≡ k + zero = omega arith in
+    subst (λ t. IsReadyAt w.checker (plain_place m t)) place (subst (λ (y : WorkerValue). IsReadyAt y.checker (plain_place m k)) is working.0.ready)
+working_at p tries blocks m k (suc i) (entry ∷ entries) (x ∷ ws) d w within is working =
+    let place : k + 1 + i ≡ k + suc i = omega arith in
+    subst (λ t. IsReadyAt w.checker (plain_place m t)) place (working_at p tries blocks m (k + 1) i entries ws d w (omega (arith, within)) is working.1)
+
+-- the worker of stream i + 1 of a run, whatever run it is
+pub ready_at : (m : Plain) (ws : List WorkerValue) (i : ℕ) (d : WorkerValue) → IsRunning m ws → i < length ws → IsReadyAt (get_or ws i d).checker (plain_place m (i + 1))
+ready_at m ws i d running within =
+    let runs = running.4 in
+    let here = working_at running.1 running.2 runs.blocks m 1 i running.3 ws d (get_or ws i d) within refl runs.workers_are in
+    let place : 1 + i ≡ i + 1 = omega arith in
+    subst (λ t. IsReadyAt (get_or ws i d).checker (plain_place m t)) place here
+
+-- a run goes on by a turn of the worker at place i
+pub runs_more : (law : ReadyBeside) (f : Cnf) (p : LayoutValue) (tries : ℕ) (entries : List (Option (List ℕ))) (m n : Plain) (ws : List WorkerValue) (i : ℕ) (d v : WorkerValue) (bs : List History)
+    → i < length ws → PlainMoves m n (i + 1) (joined bs)
+    → WorksOn (get_or ws i d) (free_at m (i + 1)) bs v (free_at n (i + 1)) → IsReadyAt v.checker (plain_place n (i + 1)) → v.checker.setting ≡ (get_or ws i d).checker.setting
+    → Runs f p tries entries m ws → Runs f p tries entries n (set ws i v)
+runs_more law f p tries entries m n ws i d v bs within moves on ready setting runs =
+    let count : length (set ws i v) ≡ p.streams = omega (arith, length-set {A = WorkerValue}, runs.count) in
+    record {
+      count = count;
+      blocks = runs.blocks ++ tagged (i + 1) bs;
+      map_is = run_more f p runs.blocks m n (i + 1) bs runs.map_is (omega arith, omega (arith, within, runs.count)) moves;
+      workers_are = turn_at law p tries runs.blocks m n (i + 1) bs moves 1 i entries ws d (get_or ws i d) v (omega arith) (omega arith) within refl on ready setting runs.workers_are;
+    }
+
+-- whatever run stood at the start stands after two stretches
+pub goes_twice : (a b c : Plain) (us vs ws : List WorkerValue) → GoesOn a us b vs → GoesOn b vs c ws → GoesOn a us c ws
+goes_twice a b c us vs ws front back f p tries entries runs = back f p tries entries (front f p tries entries runs)
+
+-- so some run stands
+pub running_on : (a b : Plain) (us vs : List WorkerValue) → IsRunning a us → GoesOn a us b vs → IsRunning b vs
+running_on a b us vs running on = (running.0, running.1, running.2, running.3, on running.0 running.1 running.2 running.3 running.4)
+
+-- each worker is over
+pub over_each : (ws : List WorkerValue) → ((k : ℕ) → k < length ws → IsOverAt ws k) → AreOver ws
+over_each [] over = tt
+over_each (w ∷ ws) over = (over zero (omega arith), over_each ws (λ k below. over (suc k) (omega arith)))
+
+-- ---- the reports
+
+report_at_end : (o : Option Ending) (t : Tally) (r : Report) → IsSome o → IfSome o (λ ending. r ≡ report_at t ending) → (ending : Ending) × (o ≡ Some ending) × (r ≡ report_at t ending)
+report_at_end None t r over is = absurd (let none : false ≡ true = over in cc)
+report_at_end (Some ending) t r over is = (ending, refl, is)
+
+reports_more : (ws : List WorkerValue) (rs : List Report) (w : WorkerValue) (r : Report) → HaveReports ws rs → IsOver w → IfSome w.checker.ending (λ ending. r ≡ report_at w.checker.tally ending)
+    → HaveReports (ws ++ w ∷ []) (rs ++ r ∷ [])
+reports_more [] [] w r have over is = (report_at_end w.checker.ending w.checker.tally r over is, tt)
+reports_more [] (x ∷ rs) w r have over is = absurd have
+reports_more (v ∷ ws) [] w r have over is = absurd have
+reports_more (v ∷ ws) (x ∷ rs) w r have over is = (have.0, reports_more ws rs w r have.1 over is)
+
+-- one report more
+pub reports_pushed : (ws : List WorkerValue) (rs ts : List Report) (w : WorkerValue) (r : Report) → ts ≡ rs ++ r ∷ [] → HaveReports ws rs → IsOver w
+    → IfSome w.checker.ending (λ ending. r ≡ report_at w.checker.tally ending) → HaveReports (ws ++ w ∷ []) ts
+reports_pushed ws rs ts w r pushed have over is = subst (HaveReports (ws ++ w ∷ [])) (sym pushed) (reports_more ws rs w r have over is)
+
+-- two lists that map alike, with one element more each
+pub map_more : {A B C : Type 0} (f : A → C) (h : B → C) (xs zs : List A) (ys : List B) (x : A) (y : B) → zs ≡ xs ++ x ∷ [] → map f xs ≡ map h ys → f x ≡ h y → map f zs ≡ map h (ys ++ y ∷ [])
+map_more {A} {B} {C} f h xs zs ys x y is before here =
+    ap (map f) is ∙ map-append f xs (x ∷ []) ∙ ap₂ (λ (l : List C) (c : C). l ++ c ∷ []) before here ∙ sym (map-append h ys (y ∷ []))
+
+-- ---- before the first turn
+
+-- one worker more
+started_more : (p : LayoutValue) (tries k : ℕ) (entries : List (Option (List ℕ))) (ws : List WorkerValue) (entry : Option (List ℕ)) (w : WorkerValue)
+    → AreStarted p tries k entries ws → IsStarted p (k + length ws) tries entry w → AreStarted p tries k (entries ++ entry ∷ []) (ws ++ w ∷ [])
+started_more p tries k [] [] entry w started here = let place : k + 0 ≡ k = omega arith in (subst (λ s. IsStarted p s tries entry w) place here, tt)
+started_more p tries k [] (v ∷ ws) entry w started here = absurd started
+started_more p tries k (other ∷ entries) [] entry w started here = absurd started
+started_more p tries k (other ∷ entries) (v ∷ ws) entry w started here =
+    let place : k + length (v ∷ ws) ≡ k + 1 + length ws = omega arith in
+    (started.0, started_more p tries (k + 1) entries ws entry w started.1 (subst (λ s. IsStarted p s tries entry w) place here))
+
+pub started_pushed : {X : Type 0} (p : LayoutValue) (tries s : ℕ) (f : X → Option (List ℕ)) (xs : List X) (x : X) (ws vs : List WorkerValue) (w : WorkerValue)
+    → vs ≡ ws ++ w ∷ [] → s ≡ length ws + 1 → AreStarted p tries 1 (map f xs) ws → IsStarted p s tries (f x) w → AreStarted p tries 1 (map f (xs ++ x ∷ [])) vs
+started_pushed {X} p tries s f xs x ws vs w pushed place started here =
+    let next : s ≡ 1 + length ws = omega (arith, place) in
+    let more : AreStarted p tries 1 (map f xs ++ f x ∷ []) (ws ++ w ∷ []) = started_more p tries 1 (map f xs) ws (f x) w started (subst (λ k. IsStarted p k tries (f x) w) next here) in
+    subst (AreStarted p tries 1 (map f (xs ++ x ∷ []))) (sym pushed) (subst (λ entries. AreStarted p tries 1 entries (ws ++ w ∷ [])) (sym (map-append f xs (x ∷ []))) more)
+
+-- the first of the rest is the next of those that were taken
+pub taken_first : {X Y C : Type 0} (f : X → C) (h : Y → C) (xs : List X) (x : X) (ys zs : List Y) (y : Y) (all : List C) → ys ≡ y ∷ zs → f x ≡ h y → map f xs ++ map h ys ≡ all → map f (xs ++ x ∷ []) ++ map h zs ≡ all
+taken_first {X} {Y} {C} f h xs x ys zs y all first same before =
+    ap (λ (l : List C). l ++ map h zs) (map-append f xs (x ∷ [])) ∙ append_assoc (map f xs) (f x ∷ []) (map h zs)
+    ∙ ap (λ (c : C). map f xs ++ (c ∷ map h zs)) same ∙ ap (λ (l : List Y). map f xs ++ map h l) (sym first) ∙ before

@@ -1,0 +1,24 @@
+use Rattle.std.proofs.Common.{◌∷◌, subst, arith}
+use Rattle.std.specs.Vec.Iter.{into_iter_items}
+use Rattle.portfolio.specs.Turns.{AreOver}
+use Rattle.portfolio.proofs.TurnsLemmas.{reports_pushed, map_more}
+use Rattle.portfolio.proofs.serial.outcome_of.Goals as goal
+
+pub loop-worker-preserved : goal.loop-worker-preserved
+loop-worker-preserved g c =
+    let now = c.loop-worker in
+    let w = c.in-Some.worker in
+    let parts = c.into_parts-reader in
+    let steps = c.in-Some.ensures.steps in
+    let over : AreOver (w ∷ into_iter_items c.next.new.self) = subst AreOver steps.0 now.invariant.over in
+    let reader = c.push_reserved-in-loop-worker.ensures in
+    record {
+      over = over.1;
+      reports = reports_pushed now.yielded now.reports.items c.push_reserved.new.self.items w parts.result.0 c.push_reserved.ensures.items now.invariant.reports over.0 parts.ensures.report;
+      left = map_more g.R.Source.left (λ v. v.left) now.readers.items c.push_reserved-in-loop-worker.new.self.items now.yielded parts.result.1 w reader.items now.invariant.left parts.ensures.left;
+      failed = map_more g.R.Source.has_failed (λ v. v.has_failed) now.readers.items c.push_reserved-in-loop-worker.new.self.items now.yielded parts.result.1 w reader.items now.invariant.failed parts.ensures.failed;
+      report_count = omega (arith, c.push_reserved.ensures.len, steps.1, now.invariant.report_count);
+      reader_count = omega (arith, reader.len, steps.1, now.invariant.reader_count);
+      report_room = omega (arith, c.push_reserved.ensures.capacity, now.invariant.report_room);
+      reader_room = omega (arith, reader.capacity, now.invariant.reader_room);
+    }

@@ -1,0 +1,16 @@
+use Rattle.std.proofs.Common.{◌≡◌, ◌+◌, map, vec_len, vec_capacity}
+use Rattle.std.specs.Vec.Iter.{into_iter_items, into_iter_len}
+use Rattle.portfolio.specs.Turns.{AreOver, HaveReports}
+use Rattle.portfolio.proofs.serial.outcome_of.Given as goal
+
+abbrev pub invariant-loop-worker : goal.invariant-loop-worker
+invariant-loop-worker g l = record {
+  over : AreOver (into_iter_items l.worker-iterator);
+  reports : HaveReports l.yielded l.reports.items;
+  left : map g.R.Source.left l.readers.items ≡ map (λ w. w.left) l.yielded;
+  failed : map g.R.Source.has_failed l.readers.items ≡ map (λ w. w.has_failed) l.yielded;
+  report_count : vec_len l.reports + into_iter_len l.worker-iterator ≡ vec_len l.fn.workers;
+  reader_count : vec_len l.readers + into_iter_len l.worker-iterator ≡ vec_len l.fn.workers;
+  report_room : vec_capacity l.reports ≡ vec_capacity l.initial.reports;
+  reader_room : vec_capacity l.readers ≡ vec_capacity l.initial.readers;
+}
