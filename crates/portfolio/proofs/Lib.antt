@@ -1,3 +1,4 @@
 pub mod EmptyLemmas
 pub mod JoiningLemmas
 pub mod TurnsLemmas
+pub mod WorkingLemmas

@@ -1,5 +1,6 @@
 //! One stream at work.
-ghost use Rattle.std.specs.Prelude.{◌≡◌, ◌↔◌, ◌≤◌, false, List, None, IfOk, IfSome, IsSome, IsTrue};
+ghost use Rattle.std.specs.Prelude.{◌≡◌, ◌↔◌, ◌≤◌, ℕ, false, List, [], None, IfOk, IfSome, IsSome, IsTrue};
+ghost use Rattle.std.specs.Bool.{OnTrue, OnFalse};
 ghost use Rattle.lrup_model.specs.Event.{History};
 ghost use Rattle.lrup_model.specs.Layout.{IsStream};
 ghost use Rattle.stream_check.specs.Checker.{IsReadyAt, report_at};
@@ -87,13 +88,10 @@ impl<R: Source + Drop, G: Gate + Drop> Worker<R, G> {
         ensures setting { self.new.checker.setting ≡ self.old.checker.setting }
     {
         for _ in wait.forever() {
-            if self.from == self.to && !self.read() {
+            if !self.read() {
                 return;
             }
-            let piece = &self.buffer[self.from..self.to];
-            let progress = self.checker.feed(map, &mut self.gate, piece);
-            self.from += progress.used;
-            if progress.turn != Turn::More {
+            if self.feed(map) != Turn::More {
                 return;
             }
         }
@@ -102,8 +100,16 @@ impl<R: Source + Drop, G: Gate + Drop> Worker<R, G> {
     /// Reads the next piece, where all bytes were taken. The end, or a read that failed, ends the checker: then the answer is
     /// false.
     fn read(&mut self) -> bool
-        requires going { self.old.checker.ending ≡ None }
+        requires { self.old.checker.ending ≡ None }
+        ensures works { (room : ℕ) → WorksOn self.old room [] self.new room }
+        ensures going { OnTrue result (self.new.checker.ending ≡ None) }
+        ensures over { OnFalse result (IsSome self.new.checker.ending) }
+        ensures last { self.new.checker.last ≡ self.old.checker.last }
+        ensures setting { self.new.checker.setting ≡ self.old.checker.setting }
     {
+        if self.from < self.to {
+            return true;
+        }
         match self.reader.read(&mut self.buffer) {
             Ok(0) => {
                 self.checker.end();
@@ -119,6 +125,22 @@ impl<R: Source + Drop, G: Gate + Drop> Worker<R, G> {
                 false
             }
         }
+    }
+
+    /// Lets the checker take of the bytes that were read.
+    fn feed<M: ClauseMap>(&mut self, map: &mut M) -> Turn
+        requires ready { IsReadyAt self.old.checker (M.place map.old) }
+        requires going { self.old.checker.ending ≡ None }
+        ensures works { (blocks : List History) × M.moves map.old map.new (joined blocks)
+            × WorksOn self.old (M.place map.old).room blocks self.new (M.place map.new).room }
+        ensures going { result ≡ Turn.More → self.new.checker.ending ≡ None }
+        ensures ready { IsReadyAt self.new.checker (M.place map.new) }
+        ensures setting { self.new.checker.setting ≡ self.old.checker.setting }
+    {
+        let piece = &self.buffer[self.from..self.to];
+        let progress = self.checker.feed(map, &mut self.gate, piece);
+        self.from += progress.used;
+        progress.turn
     }
 
     /// What is said of the stream, and its reader.

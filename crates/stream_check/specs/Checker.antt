@@ -134,7 +134,8 @@ pub record IsNew (layout : LayoutValue) (stream tries : ℕ) (v : CheckerValue) 
   pub left : Leaves v.setting [] [] (state_of v layout.room)
 
 abbrev pub EndsBy : Option Ending → StreamEnd → CheckerValue → CheckerValue → Type 0
-EndsBy None end old new = (new.setting ≡ old.setting) × (new.tally ≡ old.tally) × (new.ending ≡ Some (ending_at end old.pending old.line))
+EndsBy None end old new =
+    (new.setting ≡ old.setting) × (new.tally ≡ old.tally) × (new.ending ≡ Some (ending_at end old.pending old.line)) × (new.last ≡ old.last)
 EndsBy (Some ending) end old new = new ≡ old
 
 -- the end of the stream, or a failed read, ends a checker that isn't over

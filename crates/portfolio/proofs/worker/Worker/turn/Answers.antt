@@ -1,0 +1,43 @@
+use Rattle.std.proofs.Common.{◌++◌, ◌∙◌, [], refl, subst, rules}
+use Rattle.portfolio.proofs.WorkingLemmas.{joined-append, works_none, works_turn}
+use Rattle.portfolio.proofs.worker.Worker.turn.Goals as goal
+
+pub loop-init : goal.loop-init
+loop-init g c = record {
+  going = c.requires.going;
+  ready = c.requires.ready;
+  setting = refl;
+  works = ([], g.met.M.ClauseMap.moves_none c.args.map.now, works_none c.args.self.now (g.M.ClauseMap.place c.args.map.now).room);
+}
+
+pub returns-then-ne-clause-works : goal.returns-then-ne-clause-works
+returns-then-ne-clause-works g c =
+    let start = c.args.map.now in
+    let mid = c.loop.map in
+    let end = c.feed.new.map in
+    let old = c.loop.invariant.works in
+    let fed = c.feed.ensures.works in
+    let room = (g.M.ClauseMap.place mid).room in (
+      old.0 ++ fed.0,
+      subst (g.M.ClauseMap.moves start end) (joined-append old.0 fed.0) (g.met.M.ClauseMap.moves_append start mid end _ _ old.1 fed.1),
+      works_turn c.args.self.now c.loop.self c.read.new.self c.feed.new.self (g.M.ClauseMap.place start).room room (g.M.ClauseMap.place end).room old.0 fed.0 old.2 (c.read.ensures.works room) fed.2,
+    )
+
+pub loop-preserved : goal.loop-preserved
+loop-preserved g c =
+    let start = c.args.map.now in
+    let mid = c.loop.map in
+    let end = c.feed.new.map in
+    let old = c.loop.invariant.works in
+    let fed = c.feed.ensures.works in
+    let room = (g.M.ClauseMap.place mid).room in
+    record {
+      going = search rules;
+      ready = c.feed.ensures.ready;
+      setting = c.feed.ensures.setting ∙ c.read.ensures.setting ∙ c.loop.invariant.setting;
+      works = (
+        old.0 ++ fed.0,
+        subst (g.M.ClauseMap.moves start end) (joined-append old.0 fed.0) (g.met.M.ClauseMap.moves_append start mid end _ _ old.1 fed.1),
+        works_turn c.args.self.now c.loop.self c.read.new.self c.feed.new.self (g.M.ClauseMap.place start).room room (g.M.ClauseMap.place end).room old.0 fed.0 old.2 (c.read.ensures.works room) fed.2,
+      );
+    }

@@ -1,0 +1,17 @@
+use Rattle.std.proofs.Common.{◌≡◌, List, None}
+use Rattle.lrup_model.specs.Event.{History}
+use Rattle.stream_check.specs.Checker.{IsReadyAt}
+use Rattle.stream_check.specs.Judging.{joined}
+use Rattle.portfolio.specs.Working.{WorksOn}
+use Rattle.portfolio.proofs.worker.Worker.turn.Given as goal
+
+abbrev pub invariant-loop : goal.invariant-loop
+invariant-loop g l =
+    let p = g.M.ClauseMap.place l.fn.map in
+    let q = g.M.ClauseMap.place l.map in
+    record {
+      going : l.self.checker.ending ≡ None;
+      ready : IsReadyAt l.self.checker q;
+      setting : l.self.checker.setting ≡ l.fn.self.checker.setting;
+      works : (blocks : List History) × g.M.ClauseMap.moves l.fn.map l.map (joined blocks) × WorksOn l.fn.self p.room blocks l.self q.room;
+    }
