@@ -1,4 +1,5 @@
 pub mod EmptyLemmas
+pub mod HeadlineLemmas
 pub mod JoiningLemmas
 pub mod TurnsLemmas
 pub mod WorkingLemmas

@@ -3,6 +3,7 @@
 
 mod options;
 mod outcome;
+mod pause;
 mod report_text;
 mod serial;
 #[cfg(test)]
@@ -11,6 +12,8 @@ mod threads;
 mod worker;
 
 pub use options::Options;
-pub use outcome::{RunFault, SerialOutcome, Verdict};
+pub use outcome::{Outcome, RunFault, SerialOutcome, Verdict};
+pub use pause::Pause;
 pub use report_text::write_report;
 pub use serial::run_serial;
+pub use threads::run;

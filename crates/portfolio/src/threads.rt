@@ -1,17 +1,105 @@
 //! A run with a thread for each stream.
-ghost use Rattle.std.specs.Prelude.{◌≡◌, ◌<◌, ◌≤◌, [], IfErr, IfOk, IfSome, OnOk, map, vec_capacity, vec_len};
-ghost use Rattle.clause_store.specs.Passes.{store_of};
+ghost use Rattle.std.specs.Prelude.{◌≡◌, ◌<◌, ◌≤◌, false, ℕ, List, [], Err, IfErr, IfOk, IfSome, OnOk, length, map, vec_capacity, vec_len};
+ghost use Rattle.std.specs.List.{AllByRecursion};
+ghost use Rattle.lrup_model.specs.Entailment.{IsUnsatisfiable};
+ghost use Rattle.lrup_model.specs.Layout.{IsStream};
+ghost use Rattle.lrup_model.specs.Pass.{AreMet};
+ghost use Rattle.clause_store.specs.Passes.{AreOf, HaveMet, store_of, views};
+ghost use Rattle.portfolio.specs.Headline.{AreJudgedBy, HaveOneHistory};
 ghost use Rattle.portfolio.specs.Joining.{AllCanBegin, AllFinish, CanBegin, Finishes};
+ghost use Rattle.portfolio.specs.Outcomes.{IsLayoutFault, IsVerdictOf, layout_of};
+ghost use Rattle.portfolio.specs.Streams.{AreTold, Stream};
 
+use crate::options::Options;
+use crate::outcome::{Outcome, RunFault, Verdict};
+use crate::serial::workers_of;
 use crate::worker::Worker;
 use clause_store::{Desk, Pass, Store};
+use lrup_model::Formula;
 use lrup_text::Source;
+use std::alloc::{AllocError, Global};
 use std::marker::Model;
 use std::snapshot::Snapshot;
 use std::sync::Wait;
 use std::thread;
 use std::thread::{Promise, PromisedHandle, Scope, Threads};
 use stream_check::{Gate, Report};
+
+/// Checks the streams that the readers give, each in a thread of its own, against one store of clauses. As many gates are wanted
+/// as readers. All memory is taken before the first thread starts, but for the identities that streams drop. It returns when all
+/// threads have ended, so it blocks while a reader does.
+pub fn run<T: Threads + Wait + Sync, R: Source + Send + Drop, G: Gate + Send + Drop>(
+    threads: &T,
+    alloc: Global,
+    formula: &Formula,
+    options: Options,
+    readers: Vec<R>,
+    gates: Vec<G>,
+) -> Result<Outcome<R>, RunFault>
+    requires gates { vec_len gates ≡ vec_len readers }
+    requires running { AllByRecursion (λ r. R.has_failed r ≡ false) readers.items }
+    // The layout alone decides whether there is one: before anything is taken or read.
+    ensures layout { IsLayoutFault result (layout_of options formula.now (length readers.items)) }
+    ensures spawn { (stream : ℕ) → result ≡ Err (RunFault.Spawn stream)
+        → IsStream (layout_of options formula.now (length readers.items)) stream }
+    // One legal history has each stream's calls once, in its order, with the replies that it got.
+    ensures history { IfOk result (λ outcome. HaveOneHistory formula.now
+        (layout_of options formula.now (length readers.items)) (views outcome.passes.items)) }
+    // Each stream is what its reader told, and its report is the judgement of its bytes and its calls.
+    ensures reports { IfOk result (λ outcome. (streams : List Stream)
+        × AreTold (map R.left readers.items) (map R.left outcome.readers.items)
+        (map R.has_failed outcome.readers.items) streams
+        × AreJudgedBy (layout_of options formula.now (length readers.items)) options.tries 1 streams
+        (views outcome.passes.items) outcome.reports.items) }
+    ensures verdict { IfOk result (λ outcome. IsVerdictOf outcome.reports.items outcome.verdict) }
+    // What a user relies on.
+    ensures sound { IfOk result (λ outcome. outcome.verdict ≡ Verdict.Unsatisfiable → IsUnsatisfiable formula.now) }
+{
+    let layout = options.layout(formula, readers.len())?;
+    let (store, passes) = Store::open(alloc, formula, layout)?;
+    let workers = workers_of(alloc, &layout, options.tries(), readers, gates)?;
+    let Room {
+        handles,
+        found,
+        reports,
+        met,
+        readers,
+    } = room_for(alloc, workers.len())?;
+    match run_workers(threads, &store, workers, passes, handles, found) {
+        Ok(found) => Ok(outcome_of(&store, found, reports, met, readers)),
+        Err(stream) => Err(RunFault::Spawn(stream)),
+    }
+}
+
+/// Lists, still empty, of what a run gathers of its streams.
+#[derive(Drop)]
+struct Room<R: Source + Drop, G: Gate + Drop> {
+    handles: Vec<PromisedHandle<Found<R>, Task<R, G>>>,
+    found: Vec<Found<R>>,
+    reports: Vec<Report>,
+    met: Vec<Pass>,
+    readers: Vec<R>,
+}
+
+/// Room for so many streams.
+fn room_for<R: Source + Drop, G: Gate + Drop>(
+    alloc: Global,
+    count: usize,
+) -> Result<Room<R, G>, AllocError>
+    ensures handles { IfOk result (λ room. (room.handles.items ≡ []) × (vec_capacity room.handles ≡ count)) }
+    ensures found { IfOk result (λ room. (room.found.items ≡ []) × (vec_capacity room.found ≡ count)) }
+    ensures reports { IfOk result (λ room. (room.reports.items ≡ []) × (vec_capacity room.reports ≡ count)) }
+    ensures met { IfOk result (λ room. (room.met.items ≡ []) × (vec_capacity room.met ≡ count)) }
+    ensures readers { IfOk result (λ room. (room.readers.items ≡ []) × (vec_capacity room.readers ≡ count)) }
+{
+    Ok(Room {
+        handles: Vec::with_capacity(alloc, count)?,
+        found: Vec::with_capacity(alloc, count)?,
+        reports: Vec::with_capacity(alloc, count)?,
+        met: Vec::with_capacity(alloc, count)?,
+        readers: Vec::with_capacity(alloc, count)?,
+    })
+}
 
 /// What a worker's thread gives back.
 #[derive(Drop)]
@@ -194,4 +282,44 @@ fn run_workers<T: Threads + Wait + Sync, R: Source + Send + Drop, G: Gate + Send
             ensures spawn { IfErr result (λ stream. (0 < stream) × (stream ≤ vec_len workers)) }
         { start_and_join(scope, threads, store, workers, passes, handles, found) },
     )
+}
+
+/// What is said of the streams, whose threads have ended. All passes meet.
+fn outcome_of<R: Source + Drop>(
+    store: &Store,
+    found: Vec<Found<R>>,
+    mut reports: Vec<Report>,
+    mut passes: Vec<Pass>,
+    mut readers: Vec<R>,
+) -> Outcome<R>
+    requires store { AreOf store.now (map (λ f. f.pass) found.items) }
+    requires none { (reports.items ≡ []) × (passes.items ≡ []) × (readers.items ≡ []) }
+    requires reports { vec_len found ≤ vec_capacity reports }
+    requires passes { vec_len found ≤ vec_capacity passes }
+    requires readers { vec_len found ≤ vec_capacity readers }
+    ensures reports { result.reports.items ≡ map (λ f. f.report) found.items }
+    ensures left { map R.left result.readers.items ≡ map (λ f. f.left) found.items }
+    ensures failed { map R.has_failed result.readers.items ≡ map (λ f. f.has_failed) found.items }
+    ensures met { AreMet (views (map (λ f. f.pass) found.items)) (views result.passes.items) }
+    ensures one { HaveMet (views result.passes.items) }
+    ensures verdict { IsVerdictOf result.reports.items result.verdict }
+{
+    for one in found {
+        let Found {
+            report,
+            reader,
+            pass,
+        } = one;
+        reports.push_reserved(report);
+        passes.push_reserved(pass);
+        readers.push_reserved(reader);
+    }
+    store.meet_all(&mut passes);
+    let verdict = Verdict::of(&reports);
+    Outcome {
+        reports,
+        verdict,
+        passes,
+        readers,
+    }
 }
