@@ -7,7 +7,6 @@ pub mod Rests
 pub mod Steps
 pub mod Streams
 pub mod TextLaws
-pub mod Puts
 pub mod LineTexts
 pub mod WholeLines
 pub mod Ahead

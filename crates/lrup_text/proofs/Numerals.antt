@@ -1,5 +1,5 @@
 -- The decimal text of a number of at most 18 digits.
-use Rattle.std.proofs.Common.{add-one, ◌≡◌, ℕ, suc, zero, ◌+◌, ◌-◌, ◌*◌, ◌/◌, ◌%◌, ◌^◌, ◌<◌, ◌≤◌, List, [], ◌∷◌, ◌++◌, length, get_or, map, refl, sym, ◌∙◌, ap, subst, arith}
+use Rattle.std.proofs.Common.{◌≡◌, ℕ, ◌+◌, ◌-◌, ◌*◌, ◌/◌, ◌%◌, ◌^◌, ◌<◌, ◌≤◌, List, [], ◌∷◌, ◌++◌, length, get_or, map, sym, ◌∙◌, ap, subst, arith}
 use Rattle.std.specs.Fmt.{decimal}
 use Rattle.std.specs.Int.Digits.{digits_of}
 use Rattle.std.specs.List.{AllByRecursion}
@@ -54,21 +54,3 @@ pub number_word : (n : ℕ) → 0 < n → n < 10 ^ 18 → SpellsNumber 18 (decim
 number_word n some few =
     subst (SpellsNumber 18) (sym (decimal-digits_of n some (omega arith)))
     (digits_word (digits_of 10 n) (all_below_base_digits_of 10 n (omega arith)) (first_digits_of 10 n (omega arith) some) (length-digits_of-le 10 18 n (omega arith) few))
-
--- a number without its last digit, and that digit
-pub decimal_split : (n : ℕ) → 10 ≤ n → n < 2 ^ 64 → decimal n ≡ decimal (n / 10) ++ (48 + n % 10) ∷ []
-decimal_split n many fits =
-    let is : n / 10 * 10 + n % 10 ≡ n = omega arith in
-    ap decimal (sym is) ∙ decimal_more (n / 10) (n % 10) (omega arith) (omega arith) (omega arith)
-
--- it has a digit less
-pub digits_less : (n : ℕ) (k : ℕ) → 10 ≤ n → n < 10 ^ k → (less : ℕ) × (k ≡ less + 1) × (n / 10 < 10 ^ less)
-digits_less n zero many high = absurd (omega arith)
-digits_less n (suc k) many high =
-    let more : 10 ^ (k + 1) ≡ 10 ^ k * 10 = pow_more 10 k in
-    let high' : n < 10 ^ (k + 1) = rw add-one high in
-    (k, rw add-one refl, omega arith)
-
-pub some_digit : (n k : ℕ) → 0 < n → n < 10 ^ k → 0 < k
-some_digit n zero some high = let below : n < 1 = high in absurd (omega arith)
-some_digit n (suc k) some high = omega arith

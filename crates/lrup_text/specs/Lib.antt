@@ -8,4 +8,5 @@ pub mod Lines
 pub mod Reading
 pub mod Rests
 pub mod Writing
+pub mod WritingLemmas
 pub mod Kernel

@@ -15,7 +15,7 @@ pub use device::{ReadFault, Reading, Sink, Source, WriteFault, Writing};
 use machine::{MOST_IDENTITIES, MOST_LITERALS, MOST_NUMBER};
 pub use reader::{End, Fed, LineReader, Turn};
 use thiserror::Error;
-pub use writer::write_line;
+pub use writer::{WriteBuffer, write_all, write_line};
 
 /// A line of a stream, lent by whoever keeps its lists.
 #[derive(Clone, Copy, Debug, PartialEq, Eq)]

@@ -2,8 +2,8 @@
 ghost use Rattle.std.specs.Prelude.{◌≡◌, Some, IfOk};
 
 use crate::{
-    End, Line, LineFault, LineReader, ReadFault, Reading, Sink, Source, Turn, WriteFault, Writing,
-    write_line,
+    End, Line, LineFault, LineReader, ReadFault, Reading, Sink, Source, Turn, WriteBuffer,
+    WriteFault, Writing, write_all, write_line,
 };
 use std::alloc::Global;
 use std::io;
@@ -392,6 +392,24 @@ fn writes(rt: HostRuntime) -> Result<(), Fail> {
     Ok(())
 }
 
+#[test]
+fn texts_are_written(rt: HostRuntime) -> Result<(), Fail> {
+    let mut sink = Writing::new(Vec::new(rt.alloc()));
+    let mut buffer = WriteBuffer::new();
+    write_all(b"numbers: ", &mut sink)?;
+    buffer.put_number(0, &mut sink)?;
+    buffer.put(b", ", &mut sink)?;
+    buffer.put_number(10, &mut sink)?;
+    buffer.put(b", ", &mut sink)?;
+    buffer.put_number(u64::MAX, &mut sink)?;
+    buffer.flush(&mut sink)?;
+    assert_eq!(rt;
+        sink.into_inner().as_slice(),
+        b"numbers: 0, 10, 18446744073709551615".as_slice()
+    );
+    Ok(())
+}
+
 /// A tape that is read two bytes at a time, and may break at its end.
 #[derive(Drop)]
 struct Tape<'a> {
@@ -573,6 +591,23 @@ fn long_lines_are_written_up_to_a_fault(rt: HostRuntime) -> Result<(), Fail> {
         assert_eq!(rt; sink.failed(), fails_at > 0);
         let calls = sink.into_inner().calls;
         assert!(rt; calls > 1_000 || calls == fails_at);
+    }
+    Ok(())
+}
+
+#[test]
+fn buffers_write_512_bytes_at_a_time(rt: HostRuntime) -> Result<(), Fail> {
+    let bytes = vec![in rt.alloc(); b'x'; 1_300]?;
+    for (fails_at, calls) in [(0usize, 3), (1, 1), (2, 2), (3, 3)] {
+        let mut sink = Writing::new(FailsOnce::new(fails_at));
+        let mut buffer = WriteBuffer::new();
+        let wrote = match buffer.put(&bytes, &mut sink) {
+            Ok(()) => buffer.flush(&mut sink),
+            Err(fault) => Err(fault),
+        };
+        assert_eq!(rt; wrote.is_err(), fails_at > 0);
+        assert_eq!(rt; sink.failed(), fails_at > 0);
+        assert_eq!(rt; sink.into_inner().calls, calls);
     }
     Ok(())
 }

@@ -1,9 +1,8 @@
-//! Writes lines.
-ghost use Rattle.std.specs.Prelude.{◌≡◌, ◌<◌, ◌≤◌, ◌+◌, [], ◌∷◌, ◌++◌, length, false, is_err, map, IsTrue, ◌↔◌};
+//! Writes texts and lines.
+ghost use Rattle.std.specs.Prelude.{◌≡◌, ◌<◌, ◌≤◌, ◌+◌, [], ◌∷◌, ◌++◌, length, false, is_err, map, IsTrue, ◌↔◌, OnErr};
 ghost use Rattle.std.specs.Fmt.{decimal, signed_decimal};
-ghost use Rattle.std.specs.List.{AllByRecursion};
 ghost use Rattle.lrup_text.specs.Grammar.{list_text, space};
-ghost use Rattle.lrup_text.specs.Lines.{line_of, line_text, IsWithinLimits, IsStreamNumber, IsStreamLiteral};
+ghost use Rattle.lrup_text.specs.Lines.{line_of, line_text, IsWithinLimits};
 ghost use Rattle.lrup_text.specs.Reading.{literals_text};
 ghost use Rattle.lrup_text.specs.Writing.{PutsAll, WritesText};
 
@@ -13,8 +12,8 @@ use std::marker::Model;
 /// The bytes of a number's text, and of what stands around it.
 const WORD: usize = 24;
 
-/// The bytes that are held back for one write.
-const CHUNK: usize = 512;
+/// The bytes that a buffer holds at most.
+const CAPACITY: usize = 512;
 
 /// A short text that is made from its end.
 #[derive(Drop)]
@@ -45,7 +44,6 @@ impl Word {
 
     /// A line's first number, and the space after it.
     fn lead(number: u64) -> Word
-        requires { IsStreamNumber number }
         ensures text { result ≡ decimal number ++ space ∷ [] }
         ensures room { length result < 24 }
     {
@@ -57,7 +55,6 @@ impl Word {
 
     /// A literal, and the space after it.
     fn literal(literal: i64) -> Word
-        requires { IsStreamLiteral literal }
         ensures { result ≡ signed_decimal literal ++ space ∷ [] }
     {
         let mut word = Word::lead(literal.unsigned_abs());
@@ -69,7 +66,6 @@ impl Word {
 
     /// An item of a list, and the space before it.
     fn item(number: u64) -> Word
-        requires { IsStreamNumber number }
         ensures { result ≡ space ∷ decimal number }
     {
         let mut word = Word::new();
@@ -94,10 +90,9 @@ impl Word {
 
     /// Puts a number's decimal text in front.
     fn push_number(&mut self, number: u64)
-        requires positive { IsStreamNumber number }
-        requires room { length self.old ≤ 6 }
+        requires { length self.old ≤ 4 }
         ensures text { self.new ≡ decimal number ++ self.old }
-        ensures room { length self.new ≤ length self.old + 18 }
+        ensures room { length self.new ≤ length self.old + 20 }
     {
         let mut rest = number;
         while rest >= 10 {
@@ -108,14 +103,14 @@ impl Word {
     }
 }
 
-/// Bytes on their way to a sink.
+/// Bytes on their way to a sink. Up to 512 of them are held, so that many short texts make few writes.
 #[derive(Drop)]
-struct Chunk {
-    bytes: [u8; CHUNK],
+pub struct WriteBuffer {
+    bytes: [u8; CAPACITY],
     len: usize,
 }
 
-impl Model for Chunk {
+impl Model for WriteBuffer {
     ghost use Rattle.std.specs.Prelude.{List, ℕ, ◌≤◌, take};
 
     ghost Value = { List ℕ };
@@ -125,18 +120,19 @@ impl Model for Chunk {
     ghost invariant = { λ c. c.len ≤ 512 };
 }
 
-impl Chunk {
-    fn new() -> Chunk
+impl WriteBuffer {
+    /// A buffer that holds nothing.
+    pub fn new() -> WriteBuffer
         ensures { result ≡ [] }
     {
-        Chunk {
-            bytes: [0; CHUNK],
+        WriteBuffer {
+            bytes: [0; CAPACITY],
             len: 0,
         }
     }
 
-    /// Sends all that is held to the sink.
-    fn flush<W: Sink>(&mut self, sink: &mut W) -> Result<(), WriteFault>
+    /// Writes all that is held. After a fault, a beginning of it went out, and nothing is held.
+    pub fn flush<W: Sink>(&mut self, sink: &mut W) -> Result<(), WriteFault>
         requires { W.has_failed sink.old ≡ false }
         ensures text { WritesText result (W.written sink.old) (W.written sink.new) self.old }
         ensures failed { W.has_failed sink.new ≡ is_err result }
@@ -151,7 +147,7 @@ impl Chunk {
         ensures full { IsTrue result ↔ (length self.now ≡ 512) }
         ensures bound { length self.now ≤ 512 }
     {
-        self.len == CHUNK
+        self.len == CAPACITY
     }
 
     fn push(&mut self, byte: u8)
@@ -168,6 +164,7 @@ impl Chunk {
         ensures puts { PutsAll result (W.written sink.old) (W.written sink.new)
             self.old self.new (byte ∷ []) }
         ensures failed { W.has_failed sink.new ≡ is_err result }
+        ensures empty { OnErr result (self.new ≡ []) }
     {
         if self.is_full() {
             self.flush(sink)?;
@@ -176,12 +173,14 @@ impl Chunk {
         Ok(())
     }
 
-    /// Puts bytes after those that are held, which may go out.
-    fn put<W: Sink>(&mut self, bytes: &[u8], sink: &mut W) -> Result<(), WriteFault>
+    /// Puts bytes after those that are held, which may go out. After a fault, what went out is a beginning of all these,
+    /// and nothing is held.
+    pub fn put<W: Sink>(&mut self, bytes: &[u8], sink: &mut W) -> Result<(), WriteFault>
         requires { W.has_failed sink.old ≡ false }
         ensures puts { PutsAll result (W.written sink.old) (W.written sink.new)
             self.old self.new bytes.now }
         ensures failed { W.has_failed sink.new ≡ is_err result }
+        ensures empty { OnErr result (self.new ≡ []) }
     {
         for byte in bytes {
             self.put_byte(*byte, sink)?;
@@ -189,10 +188,22 @@ impl Chunk {
         Ok(())
     }
 
+    /// Puts a number in decimal, as `put` does.
+    pub fn put_number<W: Sink>(&mut self, number: u64, sink: &mut W) -> Result<(), WriteFault>
+        requires { W.has_failed sink.old ≡ false }
+        ensures puts { PutsAll result (W.written sink.old) (W.written sink.new)
+            self.old self.new (decimal number) }
+        ensures failed { W.has_failed sink.new ≡ is_err result }
+        ensures empty { OnErr result (self.new ≡ []) }
+    {
+        let mut word = Word::new();
+        word.push_number(number);
+        self.put(word.bytes(), sink)
+    }
+
     /// Puts literals, and a space after each.
     fn put_literals<W: Sink>(&mut self, lits: &[i64], sink: &mut W) -> Result<(), WriteFault>
-        requires running { W.has_failed sink.old ≡ false }
-        requires fits { AllByRecursion IsStreamLiteral lits.now }
+        requires { W.has_failed sink.old ≡ false }
         ensures puts { PutsAll result (W.written sink.old) (W.written sink.new)
             self.old self.new (literals_text lits.now) }
         ensures failed { W.has_failed sink.new ≡ is_err result }
@@ -205,8 +216,7 @@ impl Chunk {
 
     /// Puts the items of a list, each after a space, and the end of the line.
     fn put_list<W: Sink>(&mut self, ids: &[u64], sink: &mut W) -> Result<(), WriteFault>
-        requires running { W.has_failed sink.old ≡ false }
-        requires fits { AllByRecursion IsStreamNumber ids.now }
+        requires { W.has_failed sink.old ≡ false }
         ensures puts { PutsAll result (W.written sink.old) (W.written sink.new)
             self.old self.new (list_text (map decimal ids.now)) }
         ensures failed { W.has_failed sink.new ≡ is_err result }
@@ -219,8 +229,7 @@ impl Chunk {
 
     /// Puts the first number of a line.
     fn put_lead<W: Sink>(&mut self, lead: u64, sink: &mut W) -> Result<(), WriteFault>
-        requires running { W.has_failed sink.old ≡ false }
-        requires fits { IsStreamNumber lead }
+        requires { W.has_failed sink.old ≡ false }
         ensures puts { PutsAll result (W.written sink.old) (W.written sink.new)
             self.old self.new (decimal lead ++ space ∷ []) }
         ensures failed { W.has_failed sink.new ≡ is_err result }
@@ -230,8 +239,7 @@ impl Chunk {
 
     /// Puts a whole line.
     fn put_line<W: Sink>(&mut self, line: &Line, sink: &mut W) -> Result<(), WriteFault>
-        requires running { W.has_failed sink.old ≡ false }
-        requires fits { IsWithinLimits (line_of line.now) }
+        requires { W.has_failed sink.old ≡ false }
         ensures puts { PutsAll result (W.written sink.old) (W.written sink.new)
             self.old self.new (line_text (line_of line.now)) }
         ensures failed { W.has_failed sink.new ≡ is_err result }
@@ -252,8 +260,8 @@ impl Chunk {
     }
 }
 
-/// Writes all bytes of a slice.
-fn write_all<W: Sink>(bytes: &[u8], sink: &mut W) -> Result<(), WriteFault>
+/// Writes all bytes of a slice. After a fault, what went out is a beginning of them.
+pub fn write_all<W: Sink>(bytes: &[u8], sink: &mut W) -> Result<(), WriteFault>
     requires { W.has_failed sink.old ≡ false }
     ensures text { WritesText result (W.written sink.old) (W.written sink.new) bytes.now }
     ensures failed { W.has_failed sink.new ≡ is_err result }
@@ -273,7 +281,7 @@ pub fn write_line<W: Sink>(line: &Line, sink: &mut W) -> Result<(), WriteFault>
         (line_text (line_of line.now)) }
     ensures failed { W.has_failed sink.new ≡ is_err result }
 {
-    let mut chunk = Chunk::new();
-    chunk.put_line(line, sink)?;
-    chunk.flush(sink)
+    let mut buffer = WriteBuffer::new();
+    buffer.put_line(line, sink)?;
+    buffer.flush(sink)
 }

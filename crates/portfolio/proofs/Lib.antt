@@ -1,5 +1,6 @@
 pub mod EmptyLemmas
 pub mod HeadlineLemmas
 pub mod JoiningLemmas
+pub mod ReportLines
 pub mod TurnsLemmas
 pub mod WorkingLemmas

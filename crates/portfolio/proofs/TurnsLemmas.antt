@@ -1,10 +1,11 @@
 -- A run on one thread: before the first turn, after one more, and when all streams are over.
-use Rattle.std.proofs.Common.{◌≡◌, ◌≢◌, IsSome, IfSome, ℕ, zero, suc, ◌+◌, ◌-◌, ◌<◌, ◌≤◌, Bool, true, false, cond, eqb, List, [], ◌∷◌, ◌++◌, length, get_or, set, replicate, map, Option, Some, None, refl, sym, ap, ap₂, subst, ◌∙◌, inl, inr, arith, length-set, eq-eqb, ne_eqb}
-use Rattle.std.specs.Prelude.{◌==◌}
-use Rattle.std.specs.List.{AllByRecursion, sum_by}
-use Rattle.std.proofs.lemmas.Bool.{cases_eq, cases_lt, cond-true, cond-false}
-use Rattle.std.proofs.lemmas.List.{append-nil, append_assoc, map-append, get_or-replicate}
+use Rattle.std.proofs.Common.{◌≡◌, ◌≢◌, IsSome, IfSome, ℕ, zero, suc, ◌+◌, ◌-◌, ◌<◌, ◌≤◌, Bool, true, false, cond, eqb, List, [], ◌∷◌, ◌++◌, length, get_or, set, take, replicate, map, Option, Some, None, refl, sym, ap, ap₂, subst, ◌∙◌, inl, inr, arith, length-set, eq-eqb, ne_eqb}
+use Rattle.std.specs.Prelude.{◌||◌, IsTrue}
+use Rattle.std.specs.List.{AllByRecursion, list_any, sum_by}
+use Rattle.std.proofs.lemmas.Bool.{cases_Bool, cases_eq, cases_lt, cond-true, cond-false}
+use Rattle.std.proofs.lemmas.List.{append-nil, append_assoc, map-append, get_or-replicate, take-append-le, take_all}
 use Rattle.std.proofs.lemmas.Grind.{flat_map-append}
+use Rattle.lrup_model.specs.Entailment.{IsUnsatisfiable}
 use Rattle.lrup_model.specs.Formula.{Cnf}
 use Rattle.lrup_model.specs.Layout.{LayoutValue, Fits, Owns, IsStream}
 use Rattle.lrup_model.specs.Event.{History, Event, stream_of, own, size_of, spent}
@@ -20,7 +21,8 @@ use Rattle.stream_check.specs.Standing.{Tally}
 use Rattle.stream_check.specs.Judging.{joined}
 use Rattle.stream_check.specs.Checker.{IsReadyAt, report_at}
 use Rattle.stream_check.specs.Laws.{ReadyBeside}
-use Rattle.portfolio.specs.Streams.{Stream, AreTold, JudgesStream, Block, blocks_of, events_in, IsBlockWithin, setting_of, AreJudged, IsOrdered}
+use Rattle.portfolio.proofs.EmptyLemmas.{sound_in_order}
+use Rattle.portfolio.specs.Streams.{Stream, IsTold, AreTold, JudgesStream, Block, blocks_of, events_in, IsBlockWithin, setting_of, AreJudged, IsOrdered}
 use Rattle.portfolio.specs.Working.{WorkerValue, WorksBy, Works, WorksOn, IsStarted}
 use Rattle.portfolio.specs.Turns.{HasRun, IsWorking, AreWorking, Runs, IsRunning, GoesOn, IsOver, AreOver, IsOverAt, AreStarted, HaveReports}
 
@@ -288,3 +290,140 @@ pub taken_first : {X Y C : Type 0} (f : X → C) (h : Y → C) (xs : List X) (x 
 taken_first {X} {Y} {C} f h xs x ys zs y all first same before =
     ap (λ (l : List C). l ++ map h zs) (map-append f xs (x ∷ [])) ∙ append_assoc (map f xs) (f x ∷ []) (map h zs)
     ∙ ap (λ (c : C). map f xs ++ (c ∷ map h zs)) same ∙ ap (λ (l : List Y). map f xs ++ map h l) (sym first) ∙ before
+
+count_started : (p : LayoutValue) (tries k : ℕ) (entries : List (Option (List ℕ))) (ws : List WorkerValue) → AreStarted p tries k entries ws → length ws ≡ length entries
+count_started p tries k [] [] started = refl
+count_started p tries k [] (w ∷ ws) started = absurd started
+count_started p tries k (entry ∷ entries) [] started = absurd started
+count_started p tries k (entry ∷ entries) (w ∷ ws) started = omega (arith, count_started p tries (k + 1) entries ws started.1)
+
+-- a map before the first turn
+pub record IsOpened (f : Cnf) (p : LayoutValue) (m : Plain) : Type 0 where
+  pub fits : Fits p f
+  pub layout : m.layout ≡ p
+  pub formula : formula_of m ≡ f
+  pub state : state_of m ≡ opening f
+  pub room : m.free ≡ replicate p.streams p.room
+
+module _ (f : Cnf) (p : LayoutValue) (m : Plain) (opened : IsOpened f p m) where
+  room_opened : (s : ℕ) → IsStream p s → free_at m s ≡ p.room
+  room_opened s stream = ap (λ (rooms : List ℕ). get_or rooms (s - 1) 0) opened.room ∙ get_or-replicate p.streams (s - 1) p.room 0 (omega (arith, stream.0, stream.1))
+
+  ready_opened : (tries s : ℕ) (entry : Option (List ℕ)) (w : WorkerValue) → IsStarted p s tries entry w → IsReadyAt w.checker (plain_place m s)
+  ready_opened tries s entry w started = record {
+    at = record {
+      layout = opened.layout ∙ sym (ap (λ (c : Setting). c.layout) started.setting);
+      stream = sym (ap (λ (c : Setting). c.stream) started.setting);
+      variables = ap (λ (g : Cnf). g.vars) opened.formula ∙ sym opened.fits.vars ∙ sym (ap (λ (c : Setting). c.layout.vars) started.setting);
+    };
+    vacant = λ id owns above.
+        ap (λ (state : State). state id) opened.state ∙ opening-owned f p s id opened.fits (subst (λ (q : LayoutValue). Owns q s id) opened.layout owns);
+  }
+
+  working_started : (tries k : ℕ) (entries : List (Option (List ℕ))) (ws : List WorkerValue) → 0 < k → k + length ws ≤ p.streams + 1 → AreStarted p tries k entries ws → AreWorking p tries [] m k entries ws
+  working_started tries k [] [] positive within started = tt
+  working_started tries k [] (w ∷ ws) positive within started = absurd started
+  working_started tries k (entry ∷ entries) [] positive within started = absurd started
+  working_started tries k (entry ∷ entries) (w ∷ ws) positive within started =
+      let room : free_at m k ≡ p.room = room_opened k (positive, omega (arith, within)) in (
+        record {
+          setting = started.0.setting;
+          works = subst (λ free. Works entry w free []) (sym room) started.0.works;
+          ready = ready_opened tries k entry w started.0;
+        },
+        working_started tries (k + 1) entries ws (omega arith) (omega (arith, within)) started.1,
+      )
+
+  run_opened : HasRun f p [] m
+  run_opened = record {
+    layout = opened.layout;
+    formula = opened.formula;
+    within = tt;
+    legal = tt;
+    state = opened.state;
+    room = λ s stream. omega (arith, room_opened s stream);
+  }
+
+  -- a run before its first turn
+  pub runs_opened : (tries : ℕ) (entries : List (Option (List ℕ))) (ws : List WorkerValue) → length entries ≡ p.streams → AreStarted p tries 1 entries ws → Runs f p tries entries m ws
+  runs_opened tries entries ws count started =
+      let same : length ws ≡ p.streams = omega (arith, count_started p tries 1 entries ws started, count) in
+      record {
+        count = same;
+        blocks = [];
+        map_is = run_opened;
+        workers_are = working_started tries 1 entries ws (omega arith) (omega (arith, same)) started;
+      }
+
+-- ---- when all streams are over
+
+-- a worker that is over tells of its stream
+told_over : (o : Option Ending) (ending : Ending) (entry : Option (List ℕ)) (w : WorkerValue) (free : ℕ) (blocks : List History) → o ≡ Some ending → WorksBy o entry w free blocks
+    → (stream : Stream) × IsTold entry w.left w.has_failed stream × JudgesStream w.checker.setting stream blocks (report_at w.checker.tally ending)
+told_over o ending entry w free blocks is works = let at : WorksBy (Some ending) entry w free blocks = subst (λ e. WorksBy e entry w free blocks) is works in at
+
+-- each stream is what its reader told, and is judged by its blocks
+pub streams_over : (p : LayoutValue) (tries : ℕ) (blocks : List Block) (m : Plain) (k : ℕ) (entries : List (Option (List ℕ))) (ws : List WorkerValue) (reports : List Report)
+    → AreWorking p tries blocks m k entries ws → HaveReports ws reports
+    → (streams : List Stream) × AreTold entries (map (λ w. w.left) ws) (map (λ w. w.has_failed) ws) streams × AreJudged p tries (λ s. true) blocks k streams reports
+streams_over p tries blocks m k [] [] [] working have = ([], tt, tt)
+streams_over p tries blocks m k [] [] (r ∷ reports) working have = absurd have
+streams_over p tries blocks m k [] (w ∷ ws) reports working have = absurd working
+streams_over p tries blocks m k (entry ∷ entries) [] reports working have = absurd working
+streams_over p tries blocks m k (entry ∷ entries) (w ∷ ws) [] working have = absurd have
+streams_over p tries blocks m k (entry ∷ entries) (w ∷ ws) (r ∷ reports) working have =
+    let others = streams_over p tries blocks m (k + 1) entries ws reports working.1 have.1 in
+    let told = told_over w.checker.ending have.0.0 entry w (free_at m k) (blocks_of k blocks) have.0.1 working.0.works in
+    let judged : JudgesStream (setting_of p tries k) told.0 (blocks_of k blocks) r =
+    subst (λ (c : Setting). JudgesStream c told.0 (blocks_of k blocks) r) working.0.setting
+    (subst (λ (x : Report). JudgesStream w.checker.setting told.0 (blocks_of k blocks) x) (sym have.0.2) told.2) in
+    (told.0 ∷ others.0, (told.1, others.1), (λ all. judged, others.2))
+
+-- the reports have an order of lines
+pub ordered_over : (f : Cnf) (p : LayoutValue) (tries : ℕ) (entries : List (Option (List ℕ))) (m : Plain) (ws : List WorkerValue) (reports : List Report) → Runs f p tries entries m ws → HaveReports ws reports
+    → (streams : List Stream) × AreTold entries (map (λ w. w.left) ws) (map (λ w. w.has_failed) ws) streams × IsOrdered f p tries (λ s. true) streams reports
+ordered_over f p tries entries m ws reports runs have =
+    let streams = streams_over p tries runs.blocks m 1 entries ws reports runs.workers_are have in (
+      streams.0,
+      streams.1,
+      record {
+        blocks = runs.blocks;
+        within = runs.map_is.within;
+        legal = record { events = runs.map_is.legal; room = within_room f p runs.blocks m runs.map_is };
+        judged = streams.2;
+      },
+    )
+
+-- where one of the reports says 'empty', no assignment makes every clause of the formula true
+sound_among : (f : Cnf) (p : LayoutValue) (tries : ℕ) (blocks : List Block) (k : ℕ) (streams : List Stream) (reports : List Report) → IsLegal f p (events_in blocks)
+    → AreJudged p tries (λ s. true) blocks k streams reports → IsTrue (list_any (λ report. report.empty) reports) → IsUnsatisfiable f
+sound_among f p tries blocks k [] [] legal judged some = absurd (let none : false ≡ true = some in cc)
+sound_among f p tries blocks k [] (r ∷ reports) legal judged some = absurd judged
+sound_among f p tries blocks k (stream ∷ streams) [] legal judged some = absurd judged
+sound_among f p tries blocks k (stream ∷ streams) (r ∷ reports) legal judged some =
+    elim (cases_Bool r.empty) [
+      | inl yes' ↦ sound_in_order f p blocks k (setting_of p tries k) stream r legal (judged.0 refl) yes'
+      | inr none ↦ sound_among f p tries blocks (k + 1) streams reports legal judged.1 (ap (λ b. b || list_any (λ (report : Report). report.empty) reports) (sym none) ∙ some)
+    ]
+
+pub sound_over : (f : Cnf) (p : LayoutValue) (tries : ℕ) (streams : List Stream) (reports : List Report) → IsOrdered f p tries (λ s. true) streams reports
+    → IsTrue (list_any (λ report. report.empty) reports) → IsUnsatisfiable f
+sound_over f p tries streams reports ordered some = sound_among f p tries ordered.blocks 1 streams reports ordered.legal ordered.judged some
+
+-- the whole run: opened, gone on with, and over
+pub run_ordered : (f : Cnf) (p q : LayoutValue) (tries wanted : ℕ) (entries lefts : List (Option (List ℕ))) (faileds : List Bool) (m n : Plain) (us vs ws xs : List WorkerValue) (reports : List Report)
+    → IsOpened f p m → p ≡ q → tries ≡ wanted → length entries ≡ p.streams → AreStarted p tries 1 entries us
+    → vs ≡ us → GoesOn m vs n ws → xs ≡ ws → HaveReports xs reports → lefts ≡ map (λ w. w.left) xs → faileds ≡ map (λ w. w.has_failed) xs
+    → (streams : List Stream) × AreTold entries lefts faileds streams × IsOrdered f q wanted (λ s. true) streams reports
+run_ordered f p q tries wanted entries lefts faileds m n us vs ws xs reports opened same_layout same_tries count started same_start goes same_end have left failed =
+    let begun : Runs f p tries entries m vs = subst (Runs f p tries entries m) (sym same_start) (runs_opened f p m opened tries entries us count started) in
+    let ended : Runs f p tries entries n xs = subst (Runs f p tries entries n) (sym same_end) (goes f p tries entries begun) in
+    let ordered = ordered_over f p tries entries n xs reports ended have in (
+      ordered.0,
+      subst (λ (l : List (Option (List ℕ))). AreTold entries l faileds ordered.0) (sym left) (subst (λ (l : List Bool). AreTold entries (map (λ w. w.left) xs) l ordered.0) (sym failed) ordered.1),
+      subst (λ (l : LayoutValue). IsOrdered f l wanted (λ s. true) ordered.0 reports) same_layout (subst (λ k. IsOrdered f p k (λ s. true) ordered.0 reports) same_tries ordered.2),
+    )
+
+-- what is written to all of a list
+pub written_back : {A : Type 0} (n : ℕ) (xs ys : List A) → length xs ≡ n → take n (xs ++ ys) ≡ xs
+written_back n xs ys same = take-append-le n xs ys (omega (arith, same)) ∙ take_all n xs (omega (arith, same))

@@ -1,11 +1,13 @@
 //! The report as users read it.
-ghost use Rattle.std.specs.Prelude.{◌≡◌, false, is_err};
-ghost use Rattle.lrup_text.specs.Writing.{WritesText};
-ghost use Rattle.portfolio.specs.ReportText.{report_text};
+ghost use Rattle.std.specs.Prelude.{◌≡◌, ◌++◌, false, is_err};
+ghost use Rattle.std.specs.Fmt.{decimal};
+ghost use Rattle.lrup_text.specs.Writing.{PutsAll, WritesText};
+ghost use Rattle.stream_check.specs.Faults.{fault_text};
+ghost use Rattle.portfolio.specs.ReportText.{ending_text, report_text, stream_line, verdict_line};
 
 use crate::outcome::Verdict;
-use lrup_text::{Sink, WriteFault};
-use stream_check::Report;
+use lrup_text::{LineFault, Sink, WriteBuffer, WriteFault};
+use stream_check::{Ending, Fault, Report};
 
 /// Writes the line of each stream, in order, and the verdict's line. After a fault, what went out is a beginning of the text.
 pub fn write_report<W: Sink>(
@@ -18,6 +20,109 @@ pub fn write_report<W: Sink>(
         (report_text reports.now verdict) }
     ensures failed { W.has_failed sink.new ≡ is_err result }
 {
-    let _ = (reports, verdict, sink);
-    Ok(())
+    let mut buffer = WriteBuffer::new();
+    for (i, report) in reports.iter().enumerate() {
+        put_stream(&mut buffer, i as u64 + 1, report, sink)?;
+    }
+    buffer.put(verdict_text(verdict), sink)?;
+    buffer.flush(sink)
+}
+
+fn verdict_text(verdict: Verdict) -> &'static [u8]
+    ensures { result.now ≡ verdict_line verdict }
+{
+    match verdict {
+        Verdict::Unsatisfiable => b"s UNSATISFIABLE\n",
+        Verdict::Unknown => b"s UNKNOWN\n",
+    }
+}
+
+/// Puts the line of a stream.
+fn put_stream<W: Sink>(
+    buffer: &mut WriteBuffer,
+    stream: u64,
+    report: &Report,
+    sink: &mut W,
+) -> Result<(), WriteFault>
+    requires { W.has_failed sink.old ≡ false }
+    ensures puts { PutsAll result (W.written sink.old) (W.written sink.new)
+        buffer.old buffer.new (stream_line stream report.now) }
+    ensures failed { W.has_failed sink.new ≡ is_err result }
+{
+    put_numbered(buffer, b"c stream ", stream, sink)?;
+    put_numbered(buffer, b": ", report.added, sink)?;
+    put_numbered(buffer, b" added, ", report.deleted, sink)?;
+    buffer.put(b" deleted, ", sink)?;
+    put_ending(buffer, report.ending, sink)?;
+    buffer.put(b"\n", sink)
+}
+
+/// Puts how a stream ended.
+fn put_ending<W: Sink>(
+    buffer: &mut WriteBuffer,
+    ending: Ending,
+    sink: &mut W,
+) -> Result<(), WriteFault>
+    requires { W.has_failed sink.old ≡ false }
+    ensures puts { PutsAll result (W.written sink.old) (W.written sink.new)
+        buffer.old buffer.new (ending_text ending) }
+    ensures failed { W.has_failed sink.new ≡ is_err result }
+{
+    match ending {
+        Ending::Ended => buffer.put(b"ended", sink),
+        Ending::Bad(line, fault) => {
+            put_numbered(buffer, b"bad line ", line, sink)?;
+            buffer.put(b" (", sink)?;
+            put_fault(buffer, fault, sink)?;
+            buffer.put(b")", sink)
+        }
+        Ending::ReadFailed(line) => put_numbered(buffer, b"read failed at line ", line, sink),
+        Ending::Memory(line) => put_numbered(buffer, b"out of memory at line ", line, sink),
+    }
+}
+
+/// Puts why a line is bad.
+fn put_fault<W: Sink>(
+    buffer: &mut WriteBuffer,
+    fault: Fault,
+    sink: &mut W,
+) -> Result<(), WriteFault>
+    requires { W.has_failed sink.old ≡ false }
+    ensures puts { PutsAll result (W.written sink.old) (W.written sink.new)
+        buffer.old buffer.new (fault_text fault) }
+    ensures failed { W.has_failed sink.new ≡ is_err result }
+{
+    match fault {
+        Fault::Text(LineFault::Spelling) => buffer.put(b"spelling", sink),
+        Fault::Text(LineFault::TooLong) => buffer.put(b"too long", sink),
+        Fault::Text(LineFault::Truncated) => buffer.put(b"truncated", sink),
+        Fault::Text(LineFault::RatHint) => buffer.put(b"rat hint", sink),
+        Fault::Identity => buffer.put(b"identity", sink),
+        Fault::Literal => buffer.put(b"literal", sink),
+        Fault::Tautology => buffer.put(b"tautology", sink),
+        Fault::NoRoom => buffer.put(b"no room", sink),
+        Fault::Dropped(hint) => put_numbered(buffer, b"dropped ", hint, sink),
+        Fault::Missing(hint) => put_numbered(buffer, b"missing ", hint, sink),
+        Fault::Retired(hint) => put_numbered(buffer, b"retired ", hint, sink),
+        Fault::NotUnit(hint) => put_numbered(buffer, b"not unit ", hint, sink),
+        Fault::Excess(hint) => put_numbered(buffer, b"excess ", hint, sink),
+        Fault::NoConflict => buffer.put(b"no conflict", sink),
+        Fault::NotLive(id) => put_numbered(buffer, b"not live ", id, sink),
+    }
+}
+
+/// Puts a text, and a number after it in decimal.
+fn put_numbered<W: Sink>(
+    buffer: &mut WriteBuffer,
+    text: &[u8],
+    number: u64,
+    sink: &mut W,
+) -> Result<(), WriteFault>
+    requires { W.has_failed sink.old ≡ false }
+    ensures puts { PutsAll result (W.written sink.old) (W.written sink.new)
+        buffer.old buffer.new (text.now ++ decimal number) }
+    ensures failed { W.has_failed sink.new ≡ is_err result }
+{
+    buffer.put(text, sink)?;
+    buffer.put_number(number, sink)
 }

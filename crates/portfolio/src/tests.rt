@@ -1,1 +1,298 @@
+// The texts of a report, and sinks that fail.
+ghost use Rattle.std.specs.Prelude.{◌≡◌, Some, false};
+
 mod threads;
+
+use crate::{Options, RunFault, Verdict, write_report};
+use lrup_model::LayoutFault;
+use lrup_text::{LineFault, Sink, WriteFault};
+use std::alloc::Global;
+use std::process::Abort;
+use std::test::Fail;
+use stream_check::{Ending, Fault, Report};
+
+/// Paper that takes so many bytes a write, at least one, until a write of this number, from 1 on.
+#[derive(Drop)]
+struct Paper {
+    bytes: Vec<u8>,
+    most: usize,
+    fails_at: usize,
+    writes: usize,
+    failed: bool,
+}
+
+impl Paper {
+    fn new(alloc: Global, most: usize, fails_at: usize) -> Paper
+        ensures { result.failed ≡ false }
+    {
+        Paper {
+            bytes: Vec::new(alloc),
+            most,
+            fails_at,
+            writes: 0,
+            failed: false,
+        }
+    }
+}
+
+impl Sink for Paper {
+    ghost written = { λ p. Some p.bytes.items };
+
+    ghost has_failed = { λ p. p.failed };
+
+    fn write(&mut self, bytes: &[u8]) -> Result<usize, WriteFault> {
+        self.writes = self.writes.saturating_add(1);
+        let count = bytes.len().min(self.most.max(1));
+        if self.writes == self.fails_at || self.bytes.extend_from_slice(&bytes[..count]).is_err() {
+            self.failed = true;
+            return Err(WriteFault);
+        }
+        Ok(count)
+    }
+
+    fn failed(&self) -> bool {
+        self.failed
+    }
+}
+
+fn report(added: u64, deleted: u64, ending: Ending) -> Report {
+    Report {
+        added,
+        deleted,
+        empty: false,
+        ending,
+    }
+}
+
+/// The report of a stream that had added and deleted nothing before its bad line.
+fn bad_line(line: u64, fault: Fault) -> Report {
+    report(0, 0, Ending::Bad(line, fault))
+}
+
+/// The wanted text goes to paper that takes all of it at once, and byte by byte.
+fn writes_text(
+    rt: &impl Abort,
+    alloc: Global,
+    reports: &[Report],
+    verdict: Verdict,
+    text: &str,
+) -> Result<(), Fail> {
+    for (most, writes) in [(usize::MAX, 1), (1, text.len())] {
+        let mut paper = Paper::new(alloc, most, 0);
+        write_report(reports, verdict, &mut paper)?;
+        assert_eq!(rt; paper.bytes.as_slice(), text.as_bytes());
+        assert_eq!(rt; paper.writes, writes, "{text}");
+        assert!(rt; !paper.failed());
+    }
+    Ok(())
+}
+
+#[test]
+fn reports_of_one_stream(rt: HostRuntime) -> Result<(), Fail> {
+    let most = u64::MAX;
+    for (report, line) in [
+        (report(0, 0, Ending::Ended), "0 added, 0 deleted, ended"),
+        (report(2, 1, Ending::Ended), "2 added, 1 deleted, ended"),
+        (
+            report(most, 0, Ending::ReadFailed(most)),
+            "18446744073709551615 added, 0 deleted, read failed at line 18446744073709551615",
+        ),
+        (
+            report(0, most, Ending::Memory(1)),
+            "0 added, 18446744073709551615 deleted, out of memory at line 1",
+        ),
+        (
+            bad_line(1, Fault::Text(LineFault::Spelling)),
+            "0 added, 0 deleted, bad line 1 (spelling)",
+        ),
+        (
+            bad_line(1, Fault::Text(LineFault::TooLong)),
+            "0 added, 0 deleted, bad line 1 (too long)",
+        ),
+        (
+            bad_line(1, Fault::Text(LineFault::Truncated)),
+            "0 added, 0 deleted, bad line 1 (truncated)",
+        ),
+        (
+            bad_line(1, Fault::Text(LineFault::RatHint)),
+            "0 added, 0 deleted, bad line 1 (rat hint)",
+        ),
+        (
+            report(1, 0, Ending::Bad(2, Fault::Identity)),
+            "1 added, 0 deleted, bad line 2 (identity)",
+        ),
+        (
+            bad_line(1, Fault::Literal),
+            "0 added, 0 deleted, bad line 1 (literal)",
+        ),
+        (
+            bad_line(1, Fault::Tautology),
+            "0 added, 0 deleted, bad line 1 (tautology)",
+        ),
+        (
+            bad_line(1, Fault::NoRoom),
+            "0 added, 0 deleted, bad line 1 (no room)",
+        ),
+        (
+            report(0, 1, Ending::Bad(2, Fault::Dropped(1))),
+            "0 added, 1 deleted, bad line 2 (dropped 1)",
+        ),
+        (
+            bad_line(1, Fault::Missing(most)),
+            "0 added, 0 deleted, bad line 1 (missing 18446744073709551615)",
+        ),
+        (
+            report(1, 1, Ending::Bad(3, Fault::Retired(5))),
+            "1 added, 1 deleted, bad line 3 (retired 5)",
+        ),
+        (
+            bad_line(1, Fault::NotUnit(3)),
+            "0 added, 0 deleted, bad line 1 (not unit 3)",
+        ),
+        (
+            bad_line(1, Fault::Excess(3)),
+            "0 added, 0 deleted, bad line 1 (excess 3)",
+        ),
+        (
+            bad_line(most, Fault::NoConflict),
+            "0 added, 0 deleted, bad line 18446744073709551615 (no conflict)",
+        ),
+        (
+            report(1, 1, Ending::Bad(2, Fault::NotLive(5))),
+            "1 added, 1 deleted, bad line 2 (not live 5)",
+        ),
+    ] {
+        let text = format!(in rt.alloc(); "c stream 1: {line}\ns UNKNOWN\n")?;
+        writes_text(&rt, rt.alloc(), &[report], Verdict::Unknown, text.as_str())?;
+        let text = format!(in rt.alloc(); "c stream 1: {line}\ns UNSATISFIABLE\n")?;
+        writes_text(
+            &rt,
+            rt.alloc(),
+            &[report],
+            Verdict::Unsatisfiable,
+            text.as_str(),
+        )?;
+    }
+    Ok(())
+}
+
+/// A stream that added the empty clause, and one whose line 1 is bad.
+fn two_reports() -> [Report; 2] {
+    let first = Report {
+        added: 2,
+        deleted: 0,
+        empty: true,
+        ending: Ending::Bad(3, Fault::NoConflict),
+    };
+    [first, bad_line(1, Fault::Missing(6))]
+}
+
+const TWO: &str = "c stream 1: 2 added, 0 deleted, bad line 3 (no conflict)
+c stream 2: 0 added, 0 deleted, bad line 1 (missing 6)
+s UNSATISFIABLE
+";
+
+#[test]
+fn reports_of_two_streams(rt: HostRuntime) -> Result<(), Fail> {
+    let reports = two_reports();
+    let [first, second] = reports;
+    assert_eq!(rt; Verdict::of(&[]), Verdict::Unknown);
+    assert_eq!(rt; Verdict::of(&[second]), Verdict::Unknown);
+    assert_eq!(rt; Verdict::of(&reports), Verdict::Unsatisfiable);
+    assert_eq!(rt; Verdict::of(&[second, first]), Verdict::Unsatisfiable);
+    writes_text(&rt, rt.alloc(), &reports, Verdict::of(&reports), TWO)?;
+    writes_text(&rt, rt.alloc(), &[], Verdict::Unknown, "s UNKNOWN\n")
+}
+
+#[test]
+fn sinks_that_fail(rt: HostRuntime) -> Result<(), Fail> {
+    let reports = two_reports();
+    let text = TWO.as_bytes();
+    for most in [1usize, 7, 600] {
+        for fails_at in 1..=text.len().div_ceil(most) {
+            let mut paper = Paper::new(rt.alloc(), most, fails_at);
+            let wrote = write_report(&reports, Verdict::Unsatisfiable, &mut paper);
+            assert_eq!(rt; wrote, Err(WriteFault));
+            assert!(rt; paper.failed());
+            assert_eq!(rt; paper.writes, fails_at);
+            let went = (fails_at - 1) * most;
+            assert_eq!(rt; paper.bytes.as_slice(), &text[..went.min(text.len())]);
+        }
+    }
+    Ok(())
+}
+
+/// 64 lines of 75 or 76 bytes fill the buffer again and again.
+#[test]
+fn long_reports(rt: HostRuntime) -> Result<(), Fail> {
+    let most = u64::MAX;
+    let reports = [report(most, most, Ending::Ended); 64];
+    let mut text = String::new(rt.alloc());
+    for stream in 1..=64u64 {
+        write!(
+            text,
+            "c stream {stream}: {most} added, 18446744073709551615 deleted, ended\n"
+        )?;
+    }
+    text.push_str("s UNKNOWN\n")?;
+    let writes = text.len().div_ceil(512);
+    for fails_at in 0..=writes {
+        let mut paper = Paper::new(rt.alloc(), usize::MAX, fails_at);
+        let wrote = write_report(&reports, Verdict::Unknown, &mut paper);
+        assert_eq!(rt; wrote.is_err(), fails_at > 0);
+        assert_eq!(rt; paper.failed(), fails_at > 0);
+        let went = if fails_at > 0 {
+            assert_eq!(rt; paper.writes, fails_at);
+            (fails_at - 1) * 512
+        } else {
+            assert_eq!(rt; paper.writes, writes);
+            text.len()
+        };
+        assert_eq!(rt;
+            paper.bytes.as_slice(),
+            &text.as_bytes()[..went.min(text.len())]
+        );
+    }
+    Ok(())
+}
+
+#[test]
+fn options_have_a_limit(rt: HostRuntime) {
+    for (tries, some) in [
+        (0, true),
+        (1_000, true),
+        (1_000_000, true),
+        (1_000_001, false),
+        (u64::MAX, false),
+    ] {
+        assert_eq!(rt;
+            Options::new(tries, 65_536, u64::MAX).is_some(),
+            some,
+            "at {tries}"
+        );
+    }
+}
+
+#[test]
+fn run_fault_texts(rt: HostRuntime) -> Result<(), Fail> {
+    for (fault, text) in [
+        (
+            RunFault::Layout(LayoutFault::TooManyVariables),
+            "formula refused: limit",
+        ),
+        (
+            RunFault::Layout(LayoutFault::TooManyClauses),
+            "formula refused: limit",
+        ),
+        (
+            RunFault::Layout(LayoutFault::BadStreamCount),
+            "stream count",
+        ),
+        (RunFault::Layout(LayoutFault::RowTooLong), "row too long"),
+        (RunFault::Memory, "out of memory"),
+        (RunFault::Spawn(64), "worker 64 not started"),
+    ] {
+        assert_eq!(rt; fault.to_string(rt.alloc())?.as_str(), text);
+    }
+    Ok(())
+}

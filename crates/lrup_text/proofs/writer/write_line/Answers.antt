@@ -1,5 +1,5 @@
-use Rattle.lrup_text.proofs.Puts.{writes_from_empty}
+use Rattle.lrup_text.specs.WritingLemmas.{writes_from_empty}
 use Rattle.lrup_text.proofs.writer.write_line.Goals as goal
 
 pub returns-clause-text : goal.returns-clause-text
-returns-clause-text g c = writes_from_empty c.flush.result _ c.new-chunk.ensures c.in_ok-put_line.ensures.puts c.flush.ensures.text
+returns-clause-text g c = writes_from_empty c.flush.result _ c.new-buffer.ensures c.in_ok-put_line.ensures.puts c.flush.ensures.text

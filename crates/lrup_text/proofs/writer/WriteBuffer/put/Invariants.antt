@@ -1,6 +1,6 @@
 use Rattle.std.proofs.Common.{◌≡◌, take, false}
 use Rattle.lrup_text.specs.Writing.{Puts}
-use Rattle.lrup_text.proofs.writer.Chunk.put.Given as goal
+use Rattle.lrup_text.proofs.writer.WriteBuffer.put.Given as goal
 
 abbrev pub invariant-loop-byte : goal.invariant-loop-byte
 invariant-loop-byte g l =

@@ -1,6 +1,6 @@
 use Rattle.std.proofs.Common.{◌∷◌, []}
-use Rattle.lrup_text.proofs.Puts.{breaks_held, breaks_more, at_err}
-use Rattle.lrup_text.proofs.writer.Chunk.put_byte.Goals as goal
+use Rattle.lrup_text.specs.WritingLemmas.{breaks_held, breaks_more, at_err}
+use Rattle.lrup_text.proofs.writer.WriteBuffer.put_byte.Goals as goal
 
 pub returns-in_err-flush-clause-puts : goal.returns-in_err-flush-clause-puts
 returns-in_err-flush-clause-puts g c =

@@ -1,7 +1,7 @@
 use Rattle.std.proofs.Common.{◌≡◌, take, false}
 use Rattle.lrup_text.specs.Reading.{literals_text}
 use Rattle.lrup_text.specs.Writing.{Puts}
-use Rattle.lrup_text.proofs.writer.Chunk.put_literals.Given as goal
+use Rattle.lrup_text.proofs.writer.WriteBuffer.put_literals.Given as goal
 
 abbrev pub invariant-loop-literal : goal.invariant-loop-literal
 invariant-loop-literal g l =

@@ -1,7 +1,7 @@
 use Rattle.std.proofs.Common.{◌≡◌, take, false}
 use Rattle.lrup_text.specs.Reading.{items_text}
 use Rattle.lrup_text.specs.Writing.{Puts}
-use Rattle.lrup_text.proofs.writer.Chunk.put_list.Given as goal
+use Rattle.lrup_text.proofs.writer.WriteBuffer.put_list.Given as goal
 
 abbrev pub invariant-loop-id : goal.invariant-loop-id
 invariant-loop-id g l =

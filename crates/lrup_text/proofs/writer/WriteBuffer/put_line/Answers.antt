@@ -5,8 +5,8 @@ use Rattle.lrup_text.specs.Grammar.{list_text, space, zero_digit, letter_d}
 use Rattle.lrup_text.specs.Lines.{line_text, line_of}
 use Rattle.lrup_text.specs.Reading.{literals_text}
 use Rattle.lrup_text.proofs.LineTexts.{addition_text, deletion_text}
-use Rattle.lrup_text.proofs.Puts.{breaks_next, breaks_first, puts_then, puts_all_next, at_err}
-use Rattle.lrup_text.proofs.writer.Chunk.put_line.Goals as goal
+use Rattle.lrup_text.specs.WritingLemmas.{breaks_next, breaks_first, puts_then, puts_all_next, at_err}
+use Rattle.lrup_text.proofs.writer.WriteBuffer.put_line.Goals as goal
 
 pub returns-in_err-put_lead-in-Add-clause-puts : goal.returns-in_err-put_lead-in-Add-clause-puts
 returns-in_err-put_lead-in-Add-clause-puts g c =

@@ -5,12 +5,12 @@ use Rattle.std.specs.Fmt.{signed_decimal}
 use Rattle.std.specs.List.{flat_map}
 use Rattle.lrup_text.specs.Grammar.{space}
 use Rattle.lrup_text.specs.Reading.{literals_text}
-use Rattle.lrup_text.proofs.Puts.{puts_nothing, puts_next, breaks_next, at_err, texts_more, texts_split}
-use Rattle.lrup_text.proofs.writer.Chunk.put_literals.Goals as goal
+use Rattle.lrup_text.specs.WritingLemmas.{puts_nothing, puts_next, breaks_next, at_err, texts_more, texts_split}
+use Rattle.lrup_text.proofs.writer.WriteBuffer.put_literals.Goals as goal
 
 pub loop-literal-init : goal.loop-literal-init
 unfolding literals_text
-loop-literal-init g c = record { running = c.requires.running; puts = puts_nothing (g.W.Sink.written c.args.sink.now) c.args.self.now }
+loop-literal-init g c = record { running = c.requires; puts = puts_nothing (g.W.Sink.written c.args.sink.now) c.args.self.now }
 
 pub returns-in_err-put-clause-puts : goal.returns-in_err-put-clause-puts
 unfolding literals_text

@@ -1,4 +1,4 @@
--- What goes out, one call after another.
+-- Lemmas on what goes out, one call after another.
 use Rattle.std.proofs.Common.{◌≡◌, ℕ, ◌+◌, ◌<◌, List, [], ◌∷◌, ◌++◌, length, take, drop, get_or, Option, Some, None, refl, sym, ◌∙◌, ap, subst}
 use Rattle.std.specs.Prelude.{Result, Ok, Err, IsErr, MatchResult}
 use Rattle.std.specs.Io.KnownBytes.{Appends, Keeps}
@@ -54,13 +54,7 @@ breaks_more {a} {b} {h} {x} h' y = record {
   is = sym (append_assoc h x y) ∙ ap (λ t. t ++ y) h'.is ∙ append_assoc h'.went h'.rest y;
 }
 
--- a byte that is held, and all that is held going out
-pub puts_byte : {a : Option (List ℕ)} {h : List ℕ} (byte : ℕ) → Puts a a h (h ++ byte ∷ []) (byte ∷ [])
-puts_byte {a} {h} byte = record { went = []; appends = appends_nothing a; is = refl }
-
-pub puts_held : {a b : Option (List ℕ)} {h : List ℕ} → Appends a b h → Puts a b h [] []
-puts_held {a} {b} {h} appends = record { went = h; appends = appends; is = refl }
-
+-- a beginning of all that is held
 pub breaks_held : {a b : Option (List ℕ)} {h : List ℕ} (went rest : List ℕ) → h ≡ went ++ rest → Appends a b went → Breaks a b h []
 breaks_held {a} {b} {h} went rest is appends = record { went = went; rest = rest; appends = appends; is = append-nil h ∙ is }
 
@@ -69,7 +63,10 @@ pub at_err : {T E : Type 0} (r : Result T E) (P Q : Type 0) → IsErr r → Q �
 at_err (Ok x) P Q h q = cc
 at_err (Err e) P Q h q = q
 
--- the same, for a text that is equal to the two parts; or that goes on after them
+-- the same, for a text that is equal to it; or to two parts; or that goes on after them
+pub breaks_as : {a b : Option (List ℕ)} {h x z : List ℕ} → Breaks a b h x → z ≡ x → Breaks a b h z
+breaks_as {a} {b} {h} broken is = subst (λ t. Breaks a b h t) (sym is) broken
+
 pub puts_next : {a b c : Option (List ℕ)} {h i j x y z : List ℕ} → Puts a b h i x → Puts b c i j y → z ≡ x ++ y → Puts a c h j z
 puts_next {a} {b} {c} {h} {i} {j} puts next is = subst (λ t. Puts a c h j t) (sym is) (puts_then puts next)
 

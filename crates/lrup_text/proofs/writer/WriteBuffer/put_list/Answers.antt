@@ -5,12 +5,12 @@ use Rattle.std.proofs.lemmas.List.{append_assoc, take_all}
 use Rattle.lrup_text.specs.Grammar.{space, zero_digit, line_feed}
 use Rattle.lrup_text.specs.Reading.{items_text}
 use Rattle.lrup_text.proofs.Bytes.{items_end}
-use Rattle.lrup_text.proofs.Puts.{puts_nothing, puts_next, breaks_next, puts_all_next, at_err, texts_more, texts_split}
-use Rattle.lrup_text.proofs.writer.Chunk.put_list.Goals as goal
+use Rattle.lrup_text.specs.WritingLemmas.{puts_nothing, puts_next, breaks_next, puts_all_next, at_err, texts_more, texts_split}
+use Rattle.lrup_text.proofs.writer.WriteBuffer.put_list.Goals as goal
 
 pub loop-id-init : goal.loop-id-init
 unfolding items_text
-loop-id-init g c = record { running = c.requires.running; puts = puts_nothing (g.W.Sink.written c.args.sink.now) c.args.self.now }
+loop-id-init g c = record { running = c.requires; puts = puts_nothing (g.W.Sink.written c.args.sink.now) c.args.self.now }
 
 pub returns-in_err-put-clause-puts : goal.returns-in_err-put-clause-puts
 unfolding items_text

@@ -1,0 +1,58 @@
+use Rattle.std.proofs.Common.{◌≡◌, ◌∙◌, ℕ, List, Option, length, map, drop, sym, ap, subst, arith}
+use Rattle.std.proofs.lemmas.List.{length-map}
+use Rattle.lrup_model.specs.Layout.{LayoutValue}
+use Rattle.portfolio.specs.Outcomes.{layout_of}
+use Rattle.portfolio.specs.Turns.{Runs}
+use Rattle.portfolio.proofs.TurnsLemmas.{IsOpened, runs_opened, run_ordered, sound_over, written_back}
+use Rattle.portfolio.proofs.serial.run_serial.Goals as goal
+
+pub take_turns-requires : goal.take_turns-requires
+take_turns-requires g c =
+    let f = c.args.formula.now in
+    let p = c.in_ok-layout.layout in
+    let m = c.in_ok-map.map in
+    let entries = map g.R.Source.left c.args.readers.items in
+    let opened : IsOpened f p m = record {
+      fits = c.in_ok-layout.ensures.layout.2;
+      layout = c.in_ok-map.ensures.layout;
+      formula = c.in_ok-map.ensures.formula;
+      state = c.in_ok-map.ensures.state;
+      room = c.in_ok-map.ensures.room;
+    } in
+    let same : p.streams ≡ c.len.result = ap (λ (q : LayoutValue). q.streams) c.in_ok-layout.ensures.layout.0 in
+    let count : length entries ≡ p.streams = omega (arith, length-map c.args.readers.items g.R.Source.left, same, c.len.ensures, c.args.readers.ok.0) in
+    record {
+      running = (f, p, c.tries.result, entries, subst (Runs f p c.tries.result entries m) (sym c.deref_mut.ensures.value) (runs_opened f p m opened c.tries.result entries c.in_ok-workers.workers.items count c.in_ok-workers.ensures));
+    }
+
+pub returns-clause-ordered : goal.returns-clause-ordered
+returns-clause-ordered g c =
+    let f = c.args.formula.now in
+    let p = c.in_ok-layout.layout in
+    let m = c.in_ok-map.map in
+    let readers = c.args.readers.items in
+    let entries = map g.R.Source.left readers in
+    let started = c.in_ok-workers.workers in
+    let worked = c.take_turns.new.workers in
+    let outcome = c.outcome_of.result in
+    let opened : IsOpened f p m = record {
+      fits = c.in_ok-layout.ensures.layout.2;
+      layout = c.in_ok-map.ensures.layout;
+      formula = c.in_ok-map.ensures.formula;
+      state = c.in_ok-map.ensures.state;
+      room = c.in_ok-map.ensures.room;
+    } in
+    let streams : c.len.result ≡ length readers = c.len.ensures ∙ c.args.readers.ok.0 in
+    let same : p ≡ layout_of c.args.options f (length readers) = c.in_ok-layout.ensures.layout.0 ∙ ap (layout_of c.args.options f) streams in
+    let each : p.streams ≡ length readers = ap (λ (q : LayoutValue). q.streams) same in
+    let count : length entries ≡ p.streams = omega (arith, length-map readers g.R.Source.left, each) in
+    let back = written_back started.len worked (drop (length worked) started.items) (c.take_turns.auto.workers ∙ c.deref_mut.ensures.len) in
+    run_ordered f p (layout_of c.args.options f (length readers)) c.tries.result c.args.options.tries entries (map g.R.Source.left outcome.readers.items) (map g.R.Source.has_failed outcome.readers.items)
+    m c.take_turns.new.map started.items c.deref_mut.result.now worked _ outcome.reports.items opened same c.tries.ensures.tries count c.in_ok-workers.ensures
+    c.deref_mut.ensures.value c.take_turns.ensures.runs back c.outcome_of.ensures.reports c.outcome_of.ensures.left c.outcome_of.ensures.failed
+
+pub returns-clause-sound : goal.returns-clause-sound
+returns-clause-sound g c unsatisfiable =
+    let ordered = returns-clause-ordered g c in
+    sound_over c.args.formula.now (layout_of c.args.options c.args.formula.now (length c.args.readers.items)) c.args.options.tries ordered.0 c.outcome_of.result.reports.items ordered.2
+    (c.outcome_of.ensures.verdict.0 unsatisfiable)
