@@ -18,6 +18,9 @@ use Rattle.clause_store.specs.Passes.{StoreValue, PassValue, IsOpened, AreOf, Ha
 use Rattle.stream_check.specs.declared.report.Report.{Report}
 use Rattle.stream_check.specs.Judging.{joined}
 use Rattle.stream_check.specs.Setting.{Setting}
+use Rattle.portfolio.specs.declared.outcome.Verdict.{Verdict}
+use Rattle.portfolio.specs.declared.outcome.Verdict.TheVariants.{Unsatisfiable}
+use Rattle.portfolio.specs.Outcomes.{IsVerdictOf}
 use Rattle.portfolio.specs.Headline.{HaveCalls, HaveOneHistory, AreJudgedBy}
 use Rattle.portfolio.specs.Joining.{FoundValue, CanBegin, AllCanBegin, Finishes, AllFinish}
 use Rattle.portfolio.specs.Streams.{Stream, AreTold, IsTold, JudgesStream, setting_of}
@@ -118,6 +121,14 @@ finish_count (w ∷ ws) [] fs all = absurd all
 finish_count (w ∷ ws) (q ∷ ps) [] all = absurd all
 finish_count (w ∷ ws) (q ∷ ps) (x ∷ fs) all = omega (arith, finish_count ws ps fs all.1)
 
+pub finish_workers : (ws : List WorkerValue) (ps : List PassValue) (fs : List FoundValue) → AllFinish ws ps fs → length fs ≡ length ws
+finish_workers [] [] [] all = refl
+finish_workers [] [] (x ∷ fs) all = absurd all
+finish_workers [] (q ∷ ps) fs all = absurd all
+finish_workers (w ∷ ws) [] fs all = absurd all
+finish_workers (w ∷ ws) (q ∷ ps) [] all = absurd all
+finish_workers (w ∷ ws) (q ∷ ps) (x ∷ fs) all = omega (arith, finish_workers ws ps fs all.1)
+
 met_count : (fs : List FoundValue) (vs : List View) → AreMet (views (map (λ x. x.pass) fs)) vs → length vs ≡ length fs
 met_count [] [] met = refl
 met_count [] (v ∷ vs) met = absurd met
@@ -215,6 +226,19 @@ judged_by f p store tries same s (e ∷ es) (w ∷ ws) (q ∷ ps) (x ∷ fs) (v 
     let more = judged_by f p store tries same (s + 1) es ws ps fs vs started.1 opened.1 all.1 met.2 in
     record { streams = one.0 ∷ more.streams; told = (one.1, more.told); judged = ((all.0.blocks, calls, judged), more.judged) }
 
+-- the same in the words of the lists that are given back
+pub judged_so : (p q : LayoutValue) (tries times : ℕ) (entries lefts : List (Option (List ℕ))) (faileds : List Bool) (reports : List Report)
+    (fs : List FoundValue) (vs : List View)
+    → Judged p tries 1 entries fs vs → p ≡ q → tries ≡ times
+    → lefts ≡ map (λ x. x.left) fs → faileds ≡ map (λ x. x.has_failed) fs → reports ≡ map (λ x. x.report) fs
+    → (streams : List Stream) × AreTold entries lefts faileds streams × AreJudgedBy q times 1 streams vs reports
+judged_so p q tries times entries lefts faileds reports fs vs j same still left failed said = (
+  j.streams,
+  rw (left, failed) j.told,
+  rw said (subst (λ (n : ℕ). AreJudgedBy q n 1 j.streams vs (map (λ x. x.report) fs)) still
+      (subst (λ (l : LayoutValue). AreJudgedBy l tries 1 j.streams vs (map (λ x. x.report) fs)) same j.judged)),
+)
+
 -- ---- 'unsatisfiable'
 
 either_true : (a b : Bool) → (a || b) ≡ true → (a ≡ true) ⊎ (b ≡ true)
@@ -234,3 +258,10 @@ sound_by f p h tries legal s (t ∷ ts) (v ∷ vs) (r ∷ rs) judged calls is =
       | inl here ↦ sound f p h (setting_of p tries s) t this.0 r legal (sym calls.2 ∙ this.1) this.2 here
       | inr later ↦ sound_by f p h tries legal (s + 1) ts vs rs judged.1 calls.3 later
     ]
+
+-- so a verdict 'unsatisfiable' is true
+pub sound_run : (f : Cnf) (p : LayoutValue) (tries : ℕ) (entries : List (Option (List ℕ))) (fs : List FoundValue) (vs : List View) (reports : List Report) (verdict : Verdict)
+    → HaveOneHistory f p vs → Judged p tries 1 entries fs vs → reports ≡ map (λ x. x.report) fs → IsVerdictOf reports verdict → verdict ≡ Unsatisfiable → IsUnsatisfiable f
+sound_run f p tries entries fs vs reports verdict one j said of is =
+    let empty : list_any (λ (report : Report). report.empty) (map (λ (x : FoundValue). x.report) fs) ≡ true = subst (λ (rs : List Report). list_any (λ (report : Report). report.empty) rs ≡ true) said (of.0 is) in
+    sound_by f p one.history tries one.legal 1 j.streams vs (map (λ x. x.report) fs) j.judged one.calls empty

@@ -11,8 +11,10 @@ use std::alloc::{AllocError, Global};
 use std::io;
 use std::process::Abort;
 use std::sync::atomic::{AtomicBool, AtomicU64, Ordering};
+use std::sync::Wait;
 use std::test::Fail;
 use std::thread;
+use std::thread::Threads;
 use std::time::{Clock, Duration};
 use stream_check::{Ending, Fault, Gate, Report};
 
@@ -201,22 +203,23 @@ impl Gate for Meets<'_> {
 }
 
 /// Runs the streams, each of which waits at its first fetch for all others, and says whether one waited in vain.
-fn meet<'a>(
-    rt: &HostRuntime,
+fn meet<'a, T: Threads + Wait + Sync>(
+    rt: &T,
+    alloc: Global,
     options: Options,
     texts: &[&'a str],
     flags: &[AtomicBool],
 ) -> Result<(Outcome<Tape<'a>>, bool), Fail> {
-    let formula = four(rt.alloc())?;
+    let formula = four(alloc)?;
     let late = AtomicBool::new(false);
     let gate = Meets {
         flags,
         late: &late,
         has_met: false,
     };
-    let readers = tapes_of(rt.alloc(), texts, 0)?;
-    let gates = gates_of(rt.alloc(), gate, readers.len())?;
-    let outcome = run(rt, rt.alloc(), &formula, options, readers, gates)?;
+    let readers = tapes_of(alloc, texts, 0)?;
+    let gates = gates_of(alloc, gate, readers.len())?;
+    let outcome = run(rt, alloc, &formula, options, readers, gates)?;
     Ok((outcome, late.load(Ordering::SeqCst)))
 }
 
@@ -224,7 +227,7 @@ fn meet<'a>(
 fn two_threads_are_at_work_at_once(rt: HostRuntime) -> Result<(), Fail> {
     let options = Options::new(1_000, 65_536, 1_048_576).ok_or("no options")?;
     let flags = [AtomicBool::new(false), AtomicBool::new(false)];
-    let (_outcome, late) = meet(&rt, options, &CITING, &flags)?;
+    let (_outcome, late) = meet(&rt, rt.alloc(), options, &CITING, &flags)?;
     assert!(rt; !late, "both saw the other");
     Ok(())
 }
@@ -254,7 +257,7 @@ fn eight_threads_are_at_work_at_once(rt: HostRuntime) -> Result<(), Fail> {
         AtomicBool::new(false),
         AtomicBool::new(false),
     ];
-    let (outcome, late) = meet(&rt, options, &EIGHT, &flags)?;
+    let (outcome, late) = meet(&rt, rt.alloc(), options, &EIGHT, &flags)?;
     assert!(rt; !late, "each saw all others");
     assert_eq!(rt; outcome.reports.len(), 8);
     for report in &outcome.reports {
@@ -355,7 +358,7 @@ impl Gate for Notes<'_> {
 /// The first stream wants a clause that nobody derives.
 const MISSING: [&str; 2] = ["5 0 6 0\n", ""];
 
-fn is_missing(rt: &HostRuntime, outcome: &Outcome<Tape>) {
+fn assert_missing(rt: &impl Abort, outcome: &Outcome<Tape>) {
     let missing = Report {
         added: 0,
         deleted: 0,
@@ -378,13 +381,14 @@ fn a_vacant_hint_is_tried_again(rt: HostRuntime) -> Result<(), Fail> {
     let readers = tapes_of(rt.alloc(), &MISSING, 0)?;
     let gates = gates_of(rt.alloc(), gate, readers.len())?;
     let outcome = run(&rt, rt.alloc(), &formula, options, readers, gates)?;
-    is_missing(&rt, &outcome);
+    assert_missing(&rt, &outcome);
     assert_eq!(rt; attempts.load(Ordering::SeqCst), 1_234);
     assert_eq!(rt; others.load(Ordering::SeqCst), 0);
     Ok(())
 }
 
 /// A clock that counts the sleeps of one microsecond, and all others.
+#[derive(Drop)]
 struct Sleeps {
     micros: AtomicU64,
     others: AtomicU64,
@@ -419,13 +423,9 @@ fn a_pause_sleeps_before_later_attempts(rt: HostRuntime) -> Result<(), Fail> {
     let readers = tapes_of(rt.alloc(), &MISSING, 0)?;
     let gates = vec![in rt.alloc(); Pause::new(&clock), Pause::new(&clock)]?;
     let outcome = run(&rt, rt.alloc(), &formula, options, readers, gates)?;
-    is_missing(&rt, &outcome);
+    assert_missing(&rt, &outcome);
     assert_eq!(rt; clock.micros.load(Ordering::SeqCst), 3);
     assert_eq!(rt; clock.others.load(Ordering::SeqCst), 0);
-    let Sleeps {
-        micros: _,
-        others: _,
-    } = clock;
     Ok(())
 }
 
@@ -437,7 +437,7 @@ fn a_pause_on_the_systems_clock(rt: HostRuntime) -> Result<(), Fail> {
     let readers = tapes_of(rt.alloc(), &MISSING, 0)?;
     let gates = vec![in rt.alloc(); Pause::new(&rt), Pause::new(&rt)]?;
     let outcome = run(&rt, rt.alloc(), &formula, options, readers, gates)?;
-    is_missing(&rt, &outcome);
+    assert_missing(&rt, &outcome);
     Ok(())
 }
 
