@@ -1,4 +1,6 @@
 pub mod EmptyLemmas
+pub mod HeadlineLemmas
+pub mod JoiningLemmas
 pub mod ReportLines
-pub mod WorkingLemmas
 pub mod TurnsLemmas
+pub mod WorkingLemmas

@@ -1,4 +1,5 @@
 pub mod Headline
+pub mod Joining
 pub mod Outcomes
 pub mod ReportText
 pub mod Streams

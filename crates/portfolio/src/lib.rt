@@ -3,13 +3,17 @@
 
 mod options;
 mod outcome;
+mod pause;
 mod report_text;
 mod serial;
 #[cfg(test)]
 mod tests;
+mod threads;
 mod worker;
 
 pub use options::Options;
-pub use outcome::{RunFault, SerialOutcome, Verdict};
+pub use outcome::{Outcome, RunFault, SerialOutcome, Verdict};
+pub use pause::Pause;
 pub use report_text::write_report;
 pub use serial::run_serial;
+pub use threads::run;

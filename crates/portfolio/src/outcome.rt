@@ -2,6 +2,7 @@
 ghost use Rattle.std.specs.Prelude.{◌≡◌};
 ghost use Rattle.portfolio.specs.Outcomes.{IsVerdictOf};
 
+use clause_store::Pass;
 use lrup_model::LayoutFault;
 use std::alloc::AllocError;
 use stream_check::Report;
@@ -70,6 +71,19 @@ pub struct SerialOutcome<R: Drop> {
     pub reports: Vec<Report>,
     /// What the reports come to.
     pub verdict: Verdict,
+    /// The readers, as far as they were read, in order.
+    pub readers: Vec<R>,
+}
+
+/// What a run with a thread for each stream found.
+#[derive(Drop)]
+pub struct Outcome<R: Drop> {
+    /// What is said of each stream, in order.
+    pub reports: Vec<Report>,
+    /// What the reports come to.
+    pub verdict: Verdict,
+    /// The streams' passes, in order. All have seen the one history.
+    pub passes: Vec<Pass>,
     /// The readers, as far as they were read, in order.
     pub readers: Vec<R>,
 }

@@ -59,7 +59,7 @@ pub fn run_serial<W: Wait, R: Source + Drop, G: Gate + Drop>(
 }
 
 /// A worker for each stream.
-fn workers_of<R: Source + Drop, G: Gate + Drop>(
+pub(crate) fn workers_of<R: Source + Drop, G: Gate + Drop>(
     alloc: Global,
     layout: &Layout,
     tries: u64,
