@@ -75,7 +75,6 @@ opened_can f p store s tries entry w pass fits same started opened =
         at = record {
           layout = layout ∙ sym (ap (λ (c : Setting). c.layout) started.setting);
           stream = stream ∙ sym (ap (λ (c : Setting). c.stream) started.setting);
-          variables = ap (λ (g : Cnf). g.vars) formula ∙ sym fits.vars ∙ sym (ap (λ (c : Setting). c.layout.vars) started.setting);
         };
         vacant = λ id owns above.
             let here = subst (λ (n : ℕ). Owns p n id) stream (subst (λ (q : LayoutValue). Owns q pass.view.caller.stream id) layout owns) in

@@ -1,8 +1,6 @@
 // The texts of a report, and sinks that fail.
 ghost use Rattle.std.specs.Prelude.{◌≡◌, Some, false};
 
-mod threads;
-
 use crate::{Options, RunFault, Verdict, write_report};
 use lrup_model::LayoutFault;
 use lrup_text::{LineFault, Sink, WriteFault};

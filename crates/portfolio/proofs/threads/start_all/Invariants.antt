@@ -12,7 +12,7 @@ invariant-loop-worker g l =
     (goal.iterator-loop-worker g).can_next l.worker-iterator
     × (goal.iterator-loop-worker g).is_finite l.worker-iterator
     × Starting l.store l.fn.workers.items l.fn.passes.items
-        (map (λ h. h.promise.worker.value) l.handles.items) (map (λ h. h.promise.pass.value) l.handles.items)
-        (into_iter_items first) (into_iter_items second)
+    (map (λ h. h.promise.worker.value) l.handles.items) (map (λ h. h.promise.pass.value) l.handles.items)
+    (into_iter_items first) (into_iter_items second)
     × (vec_len l.handles + into_iter_len first ≡ vec_len l.fn.workers)
     × (vec_capacity l.handles ≡ vec_capacity l.initial.handles)
