@@ -10,6 +10,7 @@ use std::test::Fail;
 use stream_check::{Ending, Fault, Report};
 
 mod serial;
+mod threads;
 
 /// Paper that takes so many bytes a write, at least one, until a write of this number, from 1 on.
 #[derive(Drop)]
