@@ -1,5 +1,0 @@
-pub mod FaultLemmas
-pub mod FoundLemmas
-pub mod PlainLemmas
-pub mod ProgramLemmas
-pub mod ReadLemmas

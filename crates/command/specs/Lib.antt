@@ -1,3 +1,2 @@
-pub mod CommandLine
-pub mod Laws
-pub mod Matches
+pub mod Commands
+pub mod Faults

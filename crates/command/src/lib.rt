@@ -1,11 +1,12 @@
-//! The command line of `lrupd`, read by `clap`.
+//! The whole run of `lrupd` over the files, sinks, clock and threads that a program hands in.
 #![tactic(auto)]
 
-mod arguments;
-mod help;
-pub mod laws;
+mod checking;
+mod fault;
+mod files;
+mod program;
 #[cfg(test)]
 mod tests;
-mod words;
 
-pub use words::{CommandLine, Paths, UsageText, WordsFault, read_words};
+pub use files::{Files, OpenFault};
+pub use program::command;

@@ -1,0 +1,77 @@
+-- Why the program ends without a report: what it says of that, and its status (this project's own).
+use Rattle.std.specs.Prelude.{ℕ, List, ◌++◌, codes}
+use Rattle.std.specs.Fmt.{decimal}
+use Rattle.command_line.specs.declared.words.WordsFault.{WordsFault}
+use Rattle.command_line.specs.declared.words.WordsFault.TheVariants as words
+use Rattle.dimacs.specs.declared.fault.DimacsFault.{DimacsFault}
+use Rattle.dimacs.specs.declared.fault.DimacsFault.TheVariants as formulas
+use Rattle.lrup_model.specs.Layout.{fault_text}
+use Rattle.lrup_model.specs.declared.layout.LayoutFault.{LayoutFault}
+use Rattle.lrup_model.specs.declared.layout.LayoutFault.TheVariants as layouts
+use Rattle.portfolio.specs.declared.outcome.RunFault.{RunFault}
+use Rattle.portfolio.specs.declared.outcome.RunFault.TheVariants as runs
+use Rattle.command.specs.declared.files.OpenFault.{OpenFault}
+use Rattle.command.specs.declared.files.OpenFault.TheVariants as opens
+use Rattle.command.specs.declared.fault.CommandFault.{CommandFault}
+use Rattle.command.specs.declared.fault.CommandFault.TheVariants as faults
+
+-- want of memory is one fault, wherever it comes
+abbrev pub of_words : WordsFault → CommandFault
+of_words (words.Usage text) = faults.Usage text
+of_words words.Memory = faults.Memory
+
+abbrev pub of_formula : DimacsFault → CommandFault
+of_formula formulas.Memory = faults.Memory
+of_formula fault = faults.Refused fault
+
+abbrev pub of_open : OpenFault → CommandFault
+of_open opens.NotOpened = faults.Unread
+of_open opens.Memory = faults.Memory
+
+abbrev pub of_run : RunFault → CommandFault
+of_run (runs.Layout fault) = faults.Layout fault
+of_run runs.Memory = faults.Memory
+of_run (runs.Spawn stream) = faults.NotStarted stream
+
+-- The status.
+abbrev pub layout_status : LayoutFault → ℕ
+layout_status layouts.TooManyVariables = 4
+layout_status layouts.TooManyClauses = 4
+layout_status layouts.BadStreamCount = 2
+layout_status layouts.RowTooLong = 2
+
+abbrev pub status_of : CommandFault → ℕ
+status_of (faults.Usage text) = 2
+status_of faults.Unread = 5
+status_of (faults.Refused fault) = 4
+status_of (faults.NotOpened stream) = 5
+status_of (faults.Layout fault) = layout_status fault
+status_of (faults.NotStarted stream) = 6
+status_of faults.Memory = 6
+status_of faults.Unwritten = 7
+
+-- What is said: a usage fault in the words of the command line's reader, each other fault in one line.
+abbrev pub formula_fault_text : DimacsFault → List ℕ
+formula_fault_text formulas.NoHeader = codes "formula refused: no header"
+formula_fault_text formulas.BadHeader = codes "formula refused: bad header"
+formula_fault_text (formulas.BadNumber line) = codes "formula refused: bad number in line " ++ decimal line
+formula_fault_text (formulas.VariableRange line) = codes "formula refused: variable out of range in line " ++ decimal line
+formula_fault_text formulas.OpenClause = codes "formula refused: open clause"
+formula_fault_text formulas.TooFew = codes "formula refused: too few clauses"
+formula_fault_text (formulas.TooMany line) = codes "formula refused: too many clauses in line " ++ decimal line
+formula_fault_text formulas.Limit = codes "formula refused: limit"
+formula_fault_text formulas.Memory = codes "out of memory"
+
+abbrev pub cause_text : CommandFault → List ℕ
+cause_text (faults.Usage text) = text
+cause_text faults.Unread = codes "cannot read formula"
+cause_text (faults.Refused fault) = formula_fault_text fault
+cause_text (faults.NotOpened stream) = codes "cannot open stream " ++ decimal stream
+cause_text (faults.Layout fault) = fault_text fault
+cause_text (faults.NotStarted stream) = codes "worker " ++ decimal stream ++ codes " not started"
+cause_text faults.Memory = codes "out of memory"
+cause_text faults.Unwritten = codes "cannot write report"
+
+abbrev pub text_of : CommandFault → List ℕ
+text_of (faults.Usage text) = text
+text_of fault = codes "lrupd: " ++ cause_text fault ++ codes "\n"

@@ -1,0 +1,183 @@
+//! From the words to the reports.
+ghost use Rattle.std.specs.Prelude.{◌≡◌, ◌≤◌, ◌<◌, ℕ, true, Bool, List, Option, None, false, IfErr, IfOk, length, map, vec_len};
+ghost use Rattle.std.specs.Io.KnownBytes.{Consumes, IsAtEnd};
+ghost use Rattle.std.specs.List.{AllByRecursion};
+ghost use Rattle.std.specs.Option.{ForSome};
+ghost use Rattle.clap.specs.Walk.{texts};
+ghost use Rattle.dimacs.specs.FormulaFault.{IsFaultOf};
+ghost use Rattle.dimacs.specs.FormulaText.{IsTextOf};
+ghost use Rattle.lrup_model.specs.Entailment.{IsUnsatisfiable};
+ghost use Rattle.portfolio.specs.Outcomes.{IsVerdictOf, OptionsValue, layout_of};
+ghost use Rattle.portfolio.specs.Streams.{AreTold, Stream};
+ghost use Rattle.command.specs.Commands.{AreChecked, IsCause, IsFormulaAt, IsOpenCause, IsOutcome};
+ghost use Rattle.command.specs.Commands.{IsReadCause, IsRunCause, NamesRefuted};
+
+use crate::fault::CommandFault;
+use crate::files::{Files, OpenFault};
+use command_line::read_words;
+use lrup_model::{Formula, Id};
+use lrup_text::Source;
+use portfolio::{Options, Outcome, Pause, SerialOutcome, Verdict, run, run_serial};
+use std::alloc::{AllocError, Global};
+use std::sync::Wait;
+use std::thread::Threads;
+use std::time::Clock;
+use stream_check::{Gate, Report};
+
+/// How many bytes of a formula's file are read at a time, at most.
+const PIECE: usize = 1 << 16;
+
+/// What a run found.
+#[derive(Drop)]
+pub struct Found {
+    /// What is said of each stream, in order.
+    pub reports: Vec<Report>,
+    /// What the reports come to.
+    pub verdict: Verdict,
+}
+
+/// Reads the words, the formula and the streams that they name, and checks the streams. It blocks while a file does.
+pub fn check_words<T: Threads + Wait + Sync, C: Clock + Sync, F: Files>(
+    threads: &T,
+    clock: &C,
+    alloc: Global,
+    words: &[&str],
+    files: &mut F,
+) -> Result<Found, CommandFault>
+    ensures outcome { IfOk result (λ found. IsOutcome (texts words.now) (F.tells files.old) found.reports.items found.verdict) }
+    ensures sound { IfOk result (λ found. found.verdict ≡ Verdict.Unsatisfiable → NamesRefuted (texts words.now) (F.tells files.old)) }
+    ensures cause { IfErr result (IsCause (texts words.now) (F.tells files.old)) }
+{
+    let line = read_words(alloc, words)?;
+    let formula = read_formula(threads, alloc, files, line.formula)?;
+    let options = Options::new(line.tries, line.lines, line.room).unwrap();
+    let readers = open_streams(alloc, files, line.streams.as_slice())?;
+    if line.serial {
+        check_serially(threads, alloc, &formula, options, readers)
+    } else {
+        check_in_threads(threads, clock, alloc, &formula, options, readers)
+    }
+}
+
+/// Opens, reads and parses a formula's file.
+fn read_formula<W: Wait, F: Files>(
+    wait: &W,
+    alloc: Global,
+    files: &mut F,
+    path: &str,
+) -> Result<Formula, CommandFault>
+    ensures formula { IfOk result (IsFormulaAt (F.tells files.old path.now)) }
+    ensures cause { IfErr result (IsReadCause (F.tells files.old path.now)) }
+    ensures stays { F.tells files.new ≡ F.tells files.old }
+{
+    let mut source = files.open(path)?;
+    let bytes = read_all(wait, alloc, &mut source)?;
+    Ok(dimacs::parse(alloc, &bytes)?)
+}
+
+/// Reads a source to its end.
+fn read_all<W: Wait, S: Source>(
+    wait: &W,
+    alloc: Global,
+    source: &mut S,
+) -> Result<Vec<u8>, CommandFault>
+    requires running { S.has_failed source.old ≡ false }
+    ensures all { IfOk result (λ bytes. ForSome (S.left source.old) (λ all. all ≡ bytes.items)) }
+    ensures fault { IfErr result (IsReadCause None) }
+{
+    let mut bytes = Vec::new(alloc);
+    let mut piece = vec![in alloc; 0; PIECE]?;
+    for _ in wait.forever() {
+        let count = source.read(&mut piece)?;
+        if count == 0 {
+            break;
+        }
+        bytes.extend_from_slice(&piece[..count])?;
+    }
+    Ok(bytes)
+}
+
+/// Opens the files of the streams, in order.
+fn open_streams<F: Files>(
+    alloc: Global,
+    files: &mut F,
+    paths: &[&str],
+) -> Result<Vec<F::Input>, CommandFault>
+    ensures left { IfOk result (λ readers. map F.Input.Source.left readers.items ≡ map (F.tells files.old) (texts paths.now)) }
+    ensures running { IfOk result (λ readers. AllByRecursion (λ r. F.Input.Source.has_failed r ≡ false) readers.items) }
+    ensures cause { IfErr result (IsOpenCause (length paths.now)) }
+{
+    let mut readers = Vec::with_capacity(alloc, paths.len())?;
+    for path in paths {
+        match files.open(path) {
+            Ok(reader) => readers.push_reserved(reader),
+            Err(OpenFault::NotOpened) => {
+                return Err(CommandFault::NotOpened(readers.len() as u64 + 1));
+            }
+            Err(OpenFault::Memory) => return Err(CommandFault::Memory),
+        }
+    }
+    Ok(readers)
+}
+
+/// Checks the streams on this thread, by turns.
+fn check_serially<W: Wait, R: Source + Drop>(
+    wait: &W,
+    alloc: Global,
+    formula: &Formula,
+    options: Options,
+    readers: Vec<R>,
+) -> Result<Found, CommandFault>
+    requires running { AllByRecursion (λ r. R.has_failed r ≡ false) readers.items }
+    ensures checked { IfOk result (λ found. AreChecked true formula.now options (map R.left readers.items) found.reports.items found.verdict) }
+    ensures cause { IfErr result (IsRunCause true formula.now options (length readers.items)) }
+{
+    let mut gates = Vec::with_capacity(alloc, readers.len())?;
+    for _ in 0..readers.len() {
+        gates.push_reserved(NoPause);
+    }
+    let outcome = run_serial(wait, alloc, formula, options, readers, gates)?;
+    let SerialOutcome {
+        reports,
+        verdict,
+        readers: _,
+    } = outcome;
+    Ok(Found { reports, verdict })
+}
+
+/// Checks the streams, each in a thread of its own.
+fn check_in_threads<T: Threads + Wait + Sync, C: Clock + Sync, R: Source + Send + Drop>(
+    threads: &T,
+    clock: &C,
+    alloc: Global,
+    formula: &Formula,
+    options: Options,
+    readers: Vec<R>,
+) -> Result<Found, CommandFault>
+    requires running { AllByRecursion (λ r. R.has_failed r ≡ false) readers.items }
+    ensures checked { IfOk result (λ found. AreChecked false formula.now options (map R.left readers.items) found.reports.items found.verdict) }
+    ensures cause { IfErr result (IsRunCause false formula.now options (length readers.items)) }
+{
+    let mut gates = Vec::with_capacity(alloc, readers.len())?;
+    for _ in 0..readers.len() {
+        gates.push_reserved(Pause::new(clock));
+    }
+    let outcome = run(threads, alloc, formula, options, readers, gates)?;
+    let Outcome {
+        reports,
+        verdict,
+        passes: _,
+        readers: _,
+    } = outcome;
+    Ok(Found { reports, verdict })
+}
+
+/// The gate of a stream that is checked on one thread: no other stream publishes while it looks for a hint, so it never waits.
+#[derive(Drop)]
+struct NoPause;
+
+impl Gate for NoPause {
+    fn before_fetch(&mut self, _stream: u64, _id: Id, _attempt: u64) {}
+
+    fn after_publish(&mut self, _stream: u64, _id: Id) {}
+}

@@ -1,7 +1,0 @@
-//! Laws of the definitions. Each function does nothing; its contract is the law.
-ghost use Rattle.command.specs.Laws.{PlainWords};
-
-/// Words of which none begins with a hyphen are a formula and its streams, with each option's default.
-pub fn plain_words()
-    ensures { PlainWords }
-{}

@@ -1,0 +1,90 @@
+//! The program, but for the machine that it runs on.
+ghost use Rattle.std.specs.Prelude.{◌≡◌, ◌↔◌, ◌⊎◌, IsTrue, false};
+ghost use Rattle.clap.specs.Walk.{texts};
+ghost use Rattle.portfolio.specs.ReportText.{report_text};
+ghost use Rattle.command_line.specs.CommandLine.{HaveFault};
+ghost use Rattle.command.specs.Commands.{EndsWithFault, EndsWithReport, NamesRefuted, SaysOfReport};
+ghost use Rattle.command.specs.Commands.{Takes, report_status};
+ghost use Rattle.command.specs.Faults.{status_of, text_of};
+
+use crate::checking::{Found, check_words};
+use crate::fault::CommandFault;
+use crate::files::Files;
+use lrup_text::{Sink, WriteFault};
+use portfolio::{Verdict, write_report};
+use std::alloc::Global;
+use std::sync::Wait;
+use std::thread::Threads;
+use std::time::Clock;
+
+/// Runs `lrupd` with the words after the program's name, and gives the status that it ends with. In this order: the words are
+/// read, the formula's file is read and parsed, the streams are opened and checked, and the report goes to `out`. Where there is no
+/// report, `out` gets nothing, and `err` the cause. It blocks while a file does.
+///
+/// | status | where |
+/// |---|---|
+/// | 0 | the report says `s UNSATISFIABLE` |
+/// | 2 | the words have a mistake or ask for help; too many streams; the options make the row too long |
+/// | 3 | the report says `s UNKNOWN` |
+/// | 4 | the formula was refused |
+/// | 5 | the formula's file wasn't opened or read; a stream's file wasn't opened |
+/// | 6 | out of memory; a worker couldn't be started |
+/// | 7 | the report couldn't be written |
+pub fn command<T: Threads + Wait + Sync, C: Clock + Sync, F: Files, O: Sink, E: Sink>(
+    threads: &T,
+    clock: &C,
+    alloc: Global,
+    words: &[&str],
+    files: &mut F,
+    out: &mut O,
+    err: &mut E,
+) -> u8
+    requires out { O.has_failed out.old ≡ false }
+    requires err { E.has_failed err.old ≡ false }
+    // What a user relies on.
+    ensures sound { result ≡ 0 → NamesRefuted (texts words.now) (F.tells files.old) }
+    // A report of what the words and the files come to, or none and the cause; what goes out; and the status.
+    ensures ends { EndsWithReport (texts words.now) (F.tells files.old)
+        (record { before = O.written out.old; after = O.written out.new; failed = O.has_failed out.new })
+        (record { before = E.written err.old; after = E.written err.new; failed = E.has_failed err.new }) result
+        ⊎ EndsWithFault (texts words.now) (F.tells files.old)
+        (record { before = O.written out.old; after = O.written out.new; failed = O.has_failed out.new })
+        (record { before = E.written err.old; after = E.written err.new; failed = E.has_failed err.new }) result }
+    ensures usage { HaveFault (texts words.now) → (result ≡ 2) ⊎ (result ≡ 6) }
+    ensures unwritten { IsTrue (O.has_failed out.new) ↔ (result ≡ 7) }
+{
+    match check_words(threads, clock, alloc, words, files) {
+        Ok(found) => report(&found, out, err),
+        Err(fault) => say(&fault, err),
+    }
+}
+
+/// Writes the report of what was found, and gives the status.
+fn report<O: Sink, E: Sink>(found: &Found, out: &mut O, err: &mut E) -> u8
+    requires out { O.has_failed out.old ≡ false }
+    requires err { E.has_failed err.old ≡ false }
+    ensures printed { Takes (record { before = O.written out.old; after = O.written out.new; failed = O.has_failed out.new })
+        (report_text found.now.reports.items found.now.verdict) }
+    ensures said { SaysOfReport (O.has_failed out.new)
+        (record { before = E.written err.old; after = E.written err.new; failed = E.has_failed err.new }) }
+    ensures status { result ≡ report_status (O.has_failed out.new) found.now.verdict }
+{
+    match write_report(&found.reports, found.verdict, out) {
+        Ok(()) => match found.verdict {
+            Verdict::Unsatisfiable => 0,
+            Verdict::Unknown => 3,
+        },
+        Err(WriteFault) => say(&CommandFault::Unwritten, err),
+    }
+}
+
+/// Says why there is no report, or not all of it, and gives the status, whether that could be written or not.
+fn say<E: Sink>(fault: &CommandFault, err: &mut E) -> u8
+    requires err { E.has_failed err.old ≡ false }
+    ensures said { Takes (record { before = E.written err.old; after = E.written err.new; failed = E.has_failed err.new })
+        (text_of fault.now) }
+    ensures status { result ≡ status_of fault.now }
+{
+    let _ = fault.write(err);
+    fault.status()
+}

@@ -1,0 +1,5 @@
+pub mod FaultLemmas
+pub mod FoundLemmas
+pub mod PlainLemmas
+pub mod ProgramLemmas
+pub mod ReadLemmas

@@ -1,0 +1,42 @@
+-- What is read of the rows by clap's getters.
+use Rattle.std.proofs.Common.{◌≡◌, ◌∙◌, ◌⊎◌, ◌≤◌, refl, sym, ap, inl, inr, codes, ℕ, Bool, true, false, List, Option, Some, None, Result, Ok, Err}
+use Rattle.std.specs.Str.{bytes_eq}
+use Rattle.std.specs.Prelude.{unwrap_or}
+use Rattle.std.specs.Option.{ForSome, option_map_or}
+use Rattle.std.specs.Str.Parse.{ParsesUnsigned, digits_value, without_leading_plus}
+use Rattle.clap.specs.Words.{IsUnsignedIn, ReadsOne, Row, Text, one_of}
+use Rattle.command_line.specs.CommandLine.{number_of}
+use Rattle.command_line.specs.Matches.{HasNumber, HasUpTo, IsNumber}
+
+-- a text that is a number of 64 bits reads as this number, and none as the default
+pub number_read : (E : Type 0) (G : Text → Result ℕ E → Type 0) → ((t : Text) (r : Result ℕ E) → G t r → ParsesUnsigned 64 10 t r)
+    → (found : Option Text) (read : Option ℕ) (default : ℕ) → (found ≡ None → read ≡ None) → ((t : Text) → found ≡ Some t → ReadsOne G t read)
+    → ForSome found IsNumber
+    → unwrap_or read default ≡ option_map_or (λ t. digits_value 10 (without_leading_plus t)) found default
+number_read E G only None read default none some number = rw (none refl) refl
+number_read E G only (Some t) None default none some number =
+    let failed = some t refl in
+    absurd (only t (Err failed.0) failed.1 (number t refl))
+number_read E G only (Some t) (Some n) default none some number = (only t (Ok n) (some t refl)).1
+
+-- a number from 0 to `most` is one of 64 bits
+pub up_to_is_number : (most : ℕ) (name : Text) (rows : List Row) → HasUpTo most name rows → HasNumber name rows
+up_to_is_number most name rows up_to text is = ((up_to text is).0, (up_to text is).1)
+
+-- the number of an option is at most `most`, as its default is
+pub number_within : (most : ℕ) (name : Text) (default : ℕ) (rows : List Row) → HasUpTo most name rows → default ≤ most → number_of name default rows ≤ most
+number_within most name default rows up_to small = go (one_of name rows) up_to
+  where
+    go : (found : Option Text) → ForSome found (IsUnsignedIn 0 most) → option_map_or (λ t. digits_value 10 (without_leading_plus t)) found default ≤ most
+    go None h = small
+    go (Some t) h = (h t refl).3
+
+-- a flag whose text is `true` or `false` reads as that, and none as false
+pub flag_read : (found : Option Text) (read : Bool) → (found ≡ None → read ≡ false) → (found ≡ Some (codes "true") → read ≡ true) → (found ≡ Some (codes "false") → read ≡ false)
+    → ForSome found (λ t. (t ≡ codes "true") ⊎ (t ≡ codes "false"))
+    → read ≡ option_map_or (λ t. bytes_eq t (codes "true")) found false
+flag_read None read none on off truth = none refl
+flag_read (Some t) read none on off truth = elim (truth t refl) [
+  | inl is ↦ on (ap Some is) ∙ sym (ap (λ (u : Text). bytes_eq u (codes "true")) is)
+  | inr is ↦ off (ap Some is) ∙ sym (ap (λ (u : Text). bytes_eq u (codes "true")) is)
+]

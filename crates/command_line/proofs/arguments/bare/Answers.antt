@@ -1,0 +1,17 @@
+use Rattle.std.proofs.Common.{◌≡◌, ◌∙◌, ap, true}
+use Rattle.clap.specs.Words.{App, app_of}
+use Rattle.clap.specs.Simple.{Shape, app_of_fields, on_top}
+use Rattle.command_line.specs.CommandLine.{without_arguments}
+use Rattle.command_line.proofs.arguments.bare.Goals as goal
+
+-- a command whose words don't begin with the program's name
+abbrev nameless : App → App
+nameless = on_top (λ (s : Shape). record s { no_binary_name = true })
+
+-- the texts of help are no part of what a parse reads
+pub returns : goal.returns
+returns c =
+    let none : app_of c.no_binary_name.result ≡ without_arguments = ap app_of_fields c.no_binary_name.ensures ∙ ap nameless c.new.ensures.app in
+    let about : app_of c.about.result ≡ without_arguments = ap app_of_fields c.about.ensures ∙ none in
+    let after : app_of c.after_help.result ≡ without_arguments = ap app_of_fields c.after_help.ensures ∙ about in
+    ap app_of_fields c.next_line_help.ensures ∙ after

@@ -1,0 +1,105 @@
+-- The command line of `lrupd`: what `clap` is told of it, and what it finds in the words.
+use Rattle.std.specs.Prelude.{◌≡◌, ◌≢◌, ◌<◌, ◌≤◌, ⊤, ℕ, Bool, true, false, List, [], ◌∷◌, Some, codes, length}
+use Rattle.std.specs.Option.{option_map_or}
+use Rattle.std.specs.Str.{bytes_eq}
+use Rattle.std.specs.Str.Parse.{digits_value, without_leading_plus}
+use Rattle.clap.specs.Lexer.{usize_max}
+use Rattle.clap.specs.Words.{App, Row, Rule, Text, all_of, fault_of, first_of, matches_of}
+use Rattle.clap.specs.Words.{new_rule, one_of}
+use Rattle.clap.specs.Simple.{new_shape, on_top}
+use Rattle.clap.specs.declared.builder.action.ArgAction.TheVariants.{Append, SetTrue}
+use Rattle.clap.specs.declared.builder.value_parser.ValueParser.TheVariants as parser
+use Rattle.command_line.specs.declared.words.CommandLine.{CommandLine}
+use Rattle.command_line.specs.declared.words.WordsFault.{WordsFault}
+use Rattle.command_line.specs.declared.words.WordsFault.TheVariants.{Usage, Memory}
+
+-- the greatest number of each option
+abbrev pub max_tries : ℕ
+max_tries = 1000000
+
+abbrev pub max_lines : ℕ
+max_lines = 268435456
+
+abbrev pub max_room : ℕ
+max_room = 268435456
+
+-- an option `--name N`, of a number from 0 to `most`
+abbrev pub number_rule : Text → ℕ → Rule
+number_rule name most = record (new_rule name) {
+  long = Some name;
+  value_names = 1;
+  parser = Some (parser.Unsigned 0 most);
+}
+
+-- the flag `--serial`
+abbrev pub serial_rule : Rule
+serial_rule = record (new_rule (codes "serial")) {
+  long = Some (codes "serial");
+  action = Some SetTrue;
+  parser = Some parser.Bool;
+}
+
+-- FORMULA: one word
+abbrev pub formula_rule : Rule
+formula_rule = record (new_rule (codes "FORMULA")) { required = true }
+
+-- STREAM...: one word or more
+abbrev pub stream_rule : Rule
+stream_rule = record (new_rule (codes "STREAM")) {
+  required = true;
+  action = Some Append;
+  range = Some (record { start_inclusive = 1; end_inclusive = usize_max });
+}
+
+abbrev pub rules : List Rule
+rules = number_rule (codes "tries") max_tries
+    ∷ number_rule (codes "lines") max_lines
+    ∷ number_rule (codes "room") max_room
+    ∷ serial_rule ∷ formula_rule ∷ stream_rule ∷ []
+
+-- the command, with no argument and no subcommand; its words don't begin with the program's name
+abbrev pub without_arguments : App
+without_arguments =
+    record { top = record (new_shape (codes "lrupd")) { no_binary_name = true }; subs = [] }
+
+-- the command, with its arguments
+abbrev pub lrupd : App
+lrupd = on_top (λ s. record s { rules = rules }) without_arguments
+
+-- ---- what the words say, by the rows that are found in them
+
+-- the number that an option has, or `default` where the words don't have the option
+abbrev pub number_of : Text → ℕ → List Row → ℕ
+number_of name default rows =
+    option_map_or (λ text. digits_value 10 (without_leading_plus text)) (one_of name rows) default
+
+-- the words have the flag
+abbrev pub is_set : Text → List Row → Bool
+is_set name rows = option_map_or (λ text. bytes_eq text (codes "true")) (one_of name rows) false
+
+-- the words have a fault: a mistake, or a request for help
+abbrev pub HaveFault : List Text → Type 0
+HaveFault words = fault_of lrupd words ≢ []
+
+-- What the rows say, field by field.
+pub record IsSaidBy (rows : List Row) (given : CommandLine) : Type 0 where
+  pub tries : given.tries ≡ number_of (codes "tries") 1000 rows
+  pub few_tries : given.tries ≤ max_tries
+  pub lines : given.lines ≡ number_of (codes "lines") 65536 rows
+  pub few_lines : given.lines ≤ max_lines
+  pub room : given.room ≡ number_of (codes "room") 1048576 rows
+  pub small_room : given.room ≤ max_room
+  pub serial : given.serial ≡ is_set (codes "serial") rows
+  pub formula : first_of (codes "FORMULA") rows ≡ Some given.formula.now
+  pub streams : all_of (codes "STREAM") rows ≡ Some given.streams
+  pub one : 0 < length given.streams
+
+-- The command line that the words give: they have no fault, and it is what is found in them.
+pub record IsCommandLineOf (words : List Text) (given : CommandLine) : Type 0 where
+  pub good : fault_of lrupd words ≡ []
+  pub said : IsSaidBy (matches_of lrupd words) given
+
+-- Why there is none: the words have a fault, or memory ran out.
+abbrev pub IsFaultOf : List Text → WordsFault → Type 0
+IsFaultOf words (Usage text) = HaveFault words
+IsFaultOf words Memory = ⊤

@@ -1,0 +1,29 @@
+-- What the words say in the plainest case, as a law over all texts.
+use Rattle.std.specs.Prelude.{◌≡◌, ◌==◌, ◌<◌, ◌^◌, Bool, true, false, not, List, [], ◌∷◌, length}
+use Rattle.std.specs.List.{list_all}
+use Rattle.clap.specs.Words.{Text, fault_of}
+use Rattle.command_line.specs.CommandLine.{IsCommandLineOf, lrupd}
+use Rattle.command_line.specs.declared.words.CommandLine.{CommandLine}
+
+-- the word doesn't begin with a hyphen (45)
+abbrev pub is_plain : Text → Bool
+is_plain [] = true
+is_plain (byte ∷ rest) = not (byte == 45)
+
+-- a formula and its streams, with each option's default
+pub record HasDefaults (first : Text) (rest : List Text) (given : CommandLine) : Type 0 where
+  pub formula : given.formula.now ≡ first
+  pub streams : given.streams ≡ rest
+  pub tries : given.tries ≡ 1000
+  pub lines : given.lines ≡ 65536
+  pub room : given.room ≡ 1048576
+  pub serial : given.serial ≡ false
+
+-- Words of which none begins with a hyphen are a formula and its streams in order, whatever they
+-- are.
+abbrev pub PlainWords : Type 0
+PlainWords = (formula : Text) (streams : List Text) → is_plain formula ≡ true
+    → list_all is_plain streams ≡ true → 0 < length streams → length streams < 2 ^ 64
+    → (fault_of lrupd (formula ∷ streams) ≡ [])
+    × ((given : CommandLine) → IsCommandLineOf (formula ∷ streams) given
+    → HasDefaults formula streams given)

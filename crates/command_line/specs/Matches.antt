@@ -1,0 +1,49 @@
+-- What is found in words that have no fault (words inside the crate).
+use Rattle.std.specs.Prelude.{◌≡◌, ◌≢◌, ◌⊎◌, ◌<◌, ◌^◌, ⊤, ℕ, List, [], Some, codes, length, IsSome}
+use Rattle.std.specs.Option.{ForSome}
+use Rattle.std.specs.Str.Parse.{IsNumeral, digits_value, without_leading_plus}
+use Rattle.clap.specs.Words.{IsUnsignedIn, Row, Text, all_of, fault_of, first_of, kind_of}
+use Rattle.clap.specs.Words.{matches_of, one_of}
+use Rattle.clap.specs.declared.error.Error.{Error}
+use Rattle.clap.specs.declared.error.kind.ErrorKind.TheVariants.{OutOfMemory}
+use Rattle.command_line.specs.CommandLine.{lrupd, max_lines, max_room, max_tries}
+use Rattle.command_line.specs.declared.words.WordsFault.{WordsFault}
+use Rattle.command_line.specs.declared.words.WordsFault.TheVariants.{Usage, Memory}
+
+-- a number of 64 bits
+abbrev pub IsNumber : Text → Type 0
+IsNumber text = IsNumeral 10 (without_leading_plus text)
+    × (digits_value 10 (without_leading_plus text) < 2 ^ 64)
+
+-- if the option is there, it has a number of 64 bits, or one from 0 to `most`
+abbrev pub HasNumber : Text → List Row → Type 0
+HasNumber name rows = ForSome (one_of name rows) IsNumber
+
+abbrev pub HasUpTo : ℕ → Text → List Row → Type 0
+HasUpTo most name rows = ForSome (one_of name rows) (IsUnsignedIn 0 most)
+
+-- if the flag is there, it is `true` or `false`
+abbrev pub HasTruth : Text → List Row → Type 0
+HasTruth name rows =
+    ForSome (one_of name rows) (λ text. (text ≡ codes "true") ⊎ (text ≡ codes "false"))
+
+-- what is there in the rows of words without a fault
+pub record AreWhole (rows : List Row) : Type 0 where
+  pub tries : HasUpTo max_tries (codes "tries") rows
+  pub lines : HasUpTo max_lines (codes "lines") rows
+  pub room : HasUpTo max_room (codes "room") rows
+  pub serial : HasTruth (codes "serial") rows
+  pub formula : IsSome (first_of (codes "FORMULA") rows)
+  pub streams : (paths : List Text) × (all_of (codes "STREAM") rows ≡ Some paths)
+      × (0 < length paths)
+
+-- the rows are those of the words, which have no fault
+pub record AreFound (words : List Text) (rows : List Row) : Type 0 where
+  pub good : fault_of lrupd words ≡ []
+  pub found : rows ≡ matches_of lrupd words
+  pub whole : AreWhole rows
+
+-- what is made of an error of `clap`
+abbrev pub IsFaultFrom : Error → WordsFault → Type 0
+IsFaultFrom error (Usage text) = kind_of error ≢ OutOfMemory
+IsFaultFrom error Memory = ⊤

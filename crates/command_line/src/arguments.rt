@@ -1,0 +1,89 @@
+//! What `clap` is told of the command line.
+ghost use Rattle.std.specs.Prelude.{◌≡◌, IfOk, false};
+ghost use Rattle.clap.specs.Words.{app_of, rule_of};
+ghost use Rattle.command_line.specs.CommandLine.{formula_rule, lrupd, number_rule, serial_rule};
+ghost use Rattle.command_line.specs.CommandLine.{stream_rule, without_arguments};
+
+use crate::help;
+use clap::builder::ValueParser;
+use clap::{Arg, ArgAction, Command};
+use std::alloc::{AllocError, Global};
+
+/// The greatest number of `--tries`.
+const MAX_TRIES: u64 = 1_000_000;
+
+/// The greatest number of `--lines`.
+const MAX_LINES: u64 = 268_435_456;
+
+/// The greatest number of `--room`.
+const MAX_ROOM: u64 = 268_435_456;
+
+/// The command, with its arguments.
+pub fn program<'a>(alloc: Global) -> Result<Command<'a>, AllocError>
+    ensures { IfOk result (λ program. app_of program ≡ lrupd) }
+{
+    let command = bare(alloc);
+    let command = command.arg(number(alloc, "tries", MAX_TRIES, help::TRIES))?;
+    let command = command.arg(number(alloc, "lines", MAX_LINES, help::LINES))?;
+    let command = command.arg(number(alloc, "room", MAX_ROOM, help::ROOM))?;
+    let command = command.arg(serial(alloc))?;
+    let command = command.arg(formula(alloc))?;
+    command.arg(stream(alloc))
+}
+
+/// The command, with what help says of it and no argument yet.
+fn bare<'a>(alloc: Global) -> Command<'a>
+    ensures { app_of result ≡ without_arguments }
+{
+    Command::new(alloc, "lrupd")
+        .no_binary_name(true)
+        .about(help::PROGRAM)
+        .after_help(help::EXAMPLE)
+        .next_line_help(true)
+}
+
+/// The option `--name N`, of a number from 0 to `most`.
+fn number<'a>(alloc: Global, name: &'a str, most: u64, help: &'a str) -> Arg<'a>
+    ensures rule { rule_of result ≡ number_rule name.now most }
+    ensures local { result.global ≡ false }
+{
+    Arg::new(alloc, name)
+        .long(name)
+        .value_name("N")
+        .value_parser(ValueParser::Unsigned(0, most))
+        .help(help)
+}
+
+/// The flag `--serial`.
+fn serial<'a>(alloc: Global) -> Arg<'a>
+    ensures rule { rule_of result ≡ serial_rule }
+    ensures local { result.global ≡ false }
+{
+    Arg::new(alloc, "serial")
+        .long("serial")
+        .action(ArgAction::SetTrue)
+        .value_parser(ValueParser::Bool)
+        .help(help::SERIAL)
+}
+
+/// The word FORMULA.
+fn formula<'a>(alloc: Global) -> Arg<'a>
+    ensures rule { rule_of result ≡ formula_rule }
+    ensures local { result.global ≡ false }
+{
+    Arg::new(alloc, "FORMULA")
+        .required(true)
+        .help(help::FORMULA)
+}
+
+/// The words STREAM, one or more.
+fn stream<'a>(alloc: Global) -> Arg<'a>
+    ensures rule { rule_of result ≡ stream_rule }
+    ensures local { result.global ≡ false }
+{
+    Arg::new(alloc, "STREAM")
+        .required(true)
+        .action(ArgAction::Append)
+        .num_args(1..)
+        .help(help::STREAM)
+}

@@ -1,0 +1,188 @@
+//! The words of the command line.
+ghost use Rattle.std.specs.Prelude.{◌≡◌, IfErr, IfOk, IsSome, Some, codes};
+ghost use Rattle.clap.specs.Walk.{rows_of, texts};
+ghost use Rattle.clap.specs.Words.{FailsBy, all_of, fault_of, first_of, found_of};
+ghost use Rattle.command_line.specs.CommandLine.{IsCommandLineOf, IsFaultOf, IsSaidBy, is_set, lrupd, number_of};
+ghost use Rattle.command_line.specs.Matches.{AreFound, AreWhole, HasNumber, HasTruth, IsFaultFrom};
+
+use crate::arguments::program;
+use clap::error::ErrorKind;
+use clap::{ArgMatches, Error as ClapError};
+use std::alloc::{AllocError, Global};
+use std::fmt;
+use std::marker::Model;
+use thiserror::Error;
+
+/// What the words ask for.
+#[derive(Debug, Drop)]
+pub struct CommandLine<'a> {
+    /// How often a vacant hint is looked up again, at most 1,000,000.
+    pub tries: u64,
+    /// The identities of each stream, at most 268,435,456.
+    pub lines: u64,
+    /// The literals of each stream's own clauses, at most 268,435,456.
+    pub room: u64,
+    /// Whether one thread checks all streams by turns.
+    pub serial: bool,
+    /// The path of the formula.
+    pub formula: &'a str,
+    /// The paths of the streams.
+    pub streams: Paths<'a>,
+}
+
+/// Paths in their order.
+#[derive(Debug, Drop)]
+pub struct Paths<'a> {
+    paths: Vec<&'a str>,
+}
+
+impl<'a> Model for Paths<'a> {
+    ghost use Rattle.std.specs.Prelude.{List, ℕ};
+    ghost use Rattle.clap.specs.Walk.{texts};
+
+    ghost Value = { List (List ℕ) };
+
+    ghost view = { λ p. texts p.paths.items };
+}
+
+impl<'a> Paths<'a> {
+    /// The paths.
+    pub fn as_slice(&self) -> &[&'a str]
+        ensures { texts result.now ≡ self.now }
+    {
+        self.paths.as_slice()
+    }
+}
+
+/// The text of a usage fault or of the help, with LF at its end.
+#[derive(Debug, Drop)]
+pub struct UsageText {
+    text: String,
+}
+
+impl Model for UsageText {
+    ghost use Rattle.std.specs.Prelude.{List, ℕ, string_bytes};
+
+    ghost Value = { List ℕ };
+
+    ghost view = { λ t. string_bytes t.text };
+}
+
+impl UsageText {
+    /// The text.
+    pub fn as_str(&self) -> &str
+        ensures { result.now ≡ self.now }
+    {
+        self.text.as_str()
+    }
+}
+
+impl fmt::Display for UsageText {
+    fn fmt<W: fmt::Write>(&self, f: &mut fmt::Formatter<W>) -> fmt::Result {
+        f.write_str(self.as_str())
+    }
+}
+
+/// Why the words give no command line.
+#[derive(Debug, Drop, Error)]
+pub enum WordsFault {
+    /// They have a mistake, or ask for help: what `clap` says to that.
+    #[error("{0}")]
+    Usage(UsageText),
+    /// Out of memory.
+    #[error("out of memory")]
+    Memory,
+}
+
+impl From<AllocError> for WordsFault {
+    ghost use Rattle.command_line.specs.declared.words.WordsFault.TheVariants.{Memory};
+
+    ghost from_gives = { λ _ fault. fault ≡ Memory };
+
+    fn from(_error: AllocError) -> Self {
+        WordsFault::Memory
+    }
+}
+
+/// Reads the words after the program's name.
+pub fn read_words<'a>(alloc: Global, words: &'a [&str]) -> Result<CommandLine<'a>, WordsFault>
+    ensures ok { IfOk result (IsCommandLineOf (texts words.now)) }
+    ensures fault { IfErr result (IsFaultOf (texts words.now)) }
+{
+    match matches_in(alloc, words) {
+        Ok(matches) => Ok(command_line(alloc, &matches)?),
+        Err(error) => Err(words_fault(alloc, &error)),
+    }
+}
+
+/// What `clap` finds in the words after the program's name.
+fn matches_in<'a>(alloc: Global, words: &'a [&str]) -> Result<ArgMatches<'a>, ClapError>
+    ensures ok { IfOk result (λ matches. AreFound (texts words.now) (rows_of (found_of matches))) }
+    ensures faults { FailsBy (fault_of lrupd (texts words.now)) result }
+{
+    let mut program = program(alloc)?;
+    program.try_get_matches_from_mut(words)
+}
+
+/// The number that an option has, or its default.
+fn number_of(matches: &ArgMatches<'_>, name: &str, default: u64) -> u64
+    requires { HasNumber name.now (rows_of (found_of matches.now)) }
+    ensures { result ≡ number_of name.now default (rows_of (found_of matches.now)) }
+{
+    matches.get_one::<u64>(name).unwrap_or(default)
+}
+
+/// What the words say, by what `clap` found in them.
+fn command_line<'a>(alloc: Global, matches: &ArgMatches<'a>) -> Result<CommandLine<'a>, AllocError>
+    requires { AreWhole (rows_of (found_of matches.now)) }
+    ensures { IfOk result (IsSaidBy (rows_of (found_of matches.now))) }
+{
+    Ok(CommandLine {
+        tries: number_of(matches, "tries", 1_000),
+        lines: number_of(matches, "lines", 65_536),
+        room: number_of(matches, "room", 1_048_576),
+        serial: is_set(matches, "serial"),
+        formula: formula_of(matches),
+        streams: streams_of(alloc, matches)?,
+    })
+}
+
+/// Do the words have the flag?
+fn is_set(matches: &ArgMatches<'_>, name: &str) -> bool
+    requires { HasTruth name.now (rows_of (found_of matches.now)) }
+    ensures { result ≡ is_set name.now (rows_of (found_of matches.now)) }
+{
+    matches.get_flag(name)
+}
+
+/// The word FORMULA.
+fn formula_of<'a>(matches: &ArgMatches<'a>) -> &'a str
+    requires { IsSome (first_of (codes "FORMULA") (rows_of (found_of matches.now))) }
+    ensures { first_of (codes "FORMULA") (rows_of (found_of matches.now)) ≡ Some result.now }
+{
+    matches.get_str("FORMULA").unwrap()
+}
+
+/// The words STREAM, in their order.
+fn streams_of<'a>(alloc: Global, matches: &ArgMatches<'a>) -> Result<Paths<'a>, AllocError>
+    requires { IsSome (all_of (codes "STREAM") (rows_of (found_of matches.now))) }
+    ensures { IfOk result (λ streams.
+        all_of (codes "STREAM") (rows_of (found_of matches.now)) ≡ Some streams) }
+{
+    let mut paths = Vec::new(alloc);
+    paths.extend_from_slice(matches.get_strs("STREAM").unwrap())?;
+    Ok(Paths { paths })
+}
+
+/// The fault for an error of `clap`.
+fn words_fault(alloc: Global, error: &ClapError) -> WordsFault
+    ensures { IsFaultFrom error.now result }
+{
+    if error.kind() == ErrorKind::OutOfMemory {
+        return WordsFault::Memory;
+    }
+    match format!(in alloc; "{error}") {
+        Ok(text) => WordsFault::Usage(UsageText { text }),
+        Err(_) => WordsFault::Memory,
+    }
+}

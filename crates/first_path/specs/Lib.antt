@@ -1,4 +1,0 @@
-pub mod Additions
-pub mod Judging
-pub mod Streams
-pub mod First
