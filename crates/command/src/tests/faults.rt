@@ -117,13 +117,14 @@ fn memory_is_out_at_an_opening(rt: HostRuntime) -> Result<(), Fail> {
 /// What `clap` says of the words goes out as it stands, and no file is opened.
 #[test]
 fn words_with_a_fault(rt: HostRuntime) -> Result<(), Fail> {
+    let none: &[&str] = &[];
     for (words, part) in [
-        (&["f"].as_slice(), "<STREAM>"),
-        (&[], "<FORMULA>"),
-        (&["--tries", "1000001", "f", "1"], "--tries"),
-        (&["--fast", "f", "1"], "--fast"),
+        (none, "<FORMULA>"),
+        (["f"].as_slice(), "<STREAM>"),
+        (["--tries", "1000001", "f", "1"].as_slice(), "--tries"),
+        (["--fast", "f", "1"].as_slice(), "--fast"),
         (
-            &["--help"],
+            ["--help"].as_slice(),
             "Usage: lrupd [OPTIONS] <FORMULA> <STREAM>...\n",
         ),
     ] {
@@ -151,7 +152,7 @@ fn reports_that_are_not_written(rt: HostRuntime) -> Result<(), Fail> {
             ran.out.as_slice(),
             &report.as_bytes()[..(fails_at - 1) * 7]
         );
-        assert_eq!(rt; ran.err.as_slice(), b"lrupd: cannot write report\n");
+        assert_eq!(rt; ran.err.as_slice(), b"lrupd: cannot write report\n".as_slice());
     }
     Ok(())
 }

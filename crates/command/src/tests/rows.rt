@@ -2,6 +2,7 @@
 use super::*;
 
 /// A run: its words, where `f` is the formula and `1`, `2` and so on are the streams.
+#[derive(Clone, Copy)]
 struct Row<'a> {
     words: &'a [&'a str],
     formula: &'a str,
