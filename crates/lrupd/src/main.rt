@@ -66,7 +66,11 @@ fn after_name(alloc: Global, arguments: Args) -> Result<Vec<String>, AllocError>
 fn words_of<'a>(alloc: Global, arguments: &'a [String]) -> Result<Vec<&'a str>, AllocError>
     ensures { IfOk result (λ words. texts words.items ≡ map string_bytes arguments.now) }
 {
-    arguments.iter().map(|word| word.as_str()).collect(alloc)
+    let mut words = Vec::with_capacity(alloc, arguments.len())?;
+    for argument in arguments {
+        words.push_reserved(argument.as_str());
+    }
+    Ok(words)
 }
 
 /// Says why there are no words, and gives the status.

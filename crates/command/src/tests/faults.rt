@@ -152,7 +152,10 @@ fn reports_that_are_not_written(rt: HostRuntime) -> Result<(), Fail> {
             ran.out.as_slice(),
             &report.as_bytes()[..(fails_at - 1) * 7]
         );
-        assert_eq!(rt; ran.err.as_slice(), b"lrupd: cannot write report\n".as_slice());
+        assert_eq!(rt;
+            ran.err.as_slice(),
+            b"lrupd: cannot write report\n".as_slice()
+        );
     }
     Ok(())
 }
