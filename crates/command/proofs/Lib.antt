@@ -1,0 +1,3 @@
+mod CheckingLemmas
+mod FileLemmas
+mod OpeningLemmas

@@ -43,6 +43,10 @@ IsFormulaAt told f = (bytes : List ℕ) × ForSome told (λ all. all ≡ bytes) 
 abbrev pub options_of : CommandLine → OptionsValue
 options_of given = record { tries = given.tries; lines = given.lines; room = given.room }
 
+-- the layout of a command line and a formula
+abbrev pub layout_at : CommandLine → Cnf → LayoutValue
+layout_at given f = layout_of (options_of given) f (length given.streams)
+
 -- what the reports say of the streams: on one thread they have an order of lines; with a thread for each stream they are judged
 -- by the calls of one history
 abbrev pub AreReported : Bool → Cnf → LayoutValue → ℕ → List Stream → List Report → Type 0
@@ -51,13 +55,13 @@ AreReported false f p tries streams reports =
     (passes : List View) × HaveOneHistory f p passes × AreJudgedBy p tries 1 streams passes reports
 
 -- The reports and the verdict of a formula's streams, of which this is known before they are read.
-pub record AreChecked (serial : Bool) (f : Cnf) (options : OptionsValue) (entries : List (Option (List ℕ))) (reports : List Report) (verdict : Verdict) : Type 0 where
-  pub layout : (fault : LayoutFault) → IsFault (layout_of options f (length entries)) fault → ⊥
+pub record AreChecked (serial : Bool) (f : Cnf) (p : LayoutValue) (tries : ℕ) (entries : List (Option (List ℕ))) (reports : List Report) (verdict : Verdict) : Type 0 where
+  pub layout : (fault : LayoutFault) → IsFault p fault → ⊥
   pub streams : List Stream
   pub lefts : List (Option (List ℕ))
   pub faileds : List Bool
   pub told : AreTold entries lefts faileds streams
-  pub reported : AreReported serial f (layout_of options f (length entries)) options.tries streams reports
+  pub reported : AreReported serial f p tries streams reports
   pub is_verdict : IsVerdictOf reports verdict
   pub sound : verdict ≡ Unsatisfiable → IsUnsatisfiable f
 
@@ -67,7 +71,13 @@ pub record IsOutcome (words : List Text) (tells : Text → Option (List ℕ)) (r
   pub line : IsCommandLineOf words given
   pub formula : Cnf
   pub is_formula : IsFormulaAt (tells given.formula.now) formula
-  pub checked : AreChecked given.serial formula (options_of given) (map tells given.streams) reports verdict
+  pub checked : AreChecked given.serial formula (layout_at given formula) given.tries (map tells given.streams) reports verdict
+
+-- why a file wasn't read to its end
+abbrev pub IsFailedRead : CommandFault → Type 0
+IsFailedRead faults.Unread = Unit {0}
+IsFailedRead faults.Memory = Unit {0}
+IsFailedRead fault = ⊥
 
 -- Why a formula wasn't read: its file wasn't, or is no formula.
 abbrev pub IsReadCause : Option (List ℕ) → CommandFault → Type 0
@@ -82,18 +92,18 @@ IsOpenCause count (faults.NotOpened stream) = (0 < stream) × (stream ≤ count)
 IsOpenCause count faults.Memory = Unit {0}
 IsOpenCause count fault = ⊥
 
--- Why so many streams weren't checked: there is no layout, or a thread wasn't started.
-abbrev pub IsRunCause : Bool → Cnf → OptionsValue → ℕ → CommandFault → Type 0
-IsRunCause serial f options count (faults.Layout fault) = IsFault (layout_of options f count) fault
-IsRunCause serial f options count (faults.NotStarted stream) = (serial ≡ false) × IsStream (layout_of options f count) stream
-IsRunCause serial f options count faults.Memory = Unit {0}
-IsRunCause serial f options count fault = ⊥
+-- Why streams weren't checked: there is no layout, or a thread wasn't started.
+abbrev pub IsRunCause : Bool → LayoutValue → CommandFault → Type 0
+IsRunCause serial p (faults.Layout fault) = IsFault p fault
+IsRunCause serial p (faults.NotStarted stream) = (serial ≡ false) × IsStream p stream
+IsRunCause serial p faults.Memory = Unit {0}
+IsRunCause serial p fault = ⊥
 
 -- The cause of a fault of the formula, of the opening of the streams, or of the run.
 abbrev pub IsCauseAt : CommandLine → (Text → Option (List ℕ)) → CommandFault → Type 0
 IsCauseAt given tells fault =
     IsReadCause (tells given.formula.now) fault ⊎ IsOpenCause (length given.streams) fault
-    ⊎ ((f : Cnf) × IsFormulaAt (tells given.formula.now) f × IsRunCause given.serial f (options_of given) (length given.streams) fault)
+    ⊎ ((f : Cnf) × IsFormulaAt (tells given.formula.now) f × IsRunCause given.serial (layout_at given f) fault)
 
 -- Why there is no outcome, by the words and the files. A file that wasn't opened or read, a thread that wasn't started, and want
 -- of memory are the system's.

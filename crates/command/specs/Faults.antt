@@ -1,5 +1,5 @@
 -- Why the program ends without a report: what it says of that, and its status (this project's own).
-use Rattle.std.specs.Prelude.{ℕ, List, ◌++◌, codes}
+use Rattle.std.specs.Prelude.{ℕ, List, [], ◌++◌, codes, Option, None, Some}
 use Rattle.std.specs.Fmt.{decimal}
 use Rattle.command_line.specs.declared.words.WordsFault.{WordsFault}
 use Rattle.command_line.specs.declared.words.WordsFault.TheVariants as words
@@ -72,6 +72,18 @@ cause_text (faults.NotStarted stream) = codes "worker " ++ decimal stream ++ cod
 cause_text faults.Memory = codes "out of memory"
 cause_text faults.Unwritten = codes "cannot write report"
 
+-- a line of the program's
+abbrev pub line_of : List ℕ → List ℕ
+line_of cause = codes "lrupd: " ++ cause ++ codes "\n"
+
 abbrev pub text_of : CommandFault → List ℕ
 text_of (faults.Usage text) = text
-text_of fault = codes "lrupd: " ++ cause_text fault ++ codes "\n"
+text_of fault = line_of (cause_text fault)
+
+-- a text, a number if there is one, and the rest
+abbrev pub number_text : Option ℕ → List ℕ
+number_text None = []
+number_text (Some number) = decimal number
+
+abbrev pub cause_bytes : List ℕ → Option ℕ → List ℕ → List ℕ
+cause_bytes text number rest = text ++ number_text number ++ rest

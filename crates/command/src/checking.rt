@@ -1,5 +1,5 @@
 //! From the words to the reports.
-ghost use Rattle.std.specs.Prelude.{◌≡◌, ◌≤◌, ◌<◌, ℕ, true, Bool, List, Option, None, false, IfErr, IfOk, length, map, vec_len};
+ghost use Rattle.std.specs.Prelude.{◌≡◌, ◌≤◌, ◌<◌, ℕ, true, Bool, List, Option, false, IfErr, IfOk, length, map, vec_len};
 ghost use Rattle.std.specs.Io.KnownBytes.{Consumes, IsAtEnd};
 ghost use Rattle.std.specs.List.{AllByRecursion};
 ghost use Rattle.std.specs.Option.{ForSome};
@@ -9,8 +9,8 @@ ghost use Rattle.dimacs.specs.FormulaText.{IsTextOf};
 ghost use Rattle.lrup_model.specs.Entailment.{IsUnsatisfiable};
 ghost use Rattle.portfolio.specs.Outcomes.{IsVerdictOf, OptionsValue, layout_of};
 ghost use Rattle.portfolio.specs.Streams.{AreTold, Stream};
-ghost use Rattle.command.specs.Commands.{AreChecked, IsCause, IsFormulaAt, IsOpenCause, IsOutcome};
-ghost use Rattle.command.specs.Commands.{IsReadCause, IsRunCause, NamesRefuted};
+ghost use Rattle.command.specs.Commands.{AreChecked, IsCause, IsFailedRead, IsFormulaAt, IsOpenCause};
+ghost use Rattle.command.specs.Commands.{IsOutcome, IsReadCause, IsRunCause, NamesRefuted};
 
 use crate::fault::CommandFault;
 use crate::files::{Files, OpenFault};
@@ -71,24 +71,27 @@ fn read_formula<W: Wait, F: Files>(
     ensures stays { F.tells files.new ≡ F.tells files.old }
 {
     let mut source = files.open(path)?;
-    let bytes = read_all(wait, alloc, &mut source)?;
+    let bytes = read_all(wait, alloc, &mut source, PIECE)?;
     Ok(dimacs::parse(alloc, &bytes)?)
 }
 
-/// Reads a source to its end.
+/// Reads a source to its end, at most so many bytes at a time.
 fn read_all<W: Wait, S: Source>(
     wait: &W,
     alloc: Global,
     source: &mut S,
+    most: usize,
 ) -> Result<Vec<u8>, CommandFault>
     requires running { S.has_failed source.old ≡ false }
+    requires some { 0 < most }
     ensures all { IfOk result (λ bytes. ForSome (S.left source.old) (λ all. all ≡ bytes.items)) }
-    ensures fault { IfErr result (IsReadCause None) }
+    ensures fault { IfErr result IsFailedRead }
 {
     let mut bytes = Vec::new(alloc);
-    let mut piece = vec![in alloc; 0; PIECE]?;
+    let mut buffer = vec![in alloc; 0; most]?;
+    let piece = buffer.as_mut_slice();
     for _ in wait.forever() {
-        let count = source.read(&mut piece)?;
+        let count = source.read(piece)?;
         if count == 0 {
             break;
         }
@@ -129,13 +132,12 @@ fn check_serially<W: Wait, R: Source + Drop>(
     readers: Vec<R>,
 ) -> Result<Found, CommandFault>
     requires running { AllByRecursion (λ r. R.has_failed r ≡ false) readers.items }
-    ensures checked { IfOk result (λ found. AreChecked true formula.now options (map R.left readers.items) found.reports.items found.verdict) }
-    ensures cause { IfErr result (IsRunCause true formula.now options (length readers.items)) }
+    ensures checked { IfOk result (λ found. AreChecked true formula.now
+        (layout_of options formula.now (length readers.items)) options.tries (map R.left readers.items)
+        found.reports.items found.verdict) }
+    ensures cause { IfErr result (IsRunCause true (layout_of options formula.now (length readers.items))) }
 {
-    let mut gates = Vec::with_capacity(alloc, readers.len())?;
-    for _ in 0..readers.len() {
-        gates.push_reserved(NoPause);
-    }
+    let gates = vec![in alloc; NoPause; readers.len()]?;
     let outcome = run_serial(wait, alloc, formula, options, readers, gates)?;
     let SerialOutcome {
         reports,
@@ -155,13 +157,12 @@ fn check_in_threads<T: Threads + Wait + Sync, C: Clock + Sync, R: Source + Send 
     readers: Vec<R>,
 ) -> Result<Found, CommandFault>
     requires running { AllByRecursion (λ r. R.has_failed r ≡ false) readers.items }
-    ensures checked { IfOk result (λ found. AreChecked false formula.now options (map R.left readers.items) found.reports.items found.verdict) }
-    ensures cause { IfErr result (IsRunCause false formula.now options (length readers.items)) }
+    ensures checked { IfOk result (λ found. AreChecked false formula.now
+        (layout_of options formula.now (length readers.items)) options.tries (map R.left readers.items)
+        found.reports.items found.verdict) }
+    ensures cause { IfErr result (IsRunCause false (layout_of options formula.now (length readers.items))) }
 {
-    let mut gates = Vec::with_capacity(alloc, readers.len())?;
-    for _ in 0..readers.len() {
-        gates.push_reserved(Pause::new(clock));
-    }
+    let gates = pauses(alloc, clock, readers.len())?;
     let outcome = run(threads, alloc, formula, options, readers, gates)?;
     let Outcome {
         reports,
@@ -172,8 +173,19 @@ fn check_in_threads<T: Threads + Wait + Sync, C: Clock + Sync, R: Source + Send 
     Ok(Found { reports, verdict })
 }
 
-/// The gate of a stream that is checked on one thread: no other stream publishes while it looks for a hint, so it never waits.
-#[derive(Drop)]
+/// A gate for each of so many streams.
+fn pauses<C: Clock + Sync>(
+    alloc: Global,
+    clock: &C,
+    count: usize,
+) -> Result<Vec<Pause<&C>>, AllocError>
+    ensures { IfOk result (λ gates. vec_len gates ≡ count) }
+{
+    (0..count).map(|_| Pause::new(clock)).collect(alloc)
+}
+
+/// The gate of a stream that is checked on one thread. It never waits, since no other stream publishes meanwhile.
+#[derive(Clone, Copy)]
 struct NoPause;
 
 impl Gate for NoPause {

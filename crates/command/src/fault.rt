@@ -1,9 +1,9 @@
 //! Why there is no report, what is said of it, and the status.
-ghost use Rattle.std.specs.Prelude.{◌≡◌, ◌++◌, false, is_err};
-ghost use Rattle.std.specs.Fmt.{decimal};
+ghost use Rattle.std.specs.Prelude.{◌≡◌, [], Some, false, is_err};
 ghost use Rattle.lrup_text.specs.Writing.{PutsAll, WritesText};
 ghost use Rattle.lrup_model.specs.Layout.{fault_text as layout_text};
-ghost use Rattle.command.specs.Faults.{cause_text, formula_fault_text, status_of, text_of};
+ghost use Rattle.command.specs.Faults.{cause_bytes, cause_text, formula_fault_text, line_of};
+ghost use Rattle.command.specs.Faults.{number_text, status_of, text_of};
 
 use crate::files::OpenFault;
 use command_line::{UsageText, WordsFault};
@@ -60,7 +60,7 @@ impl From<WordsFault> for CommandFault {
 impl From<OpenFault> for CommandFault {
     ghost use Rattle.command.specs.Faults.{of_open};
 
-    ghost from_gives = { λ open fault. fault ≡ of_open open };
+    ghost from_gives = { λ opening fault. fault ≡ of_open opening };
 
     /// Of the formula's file.
     fn from(fault: OpenFault) -> CommandFault {
@@ -132,112 +132,141 @@ impl CommandFault {
             (text_of self.now) }
         ensures failed { W.has_failed sink.new ≡ is_err result }
     {
-        if let CommandFault::Usage(text) = self {
-            return write_all(text.as_str().as_bytes(), sink);
+        match self {
+            CommandFault::Usage(text) => write_all(text.as_str().as_bytes(), sink),
+            _ => write_line(&self.cause(), sink),
         }
-        let mut buffer = WriteBuffer::new();
-        buffer.put(b"lrupd: ", sink)?;
-        self.put_cause(&mut buffer, sink)?;
-        buffer.put(b"\n", sink)?;
-        buffer.flush(sink)
     }
 
-    /// Puts the cause.
-    fn put_cause<W: Sink>(&self, buffer: &mut WriteBuffer, sink: &mut W) -> Result<(), WriteFault>
-        requires running { W.has_failed sink.old ≡ false }
-        ensures puts { PutsAll result (W.written sink.old) (W.written sink.new)
-            buffer.old buffer.new (cause_text self.now) }
-        ensures failed { W.has_failed sink.new ≡ is_err result }
+    /// What the line of the fault says.
+    fn cause(&self) -> Cause<'_>
+        ensures { cause_bytes result.text.now result.number result.rest.now ≡ cause_text self.now }
     {
         match self {
-            CommandFault::Usage(text) => buffer.put(text.as_str().as_bytes(), sink),
-            CommandFault::Unread => buffer.put(b"cannot read formula", sink),
-            CommandFault::Refused(fault) => put_formula_fault(buffer, *fault, sink),
-            CommandFault::NotOpened(stream) => {
-                put_numbered(buffer, b"cannot open stream ", *stream, sink)
-            }
-            CommandFault::Layout(fault) => put_layout_fault(buffer, *fault, sink),
-            CommandFault::NotStarted(stream) => {
-                put_numbered(buffer, b"worker ", *stream, sink)?;
-                buffer.put(b" not started", sink)
-            }
-            CommandFault::Memory => buffer.put(b"out of memory", sink),
-            CommandFault::Unwritten => buffer.put(b"cannot write report", sink),
+            CommandFault::Usage(text) => Cause::plain(text.as_str().as_bytes()),
+            CommandFault::Unread => Cause::plain(b"cannot read formula"),
+            CommandFault::Refused(fault) => formula_cause(*fault),
+            CommandFault::NotOpened(stream) => Cause::numbered(b"cannot open stream ", *stream),
+            CommandFault::Layout(fault) => layout_cause(*fault),
+            CommandFault::NotStarted(stream) => Cause {
+                rest: b" not started",
+                ..Cause::numbered(b"worker ", *stream)
+            },
+            CommandFault::Memory => Cause::plain(b"out of memory"),
+            CommandFault::Unwritten => Cause::plain(b"cannot write report"),
         }
     }
 }
 
-/// Puts why the formula was refused.
-fn put_formula_fault<W: Sink>(
-    buffer: &mut WriteBuffer,
-    fault: DimacsFault,
-    sink: &mut W,
-) -> Result<(), WriteFault>
-    requires { W.has_failed sink.old ≡ false }
-    ensures puts { PutsAll result (W.written sink.old) (W.written sink.new)
-        buffer.old buffer.new (formula_fault_text fault) }
-    ensures failed { W.has_failed sink.new ≡ is_err result }
+/// What a line says: a text, a number if there is one, and the rest.
+#[derive(Clone, Copy)]
+struct Cause<'a> {
+    text: &'a [u8],
+    number: Option<u64>,
+    rest: &'a [u8],
+}
+
+impl<'a> Cause<'a> {
+    fn plain(text: &'a [u8]) -> Cause<'a>
+        ensures { cause_bytes result.text.now result.number result.rest.now ≡ text.now }
+    {
+        Cause {
+            text,
+            number: None,
+            rest: b"",
+        }
+    }
+
+    fn numbered(text: &'a [u8], number: u64) -> Cause<'a>
+        ensures text { result.text.now ≡ text.now }
+        ensures number { result.number ≡ Some number }
+        ensures rest { result.rest.now ≡ [] }
+    {
+        Cause {
+            text,
+            number: Some(number),
+            rest: b"",
+        }
+    }
+}
+
+/// Why the formula was refused.
+fn formula_cause(fault: DimacsFault) -> Cause<'static>
+    ensures { cause_bytes result.text.now result.number result.rest.now ≡ formula_fault_text fault }
 {
     match fault {
-        DimacsFault::Memory => buffer.put(b"out of memory", sink),
-        DimacsFault::NoHeader => buffer.put(b"formula refused: no header", sink),
-        DimacsFault::BadHeader => buffer.put(b"formula refused: bad header", sink),
+        DimacsFault::NoHeader => Cause::plain(b"formula refused: no header"),
+        DimacsFault::BadHeader => Cause::plain(b"formula refused: bad header"),
         DimacsFault::BadNumber(line) => {
-            put_numbered(buffer, b"formula refused: bad number in line ", line, sink)
+            Cause::numbered(b"formula refused: bad number in line ", line)
         }
-        DimacsFault::VariableRange(line) => put_numbered(
-            buffer,
-            b"formula refused: variable out of range in line ",
-            line,
-            sink,
-        ),
-        DimacsFault::OpenClause => buffer.put(b"formula refused: open clause", sink),
-        DimacsFault::TooFew => buffer.put(b"formula refused: too few clauses", sink),
-        DimacsFault::TooMany(line) => put_numbered(
-            buffer,
-            b"formula refused: too many clauses in line ",
-            line,
-            sink,
-        ),
-        DimacsFault::Limit => buffer.put(b"formula refused: limit", sink),
+        DimacsFault::VariableRange(line) => {
+            Cause::numbered(b"formula refused: variable out of range in line ", line)
+        }
+        DimacsFault::OpenClause => Cause::plain(b"formula refused: open clause"),
+        DimacsFault::TooFew => Cause::plain(b"formula refused: too few clauses"),
+        DimacsFault::TooMany(line) => {
+            Cause::numbered(b"formula refused: too many clauses in line ", line)
+        }
+        DimacsFault::Limit => Cause::plain(b"formula refused: limit"),
+        DimacsFault::Memory => Cause::plain(b"out of memory"),
     }
 }
 
-/// Puts why there is no layout.
-fn put_layout_fault<W: Sink>(
-    buffer: &mut WriteBuffer,
-    fault: LayoutFault,
-    sink: &mut W,
-) -> Result<(), WriteFault>
-    requires { W.has_failed sink.old ≡ false }
-    ensures puts { PutsAll result (W.written sink.old) (W.written sink.new)
-        buffer.old buffer.new (layout_text fault) }
-    ensures failed { W.has_failed sink.new ≡ is_err result }
+/// Why there is no layout.
+fn layout_cause(fault: LayoutFault) -> Cause<'static>
+    ensures { cause_bytes result.text.now result.number result.rest.now ≡ layout_text fault }
 {
-    buffer.put(
-        match fault {
-            LayoutFault::TooManyVariables | LayoutFault::TooManyClauses => {
-                b"formula refused: limit".as_slice()
-            }
-            LayoutFault::BadStreamCount => b"stream count",
-            LayoutFault::RowTooLong => b"row too long",
-        },
-        sink,
-    )
+    match fault {
+        LayoutFault::TooManyVariables | LayoutFault::TooManyClauses => {
+            Cause::plain(b"formula refused: limit")
+        }
+        LayoutFault::BadStreamCount => Cause::plain(b"stream count"),
+        LayoutFault::RowTooLong => Cause::plain(b"row too long"),
+    }
 }
 
-/// Puts a text, and a number after it in decimal.
-fn put_numbered<W: Sink>(
-    buffer: &mut WriteBuffer,
-    text: &[u8],
-    number: u64,
-    sink: &mut W,
-) -> Result<(), WriteFault>
-    requires { W.has_failed sink.old ≡ false }
-    ensures puts { PutsAll result (W.written sink.old) (W.written sink.new)
-        buffer.old buffer.new (text.now ++ decimal number) }
+/// Writes a line of the program's.
+fn write_line<W: Sink>(cause: &Cause<'_>, sink: &mut W) -> Result<(), WriteFault>
+    requires running { W.has_failed sink.old ≡ false }
+    ensures text { WritesText result (W.written sink.old) (W.written sink.new)
+        (line_of (cause_bytes cause.now.text.now cause.now.number cause.now.rest.now)) }
     ensures failed { W.has_failed sink.new ≡ is_err result }
 {
-    buffer.put(text, sink)?;
-    buffer.put_number(number, sink)
+    let mut buffer = WriteBuffer::new();
+    buffer.put(b"lrupd: ", sink)?;
+    put_cause(&mut buffer, cause, sink)?;
+    buffer.put(b"\n", sink)?;
+    buffer.flush(sink)
+}
+
+fn put_cause<W: Sink>(
+    buffer: &mut WriteBuffer,
+    cause: &Cause<'_>,
+    sink: &mut W,
+) -> Result<(), WriteFault>
+    requires running { W.has_failed sink.old ≡ false }
+    ensures puts { PutsAll result (W.written sink.old) (W.written sink.new) buffer.old buffer.new
+        (cause_bytes cause.now.text.now cause.now.number cause.now.rest.now) }
+    ensures failed { W.has_failed sink.new ≡ is_err result }
+{
+    buffer.put(cause.text, sink)?;
+    put_if_any(buffer, cause.number, sink)?;
+    buffer.put(cause.rest, sink)
+}
+
+fn put_if_any<W: Sink>(
+    buffer: &mut WriteBuffer,
+    number: Option<u64>,
+    sink: &mut W,
+) -> Result<(), WriteFault>
+    requires running { W.has_failed sink.old ≡ false }
+    ensures puts { PutsAll result (W.written sink.old) (W.written sink.new) buffer.old buffer.new
+        (number_text number) }
+    ensures failed { W.has_failed sink.new ≡ is_err result }
+{
+    match number {
+        Some(number) => buffer.put_number(number, sink),
+        None => Ok(()),
+    }
 }

@@ -2,7 +2,9 @@
 //! clauses, while the solvers write them.
 #![tactic(auto)]
 
-ghost use Rattle.std.specs.Prelude.{None};
+ghost use Rattle.std.specs.Prelude.{◌≡◌, IfOk, drop, map, string_bytes};
+ghost use Rattle.std.specs.Vec.Iter.{into_iter_items};
+ghost use Rattle.clap.specs.Walk.{texts};
 
 use command::{Files, OpenFault, command};
 use lrup_text::{Reading, Writing};
@@ -12,7 +14,8 @@ use std::fs::File;
 use std::process::ExitCode;
 use std::{env, io};
 
-/// The machine's own files.
+/// The machine's files. None tells its bytes before it is read.
+#[derive(Drop)]
 struct MachineFiles<'a> {
     rt: &'a HostRuntime,
 }
@@ -20,7 +23,8 @@ struct MachineFiles<'a> {
 impl Files for MachineFiles<'_> {
     type Input = Reading<File>;
 
-    // A file of the machine doesn't tell its bytes: what it holds is known by reading it.
+    ghost use Rattle.std.specs.Prelude.{None};
+
     ghost tells = { λ _ _. None };
 
     fn open(&mut self, path: &str) -> Result<Reading<File>, OpenFault> {
@@ -33,16 +37,47 @@ impl Files for MachineFiles<'_> {
 }
 
 fn main(rt: HostRuntime) -> ExitCode {
-    let mut err = Writing::new(rt.stderr());
-    let Ok(args) = env::args(&rt) else {
-        return ExitCode::from(2);
+    let alloc = rt.alloc();
+    let arguments = match env::args(&rt) {
+        Ok(arguments) => after_name(alloc, arguments),
+        Err(error) => return ExitCode::from(refuse(&rt, error.kind())),
     };
-    let args = args.as_slice();
-    let Ok(words) = words_of(rt.alloc(), args) else {
-        return ExitCode::from(6);
+    let Ok(arguments) = arguments else {
+        return ExitCode::from(refuse(&rt, io::ErrorKind::OutOfMemory));
+    };
+    let Ok(words) = words_of(alloc, &arguments) else {
+        return ExitCode::from(refuse(&rt, io::ErrorKind::OutOfMemory));
     };
     let mut files = MachineFiles { rt: &rt };
     let mut out = Writing::new(rt.stdout());
-    let status = command(&rt, &rt, rt.alloc(), &words, &mut files, &mut out, &mut err);
+    let mut err = Writing::new(rt.stderr());
+    let status = command(&rt, &rt, alloc, &words, &mut files, &mut out, &mut err);
     ExitCode::from(status)
+}
+
+/// The arguments after the program's name.
+fn after_name(alloc: Global, arguments: Args) -> Result<Vec<String>, AllocError>
+    ensures { IfOk result (λ rest. rest.items ≡ drop 1 (into_iter_items arguments)) }
+{
+    arguments.skip(1).collect(alloc)
+}
+
+/// The arguments, as they are read.
+fn words_of<'a>(alloc: Global, arguments: &'a [String]) -> Result<Vec<&'a str>, AllocError>
+    ensures { IfOk result (λ words. texts words.items ≡ map string_bytes arguments.now) }
+{
+    arguments.iter().map(|word| word.as_str()).collect(alloc)
+}
+
+/// Says why there are no words, and gives the status.
+fn refuse(rt: &impl Eprint, kind: io::ErrorKind) -> u8 {
+    let (said, status) = match kind {
+        io::ErrorKind::OutOfMemory => (eprintln!(rt; "lrupd: out of memory"), 6),
+        _ => (
+            eprintln!(rt; "error: invalid UTF-8 was detected in one or more arguments"),
+            2,
+        ),
+    };
+    let _ = said;
+    status
 }

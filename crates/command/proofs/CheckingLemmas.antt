@@ -1,0 +1,123 @@
+-- From what is read and run to what the words and the files come to.
+use Rattle.std.proofs.Common.{◌≡◌, ◌∙◌, ℕ, Bool, true, false, List, map, length, Option, Some, IfSome, Result, Ok, Err, IfOk, IfErr, inl, inr, sym, ap, subst, rules}
+use Rattle.std.proofs.lemmas.List.{length-map}
+use Rattle.std.specs.Prelude.{IsErrAnd}
+use Rattle.std.specs.Option.{ForSome}
+use Rattle.dimacs.specs.FormulaText.{IsTextOf}
+use Rattle.lrup_model.specs.Entailment.{IsUnsatisfiable}
+use Rattle.lrup_model.specs.Formula.{Cnf}
+use Rattle.lrup_model.specs.Layout.{LayoutValue, IsFault, IsStream}
+use Rattle.lrup_model.specs.declared.layout.LayoutFault.{LayoutFault}
+use Rattle.portfolio.specs.Outcomes.{IsLayoutFault, OptionsValue, layout_of}
+use Rattle.portfolio.specs.declared.outcome.RunFault.{RunFault}
+use Rattle.portfolio.specs.declared.outcome.RunFault.TheVariants as runs
+use Rattle.portfolio.specs.declared.outcome.Verdict.{Verdict}
+use Rattle.portfolio.specs.declared.outcome.Verdict.TheVariants.{Unsatisfiable}
+use Rattle.stream_check.specs.declared.report.Report.{Report}
+use Rattle.command_line.specs.CommandLine.{IsCommandLineOf}
+use Rattle.command_line.specs.declared.words.CommandLine.{CommandLine}
+use Rattle.command.specs.Commands.{AreChecked, IsCause, IsFormulaAt, IsOpenCause, IsOutcome, IsReadCause}
+use Rattle.command.specs.Commands.{IsRefuted, IsRunCause, NamesRefuted, Text, layout_at, options_of}
+use Rattle.command.specs.Faults.{of_run}
+use Rattle.command.specs.declared.fault.CommandFault.{CommandFault}
+use Rattle.command.specs.declared.fault.CommandFault.TheVariants as faults
+
+-- what an answer is known by, by what it is known by before
+pub if_ok : {T E : Type 0} (r : Result T E) (P Q : T → Type 0) → ((t : T) → P t → Q t) → IfOk r P → IfOk r Q
+if_ok (Ok t) P Q follows known = follows t known
+if_ok (Err e) P Q follows known = tt
+
+pub if_err : {T E : Type 0} (r : Result T E) (P Q : E → Type 0) → ((e : E) → P e → Q e) → IfErr r P → IfErr r Q
+if_err (Ok t) P Q follows known = tt
+if_err (Err e) P Q follows known = follows e known
+
+pub err_given : {T E : Type 0} (r : Result T E) (P Q : E → Type 0) → ((e : E) → P e → Q e) → IsErrAnd r P → IfErr r Q
+err_given (Ok t) P Q follows known = tt
+err_given (Err e) P Q follows known = follows e known
+
+pub some_given : {T : Type 0} {o : Option T} {t : T} (P : T → Type 0) → o ≡ Some t → IfSome o P → P t
+some_given P is known = subst (λ o. IfSome o P) is known
+
+-- the cause of a run's fault
+pub run_cause : {T : Type 0} (serial : Bool) (p : LayoutValue) (result : Result T RunFault) (fault : RunFault) → result ≡ Err fault
+    → IsLayoutFault result p → ((stream : ℕ) → result ≡ Err (runs.Spawn stream) → (serial ≡ false) × IsStream p stream)
+    → IsRunCause serial p (of_run fault)
+run_cause serial p result (runs.Layout fault) is layout spawn = (layout fault).0 is
+run_cause serial p result runs.Memory is layout spawn = tt
+run_cause serial p result (runs.Spawn stream) is layout spawn = spawn stream is
+
+-- a run with an outcome has a layout
+pub has_layout : {T : Type 0} (p : LayoutValue) (result : Result T RunFault) (outcome : T) → result ≡ Ok outcome → IsLayoutFault result p
+    → (fault : LayoutFault) → IsFault p fault → ⊥
+has_layout p result outcome is layout fault refused =
+    let both : Ok outcome ≡ Err (runs.Layout fault) = sym is ∙ (layout fault).1 refused in
+    search (both, rules)
+
+-- the layout is that of the command line
+pub same_layout : (options : OptionsValue) (f : Cnf) (given : CommandLine) (count : ℕ) → options ≡ options_of given → count ≡ length given.streams
+    → layout_of options f count ≡ layout_at given f
+same_layout options f given count options_are count_is =
+    ap (λ o. layout_of o f count) options_are ∙ ap (layout_of (options_of given) f) count_is
+
+pub same_count : {A B C : Type 0} (f : A → C) (g : B → C) (xs : List A) (ys : List B) → map f xs ≡ map g ys → length xs ≡ length ys
+same_count f g xs ys same = sym (length-map xs f) ∙ ap length same ∙ length-map ys g
+
+pub is_refuted : (told : Option (List ℕ)) (f : Cnf) → IsFormulaAt told f → IsUnsatisfiable f → ForSome told IsRefuted
+is_refuted told f at refuted all is = (f, subst (λ bytes. IsTextOf bytes f) (sym (at.1 all is)) at.2, refuted)
+
+-- what is checked is the outcome of the words and the files
+pub is_outcome : (words : List Text) (tells : Text → Option (List ℕ)) (given : CommandLine) (f : Cnf) (serial : Bool) (options : OptionsValue) (count : ℕ) (entries : List (Option (List ℕ)))
+    → IsCommandLineOf words given → IsFormulaAt (tells given.formula.now) f
+    → serial ≡ given.serial → options ≡ options_of given → count ≡ length given.streams → entries ≡ map tells given.streams
+    → (reports : List Report) (verdict : Verdict) → AreChecked serial f (layout_of options f count) options.tries entries reports verdict
+    → IsOutcome words tells reports verdict
+is_outcome words tells given f serial options count entries line at serial_is options_are count_is entries_are reports verdict checked =
+    let one = subst (λ (s : Bool). AreChecked s f (layout_of options f count) options.tries entries reports verdict) serial_is checked in
+    let two = subst (λ (o : OptionsValue). AreChecked given.serial f (layout_of o f count) o.tries entries reports verdict) options_are one in
+    let three = subst (λ (n : ℕ). AreChecked given.serial f (layout_of (options_of given) f n) given.tries entries reports verdict) count_is two in
+    let four = subst (λ (es : List (Option (List ℕ))). AreChecked given.serial f (layout_at given f) given.tries es reports verdict) entries_are three in
+    record { given = given; line = line; formula = f; is_formula = at; checked = four }
+
+-- and its cause is theirs
+pub read_cause : (words : List Text) (tells : Text → Option (List ℕ)) (given : CommandLine) → IsCommandLineOf words given
+    → (fault : CommandFault) → IsReadCause (tells given.formula.now) fault → IsCause words tells fault
+read_cause words tells given line (faults.Usage text) cause = absurd cause
+read_cause words tells given line faults.Unread cause = (given, line, inl cause)
+read_cause words tells given line (faults.Refused fault) cause = (given, line, inl cause)
+read_cause words tells given line (faults.NotOpened stream) cause = absurd cause
+read_cause words tells given line (faults.Layout fault) cause = absurd cause
+read_cause words tells given line (faults.NotStarted stream) cause = absurd cause
+read_cause words tells given line faults.Memory cause = tt
+read_cause words tells given line faults.Unwritten cause = absurd cause
+
+pub open_cause : (words : List Text) (tells : Text → Option (List ℕ)) (given : CommandLine) → IsCommandLineOf words given
+    → (fault : CommandFault) → IsOpenCause (length given.streams) fault → IsCause words tells fault
+open_cause words tells given line (faults.Usage text) cause = absurd cause
+open_cause words tells given line faults.Unread cause = absurd cause
+open_cause words tells given line (faults.Refused fault) cause = absurd cause
+open_cause words tells given line (faults.NotOpened stream) cause = (given, line, inr (inl cause))
+open_cause words tells given line (faults.Layout fault) cause = absurd cause
+open_cause words tells given line (faults.NotStarted stream) cause = absurd cause
+open_cause words tells given line faults.Memory cause = tt
+open_cause words tells given line faults.Unwritten cause = absurd cause
+
+pub line_cause : (words : List Text) (tells : Text → Option (List ℕ)) (given : CommandLine) (f : Cnf) → IsCommandLineOf words given
+    → IsFormulaAt (tells given.formula.now) f → (fault : CommandFault) → IsRunCause given.serial (layout_at given f) fault → IsCause words tells fault
+line_cause words tells given f line at (faults.Usage text) cause = absurd cause
+line_cause words tells given f line at faults.Unread cause = absurd cause
+line_cause words tells given f line at (faults.Refused fault) cause = absurd cause
+line_cause words tells given f line at (faults.NotOpened stream) cause = absurd cause
+line_cause words tells given f line at (faults.Layout fault) cause = (given, line, inr (inr (f, at, cause)))
+line_cause words tells given f line at (faults.NotStarted stream) cause = (given, line, inr (inr (f, at, cause)))
+line_cause words tells given f line at faults.Memory cause = tt
+line_cause words tells given f line at faults.Unwritten cause = absurd cause
+
+-- so a run's cause, by the layout that the run has
+pub run_cause_of : (words : List Text) (tells : Text → Option (List ℕ)) (given : CommandLine) (f : Cnf) (serial : Bool) (options : OptionsValue) (count : ℕ)
+    → IsCommandLineOf words given → IsFormulaAt (tells given.formula.now) f
+    → serial ≡ given.serial → options ≡ options_of given → count ≡ length given.streams
+    → (fault : CommandFault) → IsRunCause serial (layout_of options f count) fault → IsCause words tells fault
+run_cause_of words tells given f serial options count line at serial_is options_are count_is fault cause =
+    let one = subst (λ (s : Bool). IsRunCause s (layout_of options f count) fault) serial_is cause in
+    let two = subst (λ (p : LayoutValue). IsRunCause given.serial p fault) (same_layout options f given count options_are count_is) one in
+    line_cause words tells given f line at fault two

@@ -1,0 +1,25 @@
+-- Files that are opened one after the other.
+use Rattle.std.proofs.Common.{◌≡◌, ◌∙◌, ◌<◌, ◌+◌, ◌++◌, ℕ, List, [], ◌∷◌, map, take, length, get_or, sym, ap}
+use Rattle.std.proofs.lemmas.List.{map-append, take-map}
+use Rattle.std.proofs.lemmas.List.{take_more}
+use Rattle.std.specs.List.{AllByRecursion}
+
+-- one more of a list holds
+pub all_more : {X : Type 0} (P : X → Type 0) (xs : List X) (x : X) → AllByRecursion P xs → P x → AllByRecursion P (xs ++ x ∷ [])
+all_more P [] x all one = (one, tt)
+all_more P (y ∷ ys) x all one = (all.0, all_more P ys x all.1 one)
+
+-- what is told of the readers is what the files at the paths so far tell, and so with one more
+pub opened_more : {R B T : Type 0} {L : Type 0} (left : R → L) (tells later : T → L) (text : B → T) (before after : List R) (reader : R) (paths : List B) (k : ℕ) (d : B)
+    → k < length paths → after ≡ before ++ reader ∷ [] → map left before ≡ map tells (take k (map text paths))
+    → later ≡ tells → left reader ≡ later (text (get_or paths k d)) → map left after ≡ map tells (take (k + 1) (map text paths))
+opened_more left tells later text before after reader paths k d inside is told stays one =
+    let path = get_or paths k d in
+    let readers : map left after ≡ map left before ++ left reader ∷ [] = ap (map left) is ∙ map-append left before (reader ∷ []) in
+    let taken : take (k + 1) (map text paths) ≡ map text (take k paths) ++ text path ∷ [] =
+    take-map text (k + 1) paths ∙ ap (map text) (take_more paths k d inside) ∙ map-append text (take k paths) (path ∷ []) in
+    let mapped : map tells (take (k + 1) (map text paths)) ≡ map tells (map text (take k paths)) ++ tells (text path) ∷ [] =
+    ap (map tells) taken ∙ map-append tells (map text (take k paths)) (text path ∷ []) in
+    let same : map left before ≡ map tells (map text (take k paths)) = told ∙ ap (map tells) (take-map text k paths) in
+    let reads : left reader ≡ tells (text path) = one ∙ ap (λ t. t (text path)) stays in
+    readers ∙ ap (λ ls. ls ++ left reader ∷ []) same ∙ ap (λ l. map tells (map text (take k paths)) ++ l ∷ []) reads ∙ sym mapped

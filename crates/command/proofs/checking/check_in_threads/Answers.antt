@@ -1,0 +1,28 @@
+use Rattle.std.proofs.Common.{false, length, refl, sym, subst}
+use Rattle.portfolio.specs.Outcomes.{layout_of}
+use Rattle.command.specs.Commands.{IsRunCause}
+use Rattle.command.proofs.CheckingLemmas.{err_given, has_layout, run_cause}
+use Rattle.command.proofs.checking.check_in_threads.Goals as goal
+
+pub returns-in_err-outcome-clause-cause : goal.returns-in_err-outcome-clause-cause
+returns-in_err-outcome-clause-cause g c =
+    let p = layout_of c.args.options c.args.formula.now (length c.args.readers.items) in
+    let cause = run_cause false p c.run.result c.in_err-outcome.field-0.0 c.in_err-outcome.was c.run.ensures.layout
+    (λ stream is. (refl, c.run.ensures.spawn stream is)) in
+    err_given c.from_residual-in_err-outcome.result _ (IsRunCause false p)
+    (λ fault is. subst (IsRunCause false p) (sym is) cause) c.from_residual-in_err-outcome.ensures.1
+
+pub returns-clause-checked : goal.returns-clause-checked
+returns-clause-checked g c =
+    let p = layout_of c.args.options c.args.formula.now (length c.args.readers.items) in
+    let reports = c.in_ok-outcome.ensures.reports in
+    record {
+      layout = has_layout p c.run.result c.in_ok-outcome.outcome c.in_ok-outcome.was c.run.ensures.layout;
+      streams = reports.0;
+      lefts = _;
+      faileds = _;
+      told = reports.1;
+      reported = (_, c.in_ok-outcome.ensures.history, reports.2);
+      is_verdict = c.in_ok-outcome.ensures.verdict;
+      sound = c.in_ok-outcome.ensures.sound;
+    }

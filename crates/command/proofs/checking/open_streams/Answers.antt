@@ -1,0 +1,20 @@
+use Rattle.std.proofs.Common.{◌∙◌, ◌≡◌, false, sym, subst, arith}
+use Rattle.std.specs.List.{AllByRecursion}
+use Rattle.command.proofs.OpeningLemmas.{all_more, opened_more}
+use Rattle.command.proofs.checking.open_streams.Goals as goal
+
+pub loop-path-preserved : goal.loop-path-preserved
+loop-path-preserved g c =
+    let now = c.loop-path in
+    let left = g.F.Input.Source.left in
+    let files = g.F.Files.tells in
+    let pushed = c.push_reserved.ensures in
+    record {
+      left = opened_more left (files c.args.files.now) (files now.files) (λ p. p.now) now.readers.items c.push_reserved.new.self.items c.in-Ok.reader c.args.paths.now now.path-index _
+          c.loop-path-test.true pushed.items now.invariant.left now.invariant.stays c.in-Ok.ensures.left;
+      running = subst (AllByRecursion (λ r. g.F.Input.Source.has_failed r ≡ false)) (sym pushed.items)
+          (all_more (λ r. g.F.Input.Source.has_failed r ≡ false) now.readers.items c.in-Ok.reader now.invariant.running c.in-Ok.ensures.running);
+      count = omega (arith, pushed.len, now.invariant.count);
+      room = omega (arith, pushed.capacity, now.invariant.room);
+      stays = c.open.ensures.stays ∙ now.invariant.stays;
+    }

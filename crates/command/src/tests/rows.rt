@@ -1,0 +1,243 @@
+//! The worked rows: words, formula and streams, and the report and the status that they end with.
+use super::*;
+
+/// A run: its words, where `f` is the formula and `1`, `2` and so on are the streams.
+#[derive(Clone, Copy)]
+struct Row<'a> {
+    words: &'a [&'a str],
+    formula: &'a str,
+    streams: &'a [&'a str],
+    out: &'a str,
+    status: u8,
+}
+
+/// A row of the four clauses and one stream, with no option.
+fn one<'a>(stream: &'a [&'a str], out: &'a str) -> Row<'a> {
+    Row {
+        words: &["f", "1"],
+        formula: FOUR,
+        streams: stream,
+        out,
+        status: 3,
+    }
+}
+
+fn assert_row<T: Threads + Wait + Sync + Clock + Abort>(
+    rt: &T,
+    alloc: Global,
+    row: &Row<'_>,
+) -> Result<(), Fail> {
+    let mut files = shelf_of(alloc, row.formula, row.streams)?;
+    assert_ends(rt, alloc, row.words, &mut files, (row.out, "", row.status));
+    Ok(())
+}
+
+/// The row, with a thread for each stream and on one thread.
+fn assert_both<T: Threads + Wait + Sync + Clock + Abort>(
+    rt: &T,
+    alloc: Global,
+    row: &Row<'_>,
+) -> Result<(), Fail> {
+    assert_row(rt, alloc, row)?;
+    let mut words = vec![in alloc; "--serial"]?;
+    words.extend_from_slice(row.words)?;
+    assert_row(
+        rt,
+        alloc,
+        &Row {
+            words: &words,
+            ..*row
+        },
+    )
+}
+
+/// Line 1 of the one stream is bad for this reason, with these words.
+fn assert_bad<T: Threads + Wait + Sync + Clock + Abort>(
+    rt: &T,
+    alloc: Global,
+    words: &[&str],
+    stream: &str,
+    reason: &str,
+) -> Result<(), Fail> {
+    let out = format!(in alloc;
+        "c stream 1: 0 added, 0 deleted, bad line 1 ({reason})\ns UNKNOWN\n"
+    )?;
+    assert_both(
+        rt,
+        alloc,
+        &Row {
+            words,
+            formula: FOUR,
+            streams: &[stream],
+            out: out.as_str(),
+            status: 3,
+        },
+    )
+}
+
+#[test]
+fn first_lines_that_are_bad(rt: HostRuntime) -> Result<(), Fail> {
+    for (stream, reason) in [
+        ("5 2 0 2 3 0\n", "not unit 3"),
+        ("5 2 0 1 2 3 0\n", "excess 3"),
+        ("5 2 0 1 0\n", "no conflict"),
+        ("5 2 0 0\n", "no conflict"),
+        ("5 1 0 -2 0\n", "rat hint"),
+        ("5 d 5 0\n", "not live 5"),
+        ("5 2 0 1 2 0", "truncated"),
+        ("5  2 0 1 2 0\n", "spelling"),
+        ("5 1 -1 0 1 0\n", "tautology"),
+        ("5 3 -3 0 1 0\n", "literal"),
+        ("1000000000000000000 2 0 1 2 0\n", "too long"),
+        ("999999999999999999 2 0 1 2 0\n", "identity"),
+        ("5 2 0 5 0\n", "missing 5"),
+    ] {
+        assert_bad(&rt, rt.alloc(), &["f", "1"], stream, reason)?;
+    }
+    let words = ["--room", "0", "f", "1"];
+    assert_bad(&rt, rt.alloc(), &words, "5 0 1 0\n", "not unit 1")?;
+    assert_bad(&rt, rt.alloc(), &words, "5 2 0 1 2 0\n", "no room")
+}
+
+#[test]
+fn one_stream(rt: HostRuntime) -> Result<(), Fail> {
+    for row in [
+        Row {
+            status: 0,
+            ..one(
+                &["5 2 0 1 2 0\n6 0 5 3 4 0\n"],
+                "c stream 1: 2 added, 0 deleted, ended\ns UNSATISFIABLE\n",
+            )
+        },
+        one(
+            &["5 2 0 1 2 0\n5 d 5 0\n6 0 5 3 4 0\n"],
+            "c stream 1: 1 added, 1 deleted, bad line 3 (retired 5)\ns UNKNOWN\n",
+        ),
+        one(
+            &["5 2 0 1 2 0\n5 d 5 5 0\n"],
+            "c stream 1: 1 added, 1 deleted, bad line 2 (not live 5)\ns UNKNOWN\n",
+        ),
+        one(
+            &["5 d 1 1 0\n"],
+            "c stream 1: 0 added, 1 deleted, bad line 1 (not live 1)\ns UNKNOWN\n",
+        ),
+        one(
+            &["7 2 0 1 2 0\n6 0 7 3 4 0\n"],
+            "c stream 1: 1 added, 0 deleted, bad line 2 (identity)\ns UNKNOWN\n",
+        ),
+        one(
+            &["5 d 1 0\n5 2 0 1 2 0\n"],
+            "c stream 1: 0 added, 1 deleted, bad line 2 (dropped 1)\ns UNKNOWN\n",
+        ),
+        Row {
+            status: 0,
+            ..one(
+                &["5 2 0 1 2 0\n6 0 5 3 4 0\n7 2 0 1 0\n"],
+                "c stream 1: 2 added, 0 deleted, bad line 3 (no conflict)\ns UNSATISFIABLE\n",
+            )
+        },
+        Row {
+            words: &["--lines", "1", "f", "1"],
+            ..one(
+                &["5 2 0 1 2 0\n6 0 5 3 4 0\n"],
+                "c stream 1: 1 added, 0 deleted, bad line 2 (identity)\ns UNKNOWN\n",
+            )
+        },
+        Row {
+            words: &["--room", "1", "f", "1"],
+            ..one(
+                &["5 2 2 0 1 2 0\n"],
+                "c stream 1: 1 added, 0 deleted, ended\ns UNKNOWN\n",
+            )
+        },
+    ] {
+        assert_both(&rt, rt.alloc(), &row)?;
+    }
+    Ok(())
+}
+
+#[test]
+fn other_formulas(rt: HostRuntime) -> Result<(), Fail> {
+    for row in [
+        Row {
+            formula: "p cnf 0 1\n0\n",
+            status: 0,
+            ..one(
+                &["2 0 1 0\n"],
+                "c stream 1: 1 added, 0 deleted, ended\ns UNSATISFIABLE\n",
+            )
+        },
+        Row {
+            formula: "p cnf 0 0\n",
+            ..one(&[""], "c stream 1: 0 added, 0 deleted, ended\ns UNKNOWN\n")
+        },
+    ] {
+        assert_both(&rt, rt.alloc(), &row)?;
+    }
+    Ok(())
+}
+
+#[test]
+fn several_streams(rt: HostRuntime) -> Result<(), Fail> {
+    let two = ["5 2 0 1 2 0\n7 0 5 6 0\n", "6 -2 0 3 4 0\n"];
+    let both = "c stream 1: 2 added, 0 deleted, ended
+c stream 2: 1 added, 0 deleted, ended
+s UNSATISFIABLE
+";
+    let row = Row {
+        words: &["--tries", "1000000", "f", "1", "2"],
+        formula: FOUR,
+        streams: &two,
+        out: both,
+        status: 0,
+    };
+    assert_row(&rt, rt.alloc(), &row)?;
+    for row in [
+        Row {
+            words: &["--serial", "f", "1", "2"],
+            ..row
+        },
+        Row {
+            words: &["--serial", "--tries", "0", "f", "1", "2"],
+            streams: &["5 0 6 0\n", "6 -2 0 3 4 0\n"],
+            out: "c stream 1: 0 added, 0 deleted, bad line 1 (missing 6)
+c stream 2: 1 added, 0 deleted, ended
+s UNKNOWN
+",
+            status: 3,
+            ..row
+        },
+        Row {
+            words: &["f", "1", "2"],
+            streams: &["6 2 0 1 2 0\n", ""],
+            out: "c stream 1: 0 added, 0 deleted, bad line 1 (identity)
+c stream 2: 0 added, 0 deleted, ended
+s UNKNOWN
+",
+            status: 3,
+            ..row
+        },
+    ] {
+        assert_row(&rt, rt.alloc(), &row)?;
+    }
+    Ok(())
+}
+
+/// A file that two words name is two streams, and each reads all of it.
+#[test]
+fn a_stream_named_twice(rt: HostRuntime) -> Result<(), Fail> {
+    assert_both(
+        &rt,
+        rt.alloc(),
+        &Row {
+            words: &["f", "1", "1"],
+            formula: FOUR,
+            streams: &["5 2 0 1 2 0\n"],
+            out: "c stream 1: 1 added, 0 deleted, ended
+c stream 2: 0 added, 0 deleted, bad line 1 (identity)
+s UNKNOWN
+",
+            status: 3,
+        },
+    )
+}
