@@ -241,6 +241,7 @@ usage 'too many tries' --tries 1000001 "$absent" "$absent"
 usage 'too many lines' --lines 268435457 "$absent" "$absent"
 usage 'no number' --room x "$absent" "$absent"
 usage 'no such option' --fast "$absent" "$absent"
+usage 'a word that is no UTF-8' "$(printf '\377')" "$absent"
 
 # Outputs that take nothing. What can't be said on standard error changes no status.
 
