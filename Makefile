@@ -1,17 +1,19 @@
-# lrupd: make run, make test. Both need Rattle's toolchain, the command rt, and nothing else.
+# lrupd: make run, make test, make install. Building needs Rattle's toolchain, the command rt, and nothing else.
 
 RT ?= rt
+PREFIX ?= /usr/local
 PROGRAM := crates/lrupd/out/lrupd
 LOG := crates/lrupd/out/build.log
-FORMULA ?= examples/four-clause.cnf
-STREAM ?= examples/four-clause.lrup
+FORMULA ?= examples/bmc.cnf
+STREAMS ?= $(addprefix examples/bmc-four.,1 2 3 4)
+OPTIONS ?= --tries 1000000
 
-.PHONY: run build examples allocations test toolchain
+.PHONY: run build install examples live allocations test toolchain
 
 # Builds the proved program and runs it on an example, or on files of one's own:
-#     make run FORMULA=path/to/formula.cnf STREAM=path/to/stream.lrup
+#     make run FORMULA=path/to/formula.cnf STREAMS="path/to/stream1 path/to/stream2"
 run: build
-	@status=0; $(PROGRAM) "$(abspath $(FORMULA))" "$(abspath $(STREAM))" || status=$$?; \
+	@status=0; $(PROGRAM) $(OPTIONS) $(FORMULA) $(STREAMS) || status=$$?; \
 	echo "status $$status"; \
 	case $$status in 0|3) ;; *) exit $$status ;; esac
 
@@ -21,17 +23,27 @@ build: toolchain
 	@cd crates/lrupd && $(RT) run -- "$(abspath examples/four-clause.cnf)" "$(abspath examples/four-clause.lrup)" \
 	> $(abspath $(LOG)) 2>&1 || { cat $(abspath $(LOG)); exit 1; }
 
-# What the program writes on standard output and standard error, and its status, on the examples and on some thirty small runs.
+# The program and its manual page, below PREFIX.
+install: build
+	install -d "$(DESTDIR)$(PREFIX)/bin" "$(DESTDIR)$(PREFIX)/share/man/man1"
+	install -m 755 $(PROGRAM) "$(DESTDIR)$(PREFIX)/bin/lrupd"
+	install -m 644 docs/lrupd.1 "$(DESTDIR)$(PREFIX)/share/man/man1/lrupd.1"
+
+# What the program writes on standard output and standard error, and its status, on the examples and on some seventy small runs.
 examples: build
 	@sh examples/compare.sh $(PROGRAM)
 
-# Tests with one allocation refused.
+# Four recorded solvers, line by line through pipes, checked while they run.
+live: build
+	@sh examples/live.sh $(PROGRAM)
+
+# Runs with one allocation refused.
 allocations: toolchain
 	@sh gate/allocations.sh $(RT)
 
 # The whole gate: the examples, the refused allocations, and then every proof from nothing, each edit that must be refused,
 # each test, and the program as two compilers build it. The last line is 'N passed, M failed'.
-test: examples allocations
+test: examples live allocations
 	@$(RT) ci
 
 toolchain:

@@ -1,103 +1,262 @@
 #!/bin/sh
-# Runs the program on the rows below, and compares what it writes on standard output and standard error, and its status,
-# with what is wanted. It ends with status 1 where one differs.
+# Runs the program on the rows below, and compares what it writes on standard output and standard error, and its status, with
+# what is wanted. It shows what differs; the last line is 'N passed, M failed', and the status is 1 where a row failed.
 #
 #     sh examples/compare.sh crates/lrupd/out/lrupd
 
-program=$1
+if [ $# -ne 1 ] || [ ! -x "$1" ]; then
+    echo "usage: sh $0 PROGRAM" >&2
+    exit 2
+fi
+case $1 in /*) program=$1 ;; *) program=$PWD/$1 ;; esac
 here=$(dirname "$0")
-work=$(mktemp -d)
-trap 'rm -rf "$work"' EXIT
-failed=0
+work=$(mktemp -d) || exit 2
+passed=0 failed=0 writers=
 
-# compare NAME STATUS OUT ERR: what the last run left in $work, beside what is wanted; \n in a text is a line's end.
-compare() {
-    printf '%b' "$3" > "$work/wanted-out"
-    printf '%b' "$4" > "$work/wanted-err"
-    if [ "$status" = "$2" ] && cmp -s "$work/out" "$work/wanted-out" && cmp -s "$work/err" "$work/wanted-err"; then
-        echo "$1: as wanted"
-    else
-        failed=1
-        echo "$1: not as wanted: status $status for $2, and this output and error:"
-        cat "$work/out" "$work/err"
+# Ends writers whose pipe was never opened, too.
+clean() {
+    [ -z "$writers" ] || kill $writers 2> /dev/null
+    rm -rf "$work"
+}
+trap clean EXIT
+trap 'exit 1' HUP INT TERM
+
+# want OUT ERR: what the next run is to write. In every text of this file '\n' is the end of a line.
+want() {
+    printf '%b' "$1" > "$work/wanted-out"
+    printf '%b' "$2" > "$work/wanted-err"
+    : > "$work/out"
+    : > "$work/err"
+}
+
+# judge NAME STATUS FOUND: the run that left $work/out and $work/err, and ended with the status FOUND.
+judge() {
+    if [ "$3" = "$2" ] && cmp -s "$work/wanted-out" "$work/out" && cmp -s "$work/wanted-err" "$work/err"; then
+        passed=$((passed + 1))
+        return
     fi
+    failed=$((failed + 1))
+    echo "$1: status $3, wanted $2; output and error, from those wanted:"
+    diff "$work/wanted-out" "$work/out"
+    diff "$work/wanted-err" "$work/err"
 }
 
-# row NAME STATUS OUT ERR WORDS..: one run of the program on these words.
-row() {
-    name=$1 wanted=$2 out=$3 err=$4
-    shift 4
-    status=0
-    "$program" "$@" > "$work/out" 2> "$work/err" || status=$?
-    compare "$name" "$wanted" "$out" "$err"
+# run NAME STATUS WORDS..: the program on these words, and what was wanted last.
+run() {
+    name=$1 status=$2
+    shift 2
+    "$program" "$@" > "$work/out" 2> "$work/err" < /dev/null
+    judge "$name" "$status" $?
 }
 
-# text NAME TEXT: a file of this text.
-text() {
-    printf '%b' "$2" > "$work/$1"
+# example NAME OPTIONS WORDS..: a run of this folder's files, with the report in NAME.out.
+example() {
+    name=$1 options=$2
+    shift 2
+    want '' ''
+    cp "$here/$name.out" "$work/wanted-out"
+    (cd "$here" && "$program" $options "$@") > "$work/out" 2> "$work/err"
+    judge "$name $options" 0 $?
 }
 
-# stream NAME STATUS OUT ERR TEXT: the four clauses over two variables that no assignment satisfies, and this stream.
-stream() {
-    text stream "$5"
-    row "$1" "$2" "$3" "$4" "$work/formula" "$work/stream"
+# given TEXT: the formula of the rows that follow.
+given() {
+    printf '%b' "$1" > "$work/formula"
 }
 
-# formula NAME FAULT TEXT: this formula is refused with this fault, whatever the stream is.
+# streams NAME OPTIONS STATUS [SAID TEXT]..: of each stream its text, and what the report says of it.
+streams() {
+    name=$1 options=$2 status=$3
+    shift 3
+    report='' number=0 count=$(($# / 2))
+    while [ $number -lt $count ]; do
+        number=$((number + 1))
+        report="${report}c stream $number: $1\n"
+        printf '%b' "$2" > "$work/stream$number"
+        shift 2
+        set -- "$@" "$work/stream$number"
+    done
+    if [ "$status" = 0 ]; then verdict='s UNSATISFIABLE\n'; else verdict='s UNKNOWN\n'; fi
+    want "$report$verdict" ''
+    run "$name" "$status" $options "$work/formula" "$@"
+}
+
+# bad FAULT OPTIONS TEXT: one stream, whose first line has this fault.
+bad() {
+    streams "$1" "$2" 3 "0 added, 0 deleted, bad line 1 ($1)" "$3"
+}
+
+# refused CAUSE STATUS WORDS..: no report, and the cause.
+refused() {
+    name=$1 status=$2
+    shift 2
+    want '' "lrupd: $name\n"
+    run "$name" "$status" "$@"
+}
+
+# formula FAULT TEXT: a formula with this fault.
 formula() {
-    text refused "$3"
-    row "$1" 4 '' "lrupd: formula refused: $2\n" "$work/refused" "$work/stream"
+    printf '%b' "$2" > "$work/refused"
+    refused "formula refused: $1" 4 "$work/refused" "$work/stream1"
 }
 
-for example in four-clause pigeonhole bmc; do
-    row "$example" 0 "$(cat "$here/$example.out")\n" '' "$here/$example.cnf" "$here/$example.lrup"
+# usage NAME WORDS..: no report, and help or a usage fault, in words that are not compared.
+usage() {
+    name=$1
+    shift
+    want '' ''
+    "$program" "$@" > "$work/out" 2> "$work/err"
+    status=$?
+    grep -v '^lrupd: ' "$work/err" > "$work/wanted-err" || echo 'some words of usage' > "$work/wanted-err"
+    judge "$name" 2 "$status"
+}
+
+# The examples.
+
+example four-clause '' four-clause.cnf four-clause.lrup
+example pigeonhole '' pigeonhole.cnf pigeonhole.lrup
+example bmc '' bmc.cnf bmc.lrup
+for options in '--tries 1000000' '--serial'; do
+    example pigeonhole-two "$options" pigeonhole.cnf pigeonhole-two.1 pigeonhole-two.2
+    example bmc-four "$options" bmc.cnf bmc-four.1 bmc-four.2 bmc-four.3 bmc-four.4
 done
 
-text formula 'p cnf 2 4\n1 2 0\n-1 2 0\n1 -2 0\n-1 -2 0\n'
+# Reports on one stream, over the four clauses of two literals: each assignment makes one of them false.
 
-stream 'two additions' 0 'c stream 1: 2 added, 0 deleted, ended\nc main: 7 live 0\ns UNSATISFIABLE\n' '' \
-    '5 2 0 1 2 0\n7 0 5 3 4 0\n'
-stream 'one addition' 3 'c stream 1: 1 added, 0 deleted, ended\nc main: 5 live 1\ns UNKNOWN\n' '' '5 2 0 1 2 0\n'
-stream 'another stream'\''s identity' 4 '' 'lrupd: refused\n' '6 2 0 1 2 0\n'
-stream 'a hint too few' 4 '' 'lrupd: refused\n' '5 2 0 1 0\n'
-stream 'a good line and a bad one' 4 '' 'lrupd: refused\n' '5 2 0 1 2 0\n7 0 5 3 0\n'
-stream 'no line end' 4 '' 'lrupd: refused\n' '5 2 0 1 2 0'
-stream 'a deletion' 4 '' 'lrupd: refused\n' '5 d 1 0\n'
-stream 'an empty stream' 3 'c stream 1: 0 added, 0 deleted, ended\nc main: nothing\ns UNKNOWN\n' '' ''
+four='p cnf 2 4\n1 2 0\n-1 2 0\n1 -2 0\n-1 -2 0\n'
+two='5 2 0 1 2 0\n6 0 5 3 4 0\n'
+given "$four"
 
-formula 'no formula' 'no header' ''
-formula 'a short header' 'bad header' 'p cnf 1\n'
-formula 'a signed number' 'bad number in line 2' 'p cnf 1 1\n+1 0\n'
-formula 'a large variable' 'variable out of range in line 2' 'p cnf 1 1\n2 0\n'
-formula 'an open clause' 'open clause' 'p cnf 1 1\n1\n'
-formula 'too few clauses' 'too few clauses' 'p cnf 1 2\n1 0\n'
-formula 'too many clauses' 'too many clauses in line 3' 'p cnf 1 1\n1 0\n0\n'
-formula 'too many variables' 'limit' 'p cnf 16777216 0\n'
-text wide 'p cnf 16777215 16777215\n'
-row 'a formula that ends early' 4 '' 'lrupd: formula refused: too few clauses\n' "$work/wide" "$work/stream"
+streams 'two additions' '' 0 '2 added, 0 deleted, ended' "$two"
+streams 'a repeated literal' '--room 1' 3 '1 added, 0 deleted, ended' '5 2 2 0 1 2 0\n'
+streams 'a bad line after the empty clause' '' 0 '2 added, 0 deleted, bad line 3 (no conflict)' "${two}7 2 0 1 0\n"
+streams 'an identity that is behind' '' 3 '1 added, 0 deleted, bad line 2 (identity)' '7 2 0 1 2 0\n6 0 7 3 4 0\n'
+streams 'no identities left' '--lines 1' 3 '1 added, 0 deleted, bad line 2 (identity)' "$two"
+streams 'a clause deleted' '' 3 '1 added, 1 deleted, bad line 3 (retired 5)' '5 2 0 1 2 0\n5 d 5 0\n6 0 5 3 4 0\n'
+streams 'a clause deleted twice' '' 3 '1 added, 1 deleted, bad line 2 (not live 5)' '5 2 0 1 2 0\n5 d 5 5 0\n'
+streams 'a clause of the formula deleted' '' 3 '0 added, 1 deleted, bad line 2 (dropped 1)' '5 d 1 0\n5 2 0 1 2 0\n'
+streams 'one deleted twice' '' 3 '0 added, 1 deleted, bad line 1 (not live 1)' '5 d 1 1 0\n'
 
-row 'no word' 2 '' 'lrupd: refused\n'
-row 'one word' 2 '' 'lrupd: refused\n' "$work/formula"
-row 'three words' 2 '' 'lrupd: refused\n' "$work/formula" "$work/stream" "$work/stream"
-row 'no such formula' 5 '' 'lrupd: refused\n' "$work/absent" "$work/stream"
-row 'no such stream' 5 '' 'lrupd: refused\n' "$work/formula" "$work/absent"
-row 'a folder as the stream' 5 '' 'lrupd: refused\n' "$work/formula" "$work"
+bad 'not unit 3' '' '5 2 0 2 3 0\n'
+bad 'not unit 1' '--room 0' '5 0 1 0\n'
+bad 'excess 3' '' '5 2 0 1 2 3 0\n'
+bad 'no conflict' '' '5 2 0 1 0\n'
+bad 'no conflict' '' '5 2 0 0\n'
+bad 'missing 5' '' '5 2 0 5 0\n'
+bad 'rat hint' '' '5 1 0 -2 0\n'
+bad 'tautology' '' '5 1 -1 0 1 0\n'
+bad 'literal' '' '5 3 -3 0 1 0\n'
+bad 'no room' '--room 0' '5 2 0 1 2 0\n'
+bad 'spelling' '' '5  2 0 1 2 0\n'
+bad 'truncated' '' '5 2 0 1 2 0'
+bad 'too long' '' '1000000000000000000 2 0 1 2 0\n'
+bad 'identity' '' '999999999999999999 2 0 1 2 0\n'
 
-# The report goes to a device that is full; and then a refusal's line.
-text stream '5 2 0 1 2 0\n7 0 5 3 4 0\n'
-: > "$work/out"
-status=0
-"$program" "$work/formula" "$work/stream" > /dev/full 2> "$work/err" || status=$?
-compare 'a full device' 7 '' ''
-: > "$work/err"
-status=0
-"$program" > "$work/out" 2> /dev/full || status=$?
-compare 'a full device for a refusal' 2 '' ''
+given 'p cnf 0 1\n0\n'
+streams 'an empty clause in the formula' '' 0 '1 added, 0 deleted, ended' '2 0 1 0\n'
+given 'p cnf 0 0\n'
+streams 'nothing' '' 3 '0 added, 0 deleted, ended' ''
+given "$four"
 
-# The stream is a pipe, and comes in parts.
-status=0
-{ printf '5 2 0 1 2 0\n7 0'; sleep 0.2; printf ' 5 3 4 0\n'; } |
-    "$program" "$work/formula" /dev/stdin > "$work/out" 2> "$work/err" || status=$?
-compare 'a pipe' 0 'c stream 1: 2 added, 0 deleted, ended\nc main: 7 live 0\ns UNSATISFIABLE\n' ''
+# Reports on several streams.
 
-exit $failed
+streams 'a stream that adds nothing' '' 3 \
+    '0 added, 0 deleted, bad line 1 (identity)' '6 2 0 1 2 0\n' \
+    '0 added, 0 deleted, ended' ''
+for options in '--serial' '--tries 1000000'; do
+    streams "the other stream's clause $options" "$options" 0 \
+        '2 added, 0 deleted, ended' '5 2 0 1 2 0\n7 0 5 6 0\n' \
+        '1 added, 0 deleted, ended' '6 -2 0 3 4 0\n'
+done
+streams "the other stream's clause, too early" '--serial --tries 0' 3 \
+    '0 added, 0 deleted, bad line 1 (missing 6)' '5 0 6 0\n' \
+    '1 added, 0 deleted, ended' '6 -2 0 3 4 0\n'
+streams "the other stream's clause, deleted by it" '--serial' 3 \
+    '2 added, 0 deleted, bad line 3 (retired 6)' '5 2 0 1 2 0\n7 2 0 1 2 0\n9 0 5 6 0\n' \
+    '1 added, 1 deleted, ended' '6 -2 0 3 4 0\n6 d 6 0\n'
+streams "the other stream's clause, dropped by this one" '' 3 \
+    '0 added, 1 deleted, bad line 2 (dropped 6)' '5 d 6 0\n5 0 6 0\n' \
+    '1 added, 0 deleted, ended' '6 -2 0 3 4 0\n'
+
+set --
+while [ $# -lt 128 ]; do set -- "$@" '1 added, 0 deleted, ended' "$((5 + $# / 2)) 2 0 1 2 0\n"; done
+streams '64 streams' '--lines 1 --room 1' 3 "$@"
+
+# Pipes, opened in the order of the words and written while they are checked; a file named twice; a folder.
+
+mkfifo "$work/pipe1" "$work/pipe2"
+{ printf '5 2 0 1 2 0\n7'; sleep 0.2; printf ' 0 5 6 0\n'; } > "$work/pipe1" & writers=$!
+{ printf '6 -2 0 3'; sleep 0.1; printf ' 4 0\n'; } > "$work/pipe2" & writers="$writers $!"
+want 'c stream 1: 2 added, 0 deleted, ended\nc stream 2: 1 added, 0 deleted, ended\ns UNSATISFIABLE\n' ''
+run 'two pipes' 0 --tries 1000000 "$work/formula" "$work/pipe1" "$work/pipe2"
+for size in 1 2; do
+    printf '%b' "$two" | dd bs=$size 2> /dev/null > "$work/pipe1" & writers="$writers $!"
+    want 'c stream 1: 2 added, 0 deleted, ended\ns UNSATISFIABLE\n' ''
+    run "a pipe, in pieces of $size" 0 "$work/formula" "$work/pipe1"
+done
+
+printf '5 2 0 1 2 0\n' > "$work/one"
+want 'c stream 1: 1 added, 0 deleted, ended\nc stream 2: 0 added, 0 deleted, bad line 1 (identity)\ns UNKNOWN\n' ''
+run 'a stream named twice' 3 "$work/formula" "$work/one" "$work/one"
+want 'c stream 1: 0 added, 0 deleted, read failed at line 1\ns UNKNOWN\n' ''
+run 'a folder as the stream' 3 "$work/formula" "$work"
+
+# Formulas that are refused.
+
+formula 'no header' ''
+formula 'no header' 'c p cnf 1 1\n1 0\n'
+formula 'bad header' 'p cnf 1\n'
+formula 'bad header' 'p cnf 01 0\n'
+formula 'bad number in line 2' 'p cnf 1 1\n+1 0\n'
+formula 'bad number in line 3' 'p cnf 1 1\n1 0\n%\n'
+formula 'variable out of range in line 2' 'p cnf 1 1\n2 0\n'
+formula 'open clause' 'p cnf 1 1\n1'
+formula 'too few clauses' 'p cnf 1 2\n1 0\n'
+formula 'too many clauses in line 2' 'p cnf 1 0\n0\n'
+formula 'limit' 'p cnf 16777216 0\n'
+formula 'limit' 'p cnf 0 16777216\n'
+
+# Files that aren't there, and the order in which the words, the formula and the streams are looked at.
+
+absent=$work/absent
+printf 'p cnf 1\n' > "$work/refused"
+refused 'cannot read formula' 5 "$absent" "$work/one"
+refused 'cannot read formula' 5 "$absent" "$absent"
+refused 'cannot read formula' 5 "$work" "$work/one"
+refused 'formula refused: bad header' 4 "$work/refused" "$absent"
+refused 'cannot open stream 1' 5 "$work/formula" "$absent" "$absent"
+refused 'cannot open stream 2' 5 "$work/formula" "$work/one" "$absent"
+refused 'cannot open stream 1' 5 --lines 268435456 "$work/formula" "$absent"
+refused 'row too long' 2 --lines 268435456 "$work/formula" "$work/one"
+refused 'row too long' 2 --room 268435456 "$work/formula" "$work/one"
+
+set --
+while [ $# -lt 65 ]; do set -- "$@" "$work/one"; done
+refused 'stream count' 2 "$work/formula" "$@"
+
+usage 'no words'
+usage 'no stream' "$work/formula"
+usage 'help' --help
+usage 'too many tries' --tries 1000001 "$absent" "$absent"
+usage 'too many lines' --lines 268435457 "$absent" "$absent"
+usage 'no number' --room x "$absent" "$absent"
+usage 'no such option' --fast "$absent" "$absent"
+usage 'a word that is no UTF-8' "$(printf '\377')" "$absent"
+
+# Outputs that take nothing. What can't be said on standard error changes no status.
+
+want '' 'lrupd: cannot write report\n'
+"$program" "$work/formula" "$work/one" > /dev/full 2> "$work/err"
+judge 'a full output' 7 $?
+"$program" "$work/formula" "$work/one" >&- 2> "$work/err"
+judge 'a closed output' 7 $?
+want '' ''
+"$program" "$absent" "$work/one" > "$work/out" 2> /dev/full
+judge 'a full standard error' 5 $?
+"$program" --help > "$work/out" 2> /dev/full
+judge 'a full standard error for help' 2 $?
+"$program" "$work/formula" "$work/one" > /dev/full 2> /dev/full
+judge 'both full' 7 $?
+
+echo "$passed passed, $failed failed"
+[ $failed = 0 ]

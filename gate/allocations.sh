@@ -1,34 +1,32 @@
 #!/bin/sh
-# Runs tests with one allocation refused, the first, the second and so on, and looks at how they end. It proves nothing.
-# It ends with status 1 where one ends in another way than is wanted.
+# Runs tests, and the program, with one allocation refused, the first, the second and so on, and looks at how they end. It
+# proves nothing. It ends with status 1 where one ends in another way than is wanted.
 #
 #     sh gate/allocations.sh rt
 #
 # lrup_model: a push and an open take at most three allocations. Where one is refused nothing has changed, and the next
 # attempt succeeds, whichever it was.
 #
-# first_path: the checking of one line and of 5,000 take the same number of allocations: where the two tests fail, because
-# an allocation that they made was refused, they fail both.
+# lrupd: where an allocation before the first line is refused, the program says that and gives no report. One line and 5,000
+# take the same number of allocations: with the same one refused they have both a report or both none. The identities that a
+# stream drops do take memory while it is checked, and a refusal there ends the stream, with a report.
 
 rt=$1
 root=$(cd "$(dirname "$0")/.." && pwd)
-log=$(mktemp)
-trap 'rm -f "$log"' EXIT
+work=$(mktemp -d) || exit 2
+trap 'rm -rf "$work"' EXIT
+trap 'exit 1' HUP INT TERM
+log=$work/log
 failed=0
 
-# run CRATE N: the crate's tests, with allocation N refused in each.
-run() {
+# tests CRATE N: the crate's tests, with allocation N refused in each.
+tests() {
     (cd "$root/crates/$1" && "$rt" try --test --seconds 5 --fail-alloc "$2") > "$log" 2>&1
 }
 
-# ending TEST: ok, FAILED, or nothing where the test didn't run.
-ending() {
-    sed -n "s/^test tests::$1 \.\.\. //p" "$log"
-}
-
-# want CRATE N TEST ENDING
+# want CRATE N TEST ENDING: of the tests that ran last; ok or FAILED.
 want() {
-    found=$(ending "$3")
+    found=$(sed -n "s/^test tests::$3 \.\.\. //p" "$log")
     if [ "$found" = "$4" ]; then
         echo "$1, allocation $2 refused: $3: $4"
     else
@@ -39,19 +37,53 @@ want() {
 }
 
 for n in 1 2 3 4; do
-    run lrup_model $n
+    tests lrup_model $n
     want lrup_model $n a_refused_push_changes_nothing ok
     want lrup_model $n a_refused_open_can_be_made_again ok
     # This one makes more allocations, and has no second attempt: it shows that one was refused.
     want lrup_model $n two_desks_use_one_map FAILED
 done
 
-for n in 13 14 15; do
-    run first_path $n
-    one=$(ending memory_of_one_line)
-    want first_path $n memory_of_many_lines "$one"
-    [ $n = 13 ] && want first_path $n memory_of_one_line FAILED
-    [ $n = 15 ] && want first_path $n memory_of_one_line ok
+# Streams for bmc.cnf: good lines, with the hints of the first line of bmc.lrup; and clauses of the formula dropped.
+streams=$work/streams
+mkdir "$streams"
+awk 'BEGIN { for (i = 534; i < 5534; i++) print i " 101 -107 -108 -109 0 487 490 0" }' > "$streams/many"
+head -n 1 "$streams/many" > "$streams/one"
+awk 'BEGIN { for (i = 1; i <= 500; i++) print "534 d " i " 0" }' > "$streams/drops"
+
+# program N: a run on each stream, with allocation N refused. The output of one and many is compared with that in *.stdout.
+program() {
+    (cd "$root/crates/lrupd" && "$rt" try --seconds 20 --fail-alloc "$1" --cases "$streams" \
+        --data "formula.cnf=$root/examples/bmc.cnf" -- formula.cnf '{}') > "$log" 2>&1
+}
+
+# seen N COUNT PATTERN: the runs above left so many lines of this kind.
+seen() {
+    found=$(grep -cE "$3" "$log")
+    if [ "$found" = "$2" ]; then
+        echo "lrupd, allocation $1 refused: $2 times $3"
+    else
+        failed=1
+        echo "lrupd, allocation $1 refused: $found times, and not $2: $3"
+        cat "$log"
+    fi
+}
+
+for n in 1 40; do
+    for stream in one many drops; do : > "$streams/$stream.stdout"; done
+    program $n
+    seen $n 3 '^case=[a-z]+ run=ended status=6 .* output=expected'
+    seen $n 3 '^lrupd: out of memory$'
 done
+
+# Some five allocations after the last one before the first line.
+n=80
+printf 'c stream 1: 1 added, 0 deleted, ended\ns UNKNOWN\n' > "$streams/one.stdout"
+printf 'c stream 1: 5000 added, 0 deleted, ended\ns UNKNOWN\n' > "$streams/many.stdout"
+rm "$streams/drops.stdout"
+program $n
+seen $n 2 '^case=(one|many) run=ended status=3 .* output=expected'
+seen $n 1 '^case=drops run=ended status=3 '
+seen $n 1 '^c stream 1: 0 added, [0-9]+ deleted, out of memory at line [0-9]+$'
 
 exit $failed
