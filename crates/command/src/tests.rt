@@ -129,6 +129,8 @@ impl Sink for Paper {
     }
 }
 
+const PATHS: &[&str] = &["1", "2", "3", "4", "5", "6", "7", "8", "9"];
+
 /// The formula at `f`, and the streams at `1`, `2` and so on up to 9.
 fn shelf_of<'a>(alloc: Global, formula: &'a str, streams: &[&'a str]) -> Result<Shelf<'a>, Fail> {
     let mut entries = Vec::new(alloc);
@@ -137,8 +139,7 @@ fn shelf_of<'a>(alloc: Global, formula: &'a str, streams: &[&'a str]) -> Result<
         text: formula,
         fails_at: 0,
     })?;
-    let paths = ["1", "2", "3", "4", "5", "6", "7", "8", "9"];
-    for (path, text) in paths.iter().zip(streams) {
+    for (path, text) in PATHS.iter().zip(streams) {
         entries.push(Entry {
             path,
             text,
