@@ -111,6 +111,15 @@ usage() {
     judge "$name" 2 "$status"
 }
 
+# limited CAUSE KILOBYTES WORDS..: no report for want of memory, in an address space of this size with stacks of 8 MB.
+limited() {
+    name=$1 size=$2
+    shift 2
+    want '' "lrupd: $name\n"
+    (ulimit -s 8192 && ulimit -v "$size" && exec "$program" "$@") > "$work/out" 2> "$work/err"
+    judge "$name" 6 $?
+}
+
 # The examples.
 
 example four-clause '' four-clause.cnf four-clause.lrup
@@ -242,6 +251,9 @@ usage 'too many lines' --lines 268435457 "$absent" "$absent"
 usage 'no number' --room x "$absent" "$absent"
 usage 'no such option' --fast "$absent" "$absent"
 usage 'a word that is no UTF-8' "$(printf '\377')" "$absent"
+
+limited 'out of memory' 1000000 --room 268000000 "$work/formula" "$work/one"
+limited 'worker 1 not started' 9000 --lines 1 --room 1 "$work/formula" "$work/one"
 
 # Outputs that take nothing. What can't be said on standard error changes no status.
 

@@ -51,10 +51,11 @@ awk 'BEGIN { for (i = 534; i < 5534; i++) print i " 101 -107 -108 -109 0 487 490
 head -n 1 "$streams/many" > "$streams/one"
 awk 'BEGIN { for (i = 1; i <= 500; i++) print "534 d " i " 0" }' > "$streams/drops"
 
-# program N: a run on each stream, with allocation N refused. The output of one and many is compared with that in *.stdout.
+# program N: a run on each stream, with allocation N refused.
 program() {
     (cd "$root/crates/lrupd" && "$rt" try --seconds 20 --fail-alloc "$1" --cases "$streams" \
-        --data "formula.cnf=$root/examples/bmc.cnf" -- formula.cnf '{}') > "$log" 2>&1
+        --data "formula.cnf=$root/examples/bmc.cnf" -- formula.cnf '{}') > "$work/out" 2> "$work/err"
+    { cat "$work/out" && echo && cat "$work/err"; } > "$log"
 }
 
 # seen N COUNT PATTERN: the runs above left so many lines of this kind.
@@ -70,20 +71,19 @@ seen() {
 }
 
 for n in 1 40; do
-    for stream in one many drops; do : > "$streams/$stream.stdout"; done
     program $n
-    seen $n 3 '^case=[a-z]+ run=ended status=6 .* output=expected'
+    seen $n 3 '^case=[a-z]+ run=ended status=6 '
     seen $n 3 '^lrupd: out of memory$'
+    seen $n 0 '^(c|s) '
 done
 
 # Some five allocations after the last one before the first line.
 n=80
-printf 'c stream 1: 1 added, 0 deleted, ended\ns UNKNOWN\n' > "$streams/one.stdout"
-printf 'c stream 1: 5000 added, 0 deleted, ended\ns UNKNOWN\n' > "$streams/many.stdout"
-rm "$streams/drops.stdout"
 program $n
-seen $n 2 '^case=(one|many) run=ended status=3 .* output=expected'
-seen $n 1 '^case=drops run=ended status=3 '
+seen $n 3 '^case=[a-z]+ run=ended status=3 '
+seen $n 3 '^s UNKNOWN$'
+seen $n 1 '^c stream 1: 1 added, 0 deleted, ended$'
+seen $n 1 '^c stream 1: 5000 added, 0 deleted, ended$'
 seen $n 1 '^c stream 1: 0 added, [0-9]+ deleted, out of memory at line [0-9]+$'
 
 exit $failed
