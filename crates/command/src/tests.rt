@@ -66,6 +66,17 @@ struct Shelf<'a> {
     is_full: bool,
 }
 
+impl Shelf<'_> {
+    /// Read number `read` of the file at this path fails, from 1 on.
+    fn fail_at(&mut self, path: &str, read: usize) {
+        for entry in self.entries.iter_mut() {
+            if entry.path == path {
+                entry.fails_at = read;
+            }
+        }
+    }
+}
+
 impl<'a> Files for Shelf<'a> {
     type Input = Pieces<'a>;
 
