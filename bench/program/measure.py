@@ -1,0 +1,50 @@
+#!/usr/bin/env python3
+"""Runs two commands by turns, and compares their times and memory.
+
+    ./measure.py [--rounds N] 'COMMAND' 'OTHER COMMAND'
+
+Prints for each the median of wall time and of processor time in seconds, and of the most memory in MiB, and the ratios of the
+first to the second. Standard output has to be the same in each run of both, and so has the status. Only the ratios of one
+run mean something on a machine that does other work too.
+"""
+import argparse
+import os
+import shlex
+import statistics
+import sys
+import tempfile
+import time
+
+
+def run(words):
+    """Wall seconds, processor seconds, MiB at the peak, and what was printed with the status."""
+    with tempfile.TemporaryFile() as out:
+        start = time.perf_counter()
+        child = os.fork()
+        if child == 0:
+            os.dup2(out.fileno(), 1)
+            os.execvp(words[0], words)
+        _, status, usage = os.wait4(child, 0)
+        wall = time.perf_counter() - start
+        out.seek(0)
+        return wall, usage.ru_utime + usage.ru_stime, usage.ru_maxrss / 1024, (out.read(), status)
+
+
+def main():
+    arguments = argparse.ArgumentParser(description=__doc__.splitlines()[0])
+    arguments.add_argument("--rounds", type=int, default=11)
+    arguments.add_argument("commands", nargs=2)
+    given = arguments.parse_args()
+    commands = [shlex.split(command) for command in given.commands]
+    found = [[], []]
+    for _ in range(given.rounds):
+        for command, results in zip(commands, found):
+            results.append(run(command))
+    if len({result[3] for results in found for result in results}) > 1:
+        sys.exit("the outputs differ")
+    medians = [[statistics.median(column) for column in list(zip(*results))[:3]] for results in found]
+    for name, one, other in zip(("wall", "processor", "memory"), *medians):
+        print(f"{name:10} {one:10.3f} {other:10.3f}   ratio {one / other:.2f}")
+
+
+main()
