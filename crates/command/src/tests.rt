@@ -66,6 +66,17 @@ struct Shelf<'a> {
     is_full: bool,
 }
 
+impl Shelf<'_> {
+    /// Read number `read` of the file at this path fails, from 1 on.
+    fn fail_at(&mut self, path: &str, read: usize) {
+        for entry in self.entries.iter_mut() {
+            if entry.path == path {
+                entry.fails_at = read;
+            }
+        }
+    }
+}
+
 impl<'a> Files for Shelf<'a> {
     type Input = Pieces<'a>;
 
@@ -129,6 +140,8 @@ impl Sink for Paper {
     }
 }
 
+const PATHS: &[&str] = &["1", "2", "3", "4", "5", "6", "7", "8", "9"];
+
 /// The formula at `f`, and the streams at `1`, `2` and so on up to 9.
 fn shelf_of<'a>(alloc: Global, formula: &'a str, streams: &[&'a str]) -> Result<Shelf<'a>, Fail> {
     let mut entries = Vec::new(alloc);
@@ -137,8 +150,7 @@ fn shelf_of<'a>(alloc: Global, formula: &'a str, streams: &[&'a str]) -> Result<
         text: formula,
         fails_at: 0,
     })?;
-    let paths = ["1", "2", "3", "4", "5", "6", "7", "8", "9"];
-    for (path, text) in paths.iter().zip(streams) {
+    for (path, text) in PATHS.iter().zip(streams) {
         entries.push(Entry {
             path,
             text,

@@ -1,25 +1,17 @@
 -- Identities that are deleted one after the other.
-use Rattle.std.proofs.Common.{◌≡◌, ◌<◌, ◌+◌, ℕ, Bool, true, false, cond, List, [], ◌∷◌, ◌++◌, length, take, drop, get_or, inl, inr, refl, sym, ap, subst, ◌∙◌, arith, append_assoc, append-nil, take-append-drop, drop-cons, add-one}
+use Rattle.std.proofs.Common.{◌≡◌, ◌<◌, ◌+◌, ℕ, Bool, true, false, List, [], ◌∷◌, ◌++◌, length, take, drop, get_or, inl, inr, refl, sym, ap, subst, ◌∙◌, append_assoc, append-nil, take-append-drop, drop-cons, add-one}
 use Rattle.std.specs.Prelude.{◌||◌, ◌&&◌, ◌==◌}
 use Rattle.std.specs.List.{AllByRecursion}
-use Rattle.std.proofs.lemmas.Bool.{cases_Bool, cases_eq, eqb-true}
+use Rattle.std.proofs.lemmas.Bool.{eqb-true}
 use Rattle.std.proofs.lemmas.List.Folds.{list_any-append}
-use Rattle.std.proofs.lemmas.Map.Made.{length-remove_key}
-use Rattle.std.specs.Set.{remove_key}
-use Rattle.lrup_model.specs.Layout.{Owns}
-use Rattle.lrup_model.specs.Event as events
 use Rattle.lrup_model.specs.Event.{Event, History}
-use Rattle.lrup_model.specs.State.{Slot, IsLive, absent, live, retired, put, retire_slot}
-use Rattle.lrup_model.specs.Place.{Caller, Place, Tells}
-use Rattle.lrup_model.specs.HistoryLemmas.{put-same, put-other}
-use Rattle.lrup_model.specs.declared.clause_map.Retired.TheVariants as retiring
 use Rattle.stream_check.specs.declared.fault.Fault.TheVariants as faults
 use Rattle.stream_check.specs.declared.deletion.Deleted.TheVariants as deleting
 use Rattle.stream_check.specs.Setting.{Setting, Side, formula, own, foreign, outside, side_of, is_shared}
 use Rattle.stream_check.specs.Standing.{is_among}
 use Rattle.stream_check.specs.Verdicts.{Verdict, Good, Bad}
 use Rattle.stream_check.specs.Deletions.{is_dropped, DeletesAt, JudgesIdentities, JudgesDeletion, StopsDeletion}
-use Rattle.stream_check.specs.Checking.{IsAt, DeletesSide, DeletesOne, AreDropped}
+use Rattle.stream_check.specs.Checking.{DeletesSide, DeletesOne, AreDropped}
 
 -- The dropped ones
 

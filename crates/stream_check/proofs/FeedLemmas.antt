@@ -5,7 +5,6 @@ use Rattle.std.proofs.lemmas.List.{take_all}
 use Rattle.lrup_model.specs.Layout.{LayoutValue}
 use Rattle.lrup_model.specs.Event.{History}
 use Rattle.lrup_text.specs.Feeding.{ReaderState}
-use Rattle.lrup_text.specs.Lines.{StreamLine}
 use Rattle.stream_check.specs.Laws.{FreshLeft}
 use Rattle.stream_check.specs.declared.report.Ending.{Ending}
 use Rattle.stream_check.specs.declared.held.Held.{Held}

@@ -20,3 +20,4 @@ pub mod DeletedLemmas
 pub mod WithinLemmas
 pub mod WorkedLemmas
 pub mod ReadyLemmas
+pub mod BesideLemmas

@@ -2,12 +2,12 @@
 use Rattle.std.proofs.Common.{◌≡◌, ◌<◌, ◌+◌, ◌-◌, ℕ, ℤ, Bool, true, false, List, [], ◌∷◌, ◌++◌, length, None, Some, refl, sym, ap, subst, ◌∙◌, inl, inr, arith}
 use Rattle.std.specs.Prelude.{◌||◌, ◌&&◌, ◌==◌, min, ◌^◌}
 use Rattle.std.specs.List.{AllByRecursion}
-use Rattle.std.proofs.lemmas.Bool.{cases_eq, eq-eqb}
+use Rattle.std.proofs.lemmas.Bool.{cases_eq}
 use Rattle.std.proofs.Math.Dec.{eqb-suc-zero}
 use Rattle.lrup_model.specs.Layout.{Owns}
 use Rattle.lrup_model.specs.Event as events
 use Rattle.lrup_model.specs.Event.{Event, History, stream_of, size_of, own, spent}
-use Rattle.lrup_model.specs.State.{State, Slot, IsLive, absent, live, put, retire_slot, run}
+use Rattle.lrup_model.specs.State.{State, Slot, absent, live, put, retire_slot, run}
 use Rattle.lrup_model.specs.Place.{Caller, Place, Tells, IsVacantAbove}
 use Rattle.lrup_model.specs.Running.{run-append, spent-append}
 use Rattle.lrup_model.specs.HistoryLemmas.{put-same, put-other, spent_one}
@@ -19,12 +19,11 @@ use Rattle.stream_check.specs.declared.held.Held.{Held}
 use Rattle.stream_check.specs.declared.deletion.Stop.{Stop}
 use Rattle.stream_check.specs.declared.deletion.Stop.TheVariants as stops
 use Rattle.stream_check.specs.Setting.{Setting, side_of, is_shared}
-use Rattle.stream_check.specs.Standing.{Standing, Tally, capped, is_among, size_of as line_size, deleted_by, added_by, adds_empty}
+use Rattle.stream_check.specs.Standing.{Standing, Tally, capped, is_among, adds_empty}
 use Rattle.stream_check.specs.Verdicts.{Good, Bad}
 use Rattle.stream_check.specs.Additions.{published_by, JudgesAddition}
-use Rattle.stream_check.specs.Judging.{JudgesLine}
-use Rattle.stream_check.specs.Leaving.{Holding, TakesLine, SameStanding, standing_after, tally_after}
-use Rattle.stream_check.specs.Checking.{IsAt, IsFetch, IsRetire, MakesEvents, AreDropped, Deletes}
+use Rattle.stream_check.specs.Leaving.{tally_after}
+use Rattle.stream_check.specs.Checking.{IsAt, IsFetch, IsRetire, MakesEvents, Deletes}
 use Rattle.stream_check.specs.Checker.{standing_at, tally_at, deleted_at, KeepsLines}
 use Rattle.stream_check.specs.Taking.{IsReady, DeletesMore, TakesBy}
 use Rattle.stream_check.proofs.AddLemmas.{spent-skips, spent-fetches, run-fetches, still_at}

@@ -4,7 +4,6 @@ use Rattle.lrup_model.specs.Event.{History}
 use Rattle.lrup_text.specs.Lines.{StreamLine, LineText, IsPending}
 use Rattle.lrup_text.specs.declared.LineFault.{LineFault}
 use Rattle.lrup_text.specs.Faults.{IsRefused}
-use Rattle.stream_check.specs.declared.fault.Fault.{Fault}
 use Rattle.stream_check.specs.declared.fault.Fault.TheVariants as faults
 use Rattle.stream_check.specs.declared.report.Ending.{Ending}
 use Rattle.stream_check.specs.declared.report.Ending.TheVariants as endings
@@ -13,12 +12,11 @@ use Rattle.stream_check.specs.declared.held.Held.{Held}
 use Rattle.stream_check.specs.declared.deletion.Stop.{Stop}
 use Rattle.stream_check.specs.declared.deletion.Stop.TheVariants as stops
 use Rattle.stream_check.specs.declared.line.Taken.TheVariants as taken
-use Rattle.stream_check.specs.Setting.{Setting}
-use Rattle.stream_check.specs.Standing.{capped, Tally}
+use Rattle.stream_check.specs.Standing.{capped}
 use Rattle.stream_check.specs.Judging.{report_of}
-use Rattle.stream_check.specs.Leaving.{Going, Over, CheckerState, Leaves}
-use Rattle.stream_check.specs.Checker.{tally_at, report_at, LeavesOn}
-use Rattle.stream_check.specs.Taking.{hold, DeletesMore, TakesBy, Takes, taken_of, ending_of}
+use Rattle.stream_check.specs.Leaving.{Going, Over, Leaves}
+use Rattle.stream_check.specs.Checker.{tally_at, report_at}
+use Rattle.stream_check.specs.Taking.{hold, DeletesMore, TakesBy, Takes, taken_of}
 use Rattle.stream_check.specs.Laws.{GoodLineTaken}
 use Rattle.stream_check.proofs.LeavingLemmas.{pending_grows, bad_line_taken, bad_text_read, memory_wanted}
 

@@ -6,7 +6,7 @@ use Rattle.lrup_model.specs.Layout.{LayoutValue, Owns}
 use Rattle.lrup_model.specs.Place.{Place, IsVacantAbove}
 use Rattle.lrup_text.specs.Feeding.{ReaderState}
 use Rattle.lrup_text.specs.declared.LineFault.{LineFault}
-use Rattle.lrup_text.specs.Lines.{StreamLine, Cut, IsPending, LineText}
+use Rattle.lrup_text.specs.Lines.{StreamLine, Cut, LineText}
 use Rattle.lrup_text.specs.Faults.{IsRefused}
 use Rattle.propagate.specs.Distinct.{distinct}
 use Rattle.propagate.specs.Marks.{Propagation}

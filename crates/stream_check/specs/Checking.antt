@@ -1,13 +1,11 @@
 -- What the parts of a checker do: a hint, the hints of an addition, an addition, the identities of a deletion (this project's own).
-use Rattle.std.specs.Prelude.{◌≡◌, ◌≤◌, ◌==◌, ◌+◌, ◌++◌, ◌||◌, ◌&&◌, ℕ, ℤ, neg_ℤ, Bool, true, false, List, [], ◌∷◌, length, Option, Some, None}
+use Rattle.std.specs.Prelude.{◌≡◌, ◌==◌, ◌++◌, ◌||◌, ◌&&◌, ℕ, ℤ, neg_ℤ, Bool, true, false, List, [], ◌∷◌, length, Option, Some, None}
 use Rattle.std.specs.List.{AllByRecursion}
 use Rattle.lrup_model.specs.Clause.{Clause}
 use Rattle.lrup_model.specs.Formula.{Cnf}
 use Rattle.lrup_model.specs.Entailment.{IsDerived}
-use Rattle.lrup_model.specs.Layout.{Owns}
 use Rattle.lrup_model.specs.Event as events
 use Rattle.lrup_model.specs.Event.{Event, History}
-use Rattle.lrup_model.specs.State.{IsLive}
 use Rattle.lrup_model.specs.Place.{Place, IsKnown, AllFollow}
 use Rattle.lrup_model.specs.Propagation.{IsConflict, IsUnit, Accepts}
 use Rattle.lrup_model.specs.declared.clause_map.Fetched.{Fetched}

@@ -1,5 +1,5 @@
 -- What a checker is, and what it is left as by the bytes so far and the blocks of events of their lines (this project's own).
-use Rattle.std.specs.Prelude.{◌≡◌, ◌+◌, ◌-◌, ◌^◌, ◌&&◌, ◌||◌, ℕ, List, [], length, min}
+use Rattle.std.specs.Prelude.{◌≡◌, ◌+◌, ◌-◌, ◌&&◌, ◌||◌, ℕ, List, [], length}
 use Rattle.lrup_model.specs.Event.{History}
 use Rattle.lrup_text.specs.Lines.{StreamLine, Addition, Deletion, Cut, IsPending}
 use Rattle.stream_check.specs.declared.report.Report.{Report}

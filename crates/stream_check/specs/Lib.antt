@@ -16,3 +16,4 @@ pub mod Reducing
 pub mod Finding
 pub mod Laws
 pub mod Worked
+pub mod TellsLemmas

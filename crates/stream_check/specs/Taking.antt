@@ -14,7 +14,7 @@ use Rattle.stream_check.specs.declared.deletion.Stop.{Stop}
 use Rattle.stream_check.specs.declared.deletion.Stop.TheVariants as stops
 use Rattle.stream_check.specs.declared.line.Taken.{Taken}
 use Rattle.stream_check.specs.declared.line.Taken.TheVariants as taken
-use Rattle.stream_check.specs.Standing.{capped, Tally, is_among}
+use Rattle.stream_check.specs.Standing.{capped, is_among}
 use Rattle.stream_check.specs.Verdicts.{Good, Bad}
 use Rattle.stream_check.specs.Deletions.{StopsDeletion}
 use Rattle.stream_check.specs.Judging.{JudgesLine}

@@ -11,6 +11,7 @@ use crate::setting::{Setting, Side};
 use lrup_model::{ClauseMap, Fetched, Id};
 
 /// Fetches an identity until the reply isn't vacant, and so many times more than once at most.
+#[inline(always)]
 fn fetch_up_to<M: ClauseMap, G: Gate>(most: u64, map: &mut M, gate: &mut G, id: Id) -> Fetched
     requires identity { IsIdentity (M.place map.old).caller.layout id }
     requires small { most < 2 ^ 63 }

@@ -1,13 +1,19 @@
 //! The worked rows at a plain map, each whole, byte by byte and in pieces of two, with the calls of the gate.
-ghost use Rattle.std.specs.Prelude.{◌≡◌, ◌≤◌, ◌<◌, ◌^◌, ℤ, IfOk, OnOk};
-ghost use Rattle.lrup_model.specs.Literal.{max_variable};
+ghost use Rattle.std.specs.Prelude.{◌≡◌, ◌<◌, IfOk};
+ghost use Rattle.lrup_model.specs.Event.{History};
+ghost use Rattle.lrup_model.specs.Literal.{IsLiteral, max_variable};
+ghost use Rattle.lrup_model.specs.Worked.{four};
 ghost use Rattle.stream_check.specs.Checker.{IsReadyAt};
 
 use crate::{Checker, Ending, Fault, Gate, Report, Turn};
 use lrup_model::{ClauseMap, Formula, Id, Layout, Lit, PlainMap};
 use lrup_text::LineFault;
-use std::alloc::Global;
+use std::alloc::{AllocError, Global};
 use std::test::Fail;
+
+mod late_map;
+mod memory;
+mod two_streams;
 
 /// What a gate was told.
 #[derive(Clone, Copy, Debug, PartialEq, Eq)]
@@ -36,7 +42,7 @@ fn told_of(fetches: u64, most_attempts: u64, publishes: u64) -> Told {
     }
 }
 
-/// The options of a options.
+/// What a stream is judged under.
 #[derive(Clone, Copy)]
 struct Options {
     streams: u64,
@@ -54,38 +60,32 @@ const DEFAULTS: Options = Options {
     tries: 3,
 };
 
-fn lit(value: i64) -> Result<Lit, Fail>
-    ensures { IfOk result (λ l. l ≡ value) }
+/// The literal of this number.
+fn lit(value: i64) -> Lit
+    requires { IsLiteral max_variable value }
+    ensures { result ≡ value }
 {
-    let lit = Lit::new(value).ok_or("no literal")?;
-    Ok(lit)
-}
-
-fn push_pair(formula: &mut Formula, one: Lit, other: Lit) -> Result<(), Fail>
-    ensures { OnOk result (formula.new.vars ≡ formula.old.vars) }
-{
-    let vars = formula.vars();
-    if one == other || one.var() > vars || other.var() > vars || formula.len() > 9 {
-        return Err("no pair".into());
-    }
-    formula.push(&[one, other])?;
-    Ok(())
+    Lit::new(value).unwrap()
 }
 
 /// 1 2 0 / -1 2 0 / 1 -2 0 / -1 -2 0
-fn four(alloc: Global) -> Result<Formula, Fail> {
+fn four_clauses(alloc: Global) -> Result<Formula, AllocError>
+    ensures { IfOk result (λ formula. formula ≡ four) }
+{
     let mut formula = Formula::new(alloc, 2);
-    push_pair(&mut formula, lit(1)?, lit(2)?)?;
-    push_pair(&mut formula, lit(-1)?, lit(2)?)?;
-    push_pair(&mut formula, lit(1)?, lit(-2)?)?;
-    push_pair(&mut formula, lit(-1)?, lit(-2)?)?;
+    formula.push(&[lit(1), lit(2)])?;
+    formula.push(&[lit(-1), lit(2)])?;
+    formula.push(&[lit(1), lit(-2)])?;
+    formula.push(&[lit(-1), lit(-2)])?;
     Ok(formula)
 }
 
 /// Feeds a piece to its end, or until the checker is over.
 fn feed_whole<M: ClauseMap>(checker: &mut Checker, map: &mut M, gate: &mut Told, piece: &[u8])
     requires { IsReadyAt checker.old (M.place map.old) }
-    ensures { IsReadyAt checker.new (M.place map.new) }
+    ensures ready { IsReadyAt checker.new (M.place map.new) }
+    ensures moves { (es : History) × M.moves map.old map.new es }
+    ensures setting { checker.new.setting ≡ checker.old.setting }
 {
     let mut rest = piece;
     'rest: loop {
@@ -119,7 +119,7 @@ fn feed_cut<M: ClauseMap>(
 fn judged(alloc: Global, options: Options, bytes: &[u8], cut: usize) -> Result<(Report, Told), Fail>
     requires { 0 < cut }
 {
-    let formula = four(alloc)?;
+    let formula = four_clauses(alloc)?;
     let layout = Layout::new(2, 4, 8, options.streams, options.lines, options.room)?;
     if !layout.fits(&formula) || options.stream == 0 || options.stream > layout.streams() {
         return Err("no such stream".into());
@@ -297,27 +297,106 @@ fn identities_are_deleted_from_the_left(rt: HostRuntime) -> Result<(), Fail> {
 }
 
 #[test]
-fn the_room_and_the_identities_end(rt: HostRuntime) -> Result<(), Fail> {
-    let alloc = rt.alloc();
-    let options = Options {
-        room: 0,
-        ..DEFAULTS
-    };
-    let (said, _) = one_report(alloc, options, b"5 0 1 0\n")?;
-    assert_eq!(rt; said, first_bad(Fault::NotUnit(1)));
-    let (said, _) = one_report(alloc, options, b"5 2 0 1 2 0\n")?;
-    assert_eq!(rt; said, first_bad(Fault::NoRoom));
+fn the_room_ends(rt: HostRuntime) -> Result<(), Fail> {
+    for (room, lines, said) in [
+        (0, "5 0 1 0\n", first_bad(Fault::NotUnit(1))),
+        (0, "5 2 0 1 2 0\n", first_bad(Fault::NoRoom)),
+        (1, "5 2 2 0 1 2 0\n", said_of(1, 0, false, Ending::Ended)),
+        (1, "5 1 2 0 1 0\n", first_bad(Fault::NoRoom)),
+        (2, "5 1 2 0 1 0\n", said_of(1, 0, false, Ending::Ended)),
+        (
+            2,
+            "5 1 2 0 1 0\n6 2 0 1 2 0\n",
+            said_of(1, 0, false, Ending::Bad(2, Fault::NoRoom)),
+        ),
+        // The empty clause takes none.
+        (
+            3,
+            "5 1 2 0 1 0\n6 2 0 1 2 0\n7 0 6 3 4 0\n",
+            said_of(3, 0, true, Ending::Ended),
+        ),
+        // A retired clause gives none back.
+        (
+            1,
+            "5 2 0 1 2 0\n5 d 5 0\n6 2 0 1 2 0\n",
+            said_of(1, 1, false, Ending::Bad(3, Fault::NoRoom)),
+        ),
+    ] {
+        let options = Options { room, ..DEFAULTS };
+        let (found, _) = one_report(rt.alloc(), options, lines.as_bytes())?;
+        assert_eq!(rt; found, said, "{room} {lines}");
+    }
+    Ok(())
+}
+
+/// With two identities a stream: 5 and 6 for one stream; for two streams 5 and 7, and 6 and 8.
+#[test]
+fn the_identities_end(rt: HostRuntime) -> Result<(), Fail> {
+    let good = said_of(1, 0, false, Ending::Ended);
+    let not_live = |id| first_bad(Fault::NotLive(id));
+    for (streams, stream, lines, said) in [
+        (1, 1, "4 2 0 1 2 0\n", first_bad(Fault::Identity)),
+        (1, 1, "5 2 0 1 2 0\n", good),
+        (1, 1, "6 2 0 1 2 0\n", good),
+        (1, 1, "7 2 0 1 2 0\n", first_bad(Fault::Identity)),
+        (2, 1, "7 2 0 1 2 0\n", good),
+        (2, 1, "8 2 0 1 2 0\n", first_bad(Fault::Identity)),
+        (2, 1, "9 2 0 1 2 0\n", first_bad(Fault::Identity)),
+        (2, 2, "5 2 0 1 2 0\n", first_bad(Fault::Identity)),
+        (2, 2, "8 2 0 1 2 0\n", good),
+        (2, 2, "10 2 0 1 2 0\n", first_bad(Fault::Identity)),
+        (2, 1, "5 d 4 8 0\n", said_of(0, 2, false, Ending::Ended)),
+        (2, 1, "5 d 9 0\n", not_live(9)),
+        (2, 2, "5 d 7 0\n", said_of(0, 1, false, Ending::Ended)),
+        (2, 2, "5 d 9 0\n", not_live(9)),
+    ] {
+        let options = Options {
+            streams,
+            stream,
+            lines: 2,
+            ..DEFAULTS
+        };
+        let (found, _) = one_report(rt.alloc(), options, lines.as_bytes())?;
+        assert_eq!(rt; found, said, "{stream} of {streams}: {lines}");
+    }
+    Ok(())
+}
+
+/// An identity is above each one that the stream published; gaps are allowed.
+#[test]
+fn identities_rise(rt: HostRuntime) -> Result<(), Fail> {
+    for (lines, said) in [
+        (
+            "7 2 0 1 2 0\n9 0 7 3 4 0\n",
+            said_of(2, 0, true, Ending::Ended),
+        ),
+        (
+            "7 2 0 1 2 0\n7 0 7 3 4 0\n",
+            said_of(1, 0, false, Ending::Bad(2, Fault::Identity)),
+        ),
+        (
+            "7 2 0 1 2 0\n6 0 7 3 4 0\n",
+            said_of(1, 0, false, Ending::Bad(2, Fault::Identity)),
+        ),
+    ] {
+        let (found, _) = one_report(rt.alloc(), DEFAULTS, lines.as_bytes())?;
+        assert_eq!(rt; found, said, "{lines}");
+    }
+    Ok(())
+}
+
+#[test]
+fn a_bad_identity_fetches_nothing(rt: HostRuntime) -> Result<(), Fail> {
+    let (said, told) = one_report(rt.alloc(), FIRST_OF_TWO, b"6 2 0 1 2 0\n")?;
+    assert_eq!(rt; said, first_bad(Fault::Identity));
+    assert_eq!(rt; told, told_of(0, 0, 0));
     let options = Options {
         lines: 1,
         ..DEFAULTS
     };
-    let (said, _) = one_report(alloc, options, b"5 2 0 1 2 0\n6 0 5 3 4 0\n")?;
+    let (said, told) = one_report(rt.alloc(), options, b"5 2 0 1 2 0\n6 0 5 3 4 0\n")?;
     assert_eq!(rt; said, said_of(1, 0, false, Ending::Bad(2, Fault::Identity)));
-    let (said, _) = one_report(alloc, DEFAULTS, b"7 2 0 1 2 0\n6 0 7 3 4 0\n")?;
-    assert_eq!(rt; said, said_of(1, 0, false, Ending::Bad(2, Fault::Identity)));
-    let (said, told) = one_report(alloc, FIRST_OF_TWO, b"6 2 0 1 2 0\n")?;
-    assert_eq!(rt; said, first_bad(Fault::Identity));
-    assert_eq!(rt; told, told_of(0, 0, 0));
+    assert_eq!(rt; told, told_of(2, 1, 1));
     Ok(())
 }
 

@@ -66,7 +66,7 @@ fn files_that_are_missing(rt: HostRuntime) -> Result<(), Fail> {
 fn a_formula_whose_reading_fails(rt: HostRuntime) -> Result<(), Fail> {
     for fails_at in 1..=FOUR.len().div_ceil(3) + 1 {
         let mut files = shelf_of(rt.alloc(), FOUR, &["", ""])?;
-        files.entries[0].fails_at = fails_at;
+        files.fail_at("f", fails_at);
         let line = "cannot read formula";
         assert_fault(&rt, rt.alloc(), &["f", "1"], &mut files, line, 5)?;
     }
@@ -82,7 +82,7 @@ s UNKNOWN
 ";
     for words in [["f", "1", "2", "--serial"], ["f", "1", "2", "--tries=0"]] {
         let mut files = shelf_of(rt.alloc(), FOUR, &["5 2 0 1 2 0\n", "6 2 0 1 2 0\n"])?;
-        files.entries[1].fails_at = 3;
+        files.fail_at("1", 3);
         assert_ends(&rt, rt.alloc(), &words, &mut files, (out, "", 3));
     }
     Ok(())

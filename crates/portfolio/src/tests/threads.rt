@@ -224,8 +224,9 @@ fn meet<'a, T: Threads + Wait + Sync>(
     Ok((outcome, late.load(Ordering::SeqCst)))
 }
 
+/// Workers that ran one after the other in one thread would never see each other's flags.
 #[test]
-fn two_threads_are_at_work_at_once(rt: HostRuntime) -> Result<(), Fail> {
+fn workers_one_after_the_other(rt: HostRuntime) -> Result<(), Fail> {
     let options = Options::new(1_000, 65_536, 1_048_576).ok_or("no options")?;
     let flags = [AtomicBool::new(false), AtomicBool::new(false)];
     let (_outcome, late) = meet(&rt, rt.alloc(), options, &CITING, &flags)?;
