@@ -7,9 +7,9 @@
 # lrup_model: a push and an open take at most three allocations. Where one is refused nothing has changed, and the next
 # attempt succeeds, whichever it was.
 #
-# lrupd: where an allocation before the first line is refused, the program says that and gives no report. One line and 5,000
-# take the same number of allocations: with the same one refused they have both a report or both none. The identities that a
-# stream drops do take memory while it is checked, and a refusal there ends the stream, with a report.
+# lrupd: where the first allocation or the fortieth is refused, the program says that it is out of memory, and gives no report.
+# One line and 5,000 take the same number of allocations: some more than those before the first line, both have a report. The
+# identities that a stream drops do take memory while it is checked, and a refusal there ends the stream, with a report.
 
 rt=$1
 root=$(cd "$(dirname "$0")/.." && pwd)
@@ -77,7 +77,7 @@ for n in 1 40; do
     seen $n 0 '^(c|s) '
 done
 
-# Some five allocations after the last one before the first line.
+# The last one before the first line is the 74th; lists that grow by doubling would take a dozen more for the 5,000 lines.
 n=80
 program $n
 seen $n 3 '^case=[a-z]+ run=ended status=3 '
