@@ -17,7 +17,7 @@ use Rattle.stream_check.specs.declared.report.Report.{Report}
 use Rattle.command_line.specs.CommandLine.{IsCommandLineOf}
 use Rattle.command_line.specs.declared.words.CommandLine.{CommandLine}
 use Rattle.command.specs.Commands.{AreChecked, IsCause, IsFormulaAt, IsOpenCause, IsOutcome, IsReadCause}
-use Rattle.command.specs.Commands.{IsRefuted, IsRunCause, NamesRefuted, Text, layout_at, options_of}
+use Rattle.command.specs.Commands.{FilesView, ReaderView, IsUnsatisfiableText, IsRunCause, NameUnsatisfiable, Text, layout_at, options_of}
 use Rattle.command.specs.Faults.{of_run}
 use Rattle.command.specs.declared.fault.CommandFault.{CommandFault}
 use Rattle.command.specs.declared.fault.CommandFault.TheVariants as faults
@@ -38,13 +38,19 @@ err_given (Err e) P Q follows known = follows e known
 pub some_given : {T : Type 0} {o : Option T} {t : T} (P : T → Type 0) → o ≡ Some t → IfSome o P → P t
 some_given P is known = subst (λ o. IfSome o P) is known
 
+-- a run's fault is one
+not_both : {T : Type 0} (stream : ℕ) (fault : LayoutFault) → Path (Result T RunFault) (Err (runs.Spawn stream)) (Err (runs.Layout fault)) → ⊥
+not_both stream fault both = search (both, rules)
+
 -- the cause of a run's fault
 pub run_cause : {T : Type 0} (serial : Bool) (p : LayoutValue) (result : Result T RunFault) (fault : RunFault) → result ≡ Err fault
     → IsLayoutFault result p → ((stream : ℕ) → result ≡ Err (runs.Spawn stream) → (serial ≡ false) × IsStream p stream)
     → IsRunCause serial p (of_run fault)
 run_cause serial p result (runs.Layout fault) is layout spawn = (layout fault).0 is
 run_cause serial p result runs.Memory is layout spawn = tt
-run_cause serial p result (runs.Spawn stream) is layout spawn = spawn stream is
+run_cause serial p result (runs.Spawn stream) is layout spawn =
+    let started = spawn stream is in
+    (started.0, started.1, λ fault refused. not_both stream fault (sym is ∙ (layout fault).1 refused))
 
 -- a run with an outcome has a layout
 pub has_layout : {T : Type 0} (p : LayoutValue) (result : Result T RunFault) (outcome : T) → result ≡ Ok outcome → IsLayoutFault result p
@@ -62,62 +68,73 @@ same_layout options f given count options_are count_is =
 pub same_count : {A B C : Type 0} (f : A → C) (g : B → C) (xs : List A) (ys : List B) → map f xs ≡ map g ys → length xs ≡ length ys
 same_count f g xs ys same = sym (length-map xs f) ∙ ap length same ∙ length-map ys g
 
-pub is_refuted : (told : Option (List ℕ)) (f : Cnf) → IsFormulaAt told f → IsUnsatisfiable f → ForSome told IsRefuted
+pub is_refuted : (told : Option (List ℕ)) (f : Cnf) → IsFormulaAt told f → IsUnsatisfiable f → ForSome told IsUnsatisfiableText
 is_refuted told f at refuted all is = (f, subst (λ bytes. IsTextOf bytes f) (sym (at.1 all is)) at.2, refuted)
 
 -- what is checked is the outcome of the words and the files
-pub is_outcome : (words : List Text) (tells : Text → Option (List ℕ)) (given : CommandLine) (f : Cnf) (serial : Bool) (options : OptionsValue) (count : ℕ) (entries : List (Option (List ℕ)))
-    → IsCommandLineOf words given → IsFormulaAt (tells given.formula.now) f
-    → serial ≡ given.serial → options ≡ options_of given → count ≡ length given.streams → entries ≡ map tells given.streams
-    → (reports : List Report) (verdict : Verdict) → AreChecked serial f (layout_of options f count) options.tries entries reports verdict
-    → IsOutcome words tells reports verdict
-is_outcome words tells given f serial options count entries line at serial_is options_are count_is entries_are reports verdict checked =
-    let one = subst (λ (s : Bool). AreChecked s f (layout_of options f count) options.tries entries reports verdict) serial_is checked in
-    let two = subst (λ (o : OptionsValue). AreChecked given.serial f (layout_of o f count) o.tries entries reports verdict) options_are one in
-    let three = subst (λ (n : ℕ). AreChecked given.serial f (layout_of (options_of given) f n) given.tries entries reports verdict) count_is two in
-    let four = subst (λ (es : List (Option (List ℕ))). AreChecked given.serial f (layout_at given f) given.tries es reports verdict) entries_are three in
-    record { given = given; line = line; formula = f; is_formula = at; checked = four }
+pub is_outcome : (R : Type 0) (files : FilesView R) (words : List Text) (given : CommandLine) (f : Cnf) (serial : Bool) (options : OptionsValue) (count : ℕ) (entries : List (Option (List ℕ)))
+    → IsCommandLineOf words given → IsFormulaAt (files.tells given.formula.now) f
+    → serial ≡ given.serial → options ≡ options_of given → count ≡ length given.streams → entries ≡ map files.tells given.streams
+    → (reports : List Report) (verdict : Verdict) → AreChecked R files.reading serial f (layout_of options f count) options.tries entries reports verdict
+    → IsOutcome R files words reports verdict
+is_outcome R files words given f serial options count entries line at serial_is options_are count_is entries_are reports verdict checked =
+    let reading = files.reading in
+    let one = subst (λ (s : Bool). AreChecked R reading s f (layout_of options f count) options.tries entries reports verdict) serial_is checked in
+    let two = subst (λ (o : OptionsValue). AreChecked R reading given.serial f (layout_of o f count) o.tries entries reports verdict) options_are one in
+    let three = subst (λ (n : ℕ). AreChecked R reading given.serial f (layout_of (options_of given) f n) given.tries entries reports verdict) count_is two in
+    let four = subst (λ (es : List (Option (List ℕ))). AreChecked R reading given.serial f (layout_at given f) given.tries es reports verdict) entries_are three in
+    record { given = given; command_line = line; formula = f; is_formula = at; checked = four }
 
--- and its cause is theirs
-pub read_cause : (words : List Text) (tells : Text → Option (List ℕ)) (given : CommandLine) → IsCommandLineOf words given
-    → (fault : CommandFault) → IsReadCause (tells given.formula.now) fault → IsCause words tells fault
-read_cause words tells given line (faults.Usage text) cause = absurd cause
-read_cause words tells given line faults.Unread cause = (given, line, inl cause)
-read_cause words tells given line (faults.Refused fault) cause = (given, line, inl cause)
-read_cause words tells given line (faults.NotOpened stream) cause = absurd cause
-read_cause words tells given line (faults.Layout fault) cause = absurd cause
-read_cause words tells given line (faults.NotStarted stream) cause = absurd cause
-read_cause words tells given line faults.Memory cause = tt
-read_cause words tells given line faults.Unwritten cause = absurd cause
+-- The causes are those of the words and the files.
+pub read_cause : (R : Type 0) (files : FilesView R) (words : List Text) (given : CommandLine) → IsCommandLineOf words given
+    → (fault : CommandFault) → IsReadCause R files given.formula.now fault → IsCause R files words fault
+read_cause R files words given line (faults.Usage text) cause = absurd cause
+read_cause R files words given line faults.Unread cause = (given, line, inl cause)
+read_cause R files words given line (faults.Refused fault) cause = (given, line, inl cause)
+read_cause R files words given line (faults.NotOpened stream) cause = absurd cause
+read_cause R files words given line (faults.Layout fault) cause = absurd cause
+read_cause R files words given line (faults.NotStarted stream) cause = absurd cause
+read_cause R files words given line faults.Memory cause = tt
+read_cause R files words given line faults.Unwritten cause = absurd cause
 
-pub open_cause : (words : List Text) (tells : Text → Option (List ℕ)) (given : CommandLine) → IsCommandLineOf words given
-    → (fault : CommandFault) → IsOpenCause (length given.streams) fault → IsCause words tells fault
-open_cause words tells given line (faults.Usage text) cause = absurd cause
-open_cause words tells given line faults.Unread cause = absurd cause
-open_cause words tells given line (faults.Refused fault) cause = absurd cause
-open_cause words tells given line (faults.NotOpened stream) cause = (given, line, inr (inl cause))
-open_cause words tells given line (faults.Layout fault) cause = absurd cause
-open_cause words tells given line (faults.NotStarted stream) cause = absurd cause
-open_cause words tells given line faults.Memory cause = tt
-open_cause words tells given line faults.Unwritten cause = absurd cause
+pub open_cause : (R : Type 0) (files : FilesView R) (words : List Text) (given : CommandLine) (f : Cnf) → IsCommandLineOf words given
+    → IsFormulaAt (files.tells given.formula.now) f → (fault : CommandFault) → IsOpenCause R files given.streams fault → IsCause R files words fault
+open_cause R files words given f line at (faults.Usage text) cause = absurd cause
+open_cause R files words given f line at faults.Unread cause = absurd cause
+open_cause R files words given f line at (faults.Refused fault) cause = absurd cause
+open_cause R files words given f line at (faults.NotOpened stream) cause = (given, line, inr (f, at, inl cause))
+open_cause R files words given f line at (faults.Layout fault) cause = absurd cause
+open_cause R files words given f line at (faults.NotStarted stream) cause = absurd cause
+open_cause R files words given f line at faults.Memory cause = tt
+open_cause R files words given f line at faults.Unwritten cause = absurd cause
 
-pub line_cause : (words : List Text) (tells : Text → Option (List ℕ)) (given : CommandLine) (f : Cnf) → IsCommandLineOf words given
-    → IsFormulaAt (tells given.formula.now) f → (fault : CommandFault) → IsRunCause given.serial (layout_at given f) fault → IsCause words tells fault
-line_cause words tells given f line at (faults.Usage text) cause = absurd cause
-line_cause words tells given f line at faults.Unread cause = absurd cause
-line_cause words tells given f line at (faults.Refused fault) cause = absurd cause
-line_cause words tells given f line at (faults.NotOpened stream) cause = absurd cause
-line_cause words tells given f line at (faults.Layout fault) cause = (given, line, inr (inr (f, at, cause)))
-line_cause words tells given f line at (faults.NotStarted stream) cause = (given, line, inr (inr (f, at, cause)))
-line_cause words tells given f line at faults.Memory cause = tt
-line_cause words tells given f line at faults.Unwritten cause = absurd cause
+line_cause : (R : Type 0) (files : FilesView R) (words : List Text) (given : CommandLine) (f : Cnf) → IsCommandLineOf words given
+    → IsFormulaAt (files.tells given.formula.now) f → (fault : CommandFault) → IsRunCause given.serial (layout_at given f) fault → IsCause R files words fault
+line_cause R files words given f line at (faults.Usage text) cause = absurd cause
+line_cause R files words given f line at faults.Unread cause = absurd cause
+line_cause R files words given f line at (faults.Refused fault) cause = absurd cause
+line_cause R files words given f line at (faults.NotOpened stream) cause = absurd cause
+line_cause R files words given f line at (faults.Layout fault) cause = (given, line, inr (f, at, inr cause))
+line_cause R files words given f line at (faults.NotStarted stream) cause = (given, line, inr (f, at, inr cause))
+line_cause R files words given f line at faults.Memory cause = tt
+line_cause R files words given f line at faults.Unwritten cause = absurd cause
 
 -- so a run's cause, by the layout that the run has
-pub run_cause_of : (words : List Text) (tells : Text → Option (List ℕ)) (given : CommandLine) (f : Cnf) (serial : Bool) (options : OptionsValue) (count : ℕ)
-    → IsCommandLineOf words given → IsFormulaAt (tells given.formula.now) f
+pub run_cause_of : (R : Type 0) (files : FilesView R) (words : List Text) (given : CommandLine) (f : Cnf) (serial : Bool) (options : OptionsValue) (count : ℕ)
+    → IsCommandLineOf words given → IsFormulaAt (files.tells given.formula.now) f
     → serial ≡ given.serial → options ≡ options_of given → count ≡ length given.streams
-    → (fault : CommandFault) → IsRunCause serial (layout_of options f count) fault → IsCause words tells fault
-run_cause_of words tells given f serial options count line at serial_is options_are count_is fault cause =
+    → (fault : CommandFault) → IsRunCause serial (layout_of options f count) fault → IsCause R files words fault
+run_cause_of R files words given f serial options count line at serial_is options_are count_is fault cause =
     let one = subst (λ (s : Bool). IsRunCause s (layout_of options f count) fault) serial_is cause in
     let two = subst (λ (p : LayoutValue). IsRunCause given.serial p fault) (same_layout options f given count options_are count_is) one in
-    line_cause words tells given f line at fault two
+    line_cause R files words given f line at fault two
+
+-- the files are known by the same before and after the formula was read
+pub open_moved : (R : Type 0) (reading : ReaderView R) (tells later_tells : Text → Option (List ℕ)) (may later_may : Text → Bool) (paths later_paths : List Text)
+    → later_tells ≡ tells → later_may ≡ may → later_paths ≡ paths → (fault : CommandFault)
+    → IsOpenCause R (record { tells = later_tells; may_refuse = later_may; reading = reading }) later_paths fault
+    → IsOpenCause R (record { tells = tells; may_refuse = may; reading = reading }) paths fault
+open_moved R reading tells later_tells may later_may paths later_paths tells_stay may_stays paths_are fault cause =
+    let one = subst (λ (t : Text → Option (List ℕ)). IsOpenCause R (record { tells = t; may_refuse = later_may; reading = reading }) later_paths fault) tells_stay cause in
+    let two = subst (λ (m : Text → Bool). IsOpenCause R (record { tells = tells; may_refuse = m; reading = reading }) later_paths fault) may_stays one in
+    subst (λ (ps : List Text). IsOpenCause R (record { tells = tells; may_refuse = may; reading = reading }) ps fault) paths_are two

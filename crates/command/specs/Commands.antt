@@ -1,5 +1,5 @@
 -- What a whole run of the program comes to (this project's own).
-use Rattle.std.specs.Prelude.{◌≡◌, ◌<◌, ◌≤◌, ◌++◌, ◌⊎◌, ℕ, Bool, true, false, List, map, length, Option}
+use Rattle.std.specs.Prelude.{◌≡◌, ◌≢◌, ◌+◌, ◌++◌, ◌⊎◌, ℕ, Bool, true, false, IsTrue, List, map, length, slice_get, Option, Some}
 use Rattle.std.specs.Io.KnownBytes.{Appends, Keeps}
 use Rattle.std.specs.Option.{ForSome}
 use Rattle.lrup_model.specs.Entailment.{IsUnsatisfiable}
@@ -9,6 +9,7 @@ use Rattle.lrup_model.specs.Pass.{View}
 use Rattle.lrup_model.specs.declared.layout.LayoutFault.{LayoutFault}
 use Rattle.dimacs.specs.FormulaFault.{IsFaultOf as IsFormulaFault}
 use Rattle.dimacs.specs.FormulaText.{IsTextOf}
+use Rattle.dimacs.specs.declared.fault.DimacsFault.TheVariants as formulas
 use Rattle.stream_check.specs.declared.report.Report.{Report}
 use Rattle.portfolio.specs.Headline.{HaveOneHistory, AreJudgedBy}
 use Rattle.portfolio.specs.Outcomes.{IsVerdictOf, OptionsValue, layout_of}
@@ -27,15 +28,15 @@ abbrev pub Text : Type 0
 Text = List ℕ
 
 -- the bytes are a text of a formula that no assignment satisfies
-abbrev pub IsRefuted : List ℕ → Type 0
-IsRefuted bytes = (f : Cnf) × IsTextOf bytes f × IsUnsatisfiable f
+abbrev pub IsUnsatisfiableText : List ℕ → Type 0
+IsUnsatisfiableText bytes = (f : Cnf) × IsTextOf bytes f × IsUnsatisfiable f
 
 -- The file at the path of the words' formula, if the device tells its bytes, is a text of a formula that no assignment satisfies.
-abbrev pub NamesRefuted : List Text → (Text → Option (List ℕ)) → Type 0
-NamesRefuted words tells =
-    (given : CommandLine) × IsCommandLineOf words given × ForSome (tells given.formula.now) IsRefuted
+abbrev pub NameUnsatisfiable : List Text → (Text → Option (List ℕ)) → Type 0
+NameUnsatisfiable words tells =
+    (given : CommandLine) × IsCommandLineOf words given × ForSome (tells given.formula.now) IsUnsatisfiableText
 
--- The formula that a file holds of which this is told.
+-- the formula whose text is all that the file told; where the device doesn't tell, some formula that has a text
 abbrev pub IsFormulaAt : Option (List ℕ) → Cnf → Type 0
 IsFormulaAt told f = (bytes : List ℕ) × ForSome told (λ all. all ≡ bytes) × IsTextOf bytes f
 
@@ -54,82 +55,108 @@ AreReported true f p tries streams reports = IsOrdered f p tries (λ s. true) st
 AreReported false f p tries streams reports =
     (passes : List View) × HaveOneHistory f p passes × AreJudgedBy p tries 1 streams passes reports
 
--- The reports and the verdict of a formula's streams, of which this is known before they are read.
-pub record AreChecked (serial : Bool) (f : Cnf) (p : LayoutValue) (tries : ℕ) (entries : List (Option (List ℕ))) (reports : List Report) (verdict : Verdict) : Type 0 where
+-- what is known of a reader: the bytes that it has left, where the device tells them, and whether it has failed
+pub record ReaderView (R : Type 0) : Type 0 where
+  pub left : R → Option (List ℕ)
+  pub has_failed : R → Bool
+
+-- The reports and the verdict of a formula's streams. `entries` is what each stream's file told when it was opened; the readers
+-- are those of the streams in the end.
+pub record AreChecked (R : Type 0) (reading : ReaderView R) (serial : Bool) (f : Cnf) (p : LayoutValue) (tries : ℕ) (entries : List (Option (List ℕ))) (reports : List Report) (verdict : Verdict) : Type 0 where
   pub layout : (fault : LayoutFault) → IsFault p fault → ⊥
+  pub readers : List R
   pub streams : List Stream
-  pub lefts : List (Option (List ℕ))
-  pub faileds : List Bool
-  pub told : AreTold entries lefts faileds streams
+  pub told : AreTold entries (map reading.left readers) (map reading.has_failed readers) streams
   pub reported : AreReported serial f p tries streams reports
   pub is_verdict : IsVerdictOf reports verdict
   pub sound : verdict ≡ Unsatisfiable → IsUnsatisfiable f
 
+-- What is known of files: what the file at each path tells, where the device tells it, whether a path may be refused, and the
+-- readers that they are opened as.
+pub record FilesView (R : Type 0) : Type 0 where
+  pub tells : Text → Option (List ℕ)
+  pub may_refuse : Text → Bool
+  pub reading : ReaderView R
+
+abbrev pub files_view : {R : Type 0} → (Text → Option (List ℕ)) → (Text → Bool) → (R → Option (List ℕ)) → (R → Bool) → FilesView R
+files_view tells may_refuse left has_failed =
+    record { tells = tells; may_refuse = may_refuse; reading = record { left = left; has_failed = has_failed } }
+
 -- The reports and the verdict that the words and the files come to.
-pub record IsOutcome (words : List Text) (tells : Text → Option (List ℕ)) (reports : List Report) (verdict : Verdict) : Type 0 where
+pub record IsOutcome (R : Type 0) (files : FilesView R) (words : List Text) (reports : List Report) (verdict : Verdict) : Type 0 where
   pub given : CommandLine
-  pub line : IsCommandLineOf words given
+  pub command_line : IsCommandLineOf words given
   pub formula : Cnf
-  pub is_formula : IsFormulaAt (tells given.formula.now) formula
-  pub checked : AreChecked given.serial formula (layout_at given formula) given.tries (map tells given.streams) reports verdict
+  pub is_formula : IsFormulaAt (files.tells given.formula.now) formula
+  pub checked : AreChecked R files.reading given.serial formula (layout_at given formula) given.tries (map files.tells given.streams) reports verdict
 
--- why a file wasn't read to its end
-abbrev pub IsFailedRead : CommandFault → Type 0
-IsFailedRead faults.Unread = Unit {0}
-IsFailedRead faults.Memory = Unit {0}
-IsFailedRead fault = ⊥
+-- Causes. Nothing shows afterwards that memory ran out or that a thread wasn't started, so these are taken as causes whatever the
+-- files hold.
 
--- Why a formula wasn't read: its file wasn't, or is no formula.
-abbrev pub IsReadCause : Option (List ℕ) → CommandFault → Type 0
-IsReadCause told faults.Unread = Unit {0}
-IsReadCause told (faults.Refused fault) = (bytes : List ℕ) × ForSome told (λ all. all ≡ bytes) × IsFormulaFault bytes fault
-IsReadCause told faults.Memory = Unit {0}
-IsReadCause told fault = ⊥
+-- a reader has failed
+abbrev pub HasFailed : (R : Type 0) → ReaderView R → Type 0
+HasFailed R reading = (reader : R) × (reading.has_failed reader ≡ true)
 
--- Why not all of so many streams were opened.
-abbrev pub IsOpenCause : ℕ → CommandFault → Type 0
-IsOpenCause count (faults.NotOpened stream) = (0 < stream) × (stream ≤ count)
-IsOpenCause count faults.Memory = Unit {0}
-IsOpenCause count fault = ⊥
+-- why a file that was opened wasn't read to its end
+abbrev pub IsFailedRead : (R : Type 0) → ReaderView R → CommandFault → Type 0
+IsFailedRead R reading faults.Unread = HasFailed R reading
+IsFailedRead R reading faults.Memory = Unit {0}
+IsFailedRead R reading fault = ⊥
 
--- Why streams weren't checked: there is no layout, or a thread wasn't started.
+-- why the formula at a path wasn't read: its file was refused or failed, or holds no formula
+abbrev pub IsReadCause : (R : Type 0) → FilesView R → Text → CommandFault → Type 0
+IsReadCause R files path faults.Unread = IsTrue (files.may_refuse path) ⊎ HasFailed R files.reading
+IsReadCause R files path (faults.Refused fault) =
+    (fault ≢ formulas.Memory) × ((bytes : List ℕ) × ForSome (files.tells path) (λ all. all ≡ bytes) × IsFormulaFault bytes fault)
+IsReadCause R files path faults.Memory = Unit {0}
+IsReadCause R files path fault = ⊥
+
+-- why not all of the streams at these paths were opened: the file of one was refused, counted from 1
+abbrev pub IsOpenCause : (R : Type 0) → FilesView R → List Text → CommandFault → Type 0
+IsOpenCause R files paths (faults.NotOpened stream) =
+    (place : ℕ) × (path : Text) × (stream ≡ place + 1) × (slice_get paths place ≡ Some path) × IsTrue (files.may_refuse path)
+IsOpenCause R files paths faults.Memory = Unit {0}
+IsOpenCause R files paths fault = ⊥
+
+-- why streams weren't checked: there is no layout; or there is one, and a thread wasn't started
 abbrev pub IsRunCause : Bool → LayoutValue → CommandFault → Type 0
 IsRunCause serial p (faults.Layout fault) = IsFault p fault
-IsRunCause serial p (faults.NotStarted stream) = (serial ≡ false) × IsStream p stream
+IsRunCause serial p (faults.NotStarted stream) =
+    (serial ≡ false) × IsStream p stream × ((fault : LayoutFault) → IsFault p fault → ⊥)
 IsRunCause serial p faults.Memory = Unit {0}
 IsRunCause serial p fault = ⊥
 
--- The cause of a fault of the formula, of the opening of the streams, or of the run.
-abbrev pub IsCauseAt : CommandLine → (Text → Option (List ℕ)) → CommandFault → Type 0
-IsCauseAt given tells fault =
-    IsReadCause (tells given.formula.now) fault ⊎ IsOpenCause (length given.streams) fault
-    ⊎ ((f : Cnf) × IsFormulaAt (tells given.formula.now) f × IsRunCause given.serial (layout_at given f) fault)
+-- the cause of a fault of the formula; or, of a formula that was read, of a fault of the opening of the streams or of the run
+abbrev pub IsCauseAt : (R : Type 0) → FilesView R → CommandLine → CommandFault → Type 0
+IsCauseAt R files given fault =
+    IsReadCause R files given.formula.now fault
+    ⊎ ((f : Cnf) × IsFormulaAt (files.tells given.formula.now) f
+    × (IsOpenCause R files given.streams fault ⊎ IsRunCause given.serial (layout_at given f) fault))
 
--- Why there is no outcome, by the words and the files. A file that wasn't opened or read, a thread that wasn't started, and want
--- of memory are the system's.
-abbrev pub IsCause : List Text → (Text → Option (List ℕ)) → CommandFault → Type 0
-IsCause words tells (faults.Usage text) = HaveFault words
-IsCause words tells faults.Memory = Unit {0}
-IsCause words tells fault = (given : CommandLine) × IsCommandLineOf words given × IsCauseAt given tells fault
+-- Why there is no outcome, by the words and the files.
+abbrev pub IsCause : (R : Type 0) → FilesView R → List Text → CommandFault → Type 0
+IsCause R files words (faults.Usage text) = HaveFault words
+IsCause R files words faults.Memory = Unit {0}
+IsCause R files words fault = (given : CommandLine) × IsCommandLineOf words given × IsCauseAt R files given fault
 
 -- What goes out.
 
 -- a sink: what was written to it before, and is now, and whether it has failed now
-pub record Sink : Type 0 where
+pub record SinkChange : Type 0 where
   pub before : Option (List ℕ)
   pub after : Option (List ℕ)
   pub failed : Bool
 
 -- a text went out to the sink; or a beginning of it, where the sink failed
-abbrev pub TakesBy : Bool → Option (List ℕ) → Option (List ℕ) → List ℕ → Type 0
-TakesBy false before after text = Appends before after text
-TakesBy true before after text = (went rest : List ℕ) × (text ≡ went ++ rest) × Appends before after went
+abbrev pub TakesUnlessFailed : Bool → Option (List ℕ) → Option (List ℕ) → List ℕ → Type 0
+TakesUnlessFailed false before after text = Appends before after text
+TakesUnlessFailed true before after text = (went rest : List ℕ) × (text ≡ went ++ rest) × Appends before after went
 
-abbrev pub Takes : Sink → List ℕ → Type 0
-Takes sink text = TakesBy sink.failed sink.before sink.after text
+abbrev pub Takes : SinkChange → List ℕ → Type 0
+Takes sink text = TakesUnlessFailed sink.failed sink.before sink.after text
 
 -- nothing went out to the sink
-pub record IsUntouched (sink : Sink) : Type 0 where
+pub record IsUntouched (sink : SinkChange) : Type 0 where
   pub written : Keeps sink.before sink.after
   pub failed : sink.failed ≡ false
 
@@ -143,23 +170,23 @@ report_status true verdict = status_of faults.Unwritten
 report_status false verdict = verdict_status verdict
 
 -- what standard error says then
-abbrev pub SaysOfReport : Bool → Sink → Type 0
+abbrev pub SaysOfReport : Bool → SinkChange → Type 0
 SaysOfReport true err = Takes err (text_of faults.Unwritten)
 SaysOfReport false err = IsUntouched err
 
 -- The program ends with a report.
-pub record EndsWithReport (words : List Text) (tells : Text → Option (List ℕ)) (out err : Sink) (status : ℕ) : Type 0 where
+pub record EndsWithReport (R : Type 0) (files : FilesView R) (words : List Text) (out err : SinkChange) (status : ℕ) : Type 0 where
   pub reports : List Report
   pub verdict : Verdict
-  pub outcome : IsOutcome words tells reports verdict
+  pub outcome : IsOutcome R files words reports verdict
   pub printed : Takes out (report_text reports verdict)
   pub said : SaysOfReport out.failed err
   pub status_is : status ≡ report_status out.failed verdict
 
 -- The program ends without one, and says why.
-pub record EndsWithFault (words : List Text) (tells : Text → Option (List ℕ)) (out err : Sink) (status : ℕ) : Type 0 where
+pub record EndsWithFault (R : Type 0) (files : FilesView R) (words : List Text) (out err : SinkChange) (status : ℕ) : Type 0 where
   pub fault : CommandFault
-  pub cause : IsCause words tells fault
+  pub cause : IsCause R files words fault
   pub untouched : IsUntouched out
   pub said : Takes err (text_of fault)
   pub status_is : status ≡ status_of fault

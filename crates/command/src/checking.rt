@@ -9,8 +9,8 @@ ghost use Rattle.dimacs.specs.FormulaText.{IsTextOf};
 ghost use Rattle.lrup_model.specs.Entailment.{IsUnsatisfiable};
 ghost use Rattle.portfolio.specs.Outcomes.{IsVerdictOf, OptionsValue, layout_of};
 ghost use Rattle.portfolio.specs.Streams.{AreTold, Stream};
-ghost use Rattle.command.specs.Commands.{AreChecked, IsCause, IsFailedRead, IsFormulaAt, IsOpenCause};
-ghost use Rattle.command.specs.Commands.{IsOutcome, IsReadCause, IsRunCause, NamesRefuted};
+ghost use Rattle.command.specs.Commands.{AreChecked, IsCause, IsFailedRead, IsFormulaAt, IsOpenCause, files_view};
+ghost use Rattle.command.specs.Commands.{IsOutcome, IsReadCause, IsRunCause, NameUnsatisfiable};
 
 use crate::fault::CommandFault;
 use crate::files::{Files, OpenFault};
@@ -44,9 +44,12 @@ pub fn check_words<T: Threads + Wait + Sync, C: Clock + Sync, F: Files>(
     words: &[&str],
     files: &mut F,
 ) -> Result<Found, CommandFault>
-    ensures outcome { IfOk result (λ found. IsOutcome (texts words.now) (F.tells files.old) found.reports.items found.verdict) }
-    ensures sound { IfOk result (λ found. found.verdict ≡ Verdict.Unsatisfiable → NamesRefuted (texts words.now) (F.tells files.old)) }
-    ensures cause { IfErr result (IsCause (texts words.now) (F.tells files.old)) }
+    ensures outcome { IfOk result (λ found. IsOutcome _ (files_view (F.tells files.old) (F.may_refuse files.old)
+        F.Input.Source.left F.Input.Source.has_failed)
+        (texts words.now) found.reports.items found.verdict) }
+    ensures sound { IfOk result (λ found. found.verdict ≡ Verdict.Unsatisfiable → NameUnsatisfiable (texts words.now) (F.tells files.old)) }
+    ensures cause { IfErr result (IsCause _ (files_view (F.tells files.old) (F.may_refuse files.old)
+        F.Input.Source.left F.Input.Source.has_failed) (texts words.now)) }
 {
     let line = read_words(alloc, words)?;
     let formula = read_formula(threads, alloc, files, line.formula)?;
@@ -67,8 +70,10 @@ fn read_formula<W: Wait, F: Files>(
     path: &str,
 ) -> Result<Formula, CommandFault>
     ensures formula { IfOk result (IsFormulaAt (F.tells files.old path.now)) }
-    ensures cause { IfErr result (IsReadCause (F.tells files.old path.now)) }
+    ensures cause { IfErr result (IsReadCause _ (files_view (F.tells files.old) (F.may_refuse files.old)
+        F.Input.Source.left F.Input.Source.has_failed) path.now) }
     ensures stays { F.tells files.new ≡ F.tells files.old }
+    ensures stays_refused { F.may_refuse files.new ≡ F.may_refuse files.old }
 {
     let mut source = files.open(path)?;
     let bytes = read_all(wait, alloc, &mut source, PIECE)?;
@@ -85,7 +90,7 @@ fn read_all<W: Wait, S: Source>(
     requires running { S.has_failed source.old ≡ false }
     requires some { 0 < most }
     ensures all { IfOk result (λ bytes. ForSome (S.left source.old) (λ all. all ≡ bytes.items)) }
-    ensures fault { IfErr result IsFailedRead }
+    ensures fault { IfErr result (IsFailedRead _ (record { left = S.left; has_failed = S.has_failed })) }
 {
     let mut bytes = Vec::new(alloc);
     let mut buffer = vec![in alloc; 0; most]?;
@@ -108,7 +113,8 @@ fn open_streams<F: Files>(
 ) -> Result<Vec<F::Input>, CommandFault>
     ensures left { IfOk result (λ readers. map F.Input.Source.left readers.items ≡ map (F.tells files.old) (texts paths.now)) }
     ensures running { IfOk result (λ readers. AllByRecursion (λ r. F.Input.Source.has_failed r ≡ false) readers.items) }
-    ensures cause { IfErr result (IsOpenCause (length paths.now)) }
+    ensures cause { IfErr result (IsOpenCause _ (files_view (F.tells files.old) (F.may_refuse files.old)
+        F.Input.Source.left F.Input.Source.has_failed) (texts paths.now)) }
 {
     let mut readers = Vec::with_capacity(alloc, paths.len())?;
     for path in paths {
@@ -132,7 +138,7 @@ fn check_serially<W: Wait, R: Source + Drop>(
     readers: Vec<R>,
 ) -> Result<Found, CommandFault>
     requires running { AllByRecursion (λ r. R.has_failed r ≡ false) readers.items }
-    ensures checked { IfOk result (λ found. AreChecked true formula.now
+    ensures checked { IfOk result (λ found. AreChecked _ (record { left = R.left; has_failed = R.has_failed }) true formula.now
         (layout_of options formula.now (length readers.items)) options.tries (map R.left readers.items)
         found.reports.items found.verdict) }
     ensures cause { IfErr result (IsRunCause true (layout_of options formula.now (length readers.items))) }
@@ -157,7 +163,7 @@ fn check_in_threads<T: Threads + Wait + Sync, C: Clock + Sync, R: Source + Send 
     readers: Vec<R>,
 ) -> Result<Found, CommandFault>
     requires running { AllByRecursion (λ r. R.has_failed r ≡ false) readers.items }
-    ensures checked { IfOk result (λ found. AreChecked false formula.now
+    ensures checked { IfOk result (λ found. AreChecked _ (record { left = R.left; has_failed = R.has_failed }) false formula.now
         (layout_of options formula.now (length readers.items)) options.tries (map R.left readers.items)
         found.reports.items found.verdict) }
     ensures cause { IfErr result (IsRunCause false (layout_of options formula.now (length readers.items))) }

@@ -1,5 +1,5 @@
 //! Where a formula and its streams come from.
-ghost use Rattle.std.specs.Prelude.{◌≡◌, ℕ, List, Option, IfOk, false};
+ghost use Rattle.std.specs.Prelude.{◌≡◌, ℕ, Bool, List, Option, Err, IfOk, IsTrue, false};
 
 use lrup_text::Source;
 use thiserror::Error;
@@ -20,12 +20,18 @@ pub trait Files {
     /// A file that is open.
     type Input: Source + Send + Drop;
 
-    /// All bytes of the file at a path, where the device tells them. They stay, however often it is opened.
+    /// All bytes of the file at a path, where the device tells them: a file of the machine doesn't. They stay, however often it is
+    /// opened.
     ghost tells: { Self → List ℕ → Option (List ℕ) };
+
+    /// Whether the opening of a path may fail for another cause than memory.
+    ghost may_refuse: { Self → List ℕ → Bool };
 
     /// Opens the file at a path, which is read from its beginning.
     fn open(&mut self, path: &str) -> Result<Self::Input, OpenFault>
         ensures left { IfOk result (λ input. Self.Input.Source.left input ≡ tells self.old path.now) }
         ensures running { IfOk result (λ input. Self.Input.Source.has_failed input ≡ false) }
-        ensures stays { tells self.new ≡ tells self.old };
+        ensures refused { result ≡ Err OpenFault.NotOpened → IsTrue (may_refuse self.old path.now) }
+        ensures stays { tells self.new ≡ tells self.old }
+        ensures stays_refused { may_refuse self.new ≡ may_refuse self.old };
 }

@@ -3,7 +3,7 @@ ghost use Rattle.std.specs.Prelude.{◌≡◌, ◌↔◌, ◌⊎◌, IsTrue, fal
 ghost use Rattle.clap.specs.Walk.{texts};
 ghost use Rattle.portfolio.specs.ReportText.{report_text};
 ghost use Rattle.command_line.specs.CommandLine.{HaveFault};
-ghost use Rattle.command.specs.Commands.{EndsWithFault, EndsWithReport, NamesRefuted, SaysOfReport};
+ghost use Rattle.command.specs.Commands.{EndsWithFault, EndsWithReport, NameUnsatisfiable, SaysOfReport, files_view};
 ghost use Rattle.command.specs.Commands.{Takes, report_status};
 ghost use Rattle.command.specs.Faults.{status_of, text_of};
 
@@ -19,16 +19,17 @@ use std::time::Clock;
 
 /// Runs `lrupd` with the words after the program's name, and gives the status that it ends with. In this order: the words are
 /// read, the formula's file is read and parsed, the streams are opened and checked, and the report goes to `out`. Where there is no
-/// report, `out` gets nothing, and `err` the cause. It blocks while a file does.
+/// report, `out` gets nothing, and `err` the cause. Where the report can't be written, `out` has a beginning of it, and `err` says so.
+/// It blocks while a file does.
 ///
 /// | status | where |
 /// |---|---|
 /// | 0 | the report says `s UNSATISFIABLE` |
-/// | 2 | the words have a mistake or ask for help; too many streams; the options make the row too long |
+/// | 2 | the words have a mistake or ask for help; too many streams; the row would be too long |
 /// | 3 | the report says `s UNKNOWN` |
-/// | 4 | the formula was refused |
+/// | 4 | the formula was refused for another cause than memory |
 /// | 5 | the formula's file wasn't opened or read; a stream's file wasn't opened |
-/// | 6 | out of memory; a worker couldn't be started |
+/// | 6 | out of memory, outside a report; a worker couldn't be started |
 /// | 7 | the report couldn't be written |
 pub fn command<T: Threads + Wait + Sync, C: Clock + Sync, F: Files, O: Sink, E: Sink>(
     threads: &T,
@@ -41,16 +42,20 @@ pub fn command<T: Threads + Wait + Sync, C: Clock + Sync, F: Files, O: Sink, E: 
 ) -> u8
     requires out { O.has_failed out.old ≡ false }
     requires err { E.has_failed err.old ≡ false }
-    // What a user relies on.
-    ensures sound { result ≡ 0 → NamesRefuted (texts words.now) (F.tells files.old) }
+    // What a user relies on: with status 0 the file of FORMULA, where it is told, is a text of a formula that no assignment satisfies.
+    ensures sound { result ≡ 0 → NameUnsatisfiable (texts words.now) (F.tells files.old) }
     // A report of what the words and the files come to, or none and the cause; what goes out; and the status.
-    ensures ends { EndsWithReport (texts words.now) (F.tells files.old)
+    ensures ends { EndsWithReport _ (files_view (F.tells files.old) (F.may_refuse files.old)
+        F.Input.Source.left F.Input.Source.has_failed) (texts words.now)
         (record { before = O.written out.old; after = O.written out.new; failed = O.has_failed out.new })
         (record { before = E.written err.old; after = E.written err.new; failed = E.has_failed err.new }) result
-        ⊎ EndsWithFault (texts words.now) (F.tells files.old)
+        ⊎ EndsWithFault _ (files_view (F.tells files.old) (F.may_refuse files.old)
+        F.Input.Source.left F.Input.Source.has_failed) (texts words.now)
         (record { before = O.written out.old; after = O.written out.new; failed = O.has_failed out.new })
         (record { before = E.written err.old; after = E.written err.new; failed = E.has_failed err.new }) result }
+    // Words with a fault have a status of their own, unless memory ran out.
     ensures usage { HaveFault (texts words.now) → (result ≡ 2) ⊎ (result ≡ 6) }
+    // So does a report that wasn't written.
     ensures unwritten { IsTrue (O.has_failed out.new) ↔ (result ≡ 7) }
 {
     match check_words(threads, clock, alloc, words, files) {

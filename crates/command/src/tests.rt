@@ -1,5 +1,5 @@
 //! Runs of the whole program over files and sinks of the tests' own.
-ghost use Rattle.std.specs.Prelude.{◌≡◌, None, false};
+ghost use Rattle.std.specs.Prelude.{◌≡◌, None, true, false};
 
 use super::*;
 use lrup_text::{ReadFault, Sink, Source, WriteFault};
@@ -81,6 +81,8 @@ impl<'a> Files for Shelf<'a> {
     type Input = Pieces<'a>;
 
     ghost tells = { λ _ _. None };
+
+    ghost may_refuse = { λ _ _. true };
 
     fn open(&mut self, path: &str) -> Result<Pieces<'a>, OpenFault> {
         if self.is_full || self.opened.push_str(path).is_err() || self.opened.push(' ').is_err() {

@@ -14,7 +14,7 @@ use std::fs::File;
 use std::process::ExitCode;
 use std::{env, io};
 
-/// The machine's files. None tells its bytes before it is read.
+/// The machine's files. None tells its bytes before it is read, and each may be refused.
 #[derive(Drop)]
 struct MachineFiles<'a> {
     rt: &'a HostRuntime,
@@ -23,9 +23,11 @@ struct MachineFiles<'a> {
 impl Files for MachineFiles<'_> {
     type Input = Reading<File>;
 
-    ghost use Rattle.std.specs.Prelude.{None};
+    ghost use Rattle.std.specs.Prelude.{None, true};
 
     ghost tells = { λ _ _. None };
+
+    ghost may_refuse = { λ _ _. true };
 
     fn open(&mut self, path: &str) -> Result<Reading<File>, OpenFault> {
         match File::open(self.rt, path) {

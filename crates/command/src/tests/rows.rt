@@ -1,5 +1,8 @@
 //! The worked rows: words, formula and streams, and the report and the status that they end with.
 use super::*;
+use std::io;
+use std::sync::atomic::{AtomicUsize, Ordering};
+use std::time::Duration;
 
 /// A run: its words, where `f` is the formula and `1`, `2` and so on are the streams.
 #[derive(Clone, Copy)]
@@ -240,4 +243,70 @@ s UNKNOWN
             status: 3,
         },
     )
+}
+
+/// Stream 1 cites two clauses of stream 2. With a thread for each it waits for them; on one thread its first line comes before them.
+#[test]
+fn serial_alone_is_on_one_thread(rt: HostRuntime) -> Result<(), Fail> {
+    let row = Row {
+        words: &["--tries", "1000000", "f", "1", "2"],
+        formula: FOUR,
+        streams: &["5 0 6 8 0\n", "6 -2 0 3 4 0\n8 2 0 1 2 0\n"],
+        out: "c stream 1: 1 added, 0 deleted, ended
+c stream 2: 2 added, 0 deleted, ended
+s UNSATISFIABLE
+",
+        status: 0,
+    };
+    assert_row(&rt, rt.alloc(), &row)?;
+    let row = Row {
+        words: &["--serial", "--tries", "5", "f", "1", "2"],
+        out: "c stream 1: 0 added, 0 deleted, bad line 1 (missing 6)
+c stream 2: 2 added, 0 deleted, ended
+s UNKNOWN
+",
+        status: 3,
+        ..row
+    };
+    assert_row(&rt, rt.alloc(), &row)
+}
+
+/// A clock that counts the sleeps.
+#[derive(Drop)]
+struct Sleeps {
+    count: AtomicUsize,
+}
+
+impl Clock for Sleeps {
+    fn monotonic(&self) -> io::Result<Duration> {
+        Ok(Duration::from_micros(0))
+    }
+
+    fn since_1970(&self) -> io::Result<Duration> {
+        Ok(Duration::from_micros(0))
+    }
+
+    fn sleep(&self, duration: Duration) {
+        if duration.as_nanos() == 1_000 {
+            self.count.fetch_add(1, Ordering::SeqCst);
+        }
+    }
+}
+
+/// A hint that never comes is looked up as often again as `--tries` says, a microsecond later each time.
+#[test]
+fn tries_are_those_of_the_words(rt: HostRuntime) -> Result<(), Fail> {
+    for (tries, sleeps) in [("--tries=0", 0), ("--tries=3", 3), ("--tries=17", 17)] {
+        let mut files = shelf_of(rt.alloc(), FOUR, &["5 0 6 0\n", ""])?;
+        let clock = Sleeps {
+            count: AtomicUsize::new(0),
+        };
+        let mut out = Paper::new(rt.alloc(), 0);
+        let mut err = Paper::new(rt.alloc(), 0);
+        let words = [tries, "f", "1", "2"];
+        let status = command(&rt, &clock, rt.alloc(), &words, &mut files, &mut out, &mut err);
+        assert_eq!(rt; status, 3);
+        assert_eq!(rt; clock.count.load(Ordering::SeqCst), sleeps, "{tries}");
+    }
+    Ok(())
 }

@@ -18,9 +18,8 @@ returns-clause-checked g c =
     let reports = c.in_ok-outcome.ensures.reports in
     record {
       layout = has_layout p c.run.result c.in_ok-outcome.outcome c.in_ok-outcome.was c.run.ensures.layout;
+      readers = c.in_ok-outcome.outcome.readers.items;
       streams = reports.0;
-      lefts = _;
-      faileds = _;
       told = reports.1;
       reported = (_, c.in_ok-outcome.ensures.history, reports.2);
       is_verdict = c.in_ok-outcome.ensures.verdict;

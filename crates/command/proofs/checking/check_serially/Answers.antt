@@ -18,9 +18,8 @@ returns-clause-checked g c =
     let ordered = c.in_ok-outcome.ensures.ordered in
     record {
       layout = has_layout p c.run_serial.result c.in_ok-outcome.outcome c.in_ok-outcome.was c.run_serial.ensures.layout;
+      readers = c.in_ok-outcome.outcome.readers.items;
       streams = ordered.0;
-      lefts = _;
-      faileds = _;
       told = ordered.1;
       reported = ordered.2;
       is_verdict = c.in_ok-outcome.ensures.verdict;

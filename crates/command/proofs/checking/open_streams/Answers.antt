@@ -1,6 +1,6 @@
-use Rattle.std.proofs.Common.{◌∙◌, ◌≡◌, false, sym, subst, arith}
+use Rattle.std.proofs.Common.{◌∙◌, ◌≡◌, Err, false, sym, ap, subst, arith}
 use Rattle.std.specs.List.{AllByRecursion}
-use Rattle.command.proofs.OpeningLemmas.{all_more, opened_more}
+use Rattle.command.proofs.OpeningLemmas.{all_more, opened_more, refused_at}
 use Rattle.command.proofs.checking.open_streams.Goals as goal
 
 pub loop-path-preserved : goal.loop-path-preserved
@@ -17,4 +17,11 @@ loop-path-preserved g c =
       count = omega (arith, pushed.len, now.invariant.count);
       room = omega (arith, pushed.capacity, now.invariant.room);
       stays = c.open.ensures.stays ∙ now.invariant.stays;
+      stays_refused = c.open.ensures.stays_refused ∙ now.invariant.stays_refused;
     }
+
+pub returns-in-Err-NotOpened-clause-cause : goal.returns-in-Err-NotOpened-clause-cause
+returns-in-Err-NotOpened-clause-cause g c =
+    let now = c.loop-path in
+    refused_at (λ p. p.now) (g.F.Files.may_refuse c.args.files.now) (g.F.Files.may_refuse now.files) c.args.paths.now now.path-index c.len.result _
+    c.loop-path-test.true (c.len.ensures ∙ now.invariant.count) now.invariant.stays_refused (c.open.ensures.refused (c.in-Err-NotOpened.is ∙ ap Err c.in-Err-NotOpened.field-0-is))

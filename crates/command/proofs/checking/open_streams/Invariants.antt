@@ -11,4 +11,5 @@ invariant-loop-path g l =
       count : vec_len l.readers ≡ l.path-index;
       room : length l.fn.paths ≤ vec_capacity l.readers;
       stays : g.F.Files.tells l.files ≡ g.F.Files.tells l.fn.files;
+      stays_refused : g.F.Files.may_refuse l.files ≡ g.F.Files.may_refuse l.fn.files;
     }
