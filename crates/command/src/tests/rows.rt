@@ -304,7 +304,15 @@ fn tries_are_those_of_the_words(rt: HostRuntime) -> Result<(), Fail> {
         let mut out = Paper::new(rt.alloc(), 0);
         let mut err = Paper::new(rt.alloc(), 0);
         let words = [tries, "f", "1", "2"];
-        let status = command(&rt, &clock, rt.alloc(), &words, &mut files, &mut out, &mut err);
+        let status = command(
+            &rt,
+            &clock,
+            rt.alloc(),
+            &words,
+            &mut files,
+            &mut out,
+            &mut err,
+        );
         assert_eq!(rt; status, 3);
         assert_eq!(rt; clock.count.load(Ordering::SeqCst), sleeps, "{tries}");
     }

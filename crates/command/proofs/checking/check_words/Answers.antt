@@ -1,4 +1,4 @@
-use Rattle.std.proofs.Common.{◌≡◌, ◌∙◌, Bool, List, ℕ, true, false, map, length, sym, ap, subst}
+use Rattle.std.proofs.Common.{◌≡◌, ◌∙◌, true, false, map, length, sym, ap, subst}
 use Rattle.clap.specs.Walk.{texts}
 use Rattle.command.specs.Commands.{IsCause, IsOutcome, ReaderView, files_view, options_of}
 use Rattle.command.proofs.CheckingLemmas.{err_given, if_err, if_ok, is_outcome, is_refuted, open_cause, open_moved, run_cause_of, same_count, some_given}
@@ -15,7 +15,7 @@ returns-then-line-clause-outcome g c =
     let count : length c.in_ok-readers.readers.items ≡ length line.streams = same_count _ _ _ _ entries in
     if_ok c.check_serially.result _ (λ found. IsOutcome g.row.F-Input.Denot files words found.reports.items found.verdict)
     (λ found checked. is_outcome g.row.F-Input.Denot files words line c.in_ok-formula.formula true c.unwrap-options.result (length c.in_ok-readers.readers.items) (map g.F.Input.Source.left c.in_ok-readers.readers.items)
-        c.in_ok-line.ensures.ok c.in_ok-formula.ensures.formula (sym c.if-line.true) options count entries found.reports.items found.verdict checked)
+    c.in_ok-line.ensures.ok c.in_ok-formula.ensures.formula (sym c.if-line.true) options count entries found.reports.items found.verdict checked)
     c.check_serially.ensures.checked
 
 pub returns-then-line-clause-sound : goal.returns-then-line-clause-sound
@@ -35,7 +35,7 @@ returns-then-line-clause-cause g c =
     let count : length c.in_ok-readers.readers.items ≡ length line.streams = same_count _ _ _ _ entries in
     if_err c.check_serially.result _ (IsCause g.row.F-Input.Denot files words)
     (λ fault cause. run_cause_of g.row.F-Input.Denot files words line c.in_ok-formula.formula true c.unwrap-options.result (length c.in_ok-readers.readers.items)
-        c.in_ok-line.ensures.ok c.in_ok-formula.ensures.formula (sym c.if-line.true) options count fault cause)
+    c.in_ok-line.ensures.ok c.in_ok-formula.ensures.formula (sym c.if-line.true) options count fault cause)
     c.check_serially.ensures.cause
 
 pub returns-clause-outcome : goal.returns-clause-outcome
@@ -49,7 +49,7 @@ returns-clause-outcome g c =
     let count : length c.in_ok-readers.readers.items ≡ length line.streams = same_count _ _ _ _ entries in
     if_ok c.check_in_threads.result _ (λ found. IsOutcome g.row.F-Input.Denot files words found.reports.items found.verdict)
     (λ found checked. is_outcome g.row.F-Input.Denot files words line c.in_ok-formula.formula false c.unwrap-options.result (length c.in_ok-readers.readers.items) (map g.F.Input.Source.left c.in_ok-readers.readers.items)
-        c.in_ok-line.ensures.ok c.in_ok-formula.ensures.formula (sym c.if-line.false) options count entries found.reports.items found.verdict checked)
+    c.in_ok-line.ensures.ok c.in_ok-formula.ensures.formula (sym c.if-line.false) options count entries found.reports.items found.verdict checked)
     c.check_in_threads.ensures.checked
 
 pub returns-clause-sound : goal.returns-clause-sound
@@ -69,7 +69,7 @@ returns-clause-cause g c =
     let count : length c.in_ok-readers.readers.items ≡ length line.streams = same_count _ _ _ _ entries in
     if_err c.check_in_threads.result _ (IsCause g.row.F-Input.Denot files words)
     (λ fault cause. run_cause_of g.row.F-Input.Denot files words line c.in_ok-formula.formula false c.unwrap-options.result (length c.in_ok-readers.readers.items)
-        c.in_ok-line.ensures.ok c.in_ok-formula.ensures.formula (sym c.if-line.false) options count fault cause)
+    c.in_ok-line.ensures.ok c.in_ok-formula.ensures.formula (sym c.if-line.false) options count fault cause)
     c.check_in_threads.ensures.cause
 
 pub returns-in_err-readers-clause-cause : goal.returns-in_err-readers-clause-cause
