@@ -1,5 +1,5 @@
 //! The clause map as one caller sees it.
-ghost use Rattle.std.specs.Prelude.{◌≡◌, ◌↔◌, ◌≤◌, ◌<◌, [], ◌∷◌, ◌++◌, IsTrue, Some, length, slice_get};
+ghost use Rattle.std.specs.Prelude.{◌≡◌, ◌↔◌, ◌≤◌, ◌<◌, ◌+◌, ◌*◌, ◌/◌, [], ◌∷◌, ◌++◌, IsTrue, Some, length, slice_get};
 ghost use Rattle.lrup_model.specs.Layout.{IsIdentity, Owns};
 ghost use Rattle.lrup_model.specs.State.{IsLive, absent};
 ghost use Rattle.lrup_model.specs.Event.{History, fetch, publish, retire};
@@ -49,6 +49,14 @@ impl Clip {
         ensures { result ≡ self.now.len }
     {
         self.len
+    }
+
+    /// The count of pairs of literals, the last of which may be a single one.
+    #[inline]
+    pub fn pairs(&self) -> u32
+        ensures { result ≡ (self.now.len + 1) / 2 }
+    {
+        self.len.div_ceil(2)
     }
 
     /// Is it a clip of the empty clause?
@@ -137,6 +145,27 @@ pub trait ClauseMap {
         ensures value { slice_get (text_of (place self.old) clip.now) k ≡ Some result }
         ensures event { moves self.old self.new [] }
         ensures stays { place self.new ≡ place self.old };
+
+    /// Pair `i`, from 0 on, of a clause whose clip is known here: its literals `2 * i` and, if it has that one, `2 * i + 1`, as
+    /// two calls of `literal` give them.
+    #[inline]
+    fn pair(&mut self, clip: &Clip, i: u32) -> (Lit, Option<Lit>)
+        requires known { IsKnown (place self.old) clip.now }
+        requires within { 2 * i < clip.now.len }
+        ensures first { slice_get (text_of (place self.old) clip.now) (2 * i) ≡ Some result.0 }
+        ensures second { slice_get (text_of (place self.old) clip.now) (2 * i + 1) ≡ result.1 }
+        ensures event { moves self.old self.new [] }
+        ensures stays { place self.new ≡ place self.old }
+    {
+        let len = clip.len();
+        let k = 2 * i;
+        let first = self.literal(clip, k);
+        if k + 1 < len {
+            (first, Some(self.literal(clip, k + 1)))
+        } else {
+            (first, None)
+        }
+    }
 
     /// Publishes a clause that follows from the formula, of at most 65,535 literals, under an identity of the caller's own.
     fn publish(&mut self, id: Id, clause: &[Lit]) -> Published

@@ -305,7 +305,9 @@ fn second_desk(rt: &impl Abort, map: &mut PlainMap)
     assert_eq!(rt; withdraw(&mut desk, 5), None);
     assert_eq!(rt; publish_two(&mut desk, 6), Some(Published::Done));
     assert!(rt; reads_as(&mut desk, 6, &[lit(2)]));
+    assert!(rt; reads_in_pairs_as(&mut desk, 6, &[lit(2)]));
     assert!(rt; reads_as(&mut desk, 3, &[lit(1), lit(-2)]));
+    assert!(rt; reads_in_pairs_as(&mut desk, 3, &[lit(1), lit(-2)]));
     assert_eq!(rt; desk.room(), 1);
 }
 
@@ -338,6 +340,29 @@ fn reads_as<M: ClauseMap>(desk: &mut M, id: Id, literals: &[Lit]) -> bool
     }
     for (k, literal) in literals.iter().enumerate() {
         if desk.literal(&clip, k as u32) != *literal {
+            return false;
+        }
+    }
+    true
+}
+
+/// Has the live clause these literals, in this order, when they are read by pairs?
+fn reads_in_pairs_as<M: ClauseMap>(desk: &mut M, id: Id, literals: &[Lit]) -> bool
+    ensures { (es : History) × M.moves desk.old desk.new es }
+{
+    if !desk.covers(id) {
+        return false;
+    }
+    let Fetched::Live(clip) = desk.fetch(id) else {
+        return false;
+    };
+    if clip.len() as usize != literals.len() {
+        return false;
+    }
+    for i in 0..clip.pairs() {
+        let (first, second) = desk.pair(&clip, i);
+        let k = 2 * i as usize;
+        if literals[k] != first || literals.get(k + 1).copied() != second {
             return false;
         }
     }

@@ -1,7 +1,8 @@
 -- Lemmas on what is left of a clause as its literals are read.
-use Rattle.std.proofs.Common.{◌≡◌, inl, inr, ℕ, ◌+◌, ℤ, neg_ℤ, List, [], ◌∷◌, ◌++◌, take, drop, Some, sym, ap, subst, ◌∙◌, add-one}
+use Rattle.std.proofs.Common.{arith, ◌≡◌, ◌≤◌, inl, inr, ℕ, ◌+◌, ◌*◌, length, None, ℤ, neg_ℤ, List, [], ◌∷◌, ◌++◌, take, drop, Some, sym, ap, subst, ◌∙◌, add-one}
 use Rattle.std.specs.Prelude.{slice_get}
-use Rattle.std.proofs.lemmas.List.{take-append-drop}
+use Rattle.std.proofs.lemmas.List.{take-append-drop, take_all}
+use Rattle.std.proofs.lemmas.Option.{none-some, slice_get_cases}
 use Rattle.lrup_model.specs.Clause.{Clause, Has, EachOnce}
 use Rattle.lrup_model.specs.Propagation.{IsConflict, IsUnit}
 use Rattle.propagate.specs.Left.{IsLeft}
@@ -69,3 +70,23 @@ IsLeft-next n d k x left after once at before step =
 -- what the first literals rule out, all do
 pub IsLeft-whole : (n : List ℤ) (d : Clause) (k : ℕ) → IsLeft n (take k d) More → IsLeft n d More
 IsLeft-whole n d k more = subst (λ e. IsLeft n e More) (take-append-drop k d) (IsLeft-more n (take k d) (drop k d) more)
+
+-- the second literal of a pair is read
+pub IsLeft-second : (n : List ℤ) (d : Clause) (i : ℕ) (x : ℤ) (left after : Left) → EachOnce d → slice_get d (2 * i + 1) ≡ Some x → IsLeft n (take (2 * i + 1) d) left → ((e : Clause) → IsLeft n e left → (¬ Has e x) → IsLeft n (e ++ x ∷ []) after) → IsLeft n (take (2 * (i + 1)) d) after
+IsLeft-second n d i x left after once at before step =
+    let next : 2 * i + 1 + 1 ≡ 2 * (i + 1) = omega arith in
+    subst (λ k. IsLeft n (take k d) after) next (IsLeft-next n d (2 * i + 1) x left after once at before step)
+
+-- a list ends where it has no more
+ends-at : (d : List ℤ) (k : ℕ) → slice_get d k ≡ None → length d ≤ k
+ends-at d k past = elim (slice_get_cases d k).1 [ inl at ↦ absurd (none-some at.0 (sym past ∙ at.2)) | inr short ↦ short.0 ]
+
+-- the last pair was a single literal
+pub IsLeft-single : (n : List ℤ) (d : Clause) (i : ℕ) (left : Left) → slice_get d (2 * i + 1) ≡ None → IsLeft n (take (2 * i + 1) d) left → IsLeft n (take (2 * (i + 1)) d) left
+IsLeft-single n d i left past before =
+    let short = ends-at d (2 * i + 1) past in
+    subst (λ e. IsLeft n e left) (take_all (2 * i + 1) d short ∙ sym (take_all (2 * (i + 1)) d (omega (arith, short)))) before
+
+-- all pairs were read
+pub IsLeft-all : (n : List ℤ) (d : Clause) (k : ℕ) (left : Left) → length d ≤ k → IsLeft n (take k d) left → IsLeft n d left
+IsLeft-all n d k left short before = subst (λ e. IsLeft n e left) (take_all k d short) before

@@ -1,8 +1,8 @@
 //! The checking of hints one by one.
-ghost use Rattle.std.specs.Prelude.{◌≡◌, ◌↔◌, ◌≤◌, ◌++◌, List, [], ◌∷◌, ℤ, false, true, IsTrue, IfOk, IsErr, OnOk, OnErr};
+ghost use Rattle.std.specs.Prelude.{◌≡◌, ◌↔◌, ◌≤◌, ◌+◌, ◌*◌, ◌++◌, ℕ, List, [], ◌∷◌, ℤ, Some, slice_get, take, false, true, IsTrue, IfOk, IsErr, OnOk, OnErr};
 ghost use Rattle.std.specs.List.{AllByRecursion};
 ghost use Rattle.lrup_model.specs.Literal.{IsLiteral, max_variable};
-ghost use Rattle.lrup_model.specs.Clause.{Has, IsClause, IsTautology};
+ghost use Rattle.lrup_model.specs.Clause.{Has, EachOnce, IsClause, IsTautology};
 ghost use Rattle.lrup_model.specs.Place.{IsKnown, AllFollow, text_of};
 ghost use Rattle.lrup_model.specs.Propagation.{IsConflict, IsUnit};
 ghost use Rattle.propagate.specs.Distinct.{distinct};
@@ -151,13 +151,31 @@ fn rest_of<M: ClauseMap>(falses: &Trail, map: &mut M, clip: &Clip) -> Left
     ensures stays { M.place map.new ≡ M.place map.old }
 {
     let mut left = Left::Nothing;
-    for k in 0..clip.len() {
-        left = left_with(falses, left, map.literal(clip, k));
+    for i in 0..clip.pairs() {
+        let (first, second) = map.pair(clip, i);
+        left = left_with_pair(falses, left, first, second);
         if let Left::More = left {
             return left;
         }
     }
     left
+}
+
+/// What is left when the next literal is read, or the next two, of a clause that has each once.
+#[inline]
+fn left_with_pair(falses: &Trail, left: Left, first: Lit, second: Option<Lit>) -> Left
+    requires first { IsLiteral falses.now.vars first }
+    requires second { (l : ℤ) → second ≡ Some l → IsLiteral falses.now.vars l }
+    ensures { (d : List ℤ) (i : ℕ) → EachOnce d
+        → slice_get d (2 * i) ≡ Some first → slice_get d (2 * i + 1) ≡ second
+        → IsLeft falses.now.literals (take (2 * i) d) left
+        → IsLeft falses.now.literals (take (2 * (i + 1)) d) result }
+{
+    let left = left_with(falses, left, first);
+    match second {
+        Some(second) => left_with(falses, left, second),
+        None => left,
+    }
 }
 
 /// What is left when one more literal is read, which isn't one of those read before.
