@@ -75,8 +75,8 @@ literal_words_more i cs c words old within here is =
 pub clause_at-suc : (f : Cnf) (i : ℕ) → clause_at f (i + 1) ≡ get_or f.clauses i []
 clause_at-suc f i = let place : i + 1 - 1 ≡ i = omega arith in ap (λ n. get_or f.clauses n []) place
 
-pub sum_more : (cs : List Clause) (i : ℕ) (c : Clause) → i < length cs → c ≡ get_or cs i [] → words_in (take (i + 1) cs) ≡ words_in (take i cs) + words_for (length c)
-sum_more cs i c within here =
+pub words_more : (cs : List Clause) (i : ℕ) (c : Clause) → i < length cs → c ≡ get_or cs i [] → words_in (take (i + 1) cs) ≡ words_in (take i cs) + words_for (length c)
+words_more cs i c within here =
     let cut : take (i + 1) cs ≡ take i cs ++ c ∷ [] = take_more cs i [] within ∙ ap (λ (d : Clause). take i cs ++ d ∷ []) (sym here) in
     let one = sum_by-append (λ d. words_for (length d)) (take i cs) (c ∷ []) in
     let last = words_in-cons c [] in

@@ -51,7 +51,7 @@ module _ (f : Cnf) (p : LayoutValue) (log : History) (legal : IsLegal f p log) w
             let top : top_after p t log ≡ top_after p s log = ap (λ (u : ℕ). top_after p u log) same in
             inr (omega (arith, lodging.last))
         | inr other ↦ outside_room p s t place kept.start (kept.start + words_for (length kept.literals)) mine lodging.stream other (omega arith) below lodging.first
-          (omega (arith, lodging.last, legal.room t, words_within t log))
+            (omega (arith, lodging.last, legal.room t, words_within t log))
       ]
 
 -- a stream's room lies inside the row
