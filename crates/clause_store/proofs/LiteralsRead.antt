@@ -1,5 +1,5 @@
 -- Lemmas on the literals of a clip that is known at a pass.
-use Rattle.std.proofs.Common.{◌≡◌, ℕ, ℤ, ◌+◌, ◌<◌, zero, suc, [], ◌∷◌, length, Some, slice_get, refl, sym, ap, subst, ◌∙◌, arith}
+use Rattle.std.proofs.Common.{◌≡◌, ℕ, ℤ, ◌+◌, ◌/◌, ◌%◌, ◌<◌, zero, suc, [], ◌∷◌, length, Some, slice_get, refl, sym, ap, subst, ◌∙◌, arith}
 use Rattle.std.specs.List.{AllByRecursion}
 use Rattle.lrup_model.specs.Literal.{IsLiteral, IsCode, code_of, max_variable}
 use Rattle.lrup_model.specs.LiteralLaws.{IsCode-code_of, code_of-injective}
@@ -8,6 +8,7 @@ use Rattle.lrup_model.specs.Layout.{row_words}
 use Rattle.lrup_model.specs.Place.{ClipValue, Kept, IsKnown, text_of}
 use Rattle.lrup_model.specs.Pass.{View, IsFair, pass_place}
 use Rattle.lrup_model.specs.PassLemmas.{fair_follows}
+use Rattle.idwords.specs.Words.{half_of}
 use Rattle.idwords.specs.Seats.{SeatValue}
 use Rattle.idwords.specs.Spelling.{LieWithin}
 use Rattle.idwords.specs.Steps.{IsText}
@@ -19,7 +20,7 @@ literal_at vars [] k below all = absurd (omega arith)
 literal_at vars (x ∷ c) zero below all = (x, refl, all.0)
 literal_at vars (x ∷ c) (suc k) below all = literal_at vars c k (omega arith) all.1
 
-module _ (v : View) (clip : ClipValue) (k place : ℕ) (known : IsKnown (pass_place v) clip) (below : k < clip.len) (lies : place ≡ clip.start + k) where
+module _ (v : View) (clip : ClipValue) (k place : ℕ) (known : IsKnown (pass_place v) clip) (below : k < clip.len) (lies : place ≡ clip.start + k / 2) where
   abbrev kept : Kept
   kept = record { start = clip.start; literals = text_of (pass_place v) clip }
 
@@ -27,25 +28,25 @@ module _ (v : View) (clip : ClipValue) (k place : ℕ) (known : IsKnown (pass_pl
   place_within : LieWithin (row_words v.caller.layout) v.spelt → place < row_words v.caller.layout
   place_within within = omega (arith, within clip.id kept known.kept, known.len, lies)
 
-  -- the literal, and the word there is its code
+  -- the literal, and its half of the word there is its code
   literal_of : IsFair v → (word : ℕ) → IsText v.spelt place word
-      → (l : ℤ) × (slice_get (text_of (pass_place v) clip) k ≡ Some l) × (word ≡ code_of l) × IsCode max_variable word
+      → (l : ℤ) × (slice_get (text_of (pass_place v) clip) k ≡ Some l) × (half_of (k % 2) word ≡ code_of l) × IsCode max_variable (half_of (k % 2) word)
   literal_of fair word text =
       let derived = (fair_follows v fair).each clip.id kept known.kept in
       let at = literal_at v.caller.formula.vars (text_of (pass_place v) clip) k (omega (arith, known.len)) derived.0.literals in
-      let is : word ≡ code_of at.0 = text clip.id k kept at.0 known.kept at.1 lies in
+      let is : half_of (k % 2) word ≡ code_of at.0 = text clip.id k kept at.0 known.kept at.1 lies in
       let code = IsCode-code_of max_variable at.0 (at.2.0, omega (arith, at.2.1, fair.caller.formula.vars)) in
       (at.0, at.1, is, (omega (arith, code.0), omega (arith, code.1)))
 
-  -- the literal that has the word's code is that one
-  literal_is : IsFair v → (word : ℕ) (l : ℤ) → IsText v.spelt place word → code_of l ≡ word → slice_get (text_of (pass_place v) clip) k ≡ Some l
+  -- the literal that has the code in that half is that one
+  literal_is : IsFair v → (word : ℕ) (l : ℤ) → IsText v.spelt place word → code_of l ≡ half_of (k % 2) word → slice_get (text_of (pass_place v) clip) k ≡ Some l
   literal_is fair word l text code =
       let one = literal_of fair word text in
       one.1 ∙ ap Some (code_of-injective one.0 l (sym one.2 ∙ sym code))
 
 -- the same of a pass, whose seat is at rest: as `Store::literal` reads them
 module _ (seat : SeatValue) (stream : ℕ) (p : PassValue) (clip : ClipValue) (k place : ℕ) (rests : IsAtRest seat stream) (same : pass_value seat ≡ p)
-    (known : IsKnown (pass_place p.view) clip) (lies : place ≡ clip.start + k) (below : k < clip.len) where
+    (known : IsKnown (pass_place p.view) clip) (lies : place ≡ clip.start + k / 2) (below : k < clip.len) where
   abbrev here : seat.view ≡ p.view
   here = ap (λ (q : PassValue). q.view) same
 
@@ -55,10 +56,10 @@ module _ (seat : SeatValue) (stream : ℕ) (p : PassValue) (clip : ClipValue) (k
   pub place_read : place < row_words seat.view.caller.layout
   place_read = place_within seat.view clip k place known_here below lies rests.within
 
-  pub code_read : (word : ℕ) → IsText seat.view.spelt place word → IsCode max_variable word
+  pub code_read : (word : ℕ) → IsText seat.view.spelt place word → IsCode max_variable (half_of (k % 2) word)
   code_read word text = (literal_of seat.view clip k place known_here below lies rests.fair word text).3
 
-  pub literal_read : (word : ℕ) (l : ℤ) → IsText seat.view.spelt place word → code_of l ≡ word → slice_get (text_of (pass_place p.view) clip) k ≡ Some l
+  pub literal_read : (word : ℕ) (l : ℤ) → IsText seat.view.spelt place word → code_of l ≡ half_of (k % 2) word → slice_get (text_of (pass_place p.view) clip) k ≡ Some l
   literal_read word l text code =
       subst (λ (v : View). slice_get (text_of (pass_place v) clip) k ≡ Some l) here
       (literal_is seat.view clip k place known_here below lies rests.fair word l text code)

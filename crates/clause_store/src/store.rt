@@ -103,12 +103,12 @@ impl Store {
         ensures value { slice_get (text_of (pass_place pass.old.view) clip.now) k ≡ Some result }
         ensures same { pass.new ≡ pass.old }
     {
-        let place = place_of(clip, k);
-        lit(self.row.word(&mut pass.seat, place))
+        let place = place_of(clip, k / 2);
+        lit(self.row.word(&mut pass.seat, place), k % 2)
     }
 
     /// Publishes a clause that follows from the formula, of at most 65,535 literals, under an identity of the pass's own.
-    /// Each literal is written once, in the order given, and then one exchange makes the clause live.
+    /// Each literal is written once, in the order given, by one store for two, and then one exchange makes the clause live.
     pub fn publish(&self, pass: &mut Pass, id: Id, clause: &[Lit]) -> Published
         requires store { store_of pass.old ≡ self.now }
         requires owns { Owns pass.old.view.caller.layout pass.old.view.caller.stream id }
@@ -120,8 +120,13 @@ impl Store {
         ensures done { (result ≡ Published.Done)
             ↔ (state pass.old.view.caller.formula pass.old.view.mine id ≡ absent) }
     {
-        for lit in clause {
-            self.row.write(&mut pass.seat, *lit);
+        let mut left = clause;
+        'pairs: while let [first, second, rest @ ..] = left {
+            self.row.write(&mut pass.seat, *first, Some(*second));
+            left = rest;
+        }
+        if let [last] = left {
+            self.row.write(&mut pass.seat, *last, None);
         }
         self.row.claim(&mut pass.seat, id)
     }
@@ -152,7 +157,7 @@ impl Store {
     }
 }
 
-/// The place of literal `k`, from 0 on, of a clip's clause.
+/// The place of word `k`, from 0 on, of a clip's clause. Each word has two literals.
 #[inline]
 fn place_of(clip: &Clip, k: u32) -> u64
     ensures { result ≡ clip.now.start + k }

@@ -245,6 +245,48 @@ fn a_pass_spends_its_room(rt: HostRuntime) -> Result<(), Fail> {
     Ok(())
 }
 
+/// Are these the literals of a clip's clause, in this order?
+fn reads_back(store: &Store, pass: &mut Pass, clip: &Clip, clause: &[Lit]) -> bool
+    requires at { IsAt four store.now pass.old }
+    requires known { IsKnown (pass_place pass.old.view) clip.now }
+    ensures { pass.new ≡ pass.old }
+{
+    if clip.len() as usize != clause.len() {
+        return false;
+    }
+    for k in 0..clip.len() {
+        if store.literal(pass, clip, k) != clause[k as usize] {
+            return false;
+        }
+    }
+    true
+}
+
+/// An odd clause, one of two literals behind it, and the last one: each is read back, literal by literal.
+#[test]
+fn clauses_are_read_back(rt: HostRuntime) -> Result<(), Fail> {
+    let formula = four_clauses(rt.alloc())?;
+    let layout = Layout::new(2, 4, 8, 2, 3, 6)?;
+    assert!(rt; layout.fits(&formula));
+    let (store, mut a, _b) = open_two(rt.alloc(), &formula, layout)?;
+    let three = [lit(1), lit(-2), lit(2)];
+    let two = [lit(-1), lit(2)];
+    let answer = publish(&store, &mut a, 5, &three);
+    assert_eq!(rt; answer, Some(Published::Done));
+    let answer = publish(&store, &mut a, 7, &two);
+    assert_eq!(rt; answer, Some(Published::Done));
+    assert_eq!(rt; store.room(&a), 1);
+    let answer = publish(&store, &mut a, 9, &[lit(2)]);
+    assert_eq!(rt; answer, Some(Published::Done));
+    let clip = live(&store, &mut a, 5).ok_or("5 isn't live")?;
+    assert!(rt; reads_back(&store, &mut a, &clip, &three));
+    let clip = live(&store, &mut a, 7).ok_or("7 isn't live")?;
+    assert!(rt; reads_back(&store, &mut a, &clip, &two));
+    let clip = live(&store, &mut a, 3).ok_or("3 isn't live")?;
+    assert!(rt; reads_back(&store, &mut a, &clip, &[lit(1), lit(-2)]));
+    Ok(())
+}
+
 /// Publishes `2`, which the first two clauses show, under an identity of the caller's own.
 fn publish_two<M: ClauseMap>(map: &mut M, id: Id) -> Option<Published>
     requires { (M.place map.old).caller.formula ≡ four }

@@ -16,12 +16,12 @@ use Rattle.lrup_model.specs.Pass.{Spelling, kept_in, IsSpelt}
 use Rattle.lrup_model.specs.HistoryLemmas.{put-same, put-other}
 use Rattle.lrup_model.specs.declared.clause_map.Published.{Published}
 use Rattle.lrup_model.specs.declared.clause_map.Published.TheVariants as publishing
-use Rattle.idwords.specs.Words.{identity_word, word_of, LiesAt}
+use Rattle.idwords.specs.Words.{identity_word, word_of, words_for, LiesAt}
 use Rattle.idwords.specs.Spelling.{spelling, top_after, spelling_of}
 use Rattle.idwords.specs.Rule.{Part, part_stream, Keeps}
 use Rattle.idwords.specs.Steps.{Calls, Claims}
-use Rattle.idwords.proofs.SpellingLemmas.{spelt, spells_absent, kept-append_none, kept_one, kept_beside}
-use Rattle.idwords.proofs.RuleLemmas.{OwnKeeps, advanced, event_top, stands_at, spent_log, Serves, advance}
+use Rattle.idwords.proofs.SpellingLemmas.{words_spent-own, spelt, spells_absent, kept-append_none, kept_one, kept_beside}
+use Rattle.idwords.proofs.RuleLemmas.{OwnKeeps, advanced, event_top, stands_at, Serves, advance}
 use Rattle.idwords.proofs.StepLemmas.{OwnStep}
 use Rattle.idwords.proofs.LookLemmas.{IsPlain, plain_step}
 use Rattle.idwords.proofs.OwnLemmas.{absent_word, own_slot, own_identity, count-write, first-write, here-write, slots-write, texts-write, drafts-write}
@@ -52,7 +52,7 @@ module _ (v : Part) (seat id new : ℕ) (owns : Owns v.view.caller.layout (part_
       let all : IsSpelt f log xs = spelt f p log kept.legal.events in
       let vacant : state f log id ≡ absent = absent_word (state f log id) (kept_in xs id) (all.slots id) (sym (kept.slots id identity) ∙ nil) in
       let none : kept_in xs id ≡ None = spells_absent (state f log id) (kept_in xs id) vacant (all.slots id) in
-      let spent_all = spent_log log v.view.mine s stands.mine in
+      let spent_all = words_spent-own log v.view.mine s stands.mine in
       let place : v.top ≡ top_after p s log = omega (arith, stands.top) in
       let ws : List ℕ = slice_set words id new in
       let new_text : kept_in (xs ++ x ∷ []) id ≡ Some x.kept = kept-append_none xs (x ∷ []) id none ∙ kept_one x id refl in
@@ -80,7 +80,7 @@ module _ (v : Part) (seat id new : ℕ) (owns : Owns v.view.caller.layout (part_
         ];
         others = λ q other there. drafts-write f p log words views id new kept identity q there;
       } in
-      let top : top_after p s (v.view.mine ++ e ∷ []) ≡ v.top + length v.draft = omega (arith, event_top p s v.view.mine e refl, stands.top) in
+      let top : top_after p s (v.view.mine ++ e ∷ []) ≡ v.top + words_for (length v.draft) = omega (arith, event_top p s v.view.mine e refl, stands.top) in
       let done = advance v more words ws views seat e [] kept here refl vacant (owns, clause) (omega (arith, stands.room)) serves tt in
       let w : Part = advanced v more e [] in
       let slot = own_slot v more words views seat kept here id owns in (
@@ -91,7 +91,7 @@ module _ (v : Part) (seat id new : ℕ) (owns : Owns v.view.caller.layout (part_
           calls = subst (λ (r : Published). Calls v.view w.view (events.publish s id v.draft r))
               (sym (cond-true (eqb (slice_index words id) 0) publishing.Done publishing.Taken (eq-eqb (slice_index words id) 0 nil))) done.1;
           absent = (λ is_nil. sym slot ∙ vacant, λ is_absent. nil);
-          top = top ∙ sym (cond-true (eqb (slice_index words id) 0) (v.top + length v.draft) v.top (eq-eqb (slice_index words id) 0 nil));
+          top = top ∙ sym (cond-true (eqb (slice_index words id) 0) (v.top + words_for (length v.draft)) v.top (eq-eqb (slice_index words id) 0 nil));
           draft = refl;
         },
       )
@@ -118,7 +118,7 @@ module _ (v : Part) (seat id new : ℕ) (owns : Owns v.view.caller.layout (part_
           calls = subst (λ (r : Published). Calls v.view w.view (events.publish s id v.draft r))
               (sym (cond-false (eqb (slice_index words id) 0) publishing.Done publishing.Taken (ne_eqb (slice_index words id) 0 taken))) done.1;
           absent = (λ is_nil. absurd (taken is_nil), λ is_absent. absurd (held (slot ∙ is_absent)));
-          top = done.2 ∙ sym (cond-false (eqb (slice_index words id) 0) (v.top + length v.draft) v.top (ne_eqb (slice_index words id) 0 taken));
+          top = done.2 ∙ sym (cond-false (eqb (slice_index words id) 0) (v.top + words_for (length v.draft)) v.top (ne_eqb (slice_index words id) 0 taken));
           draft = refl;
         },
       )

@@ -8,20 +8,18 @@ use Rattle.lrup_model.specs.Clause.{Clause}
 use Rattle.lrup_model.specs.Formula.{Cnf}
 use Rattle.lrup_model.specs.Layout.{LayoutValue, IsIdentity}
 use Rattle.lrup_model.specs.Event as events
-use Rattle.lrup_model.specs.Event.{Event, Reply, History, stream_of, size_of, spent}
+use Rattle.lrup_model.specs.Event.{Event, Reply, History, stream_of, size_of}
 use Rattle.lrup_model.specs.State.{State, Slot, absent, live, retired, after, state, Answers}
 use Rattle.lrup_model.specs.History.{IsAllowed}
 use Rattle.lrup_model.specs.Place.{Kept, literals_in}
 use Rattle.lrup_model.specs.Pass.{Spelling, kept_in, Spells, IsSpelt}
-use Rattle.lrup_model.specs.Running.{spent-append}
-use Rattle.lrup_model.specs.HistoryLemmas.{spent_one}
 use Rattle.idwords.specs.Words.{state_of, identity_word, word_of, LiesAt, ShowsKept, reply_in}
 use Rattle.idwords.specs.Spelling.{top_after, event_spelling, spelling_of}
 use Rattle.idwords.specs.Rule.{Part, part_stream, Keeps}
 use Rattle.idwords.specs.Steps.{Calls, Looks}
 use Rattle.idwords.proofs.SpellingLemmas.{spelling-snoc, spelt, short}
 use Rattle.idwords.proofs.WordLemmas.{IsShort, shows_slot, state-identity_word}
-use Rattle.idwords.proofs.RuleLemmas.{OwnKeeps, advanced, stands_at, Serves, advance}
+use Rattle.idwords.proofs.RuleLemmas.{OwnKeeps, advanced, event_top, stands_at, Serves, advance}
 use Rattle.idwords.proofs.StepLemmas.{OwnStep}
 
 -- An event that changes nothing of the map
@@ -47,9 +45,7 @@ module _ (v : Part) (more : History) (words : List ℕ) (views : List (List Part
       let log = v.view.seen ++ more in
       let stands = stands_at v more words views id kept here in
       let same = plain_spelling f p log e plain in
-      let spent_next : spent s (v.view.mine ++ e ∷ []) ≡ spent s v.view.mine + spent s (e ∷ []) = spent-append s v.view.mine (e ∷ []) in
-      let spent_event : spent s (e ∷ []) ≡ size_of e = spent_one s e mine in
-      let top : top_after p s (v.view.mine ++ e ∷ []) ≡ v.top = omega (arith, plain.size, stands.top) in
+      let top : top_after p s (v.view.mine ++ e ∷ []) ≡ v.top = omega (arith, event_top p s v.view.mine e mine, plain.size, stands.top) in
       let serves : Serves f p log words e words = record {
         count = kept.count;
         first = kept.first;

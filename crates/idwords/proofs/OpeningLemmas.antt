@@ -1,11 +1,9 @@
 -- Lemmas on the row at the opening: the loops that make its words, and the rule for them.
 use Rattle.std.proofs.Common.{◌≡◌, ℕ, zero, suc, ◌+◌, ◌-◌, ◌*◌, ◌<◌, ◌≤◌, cond, eqb, List, [], ◌∷◌, ◌++◌, length, get_or, take, replicate, slice_index, slice_get, Some, refl, sym, ap, subst, ◌∙◌, inl, inr, arith, append-nil, append_assoc, length-append, eq-eqb, ne_eqb}
-use Rattle.std.specs.Prelude.{map}
 use Rattle.std.specs.List.{sum_by, AllByRecursion}
 use Rattle.std.proofs.lemmas.Bool.{cases_eq, cases_lt, cond-true, cond-false}
 use Rattle.std.proofs.lemmas.List.{take_more, take_all, length-map, length-replicate, get_or-replicate, get_or_at, get_or-append_right, get_or_append_left}
-use Rattle.std.proofs.lemmas.List.Sums.{sum_by-cons, sum_by-append}
-use Rattle.lrup_model.specs.Literal.{code_of}
+use Rattle.std.proofs.lemmas.List.Sums.{sum_by-cons, sum_by-append, sum_by-take-le, sum_by-le-sum_by}
 use Rattle.lrup_model.specs.Clause.{Clause}
 use mathlib.Core.Option as Maybe
 use Rattle.atomic_table.specs.Seated.{TableId}
@@ -17,66 +15,82 @@ use Rattle.lrup_model.specs.State.{Slot, absent, live, opening}
 use Rattle.lrup_model.specs.Place.{Kept}
 use Rattle.lrup_model.specs.Pass.{kept_in, IsFair}
 use Rattle.lrup_model.specs.HistoryLemmas.{opening-formula, opening-above}
-use Rattle.idwords.specs.Words.{identity_word, kept_word, word_of, LiesAt}
+use Rattle.idwords.specs.Words.{identity_word, kept_word, word_of, words_for, packed, StandAt, LiesAt}
 use Rattle.idwords.specs.Spelling.{clauses_spelling, first_place}
 use Rattle.idwords.specs.Rule.{Part, Stands, IsPlan, IsKept, opening_part, opening_parts, count_in}
 use Rattle.idwords.proofs.SpellingLemmas.{either_kept, spelt}
+use Rattle.idwords.proofs.WordLemmas.{length-packed}
 use Rattle.idwords.specs.Opening.{clause_words, literal_words, opening_words}
+
+-- The words that clauses' literals take
+
+abbrev pub words_in : List Clause → ℕ
+words_in cs = sum_by (λ c. words_for (length c)) cs
+
+words_in-cons : (c : Clause) (cs : List Clause) → words_in (c ∷ cs) ≡ words_for (length c) + words_in cs
+words_in-cons c cs = sum_by-cons (λ d. words_for (length d)) c cs
+
+-- no more than there are literals
+pub words_in-le : (cs : List Clause) → words_in cs ≤ sum_by length cs
+words_in-le cs = sum_by-le-sum_by (λ d. words_for (length d)) length cs (λ d. omega arith)
+
+pub words_in-take : (cs : List Clause) (i : ℕ) → words_in (take i cs) ≤ sum_by length cs
+words_in-take cs i = omega (arith, words_in-le (take i cs), sum_by-take-le length cs i)
 
 -- The loops
 
-clause_words-append : (start : ℕ) (cs ds : List Clause) → clause_words start (cs ++ ds) ≡ clause_words start cs ++ clause_words (start + sum_by length cs) ds
+clause_words-append : (start : ℕ) (cs ds : List Clause) → clause_words start (cs ++ ds) ≡ clause_words start cs ++ clause_words (start + words_in cs) ds
 clause_words-append start [] ds = ap (λ (n : ℕ). clause_words n ds) (omega arith)
 clause_words-append start (c ∷ cs) ds =
-    let all = sum_by-cons length c cs in
+    let all = words_in-cons c cs in
     ap (λ (ws : List ℕ). identity_word 1 (length c) start ∷ ws)
-    (clause_words-append (start + length c) cs ds ∙ ap (λ (n : ℕ). clause_words (start + length c) cs ++ clause_words n ds) (omega arith))
+    (clause_words-append (start + words_for (length c)) cs ds ∙ ap (λ (n : ℕ). clause_words (start + words_for (length c)) cs ++ clause_words n ds) (omega arith))
 
 literal_words-append : (cs ds : List Clause) → literal_words (cs ++ ds) ≡ literal_words cs ++ literal_words ds
 literal_words-append [] ds = refl
-literal_words-append (c ∷ cs) ds = ap (λ (ws : List ℕ). map code_of c ++ ws) (literal_words-append cs ds) ∙ sym (append_assoc (map code_of c) (literal_words cs) (literal_words ds))
+literal_words-append (c ∷ cs) ds = ap (λ (ws : List ℕ). packed c ++ ws) (literal_words-append cs ds) ∙ sym (append_assoc (packed c) (literal_words cs) (literal_words ds))
 
 -- one more clause
 pub clause_words_more : (first start i : ℕ) (cs : List Clause) (c : Clause) (new words old : List ℕ) (word : ℕ) → i < length cs → c ≡ get_or cs i []
-    → start ≡ first + sum_by length (take i cs) → words ≡ old ++ clause_words first (take i cs) → new ≡ words ++ word ∷ [] → word ≡ identity_word 1 (length c) start
+    → start ≡ first + words_in (take i cs) → words ≡ old ++ clause_words first (take i cs) → new ≡ words ++ word ∷ [] → word ≡ identity_word 1 (length c) start
     → new ≡ old ++ clause_words first (take (i + 1) cs)
 clause_words_more first start i cs c new words old word within here from is pushed word_is =
     let cut : take (i + 1) cs ≡ take i cs ++ c ∷ [] = take_more cs i [] within ∙ ap (λ (d : Clause). take i cs ++ d ∷ []) (sym here) in
-    let place : word ≡ identity_word 1 (length c) (first + sum_by length (take i cs)) = word_is ∙ ap (identity_word 1 (length c)) from in
+    let place : word ≡ identity_word 1 (length c) (first + words_in (take i cs)) = word_is ∙ ap (identity_word 1 (length c)) from in
     pushed ∙ ap (λ (ws : List ℕ). ws ++ word ∷ []) is
     ∙ append_assoc old (clause_words first (take i cs)) (word ∷ [])
     ∙ ap (λ (ws : List ℕ). old ++ ws)
     (ap (λ (n : ℕ). clause_words first (take i cs) ++ n ∷ []) place ∙ sym (clause_words-append first (take i cs) (c ∷ [])) ∙ ap (clause_words first) (sym cut))
 
 pub literal_words_more : (i : ℕ) (cs : List Clause) (c : Clause) (words old : List ℕ) → i < length cs → c ≡ get_or cs i [] → words ≡ old ++ literal_words (take i cs)
-    → words ++ map code_of c ≡ old ++ literal_words (take (i + 1) cs)
+    → words ++ packed c ≡ old ++ literal_words (take (i + 1) cs)
 literal_words_more i cs c words old within here is =
     let cut : take (i + 1) cs ≡ take i cs ++ c ∷ [] = take_more cs i [] within ∙ ap (λ (d : Clause). take i cs ++ d ∷ []) (sym here) in
-    ap (λ (ws : List ℕ). ws ++ map code_of c) is
-    ∙ append_assoc old (literal_words (take i cs)) (map code_of c)
+    ap (λ (ws : List ℕ). ws ++ packed c) is
+    ∙ append_assoc old (literal_words (take i cs)) (packed c)
     ∙ ap (λ (ws : List ℕ). old ++ ws)
-    (ap (λ (ws : List ℕ). literal_words (take i cs) ++ ws) (sym (append-nil (map code_of c)))
+    (ap (λ (ws : List ℕ). literal_words (take i cs) ++ ws) (sym (append-nil (packed c)))
     ∙ sym (literal_words-append (take i cs) (c ∷ [])) ∙ ap literal_words (sym cut))
 
 pub clause_at-suc : (f : Cnf) (i : ℕ) → clause_at f (i + 1) ≡ get_or f.clauses i []
 clause_at-suc f i = let place : i + 1 - 1 ≡ i = omega arith in ap (λ n. get_or f.clauses n []) place
 
-pub sum_more : (cs : List Clause) (i : ℕ) (c : Clause) → i < length cs → c ≡ get_or cs i [] → sum_by length (take (i + 1) cs) ≡ sum_by length (take i cs) + length c
-sum_more cs i c within here =
+pub words_more : (cs : List Clause) (i : ℕ) (c : Clause) → i < length cs → c ≡ get_or cs i [] → words_in (take (i + 1) cs) ≡ words_in (take i cs) + words_for (length c)
+words_more cs i c within here =
     let cut : take (i + 1) cs ≡ take i cs ++ c ∷ [] = take_more cs i [] within ∙ ap (λ (d : Clause). take i cs ++ d ∷ []) (sym here) in
-    let one = sum_by-append length (take i cs) (c ∷ []) in
-    let last = sum_by-cons length c [] in
-    omega (arith, ap (sum_by length) cut)
+    let one = sum_by-append (λ d. words_for (length d)) (take i cs) (c ∷ []) in
+    let last = words_in-cons c [] in
+    omega (arith, ap words_in cut)
 
 -- How long the parts are
 
 pub length-clause_words : (start : ℕ) (cs : List Clause) → length (clause_words start cs) ≡ length cs
 length-clause_words start [] = refl
-length-clause_words start (c ∷ cs) = let rest = length-clause_words (start + length c) cs in omega arith
+length-clause_words start (c ∷ cs) = let rest = length-clause_words (start + words_for (length c)) cs in omega arith
 
-pub length-literal_words : (cs : List Clause) → length (literal_words cs) ≡ sum_by length cs
+pub length-literal_words : (cs : List Clause) → length (literal_words cs) ≡ words_in cs
 length-literal_words [] = refl
-length-literal_words (c ∷ cs) = let rest = length-literal_words cs in omega (arith, length-append (map code_of c) (literal_words cs), length-map c code_of, sum_by-cons length c cs)
+length-literal_words (c ∷ cs) = let rest = length-literal_words cs in omega (arith, length-append (packed c) (literal_words cs), length-packed c, words_in-cons c cs)
 
 -- All words, from what each step of the loops leaves
 pub opened_words : (f : Cnf) (p : LayoutValue) (first n k : ℕ) (w1 w2 w3 w4 w5 : List ℕ) → Fits p f → first ≡ last_identity p + 1 → n ≡ last_identity p + 1 → k ≡ row_words p
@@ -92,7 +106,8 @@ opened_words f p first n k w1 w2 w3 w4 w5 fits from to all e1 e2 e3 e4 e5 =
     ∙ ap (λ (m : ℕ). front ++ replicate m 0) (omega (arith, fits.clauses)) in
     let len3 : length w3 ≡ 1 + last_identity p = ap length w3_is ∙ omega (arith, length-append front vacant, length-clause_words (1 + last_identity p) cs, length-replicate {A = ℕ} (p.streams * p.lines) 0, fits.clauses) in
     let w4_is : w4 ≡ front ++ vacant ++ literal_words cs = e4 ∙ ap (λ (ws : List ℕ). ws ++ literal_words cs) w3_is in
-    let len4 : length w4 ≡ 1 + last_identity p + p.literals = ap length e4 ∙ omega (arith, length-append w3 (literal_words cs), length-literal_words cs, fits.literals) in
+    let len4 : length w4 ≡ 1 + last_identity p + length (literal_words cs) = ap length e4 ∙ omega (arith, length-append w3 (literal_words cs)) in
+    let few : length (literal_words cs) ≤ p.literals = omega (arith, length-literal_words cs, words_in-le cs, fits.literals) in
     e5 ∙ ap (λ (ws : List ℕ). ws ++ replicate (k - length w4) 0) (take_all k w4 (omega arith) ∙ w4_is)
     ∙ ap (λ (m : ℕ). front ++ vacant ++ literal_words cs ++ replicate m 0) (omega arith)
 
@@ -103,7 +118,7 @@ length-opening_words f p fits =
     let front : List ℕ = 0 ∷ clause_words (1 + last_identity p) f.clauses in
     let vacant : List ℕ = replicate (p.streams * p.lines) 0 in
     let texts : List ℕ = literal_words f.clauses in
-    let rooms : List ℕ = replicate (p.streams * p.room) 0 in
+    let rooms : List ℕ = replicate (p.literals + p.streams * p.room - length (literal_words f.clauses)) 0 in
     omega (
       arith,
       length-append (front ++ vacant ++ texts) rooms,
@@ -111,8 +126,9 @@ length-opening_words f p fits =
       length-append front vacant,
       length-clause_words (1 + last_identity p) f.clauses,
       length-replicate {A = ℕ} (p.streams * p.lines) 0,
-      length-replicate {A = ℕ} (p.streams * p.room) 0,
+      length-replicate {A = ℕ} (p.literals + p.streams * p.room - length (literal_words f.clauses)) 0,
       length-literal_words f.clauses,
+      words_in-le f.clauses,
       fits.clauses,
       fits.literals,
     )
@@ -122,23 +138,23 @@ clause_word_at : (id start : ℕ) (cs : List Clause) (back : List ℕ) (k : ℕ)
     → get_or (clause_words start cs ++ back) k 0 ≡ kept_word 1 (kept_in (clauses_spelling id start cs) (id + k))
 clause_word_at id start [] back k within = absurd (omega arith)
 clause_word_at id start (c ∷ cs) back zero within =
-    ap (kept_word 1) (sym (cond-true (eqb id (id + 0)) (Some (record { start = start; literals = c })) (kept_in (clauses_spelling (id + 1) (start + length c) cs) (id + 0)) (eq-eqb id (id + 0) (omega arith))))
+    ap (kept_word 1) (sym (cond-true (eqb id (id + 0)) (Some (record { start = start; literals = c })) (kept_in (clauses_spelling (id + 1) (start + words_for (length c)) cs) (id + 0)) (eq-eqb id (id + 0) (omega arith))))
 clause_word_at id start (c ∷ cs) back (suc k) within =
     let next : id + suc k ≡ id + 1 + k = omega arith in
-    clause_word_at (id + 1) (start + length c) cs back k (omega arith)
-    ∙ ap (kept_word 1) (sym (cond-false (eqb id (id + 1 + k)) (Some (record { start = start; literals = c })) (kept_in (clauses_spelling (id + 1) (start + length c) cs) (id + 1 + k)) (ne_eqb id (id + 1 + k) (λ same. omega arith))))
+    clause_word_at (id + 1) (start + words_for (length c)) cs back k (omega arith)
+    ∙ ap (kept_word 1) (sym (cond-false (eqb id (id + 1 + k)) (Some (record { start = start; literals = c })) (kept_in (clauses_spelling (id + 1) (start + words_for (length c)) cs) (id + 1 + k)) (ne_eqb id (id + 1 + k) (λ same. omega arith))))
     ∙ ap (λ (j : ℕ). kept_word 1 (kept_in (clauses_spelling id start (c ∷ cs)) j)) (sym next)
 
 vacant_at : (n k : ℕ) (back : List ℕ) → k < n → get_or (replicate n 0 ++ back) k 0 ≡ 0
 vacant_at n k back within = get_or_append_left (replicate n 0) back 0 k (omega (arith, length-replicate {A = ℕ} n 0)) ∙ get_or-replicate n k 0 0 within
 
--- a clause's literals lie at its place
-lies_front : (pre back : List ℕ) (c : Clause) (place : ℕ) → length pre ≡ place → LiesAt (pre ++ (map code_of c ++ back)) place c
-lies_front pre back [] place len = tt
-lies_front pre back (l ∷ c) place len = (
-  get_or_at pre (code_of l) (map code_of c ++ back) 0 place len,
-  subst (λ (ws : List ℕ). LiesAt ws (place + 1) c) (append_assoc pre (code_of l ∷ []) (map code_of c ++ back))
-      (lies_front (pre ++ code_of l ∷ []) back c (place + 1) (omega (arith, length-append pre (code_of l ∷ [])))),
+-- words stand at their place
+stand_front : (pre back ws : List ℕ) (place : ℕ) → length pre ≡ place → StandAt (pre ++ (ws ++ back)) place ws
+stand_front pre back [] place len = tt
+stand_front pre back (w ∷ ws) place len = (
+  get_or_at pre w (ws ++ back) 0 place len,
+  subst (λ (vs : List ℕ). StandAt vs (place + 1) ws) (append_assoc pre (w ∷ []) (ws ++ back))
+      (stand_front (pre ++ w ∷ []) back ws (place + 1) (omega (arith, length-append pre (w ∷ [])))),
 )
 
 lies_clauses : (pre back : List ℕ) (id start : ℕ) (cs : List Clause) (j : ℕ) (kept : Kept) → length pre ≡ start → kept_in (clauses_spelling id start cs) j ≡ Some kept
@@ -146,13 +162,13 @@ lies_clauses : (pre back : List ℕ) (id start : ℕ) (cs : List Clause) (j : �
 lies_clauses pre back id start [] j kept len here = absurd (cc)
 lies_clauses pre back id start (c ∷ cs) j kept len here =
     let tail : List ℕ = literal_words cs ++ back in
-    let cut : map code_of c ++ literal_words cs ++ back ≡ map code_of c ++ tail = append_assoc (map code_of c) (literal_words cs) back in
-    let whole : pre ++ (map code_of c ++ tail) ≡ pre ++ (map code_of c ++ literal_words cs ++ back) = ap (λ (ws : List ℕ). pre ++ ws) (sym cut) in
-    elim (either_kept (eqb id j) (record { start = start; literals = c }) (kept_in (clauses_spelling (id + 1) (start + length c) cs) j) kept here) [
-      | inl same ↦ subst (λ (k : Kept). LiesAt (pre ++ (map code_of c ++ literal_words cs ++ back)) k.start k.literals) same
-          (subst (λ (ws : List ℕ). LiesAt ws start c) whole (lies_front pre tail c start len))
-      | inr later ↦ subst (λ (ws : List ℕ). LiesAt ws kept.start kept.literals) (append_assoc pre (map code_of c) tail ∙ whole)
-          (lies_clauses (pre ++ map code_of c) back (id + 1) (start + length c) cs j kept (omega (arith, length-append pre (map code_of c), length-map c code_of)) later)
+    let cut : packed c ++ literal_words cs ++ back ≡ packed c ++ tail = append_assoc (packed c) (literal_words cs) back in
+    let whole : pre ++ (packed c ++ tail) ≡ pre ++ (packed c ++ literal_words cs ++ back) = ap (λ (ws : List ℕ). pre ++ ws) (sym cut) in
+    elim (either_kept (eqb id j) (record { start = start; literals = c }) (kept_in (clauses_spelling (id + 1) (start + words_for (length c)) cs) j) kept here) [
+      | inl same ↦ subst (λ (k : Kept). LiesAt (pre ++ (packed c ++ literal_words cs ++ back)) k.start k.literals) same
+          (subst (λ (ws : List ℕ). LiesAt ws start c) whole (stand_front pre tail (packed c) start len))
+      | inr later ↦ subst (λ (ws : List ℕ). LiesAt ws kept.start kept.literals) (append_assoc pre (packed c) tail ∙ whole)
+          (lies_clauses (pre ++ packed c) back (id + 1) (start + words_for (length c)) cs j kept (omega (arith, length-append pre (packed c), length-packed c)) later)
     ]
 
 below_one : (id : ℕ) → 0 < id → id ≡ suc (id - 1)
@@ -165,7 +181,7 @@ opening_slot f p id fits identity =
     let words : List ℕ = clause_words (1 + last_identity p) cs in
     let vacant : List ℕ = replicate (p.streams * p.lines) 0 in
     let texts : List ℕ = literal_words cs in
-    let rooms : List ℕ = replicate (p.streams * p.room) 0 in
+    let rooms : List ℕ = replicate (p.literals + p.streams * p.room - length (literal_words f.clauses)) 0 in
     let xs = clauses_spelling 1 (1 + last_identity p) cs in
     let k : ℕ = id - 1 in
     let tail : words ++ vacant ++ texts ++ rooms ≡ words ++ (vacant ++ (texts ++ rooms)) =
@@ -190,7 +206,7 @@ opening_text : (f : Cnf) (p : LayoutValue) (j : ℕ) (kept : Kept) → Fits p f 
 opening_text f p j kept fits here =
     let front : List ℕ = 0 ∷ clause_words (1 + last_identity p) f.clauses in
     let vacant : List ℕ = replicate (p.streams * p.lines) 0 in
-    let rooms : List ℕ = replicate (p.streams * p.room) 0 in
+    let rooms : List ℕ = replicate (p.literals + p.streams * p.room - length (literal_words f.clauses)) 0 in
     subst (λ (ws : List ℕ). LiesAt ws kept.start kept.literals) (sym (append_assoc (front ++ vacant) (literal_words f.clauses) rooms))
     (lies_clauses (front ++ vacant) rooms 1 (1 + last_identity p) f.clauses j kept
     (omega (arith, length-append front vacant, length-clause_words (1 + last_identity p) f.clauses, length-replicate {A = ℕ} (p.streams * p.lines) 0, fits.clauses)) here)

@@ -1,23 +1,26 @@
 -- Lemmas on places: streams write apart from each other, from the formula and from the identities; and steps on literals.
-use Rattle.std.proofs.Common.{◌≡◌, ◌≢◌, ℕ, ℤ, ◌+◌, ◌-◌, ◌*◌, ◌<◌, ◌≤◌, ◌⊎◌, List, [], ◌∷◌, ◌++◌, length, set, slice_index, slice_set, refl, sym, ap, subst, ◌∙◌, inl, inr, arith, length-append, length-set, get_or-set_same, get_or-set_other}
+use Rattle.std.proofs.Common.{◌≡◌, ◌≢◌, ℕ, ℤ, ◌+◌, ◌-◌, ◌*◌, ◌/◌, ◌%◌, ◌<◌, ◌≤◌, ◌⊎◌, List, [], ◌∷◌, ◌++◌, Option, length, set, slice_index, slice_set, refl, sym, ap, subst, ◌∙◌, inl, inr, arith, length-append, length-set, get_or-set_same, get_or-set_other}
 use Rattle.std.proofs.Math.Nat.{mul-le-mul_right}
 use Rattle.std.proofs.lemmas.Bool.{cases_eq, cases_lt}
 use Rattle.std.proofs.lemmas.List.{set-get_or}
 use Rattle.atomic_table.proofs.Lists.{set_again}
+use Rattle.std.specs.Prelude.{IfSome}
+use Rattle.lrup_model.specs.Clause.{Clause}
 use Rattle.lrup_model.specs.Formula.{Cnf}
 use Rattle.lrup_model.specs.Layout.{LayoutValue, IsStream, last_identity, row_words}
 use Rattle.lrup_model.specs.Event.{History, spent}
 use Rattle.lrup_model.specs.History.{IsLegal}
 use Rattle.lrup_model.specs.Place.{Kept}
 use Rattle.lrup_model.specs.Pass.{Spelling, kept_in}
-use Rattle.lrup_model.specs.Literal.{code_of}
-use Rattle.idwords.specs.Spelling.{first_place, top_after}
+use Rattle.lrup_model.specs.PassLemmas.{fair_follows}
+use Rattle.idwords.specs.Words.{words_for, pair_of, literal_word, half_of}
+use Rattle.idwords.specs.Spelling.{first_place, words_spent, top_after}
 use Rattle.idwords.specs.Rule.{Part, part_stream, Keeps, Stands}
 use Rattle.idwords.specs.Steps.{Reads, Writes}
-use Rattle.idwords.proofs.SpellingLemmas.{IsLodged, lodged, keeps_spelt}
-use Rattle.idwords.proofs.WordLemmas.{lies_get, lies-snoc, lies-set, code_injective}
+use Rattle.idwords.proofs.SpellingLemmas.{words_spent-own, words_within, IsLodged, lodged, keeps_spelt}
+use Rattle.idwords.proofs.WordLemmas.{HasCode, some_literals, lies_get, lies-pair, lies-set, word_injective}
 use Rattle.idwords.proofs.ViewLemmas.{moved, times-same}
-use Rattle.idwords.proofs.RuleLemmas.{stands_at, stands_words, spent_log}
+use Rattle.idwords.proofs.RuleLemmas.{stands_at, stands_words, fair_part, spent_log}
 use Rattle.idwords.proofs.StepLemmas.{OwnStep}
 
 -- Rooms apart
@@ -40,14 +43,15 @@ outside_room p s t place from to mine theirs other above below first last =
 module _ (f : Cnf) (p : LayoutValue) (log : History) (legal : IsLegal f p log) where
   -- no clause's literals lie at a place of a stream's room at or above its top
   pub outside_text : (s place : ℕ) (kept : Kept) → IsStream p s → top_after p s log ≤ place → place < first_place p s + p.room → IsLodged p log kept
-      → (place < kept.start) ⊎ (kept.start + length kept.literals ≤ place)
+      → (place < kept.start) ⊎ (kept.start + words_for (length kept.literals) ≤ place)
   outside_text s place kept mine above below (inl formula) = inr (omega (arith, formula.last))
   outside_text s place kept mine above below (inr (t, lodging)) =
       elim (cases_eq t s) [
         | inl same ↦
             let top : top_after p t log ≡ top_after p s log = ap (λ (u : ℕ). top_after p u log) same in
             inr (omega (arith, lodging.last))
-        | inr other ↦ outside_room p s t place kept.start (kept.start + length kept.literals) mine lodging.stream other (omega arith) below lodging.first (omega (arith, lodging.last, legal.room t))
+        | inr other ↦ outside_room p s t place kept.start (kept.start + words_for (length kept.literals)) mine lodging.stream other (omega arith) below lodging.first
+            (omega (arith, lodging.last, legal.room t, words_within t log))
       ]
 
 -- a stream's room lies inside the row
@@ -56,7 +60,13 @@ within_row p s place all mine count below =
     let more : (s - 1 + 1) * p.room ≤ p.streams * p.room = mul-le-mul_right p.room (omega (arith, mine.0, mine.1)) in
     omega arith
 
--- A load of a literal
+-- and so what a stream's clauses take, and a draft inside what they leave
+pub top_within : (p : LayoutValue) (s top n room : ℕ) (mine : History) → IsStream p s → top ≡ top_after p s mine → room + spent s mine ≡ p.room → n ≤ room → top + n ≤ row_words p
+top_within p s top n room mine stream at left short =
+    let more : (s - 1 + 1) * p.room ≤ p.streams * p.room = mul-le-mul_right p.room (omega (arith, stream.0, stream.1)) in
+    omega (arith, words_within s mine)
+
+-- A load of literals
 
 pub reads : (v : Part) (seat place : ℕ) → OwnStep v seat place (λ n. n) (λ n w. Reads place v n w)
 reads v seat place more words views kept here small =
@@ -72,33 +82,40 @@ reads v seat place more words views kept here small =
       record {
         same = refl;
         text = λ id k text l there at here_is.
-            ap (λ (n : ℕ). slice_index words n) here_is
-            ∙ lies_get words text.start text.literals k l
+            let derived = (fair_follows v.view (fair_part v more words kept.plan kept.legal stands)).each id text there in
+            ap (λ (n : ℕ). half_of (k % 2) (slice_index words n)) here_is
+            ∙ lies_get f.vars words text.start text.literals k l kept.plan.formula.vars derived.0.literals
             (kept.texts id text (keeps_spelt f p v.view.seen more id text (ap (λ (xs : List Spelling). kept_in xs id) (sym stands.spelt) ∙ there))) at;
       },
     )
 
--- A store of a literal
+-- A store of literals
 
-written : (v : Part) (seat : ℕ) (l : ℤ) → spent (part_stream v) v.view.mine + length v.draft < v.view.caller.layout.room
-    → OwnStep v seat (v.top + length v.draft) (λ _. code_of l) (λ n w. Writes (code_of l) v w)
-written v seat l room more words views kept here small =
+written : (v : Part) (seat : ℕ) (l : ℤ) (m : Option ℤ) → length v.draft % 2 ≡ 0 → spent (part_stream v) v.view.mine + length (v.draft ++ pair_of l m) ≤ v.view.caller.layout.room
+    → HasCode l → IfSome m HasCode → OwnStep v seat (v.top + length v.draft / 2) (λ _. literal_word l m) (λ n w. Writes (literal_word l m) v w)
+written v seat l m even room first second more words views kept here small =
     let f = v.view.caller.formula in
     let p = v.view.caller.layout in
     let s = part_stream v in
     let log = v.view.seen ++ more in
-    let place : ℕ = v.top + length v.draft in
+    let word : ℕ = literal_word l m in
+    let place : ℕ = v.top + length v.draft / 2 in
+    let some = some_literals l m in
+    let longer : length (v.draft ++ pair_of l m) ≡ length v.draft + length (pair_of l m) = length-append v.draft (pair_of l m) in
     let stands = stands_at v more words views seat kept here in
-    let all : spent s v.view.mine ≡ spent s log = spent_log log v.view.mine s stands.mine in
+    let all : words_spent s v.view.mine ≡ words_spent s log = words_spent-own log v.view.mine s stands.mine in
+    let few : words_spent s v.view.mine ≤ spent s v.view.mine = words_within s v.view.mine in
     let top : v.top ≡ top_after p s v.view.mine = stands.top in
-    let new : List ℕ = slice_set words place (code_of l) in
+    let new : List ℕ = slice_set words place word in
     let above : last_identity p < place = omega arith in
-    let within : place < length words = within_row p s place (length words) stands.stream kept.count (omega arith) in
-    let w : Part = record v { draft = v.draft ++ l ∷ [] } in
+    let below : place < first_place p s + p.room = omega arith in
+    let within : place < length words = within_row p s place (length words) stands.stream kept.count below in
+    let w : Part = record v { draft = v.draft ++ pair_of l m } in
     let elsewhere : (q : Part) → part_stream q ≢ s → Stands f p log words q → Stands f p log new q = λ q other there.
     stands_words f p log words new q there
-    (lies-set words q.top q.draft place (code_of l) there.draft
-    (outside_room p s (part_stream q) place q.top (q.top + length q.draft) stands.stream there.stream other (omega arith) (omega arith) (omega (arith, there.top)) (omega (arith, there.top, there.room)))) in
+    (lies-set words q.top q.draft place word there.draft
+    (outside_room p s (part_stream q) place q.top (q.top + words_for (length q.draft)) stands.stream there.stream other (omega arith) below (omega (arith, there.top))
+    (omega (arith, there.top, there.room, words_within (part_stream q) q.view.mine)))) in
     let mine : Stands f p log new w = record {
       formula = stands.formula;
       layout = stands.layout;
@@ -108,29 +125,30 @@ written v seat l room more words views kept here small =
       mine = stands.mine;
       spelt = stands.spelt;
       top = stands.top;
-      room = omega (arith, length-append v.draft (l ∷ []));
-      draft = lies-snoc new v.top v.draft l (lies-set words v.top v.draft place (code_of l) stands.draft (inr (omega arith))) (get_or-set_same words place (code_of l) 0 within);
+      room = room;
+      draft = lies-pair new v.top v.draft l m even (lies-set words v.top v.draft place word stands.draft (inr (omega arith))) (get_or-set_same words place word 0 within);
     } in (
       w,
       log,
       record {
         plan = kept.plan;
         legal = kept.legal;
-        count = length-set words place (code_of l) ∙ kept.count;
-        first = get_or-set_other words place 0 (code_of l) 0 (λ same. omega arith) ∙ kept.first;
-        slots = λ id identity. get_or-set_other words place id (code_of l) 0 (λ same. omega (arith, identity.1)) ∙ kept.slots id identity;
-        texts = λ id text there. lies-set words text.start text.literals place (code_of l) (kept.texts id text there)
-            (outside_text f p log kept.legal s place text stands.stream (omega arith) (omega arith) (lodged f p log id text (omega (arith, kept.plan.layout.some_stream)) kept.plan.fits kept.legal.events there));
+        count = length-set words place word ∙ kept.count;
+        first = get_or-set_other words place 0 word 0 (λ same. omega arith) ∙ kept.first;
+        slots = λ id identity. get_or-set_other words place id word 0 (λ same. omega (arith, identity.1)) ∙ kept.slots id identity;
+        texts = λ id text there. lies-set words text.start text.literals place word (kept.texts id text there)
+            (outside_text f p log kept.legal s place text stands.stream (omega arith) below (lodged f p log id text (omega (arith, kept.plan.layout.some_stream)) kept.plan.fits kept.legal.events there));
         parts = moved (Stands f p log words) (Stands f p log new) views seat v w here (kept.once s) kept.parts elsewhere mine;
         once = times-same views seat v w here refl kept.once;
       },
-      λ k same. ap (λ (x : ℤ). record v { draft = v.draft ++ x ∷ [] }) (code_injective l k same),
+      λ k n code code' same. ap (λ (d : Clause). record v { draft = v.draft ++ d }) (word_injective l k m n first code second code' same),
     )
 
--- the same, by the place and the code
-pub written_at : (v : Part) (seat : ℕ) (l : ℤ) (place code : ℕ) → spent (part_stream v) v.view.mine + length v.draft < v.view.caller.layout.room
-    → v.top + length v.draft ≡ place → code_of l ≡ code → OwnStep v seat place (λ _. code) (λ n w. Writes code v w)
-written_at v seat l place code room at is =
-    let here : OwnStep v seat place (λ _. code_of l) (λ n w. Writes (code_of l) v w) =
-    subst (λ (i : ℕ). OwnStep v seat i (λ _. code_of l) (λ n w. Writes (code_of l) v w)) at (written v seat l room) in
+-- the same, by the place and the word
+pub written_at : (v : Part) (seat : ℕ) (l : ℤ) (m : Option ℤ) (place word : ℕ) → length v.draft % 2 ≡ 0
+    → spent (part_stream v) v.view.mine + length (v.draft ++ pair_of l m) ≤ v.view.caller.layout.room → HasCode l → IfSome m HasCode
+    → v.top + length v.draft / 2 ≡ place → literal_word l m ≡ word → OwnStep v seat place (λ _. word) (λ n w. Writes word v w)
+written_at v seat l m place word even room first second at is =
+    let here : OwnStep v seat place (λ _. literal_word l m) (λ n w. Writes (literal_word l m) v w) =
+    subst (λ (i : ℕ). OwnStep v seat i (λ _. literal_word l m) (λ n w. Writes (literal_word l m) v w)) at (written v seat l m even room first second) in
     subst (λ (k : ℕ). OwnStep v seat place (λ _. k) (λ n w. Writes k v w)) is here

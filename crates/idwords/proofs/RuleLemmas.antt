@@ -17,10 +17,10 @@ use Rattle.lrup_model.specs.Running.{run-append, legal-append, own-append, spent
 use Rattle.lrup_model.specs.HistoryLemmas.{IsLegal-front, own-mine, own-other, spent-own, spent_one}
 use Rattle.lrup_model.specs.PassLemmas.{moves_step}
 use Rattle.idwords.specs.Words.{word_of, LiesAt}
-use Rattle.idwords.specs.Spelling.{top_after, event_spelling, spelling_of}
+use Rattle.idwords.specs.Spelling.{words_taken, words_spent, top_after, event_spelling, spelling_of}
 use Rattle.idwords.specs.Rule.{Part, part_stream, Stands, Keeps, IsPlan}
 use Rattle.idwords.specs.Steps.{Calls}
-use Rattle.idwords.proofs.SpellingLemmas.{lies_within, spelling-snoc, keeps_spelt, spelt}
+use Rattle.idwords.proofs.SpellingLemmas.{words_spent-append, words_spent_one, lies_within, spelling-snoc, keeps_spelt, spelt}
 use Rattle.idwords.proofs.ViewLemmas.{all_at, moved, times-same}
 
 -- Own events
@@ -141,10 +141,10 @@ state_next : (f : Cnf) (log : History) (e : Event) (id : ℕ) → state f (log +
 state_next f log e id = ap (λ (m : State). m id) (run-append (opening f) log (e ∷ []))
 
 -- the top after a call of the stream
-pub event_top : (p : LayoutValue) (s : ℕ) (mine : History) (e : Event) → stream_of e ≡ s → top_after p s (mine ++ e ∷ []) ≡ top_after p s mine + size_of e
+pub event_top : (p : LayoutValue) (s : ℕ) (mine : History) (e : Event) → stream_of e ≡ s → top_after p s (mine ++ e ∷ []) ≡ top_after p s mine + words_taken e
 event_top p s mine e is =
-    let all : spent s (mine ++ e ∷ []) ≡ spent s mine + spent s (e ∷ []) = spent-append s mine (e ∷ []) in
-    let one : spent s (e ∷ []) ≡ size_of e = spent_one s e is in
+    let all : words_spent s (mine ++ e ∷ []) ≡ words_spent s mine + words_spent s (e ∷ []) = words_spent-append s mine (e ∷ []) in
+    let one : words_spent s (e ∷ []) ≡ words_taken e = words_spent_one s e is in
     omega arith
 
 -- what an event's words have to do

@@ -1,5 +1,5 @@
 -- Lemmas on a seat: what a step asks of its token, from what the contract's value of the seat has.
-use Rattle.std.proofs.Common.{◌≡◌, ◌≢◌, ◌+◌, ◌-◌, ◌<◌, ℕ, eqb, List, [], ◌∷◌, length, refl, sym, ap, ap₂, subst, ◌∙◌, arith, eq-eqb, ne_eqb}
+use Rattle.std.proofs.Common.{◌≡◌, ◌≢◌, ◌+◌, ◌-◌, ◌<◌, ◌≤◌, ℕ, eqb, List, [], ◌∷◌, length, refl, sym, ap, ap₂, subst, ◌∙◌, arith, eq-eqb, ne_eqb}
 use Rattle.std.proofs.lemmas.Bool.{cond-true, cond-false}
 use Rattle.atomic_table.specs.Seated.{TableId}
 use Rattle.atomic_table.specs.Table.{Step, Me, Allows}
@@ -13,10 +13,12 @@ use Rattle.lrup_model.specs.Running.{spent-append}
 use Rattle.lrup_model.specs.HistoryLemmas.{spent_one}
 use Rattle.lrup_model.specs.declared.clause_map.Published.{Published}
 use Rattle.lrup_model.specs.declared.clause_map.Published.TheVariants as publishing
-use Rattle.idwords.specs.Spelling.{first_place}
+use Rattle.idwords.specs.Words.{words_for}
+use Rattle.idwords.specs.Spelling.{first_place, words_taken, words_spent}
 use Rattle.idwords.specs.Rule.{Part, part_stream, IsKept}
 use Rattle.idwords.specs.Steps.{Changes, Claims, published_at}
 use Rattle.idwords.specs.Seats.{SeatValue, first_part, seat_value, part_of, IsSeated}
+use Rattle.idwords.proofs.SpellingLemmas.{words_spent-append, words_spent_one, words_within}
 use Rattle.idwords.proofs.StepLemmas.{OwnStep, allows}
 
 -- the row that a seat is of has as many words as the seat's layout says
@@ -72,6 +74,9 @@ module _ {S : Type 0} where
       let room_is : p.room ≡ w.view.caller.layout.room = ap (λ (q : LayoutValue). q.room) (sym layout) in
       let words : table'.words ≡ row_words w.view.caller.layout = ap (λ (t : TableId). t.words) same ∙ seated.words ∙ ap row_words (sym layout) in
       let spends : spent (part_stream w) w.view.mine ≡ spent s v.view.mine + spent s es = ap₂ (λ (t : ℕ) (h : History). spent t h) stream moves.mine ∙ spent-append s v.view.mine es in
+      let takes : words_spent (part_stream w) w.view.mine ≡ words_spent s v.view.mine + words_spent s es =
+      ap₂ (λ (t : ℕ) (h : History). words_spent t h) stream moves.mine ∙ words_spent-append s v.view.mine es in
+      let none_taken : words_spent s es ≤ spent s es = words_within s es in
       let first : first_place w.view.caller.layout (part_stream w) ≡ first_place p s = ap₂ (λ (q : LayoutValue) (t : ℕ). first_place q t) layout stream in
       let len : length w.draft ≡ length v.draft = ap length draft_stays in
       seat_of table' me' w top drafted room one none (record {
@@ -88,7 +93,7 @@ module _ {S : Type 0} where
   -- after a publish that found a word
   pub seated_claim : (table table' : TableId) (me me' : Me S (List Part)) (top drafted room found id : ℕ) (one : Step S) → IsSeated table me top drafted room → table' ≡ table
       → Changes Claims one me found me'
-      → (found ≡ 0 → IsSeated table' me' (top + drafted) 0 (room - drafted)) × (found ≢ 0 → IsSeated table' me' top 0 room)
+      → (found ≡ 0 → IsSeated table' me' (top + words_for drafted) 0 (room - drafted)) × (found ≢ 0 → IsSeated table' me' top 0 room)
   seated_claim table table' me me' top drafted room found id one seated same told =
       let v : Part = first_part me.0 in
       let s = part_stream v in
@@ -105,12 +110,14 @@ module _ {S : Type 0} where
       let e : Published → Event = λ r. events.publish s one.word v.draft r in
       let spends : spent (part_stream w) w.view.mine ≡ spent s v.view.mine + size_of (e (published_at found)) =
       ap₂ (λ (t : ℕ) (h : History). spent t h) stream claim.calls.moves.mine ∙ spent-append s v.view.mine (e (published_at found) ∷ []) ∙ ap (λ (n : ℕ). spent s v.view.mine + n) (spent_one s (e (published_at found)) refl) in
+      let takes : words_spent (part_stream w) w.view.mine ≡ words_spent s v.view.mine + words_taken (e (published_at found)) =
+      ap₂ (λ (t : ℕ) (h : History). words_spent t h) stream claim.calls.moves.mine ∙ words_spent-append s v.view.mine (e (published_at found) ∷ []) ∙ ap (λ (n : ℕ). words_spent s v.view.mine + n) (words_spent_one s (e (published_at found)) refl) in
       let first : first_place w.view.caller.layout (part_stream w) ≡ first_place p s = ap₂ (λ (q : LayoutValue) (t : ℕ). first_place q t) layout stream in (
         λ is.
             let done : published_at found ≡ publishing.Done = cond-true (eqb found 0) publishing.Done publishing.Taken (eq-eqb found 0 is) in
             let size : size_of (e (published_at found)) ≡ length v.draft = ap (λ (r : Published). size_of (e r)) done in
-            let grown : w.top ≡ v.top + length v.draft = claim.top ∙ cond-true (eqb found 0) (v.top + length v.draft) v.top (eq-eqb found 0 is) in
-            seat_of table' me' w (top + drafted) 0 (room - drafted) all.1 none (record {
+            let grown : w.top ≡ v.top + words_for (length v.draft) = claim.top ∙ cond-true (eqb found 0) (v.top + words_for (length v.draft)) v.top (eq-eqb found 0 is) in
+            seat_of table' me' w (top + words_for drafted) 0 (room - drafted) all.1 none (record {
               one = refl;
               fair = claim.calls.fair;
               words = words;
@@ -123,7 +130,7 @@ module _ {S : Type 0} where
         λ not.
             let taken : published_at found ≡ publishing.Taken = cond-false (eqb found 0) publishing.Done publishing.Taken (ne_eqb found 0 not) in
             let size : size_of (e (published_at found)) ≡ 0 = ap (λ (r : Published). size_of (e r)) taken in
-            let stays : w.top ≡ v.top = claim.top ∙ cond-false (eqb found 0) (v.top + length v.draft) v.top (ne_eqb found 0 not) in
+            let stays : w.top ≡ v.top = claim.top ∙ cond-false (eqb found 0) (v.top + words_for (length v.draft)) v.top (ne_eqb found 0 not) in
             seat_of table' me' w top 0 room all.1 none (record {
               one = refl;
               fair = claim.calls.fair;

@@ -2,23 +2,40 @@
 use Rattle.std.proofs.Common.{◌≡◌, ℕ, ◌+◌, ◌-◌, ◌*◌, ◌<◌, ◌≤◌, ◌⊎◌, Bool, true, false, cond, eqb, zero, suc, List, [], ◌∷◌, ◌++◌, length, get_or, Option, None, Some, refl, sym, ap, subst, ◌∙◌, inl, inr, arith, append-nil, append_assoc, eq-eqb, ne_eqb}
 use Rattle.std.specs.List.{sum_by, AllByRecursion}
 use Rattle.std.proofs.lemmas.Bool.{cases_eq, cases_lt, cond-true, cond-false}
-use Rattle.std.proofs.lemmas.List.Sums.{sum_by-cons}
+use Rattle.std.proofs.lemmas.List.Sums.{sum_by-cons, sum_by-append, sum_by-le-sum_by}
 use Rattle.lrup_model.specs.Clause.{Clause}
 use Rattle.lrup_model.specs.Formula.{Cnf, IsCnf, IsFormulaClause, clause_at}
 use Rattle.std.proofs.Math.Nat.{mul-le-mul_right}
 use Rattle.lrup_model.specs.Layout.{LayoutValue, Fits, IsStream, last_identity, row_words}
 use Rattle.lrup_model.specs.Event as events
-use Rattle.lrup_model.specs.Event.{Event, History, spent, size_of, stream_of}
+use Rattle.lrup_model.specs.Event.{Event, History, own, spent, size_of, stream_of}
 use Rattle.lrup_model.specs.State.{State, Slot, absent, live, retired, put, retire_slot, opening, after, run, state, Answers}
 use Rattle.lrup_model.specs.History.{LegalFrom, IsLegal}
 use Rattle.lrup_model.specs.Place.{Kept, KeepsSpelt}
 use Rattle.lrup_model.specs.Pass.{Spelling, kept_in, IsOncePerIdentity, Spells, IsSpelt}
-use Rattle.lrup_model.specs.Running.{spent-append}
-use Rattle.lrup_model.specs.HistoryLemmas.{put-same, put-other, spent_one, legal-front, opening-formula, opening-above, opening-none}
+use Rattle.lrup_model.specs.Running.{own-append}
+use Rattle.lrup_model.specs.HistoryLemmas.{put-same, put-other, own-mine, own-own, legal-front, opening-formula, opening-above, opening-none}
 use Rattle.lrup_model.specs.OwnerLemmas.{owned}
 use Rattle.lrup_model.specs.declared.clause_map.Published.TheVariants as publishing
 use Rattle.lrup_model.specs.declared.clause_map.Retired.TheVariants as retiring
-use Rattle.idwords.specs.Spelling.{spelling, clauses_spelling, first_place, top_after, event_spelling, added_spelling, spelling_of, LieWithin}
+use Rattle.idwords.specs.Words.{words_for}
+use Rattle.idwords.specs.Spelling.{spelling, clauses_spelling, first_place, words_taken, words_spent, top_after, event_spelling, added_spelling, spelling_of, LieWithin}
+
+-- The words that were spent
+
+pub words_spent-append : (s : ℕ) (g h : History) → words_spent s (g ++ h) ≡ words_spent s g + words_spent s h
+words_spent-append s g h = ap (sum_by words_taken) (own-append g h s) ∙ sum_by-append words_taken (own g s) (own h s)
+
+pub words_spent_one : (s : ℕ) (e : Event) → stream_of e ≡ s → words_spent s (e ∷ []) ≡ words_taken e
+words_spent_one s e is = ap (sum_by words_taken) (own-mine e [] s is) ∙ omega (arith, sum_by-cons words_taken e [])
+
+-- what a stream's calls spent is what it spent in the whole history
+pub words_spent-own : (log mine : History) (s : ℕ) → own log s ≡ mine → words_spent s mine ≡ words_spent s log
+words_spent-own log mine s all = ap (λ (h : History). words_spent s h) (sym all) ∙ ap (sum_by words_taken) (own-own log s)
+
+-- they are no more than the literals
+pub words_within : (s : ℕ) (h : History) → words_spent s h ≤ spent s h
+words_within s h = sum_by-le-sum_by words_taken size_of (own h s) (λ e. omega arith)
 
 -- One history behind another
 
@@ -155,32 +172,32 @@ spells_run f p b m xs (e ∷ h) spells legal =
 clauses_below : (id start : ℕ) (cs : List Clause) (j : ℕ) → j < id → kept_in (clauses_spelling id start cs) j ≡ None
 clauses_below id start [] j below = refl
 clauses_below id start (c ∷ cs) j below =
-    cond-false (eqb id j) (Some (record { start = start; literals = c })) (kept_in (clauses_spelling (id + 1) (start + length c) cs) j) (ne_eqb id j (λ same. omega arith))
-    ∙ clauses_below (id + 1) (start + length c) cs j (omega arith)
+    cond-false (eqb id j) (Some (record { start = start; literals = c })) (kept_in (clauses_spelling (id + 1) (start + words_for (length c)) cs) j) (ne_eqb id j (λ same. omega arith))
+    ∙ clauses_below (id + 1) (start + words_for (length c)) cs j (omega arith)
 
 clauses_above : (id start : ℕ) (cs : List Clause) (j : ℕ) → id + length cs ≤ j → kept_in (clauses_spelling id start cs) j ≡ None
 clauses_above id start [] j above = refl
 clauses_above id start (c ∷ cs) j above =
-    cond-false (eqb id j) (Some (record { start = start; literals = c })) (kept_in (clauses_spelling (id + 1) (start + length c) cs) j) (ne_eqb id j (λ same. omega arith))
-    ∙ clauses_above (id + 1) (start + length c) cs j (omega arith)
+    cond-false (eqb id j) (Some (record { start = start; literals = c })) (kept_in (clauses_spelling (id + 1) (start + words_for (length c)) cs) j) (ne_eqb id j (λ same. omega arith))
+    ∙ clauses_above (id + 1) (start + words_for (length c)) cs j (omega arith)
 
 clauses_at : (id start : ℕ) (cs : List Clause) (k : ℕ) → k < length cs
     → (place : ℕ) × (kept_in (clauses_spelling id start cs) (id + k) ≡ Some (record { start = place; literals = get_or cs k [] }))
 clauses_at id start [] k within = absurd (omega arith)
 clauses_at id start (c ∷ cs) zero within =
-    (start, cond-true (eqb id (id + 0)) (Some (record { start = start; literals = c })) (kept_in (clauses_spelling (id + 1) (start + length c) cs) (id + 0)) (eq-eqb id (id + 0) (omega arith)))
+    (start, cond-true (eqb id (id + 0)) (Some (record { start = start; literals = c })) (kept_in (clauses_spelling (id + 1) (start + words_for (length c)) cs) (id + 0)) (eq-eqb id (id + 0) (omega arith)))
 clauses_at id start (c ∷ cs) (suc k) within =
-    let rest = clauses_at (id + 1) (start + length c) cs k (omega arith) in
+    let rest = clauses_at (id + 1) (start + words_for (length c)) cs k (omega arith) in
     let next : id + suc k ≡ id + 1 + k = omega arith in (
       rest.0,
       ap (λ (j : ℕ). kept_in (clauses_spelling id start (c ∷ cs)) j) next
-          ∙ cond-false (eqb id (id + 1 + k)) (Some (record { start = start; literals = c })) (kept_in (clauses_spelling (id + 1) (start + length c) cs) (id + 1 + k)) (ne_eqb id (id + 1 + k) (λ same. omega arith))
+          ∙ cond-false (eqb id (id + 1 + k)) (Some (record { start = start; literals = c })) (kept_in (clauses_spelling (id + 1) (start + words_for (length c)) cs) (id + 1 + k)) (ne_eqb id (id + 1 + k) (λ same. omega arith))
           ∙ rest.1,
     )
 
 clauses_once : (id start : ℕ) (cs : List Clause) → IsOncePerIdentity (clauses_spelling id start cs)
 clauses_once id start [] = tt
-clauses_once id start (c ∷ cs) = (clauses_below (id + 1) (start + length c) cs id (omega arith), clauses_once (id + 1) (start + length c) cs)
+clauses_once id start (c ∷ cs) = (clauses_below (id + 1) (start + words_for (length c)) cs id (omega arith), clauses_once (id + 1) (start + words_for (length c)) cs)
 
 spells_opening : (f : Cnf) (start : ℕ) → SpellsState (opening f) (clauses_spelling 1 start f.clauses)
 spells_opening f start = record {
@@ -213,11 +230,11 @@ spelt f p h legal =
 pub record LodgedOf (p : LayoutValue) (h : History) (kept : Kept) (s : ℕ) : Type 0 where
   pub stream : IsStream p s
   pub first : first_place p s ≤ kept.start
-  pub last : kept.start + length kept.literals ≤ top_after p s h
+  pub last : kept.start + words_for (length kept.literals) ≤ top_after p s h
 
 pub record LodgedFormula (p : LayoutValue) (kept : Kept) : Type 0 where
   pub first : 1 + last_identity p ≤ kept.start
-  pub last : kept.start + length kept.literals ≤ 1 + last_identity p + p.literals
+  pub last : kept.start + words_for (length kept.literals) ≤ 1 + last_identity p + p.literals
 
 abbrev pub IsLodged : LayoutValue → History → Kept → Type 0
 IsLodged p h kept = LodgedFormula p kept ⊎ ((s : ℕ) × LodgedOf p h kept s)
@@ -227,17 +244,17 @@ either_kept true a o k here = inl (cc)
 either_kept false a o k here = inr here
 
 clauses_lodged : (id start : ℕ) (cs : List Clause) (j : ℕ) (kept : Kept) → kept_in (clauses_spelling id start cs) j ≡ Some kept
-    → (start ≤ kept.start) × (kept.start + length kept.literals ≤ start + sum_by length cs)
+    → (start ≤ kept.start) × (kept.start + words_for (length kept.literals) ≤ start + sum_by length cs)
 clauses_lodged id start [] j kept here = absurd (cc)
 clauses_lodged id start (c ∷ cs) j kept here =
     let all = sum_by-cons length c cs in
-    elim (either_kept (eqb id j) (record { start = start; literals = c }) (kept_in (clauses_spelling (id + 1) (start + length c) cs) j) kept here) [
+    elim (either_kept (eqb id j) (record { start = start; literals = c }) (kept_in (clauses_spelling (id + 1) (start + words_for (length c)) cs) j) kept here) [
       | inl same ↦
           let at : start ≡ kept.start = ap (λ (k : Kept). k.start) same in
           let len : length c ≡ length kept.literals = ap (λ (k : Kept). length k.literals) same in
           (omega arith, omega (arith, all))
       | inr later ↦
-          let rest = clauses_lodged (id + 1) (start + length c) cs j kept later in
+          let rest = clauses_lodged (id + 1) (start + words_for (length c)) cs j kept later in
           (omega (arith, rest.0), omega (arith, rest.1, all))
     ]
 
@@ -250,9 +267,9 @@ added_lodged f p b m [] j kept some legal here = absurd (cc)
 added_lodged f p b m (events.publish s id c publishing.Done ∷ h) j kept some legal here =
     let e : Event = events.publish s id c publishing.Done in
     let who = owned p s id some legal.1.0 in
-    let sum : spent s (b ++ e ∷ h) ≡ spent s b + spent s (e ∷ h) = spent-append s b (e ∷ h) in
-    let sum' : spent s (e ∷ h) ≡ spent s (e ∷ []) + spent s h = spent-append s (e ∷ []) h in
-    let one : spent s (e ∷ []) ≡ length c = spent_one s e refl in
+    let sum : words_spent s (b ++ e ∷ h) ≡ words_spent s b + words_spent s (e ∷ h) = words_spent-append s b (e ∷ h) in
+    let sum' : words_spent s (e ∷ h) ≡ words_spent s (e ∷ []) + words_spent s h = words_spent-append s (e ∷ []) h in
+    let one : words_spent s (e ∷ []) ≡ words_for (length c) = words_spent_one s e refl in
     elim (either_kept (eqb id j) (record { start = top_after p s b; literals = c }) (kept_in (added_spelling p (b ++ e ∷ []) h) j) kept here) [
       | inl same ↦
           let at : top_after p s b ≡ kept.start = ap (λ (k : Kept). k.start) same in
@@ -291,7 +308,7 @@ lies_within f p h some fits legal j kept there =
       | inl formula ↦ omega (arith, formula.last)
       | inr (s, lodging) ↦
           let more : (s - 1 + 1) * p.room ≤ p.streams * p.room = mul-le-mul_right p.room (omega (arith, lodging.stream.0, lodging.stream.1)) in
-          omega (arith, lodging.last, legal.room s)
+          omega (arith, lodging.last, legal.room s, words_within s h)
     ]
 
 -- Of a length that an identity's word can hold
@@ -300,9 +317,9 @@ clauses_short : (vars id start : ℕ) (cs : List Clause) (j : ℕ) (kept : Kept)
     → length kept.literals < 1048576
 clauses_short vars id start [] j kept all here = absurd (cc)
 clauses_short vars id start (c ∷ cs) j kept all here =
-    elim (either_kept (eqb id j) (record { start = start; literals = c }) (kept_in (clauses_spelling (id + 1) (start + length c) cs) j) kept here) [
+    elim (either_kept (eqb id j) (record { start = start; literals = c }) (kept_in (clauses_spelling (id + 1) (start + words_for (length c)) cs) j) kept here) [
       | inl same ↦ let len : length c ≡ length kept.literals = ap (λ (k : Kept). length k.literals) same in omega (arith, all.0.1)
-      | inr later ↦ clauses_short vars (id + 1) (start + length c) cs j kept all.1 later
+      | inr later ↦ clauses_short vars (id + 1) (start + words_for (length c)) cs j kept all.1 later
     ]
 
 added_short : (f : Cnf) (p : LayoutValue) (b : History) (m : State) (h : History) (j : ℕ) (kept : Kept) → LegalFrom f p m h → kept_in (added_spelling p b h) j ≡ Some kept

@@ -1,11 +1,16 @@
 -- Lemmas on words: the parts of an identity's word, and literals that lie in the row.
-use Rattle.std.proofs.Common.{◌≡◌, ◌≢◌, ℕ, ◌+◌, ◌<◌, ◌≤◌, ◌⊎◌, ℤ, pos, negsuc, zero, suc, List, [], ◌∷◌, ◌++◌, length, slice_index, slice_set, slice_get, Option, None, Some, refl, ap, ◌∙◌, inl, inr, arith, get_or-set_other}
+use Rattle.std.proofs.Common.{◌≡◌, ◌≢◌, ℕ, ◌+◌, ◌*◌, ◌/◌, ◌%◌, ◌^◌, bit_and, ◌<◌, ◌≤◌, ◌⊎◌, ℤ, pos, negsuc, zero, suc, cond, eqb, List, [], ◌∷◌, ◌++◌, length, slice_index, slice_set, slice_get, Option, None, Some, refl, ap, ap₂, ◌∙◌, inl, inr, arith, get_or-set_other, eq-eqb, ne_eqb}
+use Rattle.std.specs.Prelude.{IfSome}
+use Rattle.std.specs.List.{AllByRecursion}
+use Rattle.std.proofs.lemmas.Bool.{cond-true, cond-false}
+use Rattle.std.proofs.lemmas.Nat.{and_mask}
 use Rattle.lrup_model.specs.Clause.{Clause}
 use Rattle.lrup_model.specs.State.{Slot, absent, live, retired}
 use Rattle.lrup_model.specs.Place.{Kept}
 use Rattle.lrup_model.specs.Pass.{Spells}
-use Rattle.lrup_model.specs.Literal.{code_of}
-use Rattle.idwords.specs.Words.{identity_word, state_of, length_of, start_of, word_of, LiesAt, ShowsKept}
+use Rattle.lrup_model.specs.Literal.{IsLiteral, IsCode, code_of, max_variable}
+use Rattle.lrup_model.specs.LiteralLaws.{IsCode-code_of}
+use Rattle.idwords.specs.Words.{identity_word, state_of, length_of, start_of, word_of, words_for, pair_of, literal_word, half_of, packed, StandAt, LiesAt, ShowsKept}
 
 -- The parts of a word
 
@@ -40,30 +45,107 @@ shows_slot (live c) (Some kept) spells short = shows_word 1 kept (omega arith) (
 shows_slot (retired c) None spells short = absurd spells
 shows_slot (retired c) (Some kept) spells short = shows_word 2 kept (omega arith) (omega arith) short
 
+-- Words in the row
+
+-- they stand there after a write elsewhere
+stand-set : (words : List ℕ) (place : ℕ) (ws : List ℕ) (at n : ℕ) → StandAt words place ws → (at < place) ⊎ (place + length ws ≤ at) → StandAt (slice_set words at n) place ws
+stand-set words place [] at n stand apart = tt
+stand-set words place (w ∷ ws) at n stand apart =
+    let other : place ≢ at = λ same. elim apart [ inl below ↦ omega arith | inr above ↦ omega arith ] in
+    let rest : (at < place + 1) ⊎ (place + 1 + length ws ≤ at) = elim apart [ inl below ↦ inl (omega arith) | inr above ↦ inr (omega arith) ] in
+    (get_or-set_other words at place n 0 other ∙ stand.0, stand-set words (place + 1) ws at n stand.1 rest)
+
+-- Literals, two in a word
+
+pub length-packed : (c : Clause) → length (packed c) ≡ words_for (length c)
+length-packed [] = refl
+length-packed (l ∷ []) = refl
+length-packed (l ∷ m ∷ c) = let rest = length-packed c in omega arith
+
+pub some_literals : (l : ℤ) (m : Option ℤ) → 0 < length (pair_of l m)
+some_literals l None = omega arith
+some_literals l (Some m) = omega arith
+
+-- the words of an even count of literals, and then those of one or two more
+pub packed-pair : (d : Clause) (l : ℤ) (m : Option ℤ) → length d % 2 ≡ 0 → packed (d ++ pair_of l m) ≡ packed d ++ literal_word l m ∷ []
+packed-pair [] l None even = refl
+packed-pair [] l (Some m) even = refl
+packed-pair (x ∷ []) l m even = absurd (omega arith)
+packed-pair (x ∷ y ∷ d) l m even = ap (λ (ws : List ℕ). literal_word x (Some y) ∷ ws) (packed-pair d l m (omega arith))
+
 -- Literals in the row
 
-pub lies_get : (words : List ℕ) (place : ℕ) (c : Clause) (k : ℕ) (l : ℤ) → LiesAt words place c → slice_get c k ≡ Some l → slice_index words (place + k) ≡ code_of l
-lies_get words place [] k l lies here = absurd (cc)
-lies_get words place (x ∷ c) zero l lies here =
-    let same : x ≡ l = cc in ap (λ (n : ℕ). slice_index words n) (omega arith) ∙ lies.0 ∙ ap code_of same
-lies_get words place (x ∷ c) (suc k) l lies here =
-    ap (λ (n : ℕ). slice_index words n) (omega arith) ∙ lies_get words (place + 1) c k l lies.1 here
+pub lies-set : (words : List ℕ) (place : ℕ) (c : Clause) (at n : ℕ) → LiesAt words place c → (at < place) ⊎ (place + words_for (length c) ≤ at) → LiesAt (slice_set words at n) place c
+lies-set words place c at n lies apart =
+    let len = length-packed c in
+    stand-set words place (packed c) at n lies (elim apart [ inl below ↦ inl below | inr above ↦ inr (omega arith) ])
 
-pub lies-snoc : (words : List ℕ) (place : ℕ) (c : Clause) (l : ℤ) → LiesAt words place c → slice_index words (place + length c) ≡ code_of l → LiesAt words place (c ++ l ∷ [])
-lies-snoc words place [] l lies here = (ap (λ (n : ℕ). slice_index words n) (omega arith) ∙ here, tt)
-lies-snoc words place (x ∷ c) l lies here = (lies.0, lies-snoc words (place + 1) c l lies.1 (ap (λ (n : ℕ). slice_index words n) (omega arith) ∙ here))
+pub lies-pair : (words : List ℕ) (place : ℕ) (d : Clause) (l : ℤ) (m : Option ℤ) → length d % 2 ≡ 0 → LiesAt words place d
+    → slice_index words (place + length d / 2) ≡ literal_word l m → LiesAt words place (d ++ pair_of l m)
+lies-pair words place [] l None even lies here = (ap (λ (n : ℕ). slice_index words n) (omega arith) ∙ here, tt)
+lies-pair words place [] l (Some m) even lies here = (ap (λ (n : ℕ). slice_index words n) (omega arith) ∙ here, tt)
+lies-pair words place (x ∷ []) l m even lies here = absurd (omega arith)
+lies-pair words place (x ∷ y ∷ d) l m even lies here =
+    (lies.0, lies-pair words (place + 1) d l m (omega arith) lies.1 (ap (λ (n : ℕ). slice_index words n) (omega arith) ∙ here))
 
--- they lie there after a write elsewhere
-pub lies-set : (words : List ℕ) (place : ℕ) (c : Clause) (at n : ℕ) → LiesAt words place c → (at < place) ⊎ (place + length c ≤ at) → LiesAt (slice_set words at n) place c
-lies-set words place [] at n lies apart = tt
-lies-set words place (l ∷ c) at n lies apart =
-    let other : place ≢ at = λ same. elim apart [ inl below ↦ omega arith | inr above ↦ omega arith ] in
-    let rest : (at < place + 1) ⊎ (place + 1 + length c ≤ at) = elim apart [ inl below ↦ inl (omega arith) | inr above ↦ inr (omega arith) ] in
-    (get_or-set_other words at place n 0 other ∙ lies.0, lies-set words (place + 1) c at n lies.1 rest)
+half_zero : (half word : ℕ) → half ≡ 0 → half_of half word ≡ word % 4294967296
+half_zero half word is = cond-true (eqb half 0) (word % 4294967296) (word / 4294967296) (eq-eqb half 0 is)
+
+half_one : (half word : ℕ) → half ≢ 0 → half_of half word ≡ word / 4294967296
+half_one half word is = cond-false (eqb half 0) (word % 4294967296) (word / 4294967296) (ne_eqb half 0 is)
+
+-- a half, as it is read
+pub half_read : (half word : ℕ) → half < 2 → word < 18446744073709551616 → bit_and (word / 2 ^ (32 * half)) 4294967295 ≡ half_of half word
+half_read zero word some small = and_mask (word / 1) 32 ∙ omega arith
+half_read (suc zero) word some small = and_mask (word / 4294967296) 32 ∙ omega arith
+half_read (suc (suc half)) word some small = absurd (omega arith)
+
+code_small : (vars : ℕ) (l : ℤ) → vars ≤ max_variable → IsLiteral vars l → code_of l < 4294967296
+code_small vars l few is = let code = IsCode-code_of vars l is in omega (arith, code.1)
+
+-- what the halves of literals' words are
+first_half : (l : ℤ) (m : Option ℤ) (half word : ℕ) → half ≡ 0 → code_of l < 4294967296 → word ≡ literal_word l m → half_of half word ≡ code_of l
+first_half l None half word is small here = half_zero half word is ∙ omega arith
+first_half l (Some m) half word is small here = half_zero half word is ∙ omega arith
+
+second_half : (l m : ℤ) (half word : ℕ) → half ≡ 1 → code_of l < 4294967296 → word ≡ literal_word l (Some m) → half_of half word ≡ code_of m
+second_half l m half word is small here = half_one half word (λ none. omega arith) ∙ omega arith
+
+-- each literal's code is in a half of its word
+pub lies_get : (vars : ℕ) (words : List ℕ) (place : ℕ) (c : Clause) (k : ℕ) (l : ℤ) → vars ≤ max_variable → AllByRecursion (IsLiteral vars) c → LiesAt words place c
+    → slice_get c k ≡ Some l → half_of (k % 2) (slice_index words (place + k / 2)) ≡ code_of l
+lies_get vars words place [] k l few all lies here = absurd (cc)
+lies_get vars words place (x ∷ []) zero l few all lies here =
+    let same : x ≡ l = cc in
+    first_half x None 0 (slice_index words (place + 0)) refl (code_small vars x few all.0) (ap (λ (n : ℕ). slice_index words n) (omega arith) ∙ lies.0) ∙ ap code_of same
+lies_get vars words place (x ∷ []) (suc k) l few all lies here = absurd (cc)
+lies_get vars words place (x ∷ y ∷ c) zero l few all lies here =
+    let same : x ≡ l = cc in
+    first_half x (Some y) 0 (slice_index words (place + 0)) refl (code_small vars x few all.0) (ap (λ (n : ℕ). slice_index words n) (omega arith) ∙ lies.0) ∙ ap code_of same
+lies_get vars words place (x ∷ y ∷ c) (suc zero) l few all lies here =
+    let same : y ≡ l = cc in
+    second_half x y 1 (slice_index words (place + 0)) refl (code_small vars x few all.0) (ap (λ (n : ℕ). slice_index words n) (omega arith) ∙ lies.0) ∙ ap code_of same
+lies_get vars words place (x ∷ y ∷ c) (suc (suc k)) l few all lies here =
+    let half : suc (suc k) % 2 ≡ k % 2 = omega arith in
+    let at : place + suc (suc k) / 2 ≡ place + 1 + k / 2 = omega arith in
+    ap₂ (λ (h n : ℕ). half_of h (slice_index words n)) half at ∙ lies_get vars words (place + 1) c k l few all.1.1 lies.1 here
+
+-- A word has one literal or two
 
 -- a literal has one code
-pub code_injective : (l k : ℤ) → code_of l ≡ code_of k → l ≡ k
+code_injective : (l k : ℤ) → code_of l ≡ code_of k → l ≡ k
 code_injective (pos v) (pos w) same = ap pos (omega arith)
 code_injective (pos v) (negsuc w) same = absurd (omega arith)
 code_injective (negsuc v) (pos w) same = absurd (omega arith)
 code_injective (negsuc v) (negsuc w) same = ap negsuc (omega arith)
+
+-- each is below 2^25
+abbrev pub HasCode : ℤ → Type 0
+HasCode l = IsCode max_variable (code_of l)
+
+pub word_injective : (l k : ℤ) (m n : Option ℤ) → HasCode l → HasCode k → IfSome m HasCode → IfSome n HasCode → literal_word l m ≡ literal_word k n → pair_of l m ≡ pair_of k n
+word_injective l k None None first first' second second' same = ap (λ (x : ℤ). x ∷ []) (code_injective l k same)
+word_injective l k None (Some n) first first' second second' same = absurd (omega (arith, first, first', second'))
+word_injective l k (Some m) None first first' second second' same = absurd (omega (arith, first, first', second))
+word_injective l k (Some m) (Some n) first first' second second' same =
+    ap₂ (λ (x y : ℤ). x ∷ y ∷ []) (code_injective l k (omega (arith, first, first', second, second'))) (code_injective m n (omega (arith, first, first', second, second')))

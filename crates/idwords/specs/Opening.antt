@@ -1,24 +1,24 @@
 -- The words of the row at the opening (this project's own).
-use Rattle.std.specs.Prelude.{◌+◌, ◌*◌, ◌++◌, ℕ, List, [], ◌∷◌, length, map, replicate}
+use Rattle.std.specs.Prelude.{◌+◌, ◌-◌, ◌*◌, ◌++◌, ℕ, List, [], ◌∷◌, length, replicate}
 use Rattle.lrup_model.specs.Clause.{Clause}
 use Rattle.lrup_model.specs.Formula.{Cnf}
 use Rattle.lrup_model.specs.Layout.{LayoutValue, last_identity}
-use Rattle.lrup_model.specs.Literal.{code_of}
-use Rattle.idwords.specs.Words.{identity_word}
+use Rattle.idwords.specs.Words.{identity_word, packed, words_for}
 
 -- the words of live clauses, whose literals lie one clause after the other, from this place on
 abbrev pub clause_words : ℕ → List Clause → List ℕ
 clause_words start [] = []
-clause_words start (c ∷ cs) = identity_word 1 (length c) start ∷ clause_words (start + length c) cs
+clause_words start (c ∷ cs) = identity_word 1 (length c) start ∷ clause_words (start + words_for (length c)) cs
 
 abbrev pub literal_words : List Clause → List ℕ
 literal_words [] = []
-literal_words (c ∷ cs) = map code_of c ++ literal_words cs
+literal_words (c ∷ cs) = packed c ++ literal_words cs
 
--- 0, the formula's identities, the streams' vacant ones, the formula's literals, and the streams' rooms, where nothing is written
+-- 0, the formula's identities, the streams' vacant ones, the formula's literals, and zeros to the end of the row: what the literals leave of a word
+-- each, and the streams' rooms, where nothing is written
 abbrev pub opening_words : Cnf → LayoutValue → List ℕ
 opening_words f p =
     0 ∷ clause_words (1 + last_identity p) f.clauses
     ++ replicate (p.streams * p.lines) 0
     ++ literal_words f.clauses
-    ++ replicate (p.streams * p.room) 0
+    ++ replicate (p.literals + p.streams * p.room - length (literal_words f.clauses)) 0

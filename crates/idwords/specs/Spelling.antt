@@ -1,14 +1,16 @@
 -- Where the clauses of a history lie in the row, and their literals (this project's own): the formula's one after the other, then those of each
--- stream in its own room, in the order in which they were published.
+-- stream in its own room, in the order in which they were published. Each begins in a word of its own.
 use Rattle.std.specs.Prelude.{◌≡◌, ◌≤◌, ◌+◌, ◌-◌, ◌*◌, ◌++◌, ℕ, List, [], ◌∷◌, length, Some}
+use Rattle.std.specs.List.{sum_by}
 use Rattle.lrup_model.specs.Clause.{Clause}
 use Rattle.lrup_model.specs.Formula.{Cnf}
 use Rattle.lrup_model.specs.Layout.{LayoutValue, last_identity}
 use Rattle.lrup_model.specs.Event as events
-use Rattle.lrup_model.specs.Event.{Event, History, spent}
+use Rattle.lrup_model.specs.Event.{Event, History, own, size_of}
 use Rattle.lrup_model.specs.Place.{Kept}
 use Rattle.lrup_model.specs.Pass.{Spelling, kept_in}
 use Rattle.lrup_model.specs.declared.clause_map.Published.TheVariants as publishing
+use Rattle.idwords.specs.Words.{words_for}
 
 -- the clause of this identity lies at this place
 abbrev pub spelling : ℕ → ℕ → Clause → Spelling
@@ -17,15 +19,23 @@ spelling id start c = record { id = id; kept = record { start = start; literals 
 -- clauses under the identities from this one on, and from this place on
 abbrev pub clauses_spelling : ℕ → ℕ → List Clause → List Spelling
 clauses_spelling id start [] = []
-clauses_spelling id start (c ∷ cs) = spelling id start c ∷ clauses_spelling (id + 1) (start + length c) cs
+clauses_spelling id start (c ∷ cs) = spelling id start c ∷ clauses_spelling (id + 1) (start + words_for (length c)) cs
 
 -- the first place of a stream's literals
 abbrev pub first_place : LayoutValue → ℕ → ℕ
 first_place p s = 1 + last_identity p + p.literals + (s - 1) * p.room
 
+-- the words that an event takes of its stream's room
+abbrev pub words_taken : Event → ℕ
+words_taken e = words_for (size_of e)
+
+-- the words of the clauses that a stream published with Done, added up
+abbrev pub words_spent : ℕ → History → ℕ
+words_spent s h = sum_by words_taken (own h s)
+
 -- the first place of a stream that belongs to no published clause
 abbrev pub top_after : LayoutValue → ℕ → History → ℕ
-top_after p s h = first_place p s + spent s h
+top_after p s h = first_place p s + words_spent s h
 
 -- the clause that the event publishes, if any, lies at its stream's top
 abbrev pub event_spelling : LayoutValue → History → Event → List Spelling
@@ -45,4 +55,4 @@ spelling_of f p h = clauses_spelling 1 (1 + last_identity p) f.clauses ++ added_
 
 -- every clause that is kept lies inside a row of so many words
 abbrev pub LieWithin : ℕ → List Spelling → Type 0
-LieWithin words xs = (id : ℕ) (kept : Kept) → kept_in xs id ≡ Some kept → kept.start + length kept.literals ≤ words
+LieWithin words xs = (id : ℕ) (kept : Kept) → kept_in xs id ≡ Some kept → kept.start + words_for (length kept.literals) ≤ words

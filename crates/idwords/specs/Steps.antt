@@ -1,5 +1,5 @@
 -- What each step tells the part that makes it (this project's own).
-use Rattle.std.specs.Prelude.{◌≡◌, ◌≢◌, ◌↔◌, ◌+◌, ◌==◌, ◌++◌, ℕ, ℤ, List, [], ◌∷◌, Some, length, slice_get, if◌then◌else◌}
+use Rattle.std.specs.Prelude.{◌≡◌, ◌≢◌, ◌↔◌, ◌+◌, ◌/◌, ◌%◌, ◌==◌, ◌++◌, ℕ, ℤ, List, [], ◌∷◌, Option, Some, IfSome, length, slice_get, if◌then◌else◌}
 use Rattle.atomic_table.specs.Table.{Step, Me}
 use Rattle.lrup_model.specs.Clause.{Clause}
 use Rattle.lrup_model.specs.Event as events
@@ -11,8 +11,8 @@ use Rattle.lrup_model.specs.Pass.{View, Spelling, IsFair, PassMoves, kept_in, Me
 use Rattle.lrup_model.specs.declared.clause_map.Published.{Published}
 use Rattle.lrup_model.specs.declared.clause_map.Published.TheVariants as publishing
 use Rattle.lrup_model.specs.declared.clause_map.Retired.TheVariants as retiring
-use Rattle.lrup_model.specs.Literal.{code_of}
-use Rattle.idwords.specs.Words.{state_of, word_of, ShowsKept, reply_in}
+use Rattle.lrup_model.specs.Literal.{code_of, max_variable, IsCode}
+use Rattle.idwords.specs.Words.{state_of, word_of, words_for, pair_of, literal_word, half_of, ShowsKept, reply_in}
 use Rattle.idwords.specs.Spelling.{LieWithin}
 use Rattle.idwords.specs.Rule.{Part, part_stream}
 
@@ -34,19 +34,21 @@ pub record Looks (id : ℕ) (v : Part) (word : ℕ) (w : Part) : Type 0 where
   pub top : w.top ≡ v.top
   pub draft : w.draft ≡ v.draft
 
--- where the place is one of a clause that is kept, the word is its literal's code
+-- where the place is that of a literal of a clause that is kept, the word has the literal's code in its half: 0 for an even place among the clause's
+-- literals, 1 for an odd one
 abbrev pub IsText : List Spelling → ℕ → ℕ → Type 0
 IsText xs place word =
-    (id k : ℕ) (kept : Kept) (l : ℤ) → kept_in xs id ≡ Some kept → slice_get kept.literals k ≡ Some l → place ≡ kept.start + k → word ≡ code_of l
+    (id k : ℕ) (kept : Kept) (l : ℤ) → kept_in xs id ≡ Some kept → slice_get kept.literals k ≡ Some l → place ≡ kept.start + k / 2 → half_of (k % 2) word ≡ code_of l
 
 -- a load without an event
 pub record Reads (place : ℕ) (v : Part) (word : ℕ) (w : Part) : Type 0 where
   pub same : w ≡ v
   pub text : IsText v.view.spelt place word
 
--- a literal is added to the draft
+-- the literal or two whose word this is are added to the draft
 abbrev pub Writes : ℕ → Part → Part → Type 0
-Writes new v w = (l : ℤ) → new ≡ code_of l → w ≡ record v { draft = v.draft ++ l ∷ [] }
+Writes new v w =
+    (l : ℤ) (m : Option ℤ) → IsCode max_variable (code_of l) → IfSome m (λ k. IsCode max_variable (code_of k)) → new ≡ literal_word l m → w ≡ record v { draft = v.draft ++ pair_of l m }
 
 -- the reply of a publish that found this word
 abbrev pub published_at : ℕ → Published
@@ -54,14 +56,14 @@ published_at word = if word == 0 then publishing.Done else publishing.Taken
 
 -- the top after a publish of a draft
 abbrev pub top_after_reply : Published → ℕ → Clause → ℕ
-top_after_reply publishing.Done top draft = top + length draft
+top_after_reply publishing.Done top draft = top + words_for (length draft)
 top_after_reply publishing.Taken top draft = top
 
 -- a publish of the draft, which is empty then
 pub record Claims (id : ℕ) (v : Part) (word : ℕ) (w : Part) : Type 0 where
   pub calls : Calls v.view w.view (events.publish (part_stream v) id v.draft (published_at word))
   pub absent : (word ≡ 0) ↔ (state v.view.caller.formula v.view.mine id ≡ absent)
-  pub top : w.top ≡ (if word == 0 then v.top + length v.draft else v.top)
+  pub top : w.top ≡ (if word == 0 then v.top + words_for (length v.draft) else v.top)
   pub draft : w.draft ≡ []
 
 -- a retire that finds nothing live

@@ -1,5 +1,5 @@
--- Words of the shared row: an identity's state, length and start, or a literal's code (this project's own).
-use Rattle.std.specs.Prelude.{◌≡◌, ◌+◌, ◌*◌, ◌/◌, ◌%◌, ◌<◌, ◌==◌, ℕ, List, [], ◌∷◌, Option, None, Some, length, slice_index, if◌then◌else◌}
+-- Words of the shared row: an identity's state, length and start, or the codes of two literals (this project's own).
+use Rattle.std.specs.Prelude.{◌≡◌, ◌+◌, ◌*◌, ◌/◌, ◌%◌, ◌<◌, ◌==◌, ℕ, ℤ, List, [], ◌∷◌, Option, None, Some, length, slice_index, if◌then◌else◌}
 use Rattle.lrup_model.specs.Clause.{Clause}
 use Rattle.lrup_model.specs.Event.{Reply, vacant, live, retired}
 use Rattle.lrup_model.specs.State as states
@@ -31,10 +31,38 @@ word_of states.absent kept = 0
 word_of (states.live c) kept = kept_word 1 kept
 word_of (states.retired c) kept = kept_word 2 kept
 
+-- one literal, and the other, if there is one
+abbrev pub pair_of : ℤ → Option ℤ → Clause
+pair_of l None = l ∷ []
+pair_of l (Some m) = l ∷ m ∷ []
+
+-- their word: the code of the first in its lower half, and of the other in its upper
+abbrev pub literal_word : ℤ → Option ℤ → ℕ
+literal_word l None = code_of l
+literal_word l (Some m) = code_of l + 4294967296 * code_of m
+
+-- half 0 of a word is its lower 32 bits, half 1 its upper
+abbrev pub half_of : ℕ → ℕ → ℕ
+half_of half word = (if half == 0 then word % 4294967296 else word / 4294967296)
+
+-- a clause's words, with two literals each, but for the last of an odd count, which has one
+abbrev pub packed : Clause → List ℕ
+packed [] = []
+packed (l ∷ []) = literal_word l None ∷ []
+packed (l ∷ m ∷ c) = literal_word l (Some m) ∷ packed c
+
+-- the words that so many literals take
+abbrev pub words_for : ℕ → ℕ
+words_for literals = (literals + 1) / 2
+
+-- the words from this place on are these
+abbrev pub StandAt : List ℕ → ℕ → List ℕ → Type 0
+StandAt words place [] = Unit {0}
+StandAt words place (w ∷ ws) = (slice_index words place ≡ w) × StandAt words (place + 1) ws
+
 -- the literals lie in the row from this place on, in their order
 abbrev pub LiesAt : List ℕ → ℕ → Clause → Type 0
-LiesAt words place [] = Unit {0}
-LiesAt words place (l ∷ c) = (slice_index words place ≡ code_of l) × LiesAt words (place + 1) c
+LiesAt words place c = StandAt words place (packed c)
 
 -- the word shows the clause that is kept for the identity: its length and its start
 abbrev pub ShowsKept : Option Kept → ℕ → Type 0

@@ -1,10 +1,10 @@
--- The worked example of the row: four clauses over two variables.
+-- What the tests know of a seat.
 use Rattle.std.specs.Prelude.{◌≡◌, ℕ, []}
 use Rattle.atomic_table.specs.Seated.{TableId}
 use Rattle.lrup_model.specs.Layout.{LayoutValue}
-use Rattle.lrup_model.specs.Worked.{four}
+use Rattle.lrup_model.specs.Formula.{Cnf}
 use Rattle.idwords.specs.Seats.{SeatValue}
 
--- the seat is this stream's at this row, and nothing is drafted
-abbrev pub IsAt : TableId → LayoutValue → ℕ → SeatValue → Type 0
-IsAt table p s seat = (seat.table ≡ table) × (seat.view.caller ≡ record { formula = four; layout = p; stream = s }) × (seat.draft ≡ [])
+-- the seat is this stream's at this row, of this formula, and nothing is drafted
+abbrev pub IsAt : Cnf → TableId → LayoutValue → ℕ → SeatValue → Type 0
+IsAt f table p s seat = (seat.table ≡ table) × (seat.view.caller ≡ record { formula = f; layout = p; stream = s }) × (seat.draft ≡ [])

@@ -1,12 +1,12 @@
 //! The words of the row at the opening.
-ghost use Rattle.std.specs.Prelude.{◌≡◌, ◌+◌, ◌^◌, ◌<◌, ◌++◌, IfOk, OnOk, map};
+ghost use Rattle.std.specs.Prelude.{◌≡◌, ◌+◌, ◌^◌, ◌<◌, ◌++◌, IfOk, OnOk};
 ghost use Rattle.lrup_model.specs.Formula.{IsCnf, literals_of};
 ghost use Rattle.lrup_model.specs.Layout.{Fits};
-ghost use Rattle.lrup_model.specs.Literal.{code_of};
+ghost use Rattle.idwords.specs.Words.{packed};
 ghost use Rattle.idwords.specs.Rule.{IsPlan};
 ghost use Rattle.idwords.specs.Opening.{clause_words, literal_words, opening_words};
 
-use crate::word::live_word;
+use crate::word::{live_word, pair_word};
 use lrup_model::{Formula, Layout, Lit};
 use std::alloc::{AllocError, Global};
 
@@ -40,7 +40,7 @@ fn add_clauses(words: &mut Vec<u64>, formula: &Formula, first: u64) -> Result<()
     for i in 0..formula.len() {
         let len = formula.clause(i + 1).len() as u64;
         words.push(live_word(len, start))?;
-        start += len;
+        start += (len + 1) / 2;
     }
     Ok(())
 }
@@ -58,10 +58,15 @@ fn add_literals(words: &mut Vec<u64>, formula: &Formula) -> Result<(), AllocErro
 
 /// The words of one clause's literals.
 fn add_clause(words: &mut Vec<u64>, clause: &[Lit]) -> Result<(), AllocError>
-    ensures { OnOk result (words.new.items ≡ words.old.items ++ map code_of clause.now) }
+    ensures { OnOk result (words.new.items ≡ words.old.items ++ packed clause.now) }
 {
-    for lit in clause {
-        words.push(lit.code() as u64)?;
+    let mut left = clause;
+    'pairs: while let [first, second, rest @ ..] = left {
+        words.push(pair_word(*first, Some(*second)))?;
+        left = rest;
+    }
+    if let [last] = left {
+        words.push(pair_word(*last, None))?;
     }
     Ok(())
 }

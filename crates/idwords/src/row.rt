@@ -1,11 +1,11 @@
 //! The row and the steps on it.
-ghost use Rattle.std.specs.Prelude.{◌≡◌, ◌↔◌, ◌+◌, ◌-◌, ◌<◌, ◌++◌, ℕ, [], ◌∷◌, Some, IfOk, length, slice_get, vec_len};
+ghost use Rattle.std.specs.Prelude.{◌≡◌, ◌↔◌, ◌+◌, ◌-◌, ◌%◌, ◌≤◌, ◌<◌, ◌++◌, ℕ, [], Some, IfOk, length, slice_get, vec_len};
 ghost use Rattle.lrup_model.specs.Event as events;
 ghost use Rattle.lrup_model.specs.History.{IsPublishable};
 ghost use Rattle.lrup_model.specs.Layout.{Fits, IsIdentity, IsStream, Owns, row_words};
 ghost use Rattle.lrup_model.specs.Pass.{kept_in, pass_place, IsFair, Meets};
 ghost use Rattle.lrup_model.specs.State.{state, absent, IsLive};
-ghost use Rattle.idwords.specs.Words.{ShowsKept, reply_in};
+ghost use Rattle.idwords.specs.Words.{ShowsKept, reply_in, pair_of};
 ghost use Rattle.idwords.specs.Rule.{IsPlan, opening_parts};
 ghost use Rattle.idwords.specs.Seats.{opening_seat};
 ghost use Rattle.idwords.specs.Spelling.{LieWithin, spelling_of};
@@ -16,7 +16,7 @@ use crate::rule::{
     Claim, Deal, Find, Hand, Look, Meet, Part, Plan, Read, Retire, Token, Unite, Words, Write,
 };
 use crate::seat::Seat;
-use crate::word::{LIVE, live_word, state};
+use crate::word::{LIVE, live_word, pair_word, state};
 use lrup_model::{Formula, Layout, Lit, Published, Retired};
 use std::alloc::{AllocError, Global};
 use std::marker::Model;
@@ -55,8 +55,9 @@ fn deal(
     Ok(seats)
 }
 
-/// The row of words, which all streams share: word 0, which is always 0, a word for each identity, and one for each
-/// literal of the formula and of the streams' room. Contracts see it as its name.
+/// The row of words, which all streams share: word 0, which is always 0, a word for each identity, and as many as there
+/// are literals in the formula and in the streams' room, of which those that are written hold two literals each. Contracts
+/// see it as its name.
 #[derive(Drop)]
 pub struct Row {
     table: Words,
@@ -116,8 +117,8 @@ impl Row {
         shared.load::<Look>(&mut seat.token, id as usize)
     }
 
-    /// The word at a place, by one load, which is no event. At a place of a clause that the pass has seen it is the code of
-    /// that literal, for good, also after the clause was retired.
+    /// The word at a place, by one load, which is no event. At a place of a clause that the pass has seen it has the codes of
+    /// that clause's literals there, for good, also after the clause was retired.
     #[inline]
     pub fn word(&self, seat: &mut Seat, place: u64) -> u64
         requires row { seat.old.table ≡ self.now }
@@ -129,18 +130,20 @@ impl Row {
         shared.load::<Read>(&mut seat.token, place as usize)
     }
 
-    /// Adds a literal to the draft, by one store above the top, where no other caller looks.
+    /// Adds two literals to the draft, or a last one, by one store at or above the top, where no other caller looks.
     #[inline]
-    pub fn write(&self, seat: &mut Seat, lit: Lit)
+    pub fn write(&self, seat: &mut Seat, first: Lit, second: Option<Lit>)
         requires row { seat.old.table ≡ self.now }
-        requires room { length seat.old.draft < (pass_place seat.old.view).room }
-        ensures { seat.new ≡ record seat.old { draft = seat.old.draft ++ lit ∷ [] } }
+        requires even { length seat.old.draft % 2 ≡ 0 }
+        requires room { length seat.old.draft + length (pair_of first second)
+            ≤ (pass_place seat.old.view).room }
+        ensures { seat.new ≡ record seat.old { draft = seat.old.draft ++ pair_of first second } }
     {
-        let place = (seat.top + seat.drafted) as usize;
-        let word = lit.code() as u64;
+        let place = (seat.top + seat.drafted / 2) as usize;
+        let word = pair_word(first, second);
         let shared = &self.table.shared;
         shared.store::<Write>(&mut seat.token, place, word);
-        seat.drafted += 1;
+        seat.drafted += if second.is_some() { 2 } else { 1 };
     }
 
     /// Publishes the draft under an identity of the stream's own, by one exchange. The draft is empty then, whatever the
@@ -163,7 +166,7 @@ impl Row {
         let found = shared.compare_exchange::<Claim>(&mut seat.token, id as usize, 0, word);
         seat.drafted = 0;
         if found == 0 {
-            seat.top += len;
+            seat.top += (len + 1) / 2;
             seat.room -= len;
             Published::Done
         } else {

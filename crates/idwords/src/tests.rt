@@ -34,10 +34,9 @@ fn four_clauses(alloc: Global) -> Result<Formula, AllocError>
 
 /// A row of one stream, and its seat.
 fn open_one(alloc: Global, formula: &Formula, layout: &Layout) -> Result<(Row, Seat), Fail>
-    requires formula { formula.now ≡ four }
     requires fits { Fits layout.now formula.now }
     requires streams { layout.now.streams ≡ 1 }
-    ensures { IfOk result (λ opened. IsAt opened.0 layout.now 1 opened.1) }
+    ensures { IfOk result (λ opened. IsAt formula.now opened.0 layout.now 1 opened.1) }
 {
     let (row, mut seats) = Row::open(alloc, formula, layout)?;
     let seat = seats.pop().ok_or("no seat")?;
@@ -49,8 +48,8 @@ fn open_two(alloc: Global, formula: &Formula, layout: &Layout) -> Result<(Row, S
     requires formula { formula.now ≡ four }
     requires fits { Fits layout.now formula.now }
     requires streams { layout.now.streams ≡ 2 }
-    ensures first { IfOk result (λ opened. IsAt opened.0 layout.now 1 opened.1) }
-    ensures second { IfOk result (λ opened. IsAt opened.0 layout.now 2 opened.2) }
+    ensures first { IfOk result (λ opened. IsAt four opened.0 layout.now 1 opened.1) }
+    ensures second { IfOk result (λ opened. IsAt four opened.0 layout.now 2 opened.2) }
 {
     let (row, mut seats) = Row::open(alloc, formula, layout)?;
     let second = seats.pop().ok_or("no seat")?;
@@ -60,8 +59,9 @@ fn open_two(alloc: Global, formula: &Formula, layout: &Layout) -> Result<(Row, S
 
 /// Has the row these words?
 fn has_words(row: &Row, layout: &Layout, seat: &mut Seat, words: &[u64]) -> bool
-    requires { IsAt row.now layout.now 1 seat.old }
-    ensures { IsAt row.now layout.now 1 seat.new }
+    requires row { seat.old.table ≡ row.now }
+    requires layout { seat.old.view.caller.layout ≡ layout.now }
+    ensures { seat.new ≡ seat.old }
 {
     if layout.row_words() != words.len() as u64 {
         return false;
@@ -76,8 +76,8 @@ fn has_words(row: &Row, layout: &Layout, seat: &mut Seat, words: &[u64]) -> bool
 
 /// What the word of an identity is.
 fn look(row: &Row, layout: &Layout, seat: &mut Seat, stream: u64, id: u64) -> Option<u64>
-    requires { IsAt row.now layout.now stream seat.old }
-    ensures { IsAt row.now layout.now stream seat.new }
+    requires { IsAt four row.now layout.now stream seat.old }
+    ensures { IsAt four row.now layout.now stream seat.new }
 {
     if !layout.covers(id) {
         return None;
@@ -94,23 +94,28 @@ fn publish(
     id: u64,
     clause: &[Lit],
 ) -> Option<Published>
-    requires at { IsAt row.now layout.now stream seat.old }
+    requires at { IsAt four row.now layout.now stream seat.old }
     requires clause { IsPublishable four clause.now }
-    ensures { IsAt row.now layout.now stream seat.new }
+    ensures { IsAt four row.now layout.now stream seat.new }
 {
     if layout.owner(id) != Owner::Stream(stream) || seat.room() < clause.len() as u64 {
         return None;
     }
-    for literal in clause {
-        row.write(seat, *literal);
+    let mut left = clause;
+    'pairs: while let [first, second, rest @ ..] = left {
+        row.write(seat, *first, Some(*second));
+        left = rest;
+    }
+    if let [last] = left {
+        row.write(seat, *last, None);
     }
     Some(row.claim(seat, id))
 }
 
 /// Retires the clause of an identity of the stream's own.
 fn retire(row: &Row, layout: &Layout, seat: &mut Seat, stream: u64, id: u64) -> Option<Retired>
-    requires { IsAt row.now layout.now stream seat.old }
-    ensures { IsAt row.now layout.now stream seat.new }
+    requires { IsAt four row.now layout.now stream seat.old }
+    ensures { IsAt four row.now layout.now stream seat.new }
 {
     if layout.owner(id) != Owner::Stream(stream) {
         return None;
@@ -125,9 +130,9 @@ fn the_row_has_its_words(rt: HostRuntime) -> Result<(), Fail> {
     let layout = Layout::new(2, 4, 8, 1, 1, 2)?;
     assert!(rt; layout.fits(&formula));
     let (row, mut seat) = open_one(rt.alloc(), &formula, &layout)?;
-    let mut words = [
-        0, 25165833, 33554441, 41943049, 50331657, 0, 2, 4, 3, 4, 2, 5, 3, 5, 0, 0,
-    ];
+    let mut words = [0; 16];
+    words[1..5].copy_from_slice(&[25165833, 29360137, 33554441, 37748745]);
+    words[6..10].copy_from_slice(&[17179869186, 17179869187, 21474836482, 21474836483]);
     assert!(rt; has_words(&row, &layout, &mut seat, &words));
     assert_eq!(rt; seat.room(), 2);
     let answer = publish(&row, &layout, &mut seat, 1, 5, &[literal(2)]);
@@ -141,6 +146,60 @@ fn the_row_has_its_words(rt: HostRuntime) -> Result<(), Fail> {
     words[5] = 58720262;
     assert!(rt; has_words(&row, &layout, &mut seat, &words));
     assert_eq!(rt; seat.room(), 1);
+    Ok(())
+}
+
+/// The row after a clause of one literal, and then one of two, which begins in a word of its own.
+#[test]
+fn a_clause_begins_in_a_word_of_its_own(rt: HostRuntime) -> Result<(), Fail> {
+    let formula = four_clauses(rt.alloc())?;
+    let layout = Layout::new(2, 4, 8, 1, 2, 3)?;
+    assert!(rt; layout.fits(&formula));
+    let (row, mut seat) = open_one(rt.alloc(), &formula, &layout)?;
+    let answer = publish(&row, &layout, &mut seat, 1, 5, &[literal(2)]);
+    assert_eq!(rt; answer, Some(Published::Done));
+    let answer = publish(&row, &layout, &mut seat, 1, 6, &[literal(1), literal(2)]);
+    assert_eq!(rt; answer, Some(Published::Done));
+    assert_eq!(rt; seat.room(), 0);
+    let mut words = [0; 18];
+    words[1..5].copy_from_slice(&[29360137, 33554441, 37748745, 41943049]);
+    words[5..7].copy_from_slice(&[62914565, 67108873]);
+    words[7..11].copy_from_slice(&[17179869186, 17179869187, 21474836482, 21474836483]);
+    words[15..17].copy_from_slice(&[4, 17179869186]);
+    assert!(rt; has_words(&row, &layout, &mut seat, &words));
+    Ok(())
+}
+
+/// Clauses of three literals, of none and of two.
+fn uneven_clauses(alloc: Global) -> Result<Formula, AllocError> {
+    let mut formula = Formula::new(alloc, 3);
+    formula.push(&[literal(1), literal(2), literal(3)])?;
+    formula.push(&[])?;
+    formula.push(&[literal(-1), literal(-2)])?;
+    Ok(formula)
+}
+
+/// The row of a formula with an odd clause and an empty one, as it is opened.
+#[test]
+fn a_formulas_clause_begins_in_a_word_of_its_own(rt: HostRuntime) -> Result<(), Fail> {
+    let formula = uneven_clauses(rt.alloc())?;
+    let layout = Layout::new(3, 3, 5, 1, 1, 1)?;
+    assert!(rt; layout.fits(&formula));
+    let (row, mut seat) = open_one(rt.alloc(), &formula, &layout)?;
+    let words = [
+        0,
+        20971533,
+        29360129,
+        29360137,
+        0,
+        17179869186,
+        6,
+        21474836483,
+        0,
+        0,
+        0,
+    ];
+    assert!(rt; has_words(&row, &layout, &mut seat, &words));
     Ok(())
 }
 
@@ -184,18 +243,19 @@ fn two_streams_take_turns(rt: HostRuntime) -> Result<(), Fail> {
 
 /// The first literal of an identity's clause, where it is live.
 fn first_literal(row: &Row, layout: &Layout, seat: &mut Seat, stream: u64, id: u64) -> Option<i64>
-    requires { IsAt row.now layout.now stream seat.old }
-    ensures { IsAt row.now layout.now stream seat.new }
+    requires { IsAt four row.now layout.now stream seat.old }
+    ensures { IsAt four row.now layout.now stream seat.new }
 {
     let found = look(row, layout, seat, stream, id)?;
     if state(found) != LIVE || len(found) == 0 || layout.row_words() <= start(found) {
         return None;
     }
     let word = row.word(seat, start(found));
-    if word < 2 || 33_554_431 < word {
+    let code = word % (1 << 32);
+    if code < 2 || 33_554_431 < code {
         return None;
     }
-    Some(lit(word).value())
+    Some(lit(word, 0).value())
 }
 
 /// Publishes a clause, and hands the seat back.
@@ -207,9 +267,9 @@ fn publish_apart(
     id: u64,
     clause: &[Lit],
 ) -> (Seat, Option<Published>)
-    requires at { IsAt row.now layout.now stream seat }
+    requires at { IsAt four row.now layout.now stream seat }
     requires clause { IsPublishable four clause.now }
-    ensures { IsAt row.now layout.now stream result.0 }
+    ensures { IsAt four row.now layout.now stream result.0 }
 {
     let answer = publish(row, layout, &mut seat, stream, id, clause);
     (seat, answer)
@@ -227,12 +287,12 @@ fn two_threads_use_one_row(rt: HostRuntime) -> Result<(), Fail> {
     let ((mut first, one), (mut second, other)) = join(
         &rt,
         || -> (Seat, Option<Published>)
-            requires { IsAt row.now layout.now 1 first × IsPublishable four two }
-            ensures { IsAt row.entry.now layout.entry.now 1 result.0 }
+            requires { IsAt four row.now layout.now 1 first × IsPublishable four two }
+            ensures { IsAt four row.entry.now layout.entry.now 1 result.0 }
         { publish_apart(row, layout, first, 1, 5, &two) },
         || -> (Seat, Option<Published>)
-            requires { IsAt row.now layout.now 2 second × IsPublishable four not_two }
-            ensures { IsAt row.entry.now layout.entry.now 2 result.0 }
+            requires { IsAt four row.now layout.now 2 second × IsPublishable four not_two }
+            ensures { IsAt four row.entry.now layout.entry.now 2 result.0 }
         { publish_apart(row, layout, second, 2, 6, &not_two) },
     );
     assert_eq!(rt; one, Some(Published::Done));

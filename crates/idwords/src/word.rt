@@ -1,9 +1,10 @@
 //! Words of the row. An identity's word is its state, 0 for vacant, 1 for live and 2 for retired, with four times the
-//! count of its literals and 4,194,304 times the place of the first; a literal's word is its code, twice the variable,
-//! and one more for a negative literal.
-ghost use Rattle.std.specs.Prelude.{◌≡◌, ◌^◌, ◌<◌};
+//! count of its literals and 4,194,304 times the place of the first. A word of literals has the codes of two, a code
+//! being twice the variable, and one more for a negative literal: that of the first in its lower half, and that of the
+//! second, if there is one, in its upper.
+ghost use Rattle.std.specs.Prelude.{◌≡◌, ◌^◌, ◌<◌, IfSome};
 ghost use Rattle.lrup_model.specs.Literal.{max_variable, code_of, IsCode};
-ghost use Rattle.idwords.specs.Words.{identity_word, state_of, length_of, start_of};
+ghost use Rattle.idwords.specs.Words.{identity_word, state_of, length_of, start_of, half_of, literal_word};
 
 use lrup_model::Lit;
 
@@ -40,13 +41,28 @@ pub fn start(word: u64) -> u64
     word >> 22
 }
 
-/// The literal that a word is the code of.
+/// The literal whose code is in the word's lower half, 0, or in its upper, 1.
 #[inline]
-pub fn lit(word: u64) -> Lit
-    requires { IsCode max_variable word }
-    ensures { code_of result ≡ word }
+pub fn lit(word: u64, half: u32) -> Lit
+    requires half { half < 2 }
+    requires code { IsCode max_variable (half_of half word) }
+    ensures { code_of result ≡ half_of half word }
 {
-    Lit::from_code(word as u32)
+    Lit::from_code(((word >> (32 * half)) & 0xffff_ffff) as u32)
+}
+
+/// The word of a literal, and of the one after it, if there is one.
+#[inline]
+pub(crate) fn pair_word(first: Lit, second: Option<Lit>) -> u64
+    ensures word { result ≡ literal_word first second }
+    ensures first { IsCode max_variable (code_of first) }
+    ensures second { IfSome second (λ l. IsCode max_variable (code_of l)) }
+{
+    let upper = match second {
+        Some(second) => u64::from(second.code()) << 32,
+        None => 0,
+    };
+    u64::from(first.code()) + upper
 }
 
 /// The word of a live clause.

@@ -1,7 +1,9 @@
-use Rattle.std.proofs.Common.{◌≡◌, ◌++◌, take}
-use Rattle.std.specs.Prelude.{map}
-use Rattle.lrup_model.specs.Literal.{code_of}
+use Rattle.std.proofs.Common.{◌≡◌, ◌++◌, length}
+use Rattle.idwords.specs.Words.{packed}
 use Rattle.idwords.proofs.opening.add_clause.Given as goal
 
-abbrev pub invariant-loop-lit : goal.invariant-loop-lit
-invariant-loop-lit l = l.words.items ≡ l.fn.words.items ++ map code_of (take l.lit-index l.clause)
+abbrev pub invariant-pairs : goal.invariant-pairs
+invariant-pairs l = l.words.items ++ packed l.left ≡ l.fn.words.items ++ packed l.clause
+
+abbrev pub decreases-pairs : goal.decreases-pairs
+decreases-pairs l = length l.left

@@ -1,5 +1,5 @@
-use Rattle.idwords.specs.Worked.{IsAt}
+use Rattle.std.proofs.Common.{◌≡◌}
 use Rattle.idwords.proofs.tests.has_words.Given as goal
 
 abbrev pub invariant-loop-place : goal.invariant-loop-place
-invariant-loop-place l = IsAt l.row l.layout 1 l.seat
+invariant-loop-place l = l.seat ≡ l.fn.seat

@@ -1,17 +1,27 @@
-use Rattle.std.proofs.Common.{◌≡◌, ℕ, eqb, length, sym, ap, ap₂, subst, ◌∙◌, arith}
+use Rattle.std.proofs.Common.{◌≡◌, ◌+◌, ◌≤◌, ℕ, eqb, length, sym, ap, ap₂, subst, ◌∙◌, arith}
 use prog.Atomic.{either}
 use mathlib.Core.Option.{none}
 use Rattle.atomic_table.specs.Table.{step}
 use Rattle.idwords.specs.Words.{identity_word}
-use Rattle.idwords.specs.Rule.{Part}
+use Rattle.idwords.specs.Rule.{Part, part_stream}
 use Rattle.idwords.specs.Seats.{first_part, part_of}
 use Rattle.idwords.specs.Steps.{Changes, Claims}
 use Rattle.idwords.proofs.StepLemmas.{changes}
 use Rattle.idwords.proofs.ClaimLemmas.{claims}
+use Rattle.idwords.proofs.PlaceLemmas.{top_within}
 use Rattle.idwords.proofs.SeatLemmas.{asks, seated_claim}
+use Rattle.lrup_model.specs.Layout.{row_words}
 use Rattle.lrup_model.specs.Pass.{IsFair}
 use Rattle.lrup_model.specs.OwnerLemmas.{owned}
 use Rattle.idwords.proofs.row.Row.claim.Goals as goal
+
+pub live_word-word-requires-clause-start : goal.live_word-word-requires-clause-start
+live_word-word-requires-clause-start c =
+    let v : Part = first_part c.seat.inside.token.me.0 in
+    let within : c.seat.inside.top + c.seat.inside.drafted ≤ row_words v.view.caller.layout =
+    top_within v.view.caller.layout (part_stream v) c.seat.inside.top c.seat.inside.drafted c.seat.inside.room v.view.mine c.seat.invariant.fair.caller.stream
+    (c.seat.invariant.top_kept ∙ c.seat.invariant.top_is) c.seat.invariant.room_kept c.seat.invariant.within in
+    omega (arith, c.seat.invariant.fair.caller.layout.row)
 
 pub compare_exchange-found-requires : goal.compare_exchange-found-requires
 compare_exchange-found-requires c =

@@ -1,16 +1,25 @@
-use Rattle.std.proofs.Common.{◌≡◌, ℕ, ◌+◌, length, refl, sym, ap, ap₂, subst, ◌∙◌, arith}
+use Rattle.std.proofs.Common.{◌≡◌, ℕ, ◌+◌, ◌/◌, ◌%◌, ◌≤◌, length, refl, sym, ap, ap₂, subst, ◌∙◌, arith, length-append}
 use mathlib.Core.Option.{none}
 use Rattle.atomic_table.specs.Table.{step}
 use Rattle.lrup_model.specs.Layout.{row_words}
-use Rattle.lrup_model.specs.Pass.{IsFair}
+use Rattle.lrup_model.specs.Event.{spent}
+use Rattle.idwords.specs.Words.{pair_of}
 use Rattle.idwords.specs.Rule.{Part, part_stream}
-use Rattle.idwords.specs.Spelling.{top_after}
 use Rattle.idwords.specs.Seats.{first_part, part_of}
 use Rattle.idwords.specs.Steps.{Stores, Writes}
 use Rattle.idwords.proofs.StepLemmas.{stores}
-use Rattle.idwords.proofs.PlaceLemmas.{within_row, written_at}
+use Rattle.idwords.proofs.WordLemmas.{some_literals}
+use Rattle.idwords.proofs.PlaceLemmas.{top_within, written_at}
 use Rattle.idwords.proofs.SeatLemmas.{asks}
 use Rattle.idwords.proofs.row.Row.write.Goals as goal
+
+pub overflow_add-place : goal.overflow_add-place
+overflow_add-place c =
+    let v : Part = first_part c.seat.inside.token.me.0 in
+    let inside : c.seat.inside.top + c.seat.inside.drafted ≤ row_words v.view.caller.layout =
+    top_within v.view.caller.layout (part_stream v) c.seat.inside.top c.seat.inside.drafted c.seat.inside.room v.view.mine c.seat.invariant.fair.caller.stream
+    (c.seat.invariant.top_kept ∙ c.seat.invariant.top_is) c.seat.invariant.room_kept c.seat.invariant.within in
+    omega (arith, c.seat.invariant.fair.caller.layout.row)
 
 pub store-requires : goal.store-requires
 store-requires c =
@@ -18,15 +27,24 @@ store-requires c =
     let token = c.seat.inside.token in
     let seat = c.args.seat.now in
     let v : Part = part_of seat in
-    let place : ℕ = c.seat.inside.top + c.seat.inside.drafted in
-    let one = step {S = ℕ} shared.table_id.slots place c.code-word.result 0 none in
+    let place : ℕ = c.seat.inside.top + c.seat.inside.drafted / 2 in
+    let word : ℕ = c.pair_word-word.result in
+    let one = step {S = ℕ} shared.table_id.slots place word 0 none in
     let here : first_part token.me.0 ≡ v = ap part_of c.seat.view_is in
-    let fair : IsFair seat.view = subst (λ (u : Part). IsFair u.view) here c.seat.invariant.fair in
-    let top_is : v.top ≡ top_after v.view.caller.layout (part_stream v) v.view.mine = subst (λ (u : Part). u.top ≡ top_after u.view.caller.layout (part_stream u) u.view.mine) here c.seat.invariant.top_is in
-    let at : v.top + length v.draft ≡ place = sym (ap₂ (λ (a b : ℕ). a + b) (c.seat.invariant.top_kept ∙ ap (λ (u : Part). u.top) here) (c.seat.invariant.draft_is ∙ ap (λ (u : Part). length u.draft) here)) in
-    asks shared.key.formula.value shared.key.layout shared.table_id.slots token.id place (λ _. c.code-word.result) (λ v n w. Writes c.code-word.result v w) (λ me _ after. Stores one me c.code-word.result after)
+    let drafted : c.seat.inside.drafted ≡ length v.draft = c.seat.invariant.draft_is ∙ ap (λ (u : Part). length u.draft) here in
+    let at : v.top + length v.draft / 2 ≡ place = sym (ap₂ (λ (a b : ℕ). a + b / 2) (c.seat.invariant.top_kept ∙ ap (λ (u : Part). u.top) here) drafted) in
+    let some = some_literals c.args.first c.args.second in
+    let longer = length-append v.draft (pair_of c.args.first c.args.second) in
+    let u : Part = first_part token.me.0 in
+    let left : c.seat.inside.drafted + 1 ≤ c.seat.inside.room =
+    omega (arith, c.requires.room, ap (λ (w : Part). spent (part_stream w) w.view.mine) here, ap (λ (w : Part). w.view.caller.layout.room) here) in
+    let inside : c.seat.inside.top + (c.seat.inside.drafted + 1) ≤ row_words u.view.caller.layout =
+    top_within u.view.caller.layout (part_stream u) c.seat.inside.top (c.seat.inside.drafted + 1) c.seat.inside.room u.view.mine c.seat.invariant.fair.caller.stream
+    (c.seat.invariant.top_kept ∙ c.seat.invariant.top_is) c.seat.invariant.room_kept left in
+    let all : row_words u.view.caller.layout ≡ row_words v.view.caller.layout = ap (λ (w : Part). row_words w.view.caller.layout) here in
+    asks shared.key.formula.value shared.key.layout shared.table_id.slots token.id place (λ _. word) (λ v n w. Writes word v w) (λ me _ after. Stores one me word after)
     token.table_id shared.table_id token.me seat c.seat.inside.top c.seat.inside.drafted c.seat.inside.room
-    c.seat.invariant c.seat.view_is (c.requires.row ∙ sym c.self.view_is)
-    (within_row v.view.caller.layout (part_stream v) place (row_words v.view.caller.layout) fair.caller.stream refl (omega (arith, c.requires.room)))
-    (written_at v token.id c.args.lit place c.code-word.result (omega (arith, c.requires.room)) at (sym c.code-word.ensures.code))
-    (λ v n w told. stores one v c.code-word.result w told)
+    c.seat.invariant c.seat.view_is (c.requires.row ∙ sym c.self.view_is) (omega arith)
+    (written_at v token.id c.args.first c.args.second place word c.requires.even (omega (arith, c.requires.room)) c.pair_word-word.ensures.first c.pair_word-word.ensures.second at
+    (sym c.pair_word-word.ensures.word))
+    (λ v n w told. stores one v word w told)
