@@ -1,5 +1,5 @@
 -- Lemmas on the literals of a clip that is known at a pass.
-use Rattle.std.proofs.Common.{◌≡◌, ℕ, ℤ, ◌+◌, ◌/◌, ◌%◌, ◌<◌, zero, suc, [], ◌∷◌, length, Some, slice_get, refl, sym, ap, subst, ◌∙◌, arith}
+use Rattle.std.proofs.Common.{◌≡◌, ℕ, ℤ, ◌+◌, ◌*◌, ◌/◌, ◌%◌, ◌<◌, zero, suc, [], ◌∷◌, length, Some, slice_get, refl, sym, ap, subst, ◌∙◌, arith}
 use Rattle.std.specs.List.{AllByRecursion}
 use Rattle.lrup_model.specs.Literal.{IsLiteral, IsCode, code_of, max_variable}
 use Rattle.lrup_model.specs.LiteralLaws.{IsCode-code_of, code_of-injective}
@@ -63,3 +63,23 @@ module _ (seat : SeatValue) (stream : ℕ) (p : PassValue) (clip : ClipValue) (k
   literal_read word l text code =
       subst (λ (v : View). slice_get (text_of (pass_place v) clip) k ≡ Some l) here
       (literal_is seat.view clip k place known_here below lies rests.fair word l text code)
+
+-- the same by pairs, as `Store::pair` reads them: literal `2 * i + half` is in that half of word `i`
+module _ (seat : SeatValue) (stream : ℕ) (p : PassValue) (clip : ClipValue) (i half place : ℕ) (rests : IsAtRest seat stream) (same : pass_value seat ≡ p)
+    (known : IsKnown (pass_place p.view) clip) (lies : place ≡ clip.start + i) (is_half : half < 2) (below : 2 * i + half < clip.len) where
+  abbrev in_word : place ≡ clip.start + (2 * i + half) / 2
+  in_word = omega (arith, lies, is_half)
+
+  abbrev in_half : (2 * i + half) % 2 ≡ half
+  in_half = omega (arith, is_half)
+
+  pub pair_place : place < row_words seat.view.caller.layout
+  pair_place = place_read seat stream p clip (2 * i + half) place rests same known in_word below
+
+  pub pair_code : (word : ℕ) → IsText seat.view.spelt place word → IsCode max_variable (half_of half word)
+  pair_code word text =
+      subst (λ h. IsCode max_variable (half_of h word)) in_half (code_read seat stream p clip (2 * i + half) place rests same known in_word below word text)
+
+  pub pair_literal : (word : ℕ) (l : ℤ) → IsText seat.view.spelt place word → code_of l ≡ half_of half word → slice_get (text_of (pass_place p.view) clip) (2 * i + half) ≡ Some l
+  pair_literal word l text code =
+      literal_read seat stream p clip (2 * i + half) place rests same known in_word below word l text (subst (λ h. code_of l ≡ half_of h word) (sym in_half) code)

@@ -70,6 +70,11 @@ impl ClauseMap for Desk<'_> {
     }
 
     #[inline]
+    fn pair(&mut self, clip: &Clip, i: u32) -> (Lit, Option<Lit>) {
+        self.store.pair(&mut self.pass, clip, i)
+    }
+
+    #[inline]
     fn publish(&mut self, id: Id, clause: &[Lit]) -> Published {
         self.store.publish(&mut self.pass, id, clause)
     }

@@ -1,5 +1,5 @@
 //! The store and the calls of its passes.
-ghost use Rattle.std.specs.Prelude.{◌≡◌, ◌↔◌, ◌+◌, ◌-◌, ◌≤◌, ◌<◌, ℕ, IfOk, IsTrue, Some, length, slice_get, vec_len};
+ghost use Rattle.std.specs.Prelude.{◌≡◌, ◌↔◌, ◌+◌, ◌-◌, ◌*◌, ◌≤◌, ◌<◌, ℕ, IfOk, IsTrue, Some, length, slice_get, vec_len};
 ghost use Rattle.lrup_model.specs.Event as events;
 ghost use Rattle.lrup_model.specs.History.{IsPublishable};
 ghost use Rattle.lrup_model.specs.Layout.{Fits, IsIdentity, IsStream, Owns};
@@ -105,6 +105,27 @@ impl Store {
     {
         let place = place_of(clip, k / 2);
         lit(self.row.word(&mut pass.seat, place), k % 2)
+    }
+
+    /// Pair `i`, from 0 on, of a clause whose clip the pass has fetched, by one load: its literals `2 * i` and, if it has that
+    /// one, `2 * i + 1`.
+    #[inline]
+    pub fn pair(&self, pass: &mut Pass, clip: &Clip, i: u32) -> (Lit, Option<Lit>)
+        requires store { store_of pass.old ≡ self.now }
+        requires known { IsKnown (pass_place pass.old.view) clip.now }
+        requires within { 2 * i < clip.now.len }
+        ensures first { slice_get (text_of (pass_place pass.old.view) clip.now) (2 * i) ≡ Some result.0 }
+        ensures second { slice_get (text_of (pass_place pass.old.view) clip.now) (2 * i + 1) ≡ result.1 }
+        ensures same { pass.new ≡ pass.old }
+    {
+        let len = clip.len();
+        let word = self.row.word(&mut pass.seat, place_of(clip, i));
+        let first = lit(word, 0);
+        if 2 * i + 1 < len {
+            (first, Some(lit(word, 1)))
+        } else {
+            (first, None)
+        }
     }
 
     /// Publishes a clause that follows from the formula, of at most 65,535 literals, under an identity of the pass's own.
