@@ -1,14 +1,9 @@
 //! From the words to the reports.
-ghost use Rattle.std.specs.Prelude.{◌≡◌, ◌≤◌, ◌<◌, ℕ, true, Bool, List, Option, false, IfErr, IfOk, length, map, vec_len};
-ghost use Rattle.std.specs.Io.KnownBytes.{Consumes, IsAtEnd};
+ghost use Rattle.std.specs.Prelude.{◌≡◌, ◌<◌, true, false, IfErr, IfOk, length, map, vec_len};
 ghost use Rattle.std.specs.List.{AllByRecursion};
 ghost use Rattle.std.specs.Option.{ForSome};
 ghost use Rattle.clap.specs.Walk.{texts};
-ghost use Rattle.dimacs.specs.FormulaFault.{IsFaultOf};
-ghost use Rattle.dimacs.specs.FormulaText.{IsTextOf};
-ghost use Rattle.lrup_model.specs.Entailment.{IsUnsatisfiable};
-ghost use Rattle.portfolio.specs.Outcomes.{IsVerdictOf, OptionsValue, layout_of};
-ghost use Rattle.portfolio.specs.Streams.{AreTold, Stream};
+ghost use Rattle.portfolio.specs.Outcomes.{layout_of};
 ghost use Rattle.command.specs.Commands.{AreChecked, IsCause, IsFailedRead, IsFormulaAt, IsOpenCause, files_view};
 ghost use Rattle.command.specs.Commands.{IsOutcome, IsReadCause, IsRunCause, NameUnsatisfiable};
 

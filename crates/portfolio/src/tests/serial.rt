@@ -1,5 +1,5 @@
 //! The worked rows as runs on one thread, and what the readers are asked for.
-ghost use Rattle.std.specs.Prelude.{◌≡◌, Some, None, false, IfOk};
+ghost use Rattle.std.specs.Prelude.{◌≡◌, Some, None, false};
 ghost use Rattle.std.specs.List.{AllByRecursion};
 
 use super::{CITING, Open, Paper, Pieces, defaults, four_clauses, options, readers_of};
