@@ -59,30 +59,32 @@ has_layout p result outcome is layout fault refused =
     search (both, rules)
 
 -- the layout is that of the command line
-pub same_layout : (options : OptionsValue) (f : Cnf) (given : CommandLine) (count : ℕ) → options ≡ options_of given → count ≡ length given.streams
+same_layout : (options : OptionsValue) (f : Cnf) (given : CommandLine) (count : ℕ) → options ≡ options_of given → count ≡ length given.streams
     → layout_of options f count ≡ layout_at given f
 same_layout options f given count options_are count_is =
     ap (λ o. layout_of o f count) options_are ∙ ap (layout_of (options_of given) f) count_is
 
-pub same_count : {A B C : Type 0} (f : A → C) (g : B → C) (xs : List A) (ys : List B) → map f xs ≡ map g ys → length xs ≡ length ys
+same_count : {A B C : Type 0} (f : A → C) (g : B → C) (xs : List A) (ys : List B) → map f xs ≡ map g ys → length xs ≡ length ys
 same_count f g xs ys same = sym (length-map xs f) ∙ ap length same ∙ length-map ys g
 
-pub is_refuted : (told : Option (List ℕ)) (f : Cnf) → IsFormulaAt told f → IsUnsatisfiable f → ForSome told IsUnsatisfiableText
-is_refuted told f at refuted all is = (f, subst (λ bytes. IsTextOf bytes f) (sym (at.1 all is)) at.2, refuted)
+pub is_unsatisfiable_text : (told : Option (List ℕ)) (f : Cnf) → IsFormulaAt told f → IsUnsatisfiable f → ForSome told IsUnsatisfiableText
+is_unsatisfiable_text told f at refuted all is = (f, subst (λ bytes. IsTextOf bytes f) (sym (at.1 all is)) at.2, refuted)
 
 -- what is checked is the outcome of the words and the files
-pub is_outcome : (R : Type 0) (files : FilesView R) (words : List Text) (given : CommandLine) (f : Cnf) (serial : Bool) (options : OptionsValue) (count : ℕ) (entries : List (Option (List ℕ)))
+pub is_outcome : (R : Type 0) (files : FilesView R) (words : List Text) (given : CommandLine) (f : Cnf) (options : OptionsValue) (readers : List R)
     → IsCommandLineOf words given → IsFormulaAt (files.tells given.formula.now) f
-    → serial ≡ given.serial → options ≡ options_of given → count ≡ length given.streams → entries ≡ map files.tells given.streams
-    → (reports : List Report) (verdict : Verdict) → AreChecked R files.reading serial f (layout_of options f count) options.tries entries reports verdict
+    → options ≡ options_of given → map files.reading.left readers ≡ map files.tells given.streams
+    → (reports : List Report) (verdict : Verdict)
+    → AreChecked R files.reading given.serial f (layout_of options f (length readers)) options.tries (map files.reading.left readers) reports verdict
     → IsOutcome R files words reports verdict
-is_outcome R files words given f serial options count entries line at serial_is options_are count_is entries_are reports verdict checked =
+is_outcome R files words given f options readers line at options_are entries_are reports verdict checked =
     let reading = files.reading in
-    let one = subst (λ (s : Bool). AreChecked R reading s f (layout_of options f count) options.tries entries reports verdict) serial_is checked in
-    let two = subst (λ (o : OptionsValue). AreChecked R reading given.serial f (layout_of o f count) o.tries entries reports verdict) options_are one in
-    let three = subst (λ (n : ℕ). AreChecked R reading given.serial f (layout_of (options_of given) f n) given.tries entries reports verdict) count_is two in
-    let four = subst (λ (es : List (Option (List ℕ))). AreChecked R reading given.serial f (layout_at given f) given.tries es reports verdict) entries_are three in
-    record { given = given; command_line = line; formula = f; is_formula = at; checked = four }
+    let entries = map reading.left readers in
+    let one = subst (λ (o : OptionsValue). AreChecked R reading given.serial f (layout_of o f (length readers)) o.tries entries reports verdict) options_are checked in
+    let two = subst (λ (n : ℕ). AreChecked R reading given.serial f (layout_of (options_of given) f n) given.tries entries reports verdict)
+    (same_count _ _ readers given.streams entries_are) one in
+    let three = subst (λ (es : List (Option (List ℕ))). AreChecked R reading given.serial f (layout_at given f) given.tries es reports verdict) entries_are two in
+    record { given = given; command_line = line; formula = f; is_formula = at; checked = three }
 
 -- The causes are those of the words and the files.
 pub read_cause : (R : Type 0) (files : FilesView R) (words : List Text) (given : CommandLine) → IsCommandLineOf words given
@@ -119,14 +121,14 @@ line_cause R files words given f line at faults.Memory cause = tt
 line_cause R files words given f line at faults.Unwritten cause = absurd cause
 
 -- so a run's cause, by the layout that the run has
-pub run_cause_of : (R : Type 0) (files : FilesView R) (words : List Text) (given : CommandLine) (f : Cnf) (serial : Bool) (options : OptionsValue) (count : ℕ)
+pub run_cause_of : (R : Type 0) (files : FilesView R) (words : List Text) (given : CommandLine) (f : Cnf) (options : OptionsValue) (readers : List R)
     → IsCommandLineOf words given → IsFormulaAt (files.tells given.formula.now) f
-    → serial ≡ given.serial → options ≡ options_of given → count ≡ length given.streams
-    → (fault : CommandFault) → IsRunCause serial (layout_of options f count) fault → IsCause R files words fault
-run_cause_of R files words given f serial options count line at serial_is options_are count_is fault cause =
-    let one = subst (λ (s : Bool). IsRunCause s (layout_of options f count) fault) serial_is cause in
-    let two = subst (λ (p : LayoutValue). IsRunCause given.serial p fault) (same_layout options f given count options_are count_is) one in
-    line_cause R files words given f line at fault two
+    → options ≡ options_of given → map files.reading.left readers ≡ map files.tells given.streams
+    → (fault : CommandFault) → IsRunCause given.serial (layout_of options f (length readers)) fault → IsCause R files words fault
+run_cause_of R files words given f options readers line at options_are entries_are fault cause =
+    let count = same_count _ _ readers given.streams entries_are in
+    let moved = subst (λ (p : LayoutValue). IsRunCause given.serial p fault) (same_layout options f given (length readers) options_are count) cause in
+    line_cause R files words given f line at fault moved
 
 -- the files are known by the same before and after the formula was read
 pub open_moved : (R : Type 0) (reading : ReaderView R) (tells later_tells : Text → Option (List ℕ)) (may later_may : Text → Bool) (paths later_paths : List Text)

@@ -1,3 +1,3 @@
 mod CheckingLemmas
-mod FileLemmas
 mod OpeningLemmas
+mod WritingLemmas

@@ -147,6 +147,9 @@ pub record SinkChange : Type 0 where
   pub after : Option (List ℕ)
   pub failed : Bool
 
+abbrev pub change : Option (List ℕ) → Option (List ℕ) → Bool → SinkChange
+change before after failed = record { before = before; after = after; failed = failed }
+
 -- a text went out to the sink; or a beginning of it, where the sink failed
 abbrev pub TakesUnlessFailed : Bool → Option (List ℕ) → Option (List ℕ) → List ℕ → Type 0
 TakesUnlessFailed false before after text = Appends before after text

@@ -1,14 +1,9 @@
 //! From the words to the reports.
-ghost use Rattle.std.specs.Prelude.{◌≡◌, ◌≤◌, ◌<◌, ℕ, true, Bool, List, Option, false, IfErr, IfOk, length, map, vec_len};
-ghost use Rattle.std.specs.Io.KnownBytes.{Consumes, IsAtEnd};
+ghost use Rattle.std.specs.Prelude.{◌≡◌, ◌<◌, true, false, IfErr, IfOk, length, map, vec_len};
 ghost use Rattle.std.specs.List.{AllByRecursion};
 ghost use Rattle.std.specs.Option.{ForSome};
 ghost use Rattle.clap.specs.Walk.{texts};
-ghost use Rattle.dimacs.specs.FormulaFault.{IsFaultOf};
-ghost use Rattle.dimacs.specs.FormulaText.{IsTextOf};
-ghost use Rattle.lrup_model.specs.Entailment.{IsUnsatisfiable};
-ghost use Rattle.portfolio.specs.Outcomes.{IsVerdictOf, OptionsValue, layout_of};
-ghost use Rattle.portfolio.specs.Streams.{AreTold, Stream};
+ghost use Rattle.portfolio.specs.Outcomes.{layout_of};
 ghost use Rattle.command.specs.Commands.{AreChecked, IsCause, IsFailedRead, IsFormulaAt, IsOpenCause, files_view};
 ghost use Rattle.command.specs.Commands.{IsOutcome, IsReadCause, IsRunCause, NameUnsatisfiable};
 
@@ -44,22 +39,29 @@ pub fn check_words<T: Threads + Wait + Sync, C: Clock + Sync, F: Files>(
     words: &[&str],
     files: &mut F,
 ) -> Result<Found, CommandFault>
-    ensures outcome { IfOk result (λ found. IsOutcome _ (files_view (F.tells files.old) (F.may_refuse files.old)
-        F.Input.Source.left F.Input.Source.has_failed)
-        (texts words.now) found.reports.items found.verdict) }
-    ensures sound { IfOk result (λ found. found.verdict ≡ Verdict.Unsatisfiable → NameUnsatisfiable (texts words.now) (F.tells files.old)) }
-    ensures cause { IfErr result (IsCause _ (files_view (F.tells files.old) (F.may_refuse files.old)
-        F.Input.Source.left F.Input.Source.has_failed) (texts words.now)) }
+    ensures outcome { let view = files_view (F.tells files.old) (F.may_refuse files.old)
+        F.Input.Source.left F.Input.Source.has_failed in
+        IfOk result (λ found.
+        IsOutcome _ view (texts words.now) found.reports.items found.verdict) }
+    ensures sound { IfOk result (λ found. found.verdict ≡ Verdict.Unsatisfiable
+        → NameUnsatisfiable (texts words.now) (F.tells files.old)) }
+    ensures cause { let view = files_view (F.tells files.old) (F.may_refuse files.old)
+        F.Input.Source.left F.Input.Source.has_failed in
+        IfErr result (IsCause _ view (texts words.now)) }
 {
     let line = read_words(alloc, words)?;
     let formula = read_formula(threads, alloc, files, line.formula)?;
     let options = Options::new(line.tries, line.lines, line.room).unwrap();
     let readers = open_streams(alloc, files, line.streams.as_slice())?;
-    if line.serial {
-        check_serially(threads, alloc, &formula, options, readers)
-    } else {
-        check_in_threads(threads, clock, alloc, &formula, options, readers)
-    }
+    check_streams(
+        threads,
+        clock,
+        alloc,
+        &formula,
+        options,
+        line.serial,
+        readers,
+    )
 }
 
 /// Opens, reads and parses a formula's file.
@@ -70,8 +72,9 @@ fn read_formula<W: Wait, F: Files>(
     path: &str,
 ) -> Result<Formula, CommandFault>
     ensures formula { IfOk result (IsFormulaAt (F.tells files.old path.now)) }
-    ensures cause { IfErr result (IsReadCause _ (files_view (F.tells files.old) (F.may_refuse files.old)
-        F.Input.Source.left F.Input.Source.has_failed) path.now) }
+    ensures cause { let view = files_view (F.tells files.old) (F.may_refuse files.old)
+        F.Input.Source.left F.Input.Source.has_failed in
+        IfErr result (IsReadCause _ view path.now) }
     ensures stays { F.tells files.new ≡ F.tells files.old }
     ensures stays_refused { F.may_refuse files.new ≡ F.may_refuse files.old }
 {
@@ -90,7 +93,8 @@ fn read_all<W: Wait, S: Source>(
     requires running { S.has_failed source.old ≡ false }
     requires some { 0 < most }
     ensures all { IfOk result (λ bytes. ForSome (S.left source.old) (λ all. all ≡ bytes.items)) }
-    ensures fault { IfErr result (IsFailedRead _ (record { left = S.left; has_failed = S.has_failed })) }
+    ensures fault { IfErr result
+        (IsFailedRead _ (record { left = S.left; has_failed = S.has_failed })) }
 {
     let mut bytes = Vec::new(alloc);
     let mut buffer = vec![in alloc; 0; most]?;
@@ -111,10 +115,13 @@ fn open_streams<F: Files>(
     files: &mut F,
     paths: &[&str],
 ) -> Result<Vec<F::Input>, CommandFault>
-    ensures left { IfOk result (λ readers. map F.Input.Source.left readers.items ≡ map (F.tells files.old) (texts paths.now)) }
-    ensures running { IfOk result (λ readers. AllByRecursion (λ r. F.Input.Source.has_failed r ≡ false) readers.items) }
-    ensures cause { IfErr result (IsOpenCause _ (files_view (F.tells files.old) (F.may_refuse files.old)
-        F.Input.Source.left F.Input.Source.has_failed) (texts paths.now)) }
+    ensures left { IfOk result (λ readers.
+        map F.Input.Source.left readers.items ≡ map (F.tells files.old) (texts paths.now)) }
+    ensures running { IfOk result (λ readers.
+        AllByRecursion (λ r. F.Input.Source.has_failed r ≡ false) readers.items) }
+    ensures cause { let view = files_view (F.tells files.old) (F.may_refuse files.old)
+        F.Input.Source.left F.Input.Source.has_failed in
+        IfErr result (IsOpenCause _ view (texts paths.now)) }
 {
     let mut readers = Vec::with_capacity(alloc, paths.len())?;
     for path in paths {
@@ -129,6 +136,31 @@ fn open_streams<F: Files>(
     Ok(readers)
 }
 
+/// Checks the streams, by turns on this thread or each in a thread of its own.
+fn check_streams<T: Threads + Wait + Sync, C: Clock + Sync, R: Source + Send + Drop>(
+    threads: &T,
+    clock: &C,
+    alloc: Global,
+    formula: &Formula,
+    options: Options,
+    serial: bool,
+    readers: Vec<R>,
+) -> Result<Found, CommandFault>
+    requires running { AllByRecursion (λ r. R.has_failed r ≡ false) readers.items }
+    ensures checked { let layout = layout_of options formula.now (length readers.items) in
+        IfOk result (λ found. AreChecked _ (record { left = R.left; has_failed = R.has_failed })
+        serial formula.now layout options.tries (map R.left readers.items)
+        found.reports.items found.verdict) }
+    ensures cause { IfErr result
+        (IsRunCause serial (layout_of options formula.now (length readers.items))) }
+{
+    if serial {
+        check_serially(threads, alloc, formula, options, readers)
+    } else {
+        check_in_threads(threads, clock, alloc, formula, options, readers)
+    }
+}
+
 /// Checks the streams on this thread, by turns.
 fn check_serially<W: Wait, R: Source + Drop>(
     wait: &W,
@@ -138,10 +170,12 @@ fn check_serially<W: Wait, R: Source + Drop>(
     readers: Vec<R>,
 ) -> Result<Found, CommandFault>
     requires running { AllByRecursion (λ r. R.has_failed r ≡ false) readers.items }
-    ensures checked { IfOk result (λ found. AreChecked _ (record { left = R.left; has_failed = R.has_failed }) true formula.now
-        (layout_of options formula.now (length readers.items)) options.tries (map R.left readers.items)
+    ensures checked { let layout = layout_of options formula.now (length readers.items) in
+        IfOk result (λ found. AreChecked _ (record { left = R.left; has_failed = R.has_failed })
+        true formula.now layout options.tries (map R.left readers.items)
         found.reports.items found.verdict) }
-    ensures cause { IfErr result (IsRunCause true (layout_of options formula.now (length readers.items))) }
+    ensures cause { IfErr result
+        (IsRunCause true (layout_of options formula.now (length readers.items))) }
 {
     let gates = vec![in alloc; NoPause; readers.len()]?;
     let outcome = run_serial(wait, alloc, formula, options, readers, gates)?;
@@ -163,10 +197,12 @@ fn check_in_threads<T: Threads + Wait + Sync, C: Clock + Sync, R: Source + Send 
     readers: Vec<R>,
 ) -> Result<Found, CommandFault>
     requires running { AllByRecursion (λ r. R.has_failed r ≡ false) readers.items }
-    ensures checked { IfOk result (λ found. AreChecked _ (record { left = R.left; has_failed = R.has_failed }) false formula.now
-        (layout_of options formula.now (length readers.items)) options.tries (map R.left readers.items)
+    ensures checked { let layout = layout_of options formula.now (length readers.items) in
+        IfOk result (λ found. AreChecked _ (record { left = R.left; has_failed = R.has_failed })
+        false formula.now layout options.tries (map R.left readers.items)
         found.reports.items found.verdict) }
-    ensures cause { IfErr result (IsRunCause false (layout_of options formula.now (length readers.items))) }
+    ensures cause { IfErr result
+        (IsRunCause false (layout_of options formula.now (length readers.items))) }
 {
     let gates = pauses(alloc, clock, readers.len())?;
     let outcome = run(threads, alloc, formula, options, readers, gates)?;

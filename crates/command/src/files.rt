@@ -29,7 +29,8 @@ pub trait Files {
 
     /// Opens the file at a path, which is read from its beginning.
     fn open(&mut self, path: &str) -> Result<Self::Input, OpenFault>
-        ensures left { IfOk result (λ input. Self.Input.Source.left input ≡ tells self.old path.now) }
+        ensures left { IfOk result (λ input.
+            Self.Input.Source.left input ≡ tells self.old path.now) }
         ensures running { IfOk result (λ input. Self.Input.Source.has_failed input ≡ false) }
         ensures refused { result ≡ Err OpenFault.NotOpened → IsTrue (may_refuse self.old path.now) }
         ensures stays { tells self.new ≡ tells self.old }

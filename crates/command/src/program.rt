@@ -4,7 +4,7 @@ ghost use Rattle.clap.specs.Walk.{texts};
 ghost use Rattle.portfolio.specs.ReportText.{report_text};
 ghost use Rattle.command_line.specs.CommandLine.{HaveFault};
 ghost use Rattle.command.specs.Commands.{EndsWithFault, EndsWithReport, NameUnsatisfiable, SaysOfReport, files_view};
-ghost use Rattle.command.specs.Commands.{Takes, report_status};
+ghost use Rattle.command.specs.Commands.{Takes, change, report_status};
 ghost use Rattle.command.specs.Faults.{status_of, text_of};
 
 use crate::checking::{Found, check_words};
@@ -45,14 +45,12 @@ pub fn command<T: Threads + Wait + Sync, C: Clock + Sync, F: Files, O: Sink, E: 
     // What a user relies on: with status 0 the file of FORMULA, where it is told, is a text of a formula that no assignment satisfies.
     ensures sound { result ≡ 0 → NameUnsatisfiable (texts words.now) (F.tells files.old) }
     // A report of what the words and the files come to, or none and the cause; what goes out; and the status.
-    ensures ends { EndsWithReport _ (files_view (F.tells files.old) (F.may_refuse files.old)
-        F.Input.Source.left F.Input.Source.has_failed) (texts words.now)
-        (record { before = O.written out.old; after = O.written out.new; failed = O.has_failed out.new })
-        (record { before = E.written err.old; after = E.written err.new; failed = E.has_failed err.new }) result
-        ⊎ EndsWithFault _ (files_view (F.tells files.old) (F.may_refuse files.old)
-        F.Input.Source.left F.Input.Source.has_failed) (texts words.now)
-        (record { before = O.written out.old; after = O.written out.new; failed = O.has_failed out.new })
-        (record { before = E.written err.old; after = E.written err.new; failed = E.has_failed err.new }) result }
+    ensures ends { let view = files_view (F.tells files.old) (F.may_refuse files.old)
+        F.Input.Source.left F.Input.Source.has_failed in
+        let output = change (O.written out.old) (O.written out.new) (O.has_failed out.new) in
+        let errors = change (E.written err.old) (E.written err.new) (E.has_failed err.new) in
+        EndsWithReport _ view (texts words.now) output errors result
+        ⊎ EndsWithFault _ view (texts words.now) output errors result }
     // Words with a fault have a status of their own, unless memory ran out.
     ensures usage { HaveFault (texts words.now) → (result ≡ 2) ⊎ (result ≡ 6) }
     // So does a report that wasn't written.
@@ -68,10 +66,10 @@ pub fn command<T: Threads + Wait + Sync, C: Clock + Sync, F: Files, O: Sink, E: 
 fn report<O: Sink, E: Sink>(found: &Found, out: &mut O, err: &mut E) -> u8
     requires out { O.has_failed out.old ≡ false }
     requires err { E.has_failed err.old ≡ false }
-    ensures printed { Takes (record { before = O.written out.old; after = O.written out.new; failed = O.has_failed out.new })
+    ensures printed { Takes (change (O.written out.old) (O.written out.new) (O.has_failed out.new))
         (report_text found.now.reports.items found.now.verdict) }
     ensures said { SaysOfReport (O.has_failed out.new)
-        (record { before = E.written err.old; after = E.written err.new; failed = E.has_failed err.new }) }
+        (change (E.written err.old) (E.written err.new) (E.has_failed err.new)) }
     ensures status { result ≡ report_status (O.has_failed out.new) found.now.verdict }
 {
     match write_report(&found.reports, found.verdict, out) {
@@ -86,7 +84,7 @@ fn report<O: Sink, E: Sink>(found: &Found, out: &mut O, err: &mut E) -> u8
 /// Says why there is no report, or not all of it, and gives the status, whether that could be written or not.
 fn say<E: Sink>(fault: &CommandFault, err: &mut E) -> u8
     requires err { E.has_failed err.old ≡ false }
-    ensures said { Takes (record { before = E.written err.old; after = E.written err.new; failed = E.has_failed err.new })
+    ensures said { Takes (change (E.written err.old) (E.written err.new) (E.has_failed err.new))
         (text_of fault.now) }
     ensures status { result ≡ status_of fault.now }
 {

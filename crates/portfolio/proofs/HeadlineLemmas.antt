@@ -1,6 +1,6 @@
 -- The one history of a run with threads, and what the reports say of it.
-use Rattle.std.proofs.Common.{◌≡◌, ◌⊎◌, inl, inr, ℕ, zero, suc, ◌+◌, ◌-◌, ◌<◌, ◌≤◌, Bool, true, false, List, [], ◌∷◌, ◌++◌, length, map, Option, Some, refl, sym, ap, ap₂, subst, ◌∙◌, arith, append-nil}
-use Rattle.std.specs.Prelude.{◌||◌, IsTrue, slice_get}
+use Rattle.std.proofs.Common.{◌≡◌, ◌⊎◌, inl, inr, ℕ, suc, ◌+◌, ◌-◌, ◌<◌, ◌≤◌, Bool, true, false, List, [], ◌∷◌, ◌++◌, length, map, Option, Some, refl, sym, ap, ap₂, subst, ◌∙◌, arith, append-nil}
+use Rattle.std.specs.Prelude.{◌||◌, slice_get}
 use Rattle.std.specs.List.{list_any}
 use Rattle.std.proofs.lemmas.Option.{slice_get_within}
 use Rattle.lrup_model.specs.Entailment.{IsUnsatisfiable}
@@ -14,7 +14,7 @@ use Rattle.lrup_model.specs.declared.layout.LayoutFault.TheVariants as faults
 use Rattle.lrup_model.specs.Pass.{View, IsFair, PassMoves, AreMet, AllSaw, pass_place}
 use Rattle.lrup_model.specs.Place.{Caller}
 use Rattle.lrup_model.specs.State.{state}
-use Rattle.clause_store.specs.Passes.{StoreValue, PassValue, IsOpened, AreOf, HaveMet, store_of, views}
+use Rattle.clause_store.specs.Passes.{StoreValue, PassValue, IsOpened, AreOf, HaveMet, views}
 use Rattle.stream_check.specs.declared.report.Report.{Report}
 use Rattle.stream_check.specs.Judging.{joined}
 use Rattle.stream_check.specs.Setting.{Setting}
@@ -23,7 +23,7 @@ use Rattle.portfolio.specs.declared.outcome.Verdict.TheVariants.{Unsatisfiable}
 use Rattle.portfolio.specs.Outcomes.{IsVerdictOf}
 use Rattle.portfolio.specs.Headline.{HaveCalls, HaveOneHistory, AreJudgedBy}
 use Rattle.portfolio.specs.Joining.{FoundValue, CanBegin, AllCanBegin, Finishes, AllFinish}
-use Rattle.portfolio.specs.Streams.{Stream, AreTold, IsTold, JudgesStream, setting_of}
+use Rattle.portfolio.specs.Streams.{Stream, AreTold, JudgesStream, setting_of}
 use Rattle.portfolio.specs.Turns.{AreStarted}
 use Rattle.portfolio.specs.Working.{WorkerValue, Works, IsStarted}
 use Rattle.portfolio.proofs.EmptyLemmas.{sound}

@@ -1,11 +1,11 @@
 -- A worker's thread, from its first turn to what its join gives back.
-use Rattle.std.proofs.Common.{◌≡◌, ◌++◌, ◌⊎◌, inl, inr, ℕ, List, [], ◌∷◌, Option, Some, None, true, IfSome, IsSome, refl, sym, ap, subst, ◌∙◌, length, map, arith, append_assoc, append-nil}
+use Rattle.std.proofs.Common.{◌≡◌, ◌++◌, ◌⊎◌, inl, inr, ℕ, List, [], ◌∷◌, Option, Some, None, IfSome, IsSome, refl, sym, ap, subst, ◌∙◌, length, map, arith, append_assoc, append-nil}
 use Rattle.std.proofs.lemmas.Grind.{flat_map-append}
 use Rattle.std.proofs.lemmas.List.{map-append}
 use Rattle.std.specs.declared.vec.IntoIter.{IntoIter}
-use Rattle.std.specs.Vec.Iter.{into_iter_items, into_iter_len, into_iter_steps}
+use Rattle.std.specs.Vec.Iter.{into_iter_items, into_iter_steps}
 use Rattle.lrup_model.specs.Event.{History}
-use Rattle.lrup_model.specs.Pass.{View, PassMoves, pass_place}
+use Rattle.lrup_model.specs.Pass.{PassMoves, pass_place}
 use Rattle.lrup_model.specs.PassLemmas.{moves_none, moves_append}
 use Rattle.clause_store.specs.Passes.{StoreValue, PassValue, store_of}
 use Rattle.clause_store.specs.Desks.{DeskMoves}

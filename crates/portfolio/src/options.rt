@@ -35,13 +35,15 @@ impl Options {
     /// None exactly where there are more than 1,000,000 tries.
     pub fn new(tries: u64, lines: u64, room: u64) -> Option<Options>
         ensures none { IsNone result ↔ (max_tries < tries) }
-        ensures some { IfSome result (λ o. o ≡ record { tries = tries; lines = lines; room = room }) }
+        ensures some { IfSome result (λ o.
+            o ≡ record { tries = tries; lines = lines; room = room }) }
     {
         if tries > Options::MAX_TRIES {
             return None;
         }
         Some(Options { tries, lines, room })
     }
+
     /// How often a hint of another stream is fetched again while it is vacant: at most 1,000,000.
     pub(crate) fn tries(&self) -> u64
         ensures tries { result ≡ self.now.tries }

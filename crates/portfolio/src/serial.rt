@@ -1,10 +1,9 @@
 //! A run on one thread.
-ghost use Rattle.std.specs.Prelude.{◌≡◌, ◌≢◌, ◌+◌, ◌<◌, ◌≤◌, true, false, ℕ, List, [], Option, None, IfOk, Err, IsSome, length, map, vec_len, vec_capacity};
+ghost use Rattle.std.specs.Prelude.{◌≡◌, ◌≢◌, ◌+◌, ◌<◌, ◌≤◌, true, false, ℕ, List, [], None, IfOk, Err, length, map, vec_len, vec_capacity};
 ghost use Rattle.std.specs.List.{AllByRecursion};
 ghost use Rattle.lrup_model.specs.Entailment.{IsUnsatisfiable};
 ghost use Rattle.lrup_model.specs.Event.{History};
-ghost use Rattle.lrup_model.specs.Formula.{Cnf};
-ghost use Rattle.lrup_model.specs.Layout.{LayoutValue, IsStream};
+ghost use Rattle.lrup_model.specs.Layout.{IsStream};
 ghost use Rattle.lrup_model.specs.Plain.{PlainMoves, free_at, plain_place};
 ghost use Rattle.stream_check.specs.Checker.{IsReadyAt};
 ghost use Rattle.stream_check.specs.Judging.{joined};
@@ -47,7 +46,8 @@ pub fn run_serial<W: Wait, R: Source + Drop, G: Gate + Drop>(
         (λ s. true) streams outcome.reports.items) }
     ensures verdict { IfOk result (λ outcome. IsVerdictOf outcome.reports.items outcome.verdict) }
     // What a user relies on.
-    ensures sound { IfOk result (λ outcome. outcome.verdict ≡ Verdict.Unsatisfiable → IsUnsatisfiable formula.now) }
+    ensures sound { IfOk result (λ outcome.
+        outcome.verdict ≡ Verdict.Unsatisfiable → IsUnsatisfiable formula.now) }
 {
     let layout = options.layout(formula, readers.len())?;
     let mut map = PlainMap::open(alloc, formula, &layout)?;
@@ -70,7 +70,8 @@ pub(crate) fn workers_of<R: Source + Drop, G: Gate + Drop>(
     requires running { AllByRecursion (λ r. R.has_failed r ≡ false) readers.items }
     requires streams { layout.now.streams ≡ length readers.items }
     requires tries { tries ≤ max_tries }
-    ensures { IfOk result (λ workers. AreStarted layout.now tries 1 (map R.left readers.items) workers.items) }
+    ensures { IfOk result (λ workers.
+        AreStarted layout.now tries 1 (map R.left readers.items) workers.items) }
 {
     let mut workers = Vec::with_capacity(alloc, readers.len())?;
     for (reader, gate) in readers.into_iter().zip(gates) {

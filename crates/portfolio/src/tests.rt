@@ -1,16 +1,129 @@
-// The texts of a report, and sinks that fail.
-ghost use Rattle.std.specs.Prelude.{◌≡◌, Some, false};
+// The texts of a report, and sinks that fail; and what the runs of both modules are given.
+ghost use Rattle.std.specs.Prelude.{◌≡◌, Some, false, IfOk};
+ghost use Rattle.std.specs.List.{AllByRecursion};
 
 use crate::{Options, RunFault, Verdict, write_report};
-use lrup_model::LayoutFault;
-use lrup_text::{LineFault, Sink, WriteFault};
-use std::alloc::Global;
+use lrup_model::{Formula, Id, LayoutFault, Lit};
+use lrup_text::{LineFault, ReadFault, Sink, Source, WriteFault};
+use std::alloc::{AllocError, Global};
 use std::process::Abort;
 use std::test::Fail;
-use stream_check::{Ending, Fault, Report};
+use stream_check::{Ending, Fault, Gate, Report};
 
 mod serial;
 mod threads;
+
+/// A gate that does nothing.
+#[derive(Clone, Copy)]
+struct Open;
+
+impl Gate for Open {
+    fn before_fetch(&mut self, _stream: u64, _id: Id, _attempt: u64) {}
+
+    fn after_publish(&mut self, _stream: u64, _id: Id) {}
+}
+
+fn lit(value: i64) -> Result<Lit, Fail> {
+    let lit = Lit::new(value).ok_or("no literal")?;
+    Ok(lit)
+}
+
+fn push_pair(formula: &mut Formula, one: Lit, other: Lit) -> Result<(), Fail> {
+    let vars = formula.vars();
+    if one == other || one.var() > vars || other.var() > vars || formula.len() > 9 {
+        return Err("no pair".into());
+    }
+    formula.push(&[one, other])?;
+    Ok(())
+}
+
+/// 1 2 0 / -1 2 0 / 1 -2 0 / -1 -2 0, which no assignment makes all true.
+fn four_clauses(alloc: Global) -> Result<Formula, Fail> {
+    let mut formula = Formula::new(alloc, 2);
+    push_pair(&mut formula, lit(1)?, lit(2)?)?;
+    push_pair(&mut formula, lit(-1)?, lit(2)?)?;
+    push_pair(&mut formula, lit(1)?, lit(-2)?)?;
+    push_pair(&mut formula, lit(-1)?, lit(-2)?)?;
+    Ok(formula)
+}
+
+/// Two streams over them; the first cites the clause that the second derives.
+const CITING: [&str; 2] = ["5 2 0 1 2 0\n7 0 5 6 0\n", "6 -2 0 3 4 0\n"];
+
+fn options(tries: u64, lines: u64, room: u64) -> Result<Options, Fail> {
+    let options = Options::new(tries, lines, room).ok_or("too many tries")?;
+    Ok(options)
+}
+
+fn defaults() -> Result<Options, Fail> {
+    options(1_000, 65_536, 1_048_576)
+}
+
+/// A stream that comes so many bytes a read, until a read of this number, from 1 on, fails.
+#[derive(Drop)]
+struct Pieces<'a> {
+    left: &'a [u8],
+    most: usize,
+    fails_at: usize,
+    reads: usize,
+    /// The most bytes that a read asked for.
+    asked: usize,
+    failed: bool,
+}
+
+impl<'a> Pieces<'a> {
+    fn new(text: &'a str, most: usize, fails_at: usize) -> Pieces<'a>
+        ensures { result.failed ≡ false }
+    {
+        Pieces {
+            left: text.as_bytes(),
+            most,
+            fails_at,
+            reads: 0,
+            asked: 0,
+            failed: false,
+        }
+    }
+}
+
+impl<'a> Source for Pieces<'a> {
+    ghost left = { λ s. Some s.left.now };
+
+    ghost has_failed = { λ s. s.failed };
+
+    fn read(&mut self, buffer: &mut [u8]) -> Result<usize, ReadFault> {
+        self.reads = self.reads.saturating_add(1);
+        self.asked = self.asked.max(buffer.len());
+        if self.reads == self.fails_at {
+            self.failed = true;
+            return Err(ReadFault);
+        }
+        let count = buffer.len().min(self.most.max(1)).min(self.left.len());
+        let (front, rest) = self.left.split_at(count);
+        buffer[..count].copy_from_slice(front);
+        self.left = rest;
+        Ok(count)
+    }
+
+    fn failed(&self) -> bool {
+        self.failed
+    }
+}
+
+/// A reader of each stream, which gives so many bytes a read and never fails.
+fn readers_of<'a>(
+    alloc: Global,
+    streams: &[&'a str],
+    most: usize,
+) -> Result<Vec<Pieces<'a>>, AllocError>
+    ensures { IfOk result (λ readers. AllByRecursion (λ r. r.failed ≡ false) readers.items) }
+{
+    let mut readers = Vec::new(alloc);
+    for stream in streams {
+        readers.push(Pieces::new(stream, most, 0))?;
+    }
+    Ok(readers)
+}
 
 /// Paper that takes so many bytes a write, at least one, until a write of this number, from 1 on.
 #[derive(Drop)]

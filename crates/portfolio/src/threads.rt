@@ -53,7 +53,8 @@ pub fn run<T: Threads + Wait + Sync, R: Source + Send + Drop, G: Gate + Send + D
         (views outcome.passes.items) outcome.reports.items) }
     ensures verdict { IfOk result (λ outcome. IsVerdictOf outcome.reports.items outcome.verdict) }
     // What a user relies on.
-    ensures sound { IfOk result (λ outcome. outcome.verdict ≡ Verdict.Unsatisfiable → IsUnsatisfiable formula.now) }
+    ensures sound { IfOk result (λ outcome.
+        outcome.verdict ≡ Verdict.Unsatisfiable → IsUnsatisfiable formula.now) }
 {
     let layout = options.layout(formula, readers.len())?;
     let (store, passes) = Store::open(alloc, formula, layout)?;
@@ -86,11 +87,16 @@ fn room_for<R: Source + Drop, G: Gate + Drop>(
     alloc: Global,
     count: usize,
 ) -> Result<Room<R, G>, AllocError>
-    ensures handles { IfOk result (λ room. (room.handles.items ≡ []) × (vec_capacity room.handles ≡ count)) }
-    ensures found { IfOk result (λ room. (room.found.items ≡ []) × (vec_capacity room.found ≡ count)) }
-    ensures reports { IfOk result (λ room. (room.reports.items ≡ []) × (vec_capacity room.reports ≡ count)) }
-    ensures met { IfOk result (λ room. (room.met.items ≡ []) × (vec_capacity room.met ≡ count)) }
-    ensures readers { IfOk result (λ room. (room.readers.items ≡ []) × (vec_capacity room.readers ≡ count)) }
+    ensures handles { IfOk result (λ room.
+        (room.handles.items ≡ []) × (vec_capacity room.handles ≡ count)) }
+    ensures found { IfOk result (λ room.
+        (room.found.items ≡ []) × (vec_capacity room.found ≡ count)) }
+    ensures reports { IfOk result (λ room.
+        (room.reports.items ≡ []) × (vec_capacity room.reports ≡ count)) }
+    ensures met { IfOk result (λ room.
+        (room.met.items ≡ []) × (vec_capacity room.met ≡ count)) }
+    ensures readers { IfOk result (λ room.
+        (room.readers.items ≡ []) × (vec_capacity room.readers ≡ count)) }
 {
     Ok(Room {
         handles: Vec::with_capacity(alloc, count)?,
@@ -194,8 +200,10 @@ fn start_all<'s, E, W: Wait + Sync, R: Source + Send + Drop + 's, G: Gate + Send
     requires begin { AllCanBegin store.now workers.items passes.items }
     requires none { handles.old.items ≡ [] }
     requires room { vec_len workers ≤ vec_capacity handles.old }
-    ensures workers { OnOk result (map (λ h. h.promise.worker.value) handles.new.items ≡ workers.items) }
-    ensures passes { OnOk result (map (λ h. h.promise.pass.value) handles.new.items ≡ passes.items) }
+    ensures workers { OnOk result
+        (map (λ h. h.promise.worker.value) handles.new.items ≡ workers.items) }
+    ensures passes { OnOk result
+        (map (λ h. h.promise.pass.value) handles.new.items ≡ passes.items) }
     ensures spawn { IfErr result (λ stream. (0 < stream) × (stream ≤ vec_len workers)) }
     ensures room { vec_capacity handles.new ≡ vec_capacity handles.old }
 {

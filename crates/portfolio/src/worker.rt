@@ -42,7 +42,8 @@ impl<R: Source + Drop, G: Gate + Drop> Model for Worker<R, G> {
       checker = w.checker;
     } };
 
-    ghost invariant = { λ w. IsWorker (R.has_failed w.reader) (length w.buffer.items) w.from w.to w.checker.ending };
+    ghost invariant = { λ w. IsWorker (R.has_failed w.reader) (length w.buffer.items)
+        w.from w.to w.checker.ending };
 }
 
 impl<R: Source + Drop, G: Gate + Drop> Worker<R, G> {
@@ -146,7 +147,8 @@ impl<R: Source + Drop, G: Gate + Drop> Worker<R, G> {
     /// What is said of the stream, and its reader.
     pub fn into_parts(self) -> (Report, R)
         requires { IsSome self.checker.ending }
-        ensures report { IfSome self.checker.ending (λ ending. result.0 ≡ report_at self.checker.tally ending) }
+        ensures report { IfSome self.checker.ending (λ ending.
+            result.0 ≡ report_at self.checker.tally ending) }
         ensures left { R.left result.1 ≡ self.left }
         ensures failed { R.has_failed result.1 ≡ self.has_failed }
     {

@@ -1,125 +1,17 @@
 //! The worked rows as runs on one thread, and what the readers are asked for.
-ghost use Rattle.std.specs.Prelude.{◌≡◌, Some, None, false, IfOk};
+ghost use Rattle.std.specs.Prelude.{◌≡◌, Some, None, false};
 ghost use Rattle.std.specs.List.{AllByRecursion};
 
-use super::Paper;
+use super::{CITING, Open, Paper, Pieces, defaults, four_clauses, options, readers_of};
 use crate::{Options, RunFault, SerialOutcome, run_serial, write_report};
-use lrup_model::{Formula, Id, LayoutFault, Lit};
+use lrup_model::{Formula, Id, LayoutFault};
 use lrup_text::{ReadFault, Source};
-use std::alloc::{AllocError, Global};
+use std::alloc::Global;
 use std::cell::Cell;
 use std::process::Abort;
 use std::sync::Wait;
 use std::test::Fail;
 use stream_check::Gate;
-
-/// A stream that comes so many bytes a read, until a read of this number, from 1 on, fails.
-#[derive(Drop)]
-struct Pieces<'a> {
-    left: &'a [u8],
-    most: usize,
-    fails_at: usize,
-    reads: usize,
-    /// The most bytes that a read asked for.
-    asked: usize,
-    failed: bool,
-}
-
-impl<'a> Pieces<'a> {
-    fn new(text: &'a str, most: usize, fails_at: usize) -> Pieces<'a>
-        ensures { result.failed ≡ false }
-    {
-        Pieces {
-            left: text.as_bytes(),
-            most,
-            fails_at,
-            reads: 0,
-            asked: 0,
-            failed: false,
-        }
-    }
-}
-
-impl<'a> Source for Pieces<'a> {
-    ghost left = { λ s. Some s.left.now };
-
-    ghost has_failed = { λ s. s.failed };
-
-    fn read(&mut self, buffer: &mut [u8]) -> Result<usize, ReadFault> {
-        self.reads = self.reads.saturating_add(1);
-        self.asked = self.asked.max(buffer.len());
-        if self.reads == self.fails_at {
-            self.failed = true;
-            return Err(ReadFault);
-        }
-        let count = buffer.len().min(self.most.max(1)).min(self.left.len());
-        let (front, rest) = self.left.split_at(count);
-        buffer[..count].copy_from_slice(front);
-        self.left = rest;
-        Ok(count)
-    }
-
-    fn failed(&self) -> bool {
-        self.failed
-    }
-}
-
-/// A gate that does nothing.
-#[derive(Clone, Copy)]
-struct Open;
-
-impl Gate for Open {
-    fn before_fetch(&mut self, _stream: u64, _id: Id, _attempt: u64) {}
-
-    fn after_publish(&mut self, _stream: u64, _id: Id) {}
-}
-
-fn lit(value: i64) -> Result<Lit, Fail> {
-    let lit = Lit::new(value).ok_or("no literal")?;
-    Ok(lit)
-}
-
-fn push_pair(formula: &mut Formula, one: Lit, other: Lit) -> Result<(), Fail> {
-    let vars = formula.vars();
-    if one == other || one.var() > vars || other.var() > vars || formula.len() > 9 {
-        return Err("no pair".into());
-    }
-    formula.push(&[one, other])?;
-    Ok(())
-}
-
-/// 1 2 0 / -1 2 0 / 1 -2 0 / -1 -2 0
-fn four_clauses(alloc: Global) -> Result<Formula, Fail> {
-    let mut formula = Formula::new(alloc, 2);
-    push_pair(&mut formula, lit(1)?, lit(2)?)?;
-    push_pair(&mut formula, lit(-1)?, lit(2)?)?;
-    push_pair(&mut formula, lit(1)?, lit(-2)?)?;
-    push_pair(&mut formula, lit(-1)?, lit(-2)?)?;
-    Ok(formula)
-}
-
-fn options(tries: u64, lines: u64, room: u64) -> Result<Options, Fail> {
-    let options = Options::new(tries, lines, room).ok_or("too many tries")?;
-    Ok(options)
-}
-
-fn defaults() -> Result<Options, Fail> {
-    options(1_000, 65_536, 1_048_576)
-}
-
-fn readers_of<'a>(
-    alloc: Global,
-    streams: &[&'a str],
-    most: usize,
-) -> Result<Vec<Pieces<'a>>, AllocError>
-    ensures { IfOk result (λ readers. AllByRecursion (λ r. r.failed ≡ false) readers.items) }
-{
-    let mut readers = Vec::new(alloc);
-    for stream in streams {
-        readers.push(Pieces::new(stream, most, 0))?;
-    }
-    Ok(readers)
-}
 
 fn run_pieces<'a, W: Wait>(
     wait: &W,
@@ -173,8 +65,7 @@ const ROW_1: &str = "5 2 0 1 2 0\n6 0 5 3 4 0\n";
 
 const SAYS_1: &str = "c stream 1: 2 added, 0 deleted, ended\ns UNSATISFIABLE\n";
 
-const ROW_2: [&str; 2] = ["5 2 0 1 2 0\n7 0 5 6 0\n", "6 -2 0 3 4 0\n"];
-
+/// Row 2 is CITING.
 const SAYS_2: &str = "c stream 1: 2 added, 0 deleted, ended
 c stream 2: 1 added, 0 deleted, ended
 s UNSATISFIABLE
@@ -349,7 +240,7 @@ fn rows_without_variables(rt: HostRuntime) -> Result<(), Fail> {
 fn always_out_of_memory(rt: HostRuntime) -> Result<(), Fail> {
     let formula = four_clauses(rt.alloc())?;
     row(&rt, rt.alloc(), &formula, defaults()?, &[ROW_1], SAYS_1)?;
-    row(&rt, rt.alloc(), &formula, defaults()?, &ROW_2, SAYS_2)?;
+    row(&rt, rt.alloc(), &formula, defaults()?, &CITING, SAYS_2)?;
     row(&rt, rt.alloc(), &formula, defaults()?, &[ROW_19], SAYS_19)
 }
 
@@ -374,7 +265,7 @@ fn serial_takes_streams_whole(rt: HostRuntime) -> Result<(), Fail> {
     let formula = four_clauses(rt.alloc())?;
     for most in [1, 2, usize::MAX] {
         let publishes = Cell::new(0);
-        let readers = readers_of(rt.alloc(), &ROW_2, most)?;
+        let readers = readers_of(rt.alloc(), &CITING, most)?;
         let mut gates = Vec::new(rt.alloc());
         for _ in 0..readers.len() {
             gates.push(Order {

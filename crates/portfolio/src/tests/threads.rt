@@ -1,12 +1,11 @@
 //! Runs with a thread for each stream, with answers worked out by hand from the rules; gates that hold threads until others
 //! have come as far, so that one thread that takes the streams one after the other never passes them.
-ghost use Rattle.std.specs.Prelude.{◌≡◌, ◌≤◌, ◌<◌, ◌^◌, ℤ, false, length, IfOk, OnOk, vec_len};
-ghost use Rattle.std.specs.List.{AllByRecursion};
-ghost use Rattle.lrup_model.specs.Literal.{max_variable};
+ghost use Rattle.std.specs.Prelude.{◌≡◌, IfOk, vec_len};
 
+use super::{CITING, Open, Pieces, bad_line, defaults, four_clauses, options, readers_of, report};
 use crate::{Options, Outcome, Pause, RunFault, Verdict, run};
-use lrup_model::{Formula, Id, LayoutFault, Lit};
-use lrup_text::{ReadFault, Source};
+use lrup_model::{Id, LayoutFault};
+use lrup_text::Source;
 use std::alloc::{AllocError, Global};
 use std::process::Abort;
 use std::sync::Wait;
@@ -17,59 +16,6 @@ use std::time::{Clock, Duration};
 use std::{io, thread};
 use stream_check::{Ending, Fault, Gate, Report};
 
-/// A stream that comes at most so many bytes at a time, and breaks where no byte is left, or ends there.
-#[derive(Drop)]
-struct Tape<'a> {
-    left: &'a [u8],
-    breaks: bool,
-    failed: bool,
-}
-
-impl<'a> Source for Tape<'a> {
-    ghost use Rattle.std.specs.Prelude.{Some};
-
-    ghost left = { λ t. Some t.left.now };
-
-    ghost has_failed = { λ t. t.failed };
-
-    fn read(&mut self, buffer: &mut [u8]) -> Result<usize, ReadFault> {
-        if self.breaks && self.left.is_empty() {
-            self.failed = true;
-            return Err(ReadFault);
-        }
-        let count = buffer.len().min(5).min(self.left.len());
-        let (front, rest) = self.left.split_at(count);
-        buffer[..count].copy_from_slice(front);
-        self.left = rest;
-        Ok(count)
-    }
-
-    fn failed(&self) -> bool {
-        self.failed
-    }
-}
-
-/// A tape for each text, that of stream `broken`, from 1 on, one that breaks.
-fn tapes_of<'a>(
-    alloc: Global,
-    texts: &[&'a str],
-    broken: usize,
-) -> Result<Vec<Tape<'a>>, AllocError>
-    ensures { IfOk result (λ tapes. AllByRecursion (λ t. t.failed ≡ false) tapes.items) }
-{
-    let mut tapes = Vec::new(alloc);
-    for text in texts {
-        let left = text.as_bytes();
-        let breaks = tapes.len() + 1 == broken;
-        tapes.push(Tape {
-            left,
-            breaks,
-            failed: false,
-        })?;
-    }
-    Ok(tapes)
-}
-
 /// A gate for each stream.
 fn gates_of<G: Copy>(alloc: Global, gate: G, count: usize) -> Result<Vec<G>, AllocError>
     ensures { IfOk result (λ gates. vec_len gates ≡ count) }
@@ -77,45 +23,12 @@ fn gates_of<G: Copy>(alloc: Global, gate: G, count: usize) -> Result<Vec<G>, All
     vec![in alloc; gate; count]
 }
 
-fn lit(value: i64) -> Result<Lit, Fail>
-    ensures { IfOk result (λ l. l ≡ value) }
-{
-    let lit = Lit::new(value).ok_or("no literal")?;
-    Ok(lit)
-}
-
-fn push_pair(formula: &mut Formula, one: Lit, other: Lit) -> Result<(), Fail>
-    ensures { OnOk result (formula.new.vars ≡ formula.old.vars) }
-{
-    let vars = formula.vars();
-    if one == other || one.var() > vars || other.var() > vars || formula.len() > 9 {
-        return Err("no pair".into());
-    }
-    formula.push(&[one, other])?;
-    Ok(())
-}
-
-/// 1 2 0 / -1 2 0 / 1 -2 0 / -1 -2 0, which no assignment makes all true.
-fn four(alloc: Global) -> Result<Formula, Fail> {
-    let mut formula = Formula::new(alloc, 2);
-    push_pair(&mut formula, lit(1)?, lit(2)?)?;
-    push_pair(&mut formula, lit(-1)?, lit(2)?)?;
-    push_pair(&mut formula, lit(1)?, lit(-2)?)?;
-    push_pair(&mut formula, lit(-1)?, lit(-2)?)?;
-    Ok(formula)
-}
-
 fn ended(added: u64, empty: bool) -> Report {
     Report {
-        added,
-        deleted: 0,
         empty,
-        ending: Ending::Ended,
+        ..report(added, 0, Ending::Ended)
     }
 }
-
-/// The first stream wants the clause that the second derives.
-const CITING: [&str; 2] = ["5 2 0 1 2 0\n7 0 5 6 0\n", "6 -2 0 3 4 0\n"];
 
 /// How often a gate looks before it gives up.
 const TURNS: u64 = 10_000_000;
@@ -154,16 +67,15 @@ impl Gate for Holds<'_> {
 
 #[test]
 fn a_held_stream_finds_the_others_clause(rt: HostRuntime) -> Result<(), Fail> {
-    let formula = four(rt.alloc())?;
-    let options = Options::new(1_000, 65_536, 1_048_576).ok_or("no options")?;
+    let formula = four_clauses(rt.alloc())?;
     let (published, late) = (AtomicBool::new(false), AtomicBool::new(false));
     let gate = Holds {
         published: &published,
         late: &late,
     };
-    let readers = tapes_of(rt.alloc(), &CITING, 0)?;
+    let readers = readers_of(rt.alloc(), &CITING, 5)?;
     let gates = gates_of(rt.alloc(), gate, readers.len())?;
-    let outcome = run(&rt, rt.alloc(), &formula, options, readers, gates)?;
+    let outcome = run(&rt, rt.alloc(), &formula, defaults()?, readers, gates)?;
     assert!(rt; !late.load(Ordering::SeqCst), "stream 2 published in time");
     assert_eq!(rt;
         outcome.reports.as_slice(),
@@ -210,15 +122,15 @@ fn meet<'a, T: Threads + Wait + Sync>(
     options: Options,
     texts: &[&'a str],
     flags: &[AtomicBool],
-) -> Result<(Outcome<Tape<'a>>, bool), Fail> {
-    let formula = four(alloc)?;
+) -> Result<(Outcome<Pieces<'a>>, bool), Fail> {
+    let formula = four_clauses(alloc)?;
     let late = AtomicBool::new(false);
     let gate = Meets {
         flags,
         late: &late,
         has_met: false,
     };
-    let readers = tapes_of(alloc, texts, 0)?;
+    let readers = readers_of(alloc, texts, 5)?;
     let gates = gates_of(alloc, gate, readers.len())?;
     let outcome = run(rt, alloc, &formula, options, readers, gates)?;
     Ok((outcome, late.load(Ordering::SeqCst)))
@@ -227,9 +139,8 @@ fn meet<'a, T: Threads + Wait + Sync>(
 /// Workers that ran one after the other in one thread would never see each other's flags.
 #[test]
 fn workers_one_after_the_other(rt: HostRuntime) -> Result<(), Fail> {
-    let options = Options::new(1_000, 65_536, 1_048_576).ok_or("no options")?;
     let flags = [AtomicBool::new(false), AtomicBool::new(false)];
-    let (_outcome, late) = meet(&rt, rt.alloc(), options, &CITING, &flags)?;
+    let (_outcome, late) = meet(&rt, rt.alloc(), defaults()?, &CITING, &flags)?;
     assert!(rt; !late, "both saw the other");
     Ok(())
 }
@@ -248,7 +159,6 @@ const EIGHT: [&str; 8] = [
 
 #[test]
 fn eight_threads_are_at_work_at_once(rt: HostRuntime) -> Result<(), Fail> {
-    let options = Options::new(1_000, 1, 1).ok_or("no options")?;
     let flags = [
         AtomicBool::new(false),
         AtomicBool::new(false),
@@ -259,7 +169,7 @@ fn eight_threads_are_at_work_at_once(rt: HostRuntime) -> Result<(), Fail> {
         AtomicBool::new(false),
         AtomicBool::new(false),
     ];
-    let (outcome, late) = meet(&rt, rt.alloc(), options, &EIGHT, &flags)?;
+    let (outcome, late) = meet(&rt, rt.alloc(), options(1_000, 1, 1)?, &EIGHT, &flags)?;
     assert!(rt; !late, "each saw all others");
     assert_eq!(rt; outcome.reports.len(), 8);
     for report in &outcome.reports {
@@ -269,20 +179,9 @@ fn eight_threads_are_at_work_at_once(rt: HostRuntime) -> Result<(), Fail> {
     Ok(())
 }
 
-/// A gate that does nothing.
-#[derive(Clone, Copy)]
-struct Open;
-
-impl Gate for Open {
-    fn before_fetch(&mut self, _stream: u64, _id: Id, _attempt: u64) {}
-
-    fn after_publish(&mut self, _stream: u64, _id: Id) {}
-}
-
 #[test]
 fn sixty_four_streams(rt: HostRuntime) -> Result<(), Fail> {
-    let formula = four(rt.alloc())?;
-    let options = Options::new(0, 1, 1).ok_or("no options")?;
+    let formula = four_clauses(rt.alloc())?;
     let mut lines = Vec::new(rt.alloc());
     for s in 1u64..=64 {
         lines.push(format!(in rt.alloc(); "{} 2 0 1 2 0\n", 4 + s)?)?;
@@ -291,9 +190,9 @@ fn sixty_four_streams(rt: HostRuntime) -> Result<(), Fail> {
     for line in &lines {
         texts.push(line.as_str())?;
     }
-    let readers = tapes_of(rt.alloc(), &texts, 0)?;
+    let readers = readers_of(rt.alloc(), &texts, 5)?;
     let gates = gates_of(rt.alloc(), Open, readers.len())?;
-    let outcome = run(&rt, rt.alloc(), &formula, options, readers, gates)?;
+    let outcome = run(&rt, rt.alloc(), &formula, options(0, 1, 1)?, readers, gates)?;
     assert_eq!(rt; outcome.reports.len(), 64);
     for report in &outcome.reports {
         assert_eq!(rt; *report, ended(1, false));
@@ -307,28 +206,15 @@ fn sixty_four_streams(rt: HostRuntime) -> Result<(), Fail> {
 
 #[test]
 fn one_reader_fails(rt: HostRuntime) -> Result<(), Fail> {
-    let formula = four(rt.alloc())?;
-    let options = Options::new(1_000, 65_536, 1_048_576).ok_or("no options")?;
-    let texts = [
-        "5 2 0 1 2 0\n8 0 5 3 4 0\n",
-        "6 2 0 1 2 0\n9 2 0",
-        "7 2 0 1 0\n10 2 0 1 2 0\n",
-    ];
-    let readers = tapes_of(rt.alloc(), &texts, 2)?;
+    let formula = four_clauses(rt.alloc())?;
+    let mut readers = Vec::new(rt.alloc());
+    readers.push(Pieces::new("5 2 0 1 2 0\n8 0 5 3 4 0\n", 5, 0))?;
+    readers.push(Pieces::new("6 2 0 1 2 0\n9 2 0", 5, 5))?;
+    readers.push(Pieces::new("7 2 0 1 0\n10 2 0 1 2 0\n", 5, 0))?;
     let gates = gates_of(rt.alloc(), Open, readers.len())?;
-    let outcome = run(&rt, rt.alloc(), &formula, options, readers, gates)?;
-    let failed = Report {
-        added: 1,
-        deleted: 0,
-        empty: false,
-        ending: Ending::ReadFailed(2),
-    };
-    let bad = Report {
-        added: 0,
-        deleted: 0,
-        empty: false,
-        ending: Ending::Bad(1, Fault::NoConflict),
-    };
+    let outcome = run(&rt, rt.alloc(), &formula, defaults()?, readers, gates)?;
+    let failed = report(1, 0, Ending::ReadFailed(2));
+    let bad = bad_line(1, Fault::NoConflict);
     assert_eq!(rt;
         outcome.reports.as_slice(),
         [ended(2, true), failed, bad].as_slice()
@@ -367,33 +253,43 @@ impl Gate for Notes<'_> {
 /// The first stream wants a clause that nobody derives.
 const MISSING: [&str; 2] = ["5 0 6 0\n", ""];
 
-fn assert_missing(rt: &impl Abort, outcome: &Outcome<Tape>) {
-    let missing = Report {
-        added: 0,
-        deleted: 0,
-        empty: false,
-        ending: Ending::Bad(1, Fault::Missing(6)),
-    };
+/// Their run with these gates and three more tries.
+fn run_missing<T: Threads + Wait + Sync + Abort, G: Gate + Send + Drop>(
+    rt: &T,
+    alloc: Global,
+    gates: Vec<G>,
+) -> Result<(), Fail> {
+    let formula = four_clauses(alloc)?;
+    let readers = readers_of(alloc, &MISSING, 5)?;
+    if gates.len() != readers.len() {
+        return Err("not a gate for each stream".into());
+    }
+    let outcome = run(
+        rt,
+        alloc,
+        &formula,
+        options(3, 65_536, 1_048_576)?,
+        readers,
+        gates,
+    )?;
+    let missing = bad_line(1, Fault::Missing(6));
     assert_eq!(rt;
         outcome.reports.as_slice(),
         [missing, ended(0, false)].as_slice()
     );
     assert_eq!(rt; outcome.verdict, Verdict::Unknown);
+    Ok(())
 }
 
 #[test]
 fn a_vacant_hint_is_tried_again(rt: HostRuntime) -> Result<(), Fail> {
-    let formula = four(rt.alloc())?;
-    let options = Options::new(3, 65_536, 1_048_576).ok_or("no options")?;
     let (attempts, others) = (AtomicU64::new(0), AtomicU64::new(0));
     let gate = Notes {
         attempts: &attempts,
         others: &others,
     };
-    let readers = tapes_of(rt.alloc(), &MISSING, 0)?;
-    let gates = gates_of(rt.alloc(), gate, readers.len())?;
-    let outcome = run(&rt, rt.alloc(), &formula, options, readers, gates)?;
-    assert_missing(&rt, &outcome);
+    let gates = vec![in rt.alloc(); gate; 2]?;
+    run_missing(&rt, rt.alloc(), gates)?;
     assert_eq!(rt; attempts.load(Ordering::SeqCst), 1_234);
     assert_eq!(rt; others.load(Ordering::SeqCst), 0);
     Ok(())
@@ -426,19 +322,12 @@ impl Clock for Sleeps {
 
 #[test]
 fn a_pause_sleeps_before_later_attempts(rt: HostRuntime) -> Result<(), Fail> {
-    let formula = four(rt.alloc())?;
-    let options = Options::new(3, 65_536, 1_048_576).ok_or("no options")?;
     let clock = Sleeps {
         micros: AtomicU64::new(0),
         others: AtomicU64::new(0),
     };
-    let readers = tapes_of(rt.alloc(), &MISSING, 0)?;
     let gates = vec![in rt.alloc(); Pause::new(&clock), Pause::new(&clock)]?;
-    if gates.len() != readers.len() {
-        return Err("not a gate for each stream".into());
-    }
-    let outcome = run(&rt, rt.alloc(), &formula, options, readers, gates)?;
-    assert_missing(&rt, &outcome);
+    run_missing(&rt, rt.alloc(), gates)?;
     assert_eq!(rt; clock.micros.load(Ordering::SeqCst), 3);
     assert_eq!(rt; clock.others.load(Ordering::SeqCst), 0);
     Ok(())
@@ -447,25 +336,16 @@ fn a_pause_sleeps_before_later_attempts(rt: HostRuntime) -> Result<(), Fail> {
 /// The system's own clock is one that a pause can sleep on.
 #[test]
 fn a_pause_on_the_systems_clock(rt: HostRuntime) -> Result<(), Fail> {
-    let formula = four(rt.alloc())?;
-    let options = Options::new(3, 65_536, 1_048_576).ok_or("no options")?;
-    let readers = tapes_of(rt.alloc(), &MISSING, 0)?;
     let gates = vec![in rt.alloc(); Pause::new(&rt), Pause::new(&rt)]?;
-    if gates.len() != readers.len() {
-        return Err("not a gate for each stream".into());
-    }
-    let outcome = run(&rt, rt.alloc(), &formula, options, readers, gates)?;
-    assert_missing(&rt, &outcome);
-    Ok(())
+    run_missing(&rt, rt.alloc(), gates)
 }
 
 #[test]
 fn no_streams_have_no_layout(rt: HostRuntime) -> Result<(), Fail> {
-    let formula = four(rt.alloc())?;
-    let options = Options::new(3, 65_536, 1_048_576).ok_or("no options")?;
-    let readers = tapes_of(rt.alloc(), &[], 0)?;
+    let formula = four_clauses(rt.alloc())?;
+    let readers = readers_of(rt.alloc(), &[], 5)?;
     let gates = gates_of(rt.alloc(), Open, readers.len())?;
-    let fault = run(&rt, rt.alloc(), &formula, options, readers, gates).err();
+    let fault = run(&rt, rt.alloc(), &formula, defaults()?, readers, gates).err();
     assert_eq!(rt; fault, Some(RunFault::Layout(LayoutFault::BadStreamCount)));
     Ok(())
 }

@@ -1,76 +1,33 @@
-use Rattle.std.proofs.Common.{◌≡◌, ◌∙◌, true, false, map, length, sym, ap, subst}
+use Rattle.std.proofs.Common.{◌≡◌, ◌∙◌, map, sym, ap, subst}
 use Rattle.clap.specs.Walk.{texts}
 use Rattle.command.specs.Commands.{IsCause, IsOutcome, ReaderView, files_view, options_of}
-use Rattle.command.proofs.CheckingLemmas.{err_given, if_err, if_ok, is_outcome, is_refuted, open_cause, open_moved, run_cause_of, same_count, some_given}
+use Rattle.command.proofs.CheckingLemmas.{err_given, if_err, if_ok, is_outcome, is_unsatisfiable_text, open_cause, open_moved, run_cause_of, some_given}
 use Rattle.command.proofs.checking.check_words.Goals as goal
 
-pub returns-then-line-clause-outcome : goal.returns-then-line-clause-outcome
-returns-then-line-clause-outcome g c =
+pub returns : goal.returns
+returns g c =
+    let R = g.row.F-Input.Denot in
     let line = c.in_ok-line.line in
     let words = texts c.args.words.now in
-    let files = files_view (g.F.Files.tells c.args.files.now) (g.F.Files.may_refuse c.args.files.now) g.F.Input.Source.left g.F.Input.Source.has_failed in
+    let left = g.F.Input.Source.left in
+    let files = files_view (g.F.Files.tells c.args.files.now) (g.F.Files.may_refuse c.args.files.now) left g.F.Input.Source.has_failed in
+    let formula = c.in_ok-formula.formula in
+    let at = c.in_ok-formula.ensures.formula in
+    let readers = c.in_ok-readers.readers.items in
     let options : c.unwrap-options.result ≡ options_of line = some_given _ c.unwrap-options.ensures c.new.ensures.some in
-    let entries : map g.F.Input.Source.left c.in_ok-readers.readers.items ≡ map files.tells line.streams =
+    let entries : map left readers ≡ map files.tells line.streams =
     c.in_ok-readers.ensures.left ∙ ap (λ t. map t (texts c.as_slice.result.now)) c.in_ok-formula.ensures.stays ∙ ap (map files.tells) c.as_slice.ensures in
-    let count : length c.in_ok-readers.readers.items ≡ length line.streams = same_count _ _ _ _ entries in
-    if_ok c.check_serially.result _ (λ found. IsOutcome g.row.F-Input.Denot files words found.reports.items found.verdict)
-    (λ found checked. is_outcome g.row.F-Input.Denot files words line c.in_ok-formula.formula true c.unwrap-options.result (length c.in_ok-readers.readers.items) (map g.F.Input.Source.left c.in_ok-readers.readers.items)
-    c.in_ok-line.ensures.ok c.in_ok-formula.ensures.formula (sym c.if-line.true) options count entries found.reports.items found.verdict checked)
-    c.check_serially.ensures.checked
-
-pub returns-then-line-clause-sound : goal.returns-then-line-clause-sound
-returns-then-line-clause-sound g c =
-    if_ok c.check_serially.result _ _
-    (λ found checked unsatisfiable. (c.in_ok-line.line, c.in_ok-line.ensures.ok, is_refuted _ _ c.in_ok-formula.ensures.formula (checked.sound unsatisfiable)))
-    c.check_serially.ensures.checked
-
-pub returns-then-line-clause-cause : goal.returns-then-line-clause-cause
-returns-then-line-clause-cause g c =
-    let line = c.in_ok-line.line in
-    let words = texts c.args.words.now in
-    let files = files_view (g.F.Files.tells c.args.files.now) (g.F.Files.may_refuse c.args.files.now) g.F.Input.Source.left g.F.Input.Source.has_failed in
-    let options : c.unwrap-options.result ≡ options_of line = some_given _ c.unwrap-options.ensures c.new.ensures.some in
-    let entries : map g.F.Input.Source.left c.in_ok-readers.readers.items ≡ map files.tells line.streams =
-    c.in_ok-readers.ensures.left ∙ ap (λ t. map t (texts c.as_slice.result.now)) c.in_ok-formula.ensures.stays ∙ ap (map files.tells) c.as_slice.ensures in
-    let count : length c.in_ok-readers.readers.items ≡ length line.streams = same_count _ _ _ _ entries in
-    if_err c.check_serially.result _ (IsCause g.row.F-Input.Denot files words)
-    (λ fault cause. run_cause_of g.row.F-Input.Denot files words line c.in_ok-formula.formula true c.unwrap-options.result (length c.in_ok-readers.readers.items)
-    c.in_ok-line.ensures.ok c.in_ok-formula.ensures.formula (sym c.if-line.true) options count fault cause)
-    c.check_serially.ensures.cause
-
-pub returns-clause-outcome : goal.returns-clause-outcome
-returns-clause-outcome g c =
-    let line = c.in_ok-line.line in
-    let words = texts c.args.words.now in
-    let files = files_view (g.F.Files.tells c.args.files.now) (g.F.Files.may_refuse c.args.files.now) g.F.Input.Source.left g.F.Input.Source.has_failed in
-    let options : c.unwrap-options.result ≡ options_of line = some_given _ c.unwrap-options.ensures c.new.ensures.some in
-    let entries : map g.F.Input.Source.left c.in_ok-readers.readers.items ≡ map files.tells line.streams =
-    c.in_ok-readers.ensures.left ∙ ap (λ t. map t (texts c.as_slice.result.now)) c.in_ok-formula.ensures.stays ∙ ap (map files.tells) c.as_slice.ensures in
-    let count : length c.in_ok-readers.readers.items ≡ length line.streams = same_count _ _ _ _ entries in
-    if_ok c.check_in_threads.result _ (λ found. IsOutcome g.row.F-Input.Denot files words found.reports.items found.verdict)
-    (λ found checked. is_outcome g.row.F-Input.Denot files words line c.in_ok-formula.formula false c.unwrap-options.result (length c.in_ok-readers.readers.items) (map g.F.Input.Source.left c.in_ok-readers.readers.items)
-    c.in_ok-line.ensures.ok c.in_ok-formula.ensures.formula (sym c.if-line.false) options count entries found.reports.items found.verdict checked)
-    c.check_in_threads.ensures.checked
-
-pub returns-clause-sound : goal.returns-clause-sound
-returns-clause-sound g c =
-    if_ok c.check_in_threads.result _ _
-    (λ found checked unsatisfiable. (c.in_ok-line.line, c.in_ok-line.ensures.ok, is_refuted _ _ c.in_ok-formula.ensures.formula (checked.sound unsatisfiable)))
-    c.check_in_threads.ensures.checked
-
-pub returns-clause-cause : goal.returns-clause-cause
-returns-clause-cause g c =
-    let line = c.in_ok-line.line in
-    let words = texts c.args.words.now in
-    let files = files_view (g.F.Files.tells c.args.files.now) (g.F.Files.may_refuse c.args.files.now) g.F.Input.Source.left g.F.Input.Source.has_failed in
-    let options : c.unwrap-options.result ≡ options_of line = some_given _ c.unwrap-options.ensures c.new.ensures.some in
-    let entries : map g.F.Input.Source.left c.in_ok-readers.readers.items ≡ map files.tells line.streams =
-    c.in_ok-readers.ensures.left ∙ ap (λ t. map t (texts c.as_slice.result.now)) c.in_ok-formula.ensures.stays ∙ ap (map files.tells) c.as_slice.ensures in
-    let count : length c.in_ok-readers.readers.items ≡ length line.streams = same_count _ _ _ _ entries in
-    if_err c.check_in_threads.result _ (IsCause g.row.F-Input.Denot files words)
-    (λ fault cause. run_cause_of g.row.F-Input.Denot files words line c.in_ok-formula.formula false c.unwrap-options.result (length c.in_ok-readers.readers.items)
-    c.in_ok-line.ensures.ok c.in_ok-formula.ensures.formula (sym c.if-line.false) options count fault cause)
-    c.check_in_threads.ensures.cause
+    record {
+      outcome = if_ok c.check_streams.result _ (λ found. IsOutcome R files words found.reports.items found.verdict)
+          (λ found. is_outcome R files words line formula c.unwrap-options.result readers c.in_ok-line.ensures.ok at options entries found.reports.items found.verdict)
+          c.check_streams.ensures.checked;
+      sound = if_ok c.check_streams.result _ _
+          (λ found checked unsatisfiable. (line, c.in_ok-line.ensures.ok, is_unsatisfiable_text _ _ at (checked.sound unsatisfiable)))
+          c.check_streams.ensures.checked;
+      cause = if_err c.check_streams.result _ (IsCause R files words)
+          (run_cause_of R files words line formula c.unwrap-options.result readers c.in_ok-line.ensures.ok at options entries)
+          c.check_streams.ensures.cause;
+    }
 
 pub returns-in_err-readers-clause-cause : goal.returns-in_err-readers-clause-cause
 returns-in_err-readers-clause-cause g c =

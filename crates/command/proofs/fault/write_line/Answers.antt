@@ -1,7 +1,7 @@
 use Rattle.std.specs.Prelude.{codes}
 use Rattle.lrup_text.specs.WritingLemmas.{at_err, breaks_more, breaks_then, puts_then, writes_from_empty}
 use Rattle.command.specs.Faults.{cause_bytes}
-use Rattle.command.proofs.FileLemmas.{starts_empty}
+use Rattle.command.proofs.WritingLemmas.{starts_empty}
 use Rattle.command.proofs.fault.write_line.Goals as goal
 
 pub returns-in_err-put-clause-text : goal.returns-in_err-put-clause-text

@@ -1,4 +1,4 @@
-use Rattle.std.proofs.Common.{rules, arith}
+use Rattle.std.proofs.Common.{rules}
 use Rattle.portfolio.proofs.JoiningLemmas.{all_finish-more}
 use Rattle.portfolio.proofs.threads.join_all.Goals as goal
 

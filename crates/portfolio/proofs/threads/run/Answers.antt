@@ -1,4 +1,4 @@
-use Rattle.std.proofs.Common.{◌≡◌, ℕ, ◌≤◌, length, map, sym, ap, subst, ◌∙◌, arith, vec_len}
+use Rattle.std.proofs.Common.{◌≡◌, ℕ, length, map, sym, ap, subst, ◌∙◌, arith}
 use Rattle.std.proofs.lemmas.List.{length-map}
 use Rattle.lrup_model.specs.Layout.{LayoutValue, IsFault}
 use Rattle.portfolio.specs.Headline.{HaveOneHistory}

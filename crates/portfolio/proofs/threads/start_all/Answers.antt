@@ -1,4 +1,4 @@
-use Rattle.std.proofs.Common.{rules, ◌≡◌, ◌⊎◌, inl, inr, []}
+use Rattle.std.proofs.Common.{◌≡◌, ◌⊎◌, inl, inr, []}
 use Rattle.std.specs.Vec.Iter.{into_iter_items}
 use Rattle.std.specs.Iterator.Adapters.{zip_first, zip_second}
 use Rattle.portfolio.proofs.JoiningLemmas.{iter_end, starting_end}

@@ -1,4 +1,4 @@
-use Rattle.std.proofs.Common.{rules, IsSome, sym, subst, ap}
+use Rattle.std.proofs.Common.{rules, IsSome, sym, subst}
 use Rattle.clause_store.specs.Passes.{PassValue}
 use Rattle.portfolio.proofs.JoiningLemmas.{GoesOnAt, goes_none, goes_turn, goes_over}
 use Rattle.portfolio.proofs.threads.work.Goals as goal

@@ -1,4 +1,3 @@
-use Rattle.std.proofs.Common.{◌≡◌, ◌≤◌}
 use Rattle.portfolio.proofs.JoiningLemmas.{GoesOnAt}
 use Rattle.portfolio.proofs.threads.work.Given as goal
 
