@@ -41,10 +41,14 @@ live: build
 allocations: toolchain
 	@sh gate/allocations.sh $(RT)
 
-# The whole gate: the examples, the refused allocations, and then every proof from nothing, each edit that must be refused,
-# each test, and the program as two compilers build it. The last line is 'N passed, M failed'.
-test: examples live allocations
-	@$(RT) ci
+# The whole gate: every proof from nothing, each edit that must be refused, each test, and the program as two compilers
+# build it; then, with the program that was built there, the examples, the live run and the refused allocations. The last
+# line is rt's own, 'N passed, M failed'.
+test: SHELL := /bin/bash
+test: toolchain
+	@set -o pipefail; log=$$(mktemp); trap 'rm -f "$$log"' EXIT; \
+	$(RT) ci | tee "$$log" && sh examples/compare.sh $(PROGRAM) && sh examples/live.sh $(PROGRAM) && \
+	sh gate/allocations.sh $(RT) && tail -n 1 "$$log"
 
 toolchain:
 	@command -v $(RT) > /dev/null || { echo "lrupd needs Rattle's toolchain: no command '$(RT)' is on the PATH"; exit 1; }

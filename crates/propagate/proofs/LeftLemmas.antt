@@ -1,5 +1,5 @@
 -- Lemmas on what is left of a clause as its literals are read.
-use Rattle.std.proofs.Common.{arith, ◌≡◌, ◌≤◌, inl, inr, ℕ, ◌+◌, ◌*◌, length, None, ℤ, neg_ℤ, List, [], ◌∷◌, ◌++◌, take, drop, Some, sym, ap, subst, ◌∙◌, add-one}
+use Rattle.std.proofs.Common.{arith, ◌≡◌, ◌≤◌, inl, inr, ℕ, ◌+◌, ◌*◌, length, Option, None, refl, ℤ, neg_ℤ, List, [], ◌∷◌, ◌++◌, take, drop, Some, sym, ap, subst, ◌∙◌, add-one}
 use Rattle.std.specs.Prelude.{slice_get}
 use Rattle.std.proofs.lemmas.List.{take-append-drop, take_all}
 use Rattle.std.proofs.lemmas.Option.{none-some, slice_get_cases}
@@ -90,3 +90,16 @@ IsLeft-single n d i left past before =
 -- all pairs were read
 pub IsLeft-all : (n : List ℤ) (d : Clause) (k : ℕ) (left : Left) → length d ≤ k → IsLeft n (take k d) left → IsLeft n d left
 IsLeft-all n d k left short before = subst (λ e. IsLeft n e left) (take_all k d short) before
+
+-- one more false literal is read
+IsLeft-passed : (n : List ℤ) (d : Clause) (k : ℕ) (x : ℤ) (left : Left) → slice_get d k ≡ Some x → Has n x → IsLeft n (take k d) left → IsLeft n (take (k + 1) d) left
+IsLeft-passed n d k x left at is_false before =
+    subst (λ e. IsLeft n e left) (sym (ap (λ i. take i d) (add-one k) ∙ take-next d k x at)) (IsLeft-false n (take k d) left x before is_false)
+
+-- a pair of false literals, or a single one, changes nothing
+pub IsLeft-pair : (n : List ℤ) (d : Clause) (i : ℕ) (x : ℤ) (second : Option ℤ) (left : Left) → slice_get d (2 * i) ≡ Some x → slice_get d (2 * i + 1) ≡ second → Has n x × ((l : ℤ) → second ≡ Some l → Has n l) → IsLeft n (take (2 * i) d) left → IsLeft n (take (2 * (i + 1)) d) left
+IsLeft-pair n d i x None left at at' false_too before = IsLeft-single n d i left at' (IsLeft-passed n d (2 * i) x left at false_too.0 before)
+IsLeft-pair n d i x (Some y) left at at' false_too before =
+    let next : 2 * i + 1 + 1 ≡ 2 * (i + 1) = omega arith in
+    let one = IsLeft-passed n d (2 * i) x left at false_too.0 before in
+    subst (λ k. IsLeft n (take k d) left) next (IsLeft-passed n d (2 * i + 1) y left at' (false_too.1 y refl) one)

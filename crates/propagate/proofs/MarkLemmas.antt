@@ -1,5 +1,6 @@
 -- Lemmas on marks.
 use Rattle.std.proofs.Common.{◌≡◌, ◌≢◌, ◌⊎◌, ◌↔◌, inl, inr, ℕ, zero, suc, ◌+◌, ◌*◌, ◌<◌, ◌≤◌, ℤ, pos, negsuc, neg_ℤ, nat_abs, Bool, true, false, List, [], ◌∷◌, ◌++◌, length, get_or, set, take, map, eqb, refl, sym, ap, subst, ◌∙◌, arith, length-append}
+use Rattle.std.specs.Prelude.{slice_get, Some}
 use Rattle.std.specs.List.{AllByRecursion, IsDistinct, list_any}
 use Rattle.std.proofs.Math.IntN.{neg_ℤ-neg_ℤ}
 use Rattle.std.proofs.lemmas.Bool.{ne_eqb, eqb-true, or_cases, false≢true, false_from_ne_true}
@@ -8,8 +9,10 @@ use Rattle.std.proofs.lemmas.Map.Steps.{length-le_from_distinct_below}
 use Rattle.lrup_model.specs.Literal.{IsLiteral, code_of}
 use Rattle.lrup_model.specs.LiteralLaws.{code_of-injective, IsCode-code_of}
 use Rattle.lrup_model.specs.Clause.{Has, IsClause}
+use Rattle.lrup_model.specs.Place.{Place, ClipValue, IsKnown, AllFollow, text_of}
+use Rattle.lrup_model.specs.PassLemmas.{known_follows}
 use Rattle.propagate.specs.Trail.{AreApart, AreMarks}
-use Rattle.lrup_model.specs.ClauseLemmas.{Has-append_left, Has-push, Has-push_cases, All-Has, All-push, int_cases, take-read}
+use Rattle.lrup_model.specs.ClauseLemmas.{Has-append_left, Has-at, Has-push, Has-push_cases, All-Has, All-push, int_cases, take-read}
 
 pub IsLiteral-neg : (vars : ℕ) (l : ℤ) → IsLiteral vars l → IsLiteral vars (neg_ℤ l)
 IsLiteral-neg vars (pos zero) h = h
@@ -125,3 +128,8 @@ cleared-next marks ls k place x lt at e cleared l h =
 -- a literal of a clause is one over more variables too
 pub IsLiteral-read : (vars more : ℕ) (d : List ℤ) (l : ℤ) → IsClause vars d → vars ≤ more → Has d l → IsLiteral more l
 IsLiteral-read vars more d l clause le h = let is : IsLiteral vars l = All-Has (IsLiteral vars) d l clause.literals h in (is.0, omega (arith, is.1))
+
+-- a literal of a clause that is known is one of the formula's, and so of more variables
+pub IsLiteral-known : (vars : ℕ) (place : Place) (clip : ClipValue) (k : ℕ) (l : ℤ) → AllFollow place → IsKnown place clip → place.caller.formula.vars ≤ vars → slice_get (text_of place clip) k ≡ Some l → IsLiteral vars l
+IsLiteral-known vars place clip k l follow known le at =
+    IsLiteral-read place.caller.formula.vars vars (text_of place clip) l (known_follows place clip follow known).0 le (Has-at (text_of place clip) k l at)

@@ -153,12 +153,30 @@ fn rest_of<M: ClauseMap>(falses: &Trail, map: &mut M, clip: &Clip) -> Left
     let mut left = Left::Nothing;
     for i in 0..clip.pairs() {
         let (first, second) = map.pair(clip, i);
+        if are_false(falses, first, &second) {
+            continue;
+        }
         left = left_with_pair(falses, left, first, second);
         if let Left::More = left {
             return left;
         }
     }
     left
+}
+
+/// Are both literals false, or is the one, if there is no other?
+#[inline]
+fn are_false(falses: &Trail, first: Lit, second: &Option<Lit>) -> bool
+    requires first { IsLiteral falses.now.vars first }
+    requires second { (l : ℤ) → second.now ≡ Some l → IsLiteral falses.now.vars l }
+    ensures { IsTrue result → Has falses.now.literals first
+        × ((l : ℤ) → second.now ≡ Some l → Has falses.now.literals l) }
+{
+    falses.has(first)
+        && match second {
+            Some(second) => falses.has(*second),
+            None => true,
+        }
 }
 
 /// What is left when the next literal is read, or the next two, of a clause that has each once.

@@ -1,28 +1,34 @@
-use Rattle.std.proofs.Common.{arith, ◌+◌, ◌*◌, ◌∙◌, take, subst, sym}
+use Rattle.std.proofs.Common.{◌+◌, ◌*◌, ◌∙◌, take, subst, sym}
 use Rattle.lrup_model.specs.Place.{text_of}
 use Rattle.lrup_model.specs.PassLemmas.{known_follows}
 use Rattle.propagate.specs.Left.{IsLeft}
-use Rattle.propagate.specs.declared.marks.Left.TheVariants.{More}
-use Rattle.lrup_model.specs.ClauseLemmas.{Has-at}
-use Rattle.propagate.proofs.MarkLemmas.{IsLiteral-read}
-use Rattle.propagate.proofs.LeftLemmas.{IsLeft-whole, IsLeft-all}
+use Rattle.propagate.proofs.MarkLemmas.{IsLiteral-known}
+use Rattle.propagate.proofs.LeftLemmas.{IsLeft-pair, IsLeft-whole}
 use Rattle.propagate.proofs.marks.rest_of.Goals as goal
+
+pub are_false-requires-clause-first : goal.are_false-requires-clause-first
+are_false-requires-clause-first g c =
+    let place = g.M.ClauseMap.place c.args.map.now in
+    let at = rw c.loop-i.invariant.stays at c.pair-first.ensures.first in
+    IsLiteral-known c.args.falses.now.vars place c.args.clip.now (2 * c.loop-i.i) c.pair-first.result.0 c.requires.follow c.requires.known c.requires.variables at
+
+pub are_false-requires-clause-second : goal.are_false-requires-clause-second
+are_false-requires-clause-second g c = λ l same.
+    let place = g.M.ClauseMap.place c.args.map.now in
+    let at = rw c.loop-i.invariant.stays at c.pair-first.ensures.second in
+    IsLiteral-known c.args.falses.now.vars place c.args.clip.now (2 * c.loop-i.i + 1) l c.requires.follow c.requires.known c.requires.variables (at ∙ same)
 
 pub left_with_pair-left-requires-clause-first : goal.left_with_pair-left-requires-clause-first
 left_with_pair-left-requires-clause-first g c =
     let place = g.M.ClauseMap.place c.args.map.now in
-    let d = text_of place c.args.clip.now in
     let at = rw c.loop-i.invariant.stays at c.pair-first.ensures.first in
-    let clause = (known_follows place c.args.clip.now c.requires.follow c.requires.known).0 in
-    IsLiteral-read place.caller.formula.vars c.args.falses.now.vars d c.pair-first.result.0 clause c.requires.variables (Has-at d (2 * c.loop-i.i) c.pair-first.result.0 at)
+    IsLiteral-known c.args.falses.now.vars place c.args.clip.now (2 * c.loop-i.i) c.pair-first.result.0 c.requires.follow c.requires.known c.requires.variables at
 
 pub left_with_pair-left-requires-clause-second : goal.left_with_pair-left-requires-clause-second
 left_with_pair-left-requires-clause-second g c = λ l same.
     let place = g.M.ClauseMap.place c.args.map.now in
-    let d = text_of place c.args.clip.now in
     let at = rw c.loop-i.invariant.stays at c.pair-first.ensures.second in
-    let clause = (known_follows place c.args.clip.now c.requires.follow c.requires.known).0 in
-    IsLiteral-read place.caller.formula.vars c.args.falses.now.vars d l clause c.requires.variables (Has-at d (2 * c.loop-i.i + 1) l (at ∙ same))
+    IsLiteral-known c.args.falses.now.vars place c.args.clip.now (2 * c.loop-i.i + 1) l c.requires.follow c.requires.known c.requires.variables (at ∙ same)
 
 pub returns-in-More-clause-left : goal.returns-in-More-clause-left
 returns-in-More-clause-left g c =
@@ -37,6 +43,17 @@ returns-in-More-clause-left g c =
 
 pub returns-in-More-clause-event : goal.returns-in-More-clause-event
 returns-in-More-clause-event g c = g.met.M.ClauseMap.moves_append _ _ _ _ _ c.loop-i.invariant.event c.pair-first.ensures.event
+
+pub loop-i-preserved-then-are_false : goal.loop-i-preserved-then-are_false
+loop-i-preserved-then-are_false g c =
+    let d = text_of (g.M.ClauseMap.place c.args.map.now) c.args.clip.now in
+    let at = rw c.loop-i.invariant.stays at c.pair-first.ensures.first in
+    let at' = rw c.loop-i.invariant.stays at c.pair-first.ensures.second in
+    record {
+      left = IsLeft-pair c.args.falses.now.literals d c.loop-i.i c.pair-first.result.0 c.pair-first.result.1 c.loop-i.left at at' (c.are_false.ensures c.if-are_false.true) c.loop-i.invariant.left;
+      event = g.met.M.ClauseMap.moves_append _ _ _ _ _ c.loop-i.invariant.event c.pair-first.ensures.event;
+      stays = rw c.pair-first.ensures.stays c.loop-i.invariant.stays;
+    }
 
 pub loop-i-preserved : goal.loop-i-preserved
 loop-i-preserved g c =
