@@ -1,18 +1,24 @@
 -- Lemmas on the literals of a clip that is known at a pass.
-use Rattle.std.proofs.Common.{◌≡◌, ℕ, ℤ, ◌+◌, ◌/◌, ◌%◌, ◌<◌, zero, suc, [], ◌∷◌, length, Some, slice_get, refl, sym, ap, subst, ◌∙◌, arith}
+use Rattle.std.proofs.Common.{◌≡◌, ℕ, ℤ, ◌+◌, ◌/◌, ◌%◌, ◌<◌, zero, suc, [], ◌∷◌, length, Option, None, Some, slice_get, refl, sym, ap, subst, ◌∙◌, arith}
 use Rattle.std.specs.List.{AllByRecursion}
 use Rattle.lrup_model.specs.Literal.{IsLiteral, IsCode, code_of, max_variable}
 use Rattle.lrup_model.specs.LiteralLaws.{IsCode-code_of, code_of-injective}
 use Rattle.lrup_model.specs.Clause.{Clause}
 use Rattle.lrup_model.specs.Layout.{row_words}
 use Rattle.lrup_model.specs.Place.{ClipValue, Kept, IsKnown, text_of}
-use Rattle.lrup_model.specs.Pass.{View, IsFair, pass_place}
+use Rattle.lrup_model.specs.Pass.{View, IsFair, kept_in, pass_place}
 use Rattle.lrup_model.specs.PassLemmas.{fair_follows}
-use Rattle.idwords.specs.Words.{half_of}
+use Rattle.idwords.specs.Words.{start_of, state_of, half_of, ShowsKept}
 use Rattle.idwords.specs.Seats.{SeatValue}
 use Rattle.idwords.specs.Spelling.{LieWithin}
 use Rattle.idwords.specs.Steps.{IsText}
 use Rattle.clause_store.specs.Passes.{PassValue, IsAtRest, pass_value}
+
+-- the start that a live word shows is a place of the row
+pub start_read : (v : View) (id word : ℕ) (o : Option Kept) → kept_in v.spelt id ≡ o → ShowsKept o word → state_of word ≡ 1 → LieWithin (row_words v.caller.layout) v.spelt → IsFair v
+    → start_of word < 4294967296
+start_read v id word None here shows live within fair = absurd (omega arith)
+start_read v id word (Some kept) here shows live within fair = omega (arith, within id kept here, shows.3, fair.caller.layout.row)
 
 -- a place inside a clause has a literal
 literal_at : (vars : ℕ) (c : Clause) (k : ℕ) → k < length c → AllByRecursion (IsLiteral vars) c → (l : ℤ) × (slice_get c k ≡ Some l) × IsLiteral vars l
