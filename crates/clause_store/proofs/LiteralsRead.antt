@@ -1,18 +1,24 @@
 -- Lemmas on the literals of a clip that is known at a pass.
-use Rattle.std.proofs.Common.{◌≡◌, ◌≤◌, ◌^◌, ℕ, ℤ, List, Option, None, ◌+◌, ◌*◌, ◌/◌, ◌%◌, ◌<◌, zero, suc, [], ◌∷◌, length, Some, slice_get, refl, sym, ap, subst, ◌∙◌, arith}
+use Rattle.std.proofs.Common.{◌≡◌, ℕ, ℤ, ◌+◌, ◌*◌, ◌/◌, ◌%◌, ◌<◌, zero, suc, [], ◌∷◌, length, Option, None, Some, slice_get, refl, sym, ap, subst, ◌∙◌, arith}
 use Rattle.std.specs.List.{AllByRecursion}
 use Rattle.lrup_model.specs.Literal.{IsLiteral, IsCode, code_of, max_variable}
 use Rattle.lrup_model.specs.LiteralLaws.{IsCode-code_of, code_of-injective}
 use Rattle.lrup_model.specs.Clause.{Clause}
 use Rattle.lrup_model.specs.Layout.{row_words}
 use Rattle.lrup_model.specs.Place.{ClipValue, Kept, IsKnown, text_of}
-use Rattle.lrup_model.specs.Pass.{View, Spelling, IsFair, kept_in, pass_place}
+use Rattle.lrup_model.specs.Pass.{View, IsFair, kept_in, pass_place}
 use Rattle.lrup_model.specs.PassLemmas.{fair_follows}
-use Rattle.idwords.specs.Words.{half_of, state_of, start_of, ShowsKept}
+use Rattle.idwords.specs.Words.{start_of, state_of, half_of, ShowsKept}
 use Rattle.idwords.specs.Seats.{SeatValue}
 use Rattle.idwords.specs.Spelling.{LieWithin}
 use Rattle.idwords.specs.Steps.{IsText}
 use Rattle.clause_store.specs.Passes.{PassValue, IsAtRest, pass_value}
+
+-- the start that a live word shows is a place of the row
+pub start_read : (v : View) (id word : ℕ) (o : Option Kept) → kept_in v.spelt id ≡ o → ShowsKept o word → state_of word ≡ 1 → LieWithin (row_words v.caller.layout) v.spelt → IsFair v
+    → start_of word < 4294967296
+start_read v id word None here shows live within fair = absurd (omega arith)
+start_read v id word (Some kept) here shows live within fair = omega (arith, within id kept here, shows.3, fair.caller.layout.row)
 
 -- a place inside a clause has a literal
 literal_at : (vars : ℕ) (c : Clause) (k : ℕ) → k < length c → AllByRecursion (IsLiteral vars) c → (l : ℤ) × (slice_get c k ≡ Some l) × IsLiteral vars l
@@ -83,14 +89,3 @@ module _ (seat : SeatValue) (stream : ℕ) (p : PassValue) (clip : ClipValue) (i
   pub pair_literal : (word : ℕ) (l : ℤ) → IsText seat.view.spelt place word → code_of l ≡ half_of half word → slice_get (text_of (pass_place p.view) clip) (2 * i + half) ≡ Some l
   pair_literal word l text code =
       literal_read seat stream p clip (2 * i + half) place rests same known in_word below word l text (subst (λ h. code_of l ≡ half_of h word) (sym in_half) code)
-
--- where a word shows a clause that is kept, its start is one of the row's places
-start_shown : (xs : List Spelling) (words id word : ℕ) (kept : Option Kept) → kept_in xs id ≡ kept → LieWithin words xs → 0 < state_of word → ShowsKept kept word → start_of word ≤ words
-start_shown xs words id word None at within shown shows = absurd (omega (arith, shown, shows))
-start_shown xs words id word (Some kept) at within shown shows = omega (arith, within id kept at, shows.3)
-
--- the start in the word that a fetch finds fits 32 bits
-pub start_fits : (v : View) (id word : ℕ) → IsFair v → LieWithin (row_words v.caller.layout) v.spelt → 0 < state_of word → ShowsKept (kept_in v.spelt id) word → start_of word < 2 ^ 32
-start_fits v id word fair within shown shows =
-    let below = start_shown v.spelt (row_words v.caller.layout) id word (kept_in v.spelt id) refl within shown shows in
-    omega (arith, below, fair.caller.layout.row)

@@ -20,7 +20,7 @@ use Rattle.idwords.specs.Steps.{Reads, Writes}
 use Rattle.idwords.proofs.SpellingLemmas.{words_spent-own, words_within, IsLodged, lodged, keeps_spelt}
 use Rattle.idwords.proofs.WordLemmas.{HasCode, some_literals, lies_get, lies-pair, lies-set, word_injective}
 use Rattle.idwords.proofs.ViewLemmas.{moved, times-same}
-use Rattle.idwords.proofs.RuleLemmas.{stands_at, stands_words, fair_part, spent_log}
+use Rattle.idwords.proofs.RuleLemmas.{stands_at, stands_words, fair_part}
 use Rattle.idwords.proofs.StepLemmas.{OwnStep}
 
 -- Rooms apart

@@ -1,5 +1,5 @@
 -- Lemmas on words: the parts of an identity's word, and literals that lie in the row.
-use Rattle.std.proofs.Common.{◌≡◌, ◌≢◌, ℕ, ◌+◌, ◌*◌, ◌/◌, ◌%◌, ◌^◌, bit_and, ◌<◌, ◌≤◌, ◌⊎◌, ℤ, pos, negsuc, zero, suc, cond, eqb, List, [], ◌∷◌, ◌++◌, length, slice_index, slice_set, slice_get, Option, None, Some, refl, ap, ap₂, ◌∙◌, inl, inr, arith, get_or-set_other, eq-eqb, ne_eqb}
+use Rattle.std.proofs.Common.{◌≡◌, ◌≢◌, ℕ, ◌+◌, ◌*◌, ◌/◌, ◌%◌, ◌^◌, bit_and, ◌<◌, ◌≤◌, ◌⊎◌, ℤ, pos, negsuc, zero, suc, eqb, List, [], ◌∷◌, ◌++◌, length, slice_index, slice_set, slice_get, Option, None, Some, refl, ap, ap₂, ◌∙◌, inl, inr, arith, get_or-set_other, eq-eqb, ne_eqb}
 use Rattle.std.specs.Prelude.{IfSome}
 use Rattle.std.specs.List.{AllByRecursion}
 use Rattle.std.proofs.lemmas.Bool.{cond-true, cond-false}

@@ -52,7 +52,7 @@ impl Play<u8, Knowledge> for Look {
     ghost then = { Changes Looks };
 }
 
-/// A load of a literal's word.
+/// A load of a word of literals.
 pub struct Read;
 
 impl Play<u8, Knowledge> for Read {
@@ -61,7 +61,7 @@ impl Play<u8, Knowledge> for Read {
     ghost then = { Changes Reads };
 }
 
-/// A store of a literal's word.
+/// A store of a word of literals.
 pub struct Write;
 
 impl Play<u8, Knowledge> for Write {

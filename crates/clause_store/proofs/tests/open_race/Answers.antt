@@ -1,8 +1,8 @@
-use Rattle.std.proofs.Common.{◌≡◌, ℕ, ◌+◌, ◌-◌, ◌<◌, zero, suc, List, [], ◌∷◌, length, Some, slice_get, refl, ap, ◌∙◌, arith}
+use Rattle.std.proofs.Common.{◌≡◌, ℕ, ◌+◌, ◌-◌, ◌<◌, suc, List, [], ◌∷◌, length, Some, slice_get, refl, ap, ◌∙◌, arith}
 use Rattle.std.proofs.lemmas.Option.{slice_get_within}
 use Rattle.lrup_model.specs.Formula.{Cnf}
 use Rattle.lrup_model.specs.Place.{Caller}
-use Rattle.clause_store.specs.Passes.{StoreValue, PassValue, IsOpened}
+use Rattle.clause_store.specs.Passes.{StoreValue, PassValue}
 use Rattle.clause_store.specs.Worked.{IsAt, AreAt, raced}
 use Rattle.clause_store.proofs.tests.open_race.Goals as goal
 

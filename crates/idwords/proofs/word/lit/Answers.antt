@@ -1,4 +1,4 @@
-use Rattle.std.proofs.Common.{◌≡◌, ◌+◌, ◌*◌, ◌≤◌, ◌<◌, ℕ, sym, subst, ◌∙◌}
+use Rattle.std.proofs.Common.{ℕ, sym, subst, ◌∙◌}
 use Rattle.lrup_model.specs.Literal.{max_variable, IsCode}
 use Rattle.idwords.proofs.WordLemmas.{half_read}
 use Rattle.idwords.proofs.word.lit.Goals as goal
