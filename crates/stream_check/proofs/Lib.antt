@@ -1,6 +1,7 @@
 pub mod StandingLemmas
 pub mod LeavingLemmas
 pub mod TryLemmas
+pub mod AskLemmas
 pub mod AddLemmas
 pub mod DeleteLemmas
 pub mod DroppedLemmas

@@ -1,38 +1,39 @@
 //! How a hint is fetched.
-ghost use Rattle.std.specs.Prelude.{◌≡◌, [], ◌<◌, ◌^◌};
-ghost use Rattle.lrup_model.specs.Event.{History};
+ghost use Rattle.std.specs.Prelude.{◌≡◌, [], ◌∷◌, ◌<◌, ◌^◌};
+ghost use Rattle.lrup_model.specs.Event.{History, vacant, fetch};
 ghost use Rattle.lrup_model.specs.Layout.{IsIdentity};
 ghost use Rattle.lrup_model.specs.Replies.{reply_of};
 ghost use Rattle.stream_check.specs.Asking.{Asks, FetchesUpTo};
 ghost use Rattle.stream_check.specs.Checking.{IsAt, Gives};
 
 use crate::gate::Gate;
-use crate::setting::{Setting, Side};
+use crate::setting::Setting;
 use lrup_model::{ClauseMap, Fetched, Id};
 
-/// Fetches an identity until the reply isn't vacant, and so many times more than once at most.
+/// Fetches an identity that was vacant again, until the reply isn't vacant, and so many times at most.
+// A call of it would hand each reply of `ask` back through memory, also where there is no second fetch.
 #[inline(always)]
-fn fetch_up_to<M: ClauseMap, G: Gate>(most: u64, map: &mut M, gate: &mut G, id: Id) -> Fetched
+fn fetch_again<M: ClauseMap, G: Gate>(most: u64, map: &mut M, gate: &mut G, id: Id) -> Fetched
     requires identity { IsIdentity (M.place map.old).caller.layout id }
     requires small { most < 2 ^ 63 }
     ensures asked { let stream = (M.place map.old).caller.stream in
         (es : History) × M.moves map.old map.new es
-        × FetchesUpTo most stream id es (reply_of (M.place map.new) result) }
+        × FetchesUpTo most stream id (fetch stream id vacant ∷ es) (reply_of (M.place map.new) result) }
     ensures gives { Gives (M.place map.new) result }
 {
     let stream = map.stream();
     for before in 0..most {
-        gate.before_fetch(stream, id, before + 1);
+        gate.before_fetch(stream, id, before + 2);
         match map.fetch(id) {
             Fetched::Vacant => {}
             answer => return answer,
         }
     }
-    gate.before_fetch(stream, id, most + 1);
-    map.fetch(id)
+    Fetched::Vacant
 }
 
 /// What the map has under a hint. One of another stream is fetched again while it is vacant, up to the setting's tries.
+/// Whose it is matters only where it was vacant: so a hint that is found at once costs one fetch and no division.
 pub fn ask<M: ClauseMap, G: Gate>(setting: &Setting, map: &mut M, gate: &mut G, hint: Id) -> Fetched
     requires at { IsAt setting.now (M.place map.old) }
     requires tries { setting.now.tries < 2 ^ 63 }
@@ -40,10 +41,12 @@ pub fn ask<M: ClauseMap, G: Gate>(setting: &Setting, map: &mut M, gate: &mut G, 
         × Asks setting.now hint es (reply_of (M.place map.new) result) }
     ensures gives { Gives (M.place map.new) result }
 {
-    match setting.side(hint) {
-        Side::Formula => fetch_up_to(0, map, gate, hint),
-        Side::Own => fetch_up_to(0, map, gate, hint),
-        Side::Foreign => fetch_up_to(setting.tries(), map, gate, hint),
-        Side::Outside => Fetched::Vacant,
+    if !setting.covers(hint) {
+        return Fetched::Vacant;
+    }
+    gate.before_fetch(map.stream(), hint, 1);
+    match map.fetch(hint) {
+        Fetched::Vacant => fetch_again(setting.tries_for(hint), map, gate, hint),
+        answer => answer,
     }
 }

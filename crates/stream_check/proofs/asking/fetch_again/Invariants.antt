@@ -1,6 +1,6 @@
 use Rattle.std.specs.Prelude.{replicate}
 use Rattle.lrup_model.specs.Event.{fetch, vacant}
-use Rattle.stream_check.proofs.asking.fetch_up_to.Given as goal
+use Rattle.stream_check.proofs.asking.fetch_again.Given as goal
 
 abbrev pub invariant-loop-before : goal.invariant-loop-before
 invariant-loop-before g l =

@@ -1,11 +1,12 @@
-use Rattle.std.proofs.Common.{◌≡◌, ℕ, [], ◌∷◌, ◌++◌, refl, ap, subst, arith}
+use Rattle.std.proofs.Common.{◌≡◌, ℕ, [], ◌∷◌, ◌++◌, refl, ap, subst}
 use Rattle.std.specs.Prelude.{replicate}
 use Rattle.lrup_model.specs.Event.{History, fetch, vacant}
 use Rattle.lrup_model.specs.Place.{Place, Caller}
 use Rattle.lrup_model.specs.declared.clause_map.Fetched.{Fetched}
 use Rattle.lrup_model.specs.declared.clause_map.Fetched.TheVariants as answers
 use Rattle.lrup_model.specs.Replies.{reply_of}
-use Rattle.stream_check.proofs.asking.fetch_up_to.Goals as goal
+use Rattle.stream_check.proofs.AskLemmas.{again_found, again_vacant}
+use Rattle.stream_check.proofs.asking.fetch_again.Goals as goal
 
 not_vacant : (p : Place) (r : Fetched) → (r ≡ answers.Vacant → ⊥) → reply_of p r ≡ vacant → ⊥
 not_vacant p answers.Vacant other e = other refl
@@ -26,18 +27,11 @@ returns-in_default-clause-asked g c =
     subst (λ (s : ℕ). g.M.ClauseMap.moves c.loop-before.map c.fetch.new.self (fetch s c.args.id r ∷ [])) same c.fetch.ensures.event in (
       front ++ fetch p.caller.stream c.args.id r ∷ [],
       g.met.M.ClauseMap.moves_append c.args.map.now c.loop-before.map c.fetch.new.self front (fetch p.caller.stream c.args.id r ∷ []) c.loop-before.invariant last,
-      (k, c.loop-before.auto.before-end, (λ e. absurd (not_vacant n c.fetch.result c.in_default.not-Vacant e)), refl),
+      again_found c.args.most k p.caller.stream c.args.id r c.loop-before-test.true (not_vacant n c.fetch.result c.in_default.not-Vacant),
     )
 
 pub returns-clause-asked : goal.returns-clause-asked
 returns-clause-asked g c =
-    let p = g.M.ClauseMap.place c.args.map.now in
-    let q = g.M.ClauseMap.place c.loop-before.map in
+    let s = (g.M.ClauseMap.place c.args.map.now).caller.stream in
     let k = c.loop-before.before in
-    let r = reply_of (g.M.ClauseMap.place c.fetch-2.new.self) c.fetch-2.result in
-    let front : History = replicate k (fetch p.caller.stream c.args.id vacant) in
-    let tells = g.met.M.ClauseMap.moves_tells c.args.map.now c.loop-before.map front c.loop-before.invariant in
-    let same : q.caller.stream ≡ p.caller.stream = ap (λ (s : Caller). s.stream) tells.caller in
-    let last : g.M.ClauseMap.moves c.loop-before.map c.fetch-2.new.self (fetch p.caller.stream c.args.id r ∷ []) =
-    subst (λ (s : ℕ). g.M.ClauseMap.moves c.loop-before.map c.fetch-2.new.self (fetch s c.args.id r ∷ [])) same c.fetch-2.ensures.event in
-    (front ++ fetch p.caller.stream c.args.id r ∷ [], g.met.M.ClauseMap.moves_append c.args.map.now c.loop-before.map c.fetch-2.new.self front (fetch p.caller.stream c.args.id r ∷ []) c.loop-before.invariant last, (k, c.loop-before.auto.before-end, (λ e. omega (arith, c.loop-before.auto.before-end)), refl))
+    (replicate k (fetch s c.args.id vacant), c.loop-before.invariant, again_vacant c.args.most k s c.args.id c.loop-before.auto.before-end c.loop-before-test.false)
