@@ -7,6 +7,10 @@
 # lrup_model: a push and an open take at most three allocations. Where one is refused nothing has changed, and the next
 # attempt succeeds, whichever it was.
 #
+# stream_check: eleven allocations come before the first line of a stream that drops some twenty identities, and twelve more
+# while it is read, all for the set of these. Where one of the twelve is refused the stream is over, and its report counts
+# what came before.
+#
 # lrupd: where the first allocation or the fortieth is refused, the program says that it is out of memory, and gives no report.
 # One line and 5,000 take the same number of allocations: some more than those before the first line, both have a report. The
 # identities that a stream drops do take memory while it is checked, and a refusal there ends the stream, with a report.
@@ -43,6 +47,23 @@ for n in 1 2 3 4; do
     # This one makes more allocations, and has no second attempt: it shows that one was refused.
     want lrup_model $n two_desks_use_one_map FAILED
 done
+
+# The second of these has every line good only where no allocation was refused: it shows that one was.
+ends_the_reading=memory::a_refused_growth_ends_the_reading
+has_memory=memory::every_growth_has_memory
+n=11
+tests stream_check $n
+want stream_check $n $ends_the_reading FAILED
+want stream_check $n $has_memory FAILED
+for n in 12 23; do
+    tests stream_check $n
+    want stream_check $n $ends_the_reading ok
+    want stream_check $n $has_memory FAILED
+done
+n=24
+tests stream_check $n
+want stream_check $n $ends_the_reading ok
+want stream_check $n $has_memory ok
 
 # Streams for bmc.cnf: good lines, with the hints of the first line of bmc.lrup; and clauses of the formula dropped.
 streams=$work/streams

@@ -1,9 +1,14 @@
 -- A hint that is fetched, and again while it is vacant.
-use Rattle.std.proofs.Common.{◌≡◌, ◌∙◌, ◌+◌, ◌<◌, ◌≤◌, ℕ, [], ◌∷◌, ◌++◌, sym, ap, subst, arith}
-use Rattle.std.specs.Prelude.{replicate}
+use Rattle.std.proofs.Common.{◌≡◌, ◌∙◌, ◌+◌, ◌-◌, ◌%◌, ◌<◌, ◌≤◌, ◌==◌, ℕ, Bool, [], ◌∷◌, ◌++◌, nat_eq, nat_le, inl, inr, refl, sym, ap, subst, arith}
+use Rattle.std.specs.Prelude.{replicate, if◌then◌else◌}
+use Rattle.std.proofs.lemmas.Bool.{cond-true, cond-false, cases_Bool}
+use Rattle.std.proofs.lemmas.Bool.Decides.{eqb_tells, leb_tells}
 use Rattle.std.proofs.lemmas.List.{replicate-append-replicate}
+use Rattle.lrup_model.specs.Layout.{LayoutValue, IsIdentity, last_identity, owner}
+use Rattle.lrup_model.specs.declared.layout.Owner.{Owner}
+use Rattle.lrup_model.specs.declared.layout.Owner.TheVariants as owners
 use Rattle.lrup_model.specs.Event.{Event, History, Reply, vacant, fetch}
-use Rattle.stream_check.specs.Setting.{Setting, Side, foreign, side_of}
+use Rattle.stream_check.specs.Setting.{Setting, Side, formula, own, foreign, outside, side_for, side_of, tries_on}
 use Rattle.stream_check.specs.Asking.{FetchesUpTo, AsksAt, Asks}
 use Rattle.stream_check.proofs.TryLemmas.{replicate-more}
 
@@ -22,8 +27,41 @@ first_last k e =
 pub again_vacant : (most k s id : ℕ) → k ≤ most → most ≤ k → FetchesUpTo most s id (fetch s id vacant ∷ replicate k (fetch s id vacant)) vacant
 again_vacant most k s id below all = (k, below, (λ e. omega (arith, below, all)), first_last k (fetch s id vacant))
 
--- the events of a hint of another stream
-pub asks_foreign : (c : Setting) (h s most : ℕ) (es : History) (r : Reply) → side_of c h ≡ foreign → s ≡ c.stream → most ≡ c.tries → FetchesUpTo most s h es r → Asks c h es r
-asks_foreign c h s most es r is stream tries fetches =
-    subst (λ (side : Side). AsksAt side c h es r) (sym is)
-    (subst (λ (t : ℕ). FetchesUpTo c.tries t h es r) stream (subst (λ (n : ℕ). FetchesUpTo n s h es r) tries fetches))
+-- The events of a hint
+
+once : (s h : ℕ) (es : History) (r : Reply) → FetchesUpTo 0 s h es r → es ≡ fetch s h r ∷ []
+once s h es r fetches =
+    let none : fetches.0 ≡ 0 = omega (arith, fetches.1) in
+    fetches.3 ∙ ap (λ (k : ℕ). replicate k (fetch s h vacant) ++ fetch s h r ∷ []) none
+
+asks_at : (side : Side) (c : Setting) (h : ℕ) (es : History) (r : Reply) → (side ≡ outside → ⊥) → FetchesUpTo (tries_on side c.tries) c.stream h es r → AsksAt side c h es r
+asks_at formula c h es r inside fetches = once c.stream h es r fetches
+asks_at own c h es r inside fetches = once c.stream h es r fetches
+asks_at foreign c h es r inside fetches = fetches
+asks_at outside c h es r inside fetches = absurd (inside refl)
+
+inside_side : (s : ℕ) (o : Owner) → (o ≡ owners.Outside → ⊥) → side_for s o ≡ outside → ⊥
+inside_side s owners.Formula inside e = absurd (cc)
+inside_side s (owners.Stream t) inside e = elim (cases_Bool (t == s)) [
+  | inl same ↦ absurd (let f : own ≡ outside = sym (ap (λ (b : Bool). if b then own else foreign) same) ∙ e in cc)
+  | inr other ↦ absurd (let f : foreign ≡ outside = sym (ap (λ (b : Bool). if b then own else foreign) other) ∙ e in cc)
+]
+inside_side s owners.Outside inside e = inside refl
+
+inside_owner : (p : LayoutValue) (id : ℕ) → IsIdentity p id → owner p id ≡ owners.Outside → ⊥
+inside_owner p id is e = elim (eqb_tells id 0) [
+  | inl zero ↦ absurd (omega (arith, zero.1, is.0))
+  | inr some ↦ elim (leb_tells id p.clauses) [
+    | inl low ↦ absurd (let f : owners.Formula ≡ owners.Outside = sym (cond-false (nat_eq id 0) owners.Outside _ some.0 ∙ cond-true (nat_le id p.clauses) owners.Formula _ low.0) ∙ e in cc)
+    | inr high ↦ elim (leb_tells id (last_identity p)) [
+      | inl within ↦ absurd (let f : owners.Stream ((id - p.clauses - 1) % p.streams + 1) ≡ owners.Outside = sym (cond-false (nat_eq id 0) owners.Outside _ some.0 ∙ cond-false (nat_le id p.clauses) owners.Formula _ high.0 ∙ cond-true (nat_le id (last_identity p)) _ owners.Outside within.0) ∙ e in cc)
+      | inr above ↦ absurd (omega (arith, above.1, is.1))
+    ]
+  ]
+]
+
+-- a first fetch that was vacant, and those behind it, are what asking for an identity makes
+pub asks_again : (c : Setting) (h s most : ℕ) (es : History) (r : Reply) → IsIdentity c.layout h → s ≡ c.stream → most ≡ tries_on (side_of c h) c.tries → FetchesUpTo most s h es r → Asks c h es r
+asks_again c h s most es r is stream tries fetches =
+    asks_at (side_of c h) c h es r (inside_side c.stream (owner c.layout h) (inside_owner c.layout h is))
+    (subst (λ (t : ℕ). FetchesUpTo (tries_on (side_of c h) c.tries) t h es r) stream (subst (λ (n : ℕ). FetchesUpTo n s h es r) tries fetches))

@@ -25,6 +25,13 @@ side_for s owners.Outside = outside
 abbrev pub side_of : Setting → ℕ → Side
 side_of c id = side_for c.stream (owner c.layout id)
 
+-- how often a hint of this side is fetched again at most, where another stream's is fetched again so often
+abbrev pub tries_on : Side → ℕ → ℕ
+tries_on formula tries = 0
+tries_on own tries = 0
+tries_on foreign tries = tries
+tries_on outside tries = 0
+
 -- The stream may drop it, but not retire it: it is the formula's or another stream's.
 abbrev pub is_shared : Side → Bool
 is_shared formula = true

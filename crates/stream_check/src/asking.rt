@@ -7,12 +7,12 @@ ghost use Rattle.stream_check.specs.Asking.{Asks, FetchesUpTo};
 ghost use Rattle.stream_check.specs.Checking.{IsAt, Gives};
 
 use crate::gate::Gate;
-use crate::setting::{Setting, Side};
+use crate::setting::Setting;
 use lrup_model::{ClauseMap, Fetched, Id};
 
-/// Fetches an identity that was vacant again, until the reply isn't vacant, and so many times at most. It stands apart
-/// from `ask`, since it is rare, and waits.
-#[cold]
+/// Fetches an identity that was vacant again, until the reply isn't vacant, and so many times at most.
+// A call of it would hand each reply of `ask` back through memory, also where there is no second fetch.
+#[inline(always)]
 fn fetch_again<M: ClauseMap, G: Gate>(most: u64, map: &mut M, gate: &mut G, id: Id) -> Fetched
     requires identity { IsIdentity (M.place map.old).caller.layout id }
     requires small { most < 2 ^ 63 }
@@ -33,7 +33,7 @@ fn fetch_again<M: ClauseMap, G: Gate>(most: u64, map: &mut M, gate: &mut G, id: 
 }
 
 /// What the map has under a hint. One of another stream is fetched again while it is vacant, up to the setting's tries.
-/// Whose it is matters only then, so that most hints cost one fetch and no division.
+/// Whose it is matters only where it was vacant: so a hint that is found at once costs one fetch and no division.
 pub fn ask<M: ClauseMap, G: Gate>(setting: &Setting, map: &mut M, gate: &mut G, hint: Id) -> Fetched
     requires at { IsAt setting.now (M.place map.old) }
     requires tries { setting.now.tries < 2 ^ 63 }
@@ -41,15 +41,12 @@ pub fn ask<M: ClauseMap, G: Gate>(setting: &Setting, map: &mut M, gate: &mut G, 
         × Asks setting.now hint es (reply_of (M.place map.new) result) }
     ensures gives { Gives (M.place map.new) result }
 {
-    if !map.covers(hint) {
+    if !setting.covers(hint) {
         return Fetched::Vacant;
     }
     gate.before_fetch(map.stream(), hint, 1);
     match map.fetch(hint) {
-        Fetched::Vacant => match setting.side(hint) {
-            Side::Foreign => fetch_again(setting.tries(), map, gate, hint),
-            Side::Formula | Side::Own | Side::Outside => Fetched::Vacant,
-        },
+        Fetched::Vacant => fetch_again(setting.tries_for(hint), map, gate, hint),
         answer => answer,
     }
 }

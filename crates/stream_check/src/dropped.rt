@@ -30,12 +30,10 @@ impl Dropped {
         }
     }
 
-    /// Is it one of them? Where there is none yet, one comparison says so.
-    #[inline]
     pub fn has(&self, id: Id) -> bool
         ensures { result ≡ is_among self.now id }
     {
-        !self.ids.is_empty() && self.ids.contains(&id)
+        self.ids.contains(&id)
     }
 
     /// Keeps one identity more. Where there is no memory for it, nothing changes.

@@ -1,6 +1,7 @@
 //! Whose lines are checked.
-ghost use Rattle.std.specs.Prelude.{◌≡◌};
-ghost use Rattle.stream_check.specs.Setting.{side_of};
+ghost use Rattle.std.specs.Prelude.{◌≡◌, ◌↔◌, IsTrue};
+ghost use Rattle.lrup_model.specs.Layout.{IsIdentity};
+ghost use Rattle.stream_check.specs.Setting.{side_of, tries_on};
 ghost use Rattle.stream_check.specs.Checking.{side_is};
 
 use lrup_model::{Id, Layout, Owner};
@@ -12,16 +13,25 @@ pub struct Setting {
     layout: Layout,
     stream: u64,
     tries: u64,
+    // The layout's last identity, which each hint is compared with.
+    last: u64,
 }
 
 impl Model for Setting {
+    ghost use Rattle.std.specs.Prelude.{◌≡◌, ℕ};
+    ghost use Rattle.std.proofs.Common.{sym, ap};
+    ghost use Rattle.lrup_model.specs.Layout.{last_identity};
     ghost use Rattle.stream_check.specs.Setting.{Setting};
 
     ghost Value = { Setting };
 
     ghost view = { λ s. record { layout = s.layout; stream = s.stream; tries = s.tries } };
 
-    ghost inverse = { λ s. record { layout = s.layout; stream = s.stream; tries = s.tries } };
+    ghost invariant = { λ s. s.last ≡ last_identity s.layout };
+
+    ghost inverse = { λ s. record { layout = s.layout; stream = s.stream; tries = s.tries; last = last_identity s.layout } };
+
+    ghost inverse_ok = { λ s h. ap (λ (n : ℕ). record s { last = n }) (sym h) };
 }
 
 /// Whose an identity is, as the stream sees it.
@@ -45,6 +55,7 @@ impl Setting {
             layout: *layout,
             stream,
             tries,
+            last: layout.last_identity(),
         }
     }
 
@@ -54,10 +65,23 @@ impl Setting {
         self.stream
     }
 
-    pub fn tries(&self) -> u64
-        ensures { result ≡ self.now.tries }
+    /// How often a hint that was vacant is fetched again: only another stream's, since no call but the stream's own changes
+    /// what its own identities have, and the formula's are live for good.
+    #[cold]
+    pub fn tries_for(&self, hint: Id) -> u64
+        ensures { result ≡ tries_on (side_of self.now hint) self.now.tries }
     {
-        self.tries
+        match self.side(hint) {
+            Side::Foreign => self.tries,
+            Side::Formula | Side::Own | Side::Outside => 0,
+        }
+    }
+
+    /// Is this an identity: 1 to the last?
+    pub fn covers(&self, id: Id) -> bool
+        ensures { IsTrue result ↔ IsIdentity self.now.layout id }
+    {
+        0 < id && id <= self.last
     }
 
     /// Whose the identity is.
