@@ -36,7 +36,7 @@ below v (x ∷ c) all (inr has) = below v c all.1 has
 once_from : (v : ℕ) → EachOnce (literals_from v)
 once_from v =
     let four = below v (pos (v + 2097152) ∷ pos (v + 4194304) ∷ pos (v + 6291456) ∷ pos (v + 8388608) ∷ [])
-        (omega arith, (omega arith, (omega arith, (omega arith, tt)))) in
+    (omega arith, (omega arith, (omega arith, (omega arith, tt)))) in
     let three = below (v + 2097152) (pos (v + 4194304) ∷ pos (v + 6291456) ∷ pos (v + 8388608) ∷ []) (omega arith, (omega arith, (omega arith, tt))) in
     let two = below (v + 4194304) (pos (v + 6291456) ∷ pos (v + 8388608) ∷ []) (omega arith, (omega arith, tt)) in
     let one = below (v + 6291456) (pos (v + 8388608) ∷ []) (omega arith, tt) in

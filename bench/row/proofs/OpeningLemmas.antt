@@ -19,9 +19,9 @@ seats_at table f p seats same count given k seat here =
     let stream : IsStream p (k + 1) = (omega arith, omega (arith, count, below)) in
     let place : k + 1 - 1 ≡ k = omega arith in
     let is : seat ≡ opening_seat table f p (k + 1) =
-        one_seat seat (opening_seat table f p (k + 1)) (sym here ∙ ap (λ (n : ℕ). slice_get seats n) (sym place) ∙ given (k + 1) stream) in
+    one_seat seat (opening_seat table f p (k + 1)) (sym here ∙ ap (λ (n : ℕ). slice_get seats n) (sym place) ∙ given (k + 1) stream) in
     let caller : (opening_seat table f p (k + 1)).view.caller ≡ caller_of p (k + 1) =
-        ap (λ (g : Cnf). record { formula = g; layout = p; stream = k + 1 }) same in
+    ap (λ (g : Cnf). record { formula = g; layout = p; stream = k + 1 }) same in
     let opened : IsAt table (caller_of p (k + 1)) (opening_seat table f p (k + 1)) = (refl, caller, refl) in
     subst (λ (s : SeatValue). IsAt table (caller_of p (k + 1)) s) (sym is) opened
 
@@ -34,7 +34,7 @@ passes_at store f p passes same layout count given k pass here =
     let place : k + 1 - 1 ≡ k = omega arith in
     let opened = given (k + 1) pass stream (ap (λ (n : ℕ). slice_get passes n) place ∙ here) in
     let caller : pass.view.caller ≡ caller_of p (k + 1) =
-        opened.caller
-        ∙ ap (λ (g : Cnf). record { formula = g; layout = store.layout; stream = k + 1 }) same
-        ∙ ap (λ (q : LayoutValue). record { formula = refuted; layout = q; stream = k + 1 }) layout in
+    opened.caller
+    ∙ ap (λ (g : Cnf). record { formula = g; layout = store.layout; stream = k + 1 }) same
+    ∙ ap (λ (q : LayoutValue). record { formula = refuted; layout = q; stream = k + 1 }) layout in
     (opened.store, caller)

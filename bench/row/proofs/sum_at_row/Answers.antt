@@ -12,5 +12,5 @@ lit-literal-requires c =
     let place = c.start-first.result + c.loop-k.k in
     let live : state_of word ≡ 1 = sym c.state.ensures ∙ c.if-state-ne-LIVE.false in
     let text : IsText seat.view.spelt place c.word.result =
-        subst (λ (s : SeatValue). IsText s.view.spelt place c.word.result) c.loop-k.invariant c.word.ensures.text in
+    subst (λ (s : SeatValue). IsText s.view.spelt place c.word.result) c.loop-k.invariant c.word.ensures.text in
     code_within seat.view c.args.id word c.loop-k.k place c.look-word.ensures.shows live (omega arith) (omega arith) c.look-word.ensures.calls.fair c.word.result text
