@@ -38,8 +38,9 @@ def build_proved(work, folder, name, crates, below):
 
 
 def build_c(work, folder, name):
-    """Builds the C program of the folder, with all that the compiler can do for this machine."""
+    """Builds the C program of the folder, by $CC or cc, with all that the compiler can do for this machine."""
     program = os.path.join(work, name)
     source = os.path.join(HERE, folder, f"{name}.c")
-    subprocess.run(["cc", "-O3", "-march=native", "-pthread", "-o", program, source], check=True)
+    compiler = os.environ.get("CC", "cc")
+    subprocess.run([compiler, "-O3", "-march=native", "-pthread", "-o", program, source], check=True)
     return program

@@ -1,5 +1,5 @@
 -- Lemmas on the clauses that are published: each follows from a formula that has the empty clause.
-use Rattle.std.proofs.Common.{◌≡◌, ◌⊎◌, inl, inr, ℕ, zero, suc, ◌+◌, ◌<◌, ◌≤◌, ℤ, pos, nat_abs, [], ◌∷◌, length, take, ap, sym, subst, arith}
+use Rattle.std.proofs.Common.{◌≡◌, inl, inr, ℕ, zero, suc, ◌+◌, ◌<◌, ◌≤◌, pos, nat_abs, [], ◌∷◌, length, take, ap, sym, subst, arith}
 use Rattle.std.specs.List.{AllByRecursion}
 use Rattle.lrup_model.specs.Literal.{IsLiteral, max_variable}
 use Rattle.lrup_model.specs.Clause.{Clause, Has, EachOnce, IsClause}

@@ -3,7 +3,6 @@ use Rattle.std.proofs.Common.{◌≡◌, ℕ, ◌+◌, ◌-◌, ◌<◌, List, l
 use Rattle.std.proofs.lemmas.Option.{slice_get_within}
 use Rattle.lrup_model.specs.Formula.{Cnf}
 use Rattle.lrup_model.specs.Layout.{LayoutValue, IsStream}
-use Rattle.lrup_model.specs.Place.{Caller}
 use Rattle.idwords.specs.Seats.{TableId, SeatValue, opening_seat}
 use Rattle.clause_store.specs.Passes.{StoreValue, PassValue, IsOpened, store_of}
 use Rattle.row.specs.Measured.{IsAt, caller_of, refuted}
