@@ -9,35 +9,15 @@ Wants the toolchain's `rt`, and `cc`.
 
 import argparse
 import os
-import shutil
 import statistics
 import subprocess
+import sys
 import tempfile
 
-HERE = os.path.dirname(os.path.abspath(__file__))
-ROOT = os.path.dirname(os.path.dirname(HERE))
+sys.path.insert(0, os.path.dirname(os.path.dirname(os.path.abspath(__file__))))
+from building import build_c, build_proved
+
 CRATES = {"lrup_model": "", "dimacs": "lrup_model memchr thiserror", "lrup_text": "memchr thiserror"}
-
-
-def build(work):
-    """Proves and builds the readers' program in a repository of its own, and the one in C."""
-    crate = os.path.join(work, "crates", "readers")
-    os.makedirs(os.path.join(crate, "src"))
-    for name in CRATES:
-        ignored = shutil.ignore_patterns("out", "must-fail")
-        shutil.copytree(os.path.join(ROOT, "crates", name), os.path.join(work, "crates", name), ignore=ignored)
-    shutil.copy(os.path.join(HERE, "readers.rt.in"), os.path.join(crate, "src", "main.rt"))
-    with open(os.path.join(work, "crates.txt"), "w") as f:
-        f.writelines(f"{name}: {below}\n" for name, below in CRATES.items())
-        f.write("readers: dimacs lrup_text\n")
-    subprocess.run(["git", "init", "-q", work], check=True)
-    built = subprocess.run(["rt", "run"], cwd=crate, capture_output=True, text=True)
-    program = os.path.join(crate, "out", "readers")
-    if not os.path.exists(program):
-        raise SystemExit(built.stdout + built.stderr)
-    numbers = os.path.join(work, "numbers")
-    subprocess.run(["cc", "-O3", "-march=native", "-o", numbers, os.path.join(HERE, "numbers.c")], check=True)
-    return program, numbers
 
 
 def speed(program, path):
@@ -54,7 +34,8 @@ def main():
     parser.add_argument("files", nargs="+")
     arguments = parser.parse_args()
     with tempfile.TemporaryDirectory() as work:
-        reader, numbers = build(work)
+        reader = build_proved(work, "readers", "readers", CRATES, "dimacs lrup_text")
+        numbers = build_c(work, "readers", "numbers")
         print(f"{'file':24} {'reader, MB/s':>14} {'numbers in C, MB/s':>20} {'time, reader to C':>18}")
         for path in arguments.files:
             pairs = [(speed(reader, path), speed(numbers, path)) for _ in range(arguments.rounds)]

@@ -1,0 +1,46 @@
+"""Builds a program in Rattle that measures crates of this repository, and the C program beside it.
+
+The program stands in a folder of bench/: NAME.rt.in, and the folders specs and proofs where its contracts want them.
+"""
+
+import os
+import shutil
+import subprocess
+
+HERE = os.path.dirname(os.path.abspath(__file__))
+ROOT = os.path.dirname(HERE)
+
+
+def build_proved(work, folder, name, crates, below):
+    """Proves and builds the program in a repository of its own, over what checks of the crates kept in out/.
+
+    crates has, for each crate of this repository that is wanted, the crates below it; below are those that the program names.
+    """
+    crate = os.path.join(work, "crates", name)
+    os.makedirs(os.path.join(crate, "src"))
+    for other in crates:
+        ignored = shutil.ignore_patterns("must-fail")
+        shutil.copytree(os.path.join(ROOT, "crates", other), os.path.join(work, "crates", other), ignore=ignored)
+    shutil.copy(os.path.join(HERE, folder, f"{name}.rt.in"), os.path.join(crate, "src", "main.rt"))
+    for part in ("specs", "proofs"):
+        if os.path.isdir(os.path.join(HERE, folder, part)):
+            shutil.copytree(os.path.join(HERE, folder, part), os.path.join(crate, part))
+    shutil.copy(os.path.join(ROOT, "HANDLES"), work)
+    with open(os.path.join(work, "crates.txt"), "w") as f:
+        f.writelines(f"{other}: {its}\n" for other, its in crates.items())
+        f.write(f"{name}: {below}\n")
+    subprocess.run(["git", "init", "-q", work], check=True)
+    built = subprocess.run(["rt", "run"], cwd=crate, capture_output=True, text=True)
+    program = os.path.join(crate, "out", name)
+    if not os.path.exists(program):
+        raise SystemExit(built.stdout + built.stderr)
+    return program
+
+
+def build_c(work, folder, name):
+    """Builds the C program of the folder, by $CC or cc, with all that the compiler can do for this machine."""
+    program = os.path.join(work, name)
+    source = os.path.join(HERE, folder, f"{name}.c")
+    compiler = os.environ.get("CC", "cc")
+    subprocess.run([compiler, "-O3", "-march=native", "-pthread", "-o", program, source], check=True)
+    return program

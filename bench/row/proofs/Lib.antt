@@ -1,0 +1,4 @@
+pub mod ClauseLemmas
+pub mod ReadingLemmas
+pub mod OwningLemmas
+pub mod OpeningLemmas
