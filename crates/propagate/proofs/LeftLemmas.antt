@@ -1,5 +1,5 @@
 -- Lemmas on what is left of a clause as its literals are read.
-use Rattle.std.proofs.Common.{arith, ◌≡◌, ◌≤◌, inl, inr, ℕ, ◌+◌, ◌*◌, length, Option, None, refl, ℤ, neg_ℤ, List, [], ◌∷◌, ◌++◌, take, drop, Some, sym, ap, subst, ◌∙◌, add-one}
+use Rattle.std.proofs.Common.{arith, ◌≡◌, ◌≤◌, ◌⊎◌, inl, inr, ℕ, ◌+◌, ◌*◌, length, Option, None, refl, ℤ, neg_ℤ, List, [], ◌∷◌, ◌++◌, take, drop, Some, sym, ap, subst, ◌∙◌, add-one}
 use Rattle.std.specs.Prelude.{slice_get}
 use Rattle.std.proofs.lemmas.List.{take-append-drop, take_all}
 use Rattle.std.proofs.lemmas.Option.{none-some, slice_get_cases}
@@ -103,3 +103,11 @@ IsLeft-pair n d i x (Some y) left at at' false_too before =
     let next : 2 * i + 1 + 1 ≡ 2 * (i + 1) = omega arith in
     let one = IsLeft-passed n d (2 * i) x left at false_too.0 before in
     subst (λ k. IsLeft n (take k d) left) next (IsLeft-passed n d (2 * i + 1) y left at' (false_too.1 y refl) one)
+
+-- where one literal is left, and one of a later pair isn't false, more than one is
+pub IsLeft-open_pair : (n : List ℤ) (d : Clause) (i : ℕ) (x : ℤ) (second : Option ℤ) (lit : ℤ) → EachOnce d → slice_get d (2 * i) ≡ Some x → slice_get d (2 * i + 1) ≡ second → IsUnit n (take (2 * i) d) lit → (¬ Has n x) ⊎ (Has n x × (l : ℤ) × (second ≡ Some l) × (¬ Has n l)) → IsLeft n d More
+IsLeft-open_pair n d i x second lit once at at' unit (inl not_false) =
+    IsLeft-whole n d (2 * i + 1) (IsLeft-next n d (2 * i) x (One lit) More once at unit (λ e left new. IsLeft-two n e lit x left new not_false))
+IsLeft-open_pair n d i x second lit once at at' unit (inr other) =
+    let one = IsLeft-passed n d (2 * i) x (One lit) at other.0 unit in
+    IsLeft-whole n d (2 * i + 1 + 1) (IsLeft-next n d (2 * i + 1) other.1 (One lit) More once (at' ∙ other.2) one (λ e left new. IsLeft-two n e lit other.1 left new other.3))

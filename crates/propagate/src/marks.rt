@@ -1,5 +1,5 @@
 //! The checking of hints one by one.
-ghost use Rattle.std.specs.Prelude.{◌≡◌, ◌↔◌, ◌≤◌, ◌+◌, ◌*◌, ◌++◌, ℕ, List, [], ◌∷◌, ℤ, Some, slice_get, take, false, true, IsTrue, IfOk, IsErr, OnOk, OnErr};
+ghost use Rattle.std.specs.Prelude.{◌≡◌, ◌↔◌, ◌≤◌, ◌+◌, ◌*◌, ◌++◌, ℕ, List, [], ◌∷◌, ℤ, Some, slice_get, take, false, true, IsTrue, IsFalse, ◌⊎◌, IfOk, IsErr, OnOk, OnErr};
 ghost use Rattle.std.specs.List.{AllByRecursion};
 ghost use Rattle.lrup_model.specs.Literal.{IsLiteral, max_variable};
 ghost use Rattle.lrup_model.specs.Clause.{Has, EachOnce, IsClause, IsTautology};
@@ -150,18 +150,35 @@ fn rest_of<M: ClauseMap>(falses: &Trail, map: &mut M, clip: &Clip) -> Left
     ensures event { M.moves map.old map.new [] }
     ensures stays { M.place map.new ≡ M.place map.old }
 {
-    let mut left = Left::Nothing;
     for i in 0..clip.pairs() {
         let (first, second) = map.pair(clip, i);
-        if are_false(falses, first, &second) {
-            continue;
-        }
-        left = left_with_pair(falses, left, first, second);
-        if let Left::More = left {
-            return left;
+        match left_with_pair(falses, first, second) {
+            Left::Nothing => {}
+            Left::One(lit) => return rest_after(falses, map, clip, i + 1, lit),
+            Left::More => return Left::More,
         }
     }
-    left
+    Left::Nothing
+}
+
+/// What is left of the clause, where of its first pairs, so many, just this literal is.
+fn rest_after<M: ClauseMap>(falses: &Trail, map: &mut M, clip: &Clip, pairs: u32, lit: Lit) -> Left
+    requires known { IsKnown (M.place map.old) clip.now }
+    requires follow { AllFollow (M.place map.old) }
+    requires variables { (M.place map.old).caller.formula.vars ≤ falses.now.vars }
+    requires left { let clause = text_of (M.place map.old) clip.now in
+        IsUnit falses.now.literals (take (2 * pairs) clause) lit }
+    ensures left { IsLeft falses.now.literals (text_of (M.place map.old) clip.now) result }
+    ensures event { M.moves map.old map.new [] }
+    ensures stays { M.place map.new ≡ M.place map.old }
+{
+    for i in pairs..clip.pairs() {
+        let (first, second) = map.pair(clip, i);
+        if !are_false(falses, first, &second) {
+            return Left::More;
+        }
+    }
+    Left::One(lit)
 }
 
 /// Are both literals false, or is the one, if there is no other?
@@ -169,8 +186,11 @@ fn rest_of<M: ClauseMap>(falses: &Trail, map: &mut M, clip: &Clip) -> Left
 fn are_false(falses: &Trail, first: Lit, second: &Option<Lit>) -> bool
     requires first { IsLiteral falses.now.vars first }
     requires second { (l : ℤ) → second.now ≡ Some l → IsLiteral falses.now.vars l }
-    ensures { IsTrue result → Has falses.now.literals first
+    ensures yes { IsTrue result → Has falses.now.literals first
         × ((l : ℤ) → second.now ≡ Some l → Has falses.now.literals l) }
+    ensures no { IsFalse result → (¬ Has falses.now.literals first)
+        ⊎ (Has falses.now.literals first
+        × (l : ℤ) × (second.now ≡ Some l) × (¬ Has falses.now.literals l)) }
 {
     falses.has(first)
         && match second {
@@ -179,17 +199,18 @@ fn are_false(falses: &Trail, first: Lit, second: &Option<Lit>) -> bool
         }
 }
 
-/// What is left when the next literal is read, or the next two, of a clause that has each once.
+/// What is left when the next literal is read, or the next two, of a clause that has each once, and whose literals before
+/// them are false.
 #[inline]
-fn left_with_pair(falses: &Trail, left: Left, first: Lit, second: Option<Lit>) -> Left
+fn left_with_pair(falses: &Trail, first: Lit, second: Option<Lit>) -> Left
     requires first { IsLiteral falses.now.vars first }
     requires second { (l : ℤ) → second ≡ Some l → IsLiteral falses.now.vars l }
     ensures { (d : List ℤ) (i : ℕ) → EachOnce d
         → slice_get d (2 * i) ≡ Some first → slice_get d (2 * i + 1) ≡ second
-        → IsLeft falses.now.literals (take (2 * i) d) left
+        → IsConflict falses.now.literals (take (2 * i) d)
         → IsLeft falses.now.literals (take (2 * (i + 1)) d) result }
 {
-    let left = left_with(falses, left, first);
+    let left = left_with(falses, Left::Nothing, first);
     match second {
         Some(second) => left_with(falses, left, second),
         None => left,
