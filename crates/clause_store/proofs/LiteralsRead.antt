@@ -14,11 +14,15 @@ use Rattle.idwords.specs.Spelling.{LieWithin}
 use Rattle.idwords.specs.Steps.{IsText}
 use Rattle.clause_store.specs.Passes.{PassValue, IsAtRest, pass_value}
 
--- the start that a live word shows is a place of the row
-pub start_read : (v : View) (id word : ℕ) (o : Option Kept) → kept_in v.spelt id ≡ o → ShowsKept o word → state_of word ≡ 1 → LieWithin (row_words v.caller.layout) v.spelt → IsFair v
+-- the start that the word of a clause shows is a place of the row
+start_shown : (v : View) (id word : ℕ) (o : Option Kept) → kept_in v.spelt id ≡ o → ShowsKept o word → 0 < state_of word → LieWithin (row_words v.caller.layout) v.spelt → IsFair v
     → start_of word < 4294967296
-start_read v id word None here shows live within fair = absurd (omega arith)
-start_read v id word (Some kept) here shows live within fair = omega (arith, within id kept here, shows.3, fair.caller.layout.row)
+start_shown v id word None here shows some within fair = absurd (omega arith)
+start_shown v id word (Some kept) here shows some within fair = omega (arith, within id kept here, shows.3, fair.caller.layout.row)
+
+pub start_read : (v : View) (id word : ℕ) → ShowsKept (kept_in v.spelt id) word → 0 < state_of word → LieWithin (row_words v.caller.layout) v.spelt → IsFair v
+    → start_of word < 4294967296
+start_read v id word shows some within fair = start_shown v id word (kept_in v.spelt id) refl shows some within fair
 
 -- a place inside a clause has a literal
 literal_at : (vars : ℕ) (c : Clause) (k : ℕ) → k < length c → AllByRecursion (IsLiteral vars) c → (l : ℤ) × (slice_get c k ≡ Some l) × IsLiteral vars l

@@ -77,6 +77,7 @@ impl Store {
 
     /// What the store has under an identity, by one load.
     #[inline]
+    #[tactic(auto, using(crate::proofs::LiteralsRead::start_read))]
     pub fn fetch(&self, pass: &mut Pass, id: Id) -> Fetched
         requires store { store_of pass.old ≡ self.now }
         requires identity { IsIdentity pass.old.view.caller.layout id }
