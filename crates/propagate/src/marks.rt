@@ -152,6 +152,9 @@ fn rest_of<M: ClauseMap>(falses: &Trail, map: &mut M, clip: &Clip) -> Left
 {
     for i in 0..clip.pairs() {
         let (first, second) = map.pair(clip, i);
+        if are_false(falses, first, &second) {
+            continue;
+        }
         match left_with_pair(falses, first, second) {
             Left::Nothing => {}
             Left::One(lit) => return rest_after(falses, map, clip, i + 1, lit),

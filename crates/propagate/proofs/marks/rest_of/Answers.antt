@@ -3,18 +3,19 @@ use Rattle.lrup_model.specs.Place.{text_of}
 use Rattle.lrup_model.specs.PassLemmas.{known_follows}
 use Rattle.lrup_model.specs.Propagation.{IsUnit}
 use Rattle.propagate.specs.Left.{IsLeft}
+use Rattle.propagate.specs.declared.marks.Left.TheVariants.{Nothing}
 use Rattle.propagate.proofs.MarkLemmas.{IsLiteral-known}
-use Rattle.propagate.proofs.LeftLemmas.{IsLeft-whole}
+use Rattle.propagate.proofs.LeftLemmas.{IsLeft-pair, IsLeft-whole}
 use Rattle.propagate.proofs.marks.rest_of.Goals as goal
 
-pub left_with_pair-requires-clause-first : goal.left_with_pair-requires-clause-first
-left_with_pair-requires-clause-first g c =
+pub are_false-requires-clause-first : goal.are_false-requires-clause-first
+are_false-requires-clause-first g c =
     let place = g.M.ClauseMap.place c.args.map.now in
     let at = rw c.loop-i.invariant.stays at c.pair-first.ensures.first in
     IsLiteral-known c.args.falses.now.vars place c.args.clip.now (2 * c.loop-i.i) c.pair-first.result.0 c.requires.follow c.requires.known c.requires.variables at
 
-pub left_with_pair-requires-clause-second : goal.left_with_pair-requires-clause-second
-left_with_pair-requires-clause-second g c = λ l same.
+pub are_false-requires-clause-second : goal.are_false-requires-clause-second
+are_false-requires-clause-second g c = λ l same.
     let place = g.M.ClauseMap.place c.args.map.now in
     let at = rw c.loop-i.invariant.stays at c.pair-first.ensures.second in
     IsLiteral-known c.args.falses.now.vars place c.args.clip.now (2 * c.loop-i.i + 1) l c.requires.follow c.requires.known c.requires.variables (at ∙ same)
@@ -61,6 +62,29 @@ loop-i-preserved g c =
     let after = c.left_with_pair.ensures d c.loop-i.i once at at' c.loop-i.invariant.left in
     record {
       left = subst (IsLeft n (take (2 * (c.loop-i.i + 1)) d)) c.in-Nothing.is after;
+      event = g.met.M.ClauseMap.moves_append _ _ _ _ _ c.loop-i.invariant.event c.pair-first.ensures.event;
+      stays = rw c.pair-first.ensures.stays c.loop-i.invariant.stays;
+    }
+
+pub left_with_pair-requires-clause-first : goal.left_with_pair-requires-clause-first
+left_with_pair-requires-clause-first g c =
+    let place = g.M.ClauseMap.place c.args.map.now in
+    let at = rw c.loop-i.invariant.stays at c.pair-first.ensures.first in
+    IsLiteral-known c.args.falses.now.vars place c.args.clip.now (2 * c.loop-i.i) c.pair-first.result.0 c.requires.follow c.requires.known c.requires.variables at
+
+pub left_with_pair-requires-clause-second : goal.left_with_pair-requires-clause-second
+left_with_pair-requires-clause-second g c = λ l same.
+    let place = g.M.ClauseMap.place c.args.map.now in
+    let at = rw c.loop-i.invariant.stays at c.pair-first.ensures.second in
+    IsLiteral-known c.args.falses.now.vars place c.args.clip.now (2 * c.loop-i.i + 1) l c.requires.follow c.requires.known c.requires.variables (at ∙ same)
+
+pub loop-i-preserved-then-are_false : goal.loop-i-preserved-then-are_false
+loop-i-preserved-then-are_false g c =
+    let d = text_of (g.M.ClauseMap.place c.args.map.now) c.args.clip.now in
+    let at = rw c.loop-i.invariant.stays at c.pair-first.ensures.first in
+    let at' = rw c.loop-i.invariant.stays at c.pair-first.ensures.second in
+    record {
+      left = IsLeft-pair c.args.falses.now.literals d c.loop-i.i c.pair-first.result.0 c.pair-first.result.1 Nothing at at' (c.are_false.ensures.yes c.if-are_false.true) c.loop-i.invariant.left;
       event = g.met.M.ClauseMap.moves_append _ _ _ _ _ c.loop-i.invariant.event c.pair-first.ensures.event;
       stays = rw c.pair-first.ensures.stays c.loop-i.invariant.stays;
     }
