@@ -1,6 +1,7 @@
 """Builds a program in Rattle that measures crates of this repository, and the C program beside it.
 
-The program stands in a folder of bench/: NAME.rt.in, and the folders specs and proofs where its contracts want them.
+The program stands in a folder of bench/: NAME.rt.in, and the folders specs and proofs where its contracts want them. Their files
+end in .in, since no check of this repository reads them.
 """
 
 import os
@@ -9,6 +10,10 @@ import subprocess
 
 HERE = os.path.dirname(os.path.abspath(__file__))
 ROOT = os.path.dirname(HERE)
+
+
+def copy_without_in(source, target):
+    return shutil.copy(source, target.removesuffix(".in"))
 
 
 def build_proved(work, folder, name, crates, below):
@@ -24,7 +29,7 @@ def build_proved(work, folder, name, crates, below):
     shutil.copy(os.path.join(HERE, folder, f"{name}.rt.in"), os.path.join(crate, "src", "main.rt"))
     for part in ("specs", "proofs"):
         if os.path.isdir(os.path.join(HERE, folder, part)):
-            shutil.copytree(os.path.join(HERE, folder, part), os.path.join(crate, part))
+            shutil.copytree(os.path.join(HERE, folder, part), os.path.join(crate, part), copy_function=copy_without_in)
     shutil.copy(os.path.join(ROOT, "HANDLES"), work)
     with open(os.path.join(work, "crates.txt"), "w") as f:
         f.writelines(f"{other}: {its}\n" for other, its in crates.items())

@@ -56,7 +56,7 @@ impl Clip {
     pub fn pairs(&self) -> u32
         ensures { result ≡ (self.now.len + 1) / 2 }
     {
-        self.len.div_ceil(2)
+        self.len / 2 + self.len % 2
     }
 
     /// Is it a clip of the empty clause?
