@@ -14,8 +14,8 @@ abbrev pub literal_words : List Clause → List ℕ
 literal_words [] = []
 literal_words (c ∷ cs) = packed c ++ literal_words cs
 
--- 0, the formula's identities, the streams' vacant ones, the formula's literals, and zeros to the end of the row: what the literals leave of a word
--- each, and the streams' rooms, where nothing is written
+-- 0, the formula's identities, the streams' vacant ones, the formula's literals, and zeros to the end of the row: the words that literals two in a
+-- word leave, and the streams' rooms, where nothing is written
 abbrev pub opening_words : Cnf → LayoutValue → List ℕ
 opening_words f p =
     0 ∷ clause_words (1 + last_identity p) f.clauses

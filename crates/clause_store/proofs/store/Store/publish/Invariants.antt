@@ -5,7 +5,7 @@ abbrev pub invariant-pairs : goal.invariant-pairs
 invariant-pairs l =
     let now = l.pass-inside.seat in record {
       seat : now ≡ record l.initial.pass-inside.seat { draft = now.draft };
-      draft : now.draft ++ l.left ≡ l.clause;
+      draft : now.draft ++ l.left ≡ l.initial.left;
       even : length now.draft % 2 ≡ 0;
       stream : l.pass-inside.stream ≡ l.initial.pass-inside.stream;
     }
