@@ -1,7 +1,7 @@
 //! All passes of a store brought to one history.
 ghost use Rattle.std.specs.Prelude.{◌≡◌};
 ghost use Rattle.lrup_model.specs.Pass.{MeetsInTurn, AreMet, IsFair};
-ghost use Rattle.clause_store.specs.Passes.{store_of, views, AreOf, AreFair, HaveMet};
+ghost use Rattle.clause_store.specs.Passes.{store_of, views, AreOf, HaveMet};
 
 use crate::pass::Pass;
 use crate::store::Store;

@@ -1,10 +1,10 @@
 //! The clauses after the header.
-ghost use Rattle.std.specs.Prelude.{◌≡◌, ◌≢◌, ◌⊎◌, ◌<◌, ◌≤◌, ◌+◌, ◌-◌, ℕ, ℤ, [], ◌∷◌, ◌++◌, List, length, OnOk, IfOk, IfErr};
+ghost use Rattle.std.specs.Prelude.{◌≡◌, ◌≢◌, ◌⊎◌, ◌<◌, ◌≤◌, ◌+◌, ◌-◌, [], length, OnOk, IfOk, IfErr};
 ghost use Rattle.lrup_model.specs.Literal.{max_variable};
 ghost use Rattle.lrup_model.specs.Formula.{max_clauses, max_clause_literals, IsFormulaClause};
 ghost use Rattle.dimacs.specs.FormulaText.{AreClauses};
 ghost use Rattle.dimacs.specs.FormulaFault.{IsBodyFault};
-ghost use Rattle.dimacs.specs.Places.{tokens_at, AddsLiteral, AddsClause, IsBuilt};
+ghost use Rattle.dimacs.specs.Places.{tokens_at, AddsLiteral, AddsClause};
 ghost use Rattle.dimacs.specs.declared.fault.DimacsFault.TheVariants.{OpenClause as ends_open, TooFew, TooMany, Limit, Memory};
 
 use crate::fault::DimacsFault;

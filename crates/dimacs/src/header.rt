@@ -1,5 +1,5 @@
 //! The header line: `p cnf V C`.
-ghost use Rattle.std.specs.Prelude.{◌≡◌, false, length, MatchOption, MatchResult};
+ghost use Rattle.std.specs.Prelude.{◌≡◌, false, MatchOption, MatchResult};
 ghost use Rattle.dimacs.specs.Lines.{runs};
 ghost use Rattle.dimacs.specs.Numerals.{is_count};
 ghost use Rattle.dimacs.specs.Places.{run, after_run, with_run, IsAtToken, ReadsCount, IsSmallHeader, IsLineFault};

@@ -1,5 +1,5 @@
 //! The clause that is being read, as the set of its literals.
-ghost use Rattle.std.specs.Prelude.{◌≡◌, ◌↔◌, ◌<◌, ◌≤◌, ◌+◌, ℕ, ℤ, [], ◌∷◌, ◌++◌, List, IsTrue, length, OnOk, OnErr};
+ghost use Rattle.std.specs.Prelude.{◌≡◌, ◌↔◌, ◌<◌, ◌≤◌, ℤ, [], List, IsTrue, length, OnOk, OnErr};
 ghost use Rattle.lrup_model.specs.Clause.{EachOnce, Has};
 ghost use Rattle.dimacs.specs.Places.{AddsLiteral};
 ghost use Rattle.dimacs.specs.Marks.{MarksAre, all_words};

@@ -1,5 +1,5 @@
 //! Lines, comments and tokens, read once from the left.
-ghost use Rattle.std.specs.Prelude.{if◌then◌else◌, neg_ℤ, pos, ◌↔◌, true, false, MatchOption, IsTrue, ◌≡◌, ◌+◌, ◌-◌, ◌<◌, ◌≤◌, ◌^◌, ℕ, List, [], ◌∷◌, length, drop};
+ghost use Rattle.std.specs.Prelude.{neg_ℤ, pos, ◌↔◌, true, false, MatchOption, IsTrue, ◌≡◌, ◌+◌, ◌-◌, ◌<◌, ◌≤◌, ◌^◌, [], ◌∷◌, length, drop, if◌then◌else◌};
 ghost use Rattle.dimacs.specs.Lines.{lines_of, runs, is_separator as separates};
 ghost use Rattle.dimacs.specs.Places.{lines_at, lines_at_start, tokens_at, run, after_run, IsAtToken, ReadsNumeral, Finds};
 ghost use Rattle.dimacs.specs.Numerals.{is_numeral, all_digits, is_digit as counts};

@@ -1,5 +1,5 @@
 //! How a hint is fetched.
-ghost use Rattle.std.specs.Prelude.{◌≡◌, [], ◌∷◌, ◌<◌, ◌^◌};
+ghost use Rattle.std.specs.Prelude.{◌∷◌, ◌<◌, ◌^◌};
 ghost use Rattle.lrup_model.specs.Event.{History, vacant, fetch};
 ghost use Rattle.lrup_model.specs.Layout.{IsIdentity};
 ghost use Rattle.lrup_model.specs.Replies.{reply_of};

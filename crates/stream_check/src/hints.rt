@@ -1,5 +1,5 @@
 //! The hints of an addition.
-ghost use Rattle.std.specs.Prelude.{◌≡◌, ◌≤◌, ◌<◌, ◌^◌, [], IsTrue};
+ghost use Rattle.std.specs.Prelude.{◌≡◌, ◌≤◌, ◌<◌, ◌^◌, IsTrue};
 ghost use Rattle.lrup_model.specs.Clause.{IsTautology};
 ghost use Rattle.lrup_model.specs.Event.{History};
 ghost use Rattle.stream_check.specs.Standing.{is_among};

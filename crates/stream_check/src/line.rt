@@ -1,5 +1,5 @@
 //! The line that stands next in a piece.
-ghost use Rattle.std.specs.Prelude.{◌≡◌, ◌≤◌, ◌<◌, ◌^◌, ℕ, List, Ok, take, length};
+ghost use Rattle.std.specs.Prelude.{◌≡◌, ◌<◌, ◌^◌, ℕ, List, Ok};
 ghost use Rattle.lrup_model.specs.Event.{History};
 ghost use Rattle.lrup_text.specs.Lines.{IsWithinLimits, Addition, Deletion};
 ghost use Rattle.stream_check.specs.Judging.{joined};
