@@ -40,13 +40,15 @@ static inline uint64_t clause_of(uint64_t id, uint32_t *clause) {
     return 3 + (id >> 2 & 1) + (id >> 3 & 1);
 }
 
-/* Stores a clause's literals above the top, and makes the identity's word live. */
+/* Stores a clause's literals above the top, two a word, and makes the identity's word live. */
 static inline int publish(struct worker *worker, uint64_t id, const uint32_t *clause, uint64_t len) {
     uint64_t *row = worker->row, vacant = 0, top = worker->top;
-    for (uint64_t k = 0; k < len; k++) __atomic_store_n(&row[top + k], clause[k], __ATOMIC_SEQ_CST);
+    for (uint64_t k = 0; k + 1 < len; k += 2)
+        __atomic_store_n(&row[top + k / 2], clause[k] + ((uint64_t)clause[k + 1] << 32), __ATOMIC_SEQ_CST);
+    if (len % 2 == 1) __atomic_store_n(&row[top + len / 2], clause[len - 1], __ATOMIC_SEQ_CST);
     uint64_t live = 1 + 4 * len + 4194304 * top;
     if (!__atomic_compare_exchange_n(&row[id], &vacant, live, 0, __ATOMIC_SEQ_CST, __ATOMIC_SEQ_CST)) return 0;
-    worker->top += len;
+    worker->top += (len + 1) / 2;
     worker->room -= len;
     return 1;
 }
@@ -56,7 +58,11 @@ static inline uint64_t sum_of(const uint64_t *row, uint64_t id) {
     uint64_t word = load(row, id), sum = 0;
     if ((word & 3) != 1) return 0;
     uint64_t len = word >> 2 & 0xfffff, start = word >> 22;
-    for (uint64_t k = 0; k < len; k++) sum += (uint32_t)load(row, start + k);
+    for (uint64_t k = 0; k < len / 2; k++) {
+        uint64_t pair = load(row, start + k);
+        sum += (uint32_t)pair + (pair >> 32);
+    }
+    if (len % 2 == 1) sum += (uint32_t)load(row, start + len / 2);
     return sum;
 }
 
