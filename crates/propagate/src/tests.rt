@@ -1,5 +1,5 @@
 //! What is taken up, the text of the one fault, and hints at a plain map.
-ghost use Rattle.std.specs.Prelude.{◌≡◌, ◌≤◌, IfOk, OnOk};
+ghost use Rattle.std.specs.Prelude.{◌≡◌, ◌≤◌, ℤ, IfOk, OnOk};
 ghost use Rattle.lrup_model.specs.Literal.{max_variable};
 
 use crate::{Marks, Step, Tautology};
