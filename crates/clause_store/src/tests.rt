@@ -262,7 +262,7 @@ fn reads_back(store: &Store, pass: &mut Pass, clip: &Clip, clause: &[Lit]) -> bo
     true
 }
 
-/// An odd clause, one of two literals behind it, and the last one: each is read back, literal by literal.
+/// An odd clause, one of two literals after it, and the last one: each is read back, literal by literal.
 #[test]
 fn clauses_are_read_back(rt: HostRuntime) -> Result<(), Fail> {
     let formula = four_clauses(rt.alloc())?;

@@ -147,6 +147,7 @@ pub record SinkChange : Type 0 where
   pub after : Option (List ℕ)
   pub failed : Bool
 
+-- what became of a sink
 abbrev pub change : Option (List ℕ) → Option (List ℕ) → Bool → SinkChange
 change before after failed = record { before = before; after = after; failed = failed }
 

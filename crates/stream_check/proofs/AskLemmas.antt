@@ -12,7 +12,7 @@ use Rattle.stream_check.specs.Setting.{Setting, Side, formula, own, foreign, out
 use Rattle.stream_check.specs.Asking.{FetchesUpTo, AsksAt, Asks}
 use Rattle.stream_check.proofs.TryLemmas.{replicate-more}
 
--- Fetches behind a first one that was vacant
+-- Fetches after a first one that was vacant
 
 pub again_found : (most k s id : ℕ) (r : Reply) → k < most → (r ≡ vacant → ⊥)
     → FetchesUpTo most s id (fetch s id vacant ∷ replicate k (fetch s id vacant) ++ fetch s id r ∷ []) r
@@ -60,7 +60,7 @@ inside_owner p id is e = elim (eqb_tells id 0) [
   ]
 ]
 
--- a first fetch that was vacant, and those behind it, are what asking for an identity makes
+-- a first fetch that was vacant, and those after it, are what asking for an identity makes
 pub asks_again : (c : Setting) (h s most : ℕ) (es : History) (r : Reply) → IsIdentity c.layout h → s ≡ c.stream → most ≡ tries_on (side_of c h) c.tries → FetchesUpTo most s h es r → Asks c h es r
 asks_again c h s most es r is stream tries fetches =
     asks_at (side_of c h) c h es r (inside_side c.stream (owner c.layout h) (inside_owner c.layout h is))

@@ -13,7 +13,7 @@ pub struct Setting {
     layout: Layout,
     stream: u64,
     tries: u64,
-    // The layout's last identity, which each hint is compared with.
+    // The layout's last identity. Each hint is compared with it, and working it out takes a multiplication.
     last: u64,
 }
 
