@@ -1,14 +1,14 @@
 -- Lemmas on what is left of a clause as its literals are read.
 use Rattle.std.proofs.Common.{arith, ◌≡◌, ◌≤◌, ◌⊎◌, inl, inr, ℕ, ◌+◌, ◌*◌, length, Option, None, refl, ℤ, neg_ℤ, List, [], ◌∷◌, ◌++◌, take, drop, Some, sym, ap, subst, ◌∙◌, add-one}
 use Rattle.std.specs.Prelude.{slice_get}
-use Rattle.std.proofs.lemmas.List.{take-append-drop, take_all}
+use Rattle.std.proofs.lemmas.List.{take-append-drop, take_all, take-take}
 use Rattle.std.proofs.lemmas.Option.{none-some, slice_get_cases}
 use Rattle.lrup_model.specs.Clause.{Clause, Has, EachOnce}
 use Rattle.lrup_model.specs.Propagation.{IsConflict, IsUnit}
 use Rattle.propagate.specs.Left.{IsLeft}
 use Rattle.propagate.specs.declared.marks.Left.{Left}
 use Rattle.propagate.specs.declared.marks.Left.TheVariants.{Nothing, One, More}
-use Rattle.lrup_model.specs.ClauseLemmas.{Has-append_left, Has-push, Has-push_cases, Has-before, take-next}
+use Rattle.lrup_model.specs.ClauseLemmas.{Has-append_left, Has-push, Has-push_cases, Has-take, Has-at, Has-before, take-next}
 
 -- no literal of a list is left
 pub IsConflict-nil : (n : List ℤ) → IsConflict n []
@@ -104,10 +104,22 @@ IsLeft-pair n d i x (Some y) left at at' false_too before =
     let one = IsLeft-passed n d (2 * i) x left at false_too.0 before in
     subst (λ k. IsLeft n (take k d) left) next (IsLeft-passed n d (2 * i + 1) y left at' (false_too.1 y refl) one)
 
+-- where one of the first literals is left, and one behind them isn't false, more than one is
+IsLeft-behind : (n : List ℤ) (d : Clause) (i k : ℕ) (x lit : ℤ) → EachOnce d → slice_get d k ≡ Some x → i ≤ k → IsUnit n (take i d) lit → (¬ Has n x) → IsLeft n d More
+IsLeft-behind n d i k x lit once at behind unit not_false =
+    let before : Has (take k d) lit = Has-take i (take k d) lit (subst (λ e. Has e lit) (sym (take-take i k d behind)) unit.here) in
+    let here : Has d x = Has-at d k x at in
+    (
+      (λ conflict. not_false (conflict x here)),
+      (λ other both.
+          let first : x ≡ other = elim (both.others x here) [ inl same ↦ same | inr is_false ↦ absurd (not_false is_false) ] in
+          elim (both.others lit (Has-take k d lit before)) [
+            | inl same ↦ Has-before d k x once at (subst (Has (take k d)) (same ∙ sym first) before)
+            | inr is_false ↦ unit.not_false is_false
+          ]),
+    )
+
 -- where one literal is left, and one of a later pair isn't false, more than one is
-pub IsLeft-open_pair : (n : List ℤ) (d : Clause) (i : ℕ) (x : ℤ) (second : Option ℤ) (lit : ℤ) → EachOnce d → slice_get d (2 * i) ≡ Some x → slice_get d (2 * i + 1) ≡ second → IsUnit n (take (2 * i) d) lit → (¬ Has n x) ⊎ (Has n x × (l : ℤ) × (second ≡ Some l) × (¬ Has n l)) → IsLeft n d More
-IsLeft-open_pair n d i x second lit once at at' unit (inl not_false) =
-    IsLeft-whole n d (2 * i + 1) (IsLeft-next n d (2 * i) x (One lit) More once at unit (λ e left new. IsLeft-two n e lit x left new not_false))
-IsLeft-open_pair n d i x second lit once at at' unit (inr other) =
-    let one = IsLeft-passed n d (2 * i) x (One lit) at other.0 unit in
-    IsLeft-whole n d (2 * i + 1 + 1) (IsLeft-next n d (2 * i + 1) other.1 (One lit) More once (at' ∙ other.2) one (λ e left new. IsLeft-two n e lit other.1 left new other.3))
+pub IsLeft-open_pair : (n : List ℤ) (d : Clause) (i : ℕ) (x : ℤ) (second : Option ℤ) (lit : ℤ) → EachOnce d → slice_get d (2 * i) ≡ Some x → slice_get d (2 * i + 1) ≡ second → IsUnit n (take (2 * i) d) lit → (¬ Has n x) ⊎ ((l : ℤ) × (second ≡ Some l) × (¬ Has n l)) → IsLeft n d More
+IsLeft-open_pair n d i x second lit once at at' unit (inl not_false) = IsLeft-behind n d (2 * i) (2 * i) x lit once at (omega arith) unit not_false
+IsLeft-open_pair n d i x second lit once at at' unit (inr other) = IsLeft-behind n d (2 * i) (2 * i + 1) other.0 lit once (at' ∙ other.1) (omega arith) unit other.2

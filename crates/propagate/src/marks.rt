@@ -192,8 +192,7 @@ fn are_false(falses: &Trail, first: Lit, second: &Option<Lit>) -> bool
     ensures yes { IsTrue result → Has falses.now.literals first
         × ((l : ℤ) → second.now ≡ Some l → Has falses.now.literals l) }
     ensures no { IsFalse result → (¬ Has falses.now.literals first)
-        ⊎ (Has falses.now.literals first
-        × (l : ℤ) × (second.now ≡ Some l) × (¬ Has falses.now.literals l)) }
+        ⊎ ((l : ℤ) × (second.now ≡ Some l) × (¬ Has falses.now.literals l)) }
 {
     falses.has(first)
         && match second {
