@@ -1,5 +1,5 @@
 //! Worked values, texts, and each public call once.
-ghost use Rattle.std.specs.Prelude.{◌≡◌, ◌∷◌, ◌++◌, [], pos, negsuc, Some, None, IfOk};
+ghost use Rattle.std.specs.Prelude.{◌≡◌, ◌∷◌, ◌++◌, [], pos, negsuc, Some, None, IfOk, IsTrue};
 ghost use Rattle.lrup_model.specs.Entailment.{IsUnsatisfiable};
 ghost use Rattle.lrup_model.specs.Event.{History, vacant, fetch, publish, spent};
 ghost use Rattle.lrup_model.specs.History.{IsLegal};
@@ -12,8 +12,21 @@ ghost use Rattle.lrup_model.specs.Worked.{four, first, second, third, fourth, un
 
 use super::*;
 use std::alloc::{AllocError, Global};
+use std::fmt;
 use std::process::Abort;
 use std::test::Fail;
+
+/// Stops the test where two values differ: an assertion that is proved once for all tests.
+fn same<T: PartialEq + fmt::Debug + Drop>(rt: &impl Abort, value: T, wanted: T) {
+    assert_eq!(rt; value, wanted);
+}
+
+/// Stops the test where this doesn't hold.
+fn holds(rt: &impl Abort, fact: bool)
+    ensures { IsTrue fact }
+{
+    assert!(rt; fact);
+}
 
 /// The literal of this number.
 fn lit(value: i64) -> Lit
@@ -32,12 +45,11 @@ fn literals_have_a_limit(rt: HostRuntime) -> Result<(), Fail> {
         (-16_777_215, 16_777_215, 16_777_215),
     ] {
         let literal = Lit::new(value).ok_or("no literal")?;
-        assert_eq!(rt; literal.value(), value);
-        assert_eq!(rt; literal.var(), var, "at {value}");
-        assert_eq!(rt; literal.complement().value(), complement, "at {value}");
+        let found = (literal.value(), literal.var(), literal.complement().value());
+        same(&rt, found, (value, var, complement));
     }
     for value in [0, 16_777_216, -16_777_216, i64::MAX, i64::MIN] {
-        assert!(rt; Lit::new(value).is_none(), "at {value}");
+        same(&rt, (value, Lit::new(value)), (value, None));
     }
     Ok(())
 }
@@ -53,9 +65,9 @@ fn literals_have_codes(rt: HostRuntime) -> Result<(), Fail> {
         (-16_777_215, 33_554_431),
     ] {
         let literal = Lit::new(value).ok_or("no literal")?;
-        assert_eq!(rt; literal.code(), code, "at {value}");
-        assert!(rt; 2 <= code && code <= 33_554_431);
-        assert_eq!(rt; Lit::from_code(code), literal, "at {value}");
+        same(&rt, (value, literal.code()), (value, code));
+        holds(&rt, 2 <= code && code <= 33_554_431);
+        same(&rt, (code, Lit::from_code(code)), (code, literal));
     }
     Ok(())
 }
@@ -89,27 +101,25 @@ fn layouts_have_limits(rt: HostRuntime) {
     ];
     for (vars, clauses, literals, streams, lines, room, fault) in table {
         let found = Layout::new(vars, clauses, literals, streams, lines, room).err();
-        assert_eq!(rt;
-            found,
-            fault,
-            "{vars} {clauses} {literals} {streams} {lines} {room}"
-        );
+        let numbers = (vars, clauses, literals, streams, lines, room);
+        same(&rt, (numbers, found), (numbers, fault));
     }
 }
 
 #[test]
 fn the_longest_row_has_its_words(rt: HostRuntime) -> Result<(), Fail> {
     let layout = Layout::new(2, 4, 8, 1, 268_435_443, 0)?;
-    assert_eq!(rt; layout.row_words(), 268_435_456);
-    assert_eq!(rt; layout.last_identity(), 268_435_447);
-    assert_eq!(rt;
+    same(&rt, layout.row_words(), 268_435_456);
+    same(&rt, layout.last_identity(), 268_435_447);
+    same(
+        &rt,
         (
             layout.vars(),
             layout.streams(),
             layout.room(),
-            layout.all_room()
+            layout.all_room(),
         ),
-        (2, 1, 0, 0)
+        (2, 1, 0, 0),
     );
     Ok(())
 }
@@ -130,10 +140,10 @@ fn streams_own_by_turns(rt: HostRuntime) -> Result<(), Fail> {
         Owner::Outside,
     ];
     for (id, owner) in owners.iter().enumerate() {
-        assert_eq!(rt; layout.owner(id as u64), *owner, "at {id}");
-        assert_eq!(rt; layout.covers(id as u64), 0 < id && id < 9, "at {id}");
+        let found = (id, layout.owner(id as u64), layout.covers(id as u64));
+        same(&rt, found, (id, *owner, 0 < id && id < 9));
     }
-    assert_eq!(rt; layout.owner(u64::MAX), Owner::Outside);
+    same(&rt, layout.owner(u64::MAX), Owner::Outside);
     Ok(())
 }
 
@@ -146,10 +156,10 @@ fn faults_and_literals_have_texts(rt: HostRuntime) -> Result<(), Fail> {
         (LayoutFault::BadStreamCount, "stream count"),
         (LayoutFault::RowTooLong, "row too long"),
     ] {
-        assert_eq!(rt; fault.to_string(alloc)?.as_str(), text);
+        same(&rt, fault.to_string(alloc)?.as_str(), text);
     }
     for (value, text) in [(-2, "-2"), (16_777_215, "16777215")] {
-        assert_eq!(rt; lit(value).to_string(alloc)?.as_str(), text);
+        same(&rt, lit(value).to_string(alloc)?.as_str(), text);
     }
     Ok(())
 }
@@ -168,20 +178,21 @@ fn four_clauses(alloc: Global) -> Result<Formula, AllocError>
 
 #[test]
 fn a_formula_keeps_its_clauses(rt: HostRuntime) -> Result<(), Fail> {
-    assert!(rt; Formula::new(rt.alloc(), 2).is_empty());
+    holds(&rt, Formula::new(rt.alloc(), 2).is_empty());
     let formula = four_clauses(rt.alloc())?;
-    assert_eq!(rt;
+    same(
+        &rt,
         (formula.vars(), formula.len(), formula.literals()),
-        (2, 4, 8)
+        (2, 4, 8),
     );
-    assert!(rt; !formula.is_empty());
-    assert_eq!(rt; formula.clause(1), [lit(1), lit(2)].as_slice());
-    assert_eq!(rt; formula.clause(2), [lit(-1), lit(2)].as_slice());
-    assert_eq!(rt; formula.clause(4), [lit(-1), lit(-2)].as_slice());
+    holds(&rt, !formula.is_empty());
+    same(&rt, formula.clause(1), [lit(1), lit(2)].as_slice());
+    same(&rt, formula.clause(2), [lit(-1), lit(2)].as_slice());
+    same(&rt, formula.clause(4), [lit(-1), lit(-2)].as_slice());
     let layout = Layout::new(2, 4, 8, 1, 0, 0)?;
-    assert!(rt; layout.fits(&formula));
+    holds(&rt, layout.fits(&formula));
     let other = Layout::new(2, 4, 7, 1, 0, 0)?;
-    assert!(rt; !other.fits(&formula));
+    holds(&rt, !other.fits(&formula));
     Ok(())
 }
 
@@ -190,11 +201,11 @@ fn a_formula_keeps_its_clauses(rt: HostRuntime) -> Result<(), Fail> {
 fn a_refused_push_changes_nothing(rt: HostRuntime) -> Result<(), Fail> {
     let mut formula = Formula::new(rt.alloc(), 2);
     if formula.push(&[lit(1), lit(2)]).is_err() {
-        assert_eq!(rt; (formula.len(), formula.literals()), (0, 0));
+        same(&rt, (formula.len(), formula.literals()), (0, 0));
         formula = Formula::new(rt.alloc(), 2);
         formula.push(&[lit(1), lit(2)])?;
     }
-    assert_eq!(rt; (formula.len(), formula.literals()), (1, 2));
+    same(&rt, (formula.len(), formula.literals()), (1, 2));
     Ok(())
 }
 
@@ -203,21 +214,21 @@ fn a_refused_push_changes_nothing(rt: HostRuntime) -> Result<(), Fail> {
 fn a_refused_open_can_be_made_again(rt: HostRuntime) -> Result<(), Fail> {
     let formula = Formula::new(rt.alloc(), 2);
     let layout = Layout::new(2, 0, 0, 2, 3, 4)?;
-    assert!(rt; layout.fits(&formula));
+    holds(&rt, layout.fits(&formula));
     let map = match PlainMap::open(rt.alloc(), &formula, &layout) {
         Ok(map) => map,
         Err(_) => PlainMap::open(rt.alloc(), &formula, &layout)?,
     };
-    assert_eq!(rt; map.layout().last_identity(), 6);
-    assert!(rt; formula.is_empty());
+    same(&rt, map.layout().last_identity(), 6);
+    holds(&rt, formula.is_empty());
     Ok(())
 }
 
 #[test]
 fn clips_tell_their_parts(rt: HostRuntime) {
     let clip = Clip::new(5, 1, 14);
-    assert_eq!(rt; (clip.id(), clip.len(), clip.start()), (5, 1, 14));
-    assert!(rt; !clip.is_empty());
+    same(&rt, (clip.id(), clip.len(), clip.start()), (5, 1, 14));
+    holds(&rt, !clip.is_empty());
 }
 
 /// Publishes `2`, which the first two clauses show, under an identity of the caller's own.
@@ -275,21 +286,22 @@ fn first_desk(rt: &impl Abort, map: &mut PlainMap)
     ensures layout { map.new.layout ≡ map.old.layout }
 {
     let mut desk = map.desk(1);
-    assert_eq!(rt; (desk.stream(), desk.room()), (1, 2));
-    assert_eq!(rt; look(&mut desk, 5), Some(Fetched::Vacant));
-    assert_eq!(rt; withdraw(&mut desk, 5), Some(Retired::NotLive));
-    assert_eq!(rt; publish_two(&mut desk, 5), Some(Published::Done));
-    assert_eq!(rt; desk.room(), 1);
-    assert_eq!(rt; publish_two(&mut desk, 5), Some(Published::Taken));
-    assert_eq!(rt;
+    same(rt, (desk.stream(), desk.room()), (1, 2));
+    same(rt, look(&mut desk, 5), Some(Fetched::Vacant));
+    same(rt, withdraw(&mut desk, 5), Some(Retired::NotLive));
+    same(rt, publish_two(&mut desk, 5), Some(Published::Done));
+    same(rt, desk.room(), 1);
+    same(rt, publish_two(&mut desk, 5), Some(Published::Taken));
+    same(
+        rt,
         withdraw_and_read(&mut desk, 5),
-        Some((Retired::Done, lit(2)))
+        Some((Retired::Done, lit(2))),
     );
-    assert_eq!(rt; withdraw(&mut desk, 5), Some(Retired::NotLive));
-    assert_eq!(rt; publish_two(&mut desk, 5), Some(Published::Taken));
-    assert_eq!(rt; look(&mut desk, 5), Some(Fetched::Retired));
-    assert_eq!(rt; desk.room(), 1);
-    assert_eq!(rt; publish_two(&mut desk, 6), None);
+    same(rt, withdraw(&mut desk, 5), Some(Retired::NotLive));
+    same(rt, publish_two(&mut desk, 5), Some(Published::Taken));
+    same(rt, look(&mut desk, 5), Some(Fetched::Retired));
+    same(rt, desk.room(), 1);
+    same(rt, publish_two(&mut desk, 6), None);
 }
 
 /// Stream 2 publishes 6, which costs nothing of what stream 1 has, and reads what is there.
@@ -298,17 +310,17 @@ fn second_desk(rt: &impl Abort, map: &mut PlainMap)
     requires stream { IsStream map.old.layout 2 }
 {
     let mut desk = map.desk(2);
-    assert_eq!(rt; (desk.stream(), desk.room()), (2, 2));
-    assert_eq!(rt; look(&mut desk, 5), Some(Fetched::Retired));
-    assert_eq!(rt; look(&mut desk, 0), None);
-    assert_eq!(rt; look(&mut desk, 7), None);
-    assert_eq!(rt; withdraw(&mut desk, 5), None);
-    assert_eq!(rt; publish_two(&mut desk, 6), Some(Published::Done));
-    assert!(rt; reads_as(&mut desk, 6, &[lit(2)]));
-    assert!(rt; reads_in_pairs_as(&mut desk, 6, &[lit(2)]));
-    assert!(rt; reads_as(&mut desk, 3, &[lit(1), lit(-2)]));
-    assert!(rt; reads_in_pairs_as(&mut desk, 3, &[lit(1), lit(-2)]));
-    assert_eq!(rt; desk.room(), 1);
+    same(rt, (desk.stream(), desk.room()), (2, 2));
+    same(rt, look(&mut desk, 5), Some(Fetched::Retired));
+    same(rt, look(&mut desk, 0), None);
+    same(rt, look(&mut desk, 7), None);
+    same(rt, withdraw(&mut desk, 5), None);
+    same(rt, publish_two(&mut desk, 6), Some(Published::Done));
+    holds(rt, reads_as(&mut desk, 6, &[lit(2)]));
+    holds(rt, reads_in_pairs_as(&mut desk, 6, &[lit(2)]));
+    holds(rt, reads_as(&mut desk, 3, &[lit(1), lit(-2)]));
+    holds(rt, reads_in_pairs_as(&mut desk, 3, &[lit(1), lit(-2)]));
+    same(rt, desk.room(), 1);
 }
 
 /// The last of 64 streams has its own room and identities.
@@ -317,12 +329,12 @@ fn last_desk(rt: &impl Abort, map: &mut PlainMap)
     requires stream { IsStream map.old.layout 64 }
 {
     let mut desk = map.desk(64);
-    assert_eq!(rt; (desk.stream(), desk.room()), (64, 2));
-    assert_eq!(rt; publish_two(&mut desk, 67), None);
-    assert_eq!(rt; publish_two(&mut desk, 68), Some(Published::Done));
-    assert!(rt; reads_as(&mut desk, 68, &[lit(2)]));
-    assert_eq!(rt; look(&mut desk, 196), Some(Fetched::Vacant));
-    assert_eq!(rt; look(&mut desk, 197), None);
+    same(rt, (desk.stream(), desk.room()), (64, 2));
+    same(rt, publish_two(&mut desk, 67), None);
+    same(rt, publish_two(&mut desk, 68), Some(Published::Done));
+    holds(rt, reads_as(&mut desk, 68, &[lit(2)]));
+    same(rt, look(&mut desk, 196), Some(Fetched::Vacant));
+    same(rt, look(&mut desk, 197), None);
 }
 
 /// Has the live clause these literals, in this order?
@@ -373,9 +385,9 @@ fn reads_in_pairs_as<M: ClauseMap>(desk: &mut M, id: Id, literals: &[Lit]) -> bo
 fn two_desks_use_one_map(rt: HostRuntime) -> Result<(), Fail> {
     let formula = four_clauses(rt.alloc())?;
     let layout = Layout::new(2, 4, 8, 2, 1, 2)?;
-    assert!(rt; layout.fits(&formula));
+    holds(&rt, layout.fits(&formula));
     let mut map = PlainMap::open(rt.alloc(), &formula, &layout)?;
-    assert_eq!(rt; map.layout().last_identity(), 6);
+    same(&rt, map.layout().last_identity(), 6);
     first_desk(&rt, &mut map);
     second_desk(&rt, &mut map);
     Ok(())
@@ -385,7 +397,7 @@ fn two_desks_use_one_map(rt: HostRuntime) -> Result<(), Fail> {
 fn sixty_four_streams_have_a_map(rt: HostRuntime) -> Result<(), Fail> {
     let formula = four_clauses(rt.alloc())?;
     let layout = Layout::new(2, 4, 8, 64, 3, 2)?;
-    assert!(rt; layout.fits(&formula));
+    holds(&rt, layout.fits(&formula));
     let mut map = PlainMap::open(rt.alloc(), &formula, &layout)?;
     last_desk(&rt, &mut map);
     Ok(())

@@ -108,8 +108,7 @@ IsLeft-pair n d i x (Some y) left at at' false_too before =
 IsLeft-behind : (n : List ℤ) (d : Clause) (i k : ℕ) (x lit : ℤ) → EachOnce d → slice_get d k ≡ Some x → i ≤ k → IsUnit n (take i d) lit → (¬ Has n x) → IsLeft n d More
 IsLeft-behind n d i k x lit once at behind unit not_false =
     let before : Has (take k d) lit = Has-take i (take k d) lit (subst (λ e. Has e lit) (sym (take-take i k d behind)) unit.here) in
-    let here : Has d x = Has-at d k x at in
-    (
+    let here : Has d x = Has-at d k x at in (
       (λ conflict. not_false (conflict x here)),
       (λ other both.
           let first : x ≡ other = elim (both.others x here) [ inl same ↦ same | inr is_false ↦ absurd (not_false is_false) ] in

@@ -1,11 +1,25 @@
 //! What is taken up, the text of the one fault, and hints at a plain map.
-ghost use Rattle.std.specs.Prelude.{◌≡◌, ◌≤◌, ℤ, IfOk, OnOk};
+ghost use Rattle.std.specs.Prelude.{◌≡◌, ◌≤◌, ℤ, IfOk, OnOk, IsTrue};
 ghost use Rattle.lrup_model.specs.Literal.{max_variable};
 
 use crate::{Marks, Step, Tautology};
 use lrup_model::{ClauseMap, Fetched, Formula, Layout, Lit, PlainMap};
 use std::alloc::Global;
+use std::fmt;
+use std::process::Abort;
 use std::test::Fail;
+
+/// Stops the test where two values differ: an assertion that is proved once for all tests.
+fn same<T: PartialEq + fmt::Debug + Drop>(rt: &impl Abort, value: T, wanted: T) {
+    assert_eq!(rt; value, wanted);
+}
+
+/// Stops the test where this doesn't hold.
+fn holds(rt: &impl Abort, fact: bool)
+    ensures { IsTrue fact }
+{
+    assert!(rt; fact);
+}
 
 fn lit(value: i64) -> Result<Lit, Fail>
     ensures { IfOk result (λ l. l ≡ value) }
@@ -17,14 +31,14 @@ fn lit(value: i64) -> Result<Lit, Fail>
 #[test]
 fn a_clause_has_each_literal_once(rt: HostRuntime) -> Result<(), Fail> {
     let mut marks = Marks::new(rt.alloc(), 9)?;
-    assert!(rt; !marks.ready());
+    holds(&rt, !marks.ready());
     let (one, three, not_nine) = (lit(1)?, lit(3)?, lit(-9)?);
     marks.begin(&[three, not_nine, three, one, not_nine])?;
-    assert_eq!(rt; marks.clause(), [three, not_nine, one].as_slice());
-    assert!(rt; marks.ready());
+    same(&rt, marks.clause(), [three, not_nine, one].as_slice());
+    holds(&rt, marks.ready());
     marks.begin(&[])?;
-    assert!(rt; marks.clause().is_empty());
-    assert!(rt; marks.ready());
+    holds(&rt, marks.clause().is_empty());
+    holds(&rt, marks.ready());
     Ok(())
 }
 
@@ -33,8 +47,8 @@ fn the_most_variables_fit(rt: HostRuntime) -> Result<(), Fail> {
     let mut marks = Marks::new(rt.alloc(), Lit::MAX_VARIABLE)?;
     let (last, not_last) = (lit(16_777_215)?, lit(-16_777_215)?);
     marks.begin(&[not_last])?;
-    assert_eq!(rt; marks.clause(), [not_last].as_slice());
-    assert_eq!(rt; marks.begin(&[last, not_last]), Err(Tautology));
+    same(&rt, marks.clause(), [not_last].as_slice());
+    same(&rt, marks.begin(&[last, not_last]), Err(Tautology));
     Ok(())
 }
 
@@ -43,15 +57,16 @@ fn a_tautology_leaves_no_clause(rt: HostRuntime) -> Result<(), Fail> {
     let mut marks = Marks::new(rt.alloc(), 2)?;
     let (one, two, not_two) = (lit(1)?, lit(2)?, lit(-2)?);
     let fault = marks.begin(&[two, one, not_two]);
-    assert_eq!(rt; fault, Err(Tautology));
-    assert_eq!(rt;
+    same(&rt, fault, Err(Tautology));
+    same(
+        &rt,
         format!(in rt.alloc(); "{Tautology}")?.as_str(),
-        "tautology"
+        "tautology",
     );
-    assert!(rt; marks.clause().is_empty());
-    assert!(rt; !marks.ready());
+    holds(&rt, marks.clause().is_empty());
+    holds(&rt, !marks.ready());
     marks.begin(&[not_two])?;
-    assert_eq!(rt; marks.clause(), [not_two].as_slice());
+    same(&rt, marks.clause(), [not_two].as_slice());
     Ok(())
 }
 
@@ -98,17 +113,17 @@ fn hints_are_unit_until_the_conflict(rt: HostRuntime) -> Result<(), Fail> {
     let alloc = rt.alloc();
     let formula = formula_of_pairs(alloc, 3, &[(1, 2), (-2, 3), (-3, 1), (2, 3)])?;
     let layout = Layout::new(3, 4, 8, 1, 1, 1)?;
-    assert!(rt; layout.fits(&formula));
+    holds(&rt, layout.fits(&formula));
     let mut map = PlainMap::open(alloc, &formula, &layout)?;
     let mut desk = map.desk(1);
     let mut marks = Marks::new(alloc, 3)?;
     let one = lit(1)?;
     marks.begin(&[one])?;
-    assert_eq!(rt; try_hint(&mut marks, &mut desk, 1)?, Step::Unit);
-    assert_eq!(rt; try_hint(&mut marks, &mut desk, 2)?, Step::Unit);
-    assert_eq!(rt; try_hint(&mut marks, &mut desk, 3)?, Step::Conflict);
-    assert!(rt; !marks.ready());
-    assert_eq!(rt; marks.clause(), [one].as_slice());
+    same(&rt, try_hint(&mut marks, &mut desk, 1)?, Step::Unit);
+    same(&rt, try_hint(&mut marks, &mut desk, 2)?, Step::Unit);
+    same(&rt, try_hint(&mut marks, &mut desk, 3)?, Step::Conflict);
+    holds(&rt, !marks.ready());
+    same(&rt, marks.clause(), [one].as_slice());
     Ok(())
 }
 
@@ -117,18 +132,18 @@ fn a_true_literal_or_two_left_are_not_unit(rt: HostRuntime) -> Result<(), Fail> 
     let alloc = rt.alloc();
     let formula = formula_of_pairs(alloc, 3, &[(1, 2), (2, 3)])?;
     let layout = Layout::new(3, 2, 4, 1, 1, 1)?;
-    assert!(rt; layout.fits(&formula));
+    holds(&rt, layout.fits(&formula));
     let mut map = PlainMap::open(alloc, &formula, &layout)?;
     let mut desk = map.desk(1);
     let mut marks = Marks::new(alloc, 3)?;
     let one = lit(1)?;
     marks.begin(&[one])?;
-    assert_eq!(rt; try_hint(&mut marks, &mut desk, 2)?, Step::NotUnit);
-    assert!(rt; !marks.ready());
+    same(&rt, try_hint(&mut marks, &mut desk, 2)?, Step::NotUnit);
+    holds(&rt, !marks.ready());
     marks.begin(&[one])?;
-    assert_eq!(rt; try_hint(&mut marks, &mut desk, 1)?, Step::Unit);
-    assert!(rt; marks.ready());
-    assert_eq!(rt; try_hint(&mut marks, &mut desk, 2)?, Step::NotUnit);
-    assert!(rt; !marks.ready());
+    same(&rt, try_hint(&mut marks, &mut desk, 1)?, Step::Unit);
+    holds(&rt, marks.ready());
+    same(&rt, try_hint(&mut marks, &mut desk, 2)?, Step::NotUnit);
+    holds(&rt, !marks.ready());
     Ok(())
 }
