@@ -1,14 +1,26 @@
 // Reading texts that were spelled by hand, in every cutting, and writing.
-ghost use Rattle.std.specs.Prelude.{◌≡◌, Some, IfOk};
+ghost use Rattle.std.specs.Prelude.{◌≡◌, Some, IfOk, IsTrue};
 
 use crate::{
     End, Line, LineFault, LineReader, ReadFault, Reading, Sink, Source, Turn, WriteBuffer,
     WriteFault, Writing, write_all, write_line,
 };
 use std::alloc::Global;
-use std::io;
 use std::process::Abort;
 use std::test::Fail;
+use std::{fmt, io};
+
+/// Stops the test where two values differ: an assertion that is proved once for all tests.
+fn same<T: PartialEq + fmt::Debug + Drop>(rt: &impl Abort, value: T, wanted: T) {
+    assert_eq!(rt; value, wanted);
+}
+
+/// Stops the test where this doesn't hold.
+fn holds(rt: &impl Abort, fact: bool)
+    ensures { IsTrue fact }
+{
+    assert!(rt; fact);
+}
 
 /// Feeds the bytes in two pieces, cut at a place, and then the end.
 fn feed_cut(
@@ -24,16 +36,16 @@ fn feed_cut(
     let cut = cut.min(bytes.len());
     let first = reader.feed(&bytes[..cut]);
     if first.turn != Turn::NeedMore {
-        assert_eq!(rt; first.used, used);
-        assert_eq!(rt; first.turn, turn);
-        assert_eq!(rt; reader.end(), end);
+        same(rt, first.used, used);
+        same(rt, first.turn, turn);
+        same(rt, reader.end(), end);
         return Ok(());
     }
-    assert_eq!(rt; first.used, cut);
+    same(rt, first.used, cut);
     let second = reader.feed(&bytes[cut..]);
-    assert_eq!(rt; second.used, used.saturating_sub(cut));
-    assert_eq!(rt; second.turn, turn);
-    assert_eq!(rt; reader.end(), end);
+    same(rt, second.used, used.saturating_sub(cut));
+    same(rt, second.turn, turn);
+    same(rt, reader.end(), end);
     Ok(())
 }
 
@@ -49,17 +61,17 @@ fn feed_each(
     let mut reader = LineReader::new(alloc)?;
     for (i, byte) in bytes.iter().enumerate() {
         let fed = reader.feed(&[*byte]);
-        assert_eq!(rt; fed.used, 1);
+        same(rt, fed.used, 1);
         if fed.turn != Turn::NeedMore {
-            assert_eq!(rt; i + 1, used);
-            assert_eq!(rt; fed.turn, turn);
-            assert_eq!(rt; reader.end(), end);
+            same(rt, i + 1, used);
+            same(rt, fed.turn, turn);
+            same(rt, reader.end(), end);
             return Ok(());
         }
     }
-    assert_eq!(rt; bytes.len(), used);
-    assert_eq!(rt; turn, Turn::NeedMore);
-    assert_eq!(rt; reader.end(), end);
+    same(rt, bytes.len(), used);
+    same(rt, turn, Turn::NeedMore);
+    same(rt, reader.end(), end);
     Ok(())
 }
 
@@ -230,8 +242,8 @@ fn limits(rt: HostRuntime) -> Result<(), Fail> {
 #[test]
 fn ends(rt: HostRuntime) -> Result<(), Fail> {
     let mut reader = LineReader::new(rt.alloc())?;
-    assert_eq!(rt; reader.feed(b"").turn, Turn::NeedMore);
-    assert_eq!(rt; reader.end(), End::Clean);
+    same(&rt, reader.feed(b"").turn, Turn::NeedMore);
+    same(&rt, reader.end(), End::Clean);
     let unit = Line::Add {
         id: 5,
         lits: &[2],
@@ -239,39 +251,39 @@ fn ends(rt: HostRuntime) -> Result<(), Fail> {
     };
     let text = b"5 2 0 0\n6 0 5 0\n7";
     let fed = reader.feed(text);
-    assert_eq!(rt; fed.used, 8);
-    assert_eq!(rt; fed.turn, Turn::Line(unit));
-    assert_eq!(rt; reader.end(), End::Clean);
+    same(&rt, fed.used, 8);
+    same(&rt, fed.turn, Turn::Line(unit));
+    same(&rt, reader.end(), End::Clean);
     let empty = Line::Add {
         id: 6,
         lits: &[],
         hints: &[5],
     };
     let fed = reader.feed(&text[8..]);
-    assert_eq!(rt; fed.used, 8);
-    assert_eq!(rt; fed.turn, Turn::Line(empty));
-    assert_eq!(rt; reader.feed(&text[16..]).turn, Turn::NeedMore);
+    same(&rt, fed.used, 8);
+    same(&rt, fed.turn, Turn::Line(empty));
+    same(&rt, reader.feed(&text[16..]).turn, Turn::NeedMore);
     let truncated = LineFault::Truncated;
-    assert_eq!(rt; reader.end(), End::Fault(truncated));
+    same(&rt, reader.end(), End::Fault(truncated));
     let after = reader.feed(text);
-    assert_eq!(rt; after.used, 0);
-    assert_eq!(rt; after.turn, Turn::Fault(truncated));
-    assert_eq!(rt; reader.end(), End::Fault(truncated));
+    same(&rt, after.used, 0);
+    same(&rt, after.turn, Turn::Fault(truncated));
+    same(&rt, reader.end(), End::Fault(truncated));
     Ok(())
 }
 
 #[test]
 fn fault_stays(rt: HostRuntime) -> Result<(), Fail> {
     let mut reader = LineReader::new(rt.alloc())?;
-    assert_eq!(rt; reader.feed(b"5 2 0 0\n").used, 8);
+    same(&rt, reader.feed(b"5 2 0 0\n").used, 8);
     let fault = Turn::Fault(LineFault::RatHint);
     let fed = reader.feed(b"5 1 0 -2 0\n");
-    assert_eq!(rt; fed.used, 7);
-    assert_eq!(rt; fed.turn, fault);
+    same(&rt, fed.used, 7);
+    same(&rt, fed.turn, fault);
     let again = reader.feed(b"5 2 0 0\n");
-    assert_eq!(rt; again.used, 0);
-    assert_eq!(rt; again.turn, fault);
-    assert_eq!(rt; reader.end(), End::Fault(LineFault::RatHint));
+    same(&rt, again.used, 0);
+    same(&rt, again.turn, fault);
+    same(&rt, reader.end(), End::Fault(LineFault::RatHint));
     Ok(())
 }
 
@@ -284,7 +296,7 @@ fn fault_texts(rt: HostRuntime) -> Result<(), Fail> {
         (LineFault::RatHint, "rat hint"),
     ];
     for (fault, text) in faults {
-        assert_eq!(rt; fault.to_string(rt.alloc())?.as_str(), text);
+        same(&rt, fault.to_string(rt.alloc())?.as_str(), text);
     }
     Ok(())
 }
@@ -300,27 +312,29 @@ fn fits(rt: HostRuntime) -> Result<(), Fail> {
         }
         .fits()
     };
-    assert!(rt; add(most as u64, most, 1));
-    assert!(rt; add(1, -most, most as u64));
-    assert!(rt; !add(0, 1, 1));
-    assert!(rt; !add(1, 0, 1));
-    assert!(rt; !add(1, most + 1, 1));
-    assert!(rt; !add(1, -most - 1, 1));
-    assert!(rt; !add(1, 1, 0));
+    holds(&rt, add(most as u64, most, 1));
+    holds(&rt, add(1, -most, most as u64));
+    holds(&rt, !add(0, 1, 1));
+    holds(&rt, !add(1, 0, 1));
+    holds(&rt, !add(1, most + 1, 1));
+    holds(&rt, !add(1, -most - 1, 1));
+    holds(&rt, !add(1, 1, 0));
     let many = vec![in rt.alloc(); 1; 65_537]?;
-    assert!(rt;
+    holds(
+        &rt,
         !Line::Delete {
             lead: 1,
-            ids: &many
+            ids: &many,
         }
-        .fits()
+        .fits(),
     );
-    assert!(rt;
+    holds(
+        &rt,
         Line::Delete {
             lead: 1,
-            ids: &many[..65_536]
+            ids: &many[..65_536],
         }
-        .fits()
+        .fits(),
     );
     Ok(())
 }
@@ -372,11 +386,12 @@ fn writes(rt: HostRuntime) -> Result<(), Fail> {
         } else {
             Ok(())
         };
-        assert_eq!(rt; wrote.is_err(), writes < 7);
-        assert_eq!(rt; paper.failed(), writes < 7);
-        assert_eq!(rt;
+        same(&rt, wrote.is_err(), writes < 7);
+        same(&rt, paper.failed(), writes < 7);
+        same(
+            &rt,
             paper.bytes.as_slice(),
-            &text[..(3 * writes).min(text.len())]
+            &text[..(3 * writes).min(text.len())],
         );
     }
     let deletion = Line::Delete {
@@ -387,8 +402,8 @@ fn writes(rt: HostRuntime) -> Result<(), Fail> {
     if deletion.fits() {
         write_line(&deletion, &mut sink)?;
     }
-    assert!(rt; !sink.failed());
-    assert_eq!(rt; sink.into_inner().as_slice(), b"5 d 5 6 0\n".as_slice());
+    holds(&rt, !sink.failed());
+    same(&rt, sink.into_inner().as_slice(), b"5 d 5 6 0\n".as_slice());
     Ok(())
 }
 
@@ -403,9 +418,10 @@ fn texts_are_written(rt: HostRuntime) -> Result<(), Fail> {
     buffer.put(b", ", &mut sink)?;
     buffer.put_number(u64::MAX, &mut sink)?;
     buffer.flush(&mut sink)?;
-    assert_eq!(rt;
+    same(
+        &rt,
         sink.into_inner().as_slice(),
-        b"numbers: 0, 10, 18446744073709551615".as_slice()
+        b"numbers: 0, 10, 18446744073709551615".as_slice(),
     );
     Ok(())
 }
@@ -463,7 +479,7 @@ fn count_lines<S: Source>(rt: &impl Abort, alloc: Global, source: &mut S) -> Res
             match fed.turn {
                 Turn::Line(_) => lines = lines.saturating_add(1),
                 Turn::NeedMore => {}
-                Turn::Fault(_) => assert!(rt; false),
+                Turn::Fault(_) => holds(rt, false),
             }
         }
     }
@@ -480,12 +496,12 @@ fn sources_end_and_fail(rt: HostRuntime) -> Result<(), Fail> {
                 breaks,
                 failed: false,
             };
-            assert_eq!(rt; count_lines(&rt, rt.alloc(), &mut tape)?, end / 8);
-            assert_eq!(rt; tape.failed(), breaks);
+            same(&rt, count_lines(&rt, rt.alloc(), &mut tape)?, end / 8);
+            same(&rt, tape.failed(), breaks);
         }
         let mut source = Reading::new(&text[..end]);
-        assert_eq!(rt; count_lines(&rt, rt.alloc(), &mut source)?, end / 8);
-        assert!(rt; !source.failed());
+        same(&rt, count_lines(&rt, rt.alloc(), &mut source)?, end / 8);
+        holds(&rt, !source.failed());
     }
     Ok(())
 }
@@ -545,10 +561,10 @@ fn failed_reads_are_not_repeated(rt: HostRuntime) -> Result<(), Fail> {
                 } else {
                     Ok(size)
                 };
-                assert_eq!(rt; source.read(&mut buffer), wanted);
+                same(&rt, source.read(&mut buffer), wanted);
             }
-            assert!(rt; source.failed());
-            assert_eq!(rt; source.into_inner().calls, fails_at);
+            holds(&rt, source.failed());
+            same(&rt, source.into_inner().calls, fails_at);
         }
     }
     Ok(())
@@ -569,10 +585,10 @@ fn failed_writes_are_not_repeated(rt: HostRuntime) -> Result<(), Fail> {
                 } else {
                     Ok(size)
                 };
-                assert_eq!(rt; sink.write(&bytes), wanted);
+                same(&rt, sink.write(&bytes), wanted);
             }
-            assert!(rt; sink.failed());
-            assert_eq!(rt; sink.into_inner().calls, fails_at);
+            holds(&rt, sink.failed());
+            same(&rt, sink.into_inner().calls, fails_at);
         }
     }
     Ok(())
@@ -586,11 +602,11 @@ fn long_lines_are_written_up_to_a_fault(rt: HostRuntime) -> Result<(), Fail> {
         let mut sink = Writing::new(FailsOnce::new(fails_at));
         if line.fits() {
             let wrote = write_line(&line, &mut sink);
-            assert_eq!(rt; wrote.is_err(), fails_at > 0);
+            same(&rt, wrote.is_err(), fails_at > 0);
         }
-        assert_eq!(rt; sink.failed(), fails_at > 0);
+        same(&rt, sink.failed(), fails_at > 0);
         let calls = sink.into_inner().calls;
-        assert!(rt; calls > 1_000 || calls == fails_at);
+        holds(&rt, calls > 1_000 || calls == fails_at);
     }
     Ok(())
 }
@@ -605,9 +621,9 @@ fn buffers_write_512_bytes_at_a_time(rt: HostRuntime) -> Result<(), Fail> {
             Ok(()) => buffer.flush(&mut sink),
             Err(fault) => Err(fault),
         };
-        assert_eq!(rt; wrote.is_err(), fails_at > 0);
-        assert_eq!(rt; sink.failed(), fails_at > 0);
-        assert_eq!(rt; sink.into_inner().calls, calls);
+        same(&rt, wrote.is_err(), fails_at > 0);
+        same(&rt, sink.failed(), fails_at > 0);
+        same(&rt, sink.into_inner().calls, calls);
     }
     Ok(())
 }
