@@ -1,21 +1,31 @@
 -- What a piece leaves of a checker.
-use Rattle.std.proofs.Common.{◌≡◌, ℕ, Bool, true, false, List, [], ◌++◌, length, take, Option, None, Some, inl, inr, Ok, refl, sym, ap, subst, ◌∙◌, append-nil, arith}
+use Rattle.std.proofs.Common.{◌≡◌, ◌+◌, ℕ, Bool, true, false, List, [], ◌∷◌, ◌++◌, length, take, Option, None, Some, inl, inr, Ok, refl, sym, ap, subst, ◌∙◌, append-nil, arith}
 use Rattle.std.specs.Prelude.{◌&&◌, is_some}
 use Rattle.std.proofs.lemmas.List.{take_all}
 use Rattle.lrup_model.specs.Layout.{LayoutValue}
 use Rattle.lrup_model.specs.Event.{History}
+use Rattle.lrup_text.specs.Feeding as feeding
 use Rattle.lrup_text.specs.Feeding.{ReaderState}
+use Rattle.lrup_text.specs.declared.reader.End.TheVariants as ends
+use Rattle.lrup_text.specs.declared.LineFault.TheVariants as texts
+use Rattle.lrup_text.specs.declared.LineFault.{LineFault}
 use Rattle.stream_check.specs.Laws.{FreshLeft}
+use Rattle.stream_check.specs.declared.fault.Fault.TheVariants as faults
+use Rattle.stream_check.specs.declared.report.Ending.TheVariants as endings
 use Rattle.stream_check.specs.declared.report.Ending.{Ending}
+use Rattle.stream_check.specs.declared.report.Report.{Report}
 use Rattle.stream_check.specs.declared.held.Held.{Held}
 use Rattle.stream_check.specs.declared.deletion.Stop.{Stop}
 use Rattle.stream_check.specs.declared.line.Taken.TheVariants as taken
 use Rattle.stream_check.specs.Setting.{Setting, side_of, is_shared}
-use Rattle.stream_check.specs.Standing.{tally_of, is_among}
+use Rattle.stream_check.specs.Standing.{Tally, tally_of, is_among, capped}
+use Rattle.stream_check.specs.Judging.{StreamEnd, ended, failed, ending_at, report_of, JudgesBlocks}
 use Rattle.stream_check.specs.Leaving.{Going, Over, CheckerState, Leaves, IsFresh}
-use Rattle.stream_check.specs.Checker.{read_of, value_of, state_of, report_at, tally_at, LeavesOn, StopsAt, IsNew}
+use Rattle.stream_check.specs.CheckerValue.{CheckerValue}
+use Rattle.stream_check.specs.Checker.{read_of, value_of, state_of, state_by, holding_of, report_at, tally_at, LeavesOn, StopsAt, IsNew, EndsBy, Ends, ReportsEnd}
 use Rattle.stream_check.specs.Taking.{hold, StopsBy, Takes, ending_of}
 use Rattle.stream_check.proofs.LineLemmas.{tally_is}
+use Rattle.stream_check.proofs.LeavingLemmas.{end_judged}
 
 pub some_of : (o : Option Ending) → is_some o ≡ true → (ending : Ending) × (o ≡ Some ending)
 some_of None some = absurd (cc)
@@ -29,6 +39,18 @@ none_of (Some ending) none = absurd (cc)
 pub leaves_still : (c : Setting) (s : CheckerState) → LeavesOn c s [] [] s
 leaves_still c s bytes before leaves =
     subst (λ (b : List ℕ). Leaves c b (before ++ []) s) (sym (append-nil bytes)) (subst (λ (blocks : List History). Leaves c bytes blocks s) (sym (append-nil before)) leaves)
+
+-- where a checker goes on, nothing is said of one that is over
+pub not_over : {A : Type 0} (old : Option Ending) (ending : Ending) → old ≡ None → old ≡ Some ending → A
+not_over old ending none some = absurd (let e : None ≡ Some ending = sym none ∙ some in cc)
+
+-- a line is taken
+pub feeds_line : (h n : Held) (read : List ℕ) (r : ReaderState) (used : List ℕ) (blocks : List History) (free left : ℕ) (ending : Option Ending) → ending ≡ None → r ≡ Ok []
+    → LeavesOn h.setting (Going (hold h read free)) used blocks (Going (hold n [] left))
+    → LeavesOn h.setting (state_of (value_of h read ending) free) used blocks (state_of (value_of n (read_of r) ending) left)
+feeds_line h n read r used blocks free left ending none reads leaves =
+    subst (λ (o : Option Ending). LeavesOn h.setting (state_of (value_of h read o) free) used blocks (state_of (value_of n (read_of r) o) left)) (sym none)
+    (subst (λ (text : List ℕ). LeavesOn h.setting (Going (hold h read free)) used blocks (Going (hold n text left))) (sym (ap read_of reads)) leaves)
 
 -- the front of a line is taken
 pub feeds_more : (h n : Held) (read : List ℕ) (r : ReaderState) (piece : List ℕ) (blocks : List History) (free left : ℕ) (ending : Option Ending) → ending ≡ None → r ≡ Ok (read ++ piece)
@@ -52,6 +74,47 @@ feeds_stopped h n read piece used blocks free left stop old new none is takes =
 pub stops_at : (line : ℕ) (stop : Stop) (ending : Ending) (text : List ℕ) → ending ≡ ending_of line stop → StopsBy stop text → StopsAt ending text
 stops_at line stop ending text is (inl whole) = inl whole
 stops_at line stop ending text is (inr refused) = inr (line, refused.0, is ∙ ap (ending_of line) refused.1, refused.2)
+
+-- The end of the stream, or a failed read
+
+either_report : (c : Setting) (bytes : List ℕ) (blocks : List History) (end : StreamEnd) (report : Report) → Leaves c bytes blocks (Over report) → JudgesBlocks c bytes end blocks report
+either_report c bytes blocks ended report over = over.0
+either_report c bytes blocks failed report over = over.1
+
+-- a checker that is over stays as it is
+pub ends_over : (end : StreamEnd) (v : CheckerValue) (ending : Ending) → v.ending ≡ Some ending → Ends end v v
+ends_over end v ending over = subst (λ (o : Option Ending). EndsBy o end v v) (sym over) refl
+
+pub reports_over : (end : StreamEnd) (v : CheckerValue) (ending : Ending) → v.ending ≡ Some ending → ReportsEnd end v v
+reports_over end v ending over bytes blocks free leaves =
+    (ending, over, either_report v.setting bytes blocks end (report_at v.tally ending) (subst (λ (o : Option Ending). Leaves v.setting bytes blocks (state_by v free o)) over leaves))
+
+-- one that isn't over has this ending then
+pub ends_now : (end : StreamEnd) (old new : CheckerValue) → old.ending ≡ None → new.setting ≡ old.setting → new.tally ≡ old.tally → new.ending ≡ Some (ending_at end old.pending old.line) → new.last ≡ old.last → Ends end old new
+ends_now end old new none setting tally ending last = subst (λ (o : Option Ending). EndsBy o end old new) (sym none) (setting, tally, ending, last)
+
+pub reports_now : (end : StreamEnd) (old new : CheckerValue) → old.ending ≡ None → new.tally ≡ old.tally → new.ending ≡ Some (ending_at end old.pending old.line) → ReportsEnd end old new
+reports_now end old new none tally ending bytes blocks free leaves =
+    let said : Ending = ending_at end old.pending old.line in
+    let going : Leaves old.setting bytes blocks (Going (holding_of old free)) = subst (λ (o : Option Ending). Leaves old.setting bytes blocks (state_by old free o)) none leaves in
+    let small : capped (old.tally.deleted + 0) ≡ old.tally.deleted = omega (arith, ap (λ (t : Tally). t.deleted) going.tally) in
+    let same : report_of old.tally 0 said ≡ report_at new.tally said =
+    ap (λ (n : ℕ). record { added = old.tally.added; deleted = n; empty = old.tally.empty; ending = said }) small ∙ ap (λ (t : Tally). report_at t said) (sym tally) in
+    (said, ending, subst (JudgesBlocks old.setting bytes end blocks) same (end_judged old.setting bytes blocks (holding_of old free) end going))
+
+-- the end of the lines, where a line is open and where none is
+
+pub ended_clean : (r : ReaderState) (line : ℕ) → r ≡ Ok [] → ending_at ended (read_of r) line ≡ endings.Ended
+ended_clean r line reads = ap (λ (s : ReaderState). ending_at ended (read_of s) line) reads
+
+ended_open : (read : List ℕ) (line : ℕ) (fault : LineFault) → (read ≡ [] → ⊥) → fault ≡ texts.Truncated → ending_at ended read line ≡ endings.Bad line (faults.Text fault)
+ended_open [] line fault unread is = absurd (unread refl)
+ended_open (byte ∷ bytes) line fault unread is = ap (λ (f : LineFault). endings.Bad line (faults.Text f)) (sym is)
+
+pub ended_fault : (r new : ReaderState) (line : ℕ) (fault : LineFault) → r ≡ Ok (read_of r) → feeding.Ends r (ends.Fault fault) new → ending_at ended (read_of r) line ≡ endings.Bad line (faults.Text fault)
+ended_fault r new line fault reads at_end =
+    let left = subst (λ (s : ReaderState). feeding.Ends s (ends.Fault fault) new) reads at_end in
+    ended_open (read_of r) line fault left.0 left.1
 
 -- Before the first byte
 

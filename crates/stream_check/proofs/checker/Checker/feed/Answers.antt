@@ -2,7 +2,7 @@ use Rattle.std.proofs.Common.{◌≡◌, ◌∙◌, ℕ, List, [], ◌++◌, Non
 use Rattle.stream_check.specs.Leaving.{Over}
 use Rattle.stream_check.specs.CheckerValue.{CheckerValue}
 use Rattle.stream_check.specs.Checker.{read_of, value_of, state_of, report_at, tally_at, LeavesOn, StopsAt}
-use Rattle.stream_check.proofs.FeedLemmas.{some_of, none_of, leaves_still, feeds_more, feeds_stopped, stops_at}
+use Rattle.stream_check.proofs.FeedLemmas.{some_of, none_of, not_over, leaves_still, feeds_line, feeds_more, feeds_stopped, stops_at}
 use Rattle.stream_check.proofs.checker.Checker.feed.Goals as goal
 
 pub returns-then-is_some-clause-left : goal.returns-then-is_some-clause-left
@@ -14,6 +14,38 @@ returns-then-is_some-clause-turn g c =
     let over = some_of c.self.inside.ending (sym c.is_some.ensures ∙ c.if-is_some.true) in
     let now : c.args.self.now.ending ≡ Some over.0 = sym (ap (λ (v : CheckerValue). v.ending) c.self.view_is) ∙ over.1 in
     (over.0, now, λ none. absurd (let e : None ≡ Some over.0 = sym none ∙ now in cc))
+
+pub returns-in-Line-clause-left : goal.returns-in-Line-clause-left
+returns-in-Line-clause-left g c =
+    let p = g.M.ClauseMap.place c.args.map.now in
+    let q = g.M.ClauseMap.place c.take_line.new.map in
+    let h = c.self.inside.held in
+    let n = c.take_line.new.held in
+    let read = read_of c.self.inside.reader in
+    let used = take c.in-Line.used c.args.piece.now in
+    let taken = c.in-Line.ensures.taken in
+    let none = none_of c.self.inside.ending (sym c.is_some.ensures ∙ c.if-is_some.false) in
+    let left = feeds_line h n read c.take_line.new.reader used taken.0 p.room q.room c.self.inside.ending none c.in-Line.ensures.reads.0 taken.2.1 in (
+      taken.0,
+      taken.1,
+      taken.2.0,
+      subst (λ (v : CheckerValue). LeavesOn v.setting (state_of v p.room) used taken.0 (state_of (value_of n (read_of c.take_line.new.reader) c.self.inside.ending) q.room)) c.self.view_is left,
+    )
+
+pub returns-in-Line-clause-over : goal.returns-in-Line-clause-over
+returns-in-Line-clause-over g c ending over =
+    let none = none_of c.self.inside.ending (sym c.is_some.ensures ∙ c.if-is_some.false) in
+    not_over c.self.inside.ending ending none (ap (λ (v : CheckerValue). v.ending) c.self.view_is ∙ over)
+
+pub returns-in-More-clause-over : goal.returns-in-More-clause-over
+returns-in-More-clause-over g c ending over =
+    let none = none_of c.self.inside.ending (sym c.is_some.ensures ∙ c.if-is_some.false) in
+    not_over c.self.inside.ending ending none (ap (λ (v : CheckerValue). v.ending) c.self.view_is ∙ over)
+
+pub returns-in-Stopped-clause-over : goal.returns-in-Stopped-clause-over
+returns-in-Stopped-clause-over g c ending over =
+    let none = none_of c.self.inside.ending (sym c.is_some.ensures ∙ c.if-is_some.false) in
+    not_over c.self.inside.ending ending none (ap (λ (v : CheckerValue). v.ending) c.self.view_is ∙ over)
 
 pub returns-in-More-clause-left : goal.returns-in-More-clause-left
 returns-in-More-clause-left g c =
