@@ -1,9 +1,11 @@
 -- What a piece leaves of a checker.
-use Rattle.std.proofs.Common.{◌≡◌, ◌+◌, ℕ, Bool, true, false, List, [], ◌∷◌, ◌++◌, length, take, Option, None, Some, inl, inr, Ok, refl, sym, ap, subst, ◌∙◌, append-nil, arith}
+use Rattle.std.proofs.Common.{◌≡◌, ◌+◌, ℕ, Bool, true, false, List, [], ◌∷◌, ◌++◌, length, take, Option, None, Some, inl, inr, Ok, refl, sym, ap, subst, ◌∙◌, append-nil, append_assoc, arith}
 use Rattle.std.specs.Prelude.{◌&&◌, is_some}
+use Rattle.std.specs.List.{flat_map}
 use Rattle.std.proofs.lemmas.List.{take_all}
 use Rattle.lrup_model.specs.Layout.{LayoutValue}
 use Rattle.lrup_model.specs.Event.{History}
+use Rattle.lrup_text.specs.Lines.{StreamLine, Cut, IsPending, line_text}
 use Rattle.lrup_text.specs.Feeding as feeding
 use Rattle.lrup_text.specs.Feeding.{ReaderState}
 use Rattle.lrup_text.specs.declared.reader.End.TheVariants as ends
@@ -62,6 +64,14 @@ feeds_more h n read r piece blocks free left ending none reads takes =
     subst (λ (o : Option Ending). LeavesOn h.setting (state_of (value_of h read o) free) (take (length piece) piece) blocks (state_of (value_of n (read_of r) o) left)) (sym none)
     (subst (λ (text : List ℕ). LeavesOn h.setting (Going (hold h read free)) (take (length piece) piece) blocks (Going (hold n text left))) (sym (ap read_of reads)) whole)
 
+-- and the lines are cut as before
+pub front_cut : (bytes pending piece : List ℕ) (lines : List StreamLine) → IsPending (pending ++ piece) → Cut bytes lines pending → Cut (bytes ++ piece) lines (pending ++ piece)
+front_cut bytes pending piece lines front cut = record {
+  bytes = ap (λ (b : List ℕ). b ++ piece) cut.bytes ∙ append_assoc (flat_map line_text lines) pending piece;
+  each = cut.each;
+  last = front.whole;
+}
+
 -- the reading ends
 pub feeds_stopped : (h n : Held) (read piece : List ℕ) (used : ℕ) (blocks : List History) (free left : ℕ) (stop : Stop) (old : Option Ending) (new : Ending) → old ≡ None → new ≡ ending_of n.line stop
     → Takes h read free piece blocks (taken.Stopped used stop) n left
@@ -93,14 +103,18 @@ reports_over end v ending over bytes blocks free leaves =
 pub ends_now : (end : StreamEnd) (old new : CheckerValue) → old.ending ≡ None → new.setting ≡ old.setting → new.tally ≡ old.tally → new.ending ≡ Some (ending_at end old.pending old.line) → new.last ≡ old.last → Ends end old new
 ends_now end old new none setting tally ending last = subst (λ (o : Option Ending). EndsBy o end old new) (sym none) (setting, tally, ending, last)
 
+report_is : (old new : Tally) (said : Ending) → capped (old.deleted + 0) ≡ old.deleted → new ≡ old → report_of old 0 said ≡ report_at new said
+report_is old new said small same = ap (λ (n : ℕ). record { added = old.added; deleted = n; empty = old.empty; ending = said }) small ∙ ap (λ (t : Tally). report_at t said) (sym same)
+
 pub reports_now : (end : StreamEnd) (old new : CheckerValue) → old.ending ≡ None → new.tally ≡ old.tally → new.ending ≡ Some (ending_at end old.pending old.line) → ReportsEnd end old new
 reports_now end old new none tally ending bytes blocks free leaves =
     let said : Ending = ending_at end old.pending old.line in
     let going : Leaves old.setting bytes blocks (Going (holding_of old free)) = subst (λ (o : Option Ending). Leaves old.setting bytes blocks (state_by old free o)) none leaves in
-    let small : capped (old.tally.deleted + 0) ≡ old.tally.deleted = omega (arith, ap (λ (t : Tally). t.deleted) going.tally) in
-    let same : report_of old.tally 0 said ≡ report_at new.tally said =
-    ap (λ (n : ℕ). record { added = old.tally.added; deleted = n; empty = old.tally.empty; ending = said }) small ∙ ap (λ (t : Tally). report_at t said) (sym tally) in
-    (said, ending, subst (JudgesBlocks old.setting bytes end blocks) same (end_judged old.setting bytes blocks (holding_of old free) end going))
+    let small : capped (old.tally.deleted + 0) ≡ old.tally.deleted = omega (arith, ap (λ (t : Tally). t.deleted) going.tally) in (
+      said,
+      ending,
+      subst (JudgesBlocks old.setting bytes end blocks) (report_is old.tally new.tally said small tally) (end_judged old.setting bytes blocks (holding_of old free) end going),
+    )
 
 -- the end of the lines, where a line is open and where none is
 

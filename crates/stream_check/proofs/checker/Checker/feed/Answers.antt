@@ -1,8 +1,10 @@
 use Rattle.std.proofs.Common.{◌≡◌, ◌∙◌, ℕ, List, [], ◌++◌, None, Some, refl, sym, ap, subst, take, length, arith}
+use Rattle.std.proofs.lemmas.List.{take_all}
+use Rattle.lrup_text.specs.Lines.{IsPending, Cut}
 use Rattle.stream_check.specs.Leaving.{Over}
 use Rattle.stream_check.specs.CheckerValue.{CheckerValue}
 use Rattle.stream_check.specs.Checker.{read_of, value_of, state_of, report_at, tally_at, LeavesOn, StopsAt}
-use Rattle.stream_check.proofs.FeedLemmas.{some_of, none_of, not_over, leaves_still, feeds_line, feeds_more, feeds_stopped, stops_at}
+use Rattle.stream_check.proofs.FeedLemmas.{some_of, none_of, not_over, leaves_still, feeds_line, feeds_more, front_cut, feeds_stopped, stops_at}
 use Rattle.stream_check.proofs.checker.Checker.feed.Goals as goal
 
 pub returns-then-is_some-clause-left : goal.returns-then-is_some-clause-left
@@ -62,6 +64,20 @@ returns-in-More-clause-left g c =
       taken.1,
       taken.2.0,
       subst (λ (v : CheckerValue). LeavesOn v.setting (state_of v p.room) (take (length piece) piece) taken.0 (state_of (value_of n (read_of c.take_line.new.reader) c.self.inside.ending) q.room)) c.self.view_is left,
+    )
+
+pub returns-in-More-clause-turn : goal.returns-in-More-clause-turn
+returns-in-More-clause-turn g c =
+    let piece = c.args.piece.now in
+    let all : take (length piece) piece ≡ piece = take_all (length piece) piece (omega arith) in
+    let here : read_of c.self.inside.reader ≡ c.args.self.now.pending = ap (λ (v : CheckerValue). v.pending) c.self.view_is in
+    let read : read_of c.take_line.new.reader ≡ c.args.self.now.pending ++ piece = ap read_of c.in-More.ensures.reads ∙ ap (λ (b : List ℕ). b ++ piece) here in
+    let front : IsPending (c.args.self.now.pending ++ piece) = subst (λ (b : List ℕ). IsPending (b ++ piece)) here c.in-More.ensures.taken.2.2 in (
+      none_of c.self.inside.ending (sym c.is_some.ensures ∙ c.if-is_some.false),
+      all,
+      read,
+      λ bytes lines cut. subst (λ (used : List ℕ). Cut (bytes ++ used) lines (read_of c.take_line.new.reader)) (sym all)
+          (subst (Cut (bytes ++ piece) lines) (sym read) (front_cut bytes c.args.self.now.pending piece lines front cut)),
     )
 
 pub returns-in-Stopped-clause-left : goal.returns-in-Stopped-clause-left
