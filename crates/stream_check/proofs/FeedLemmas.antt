@@ -1,11 +1,14 @@
 -- What a piece leaves of a checker.
-use Rattle.std.proofs.Common.{◌≡◌, ◌+◌, ℕ, Bool, true, false, List, [], ◌∷◌, ◌++◌, length, take, Option, None, Some, inl, inr, Ok, refl, sym, ap, subst, ◌∙◌, append-nil, append_assoc, arith}
-use Rattle.std.specs.Prelude.{◌&&◌, is_some}
+use Rattle.std.specs.Fmt.{decimal, signed_decimal}
+use Rattle.std.proofs.Common.{◌≡◌, ◌<◌, ◌^◌, ◌+◌, ℕ, Bool, true, false, List, [], ◌∷◌, ◌++◌, length, take, Option, None, Some, inl, inr, Ok, refl, sym, ap, subst, ◌∙◌, append-nil, append_assoc, arith}
+use Rattle.std.specs.Prelude.{◌&&◌, is_some, map}
 use Rattle.std.specs.List.{flat_map}
 use Rattle.std.proofs.lemmas.List.{take_all}
 use Rattle.lrup_model.specs.Layout.{LayoutValue}
 use Rattle.lrup_model.specs.Event.{History}
-use Rattle.lrup_text.specs.Lines.{StreamLine, Cut, IsPending, line_text}
+use Rattle.lrup_model.specs.Place.{Place}
+use Rattle.lrup_text.specs.Grammar.{space, letter_d, clause_text, list_text}
+use Rattle.lrup_text.specs.Lines.{StreamLine, Addition, Deletion, Cut, IsPending, HasNoLine, LineText, line_text}
 use Rattle.lrup_text.specs.Feeding as feeding
 use Rattle.lrup_text.specs.Feeding.{ReaderState}
 use Rattle.lrup_text.specs.declared.reader.End.TheVariants as ends
@@ -24,10 +27,10 @@ use Rattle.stream_check.specs.Standing.{Tally, tally_of, is_among, capped}
 use Rattle.stream_check.specs.Judging.{StreamEnd, ended, failed, ending_at, report_of, JudgesBlocks}
 use Rattle.stream_check.specs.Leaving.{Going, Over, CheckerState, Leaves, IsFresh}
 use Rattle.stream_check.specs.CheckerValue.{CheckerValue}
-use Rattle.stream_check.specs.Checker.{read_of, value_of, state_of, state_by, holding_of, report_at, tally_at, LeavesOn, StopsAt, IsNew, EndsBy, Ends, ReportsEnd}
-use Rattle.stream_check.specs.Taking.{hold, StopsBy, Takes, ending_of}
+use Rattle.stream_check.specs.Checker.{read_of, value_of, state_of, state_by, holding_of, report_at, tally_at, IsReadyAt, IsSound, LeavesOn, StopsAt, IsNew, EndsBy, Ends, ReportsEnd}
+use Rattle.stream_check.specs.Taking.{IsReady, hold, StopsBy, Takes, ending_of}
 use Rattle.stream_check.proofs.LineLemmas.{tally_is}
-use Rattle.stream_check.proofs.LeavingLemmas.{end_judged}
+use Rattle.stream_check.proofs.LeavingLemmas.{end_judged, line_grows, all_snoc}
 
 pub some_of : (o : Option Ending) → is_some o ≡ true → (ending : Ending) × (o ≡ Some ending)
 some_of None some = absurd (cc)
@@ -71,6 +74,40 @@ front_cut bytes pending piece lines front cut = record {
   each = cut.each;
   last = front.whole;
 }
+
+ends_later : (front back more : List ℕ) (byte : ℕ) → [] ≡ (front ++ byte ∷ back) ++ more → ⊥
+ends_later [] back more byte e = absurd (cc)
+ends_later (b ∷ front) back more byte e = absurd (cc)
+
+-- no line is in no bytes
+no_line : HasNoLine []
+no_line (Addition id lits hints) more fits e = ends_later (decimal id) (clause_text (map signed_decimal lits) (list_text (map decimal hints))) more space e
+no_line (Deletion lead ids) more fits e = ends_later (decimal lead) (letter_d ∷ list_text (map decimal ids)) more space e
+
+-- one line more is cut off
+pub line_cut : (bytes pending used : List ℕ) (lines : List StreamLine) (line : StreamLine) → LineText line (pending ++ used) → Cut bytes lines pending → Cut (bytes ++ used) (lines ++ line ∷ []) []
+line_cut bytes pending used lines line text cut = record {
+  bytes = line_grows lines line bytes pending used cut.bytes text.1;
+  each = all_snoc lines line cut.each text.0;
+  last = no_line;
+}
+
+-- What a checker asks of its parts, call after call
+
+pub ready_inside : (h : Held) (read : List ℕ) (ending : Option Ending) (v : CheckerValue) (p : Place) → value_of h read ending ≡ v → IsReadyAt v p → IsReady h p
+ready_inside h read ending v p is ready =
+    let same = subst (λ (w : CheckerValue). IsReadyAt w p) (sym is) ready in
+    record { at = same.at; vacant = same.vacant }
+
+pub sound_on : (c d : Setting) (v w : ℕ) (old new : ReaderState) (o p : Option Ending) → IsSound c v old o → d ≡ c → w ≡ v → (p ≡ None → new ≡ Ok (read_of new)) → IsSound d w new p
+sound_on c d v w old new o p sound setting variables reads = record {
+  reads = reads;
+  variables = ap (λ (s : Setting). s.layout.vars) setting ∙ sound.variables ∙ sym variables;
+  tries = subst (λ (s : Setting). s.tries < 2 ^ 63) (sym setting) sound.tries;
+}
+
+pub reads_on : (r : ReaderState) (read : List ℕ) → r ≡ Ok read → r ≡ Ok (read_of r)
+reads_on r read e = e ∙ ap (λ (b : List ℕ). Ok b) (sym (ap read_of e))
 
 -- the reading ends
 pub feeds_stopped : (h n : Held) (read piece : List ℕ) (used : ℕ) (blocks : List History) (free left : ℕ) (stop : Stop) (old : Option Ending) (new : Ending) → old ≡ None → new ≡ ending_of n.line stop

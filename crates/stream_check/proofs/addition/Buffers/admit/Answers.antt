@@ -1,4 +1,4 @@
-use Rattle.std.proofs.Common.{◌≡◌, ◌<◌, ◌≤◌, ◌∙◌, ℕ, nat_abs, true, false, length, inl, inr, refl, sym, ap, subst, arith, Ok, Err, Result}
+use Rattle.std.proofs.Common.{◌≡◌, ◌<◌, ◌≤◌, ◌∙◌, ℕ, nat_abs, true, false, length, inl, inr, refl, sym, ap, subst, arith, rules, Ok, Err, Result}
 use Rattle.std.specs.Result.{OnOk, is_err}
 use Rattle.std.specs.List.{AllByRecursion}
 use Rattle.std.proofs.lemmas.Bool.{true≢false}
@@ -25,10 +25,11 @@ pub returns-then-not-read_literals-clause-admitted : goal.returns-then-not-read_
 returns-then-not-read_literals-clause-admitted g c hints =
     let p = g.M.ClauseMap.place c.args.map.now in
     let s = c.args.held.now.setting in
-    let owns = owned_by s p c.args.id c.requires.at (c.owns.ensures.0 c.if-not-owns.false) in
+    let owns : Owns s.layout s.stream c.args.id = owned_by s p c.args.id c.requires.at (search rules) in
+    let above : c.args.held.now.last < c.args.id = omega arith in
     let no : AllByRecursion (λ l. nat_abs l ≤ s.layout.vars) c.args.lits.now → ⊥ = λ all. true≢false (sym (c.if-not-read_literals.ensures.within.1
     (subst (λ (n : ℕ). AllByRecursion (IsLiteral n) c.args.lits.now) c.requires.variables (literals_within s.layout.vars c.args.lits.now c.requires.nonzero all)))) in
-    inr ((owns, c.if-id-held.false), inl (no, (refl, refl)))
+    inr ((owns, above), inl (no, (refl, refl)))
 
 -- what a result that is no error promises
 on_ok : {T E : Type 0} (r : Result T E) (P : Type 0) → false ≡ is_err r → OnOk r P → P
