@@ -1,10 +1,11 @@
 -- An addition that is checked and published.
-use Rattle.std.proofs.Common.{◌≡◌, ◌≤◌, ◌<◌, ℕ, ℤ, Bool, true, false, cond, List, [], ◌∷◌, length, None, refl, sym, ap, subst, ◌∙◌, arith}
+use Rattle.std.proofs.Common.{◌≡◌, ◌≤◌, ◌<◌, ℕ, ℤ, nat_abs, Bool, true, false, cond, List, [], ◌∷◌, length, None, refl, sym, ap, subst, ◌∙◌, arith}
 use Rattle.std.specs.Prelude.{not, ◌==◌}
 use Rattle.std.specs.Ordering.{int_eq}
 use Rattle.std.specs.List.{AllByRecursion, sum_by}
 use Rattle.std.proofs.lemmas.List.Sums.{sum_by-cons}
 use Rattle.std.proofs.lemmas.List.Filters.{length-filter_both}
+use Rattle.lrup_model.specs.Literal.{IsLiteral}
 use Rattle.lrup_model.specs.Clause.{Clause, IsClause}
 use Rattle.lrup_model.specs.Formula.{Cnf}
 use Rattle.lrup_model.specs.Layout.{LayoutValue, Owns}
@@ -16,6 +17,7 @@ use Rattle.lrup_model.specs.Place.{Caller, Place, Tells, IsVacantAbove}
 use Rattle.lrup_model.specs.declared.clause_map.Published.{Published}
 use Rattle.lrup_model.specs.declared.clause_map.Published.TheVariants as publishing
 use Rattle.lrup_model.specs.Laws.{PropagationSound}
+use Rattle.lrup_text.specs.Lines.{IsStreamLiteral}
 use Rattle.propagate.specs.Distinct.{distinct}
 use Rattle.propagate.specs.Marks.{Propagation}
 use Rattle.stream_check.specs.Setting.{Setting}
@@ -50,12 +52,27 @@ pub owns_at : (c : Setting) (p : Place) (id : ℕ) → IsAt c p → Owns c.layou
 owns_at c p id at owns =
     subst (λ (l : LayoutValue). Owns l p.caller.stream id) (sym at.layout) (subst (λ (s : ℕ). Owns c.layout s id) (sym at.stream) owns)
 
+-- the same the other way
+pub owned_by : (c : Setting) (p : Place) (id : ℕ) → IsAt c p → Owns p.caller.layout p.caller.stream id → Owns c.layout c.stream id
+owned_by c p id at owns =
+    subst (λ (l : LayoutValue). Owns l c.stream id) at.layout (subst (λ (s : ℕ). Owns p.caller.layout s id) at.stream owns)
+
 -- the place stays one of the setting
 pub still_at : (c : Setting) (p q : Place) (es : History) → IsAt c p → Tells p q es → IsAt c q
 still_at c p q es at tells = record {
   layout = ap (λ (r : Caller). r.layout) tells.caller ∙ at.layout;
   stream = ap (λ (r : Caller). r.stream) tells.caller ∙ at.stream;
 }
+
+-- The literals of a line, which are none of them 0
+
+pub variables_within : (vars : ℕ) (ls : List ℤ) → AllByRecursion (IsLiteral vars) ls → AllByRecursion (λ l. nat_abs l ≤ vars) ls
+variables_within vars [] all = tt
+variables_within vars (l ∷ ls) all = (all.0.1, variables_within vars ls all.1)
+
+pub literals_within : (vars : ℕ) (ls : List ℤ) → AllByRecursion IsStreamLiteral ls → AllByRecursion (λ l. nat_abs l ≤ vars) ls → AllByRecursion (IsLiteral vars) ls
+literals_within vars [] nonzero all = tt
+literals_within vars (l ∷ ls) nonzero all = ((nonzero.0.0, all.0), literals_within vars ls nonzero.1 all.1)
 
 -- The conditions of the publish
 

@@ -8,6 +8,11 @@ use Rattle.lrup_model.specs.Layout.{LayoutValue, IsIdentity, last_identity, owne
 use Rattle.lrup_model.specs.declared.layout.Owner.{Owner}
 use Rattle.lrup_model.specs.declared.layout.Owner.TheVariants as owners
 use Rattle.lrup_model.specs.Event.{Event, History, Reply, vacant, fetch}
+use Rattle.lrup_model.specs.Place.{Place, AllFollow}
+use Rattle.lrup_model.specs.declared.clause_map.Fetched.{Fetched}
+use Rattle.lrup_model.specs.declared.clause_map.Fetched.TheVariants as answers
+use Rattle.lrup_model.specs.Replies.{reply_of, IsFetched}
+use Rattle.stream_check.specs.Checking.{Gives}
 use Rattle.stream_check.specs.Setting.{Setting, Side, formula, own, foreign, outside, side_for, side_of, tries_on}
 use Rattle.stream_check.specs.Asking.{FetchesUpTo, AsksAt, Asks}
 use Rattle.stream_check.proofs.TryLemmas.{replicate-more}
@@ -65,3 +70,36 @@ pub asks_again : (c : Setting) (h s most : ℕ) (es : History) (r : Reply) → I
 asks_again c h s most es r is stream tries fetches =
     asks_at (side_of c h) c h es r (inside_side c.stream (owner c.layout h) (inside_owner c.layout h is))
     (subst (λ (t : ℕ). FetchesUpTo (tries_on (side_of c h) c.tries) t h es r) stream (subst (λ (n : ℕ). FetchesUpTo n s h es r) tries fetches))
+
+-- one fetch, where its reply isn't vacant
+pub asks_once : (c : Setting) (h s : ℕ) (r : Reply) → IsIdentity c.layout h → s ≡ c.stream → (r ≡ vacant → ⊥) → Asks c h (fetch s h r ∷ []) r
+asks_once c h s r is stream other =
+    asks_again c h s (tries_on (side_of c h) c.tries) (fetch s h r ∷ []) r is stream refl (0, omega arith, (λ e. absurd (other e)), refl)
+
+outside_owner : (p : LayoutValue) (id : ℕ) → (IsIdentity p id → ⊥) → owner p id ≡ owners.Outside
+outside_owner p id never = elim (eqb_tells id 0) [
+  | inl zero ↦ cond-true (nat_eq id 0) owners.Outside _ zero.0
+  | inr some ↦ elim (leb_tells id p.clauses) [
+    | inl low ↦ absurd (never (omega (arith, some.1), omega (arith, low.1)))
+    | inr high ↦ elim (leb_tells id (last_identity p)) [
+      | inl within ↦ absurd (never (omega (arith, some.1), within.1))
+      | inr above ↦ cond-false (nat_eq id 0) owners.Outside _ some.0 ∙ cond-false (nat_le id p.clauses) owners.Formula _ high.0 ∙ cond-false (nat_le id (last_identity p)) _ owners.Outside above.0
+    ]
+  ]
+]
+
+-- no event for what is no identity
+pub asks_nothing : (c : Setting) (h : ℕ) → (IsIdentity c.layout h → ⊥) → Asks c h [] vacant
+asks_nothing c h never = subst (λ (side : Side). AsksAt side c h [] vacant) (sym (ap (side_for c.stream) (outside_owner c.layout h never))) (refl, refl)
+
+-- What a fetch answered
+
+pub not_vacant : (p : Place) (r : Fetched) → (r ≡ answers.Vacant → ⊥) → reply_of p r ≡ vacant → ⊥
+not_vacant p answers.Vacant other e = other refl
+not_vacant p (answers.Live clip) other e = absurd (cc)
+not_vacant p answers.Retired other e = absurd (cc)
+
+pub gives_of : (p : Place) (id : ℕ) (r : Fetched) → IsFetched p id r → AllFollow p → p.caller.formula.vars ≡ p.caller.layout.vars → Gives p r
+gives_of p id answers.Vacant fetched follow variables = tt
+gives_of p id (answers.Live clip) fetched follow variables = (fetched.1, follow, variables)
+gives_of p id answers.Retired fetched follow variables = tt

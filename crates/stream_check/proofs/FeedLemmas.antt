@@ -1,21 +1,36 @@
 -- What a piece leaves of a checker.
-use Rattle.std.proofs.Common.{◌≡◌, ℕ, Bool, true, false, List, [], ◌++◌, length, take, Option, None, Some, inl, inr, Ok, refl, sym, ap, subst, ◌∙◌, append-nil, arith}
-use Rattle.std.specs.Prelude.{◌&&◌, is_some}
+use Rattle.std.specs.Fmt.{decimal, signed_decimal}
+use Rattle.std.proofs.Common.{◌≡◌, ◌<◌, ◌^◌, ◌+◌, ℕ, Bool, true, false, List, [], ◌∷◌, ◌++◌, length, take, Option, None, Some, inl, inr, Ok, refl, sym, ap, subst, ◌∙◌, append-nil, append_assoc, arith}
+use Rattle.std.specs.Prelude.{◌&&◌, is_some, map}
+use Rattle.std.specs.List.{flat_map}
 use Rattle.std.proofs.lemmas.List.{take_all}
 use Rattle.lrup_model.specs.Layout.{LayoutValue}
 use Rattle.lrup_model.specs.Event.{History}
+use Rattle.lrup_model.specs.Place.{Place}
+use Rattle.lrup_text.specs.Grammar.{space, letter_d, clause_text, list_text}
+use Rattle.lrup_text.specs.Lines.{StreamLine, Addition, Deletion, Cut, IsPending, HasNoLine, LineText, line_text}
+use Rattle.lrup_text.specs.Feeding as feeding
 use Rattle.lrup_text.specs.Feeding.{ReaderState}
+use Rattle.lrup_text.specs.declared.reader.End.TheVariants as ends
+use Rattle.lrup_text.specs.declared.LineFault.TheVariants as texts
+use Rattle.lrup_text.specs.declared.LineFault.{LineFault}
 use Rattle.stream_check.specs.Laws.{FreshLeft}
+use Rattle.stream_check.specs.declared.fault.Fault.TheVariants as faults
+use Rattle.stream_check.specs.declared.report.Ending.TheVariants as endings
 use Rattle.stream_check.specs.declared.report.Ending.{Ending}
+use Rattle.stream_check.specs.declared.report.Report.{Report}
 use Rattle.stream_check.specs.declared.held.Held.{Held}
 use Rattle.stream_check.specs.declared.deletion.Stop.{Stop}
 use Rattle.stream_check.specs.declared.line.Taken.TheVariants as taken
 use Rattle.stream_check.specs.Setting.{Setting, side_of, is_shared}
-use Rattle.stream_check.specs.Standing.{tally_of, is_among}
+use Rattle.stream_check.specs.Standing.{Tally, tally_of, is_among, capped}
+use Rattle.stream_check.specs.Judging.{StreamEnd, ended, failed, ending_at, report_of, JudgesBlocks}
 use Rattle.stream_check.specs.Leaving.{Going, Over, CheckerState, Leaves, IsFresh}
-use Rattle.stream_check.specs.Checker.{read_of, value_of, state_of, report_at, tally_at, LeavesOn, StopsAt, IsNew}
-use Rattle.stream_check.specs.Taking.{hold, StopsBy, Takes, ending_of}
+use Rattle.stream_check.specs.CheckerValue.{CheckerValue}
+use Rattle.stream_check.specs.Checker.{read_of, value_of, state_of, state_by, holding_of, report_at, tally_at, IsReadyAt, IsSound, LeavesOn, StopsAt, IsNew, EndsBy, Ends, ReportsEnd}
+use Rattle.stream_check.specs.Taking.{IsReady, hold, StopsBy, Takes, ending_of}
 use Rattle.stream_check.proofs.LineLemmas.{tally_is}
+use Rattle.stream_check.proofs.LeavingLemmas.{end_judged, line_grows, all_snoc}
 
 pub some_of : (o : Option Ending) → is_some o ≡ true → (ending : Ending) × (o ≡ Some ending)
 some_of None some = absurd (cc)
@@ -30,6 +45,18 @@ pub leaves_still : (c : Setting) (s : CheckerState) → LeavesOn c s [] [] s
 leaves_still c s bytes before leaves =
     subst (λ (b : List ℕ). Leaves c b (before ++ []) s) (sym (append-nil bytes)) (subst (λ (blocks : List History). Leaves c bytes blocks s) (sym (append-nil before)) leaves)
 
+-- where a checker goes on, nothing is said of one that is over
+pub not_over : {A : Type 0} (old : Option Ending) (ending : Ending) → old ≡ None → old ≡ Some ending → A
+not_over old ending none some = absurd (let e : None ≡ Some ending = sym none ∙ some in cc)
+
+-- a line is taken
+pub feeds_line : (h n : Held) (read : List ℕ) (r : ReaderState) (used : List ℕ) (blocks : List History) (free left : ℕ) (ending : Option Ending) → ending ≡ None → r ≡ Ok []
+    → LeavesOn h.setting (Going (hold h read free)) used blocks (Going (hold n [] left))
+    → LeavesOn h.setting (state_of (value_of h read ending) free) used blocks (state_of (value_of n (read_of r) ending) left)
+feeds_line h n read r used blocks free left ending none reads leaves =
+    subst (λ (o : Option Ending). LeavesOn h.setting (state_of (value_of h read o) free) used blocks (state_of (value_of n (read_of r) o) left)) (sym none)
+    (subst (λ (text : List ℕ). LeavesOn h.setting (Going (hold h read free)) used blocks (Going (hold n text left))) (sym (ap read_of reads)) leaves)
+
 -- the front of a line is taken
 pub feeds_more : (h n : Held) (read : List ℕ) (r : ReaderState) (piece : List ℕ) (blocks : List History) (free left : ℕ) (ending : Option Ending) → ending ≡ None → r ≡ Ok (read ++ piece)
     → Takes h read free piece blocks taken.More n left
@@ -39,6 +66,48 @@ feeds_more h n read r piece blocks free left ending none reads takes =
     subst (λ (used : List ℕ). LeavesOn h.setting (Going (hold h read free)) used blocks (Going (hold n (read ++ piece) left))) (sym (take_all (length piece) piece (omega arith))) takes.1 in
     subst (λ (o : Option Ending). LeavesOn h.setting (state_of (value_of h read o) free) (take (length piece) piece) blocks (state_of (value_of n (read_of r) o) left)) (sym none)
     (subst (λ (text : List ℕ). LeavesOn h.setting (Going (hold h read free)) (take (length piece) piece) blocks (Going (hold n text left))) (sym (ap read_of reads)) whole)
+
+-- and the lines are cut as before
+pub front_cut : (bytes pending piece : List ℕ) (lines : List StreamLine) → IsPending (pending ++ piece) → Cut bytes lines pending → Cut (bytes ++ piece) lines (pending ++ piece)
+front_cut bytes pending piece lines front cut = record {
+  bytes = ap (λ (b : List ℕ). b ++ piece) cut.bytes ∙ append_assoc (flat_map line_text lines) pending piece;
+  each = cut.each;
+  last = front.whole;
+}
+
+ends_later : (front back more : List ℕ) (byte : ℕ) → [] ≡ (front ++ byte ∷ back) ++ more → ⊥
+ends_later [] back more byte e = absurd (cc)
+ends_later (b ∷ front) back more byte e = absurd (cc)
+
+-- no line is in no bytes
+no_line : HasNoLine []
+no_line (Addition id lits hints) more fits e = ends_later (decimal id) (clause_text (map signed_decimal lits) (list_text (map decimal hints))) more space e
+no_line (Deletion lead ids) more fits e = ends_later (decimal lead) (letter_d ∷ list_text (map decimal ids)) more space e
+
+-- one line more is cut off
+pub line_cut : (bytes pending used : List ℕ) (lines : List StreamLine) (line : StreamLine) → LineText line (pending ++ used) → Cut bytes lines pending → Cut (bytes ++ used) (lines ++ line ∷ []) []
+line_cut bytes pending used lines line text cut = record {
+  bytes = line_grows lines line bytes pending used cut.bytes text.1;
+  each = all_snoc lines line cut.each text.0;
+  last = no_line;
+}
+
+-- What a checker asks of its parts, call after call
+
+pub ready_inside : (h : Held) (read : List ℕ) (ending : Option Ending) (v : CheckerValue) (p : Place) → value_of h read ending ≡ v → IsReadyAt v p → IsReady h p
+ready_inside h read ending v p is ready =
+    let same = subst (λ (w : CheckerValue). IsReadyAt w p) (sym is) ready in
+    record { at = same.at; vacant = same.vacant }
+
+pub sound_on : (c d : Setting) (v w : ℕ) (old new : ReaderState) (o p : Option Ending) → IsSound c v old o → d ≡ c → w ≡ v → (p ≡ None → new ≡ Ok (read_of new)) → IsSound d w new p
+sound_on c d v w old new o p sound setting variables reads = record {
+  reads = reads;
+  variables = ap (λ (s : Setting). s.layout.vars) setting ∙ sound.variables ∙ sym variables;
+  tries = subst (λ (s : Setting). s.tries < 2 ^ 63) (sym setting) sound.tries;
+}
+
+pub reads_on : (r : ReaderState) (read : List ℕ) → r ≡ Ok read → r ≡ Ok (read_of r)
+reads_on r read e = e ∙ ap (λ (b : List ℕ). Ok b) (sym (ap read_of e))
 
 -- the reading ends
 pub feeds_stopped : (h n : Held) (read piece : List ℕ) (used : ℕ) (blocks : List History) (free left : ℕ) (stop : Stop) (old : Option Ending) (new : Ending) → old ≡ None → new ≡ ending_of n.line stop
@@ -52,6 +121,51 @@ feeds_stopped h n read piece used blocks free left stop old new none is takes =
 pub stops_at : (line : ℕ) (stop : Stop) (ending : Ending) (text : List ℕ) → ending ≡ ending_of line stop → StopsBy stop text → StopsAt ending text
 stops_at line stop ending text is (inl whole) = inl whole
 stops_at line stop ending text is (inr refused) = inr (line, refused.0, is ∙ ap (ending_of line) refused.1, refused.2)
+
+-- The end of the stream, or a failed read
+
+either_report : (c : Setting) (bytes : List ℕ) (blocks : List History) (end : StreamEnd) (report : Report) → Leaves c bytes blocks (Over report) → JudgesBlocks c bytes end blocks report
+either_report c bytes blocks ended report over = over.0
+either_report c bytes blocks failed report over = over.1
+
+-- a checker that is over stays as it is
+pub ends_over : (end : StreamEnd) (v : CheckerValue) (ending : Ending) → v.ending ≡ Some ending → Ends end v v
+ends_over end v ending over = subst (λ (o : Option Ending). EndsBy o end v v) (sym over) refl
+
+pub reports_over : (end : StreamEnd) (v : CheckerValue) (ending : Ending) → v.ending ≡ Some ending → ReportsEnd end v v
+reports_over end v ending over bytes blocks free leaves =
+    (ending, over, either_report v.setting bytes blocks end (report_at v.tally ending) (subst (λ (o : Option Ending). Leaves v.setting bytes blocks (state_by v free o)) over leaves))
+
+-- one that isn't over has this ending then
+pub ends_now : (end : StreamEnd) (old new : CheckerValue) → old.ending ≡ None → new.setting ≡ old.setting → new.tally ≡ old.tally → new.ending ≡ Some (ending_at end old.pending old.line) → new.last ≡ old.last → Ends end old new
+ends_now end old new none setting tally ending last = subst (λ (o : Option Ending). EndsBy o end old new) (sym none) (setting, tally, ending, last)
+
+report_is : (old new : Tally) (said : Ending) → capped (old.deleted + 0) ≡ old.deleted → new ≡ old → report_of old 0 said ≡ report_at new said
+report_is old new said small same = ap (λ (n : ℕ). record { added = old.added; deleted = n; empty = old.empty; ending = said }) small ∙ ap (λ (t : Tally). report_at t said) (sym same)
+
+pub reports_now : (end : StreamEnd) (old new : CheckerValue) → old.ending ≡ None → new.tally ≡ old.tally → new.ending ≡ Some (ending_at end old.pending old.line) → ReportsEnd end old new
+reports_now end old new none tally ending bytes blocks free leaves =
+    let said : Ending = ending_at end old.pending old.line in
+    let going : Leaves old.setting bytes blocks (Going (holding_of old free)) = subst (λ (o : Option Ending). Leaves old.setting bytes blocks (state_by old free o)) none leaves in
+    let small : capped (old.tally.deleted + 0) ≡ old.tally.deleted = omega (arith, ap (λ (t : Tally). t.deleted) going.tally) in (
+      said,
+      ending,
+      subst (JudgesBlocks old.setting bytes end blocks) (report_is old.tally new.tally said small tally) (end_judged old.setting bytes blocks (holding_of old free) end going),
+    )
+
+-- the end of the lines, where a line is open and where none is
+
+pub ended_clean : (r : ReaderState) (line : ℕ) → r ≡ Ok [] → ending_at ended (read_of r) line ≡ endings.Ended
+ended_clean r line reads = ap (λ (s : ReaderState). ending_at ended (read_of s) line) reads
+
+ended_open : (read : List ℕ) (line : ℕ) (fault : LineFault) → (read ≡ [] → ⊥) → fault ≡ texts.Truncated → ending_at ended read line ≡ endings.Bad line (faults.Text fault)
+ended_open [] line fault unread is = absurd (unread refl)
+ended_open (byte ∷ bytes) line fault unread is = ap (λ (f : LineFault). endings.Bad line (faults.Text f)) (sym is)
+
+pub ended_fault : (r new : ReaderState) (line : ℕ) (fault : LineFault) → r ≡ Ok (read_of r) → feeding.Ends r (ends.Fault fault) new → ending_at ended (read_of r) line ≡ endings.Bad line (faults.Text fault)
+ended_fault r new line fault reads at_end =
+    let left = subst (λ (s : ReaderState). feeding.Ends s (ends.Fault fault) new) reads at_end in
+    ended_open (read_of r) line fault left.0 left.1
 
 -- Before the first byte
 

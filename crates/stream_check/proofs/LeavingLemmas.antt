@@ -41,14 +41,14 @@ text_grows : (texts bytes rest piece : List ℕ) → bytes ≡ texts ++ rest →
 text_grows texts bytes rest piece e = ap (λ b. b ++ piece) e ∙ append_assoc texts rest piece
 
 -- and these bytes are one line more
-line_grows : (lines : List StreamLine) (line : StreamLine) (bytes rest piece : List ℕ) → bytes ≡ flat_map line_text lines ++ rest → rest ++ piece ≡ line_text line
+pub line_grows : (lines : List StreamLine) (line : StreamLine) (bytes rest piece : List ℕ) → bytes ≡ flat_map line_text lines ++ rest → rest ++ piece ≡ line_text line
     → bytes ++ piece ≡ flat_map line_text (lines ++ line ∷ []) ++ []
 line_grows lines line bytes rest piece e whole =
     text_grows (flat_map line_text lines) bytes rest piece e
     ∙ ap (λ t. flat_map line_text lines ++ t) whole
     ∙ sym (append-nil (flat_map line_text (lines ++ line ∷ [])) ∙ flat_map-append line_text lines (line ∷ []) ∙ ap (λ t. flat_map line_text lines ++ t) (append-nil (line_text line)))
 
-all_snoc : (lines : List StreamLine) (line : StreamLine) → AllByRecursion IsWithinLimits lines → IsWithinLimits line → AllByRecursion IsWithinLimits (lines ++ line ∷ [])
+pub all_snoc : (lines : List StreamLine) (line : StreamLine) → AllByRecursion IsWithinLimits lines → IsWithinLimits line → AllByRecursion IsWithinLimits (lines ++ line ∷ [])
 all_snoc [] line all one = (one, tt)
 all_snoc (l ∷ lines) line all one = (all.0, all_snoc lines line all.1 one)
 

@@ -1,17 +1,11 @@
-use Rattle.std.proofs.Common.{◌≡◌, ℕ, [], ◌∷◌, ◌++◌, refl, ap, subst}
+use Rattle.std.proofs.Common.{◌≡◌, ℕ, [], ◌∷◌, ◌++◌, ap, subst}
 use Rattle.std.specs.Prelude.{replicate}
 use Rattle.lrup_model.specs.Event.{History, fetch, vacant}
-use Rattle.lrup_model.specs.Place.{Place, Caller}
-use Rattle.lrup_model.specs.declared.clause_map.Fetched.{Fetched}
-use Rattle.lrup_model.specs.declared.clause_map.Fetched.TheVariants as answers
+use Rattle.lrup_model.specs.Place.{Caller}
 use Rattle.lrup_model.specs.Replies.{reply_of}
-use Rattle.stream_check.proofs.AskLemmas.{again_found, again_vacant}
+use Rattle.stream_check.proofs.TryLemmas.{replicate-more}
+use Rattle.stream_check.proofs.AskLemmas.{again_found, again_vacant, not_vacant, gives_of}
 use Rattle.stream_check.proofs.asking.fetch_again.Goals as goal
-
-not_vacant : (p : Place) (r : Fetched) → (r ≡ answers.Vacant → ⊥) → reply_of p r ≡ vacant → ⊥
-not_vacant p answers.Vacant other e = other refl
-not_vacant p (answers.Live clip) other e = absurd (cc)
-not_vacant p answers.Retired other e = absurd (cc)
 
 pub returns-in_default-clause-asked : goal.returns-in_default-clause-asked
 returns-in_default-clause-asked g c =
@@ -35,3 +29,19 @@ returns-clause-asked g c =
     let s = (g.M.ClauseMap.place c.args.map.now).caller.stream in
     let k = c.loop-before.before in
     (replicate k (fetch s c.args.id vacant), c.loop-before.invariant, again_vacant c.args.most k s c.args.id c.loop-before.auto.before-end c.loop-before-test.false)
+
+pub returns-in_default-clause-gives : goal.returns-in_default-clause-gives
+returns-in_default-clause-gives g c = gives_of (g.M.ClauseMap.place c.fetch.new.self) c.args.id c.fetch.result c.fetch.ensures.fetched c.fetch.ensures.follow c.fetch.ensures.variables
+
+pub loop-before-init : goal.loop-before-init
+loop-before-init g c = g.met.M.ClauseMap.moves_none c.args.map.now
+
+pub loop-before-preserved : goal.loop-before-preserved
+loop-before-preserved g c =
+    let s = (g.M.ClauseMap.place c.args.map.now).caller.stream in
+    let front : History = replicate c.loop-before.before (fetch s c.args.id vacant) in
+    let tells = g.met.M.ClauseMap.moves_tells c.args.map.now c.loop-before.map front c.loop-before.invariant in
+    let last : g.M.ClauseMap.moves c.loop-before.map c.fetch.new.self (fetch s c.args.id vacant ∷ []) =
+    subst (λ (t : ℕ). g.M.ClauseMap.moves c.loop-before.map c.fetch.new.self (fetch t c.args.id vacant ∷ [])) (ap (λ (r : Caller). r.stream) tells.caller) c.in-Vacant.ensures.event in
+    subst (g.M.ClauseMap.moves c.args.map.now c.fetch.new.self) (replicate-more c.loop-before.before (fetch s c.args.id vacant))
+    (g.met.M.ClauseMap.moves_append c.args.map.now c.loop-before.map c.fetch.new.self front (fetch s c.args.id vacant ∷ []) c.loop-before.invariant last)

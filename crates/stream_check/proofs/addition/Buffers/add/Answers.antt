@@ -1,4 +1,5 @@
 use Rattle.std.proofs.Common.{◌≡◌, ◌++◌, ◌∷◌, [], sym, subst, ap, length, refl, arith}
+use Rattle.lrup_model.specs.Clause.{Clause, IsTautology}
 use Rattle.lrup_model.specs.Event.{Event}
 use Rattle.lrup_model.specs.History.{IsPublishable}
 use Rattle.lrup_model.specs.EntailmentLemmas.{accepted_follows}
@@ -9,7 +10,7 @@ use Rattle.stream_check.specs.Standing.{Standing}
 use Rattle.stream_check.specs.Verdicts.{Good, Bad}
 use Rattle.stream_check.specs.Additions.{published_by, JudgesHints}
 use Rattle.stream_check.specs.Checker.{standing_at}
-use Rattle.stream_check.proofs.AddLemmas.{room_stays, clause_is, shown_is, publishable, still_vacant, published_is}
+use Rattle.stream_check.proofs.AddLemmas.{owns_at, still_at, room_stays, clause_is, shown_is, publishable, still_vacant, published_is}
 use Rattle.stream_check.proofs.addition.Buffers.add.Goals as goal
 
 pub returns-in-Some-clause-judged : goal.returns-in-Some-clause-judged
@@ -26,6 +27,26 @@ returns-in-Some-try_hints-clause-judged g c =
     let bad : JudgesHints s st.gone e (distinct c.args.lits.now) c.args.hints.now shown.0 (Bad 0 c.in-Some-try_hints.fault) =
     subst (λ n. JudgesHints s st.gone e n c.args.hints.now shown.0 (Bad 0 c.in-Some-try_hints.fault)) (ap (λ (m : Propagation). m.falses) admitted.0.marks_are) (shown.3 e) in
     (shown.0, shown.1, shown.2, admitted.1 c.args.hints.now shown.0 (Bad 0 c.in-Some-try_hints.fault) bad)
+
+pub try_hints-requires-clause-ready : goal.try_hints-requires-clause-ready
+try_hints-requires-clause-ready g c = ap (λ (m : Propagation). m.ready) c.in_default.ensures.admitted.0.marks_are
+
+pub try_hints-requires-clause-variables : goal.try_hints-requires-clause-variables
+try_hints-requires-clause-variables g c = omega (arith, ap (λ (m : Propagation). m.vars) c.in_default.ensures.admitted.0.marks_are)
+
+pub try_hints-requires-clause-consistent : goal.try_hints-requires-clause-consistent
+try_hints-requires-clause-consistent g c =
+    let admits = c.in_default.ensures.admitted.0 in
+    subst (λ (d : Clause). ¬ IsTautology d) (sym (ap (λ (m : Propagation). m.falses) admits.marks_are)) admits.consistent
+
+pub publish-requires-clause-owns : goal.publish-requires-clause-owns
+publish-requires-clause-owns g c =
+    let p = g.M.ClauseMap.place c.args.map.now in
+    let q = g.M.ClauseMap.place c.try_hints.new.map in
+    let s = c.args.held.now.setting in
+    let shown = c.in_default-try_hints.ensures.shown in
+    let tells = g.met.M.ClauseMap.moves_tells c.args.map.now c.try_hints.new.map shown.0 shown.1 in
+    owns_at s q c.args.id (still_at s p q shown.0 c.requires.at tells) c.in_default.ensures.admitted.0.owns
 
 pub publish-requires-clause-clause : goal.publish-requires-clause-clause
 publish-requires-clause-clause g c =
