@@ -1,5 +1,5 @@
 -- What is read of the rows by clap's getters.
-use Rattle.std.proofs.Common.{◌≡◌, ◌∙◌, ◌⊎◌, ◌≤◌, refl, sym, ap, inl, inr, codes, ℕ, Bool, true, false, List, Option, Some, None, Result, Ok, Err}
+use Rattle.std.proofs.Common.{◌≡◌, ◌∙◌, ◌⊎◌, ◌≤◌, ◌<◌, refl, sym, ap, subst, inl, inr, codes, ℕ, Bool, true, false, List, [], length, Option, Some, None, Result, Ok, Err}
 use Rattle.std.specs.Str.{bytes_eq}
 use Rattle.std.specs.Prelude.{unwrap_or}
 use Rattle.std.specs.Option.{ForSome, option_map_or}
@@ -40,3 +40,7 @@ flag_read (Some t) read none on off truth = elim (truth t refl) [
   | inl is ↦ on (ap Some is) ∙ sym (ap (λ (u : Text). bytes_eq u (codes "true")) is)
   | inr is ↦ off (ap Some is) ∙ sym (ap (λ (u : Text). bytes_eq u (codes "true")) is)
 ]
+
+-- what is read twice of one place has one length
+pub same_length : {A : Type 0} {o : Option (List A)} {a b : List A} → o ≡ Some a → o ≡ Some b → 0 < length a → 0 < length b
+same_length {A} {o} {a} {b} one two some = subst (λ (r : Option (List A)). 0 < length (unwrap_or r [])) (sym one ∙ two) some

@@ -1,14 +1,24 @@
--- What is found in words that have no fault (words inside the crate).
-use Rattle.std.specs.Prelude.{◌≡◌, ◌≢◌, ◌⊎◌, ◌<◌, ◌^◌, ⊤, ℕ, List, [], Some, codes, length, IsSome}
+-- What is found in words that have no fault, and a part of the command (words inside the crate).
+use Rattle.std.specs.Prelude.{◌≡◌, ◌≢◌, ◌⊎◌, ◌<◌, ◌^◌, ⊤, ℕ, List, [], ◌∷◌, Some, codes, length, IsSome}
 use Rattle.std.specs.Option.{ForSome}
 use Rattle.std.specs.Str.Parse.{IsNumeral, digits_value, without_leading_plus}
-use Rattle.clap.specs.Words.{IsUnsignedIn, Row, Text, all_of, fault_of, first_of, kind_of}
+use Rattle.clap.specs.Simple.{on_top}
+use Rattle.clap.specs.Words.{App, IsUnsignedIn, Row, Text, all_of, fault_of, first_of, kind_of}
 use Rattle.clap.specs.Words.{matches_of, one_of}
 use Rattle.clap.specs.declared.error.Error.{Error}
 use Rattle.clap.specs.declared.error.kind.ErrorKind.TheVariants.{OutOfMemory}
-use Rattle.command_line.specs.CommandLine.{lrupd, max_lines, max_room, max_tries}
+use Rattle.command_line.specs.CommandLine.{lrupd, max_lines, max_room, max_tries, number_rule}
+use Rattle.command_line.specs.CommandLine.{without_arguments}
 use Rattle.command_line.specs.declared.words.WordsFault.{WordsFault}
 use Rattle.command_line.specs.declared.words.WordsFault.TheVariants.{Usage, Memory}
+
+-- the command, with the options that have a number
+abbrev pub with_numbers : App
+with_numbers = on_top (λ s. record s {
+  rules = number_rule (codes "tries") max_tries
+      ∷ number_rule (codes "lines") max_lines
+      ∷ number_rule (codes "room") max_room ∷ [];
+}) without_arguments
 
 -- a number of 64 bits
 abbrev pub IsNumber : Text → Type 0

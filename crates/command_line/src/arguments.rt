@@ -3,6 +3,7 @@ ghost use Rattle.std.specs.Prelude.{◌≡◌, IfOk, false};
 ghost use Rattle.clap.specs.Words.{app_of, rule_of};
 ghost use Rattle.command_line.specs.CommandLine.{formula_rule, lrupd, number_rule, serial_rule};
 ghost use Rattle.command_line.specs.CommandLine.{stream_rule, without_arguments};
+ghost use Rattle.command_line.specs.Matches.{with_numbers};
 
 use crate::help;
 use clap::builder::ValueParser;
@@ -22,13 +23,20 @@ const MAX_ROOM: u64 = 268_435_456;
 pub fn program<'a>(alloc: Global) -> Result<Command<'a>, AllocError>
     ensures { IfOk result (λ program. app_of program ≡ lrupd) }
 {
-    let command = bare(alloc);
-    let command = command.arg(number(alloc, "tries", MAX_TRIES, help::TRIES))?;
-    let command = command.arg(number(alloc, "lines", MAX_LINES, help::LINES))?;
-    let command = command.arg(number(alloc, "room", MAX_ROOM, help::ROOM))?;
+    let command = with_numbers(alloc)?;
     let command = command.arg(serial(alloc))?;
     let command = command.arg(formula(alloc))?;
     command.arg(stream(alloc))
+}
+
+/// The command, with the options that have a number.
+fn with_numbers<'a>(alloc: Global) -> Result<Command<'a>, AllocError>
+    ensures { IfOk result (λ command. app_of command ≡ with_numbers) }
+{
+    let command = bare(alloc);
+    let command = command.arg(number(alloc, "tries", MAX_TRIES, help::TRIES))?;
+    let command = command.arg(number(alloc, "lines", MAX_LINES, help::LINES))?;
+    command.arg(number(alloc, "room", MAX_ROOM, help::ROOM))
 }
 
 /// The command, with what help says of it and no argument yet.

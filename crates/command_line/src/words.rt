@@ -78,6 +78,8 @@ impl UsageText {
 }
 
 impl fmt::Display for UsageText {
+    ghost output = { λ text. Some text };
+
     fn fmt<W: fmt::Write>(&self, f: &mut fmt::Formatter<W>) -> fmt::Result {
         f.write_str(self.as_str())
     }
