@@ -48,3 +48,12 @@ invariant_of-seat-else-found-eq0 c =
     let one = step {S = ℕ} shared.table_id.slots c.args.id 0 c.live_word-word.result none in
     (seated_claim token.table_id new.table_id token.me new.me c.seat.inside.top c.seat.inside.drafted c.seat.inside.room c.compare_exchange-found.result c.args.id one
     c.seat.invariant c.compare_exchange-found.ensures.0 c.compare_exchange-found.ensures.2).1 c.if-found-eq0.false
+
+pub invariant_of-seat : goal.invariant_of-seat
+invariant_of-seat c =
+    let token = c.seat.inside.token in
+    let new = c.compare_exchange-found.new.seat in
+    let shared = c.self.inside.table.shared in
+    let one = step {S = ℕ} shared.table_id.slots c.args.id 0 c.live_word-word.result none in
+    (seated_claim token.table_id new.table_id token.me new.me c.seat.inside.top c.seat.inside.drafted c.seat.inside.room c.compare_exchange-found.result c.args.id one
+    c.seat.invariant c.compare_exchange-found.ensures.0 c.compare_exchange-found.ensures.2).0 c.if-found-eq0.true
