@@ -1,4 +1,4 @@
-use Rattle.std.proofs.Common.{ℕ, List, refl, sym, ap, ◌∙◌, arith}
+use Rattle.std.proofs.Common.{rules, ℕ, List, refl, sym, ap, ◌∙◌, arith}
 use mathlib.Core.Option.{none}
 use Rattle.atomic_table.specs.Table.{step, Me}
 use Rattle.idwords.specs.Rule.{Part}
@@ -26,3 +26,9 @@ invariant_of-seat c =
     let told = c.load.ensures.2 (first_part token.me.0) (ap (λ (m : Me ℕ (List Part)). m.0) c.seat.invariant.one) in
     seated_call token.table_id new.table_id token.me new.me c.seat.inside.top c.seat.inside.drafted c.seat.inside.room told.0 _ c.seat.invariant
     c.load.ensures.0 told.1 told.2 told.3.calls refl refl told.3.top told.3.draft
+
+pub returns-clause-shows : goal.returns-clause-shows
+returns-clause-shows c = search rules
+
+pub returns-clause-calls : goal.returns-clause-calls
+returns-clause-calls c = search rules

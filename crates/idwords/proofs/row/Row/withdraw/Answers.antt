@@ -1,4 +1,4 @@
-use Rattle.std.proofs.Common.{◌≡◌, ℕ, ◌+◌, eqb, List, [], ◌∷◌, refl, sym, ap, ap₂, subst, ◌∙◌, arith}
+use Rattle.std.proofs.Common.{rules, ◌≡◌, ℕ, ◌+◌, eqb, List, [], ◌∷◌, refl, sym, ap, ap₂, subst, ◌∙◌, arith}
 use prog.Atomic.{either}
 use mathlib.Core.Option.{none}
 use Rattle.atomic_table.specs.Table.{step, Me}
@@ -68,3 +68,21 @@ invariant_of-seat-2 c =
     let done = c.compare_exchange.ensures.2 v (told.1 ∙ ap (λ (u : Part). u ∷ []) stays) in
     seated_call token.table_id new.table_id token.me new.me c.seat.inside.top c.seat.inside.drafted c.seat.inside.room done.0 _ c.seat.invariant
     (c.compare_exchange.ensures.0 ∙ c.load-found.ensures.0) done.1 (done.2 ∙ told.2) done.3.calls refl refl done.3.top done.3.draft
+
+pub returns-then-state-ne-LIVE-clause-calls : goal.returns-then-state-ne-LIVE-clause-calls
+returns-then-state-ne-LIVE-clause-calls c = search rules
+
+pub returns-then-state-ne-LIVE-clause-done : goal.returns-then-state-ne-LIVE-clause-done
+returns-then-state-ne-LIVE-clause-done c = search rules
+
+pub returns-clause-calls : goal.returns-clause-calls
+returns-clause-calls c = search rules
+
+pub returns-clause-done : goal.returns-clause-done
+returns-clause-done c = search rules
+
+pub returns-clause-top : goal.returns-clause-top
+returns-clause-top c = search rules
+
+pub returns-clause-draft : goal.returns-clause-draft
+returns-clause-draft c = search rules

@@ -1,4 +1,4 @@
-use Rattle.std.proofs.Common.{◌≡◌, List, ℕ, ◌+◌, ◌/◌, ◌≤◌, length, sym, ap, ap₂, ◌∙◌, arith, length-append}
+use Rattle.std.proofs.Common.{rules, ◌≡◌, List, ℕ, ◌+◌, ◌/◌, ◌≤◌, length, sym, ap, ap₂, ◌∙◌, arith, length-append}
 use mathlib.Core.Option.{none}
 use Rattle.atomic_table.specs.Table.{step, Me}
 use Rattle.lrup_model.specs.Layout.{row_words}
@@ -66,3 +66,6 @@ invariant_of-seat c =
     seated_write token.table_id new.table_id token.me new.me c.seat.inside.top c.seat.inside.drafted c.seat.inside.room c.if-is_some.seat pair told.0 c.seat.invariant
     c.store.ensures.0 told.1 told.2 grown count
     (omega (arith, c.requires.room, c.seat.invariant.draft_is, c.seat.invariant.room_kept, ap (λ (u : Part). length u.draft) here, ap (λ (u : Part). spent (part_stream u) u.view.mine) here, ap (λ (u : Part). u.view.caller.layout.room) here))
+
+pub returns : goal.returns
+returns c = search rules
