@@ -1,4 +1,4 @@
-use Rattle.std.proofs.Common.{◌≡◌, ◌<◌, ℕ, ℤ, [], ◌∷◌, ◌++◌, length, get_or, sym, ap, subst, ◌∙◌, arith, append-nil}
+use Rattle.std.proofs.Common.{rules, ◌≡◌, ◌<◌, ℕ, ℤ, [], ◌∷◌, ◌++◌, length, get_or, sym, ap, subst, ◌∙◌, arith, append-nil}
 use borrow.Author.Tests.{ltb-true, ltb-false}
 use Rattle.lrup_model.specs.Clause.{Clause}
 use Rattle.lrup_model.specs.Event as events
@@ -69,3 +69,6 @@ returns-clause-calls c =
       | else-left-lt1+else-left-lt2-2 w ↦ absurd (omega (arith, ltb-false))
     ] in
     published c.pass.inside.seat now c.args.pass.now c.args.id c.args.clause.now c.claim.result c.claim.new.seat.view (only_draft c) c.pass.view_is whole c.claim.ensures.calls
+
+pub returns-clause-done : goal.returns-clause-done
+returns-clause-done c = search rules
