@@ -1,3 +1,4 @@
 pub mod LiteralsRead
 pub mod MeetingLemmas
 pub mod OpeningLemmas
+pub mod RestLemmas

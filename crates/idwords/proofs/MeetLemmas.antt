@@ -19,7 +19,7 @@ use Rattle.lrup_model.specs.PassLemmas.{moves_learn}
 use Rattle.idwords.specs.Spelling.{spelling_of, LieWithin}
 use Rattle.idwords.specs.Rule.{Part, part_stream, AllParts, count_in, times, Keeps, IsKept, Stands}
 use Rattle.idwords.specs.Steps.{Met, Joined}
-use Rattle.idwords.specs.Seats.{first_only, others}
+use Rattle.idwords.specs.Seats.{first_part, first_only, others}
 use Rattle.idwords.proofs.SpellingLemmas.{lies_within, keeps_spelt, spelt}
 use Rattle.idwords.proofs.ViewLemmas.{all_at, all-set, all-snoc, times-set, times-snoc}
 use Rattle.idwords.proofs.RuleLemmas.{own_rest, between, fair_part}
@@ -303,3 +303,21 @@ module _ {S : Type 0} where
   joined step v v' n w w' met u u' same =
       let both = pair_of v v' u u' same in
       (w, w', refl, refl, subst (λ (x : Part). Met x u' w w') both.0 (subst (λ (x : Part). Met v x w w') both.1 met))
+
+  -- what a load told of the two parts, once each has its seat again
+  pub parted : (step : Step S) (me met left right : Me S (List Part)) (v v' : Part) (n : ℕ) → me ≡ (v ∷ v' ∷ [], []) → Joined step me n met
+      → left ≡ (first_only met.0, met.1) → right ≡ (others met.0, [])
+      → Met v v' (first_part left.0) (first_part right.0) × (left ≡ (first_part left.0 ∷ [], [])) × (right ≡ (first_part right.0 ∷ [], []))
+  parted step me met left right v v' n both told gives keeps_on =
+      let all = told v v' (ap (λ (m : Me S (List Part)). m.0) both) in
+      let w : Part = all.0 in
+      let w' : Part = all.1 in
+      let none : met.1 ≡ [] = all.3 ∙ ap (λ (m : Me S (List Part)). m.1) both in
+      let first : left ≡ (w ∷ [], []) = gives ∙ ap₂ (λ (vs : List Part) (slots : List (ℕ × S)). (first_only vs, slots)) all.2 none in
+      let second : right ≡ (w' ∷ [], []) = keeps_on ∙ ap (λ (vs : List Part). (others vs, [])) all.2 in
+      let at : w ≡ first_part left.0 = sym (ap (λ (m : Me S (List Part)). first_part m.0) first) in
+      let at' : w' ≡ first_part right.0 = sym (ap (λ (m : Me S (List Part)). first_part m.0) second) in (
+        subst (λ (u : Part). Met v v' u (first_part right.0)) at (subst (λ (u : Part). Met v v' w u) at' all.4),
+        first ∙ ap (λ (u : Part). (u ∷ [], [])) at,
+        second ∙ ap (λ (u : Part). (u ∷ [], [])) at',
+      )

@@ -1,12 +1,12 @@
 -- Lemmas on a seat: what a step asks of its token, from what the contract's value of the seat has.
-use Rattle.std.proofs.Common.{◌≡◌, ◌≢◌, ◌+◌, ◌-◌, ◌<◌, ◌≤◌, ℕ, eqb, List, [], ◌∷◌, length, refl, sym, ap, ap₂, subst, ◌∙◌, arith, eq-eqb, ne_eqb}
+use Rattle.std.proofs.Common.{◌≡◌, ◌≢◌, ◌+◌, ◌-◌, ◌<◌, ◌≤◌, ℕ, eqb, List, [], ◌∷◌, length, refl, sym, ap, ap₂, subst, ◌∙◌, arith, eq-eqb, ne_eqb, ◌++◌, length-append}
 use Rattle.std.proofs.lemmas.Bool.{cond-true, cond-false}
 use Rattle.atomic_table.specs.Seated.{TableId}
 use Rattle.atomic_table.specs.Table.{Step, Me, Allows}
 use Rattle.lrup_model.specs.Formula.{Cnf}
 use Rattle.lrup_model.specs.Layout.{LayoutValue, row_words}
 use Rattle.lrup_model.specs.Event as events
-use Rattle.lrup_model.specs.Event.{Event, History, size_of, spent}
+use Rattle.lrup_model.specs.Event.{Event, History, stream_of, size_of, spent}
 use Rattle.lrup_model.specs.Place.{Caller}
 use Rattle.lrup_model.specs.Pass.{IsFair, PassMoves}
 use Rattle.lrup_model.specs.Running.{spent-append}
@@ -15,8 +15,9 @@ use Rattle.lrup_model.specs.declared.clause_map.Published.{Published}
 use Rattle.lrup_model.specs.declared.clause_map.Published.TheVariants as publishing
 use Rattle.idwords.specs.Words.{words_for}
 use Rattle.idwords.specs.Spelling.{first_place, words_taken, words_spent}
+use Rattle.lrup_model.specs.Clause.{Clause}
 use Rattle.idwords.specs.Rule.{Part, part_stream, IsKept}
-use Rattle.idwords.specs.Steps.{Changes, Claims, published_at}
+use Rattle.idwords.specs.Steps.{Calls, Changes, Claims, published_at}
 use Rattle.idwords.specs.Seats.{SeatValue, first_part, seat_value, part_of, IsSeated}
 use Rattle.idwords.proofs.SpellingLemmas.{words_spent-append, words_spent_one, words_within}
 use Rattle.idwords.proofs.StepLemmas.{OwnStep, allows}
@@ -88,6 +89,32 @@ module _ {S : Type 0} where
         top_kept = omega (arith, seated.top_kept);
         room_kept = omega (arith, seated.room_kept);
         within = seated.within;
+      })
+
+  -- after a call that takes nothing of the stream's room
+  pub seated_call : (table table' : TableId) (me me' : Me S (List Part)) (top drafted room : ℕ) (w : Part) (e : Event) → IsSeated table me top drafted room → table' ≡ table
+      → me'.0 ≡ w ∷ [] → me'.1 ≡ me.1 → Calls (first_part me.0).view w.view e → stream_of e ≡ part_stream (first_part me.0) → size_of e ≡ 0
+      → w.top ≡ (first_part me.0).top → w.draft ≡ (first_part me.0).draft → IsSeated table' me' top drafted room
+  seated_call table table' me me' top drafted room w e seated same one slots calls own nothing top_stays draft_stays =
+      seated_on table table' me me' top drafted room w (e ∷ []) seated same one (slots ∙ ap (λ (m : Me S (List Part)). m.1) seated.one) calls.moves calls.fair
+      (spent_one (part_stream (first_part me.0)) e own ∙ nothing) top_stays draft_stays
+
+  -- after a store that added literals to the draft
+  pub seated_write : (table table' : TableId) (me me' : Me S (List Part)) (top drafted room more : ℕ) (c : Clause) (w : Part) → IsSeated table me top drafted room → table' ≡ table
+      → me'.0 ≡ w ∷ [] → me'.1 ≡ me.1 → w ≡ record (first_part me.0) { draft = (first_part me.0).draft ++ c } → more ≡ length c → drafted + more ≤ room
+      → IsSeated table' me' top (drafted + more) room
+  seated_write table table' me me' top drafted room more c w seated same one slots grown count fits =
+      let v : Part = first_part me.0 in
+      let u : Part = record v { draft = v.draft ++ c } in
+      seat_of table' me' u top (drafted + more) room (one ∙ ap (λ (x : Part). x ∷ []) grown) (slots ∙ ap (λ (m : Me S (List Part)). m.1) seated.one) (record {
+        one = refl;
+        fair = seated.fair;
+        words = ap (λ (t : TableId). t.words) same ∙ seated.words;
+        top_is = seated.top_is;
+        draft_is = omega (arith, seated.draft_is, length-append v.draft c);
+        top_kept = seated.top_kept;
+        room_kept = seated.room_kept;
+        within = fits;
       })
 
   -- after a publish that found a word

@@ -1,6 +1,7 @@
 -- Lemmas on words: the parts of an identity's word, and literals that lie in the row.
-use Rattle.std.proofs.Common.{◌≡◌, ◌≢◌, ℕ, ◌+◌, ◌*◌, ◌/◌, ◌%◌, ◌^◌, bit_and, ◌<◌, ◌≤◌, ◌⊎◌, ℤ, pos, negsuc, zero, suc, eqb, List, [], ◌∷◌, ◌++◌, length, slice_index, slice_set, slice_get, Option, None, Some, refl, ap, ap₂, ◌∙◌, inl, inr, arith, get_or-set_other, eq-eqb, ne_eqb}
+use Rattle.std.proofs.Common.{◌≡◌, ◌≢◌, ℕ, ◌+◌, ◌*◌, ◌/◌, ◌%◌, ◌^◌, bit_and, ◌<◌, ◌≤◌, ◌⊎◌, true, false, ℤ, pos, negsuc, zero, suc, eqb, List, [], ◌∷◌, ◌++◌, length, slice_index, slice_set, slice_get, Option, None, Some, refl, ap, ap₂, ◌∙◌, inl, inr, arith, get_or-set_other, eq-eqb, ne_eqb}
 use Rattle.std.specs.Prelude.{IfSome}
+use Rattle.std.specs.Option.{is_some}
 use Rattle.std.specs.List.{AllByRecursion}
 use Rattle.std.proofs.lemmas.Bool.{cond-true, cond-false}
 use Rattle.std.proofs.lemmas.Nat.{and_mask}
@@ -65,6 +66,14 @@ length-packed (l ∷ m ∷ c) = let rest = length-packed c in omega arith
 pub some_literals : (l : ℤ) (m : Option ℤ) → 0 < length (pair_of l m)
 some_literals l None = omega arith
 some_literals l (Some m) = omega arith
+
+pub two_literals : (l : ℤ) (m : Option ℤ) → is_some m ≡ true → length (pair_of l m) ≡ 2
+two_literals l None both = cc
+two_literals l (Some m) both = refl
+
+pub one_literal : (l : ℤ) (m : Option ℤ) → is_some m ≡ false → length (pair_of l m) ≡ 1
+one_literal l None alone = refl
+one_literal l (Some m) alone = cc
 
 -- the words of an even count of literals, and then those of one or two more
 pub packed-pair : (d : Clause) (l : ℤ) (m : Option ℤ) → length d % 2 ≡ 0 → packed (d ++ pair_of l m) ≡ packed d ++ literal_word l m ∷ []

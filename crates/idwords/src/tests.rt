@@ -1,5 +1,5 @@
 //! The row word by word, two streams in turn, and two threads at once.
-ghost use Rattle.std.specs.Prelude.{◌≡◌, ◌∷◌, [], pos, negsuc, IfOk, IfSome};
+ghost use Rattle.std.specs.Prelude.{◌≡◌, [], IfOk};
 ghost use Rattle.lrup_model.specs.History.{IsPublishable};
 ghost use Rattle.lrup_model.specs.Layout.{Fits};
 ghost use Rattle.lrup_model.specs.Literal.{IsLiteral, max_variable};

@@ -1,4 +1,4 @@
-use Rattle.std.proofs.Common.{arith, ◌≡◌, ◌+◌, ◌*◌, ◌∙◌, ℕ, ap, subst, sym, Some, slice_get}
+use Rattle.std.proofs.Common.{arith, ◌≡◌, ◌+◌, ◌*◌, ◌∙◌, ap, subst, sym, Some, slice_get}
 use Rattle.std.proofs.lemmas.Option.{slice_get_past}
 use Rattle.lrup_model.specs.Pass.{pass_place}
 use Rattle.lrup_model.specs.Place.{text_of}

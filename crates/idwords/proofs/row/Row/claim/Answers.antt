@@ -1,4 +1,4 @@
-use Rattle.std.proofs.Common.{◌≡◌, ◌+◌, ◌≤◌, ℕ, eqb, length, sym, ap, ap₂, subst, ◌∙◌, arith}
+use Rattle.std.proofs.Common.{rules, ◌≡◌, ◌+◌, ◌≤◌, ℕ, eqb, length, sym, ap, ap₂, subst, ◌∙◌, arith}
 use prog.Atomic.{either}
 use mathlib.Core.Option.{none}
 use Rattle.atomic_table.specs.Table.{step}
@@ -48,3 +48,36 @@ invariant_of-seat-else-found-eq0 c =
     let one = step {S = ℕ} shared.table_id.slots c.args.id 0 c.live_word-word.result none in
     (seated_claim token.table_id new.table_id token.me new.me c.seat.inside.top c.seat.inside.drafted c.seat.inside.room c.compare_exchange-found.result c.args.id one
     c.seat.invariant c.compare_exchange-found.ensures.0 c.compare_exchange-found.ensures.2).1 c.if-found-eq0.false
+
+pub invariant_of-seat : goal.invariant_of-seat
+invariant_of-seat c =
+    let token = c.seat.inside.token in
+    let new = c.compare_exchange-found.new.seat in
+    let shared = c.self.inside.table.shared in
+    let one = step {S = ℕ} shared.table_id.slots c.args.id 0 c.live_word-word.result none in
+    (seated_claim token.table_id new.table_id token.me new.me c.seat.inside.top c.seat.inside.drafted c.seat.inside.room c.compare_exchange-found.result c.args.id one
+    c.seat.invariant c.compare_exchange-found.ensures.0 c.compare_exchange-found.ensures.2).0 c.if-found-eq0.true
+
+pub returns-then-found-eq0-clause-calls : goal.returns-then-found-eq0-clause-calls
+returns-then-found-eq0-clause-calls c = search rules
+
+pub returns-then-found-eq0-clause-done : goal.returns-then-found-eq0-clause-done
+returns-then-found-eq0-clause-done c = search rules
+
+pub returns-then-found-eq0-clause-top : goal.returns-then-found-eq0-clause-top
+returns-then-found-eq0-clause-top c = search rules
+
+pub returns-then-found-eq0-clause-draft : goal.returns-then-found-eq0-clause-draft
+returns-then-found-eq0-clause-draft c = search rules
+
+pub returns-else-found-eq0-clause-calls : goal.returns-else-found-eq0-clause-calls
+returns-else-found-eq0-clause-calls c = search rules
+
+pub returns-else-found-eq0-clause-done : goal.returns-else-found-eq0-clause-done
+returns-else-found-eq0-clause-done c = search rules
+
+pub returns-else-found-eq0-clause-top : goal.returns-else-found-eq0-clause-top
+returns-else-found-eq0-clause-top c = search rules
+
+pub returns-else-found-eq0-clause-draft : goal.returns-else-found-eq0-clause-draft
+returns-else-found-eq0-clause-draft c = search rules

@@ -1,11 +1,12 @@
-use Rattle.std.proofs.Common.{ℕ, sym, ◌∙◌, arith}
+use Rattle.std.proofs.Common.{rules, ℕ, List, refl, sym, ap, ◌∙◌, arith}
 use mathlib.Core.Option.{none}
-use Rattle.atomic_table.specs.Table.{step}
-use Rattle.idwords.specs.Seats.{part_of}
+use Rattle.atomic_table.specs.Table.{step, Me}
+use Rattle.idwords.specs.Rule.{Part}
+use Rattle.idwords.specs.Seats.{first_part, part_of}
 use Rattle.idwords.specs.Steps.{Changes, Looks}
 use Rattle.idwords.proofs.StepLemmas.{changes}
 use Rattle.idwords.proofs.LookLemmas.{looks}
-use Rattle.idwords.proofs.SeatLemmas.{asks}
+use Rattle.idwords.proofs.SeatLemmas.{asks, seated_call}
 use Rattle.idwords.proofs.row.Row.look.Goals as goal
 
 pub load-requires : goal.load-requires
@@ -17,3 +18,17 @@ load-requires c =
     token.table_id shared.table_id token.me c.args.seat.now c.seat.inside.top c.seat.inside.drafted c.seat.inside.room
     c.seat.invariant c.seat.view_is (c.requires.row ∙ sym c.self.view_is) (omega arith)
     (looks (part_of c.args.seat.now) token.id c.args.id c.requires.identity) (changes Looks one)
+
+pub invariant_of-seat : goal.invariant_of-seat
+invariant_of-seat c =
+    let token = c.seat.inside.token in
+    let new = c.load.new.seat in
+    let told = c.load.ensures.2 (first_part token.me.0) (ap (λ (m : Me ℕ (List Part)). m.0) c.seat.invariant.one) in
+    seated_call token.table_id new.table_id token.me new.me c.seat.inside.top c.seat.inside.drafted c.seat.inside.room told.0 _ c.seat.invariant
+    c.load.ensures.0 told.1 told.2 told.3.calls refl refl told.3.top told.3.draft
+
+pub returns-clause-shows : goal.returns-clause-shows
+returns-clause-shows c = search rules
+
+pub returns-clause-calls : goal.returns-clause-calls
+returns-clause-calls c = search rules

@@ -1,11 +1,11 @@
-use Rattle.std.proofs.Common.{◌≡◌, ℕ, ◌++◌, List, [], ◌∷◌, sym, ap, ap₂, subst, ◌∙◌, arith}
+use Rattle.std.proofs.Common.{◌≡◌, ℕ, ◌++◌, List, [], ◌∷◌, refl, sym, ap, ap₂, subst, ◌∙◌, arith}
 use mathlib.Core.Option.{none}
 use Rattle.atomic_table.specs.Table.{step, Me, Allows}
 use Rattle.idwords.specs.Rule.{Part, IsKept}
 use Rattle.idwords.specs.Seats.{SeatValue, first_part}
-use Rattle.idwords.specs.Steps.{Joined}
-use Rattle.idwords.proofs.MeetLemmas.{splits_hand, splits_part, joins, meets, joined}
-use Rattle.idwords.proofs.SeatLemmas.{words_of}
+use Rattle.idwords.specs.Steps.{Joined, Met}
+use Rattle.idwords.proofs.MeetLemmas.{splits_hand, splits_part, joins, meets, joined, parted}
+use Rattle.idwords.proofs.SeatLemmas.{words_of, seated_on}
 use Rattle.idwords.proofs.row.Row.meet.Goals as goal
 
 pub split_seat-token-requires : goal.split_seat-token-requires
@@ -61,3 +61,53 @@ split_seat-requires c =
       omega (arith, words_of token.table_id shared.table_id token.me c.first.inside.top c.first.inside.drafted c.first.inside.room c.first.invariant table),
       splits_part shared.key.formula.value shared.key.layout new.id new.me.0,
     )
+
+-- what the load told, once each part has its seat again
+now : (c : goal.After-drop-second-inside)
+    → Met (first_part c.first.inside.token.me.0) (first_part c.second.inside.token.me.0) (first_part c.split_seat.new.seat.me.0) (first_part c.split_seat.result.me.0)
+    × (c.split_seat.new.seat.me ≡ (first_part c.split_seat.new.seat.me.0 ∷ [], []))
+    × (c.split_seat.result.me ≡ (first_part c.split_seat.result.me.0 ∷ [], []))
+now c =
+    let v : Part = first_part c.first.inside.token.me.0 in
+    let v' : Part = first_part c.second.inside.token.me.0 in
+    let other : c.split_seat-token.result.me.0 ≡ v' ∷ [] = ap (λ (m : Me ℕ (List Part)). m.0) c.split_seat-token.ensures.4 ∙ ap (λ (m : Me ℕ (List Part)). m.0) c.second.invariant.one in
+    let both : c.join_seat.new.seat.me ≡ (v ∷ v' ∷ [], []) = c.join_seat.ensures.2
+    ∙ ap₂ (λ (m : Me ℕ (List Part)) (ws : List Part). (m.0 ++ ws, m.1)) c.first.invariant.one other in
+    parted (step {S = ℕ} c.self.inside.table.shared.table_id.slots 0 0 0 none) c.join_seat.new.seat.me c.load.new.seat.me c.split_seat.new.seat.me c.split_seat.result.me v v' c.load.result
+    both c.load.ensures.2 c.split_seat.ensures.2 c.split_seat.ensures.4
+
+pub invariant_of-first : goal.invariant_of-first
+invariant_of-first c =
+    let token = c.first.inside.token in
+    let left = c.split_seat.new.seat in
+    let told = now c in
+    seated_on token.table_id left.table_id token.me left.me c.first.inside.top c.first.inside.drafted c.first.inside.room (first_part left.me.0) [] c.first.invariant
+    (c.split_seat.ensures.0 ∙ c.load.ensures.0 ∙ c.join_seat.ensures.0) (ap (λ (m : Me ℕ (List Part)). m.0) told.1) (ap (λ (m : Me ℕ (List Part)). m.1) told.1)
+    told.0.meets.first told.0.meets.fair refl told.0.top told.0.draft
+
+pub invariant_of-second : goal.invariant_of-second
+invariant_of-second c =
+    let token = c.second.inside.token in
+    let right = c.split_seat.result in
+    let told = now c in
+    let first : c.first.inside.token.table_id ≡ c.self.inside.table.shared.table_id = ap (λ (s : SeatValue). s.table) c.first.view_is ∙ c.requires.first ∙ sym c.self.view_is in
+    let second : token.table_id ≡ c.self.inside.table.shared.table_id = ap (λ (s : SeatValue). s.table) c.second.view_is ∙ c.requires.second ∙ sym c.self.view_is in
+    seated_on token.table_id right.table_id token.me right.me c.second.inside.top c.second.inside.drafted c.second.inside.room (first_part right.me.0) [] c.second.invariant
+    (c.split_seat.ensures.3 ∙ c.load.ensures.0 ∙ c.join_seat.ensures.0 ∙ first ∙ sym second) (ap (λ (m : Me ℕ (List Part)). m.0) told.2) (ap (λ (m : Me ℕ (List Part)). m.1) told.2)
+    told.0.meets.second told.0.meets.fair' refl told.0.top' told.0.draft'
+
+pub returns-clause-within : goal.returns-clause-within
+returns-clause-within c = (now c).0.within
+
+pub returns-clause-within_too : goal.returns-clause-within_too
+returns-clause-within_too c = (now c).0.within'
+
+pub returns-clause-tops : goal.returns-clause-tops
+returns-clause-tops c =
+    let told = (now c).0 in
+    (told.top ∙ ap (λ (s : SeatValue). s.top) c.first.view_is, told.top' ∙ ap (λ (s : SeatValue). s.top) c.second.view_is)
+
+pub returns-clause-drafts : goal.returns-clause-drafts
+returns-clause-drafts c =
+    let told = (now c).0 in
+    (told.draft ∙ ap (λ (s : SeatValue). s.draft) c.first.view_is, told.draft' ∙ ap (λ (s : SeatValue). s.draft) c.second.view_is)

@@ -1,4 +1,4 @@
-use Rattle.std.proofs.Common.{◌≡◌, ℕ, ◌+◌, eqb, List, [], ◌∷◌, sym, ap, ap₂, subst, ◌∙◌, arith}
+use Rattle.std.proofs.Common.{rules, ◌≡◌, ℕ, ◌+◌, eqb, List, [], ◌∷◌, refl, sym, ap, ap₂, subst, ◌∙◌, arith}
 use prog.Atomic.{either}
 use mathlib.Core.Option.{none}
 use Rattle.atomic_table.specs.Table.{step, Me}
@@ -11,7 +11,7 @@ use Rattle.idwords.specs.Seats.{SeatValue, first_part, part_of}
 use Rattle.idwords.specs.Steps.{Changes, Finds, Retires}
 use Rattle.idwords.proofs.StepLemmas.{changes}
 use Rattle.idwords.proofs.RetireLemmas.{finds, retires}
-use Rattle.idwords.proofs.SeatLemmas.{asks, asks_part, words_of}
+use Rattle.idwords.proofs.SeatLemmas.{asks, asks_part, words_of, seated_call}
 use Rattle.idwords.proofs.row.Row.withdraw.Goals as goal
 
 pub load-found-requires : goal.load-found-requires
@@ -48,3 +48,41 @@ compare_exchange-requires c =
     asks_part shared.key.formula.value shared.key.layout shared.table_id.slots new.id c.args.id (λ n. either (eqb n found) (found + 1) n) (λ u n w. Retires c.args.id u w)
     (Changes (λ id u _ w. Retires id u w) one) new.table_id shared.table_id new.me v me (c.load-found.ensures.0 ∙ table) (omega (arith, who.identity))
     (retires v new.id c.args.id found owns told.3.own live) (changes (λ id u _ w. Retires id u w) one)
+
+pub invariant_of-seat : goal.invariant_of-seat
+invariant_of-seat c =
+    let token = c.seat.inside.token in
+    let new = c.load-found.new.seat in
+    let told = c.load-found.ensures.2 (first_part token.me.0) (ap (λ (m : Me ℕ (List Part)). m.0) c.seat.invariant.one) in
+    let none = told.3.none (λ live. c.if-state-ne-LIVE.true (c.state.ensures ∙ live)) in
+    seated_call token.table_id new.table_id token.me new.me c.seat.inside.top c.seat.inside.drafted c.seat.inside.room told.0 _ c.seat.invariant
+    c.load-found.ensures.0 told.1 told.2 none.calls refl refl none.top none.draft
+
+pub invariant_of-seat-2 : goal.invariant_of-seat-2
+invariant_of-seat-2 c =
+    let token = c.seat.inside.token in
+    let new = c.compare_exchange.new.seat in
+    let v : Part = first_part token.me.0 in
+    let told = c.load-found.ensures.2 v (ap (λ (m : Me ℕ (List Part)). m.0) c.seat.invariant.one) in
+    let stays : told.0 ≡ v = told.3.live (sym c.state.ensures ∙ c.if-state-ne-LIVE.false) in
+    let done = c.compare_exchange.ensures.2 v (told.1 ∙ ap (λ (u : Part). u ∷ []) stays) in
+    seated_call token.table_id new.table_id token.me new.me c.seat.inside.top c.seat.inside.drafted c.seat.inside.room done.0 _ c.seat.invariant
+    (c.compare_exchange.ensures.0 ∙ c.load-found.ensures.0) done.1 (done.2 ∙ told.2) done.3.calls refl refl done.3.top done.3.draft
+
+pub returns-then-state-ne-LIVE-clause-calls : goal.returns-then-state-ne-LIVE-clause-calls
+returns-then-state-ne-LIVE-clause-calls c = search rules
+
+pub returns-then-state-ne-LIVE-clause-done : goal.returns-then-state-ne-LIVE-clause-done
+returns-then-state-ne-LIVE-clause-done c = search rules
+
+pub returns-clause-calls : goal.returns-clause-calls
+returns-clause-calls c = search rules
+
+pub returns-clause-done : goal.returns-clause-done
+returns-clause-done c = search rules
+
+pub returns-clause-top : goal.returns-clause-top
+returns-clause-top c = search rules
+
+pub returns-clause-draft : goal.returns-clause-draft
+returns-clause-draft c = search rules

@@ -1,6 +1,6 @@
-use Rattle.std.proofs.Common.{◌≡◌, ℕ, ◌+◌, ◌/◌, ◌≤◌, length, sym, ap, ap₂, ◌∙◌, arith, length-append}
+use Rattle.std.proofs.Common.{rules, ◌≡◌, List, ℕ, ◌+◌, ◌/◌, ◌≤◌, length, sym, ap, ap₂, ◌∙◌, arith, length-append}
 use mathlib.Core.Option.{none}
-use Rattle.atomic_table.specs.Table.{step}
+use Rattle.atomic_table.specs.Table.{step, Me}
 use Rattle.lrup_model.specs.Layout.{row_words}
 use Rattle.lrup_model.specs.Event.{spent}
 use Rattle.idwords.specs.Words.{pair_of}
@@ -8,10 +8,11 @@ use Rattle.idwords.specs.Rule.{Part, part_stream}
 use Rattle.idwords.specs.Seats.{first_part, part_of}
 use Rattle.idwords.specs.Steps.{Stores, Writes}
 use Rattle.idwords.proofs.StepLemmas.{stores}
-use Rattle.idwords.proofs.WordLemmas.{some_literals}
+use Rattle.idwords.proofs.WordLemmas.{some_literals, two_literals, one_literal}
 use Rattle.idwords.proofs.PlaceLemmas.{top_within, written_at}
-use Rattle.idwords.proofs.SeatLemmas.{asks}
+use Rattle.idwords.proofs.SeatLemmas.{asks, seated_write}
 use Rattle.idwords.proofs.row.Row.write.Goals as goal
+use Rattle.idwords.proofs.row.Row.write.Goals.{then-is_some, else-is_some}
 
 pub overflow_add-place : goal.overflow_add-place
 overflow_add-place c =
@@ -48,3 +49,23 @@ store-requires c =
     (written_at v token.id c.args.first c.args.second place word c.requires.even (omega (arith, c.requires.room)) c.pair_word-word.ensures.first c.pair_word-word.ensures.second at
     (sym c.pair_word-word.ensures.word))
     (λ v n w told. stores one v word w told)
+
+pub invariant_of-seat : goal.invariant_of-seat
+invariant_of-seat c =
+    let token = c.seat.inside.token in
+    let new = c.store.new.seat in
+    let v : Part = first_part token.me.0 in
+    let pair = pair_of c.args.first c.args.second in
+    let told = c.store.ensures.2 v (ap (λ (m : Me ℕ (List Part)). m.0) c.seat.invariant.one) in
+    let grown = told.3 c.args.first c.args.second c.pair_word-word.ensures.first c.pair_word-word.ensures.second c.pair_word-word.ensures.word in
+    let count : c.if-is_some.seat ≡ length pair = elim c.if-is_some.branch [
+      | then-is_some w ↦ w.seat-is ∙ sym (two_literals c.args.first c.args.second (sym c.is_some.ensures ∙ w.if-is_some.true))
+      | else-is_some w ↦ w.seat-is ∙ sym (one_literal c.args.first c.args.second (sym c.is_some.ensures ∙ w.if-is_some.false))
+    ] in
+    let here : v ≡ part_of c.args.seat.now = ap part_of c.seat.view_is in
+    seated_write token.table_id new.table_id token.me new.me c.seat.inside.top c.seat.inside.drafted c.seat.inside.room c.if-is_some.seat pair told.0 c.seat.invariant
+    c.store.ensures.0 told.1 told.2 grown count
+    (omega (arith, c.requires.room, c.seat.invariant.draft_is, c.seat.invariant.room_kept, ap (λ (u : Part). length u.draft) here, ap (λ (u : Part). spent (part_stream u) u.view.mine) here, ap (λ (u : Part). u.view.caller.layout.room) here))
+
+pub returns : goal.returns
+returns c = search rules
