@@ -101,6 +101,14 @@ none_left (x ∷ xs) none = absurd (omega arith)
 pub iter_end : {A Z : Type 0} (s t : IntoIter A Z) → into_iter_steps s None t → into_iter_items s ≡ []
 iter_end s t steps = none_left s.rest.items (sym s.rest.ok.0 ∙ steps.0)
 
+-- one more was taken of a list
+pub whole_more : {A : Type 0} (yielded before rest all : List A) (x : A) → before ≡ x ∷ rest → yielded ++ before ≡ all → (yielded ++ x ∷ []) ++ rest ≡ all
+whole_more yielded before rest all x taken whole = append_assoc yielded (x ∷ []) rest ∙ ap (λ xs. yielded ++ xs) (sym taken) ∙ whole
+
+-- all of it was taken
+pub whole_end : {A Z : Type 0} (yielded all : List A) (s t : IntoIter A Z) → into_iter_steps s None t → yielded ++ into_iter_items s ≡ all → yielded ≡ all
+whole_end yielded all s t steps whole = sym (append-nil yielded) ∙ ap (λ xs. yielded ++ xs) (sym (iter_end s t steps)) ∙ whole
+
 -- Threads for a list of workers, one after the other: those of these workers and passes were started, and the rest is left.
 pub record Starting (store : StoreValue) (ws : List WorkerValue) (ps : List PassValue) (us : List WorkerValue) (qs : List PassValue) (more : List WorkerValue) (others : List PassValue) : Type 0 where
   pub workers : us ++ more ≡ ws

@@ -1,5 +1,6 @@
 -- A run on one thread: before the first turn, after one more, and when all streams are over.
 use Rattle.std.proofs.Common.{◌≡◌, ◌≢◌, IsSome, IfSome, ℕ, zero, suc, ◌+◌, ◌-◌, ◌<◌, ◌≤◌, Bool, true, false, cond, eqb, List, [], ◌∷◌, ◌++◌, length, get_or, set, take, replicate, map, Option, Some, None, refl, sym, ap, ap₂, subst, ◌∙◌, inl, inr, arith, length-set, eq-eqb, ne_eqb}
+use borrow.Author.Count.{below_more}
 use Rattle.std.specs.Prelude.{◌||◌, ◌↔◌, IsTrue}
 use Rattle.std.specs.List.{AllByRecursion, list_any, sum_by}
 use Rattle.std.proofs.lemmas.Bool.{cases_Bool, cases_eq, cases_lt, cond-true, cond-false}
@@ -245,6 +246,16 @@ goes_twice a b c us vs ws front back f p tries entries runs = back f p tries ent
 -- so some run stands
 pub running_on : (a b : Plain) (us vs : List WorkerValue) → IsRunning a us → GoesOn a us b vs → IsRunning b vs
 running_on a b us vs running on = (running.0, running.1, running.2, running.3, on running.0 running.1 running.2 running.3 running.4)
+
+-- one more stream was over, where all were
+pub over_more : (i : ℕ) (going turned : Bool) (first old new : List WorkerValue) → (going || turned) ≡ false
+    → (going ≡ false → (old ≡ first) × ((k : ℕ) → k < i → IsOverAt old k)) → (turned ≡ false → IsOverAt old i × (new ≡ old))
+    → (new ≡ first) × ((k : ℕ) → k < i + 1 → IsOverAt new k)
+over_more i true turned first old new none before here = absurd (cc)
+over_more i false turned first old new none before here =
+    let over = before refl in
+    let last = here none in
+    (last.1 ∙ over.0, λ k below. subst (λ (ws : List WorkerValue). IsOverAt ws k) (sym last.1) (below_more (IsOverAt old) i over.1 last.0 k below))
 
 -- each worker is over
 pub over_each : (ws : List WorkerValue) → ((k : ℕ) → k < length ws → IsOverAt ws k) → AreOver ws
