@@ -1,5 +1,5 @@
 -- A worker's thread, from its first turn to what its join gives back.
-use Rattle.std.proofs.Common.{◌≡◌, ◌++◌, ◌⊎◌, inl, inr, ℕ, List, [], ◌∷◌, Option, Some, None, IfSome, IsSome, refl, sym, ap, subst, ◌∙◌, length, map, arith, append_assoc, append-nil}
+use Rattle.std.proofs.Common.{◌≡◌, ◌++◌, ◌⊎◌, inl, inr, ℕ, List, [], ◌∷◌, Option, Some, None, IfSome, IsSome, refl, sym, ap, ap₂, subst, ◌∙◌, length, map, arith, append_assoc, append-nil}
 use Rattle.std.proofs.lemmas.Grind.{flat_map-append}
 use Rattle.std.proofs.lemmas.List.{map-append}
 use Rattle.std.specs.declared.vec.IntoIter.{IntoIter}
@@ -82,6 +82,15 @@ goes_over w p v found so over says left failed = record {
       );
 }
 
+-- Lists to which one element more was pushed
+
+pushed_map : {A B : Type 0} (f : A → B) (xs zs : List A) (x : A) (y : B) → zs ≡ xs ++ x ∷ [] → f x ≡ y → map f zs ≡ map f xs ++ y ∷ []
+pushed_map f xs zs x y pushed is = ap (map f) pushed ∙ map-append f xs (x ∷ []) ∙ ap (λ v. map f xs ++ v ∷ []) is
+
+pub pushed_more : {A B : Type 0} (f : B → A) (xs zs : List A) (ys : List B) (x : A) (y : B)
+    → zs ≡ xs ++ x ∷ [] → xs ≡ map f ys → x ≡ f y → zs ≡ map f (ys ++ y ∷ [])
+pushed_more {A} {B} f xs zs ys x y pushed before here = pushed ∙ ap₂ (λ (l : List A) (a : A). l ++ a ∷ []) before here ∙ sym (map-append f ys (y ∷ []))
+
 -- Threads that are started one after the other
 
 none_left : {A : Type 0} (xs : List A) → length xs ≡ 0 → xs ≡ []
@@ -91,6 +100,14 @@ none_left (x ∷ xs) none = absurd (omega arith)
 -- an iterator over a list's values that gives no more has none left
 pub iter_end : {A Z : Type 0} (s t : IntoIter A Z) → into_iter_steps s None t → into_iter_items s ≡ []
 iter_end s t steps = none_left s.rest.items (sym s.rest.ok.0 ∙ steps.0)
+
+-- one more was taken of a list
+pub whole_more : {A : Type 0} (yielded before rest all : List A) (x : A) → before ≡ x ∷ rest → yielded ++ before ≡ all → (yielded ++ x ∷ []) ++ rest ≡ all
+whole_more yielded before rest all x taken whole = append_assoc yielded (x ∷ []) rest ∙ ap (λ xs. yielded ++ xs) (sym taken) ∙ whole
+
+-- all of it was taken
+pub whole_end : {A Z : Type 0} (yielded all : List A) (s t : IntoIter A Z) → into_iter_steps s None t → yielded ++ into_iter_items s ≡ all → yielded ≡ all
+whole_end yielded all s t steps whole = sym (append-nil yielded) ∙ ap (λ xs. yielded ++ xs) (sym (iter_end s t steps)) ∙ whole
 
 -- Threads for a list of workers, one after the other: those of these workers and passes were started, and the rest is left.
 pub record Starting (store : StoreValue) (ws : List WorkerValue) (ps : List PassValue) (us : List WorkerValue) (qs : List PassValue) (more : List WorkerValue) (others : List PassValue) : Type 0 where
@@ -117,6 +134,19 @@ starting_more store ws ps us qs left more left' others w p so first second = rec
   passes = append_assoc qs (p ∷ []) others ∙ ap (λ xs. qs ++ xs) (sym second) ∙ so.passes;
   begin = (starts_next store w p left more left' others so.begin first second).1;
 }
+
+-- so it is with the handles of the threads
+pub starting_pushed : {H : Type 0} (worker : H → WorkerValue) (pass : H → PassValue) (hs new : List H) (h : H)
+    (store : StoreValue) (ws : List WorkerValue) (ps : List PassValue) (left more : List WorkerValue) (left' others : List PassValue) (w : WorkerValue) (p : PassValue)
+    → new ≡ hs ++ h ∷ [] → worker h ≡ w → pass h ≡ p
+    → Starting store ws ps (map worker hs) (map pass hs) left left' → left ≡ w ∷ more → left' ≡ p ∷ others
+    → Starting store ws ps (map worker new) (map pass new) more others
+starting_pushed worker pass hs new h store ws ps left more left' others w p pushed is_worker is_pass so first second =
+    let us = pushed_map worker hs new h w pushed is_worker in
+    let qs = pushed_map pass hs new h p pushed is_pass in
+    subst (λ (us : List WorkerValue). Starting store ws ps us (map pass new) more others) (sym us)
+    (subst (λ (qs : List PassValue). Starting store ws ps (map worker hs ++ w ∷ []) qs more others) (sym qs)
+    (starting_more store ws ps (map worker hs) (map pass hs) left more left' others w p so first second))
 
 -- where one list is at its end, so is the other
 pub starting_end : (store : StoreValue) (ws : List WorkerValue) (ps : List PassValue) (us : List WorkerValue) (qs : List PassValue)

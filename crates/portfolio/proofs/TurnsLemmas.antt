@@ -1,9 +1,10 @@
 -- A run on one thread: before the first turn, after one more, and when all streams are over.
 use Rattle.std.proofs.Common.{◌≡◌, ◌≢◌, IsSome, IfSome, ℕ, zero, suc, ◌+◌, ◌-◌, ◌<◌, ◌≤◌, Bool, true, false, cond, eqb, List, [], ◌∷◌, ◌++◌, length, get_or, set, take, replicate, map, Option, Some, None, refl, sym, ap, ap₂, subst, ◌∙◌, inl, inr, arith, length-set, eq-eqb, ne_eqb}
-use Rattle.std.specs.Prelude.{◌||◌, IsTrue}
+use borrow.Author.Count.{below_more}
+use Rattle.std.specs.Prelude.{◌||◌, ◌↔◌, IsTrue}
 use Rattle.std.specs.List.{AllByRecursion, list_any, sum_by}
 use Rattle.std.proofs.lemmas.Bool.{cases_Bool, cases_eq, cases_lt, cond-true, cond-false}
-use Rattle.std.proofs.lemmas.List.{append-nil, append_assoc, map-append, get_or-replicate, take-append-le, take_all}
+use Rattle.std.proofs.lemmas.List.{append-nil, append_assoc, map-append, get_or_default, get_or-replicate, take-append-le, take_all}
 use Rattle.std.proofs.lemmas.Grind.{flat_map-append}
 use Rattle.lrup_model.specs.Entailment.{IsUnsatisfiable}
 use Rattle.lrup_model.specs.Formula.{Cnf}
@@ -22,6 +23,7 @@ use Rattle.stream_check.specs.Judging.{joined}
 use Rattle.stream_check.specs.Checker.{IsReadyAt, report_at}
 use Rattle.stream_check.specs.Laws.{ReadyBeside}
 use Rattle.portfolio.proofs.EmptyLemmas.{sound_in_order}
+use Rattle.portfolio.proofs.WorkingLemmas.{not_over}
 use Rattle.portfolio.specs.Outcomes.{OptionsValue, layout_of}
 use Rattle.portfolio.specs.Streams.{Stream, IsTold, AreTold, JudgesStream, Block, blocks_of, events_in, IsBlockWithin, setting_of, AreJudged, IsOrdered}
 use Rattle.portfolio.specs.Working.{WorkerValue, WorksBy, Works, WorksOn, IsStarted}
@@ -209,6 +211,12 @@ working_at p tries blocks m k (suc i) (entry ∷ entries) (x ∷ ws) d w within 
     let place : k + 1 + i ≡ k + suc i = omega arith in
     subst (λ t. IsReadyAt w.checker (plain_place m t)) place (working_at p tries blocks m (k + 1) i entries ws d w (omega (arith, within)) is working.1)
 
+-- the worker at this place isn't over
+pub going_at : (ws : List WorkerValue) (i : ℕ) (d e : WorkerValue) (over : Bool) → i < length ws
+    → (IsTrue over ↔ IsSome (get_or ws i d).checker.ending) → over ≡ false → (get_or ws i e).checker.ending ≡ None
+going_at ws i d e over within is going =
+    ap (λ (w : WorkerValue). w.checker.ending) (get_or_default ws i e d within) ∙ not_over over (get_or ws i d).checker.ending is going
+
 -- the worker of stream i + 1 of a run, whatever run it is
 pub ready_at : (m : Plain) (ws : List WorkerValue) (i : ℕ) (d : WorkerValue) → IsRunning m ws → i < length ws → IsReadyAt (get_or ws i d).checker (plain_place m (i + 1))
 ready_at m ws i d running within =
@@ -238,6 +246,16 @@ goes_twice a b c us vs ws front back f p tries entries runs = back f p tries ent
 -- so some run stands
 pub running_on : (a b : Plain) (us vs : List WorkerValue) → IsRunning a us → GoesOn a us b vs → IsRunning b vs
 running_on a b us vs running on = (running.0, running.1, running.2, running.3, on running.0 running.1 running.2 running.3 running.4)
+
+-- one more stream was over, where all were
+pub over_more : (i : ℕ) (going turned : Bool) (first old new : List WorkerValue) → (going || turned) ≡ false
+    → (going ≡ false → (old ≡ first) × ((k : ℕ) → k < i → IsOverAt old k)) → (turned ≡ false → IsOverAt old i × (new ≡ old))
+    → (new ≡ first) × ((k : ℕ) → k < i + 1 → IsOverAt new k)
+over_more i true turned first old new none before here = absurd (cc)
+over_more i false turned first old new none before here =
+    let over = before refl in
+    let last = here none in
+    (last.1 ∙ over.0, λ k below. subst (λ (ws : List WorkerValue). IsOverAt ws k) (sym last.1) (below_more (IsOverAt old) i over.1 last.0 k below))
 
 -- each worker is over
 pub over_each : (ws : List WorkerValue) → ((k : ℕ) → k < length ws → IsOverAt ws k) → AreOver ws

@@ -1,5 +1,6 @@
 -- What a worker's steps leave: a read, what the checker takes of a piece, and the end.
-use Rattle.std.proofs.Common.{◌≡◌, ℕ, ◌+◌, ◌-◌, ◌≤◌, Bool, false, List, [], ◌∷◌, ◌++◌, length, take, drop, arith, length-take, Option, None, Some, inl, inr, refl, sym, ap, subst, ◌∙◌, append_assoc, append-nil}
+use Rattle.std.proofs.Common.{◌≡◌, ℕ, ◌+◌, ◌-◌, ◌≤◌, Bool, true, false, List, [], ◌∷◌, ◌++◌, length, take, drop, arith, length-take, Option, None, Some, inl, inr, refl, sym, ap, subst, ◌∙◌, append_assoc, append-nil}
+use Rattle.std.specs.Prelude.{◌↔◌, IsSome, IsTrue}
 use Rattle.std.specs.Io.KnownBytes.{Consumes}
 use Rattle.std.proofs.KnownBytes.{Consumes-trans}
 use Rattle.std.proofs.Math.Seq.{take-add}
@@ -33,6 +34,16 @@ works_append a b c i j k front back first second entry before works =
 -- what was done so far, a read, and what the checker took
 pub works_turn : (a b c d : WorkerValue) (i j k : ℕ) (front back : List History) → WorksOn a i front b j → WorksOn b j [] c j → WorksOn c j back d k → WorksOn a i (front ++ back) d k
 works_turn a b c d i j k front back first read fed = works_append a b d i j k front back first (works_append b c d j j k [] back read fed)
+
+-- ---- going on
+
+none_of : (ending : Option Ending) → (IsSome ending → ⊥) → ending ≡ None
+none_of None none = refl
+none_of (Some ending) none = absurd (none refl)
+
+-- what isn't over has no ending
+pub not_over : (over : Bool) (ending : Option Ending) → (IsTrue over ↔ IsSome ending) → over ≡ false → ending ≡ None
+not_over over ending is going = none_of ending (λ some. let yes : over ≡ true = is.1 some in cc)
 
 -- ---- a report that is right for either end tells of neither
 

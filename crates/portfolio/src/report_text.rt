@@ -3,7 +3,7 @@ ghost use Rattle.std.specs.Prelude.{◌≡◌, ◌++◌, false, is_err};
 ghost use Rattle.std.specs.Fmt.{decimal};
 ghost use Rattle.lrup_text.specs.Writing.{PutsAll, WritesText};
 ghost use Rattle.stream_check.specs.Faults.{fault_text};
-ghost use Rattle.portfolio.specs.ReportText.{ending_text, report_text, stream_line, verdict_line};
+ghost use Rattle.portfolio.specs.ReportText.{ending_text, number_text, report_text, stream_line, verdict_line};
 
 use crate::outcome::Verdict;
 use lrup_text::{LineFault, Sink, WriteBuffer, WriteFault};
@@ -92,22 +92,33 @@ fn put_fault<W: Sink>(
         buffer.old buffer.new (fault_text fault) }
     ensures failed { W.has_failed sink.new ≡ is_err result }
 {
+    let (words, number) = fault_words(fault);
+    match number {
+        None => buffer.put(words, sink),
+        Some(number) => put_numbered(buffer, words, number, sink),
+    }
+}
+
+/// The words for a fault, and the number that follows them, where one does.
+fn fault_words(fault: Fault) -> (&'static [u8], Option<u64>)
+    ensures { fault_text fault ≡ result.0.now ++ number_text result.1 }
+{
     match fault {
-        Fault::Text(LineFault::Spelling) => buffer.put(b"spelling", sink),
-        Fault::Text(LineFault::TooLong) => buffer.put(b"too long", sink),
-        Fault::Text(LineFault::Truncated) => buffer.put(b"truncated", sink),
-        Fault::Text(LineFault::RatHint) => buffer.put(b"rat hint", sink),
-        Fault::Identity => buffer.put(b"identity", sink),
-        Fault::Literal => buffer.put(b"literal", sink),
-        Fault::Tautology => buffer.put(b"tautology", sink),
-        Fault::NoRoom => buffer.put(b"no room", sink),
-        Fault::Dropped(hint) => put_numbered(buffer, b"dropped ", hint, sink),
-        Fault::Missing(hint) => put_numbered(buffer, b"missing ", hint, sink),
-        Fault::Retired(hint) => put_numbered(buffer, b"retired ", hint, sink),
-        Fault::NotUnit(hint) => put_numbered(buffer, b"not unit ", hint, sink),
-        Fault::Excess(hint) => put_numbered(buffer, b"excess ", hint, sink),
-        Fault::NoConflict => buffer.put(b"no conflict", sink),
-        Fault::NotLive(id) => put_numbered(buffer, b"not live ", id, sink),
+        Fault::Text(LineFault::Spelling) => (b"spelling", None),
+        Fault::Text(LineFault::TooLong) => (b"too long", None),
+        Fault::Text(LineFault::Truncated) => (b"truncated", None),
+        Fault::Text(LineFault::RatHint) => (b"rat hint", None),
+        Fault::Identity => (b"identity", None),
+        Fault::Literal => (b"literal", None),
+        Fault::Tautology => (b"tautology", None),
+        Fault::NoRoom => (b"no room", None),
+        Fault::Dropped(hint) => (b"dropped ", Some(hint)),
+        Fault::Missing(hint) => (b"missing ", Some(hint)),
+        Fault::Retired(hint) => (b"retired ", Some(hint)),
+        Fault::NotUnit(hint) => (b"not unit ", Some(hint)),
+        Fault::Excess(hint) => (b"excess ", Some(hint)),
+        Fault::NoConflict => (b"no conflict", None),
+        Fault::NotLive(id) => (b"not live ", Some(id)),
     }
 }
 

@@ -1,17 +1,30 @@
 // The texts of a report, and sinks that fail; and what the runs of both modules are given.
-ghost use Rattle.std.specs.Prelude.{◌≡◌, Some, false, IfOk};
+ghost use Rattle.std.specs.Prelude.{◌≡◌, Some, false, IfOk, IsTrue};
 ghost use Rattle.std.specs.List.{AllByRecursion};
 
 use crate::{Options, RunFault, Verdict, write_report};
 use lrup_model::{Formula, Id, LayoutFault, Lit};
 use lrup_text::{LineFault, ReadFault, Sink, Source, WriteFault};
 use std::alloc::{AllocError, Global};
+use std::fmt;
 use std::process::Abort;
 use std::test::Fail;
 use stream_check::{Ending, Fault, Gate, Report};
 
 mod serial;
 mod threads;
+
+/// Stops the test where two values differ: an assertion that is proved once for all tests.
+fn same<T: PartialEq + fmt::Debug + Drop>(rt: &impl Abort, value: T, wanted: T) {
+    assert_eq!(rt; value, wanted);
+}
+
+/// Stops the test where this doesn't hold.
+fn holds(rt: &impl Abort, fact: bool)
+    ensures { IsTrue fact }
+{
+    assert!(rt; fact);
+}
 
 /// A gate that does nothing.
 #[derive(Clone, Copy)]
@@ -194,9 +207,9 @@ fn writes_text(
     for (most, writes) in [(usize::MAX, 1), (1, text.len())] {
         let mut paper = Paper::new(alloc, most, 0);
         write_report(reports, verdict, &mut paper)?;
-        assert_eq!(rt; paper.bytes.as_slice(), text.as_bytes());
-        assert_eq!(rt; paper.writes, writes, "{text}");
-        assert!(rt; !paper.failed());
+        same(rt, paper.bytes.as_slice(), text.as_bytes());
+        same(rt, (text, paper.writes), (text, writes));
+        holds(rt, !paper.failed());
     }
     Ok(())
 }
@@ -310,10 +323,10 @@ s UNSATISFIABLE
 fn reports_of_two_streams(rt: HostRuntime) -> Result<(), Fail> {
     let reports = two_reports();
     let [first, second] = reports;
-    assert_eq!(rt; Verdict::of(&[]), Verdict::Unknown);
-    assert_eq!(rt; Verdict::of(&[second]), Verdict::Unknown);
-    assert_eq!(rt; Verdict::of(&reports), Verdict::Unsatisfiable);
-    assert_eq!(rt; Verdict::of(&[second, first]), Verdict::Unsatisfiable);
+    same(&rt, Verdict::of(&[]), Verdict::Unknown);
+    same(&rt, Verdict::of(&[second]), Verdict::Unknown);
+    same(&rt, Verdict::of(&reports), Verdict::Unsatisfiable);
+    same(&rt, Verdict::of(&[second, first]), Verdict::Unsatisfiable);
     writes_text(&rt, rt.alloc(), &reports, Verdict::of(&reports), TWO)?;
     writes_text(&rt, rt.alloc(), &[], Verdict::Unknown, "s UNKNOWN\n")
 }
@@ -326,11 +339,11 @@ fn sinks_that_fail(rt: HostRuntime) -> Result<(), Fail> {
         for fails_at in 1..=text.len().div_ceil(most) {
             let mut paper = Paper::new(rt.alloc(), most, fails_at);
             let wrote = write_report(&reports, Verdict::Unsatisfiable, &mut paper);
-            assert_eq!(rt; wrote, Err(WriteFault));
-            assert!(rt; paper.failed());
-            assert_eq!(rt; paper.writes, fails_at);
+            same(&rt, wrote, Err(WriteFault));
+            holds(&rt, paper.failed());
+            same(&rt, paper.writes, fails_at);
             let went = (fails_at - 1) * most;
-            assert_eq!(rt; paper.bytes.as_slice(), &text[..went.min(text.len())]);
+            same(&rt, paper.bytes.as_slice(), &text[..went.min(text.len())]);
         }
     }
     Ok(())
@@ -353,18 +366,19 @@ fn long_reports(rt: HostRuntime) -> Result<(), Fail> {
     for fails_at in 0..=writes {
         let mut paper = Paper::new(rt.alloc(), usize::MAX, fails_at);
         let wrote = write_report(&reports, Verdict::Unknown, &mut paper);
-        assert_eq!(rt; wrote.is_err(), fails_at > 0);
-        assert_eq!(rt; paper.failed(), fails_at > 0);
+        same(&rt, wrote.is_err(), fails_at > 0);
+        same(&rt, paper.failed(), fails_at > 0);
         let went = if fails_at > 0 {
-            assert_eq!(rt; paper.writes, fails_at);
+            same(&rt, paper.writes, fails_at);
             (fails_at - 1) * 512
         } else {
-            assert_eq!(rt; paper.writes, writes);
+            same(&rt, paper.writes, writes);
             text.len()
         };
-        assert_eq!(rt;
+        same(
+            &rt,
             paper.bytes.as_slice(),
-            &text.as_bytes()[..went.min(text.len())]
+            &text.as_bytes()[..went.min(text.len())],
         );
     }
     Ok(())
@@ -379,11 +393,8 @@ fn options_have_a_limit(rt: HostRuntime) {
         (1_000_001, false),
         (u64::MAX, false),
     ] {
-        assert_eq!(rt;
-            Options::new(tries, 65_536, u64::MAX).is_some(),
-            some,
-            "at {tries}"
-        );
+        let taken = Options::new(tries, 65_536, u64::MAX).is_some();
+        same(&rt, (tries, taken), (tries, some));
     }
 }
 
@@ -406,7 +417,7 @@ fn run_fault_texts(rt: HostRuntime) -> Result<(), Fail> {
         (RunFault::Memory, "out of memory"),
         (RunFault::Spawn(64), "worker 64 not started"),
     ] {
-        assert_eq!(rt; fault.to_string(rt.alloc())?.as_str(), text);
+        same(&rt, fault.to_string(rt.alloc())?.as_str(), text);
     }
     Ok(())
 }

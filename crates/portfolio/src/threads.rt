@@ -99,11 +99,11 @@ fn room_for<R: Source + Drop, G: Gate + Drop>(
         (room.readers.items ≡ []) × (vec_capacity room.readers ≡ count)) }
 {
     Ok(Room {
-        handles: Vec::with_capacity(alloc, count)?,
-        found: Vec::with_capacity(alloc, count)?,
         reports: Vec::with_capacity(alloc, count)?,
         met: Vec::with_capacity(alloc, count)?,
         readers: Vec::with_capacity(alloc, count)?,
+        found: Vec::with_capacity(alloc, count)?,
+        handles: Vec::with_capacity(alloc, count)?,
     })
 }
 

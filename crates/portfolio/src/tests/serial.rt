@@ -2,7 +2,9 @@
 ghost use Rattle.std.specs.Prelude.{◌≡◌, Some, None, false};
 ghost use Rattle.std.specs.List.{AllByRecursion};
 
-use super::{CITING, Open, Paper, Pieces, defaults, four_clauses, options, readers_of};
+use super::{
+    CITING, Open, Paper, Pieces, defaults, four_clauses, holds, options, readers_of, same,
+};
 use crate::{Options, RunFault, SerialOutcome, run_serial, write_report};
 use lrup_model::{Formula, Id, LayoutFault};
 use lrup_text::{ReadFault, Source};
@@ -36,9 +38,9 @@ fn says(
 ) -> Result<(), Fail> {
     let mut paper = Paper::new(alloc, usize::MAX, 0);
     write_report(&outcome.reports, outcome.verdict, &mut paper)?;
-    assert_eq!(rt; paper.bytes.as_slice(), text.as_bytes(), "{text}");
+    same(rt, paper.bytes.as_slice(), text.as_bytes());
     for reader in &outcome.readers {
-        assert!(rt; reader.asked <= 65_536);
+        holds(rt, reader.asked <= 65_536);
     }
     Ok(())
 }
@@ -272,10 +274,10 @@ fn serial_takes_streams_whole(rt: HostRuntime) -> Result<(), Fail> {
                 publishes: &publishes,
             })?;
         }
-        assert_eq!(rt; gates.len(), readers.len());
+        holds(&rt, gates.len() == readers.len());
         let outcome = run_serial(&rt, rt.alloc(), &formula, defaults()?, readers, gates)?;
         says(&rt, rt.alloc(), &outcome, SAYS_2)?;
-        assert_eq!(rt; publishes.get(), 121);
+        same(&rt, publishes.get(), 121);
     }
     Ok(())
 }
@@ -299,10 +301,13 @@ fn readers_that_fail(rt: HostRuntime) -> Result<(), Fail> {
             "c stream 1: 2 added, 0 deleted, ended\nc stream 2: {line}\ns UNSATISFIABLE\n"
         )?;
         says(&rt, rt.alloc(), &outcome, text.as_str())?;
-        assert_eq!(rt; outcome.readers.len(), 2);
-        assert!(rt; !outcome.readers[0].failed() && outcome.readers[0].left.is_empty());
-        assert!(rt; outcome.readers[1].failed());
-        assert_eq!(rt; outcome.readers[1].reads, fails_at);
+        holds(&rt, outcome.readers.len() == 2);
+        holds(
+            &rt,
+            !outcome.readers[0].failed() && outcome.readers[0].left.is_empty(),
+        );
+        holds(&rt, outcome.readers[1].failed());
+        same(&rt, outcome.readers[1].reads, fails_at);
     }
     Ok(())
 }
@@ -321,13 +326,13 @@ fn nothing_is_read_after_a_bad_line(rt: HostRuntime) -> Result<(), Fail> {
         for most in [1, 4, 64] {
             let readers = readers_of(rt.alloc(), &[stream], most)?;
             let outcome = run_pieces(&rt, rt.alloc(), &formula, defaults()?, readers)?;
-            assert_eq!(rt; outcome.readers.len(), 1);
+            holds(&rt, outcome.readers.len() == 1);
             let reads = if needed > stream.len() {
                 stream.len().div_ceil(most) + 1
             } else {
                 needed.div_ceil(most)
             };
-            assert_eq!(rt; outcome.readers[0].reads, reads, "{stream}");
+            same(&rt, (stream, outcome.readers[0].reads), (stream, reads));
         }
     }
     Ok(())
@@ -345,8 +350,8 @@ fn a_read_asks_for_one_piece(rt: HostRuntime) -> Result<(), Fail> {
     let readers = readers_of(rt.alloc(), &[stream.as_str()], usize::MAX)?;
     let outcome = run_pieces(&rt, rt.alloc(), &formula, defaults()?, readers)?;
     says(&rt, rt.alloc(), &outcome, SAYS_1)?;
-    assert_eq!(rt; outcome.readers.len(), 1);
-    assert_eq!(rt; outcome.readers[0].reads, 3);
+    holds(&rt, outcome.readers.len() == 1);
+    same(&rt, outcome.readers[0].reads, 3);
     Ok(())
 }
 
@@ -391,17 +396,18 @@ fn no_layout_no_read(rt: HostRuntime) -> Result<(), Fail> {
             readers,
             gates,
         );
-        assert_eq!(rt; ran.err(), fault);
-        assert_eq!(rt; read.get(), fault.is_none());
+        same(&rt, ran.err(), fault);
+        same(&rt, read.get(), fault.is_none());
     }
     for count in [0, 65] {
         let streams = vec![in rt.alloc(); ""; count]?;
         let readers = readers_of(rt.alloc(), &streams, 1)?;
         let gates = vec![in rt.alloc(); Open; readers.len()]?;
         let ran = run_serial(&rt, rt.alloc(), &formula, defaults()?, readers, gates);
-        assert_eq!(rt;
+        same(
+            &rt,
             ran.err(),
-            Some(RunFault::Layout(LayoutFault::BadStreamCount))
+            Some(RunFault::Layout(LayoutFault::BadStreamCount)),
         );
     }
     Ok(())

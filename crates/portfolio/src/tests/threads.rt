@@ -2,7 +2,10 @@
 //! have come as far, so that one thread that takes the streams one after the other never passes them.
 ghost use Rattle.std.specs.Prelude.{◌≡◌, IfOk, vec_len};
 
-use super::{CITING, Open, Pieces, bad_line, defaults, four_clauses, options, readers_of, report};
+use super::{
+    CITING, Open, Pieces, bad_line, defaults, four_clauses, holds, options, readers_of, report,
+    same,
+};
 use crate::{Options, Outcome, Pause, RunFault, Verdict, run};
 use lrup_model::{Id, LayoutFault};
 use lrup_text::Source;
@@ -77,11 +80,12 @@ fn a_held_stream_finds_the_others_clause(rt: HostRuntime) -> Result<(), Fail> {
     let gates = gates_of(rt.alloc(), gate, readers.len())?;
     let outcome = run(&rt, rt.alloc(), &formula, defaults()?, readers, gates)?;
     assert!(rt; !late.load(Ordering::SeqCst), "stream 2 published in time");
-    assert_eq!(rt;
+    same(
+        &rt,
         outcome.reports.as_slice(),
-        [ended(2, true), ended(1, false)].as_slice()
+        [ended(2, true), ended(1, false)].as_slice(),
     );
-    assert_eq!(rt; outcome.verdict, Verdict::Unsatisfiable);
+    same(&rt, outcome.verdict, Verdict::Unsatisfiable);
     Ok(())
 }
 
@@ -171,11 +175,11 @@ fn eight_threads_are_at_work_at_once(rt: HostRuntime) -> Result<(), Fail> {
     ];
     let (outcome, late) = meet(&rt, rt.alloc(), options(1_000, 1, 1)?, &EIGHT, &flags)?;
     assert!(rt; !late, "each saw all others");
-    assert_eq!(rt; outcome.reports.len(), 8);
+    holds(&rt, outcome.reports.len() == 8);
     for report in &outcome.reports {
-        assert_eq!(rt; *report, ended(1, false));
+        same(&rt, *report, ended(1, false));
     }
-    assert_eq!(rt; outcome.verdict, Verdict::Unknown);
+    same(&rt, outcome.verdict, Verdict::Unknown);
     Ok(())
 }
 
@@ -193,13 +197,13 @@ fn sixty_four_streams(rt: HostRuntime) -> Result<(), Fail> {
     let readers = readers_of(rt.alloc(), &texts, 5)?;
     let gates = gates_of(rt.alloc(), Open, readers.len())?;
     let outcome = run(&rt, rt.alloc(), &formula, options(0, 1, 1)?, readers, gates)?;
-    assert_eq!(rt; outcome.reports.len(), 64);
+    holds(&rt, outcome.reports.len() == 64);
     for report in &outcome.reports {
-        assert_eq!(rt; *report, ended(1, false));
+        same(&rt, *report, ended(1, false));
     }
-    assert_eq!(rt; outcome.verdict, Verdict::Unknown);
+    same(&rt, outcome.verdict, Verdict::Unknown);
     for (s, pass) in (1..=64).zip(&outcome.passes) {
-        assert_eq!(rt; pass.stream(), s);
+        same(&rt, pass.stream(), s);
     }
     Ok(())
 }
@@ -215,14 +219,15 @@ fn one_reader_fails(rt: HostRuntime) -> Result<(), Fail> {
     let outcome = run(&rt, rt.alloc(), &formula, defaults()?, readers, gates)?;
     let failed = report(1, 0, Ending::ReadFailed(2));
     let bad = bad_line(1, Fault::NoConflict);
-    assert_eq!(rt;
+    same(
+        &rt,
         outcome.reports.as_slice(),
-        [ended(2, true), failed, bad].as_slice()
+        [ended(2, true), failed, bad].as_slice(),
     );
-    assert_eq!(rt; outcome.verdict, Verdict::Unsatisfiable);
-    assert_eq!(rt; outcome.readers.len(), 3);
+    same(&rt, outcome.verdict, Verdict::Unsatisfiable);
+    holds(&rt, outcome.readers.len() == 3);
     for (reader, fails) in outcome.readers.iter().zip([false, true, false]) {
-        assert_eq!(rt; reader.failed(), fails);
+        same(&rt, reader.failed(), fails);
     }
     Ok(())
 }
@@ -273,11 +278,12 @@ fn run_missing<T: Threads + Wait + Sync + Abort, G: Gate + Send + Drop>(
         gates,
     )?;
     let missing = bad_line(1, Fault::Missing(6));
-    assert_eq!(rt;
+    same(
+        rt,
         outcome.reports.as_slice(),
-        [missing, ended(0, false)].as_slice()
+        [missing, ended(0, false)].as_slice(),
     );
-    assert_eq!(rt; outcome.verdict, Verdict::Unknown);
+    same(rt, outcome.verdict, Verdict::Unknown);
     Ok(())
 }
 
@@ -290,8 +296,8 @@ fn a_vacant_hint_is_tried_again(rt: HostRuntime) -> Result<(), Fail> {
     };
     let gates = vec![in rt.alloc(); gate; 2]?;
     run_missing(&rt, rt.alloc(), gates)?;
-    assert_eq!(rt; attempts.load(Ordering::SeqCst), 1_234);
-    assert_eq!(rt; others.load(Ordering::SeqCst), 0);
+    same(&rt, attempts.load(Ordering::SeqCst), 1_234);
+    same(&rt, others.load(Ordering::SeqCst), 0);
     Ok(())
 }
 
@@ -328,8 +334,8 @@ fn a_pause_sleeps_before_later_attempts(rt: HostRuntime) -> Result<(), Fail> {
     };
     let gates = vec![in rt.alloc(); Pause::new(&clock), Pause::new(&clock)]?;
     run_missing(&rt, rt.alloc(), gates)?;
-    assert_eq!(rt; clock.micros.load(Ordering::SeqCst), 3);
-    assert_eq!(rt; clock.others.load(Ordering::SeqCst), 0);
+    same(&rt, clock.micros.load(Ordering::SeqCst), 3);
+    same(&rt, clock.others.load(Ordering::SeqCst), 0);
     Ok(())
 }
 
@@ -346,6 +352,10 @@ fn no_streams_have_no_layout(rt: HostRuntime) -> Result<(), Fail> {
     let readers = readers_of(rt.alloc(), &[], 5)?;
     let gates = gates_of(rt.alloc(), Open, readers.len())?;
     let fault = run(&rt, rt.alloc(), &formula, defaults()?, readers, gates).err();
-    assert_eq!(rt; fault, Some(RunFault::Layout(LayoutFault::BadStreamCount)));
+    same(
+        &rt,
+        fault,
+        Some(RunFault::Layout(LayoutFault::BadStreamCount)),
+    );
     Ok(())
 }

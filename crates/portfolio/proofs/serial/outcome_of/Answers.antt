@@ -1,6 +1,8 @@
-use Rattle.std.proofs.Common.{◌∷◌, subst, arith}
+use Rattle.std.proofs.Common.{◌∷◌, ◌∙◌, List, map, ap, subst, arith}
 use Rattle.std.specs.Vec.Iter.{into_iter_items}
-use Rattle.portfolio.specs.Turns.{AreOver}
+use Rattle.portfolio.specs.Turns.{AreOver, HaveReports}
+use Rattle.portfolio.specs.Working.{WorkerValue}
+use Rattle.portfolio.proofs.JoiningLemmas.{whole_end, whole_more}
 use Rattle.portfolio.proofs.TurnsLemmas.{reports_pushed, map_more}
 use Rattle.portfolio.proofs.serial.outcome_of.Goals as goal
 
@@ -13,6 +15,7 @@ loop-worker-preserved g c =
     let over : AreOver (w ∷ into_iter_items c.next.new.self) = subst AreOver steps.0 now.invariant.over in
     let reader = c.push_reserved-in-loop-worker.ensures in
     record {
+      whole = whole_more now.yielded (into_iter_items now.worker-iterator) (into_iter_items c.next.new.self) _ w steps.0 now.invariant.whole;
       over = over.1;
       reports = reports_pushed now.yielded now.reports.items c.push_reserved.new.self.items w parts.result.0 c.push_reserved.ensures.items now.invariant.reports over.0 parts.ensures.report;
       left = map_more g.R.Source.left (λ v. v.left) now.readers.items c.push_reserved-in-loop-worker.new.self.items now.yielded parts.result.1 w reader.items now.invariant.left parts.ensures.left;
@@ -22,3 +25,19 @@ loop-worker-preserved g c =
       report_room = omega (arith, c.push_reserved.ensures.capacity, now.invariant.report_room);
       reader_room = omega (arith, reader.capacity, now.invariant.reader_room);
     }
+
+pub returns-clause-reports : goal.returns-clause-reports
+returns-clause-reports g c =
+    let now = c.loop-worker in
+    subst (λ (ws : List WorkerValue). HaveReports ws now.reports.items)
+    (whole_end now.yielded c.args.workers.items now.worker-iterator c.next.new.self c.in-None.ensures.steps now.invariant.whole) now.invariant.reports
+
+pub returns-clause-left : goal.returns-clause-left
+returns-clause-left g c =
+    let now = c.loop-worker in
+    now.invariant.left ∙ ap (map (λ (w : WorkerValue). w.left)) (whole_end now.yielded c.args.workers.items now.worker-iterator c.next.new.self c.in-None.ensures.steps now.invariant.whole)
+
+pub returns-clause-failed : goal.returns-clause-failed
+returns-clause-failed g c =
+    let now = c.loop-worker in
+    now.invariant.failed ∙ ap (map (λ (w : WorkerValue). w.has_failed)) (whole_end now.yielded c.args.workers.items now.worker-iterator c.next.new.self c.in-None.ensures.steps now.invariant.whole)

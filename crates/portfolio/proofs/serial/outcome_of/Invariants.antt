@@ -1,10 +1,11 @@
-use Rattle.std.proofs.Common.{◌≡◌, ◌+◌, map, vec_len, vec_capacity}
+use Rattle.std.proofs.Common.{◌≡◌, ◌+◌, ◌++◌, map, vec_len, vec_capacity}
 use Rattle.std.specs.Vec.Iter.{into_iter_items, into_iter_len}
 use Rattle.portfolio.specs.Turns.{AreOver, HaveReports}
 use Rattle.portfolio.proofs.serial.outcome_of.Given as goal
 
 abbrev pub invariant-loop-worker : goal.invariant-loop-worker
 invariant-loop-worker g l = record {
+  whole : l.yielded ++ into_iter_items l.worker-iterator ≡ l.fn.workers.items;
   over : AreOver (into_iter_items l.worker-iterator);
   reports : HaveReports l.yielded l.reports.items;
   left : map g.R.Source.left l.readers.items ≡ map (λ w. w.left) l.yielded;

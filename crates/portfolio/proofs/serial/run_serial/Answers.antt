@@ -1,9 +1,16 @@
 use Rattle.std.proofs.Common.{◌≡◌, ◌∙◌, length, map, drop, sym, ap, subst, arith}
 use Rattle.std.proofs.lemmas.List.{length-map}
+use Rattle.lrup_model.specs.Layout.{LayoutValue, IsFault}
 use Rattle.portfolio.specs.Outcomes.{layout_of}
-use Rattle.portfolio.specs.Turns.{Runs}
+use Rattle.portfolio.specs.Turns.{AreOver, Runs}
+use Rattle.portfolio.proofs.HeadlineLemmas.{no_fault}
 use Rattle.portfolio.proofs.TurnsLemmas.{IsOpened, runs_opened, run_ordered, sound_over, streams_asked, written_back}
 use Rattle.portfolio.proofs.serial.run_serial.Goals as goal
+
+pub workers_of-requires-clause-streams : goal.workers_of-requires-clause-streams
+workers_of-requires-clause-streams g c =
+    let same = streams_asked c.args.options c.args.formula.now c.len.result c.in_ok-layout.layout c.in_ok-layout.ensures.layout.0 in
+    same ∙ c.len.ensures ∙ c.args.readers.ok.0
 
 pub take_turns-requires : goal.take_turns-requires
 take_turns-requires g c =
@@ -23,6 +30,23 @@ take_turns-requires g c =
     record {
       running = (f, p, c.tries.result, entries, subst (Runs f p c.tries.result entries m) (sym c.deref_mut.ensures.value) (runs_opened f p m opened c.tries.result entries c.in_ok-workers.workers.items count c.in_ok-workers.ensures));
     }
+
+pub outcome_of-requires-clause-over : goal.outcome_of-requires-clause-over
+outcome_of-requires-clause-over g c =
+    let started = c.in_ok-workers.workers in
+    let worked = c.take_turns.new.workers in
+    let back = written_back started.len worked (drop (length worked) started.items) (c.take_turns.auto.workers ∙ c.deref_mut.ensures.len) in
+    subst AreOver (sym back) c.take_turns.ensures.over
+
+pub returns-clause-layout : goal.returns-clause-layout
+returns-clause-layout g c =
+    let streams = c.len.ensures ∙ c.args.readers.ok.0 in
+    let same : c.in_ok-layout.layout ≡ layout_of c.args.options c.args.formula.now (length c.args.readers.items) =
+    c.in_ok-layout.ensures.layout.0 ∙ ap (layout_of c.args.options c.args.formula.now) streams in
+    λ fault. (
+      (λ e. absurd (cc)),
+      λ bad. absurd (no_fault c.in_ok-layout.layout fault c.in_ok-layout.ensures.layout.1 (subst (λ (l : LayoutValue). IsFault l fault) (sym same) bad)),
+    )
 
 pub returns-clause-ordered : goal.returns-clause-ordered
 returns-clause-ordered g c =

@@ -1,9 +1,18 @@
 use Rattle.std.proofs.Common.{arith}
-use Rattle.portfolio.proofs.TurnsLemmas.{running_on, over_each}
+use Rattle.portfolio.proofs.TurnsLemmas.{goes_twice, over_each, over_more, running_on}
 use Rattle.portfolio.proofs.serial.take_round.Goals as goal
 
 pub take_turn-going-requires-clause-running : goal.take_turn-going-requires-clause-running
 take_turn-going-requires-clause-running g c = running_on c.args.map.now c.loop-i.map c.args.workers.now c.loop-i.workers c.requires.running c.loop-i.invariant.runs
+
+pub loop-i-preserved : goal.loop-i-preserved
+loop-i-preserved g c =
+    let now = c.loop-i in
+    let turn = c.take_turn-going in
+    record {
+      runs = goes_twice c.args.map.now now.map turn.new.map c.args.workers.now now.workers turn.new.workers now.invariant.runs turn.ensures.runs;
+      over = λ none. over_more now.i now.going turn.result c.args.workers.now now.workers turn.new.workers none now.invariant.over turn.ensures.over;
+    }
 
 pub returns-clause-over : goal.returns-clause-over
 returns-clause-over g c none = let over = c.loop-i.invariant.over none in over_each c.loop-i.workers (λ k below. over.1 k (omega arith))

@@ -1,11 +1,25 @@
-use Rattle.portfolio.proofs.TurnsLemmas.{ready_at, runs_more}
+use Rattle.std.proofs.Common.{ap, arith}
+use Rattle.lrup_model.specs.Layout.{LayoutValue}
+use Rattle.portfolio.proofs.TurnsLemmas.{going_at, ready_at, runs_more}
 use Rattle.portfolio.proofs.serial.take_turn.Goals as goal
+
+pub turn_at_desk-requires-clause-stream : goal.turn_at_desk-requires-clause-stream
+turn_at_desk-requires-clause-stream g c =
+    let runs = c.requires.running.4 in
+    (omega arith, omega (arith, c.requires.within, runs.count, ap (λ (p : LayoutValue). p.streams) runs.map_is.layout))
 
 pub turn_at_desk-requires-clause-ready : goal.turn_at_desk-requires-clause-ready
 turn_at_desk-requires-clause-ready g c = ready_at c.args.map.now c.args.workers.now c.args.i c.index-workers-i-2.result c.requires.running c.requires.within
+
+pub turn_at_desk-requires-clause-going : goal.turn_at_desk-requires-clause-going
+turn_at_desk-requires-clause-going g c =
+    going_at c.args.workers.now c.args.i c.index-workers-i.result c.index-workers-i-2.result c.is_over.result c.requires.within c.is_over.ensures c.if-is_over.false
 
 pub returns-clause-runs : goal.returns-clause-runs
 returns-clause-runs g c f p tries entries runs =
     let turn = c.turn_at_desk.ensures in
     runs_more c.ready_beside.ensures f p tries entries c.args.map.now c.turn_at_desk.new.map c.args.workers.now c.args.i c.index-workers-i-2.result c.turn_at_desk.new.worker turn.works.0
     c.requires.within turn.works.1 turn.works.2 turn.ready turn.setting runs
+
+pub returns-clause-over : goal.returns-clause-over
+returns-clause-over g c = λ none. absurd (cc)

@@ -1,5 +1,10 @@
+use Rattle.std.proofs.Common.{◌≡◌, false, true}
 use Rattle.portfolio.proofs.TurnsLemmas.{running_on}
 use Rattle.portfolio.proofs.serial.take_turns.Goals as goal
 
 pub take_round-requires : goal.take_round-requires
 take_round-requires g c = record { running = running_on c.args.map.now c.loop.map c.args.workers.now c.loop.workers c.requires.running c.loop.invariant }
+
+-- the loop has no end but its return
+pub returns-clause-over : goal.returns-clause-over
+returns-clause-over g c = let never : false ≡ true = c.in-None.ensures.steps in absurd (cc)

@@ -1,9 +1,10 @@
-use Rattle.std.proofs.Common.{◌≡◌, ◌+◌, map, vec_len, vec_capacity}
-use Rattle.std.specs.Vec.Iter.{into_iter_len}
+use Rattle.std.proofs.Common.{◌≡◌, ◌+◌, ◌++◌, map, vec_len, vec_capacity}
+use Rattle.std.specs.Vec.Iter.{into_iter_items, into_iter_len}
 use Rattle.portfolio.proofs.threads.outcome_of.Given as goal
 
 abbrev pub invariant-loop-one : goal.invariant-loop-one
 invariant-loop-one g l = record {
+  whole : l.yielded ++ into_iter_items l.one-iterator ≡ l.fn.found.items;
   reports : l.reports.items ≡ map (λ f. f.report) l.yielded;
   passes : l.passes.items ≡ map (λ f. f.pass) l.yielded;
   left : map g.R.Source.left l.readers.items ≡ map (λ f. f.left) l.yielded;

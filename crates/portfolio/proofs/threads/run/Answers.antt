@@ -51,6 +51,15 @@ returns-in-Ok-clause-layout g c =
       λ bad. absurd (no_fault c.in_ok-layout.layout fault c.in_ok-layout.ensures.layout.1 (subst (λ (l : LayoutValue). IsFault l fault) (sym same) bad)),
     )
 
+pub returns-clause-layout : goal.returns-clause-layout
+returns-clause-layout g c =
+    let same : c.in_ok-layout.layout ≡ layout_of c.args.options c.args.formula.now (length c.args.readers.items) =
+    c.in_ok-layout.ensures.layout.0 ∙ ap (λ (n : ℕ). layout_of c.args.options c.args.formula.now n) (c.len.ensures ∙ c.args.readers.ok.0) in
+    λ fault. (
+      (λ e. absurd (cc)),
+      λ bad. absurd (no_fault c.in_ok-layout.layout fault c.in_ok-layout.ensures.layout.1 (subst (λ (l : LayoutValue). IsFault l fault) (sym same) bad)),
+    )
+
 pub returns-in-Ok-clause-history : goal.returns-in-Ok-clause-history
 returns-in-Ok-clause-history g c =
     let f = c.args.formula.now in

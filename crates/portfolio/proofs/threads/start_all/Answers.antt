@@ -1,8 +1,34 @@
-use Rattle.std.proofs.Common.{◌≡◌, ◌⊎◌, inl, inr, []}
+use Rattle.std.proofs.Common.{◌≡◌, ◌⊎◌, inl, inr, [], arith}
 use Rattle.std.specs.Vec.Iter.{into_iter_items}
 use Rattle.std.specs.Iterator.Adapters.{zip_first, zip_second}
-use Rattle.portfolio.proofs.JoiningLemmas.{iter_end, starting_end}
+use Rattle.portfolio.proofs.JoiningLemmas.{iter_end, starting_end, starting_pushed, starts_next}
 use Rattle.portfolio.proofs.threads.start_all.Goals as goal
+
+pub loop-worker-preserved : goal.loop-worker-preserved
+loop-worker-preserved g c =
+    let now = c.loop-worker in
+    let steps = c.in-Some.ensures.steps in
+    let pushed = c.push_reserved.ensures in
+    let handle = c.in-Some-start in (
+      (tt, tt),
+      tt,
+      starting_pushed _ _ now.handles.items c.push_reserved.new.self.items handle.handle _ _ _ _ _ _ _ c.in-Some.worker c.in-Some.pass
+          pushed.items handle.ensures.worker handle.ensures.pass now.invariant.2 steps.0.0 steps.1.0,
+      omega (arith, pushed.len, steps.0.1, now.invariant.3),
+      omega (arith, pushed.capacity, now.invariant.4),
+    )
+
+pub start-requires-clause-store : goal.start-requires-clause-store
+start-requires-clause-store g c κs within =
+    let now = c.loop-worker in
+    let steps = c.in-Some.ensures.steps in
+    (starts_next _ c.in-Some.worker c.in-Some.pass _ _ _ _ now.invariant.2.begin steps.0.0 steps.1.0).0.here
+
+pub start-requires-clause-begins : goal.start-requires-clause-begins
+start-requires-clause-begins g c κs within =
+    let now = c.loop-worker in
+    let steps = c.in-Some.ensures.steps in
+    (starts_next _ c.in-Some.worker c.in-Some.pass _ _ _ _ now.invariant.2.begin steps.0.0 steps.1.0).0.begins
 
 pub returns-clause-workers : goal.returns-clause-workers
 returns-clause-workers g c =

@@ -1,6 +1,7 @@
 use Rattle.std.proofs.Common.{rules, IsSome, sym, subst}
 use Rattle.clause_store.specs.Passes.{PassValue}
 use Rattle.portfolio.proofs.JoiningLemmas.{GoesOnAt, goes_none, goes_turn, goes_over}
+use Rattle.portfolio.proofs.WorkingLemmas.{not_over}
 use Rattle.portfolio.proofs.threads.work.Goals as goal
 use Rattle.portfolio.proofs.threads.work.Goals.{in-None, in-Some+then-is_over}
 
@@ -8,6 +9,12 @@ pub loop-init : goal.loop-init
 loop-init g c =
     let same = sym c.new-desk.ensures in
     (tt, tt, subst (λ (p : PassValue). GoesOnAt c.args.worker c.args.pass c.args.worker p) same (goes_none c.args.worker c.args.pass c.requires.begins.ready))
+
+pub turn-requires : goal.turn-requires
+turn-requires g c = record {
+  ready = c.loop.invariant.2.ready;
+  going = not_over c.is_over.result c.loop.worker.checker.ending c.is_over.ensures c.if-is_over.false;
+}
 
 pub loop-preserved : goal.loop-preserved
 loop-preserved g c =

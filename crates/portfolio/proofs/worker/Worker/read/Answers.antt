@@ -9,6 +9,9 @@ use Rattle.portfolio.specs.Working.{WorkerValue, WorksOn}
 use Rattle.portfolio.proofs.WorkingLemmas.{worker_of, works_read, works_over, none_between}
 use Rattle.portfolio.proofs.worker.Worker.read.Goals as goal
 
+pub read-requires : goal.read-requires
+read-requires g c = c.self.invariant.running (ap (λ (v : WorkerValue). v.checker.ending) c.self.view_is ∙ c.requires)
+
 pub returns-in-Ok-eq0-clause-works : goal.returns-in-Ok-eq0-clause-works
 returns-in-Ok-eq0-clause-works g c room =
     let w = c.self.inside in

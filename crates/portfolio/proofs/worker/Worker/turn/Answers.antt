@@ -1,4 +1,4 @@
-use Rattle.std.proofs.Common.{◌++◌, ◌∙◌, [], refl, subst, rules}
+use Rattle.std.proofs.Common.{◌≡◌, ◌++◌, ◌∙◌, [], false, true, refl, subst, rules}
 use Rattle.portfolio.proofs.WorkingLemmas.{joined-append, works_none, works_turn}
 use Rattle.portfolio.proofs.worker.Worker.turn.Goals as goal
 
@@ -41,3 +41,7 @@ loop-preserved g c =
         works_turn c.args.self.now c.loop.self c.read.new.self c.feed.new.self (g.M.ClauseMap.place start).room room (g.M.ClauseMap.place end).room old.0 fed.0 old.2 (c.read.ensures.works room) fed.2,
       );
     }
+
+-- the loop has no end but its returns
+pub returns : goal.returns
+returns g c = let never : false ≡ true = c.in-None.ensures.steps in absurd (cc)

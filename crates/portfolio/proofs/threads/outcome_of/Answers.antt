@@ -1,0 +1,69 @@
+use Rattle.std.proofs.Common.{◌≡◌, ◌∙◌, List, length, map, drop, sym, ap, subst, arith}
+use Rattle.std.specs.Vec.Iter.{into_iter_items}
+use Rattle.lrup_model.specs.Pass.{AreMet}
+use Rattle.clause_store.specs.Passes.{HaveMet, PassValue, views}
+use Rattle.portfolio.specs.Joining.{FoundValue}
+use Rattle.portfolio.proofs.JoiningLemmas.{pushed_more, whole_end, whole_more}
+use Rattle.portfolio.proofs.TurnsLemmas.{map_more, written_back}
+use Rattle.portfolio.proofs.threads.outcome_of.Goals as goal
+
+pub loop-one-preserved : goal.loop-one-preserved
+loop-one-preserved g c =
+    let now = c.loop-one in
+    let one = c.in-Some.one in
+    let parts = c.one.inside in
+    let view = c.one.view_is in
+    let steps = c.in-Some.ensures.steps in
+    let report = c.push_reserved.ensures in
+    let pass = c.push_reserved-in-loop-one.ensures in
+    let reader = c.push_reserved-in-loop-one-2.ensures in
+    record {
+      whole = whole_more now.yielded (into_iter_items now.one-iterator) (into_iter_items c.next.new.self) _ one steps.0 now.invariant.whole;
+      reports = pushed_more (λ (f : FoundValue). f.report) now.reports.items c.push_reserved.new.self.items now.yielded parts.report one
+          report.items now.invariant.reports (ap (λ (f : FoundValue). f.report) view);
+      passes = pushed_more (λ (f : FoundValue). f.pass) now.passes.items c.push_reserved-in-loop-one.new.self.items now.yielded parts.pass one
+          pass.items now.invariant.passes (ap (λ (f : FoundValue). f.pass) view);
+      left = map_more g.R.Source.left (λ (f : FoundValue). f.left) now.readers.items c.push_reserved-in-loop-one-2.new.self.items now.yielded parts.reader one
+          reader.items now.invariant.left (ap (λ (f : FoundValue). f.left) view);
+      failed = map_more g.R.Source.has_failed (λ (f : FoundValue). f.has_failed) now.readers.items c.push_reserved-in-loop-one-2.new.self.items now.yielded parts.reader one
+          reader.items now.invariant.failed (ap (λ (f : FoundValue). f.has_failed) view);
+      report_count = omega (arith, report.len, steps.1, now.invariant.report_count);
+      pass_count = omega (arith, pass.len, steps.1, now.invariant.pass_count);
+      reader_count = omega (arith, reader.len, steps.1, now.invariant.reader_count);
+      report_room = omega (arith, report.capacity, now.invariant.report_room);
+      pass_room = omega (arith, pass.capacity, now.invariant.pass_room);
+      reader_room = omega (arith, reader.capacity, now.invariant.reader_room);
+    }
+
+pub returns-clause-reports : goal.returns-clause-reports
+returns-clause-reports g c =
+    let now = c.loop-one in
+    now.invariant.reports ∙ ap (map (λ (f : FoundValue). f.report)) (whole_end now.yielded c.args.found.items now.one-iterator c.next.new.self c.in-None.ensures.steps now.invariant.whole)
+
+pub returns-clause-left : goal.returns-clause-left
+returns-clause-left g c =
+    let now = c.loop-one in
+    now.invariant.left ∙ ap (map (λ (f : FoundValue). f.left)) (whole_end now.yielded c.args.found.items now.one-iterator c.next.new.self c.in-None.ensures.steps now.invariant.whole)
+
+pub returns-clause-failed : goal.returns-clause-failed
+returns-clause-failed g c =
+    let now = c.loop-one in
+    now.invariant.failed ∙ ap (map (λ (f : FoundValue). f.has_failed)) (whole_end now.yielded c.args.found.items now.one-iterator c.next.new.self c.in-None.ensures.steps now.invariant.whole)
+
+pub returns-clause-met : goal.returns-clause-met
+returns-clause-met g c =
+    let now = c.loop-one in
+    let met = c.meet_all.new.passes in
+    let found = map (λ (f : FoundValue). f.pass) c.args.found.items in
+    let back = written_back now.passes.len met (drop (length met) now.passes.items) (c.meet_all.auto.passes ∙ c.deref_mut.ensures.len) in
+    let whole = whole_end now.yielded c.args.found.items now.one-iterator c.next.new.self c.in-None.ensures.steps now.invariant.whole in
+    let passes : c.deref_mut.result.now ≡ found = c.deref_mut.ensures.value ∙ now.invariant.passes ∙ ap (map (λ (f : FoundValue). f.pass)) whole in
+    subst (λ (ps : List PassValue). AreMet (views found) (views ps)) (sym back)
+    (subst (λ (ps : List PassValue). AreMet (views ps) (views met)) passes c.meet_all.ensures.met)
+
+pub returns-clause-one : goal.returns-clause-one
+returns-clause-one g c =
+    let now = c.loop-one in
+    let met = c.meet_all.new.passes in
+    let back = written_back now.passes.len met (drop (length met) now.passes.items) (c.meet_all.auto.passes ∙ c.deref_mut.ensures.len) in
+    subst (λ (ps : List PassValue). HaveMet (views ps)) (sym back) c.meet_all.ensures.one
