@@ -1,5 +1,5 @@
 //! Passes of one store, in turn and on threads of their own.
-ghost use Rattle.std.specs.Prelude.{◌≡◌, ◌-◌, ◌<◌, ◌≤◌, ◌∷◌, [], pos, negsuc, neg_ℤ, IfOk, IfSome};
+ghost use Rattle.std.specs.Prelude.{◌≡◌, ◌-◌, ◌<◌, ◌≤◌, ◌∷◌, [], pos, negsuc, neg_ℤ, IfOk, IfSome, IsTrue};
 ghost use Rattle.lrup_model.specs.Event.{History};
 ghost use Rattle.lrup_model.specs.History.{IsPublishable};
 ghost use Rattle.lrup_model.specs.Layout.{Fits, IsStream};
@@ -16,10 +16,23 @@ use lrup_model::{
     ClauseMap, Clip, Fetched, Formula, Id, Layout, Lit, PlainMap, Published, Retired,
 };
 use std::alloc::{AllocError, Global};
+use std::fmt;
 use std::process::Abort;
 use std::sync::atomic::{AtomicU64, Ordering};
 use std::test::Fail;
 use std::thread::{Threads, for_each_mut, join, yield_now};
+
+/// Stops the test where two values differ: an assertion that is proved once for all tests.
+fn same<T: PartialEq + fmt::Debug + Drop>(rt: &impl Abort, value: T, wanted: T) {
+    assert_eq!(rt; value, wanted);
+}
+
+/// Stops the test where this doesn't hold.
+fn holds(rt: &impl Abort, fact: bool)
+    ensures { IsTrue fact }
+{
+    assert!(rt; fact);
+}
 
 /// The literal of this number.
 fn lit(value: i64) -> Lit
@@ -195,25 +208,25 @@ fn retire_by<R: Threads>(
 fn take_turns<R: Threads + Abort>(rt: &R, alloc: Global, apart: bool) -> Result<(), Fail> {
     let formula = four_clauses(alloc)?;
     let layout = Layout::new(2, 4, 8, 2, 1, 2)?;
-    assert!(rt; layout.fits(&formula));
+    holds(rt, layout.fits(&formula));
     let (store, mut a, b) = open_two(alloc, &formula, layout)?;
-    assert_eq!(rt; look(&store, &mut a, 6), Some(Found::Vacant));
+    same(rt, look(&store, &mut a, 6), Some(Found::Vacant));
     let (mut b, answer) = publish_by(rt, apart, &store, b, 6, &[lit(-2)]);
-    assert_eq!(rt; answer, Some(Published::Done));
+    same(rt, answer, Some(Published::Done));
     store.meet(&mut a, &mut b);
-    assert_eq!(rt; look(&store, &mut a, 6), Some(Found::Live));
+    same(rt, look(&store, &mut a, 6), Some(Found::Live));
     let clip = live(&store, &mut a, 6).ok_or("6 isn't live")?;
-    assert_eq!(rt; clip.len(), 1);
-    assert_eq!(rt; first_literal(&store, &mut a, &clip), Some(lit(-2)));
+    same(rt, clip.len(), 1);
+    same(rt, first_literal(&store, &mut a, &clip), Some(lit(-2)));
     let (mut b, answer) = retire_by(rt, apart, &store, b, 6);
-    assert_eq!(rt; answer, Some(Retired::Done));
-    assert_eq!(rt; first_literal(&store, &mut a, &clip), Some(lit(-2)));
+    same(rt, answer, Some(Retired::Done));
+    same(rt, first_literal(&store, &mut a, &clip), Some(lit(-2)));
     store.meet(&mut a, &mut b);
-    assert_eq!(rt; look(&store, &mut a, 6), Some(Found::Retired));
+    same(rt, look(&store, &mut a, 6), Some(Found::Retired));
     let (b, answer) = publish_by(rt, apart, &store, b, 6, &[lit(-2)]);
-    assert_eq!(rt; answer, Some(Published::Taken));
+    same(rt, answer, Some(Published::Taken));
     let (_b, answer) = retire_by(rt, apart, &store, b, 6);
-    assert_eq!(rt; answer, Some(Retired::NotLive));
+    same(rt, answer, Some(Retired::NotLive));
     Ok(())
 }
 
@@ -232,16 +245,16 @@ fn two_passes_take_turns_on_two_threads(rt: HostRuntime) -> Result<(), Fail> {
 fn a_pass_spends_its_room(rt: HostRuntime) -> Result<(), Fail> {
     let formula = four_clauses(rt.alloc())?;
     let layout = Layout::new(2, 4, 8, 2, 2, 1)?;
-    assert!(rt; layout.fits(&formula));
+    holds(&rt, layout.fits(&formula));
     let (store, _a, mut b) = open_two(rt.alloc(), &formula, layout)?;
     let answer = publish(&store, &mut b, 6, &[lit(-2)]);
-    assert_eq!(rt; answer, Some(Published::Done));
-    assert_eq!(rt; store.room(&b), 0);
-    assert_eq!(rt; publish(&store, &mut b, 8, &[]), Some(Published::Done));
+    same(&rt, answer, Some(Published::Done));
+    same(&rt, store.room(&b), 0);
+    same(&rt, publish(&store, &mut b, 8, &[]), Some(Published::Done));
     let clip = live(&store, &mut b, 8).ok_or("8 isn't live")?;
-    assert_eq!(rt; clip.len(), 0);
-    assert_eq!(rt; publish(&store, &mut b, 8, &[]), Some(Published::Taken));
-    assert_eq!(rt; store.room(&b), 0);
+    same(&rt, clip.len(), 0);
+    same(&rt, publish(&store, &mut b, 8, &[]), Some(Published::Taken));
+    same(&rt, store.room(&b), 0);
     Ok(())
 }
 
@@ -267,23 +280,23 @@ fn reads_back(store: &Store, pass: &mut Pass, clip: &Clip, clause: &[Lit]) -> bo
 fn clauses_are_read_back(rt: HostRuntime) -> Result<(), Fail> {
     let formula = four_clauses(rt.alloc())?;
     let layout = Layout::new(2, 4, 8, 2, 3, 6)?;
-    assert!(rt; layout.fits(&formula));
+    holds(&rt, layout.fits(&formula));
     let (store, mut a, _b) = open_two(rt.alloc(), &formula, layout)?;
     let three = [lit(1), lit(-2), lit(2)];
     let two = [lit(-1), lit(2)];
     let answer = publish(&store, &mut a, 5, &three);
-    assert_eq!(rt; answer, Some(Published::Done));
+    same(&rt, answer, Some(Published::Done));
     let answer = publish(&store, &mut a, 7, &two);
-    assert_eq!(rt; answer, Some(Published::Done));
-    assert_eq!(rt; store.room(&a), 1);
+    same(&rt, answer, Some(Published::Done));
+    same(&rt, store.room(&a), 1);
     let answer = publish(&store, &mut a, 9, &[lit(2)]);
-    assert_eq!(rt; answer, Some(Published::Done));
+    same(&rt, answer, Some(Published::Done));
     let clip = live(&store, &mut a, 5).ok_or("5 isn't live")?;
-    assert!(rt; reads_back(&store, &mut a, &clip, &three));
+    holds(&rt, reads_back(&store, &mut a, &clip, &three));
     let clip = live(&store, &mut a, 7).ok_or("7 isn't live")?;
-    assert!(rt; reads_back(&store, &mut a, &clip, &two));
+    holds(&rt, reads_back(&store, &mut a, &clip, &two));
     let clip = live(&store, &mut a, 3).ok_or("3 isn't live")?;
-    assert!(rt; reads_back(&store, &mut a, &clip, &[lit(1), lit(-2)]));
+    holds(&rt, reads_back(&store, &mut a, &clip, &[lit(1), lit(-2)]));
     Ok(())
 }
 
@@ -377,21 +390,21 @@ fn at_desk(
 fn one_client_has_both_maps(rt: HostRuntime) -> Result<(), Fail> {
     let formula = four_clauses(rt.alloc())?;
     let layout = Layout::new(2, 4, 8, 2, 1, 1)?;
-    assert!(rt; layout.fits(&formula));
+    holds(&rt, layout.fits(&formula));
     let mut map = PlainMap::open(rt.alloc(), &formula, &layout)?;
     let (store, a, b) = open_two(rt.alloc(), &formula, layout)?;
     let wanted = (Some(Published::Done), None);
-    assert_eq!(rt; at_plain_desk(&mut map, 1, 5, 6), wanted);
+    same(&rt, at_plain_desk(&mut map, 1, 5, 6), wanted);
     let (a, found) = at_desk(&store, a, 5, 6, 1);
-    assert_eq!(rt; found, wanted);
+    same(&rt, found, wanted);
     let wanted = (Some(Published::Done), Some(lit(2)));
-    assert_eq!(rt; at_plain_desk(&mut map, 2, 6, 5), wanted);
+    same(&rt, at_plain_desk(&mut map, 2, 6, 5), wanted);
     let (_b, found) = at_desk(&store, b, 6, 5, 1);
-    assert_eq!(rt; found, wanted);
+    same(&rt, found, wanted);
     let wanted = (None, Some(lit(2)));
-    assert_eq!(rt; at_plain_desk(&mut map, 1, 6, 6), wanted);
+    same(&rt, at_plain_desk(&mut map, 1, 6, 6), wanted);
     let (_a, found) = at_desk(&store, a, 6, 6, 1);
-    assert_eq!(rt; found, wanted);
+    same(&rt, found, wanted);
     Ok(())
 }
 
@@ -430,16 +443,16 @@ fn at_two_desks<R: Threads>(
 fn two_threads_have_one_client(rt: HostRuntime) -> Result<(), Fail> {
     let formula = four_clauses(rt.alloc())?;
     let layout = Layout::new(2, 4, 8, 2, 2, 3)?;
-    assert!(rt; layout.fits(&formula));
+    holds(&rt, layout.fits(&formula));
     let (store, a, b) = open_two(rt.alloc(), &formula, layout)?;
     let (passes, found) = at_two_desks(&rt, &store, (a, b), (5, 6), TURNS);
-    assert_eq!(rt; found, [(Some(Published::Done), Some(lit(2))); 2]);
+    same(&rt, found, [(Some(Published::Done), Some(lit(2))); 2]);
     let (passes, found) = at_two_desks(&rt, &store, passes, (7, 8), 0);
-    assert_eq!(rt; found, [(Some(Published::Done), None); 2]);
+    same(&rt, found, [(Some(Published::Done), None); 2]);
     let (mut a, mut b) = passes;
     store.meet(&mut a, &mut b);
     let (_, found) = at_two_desks(&rt, &store, (a, b), (7, 8), 1);
-    assert_eq!(rt; found, [(Some(Published::Taken), Some(lit(2))); 2]);
+    same(&rt, found, [(Some(Published::Taken), Some(lit(2))); 2]);
     Ok(())
 }
 
@@ -585,7 +598,7 @@ fn finds_all<R: Abort>(rt: &R, store: &Store, pass: &mut Pass)
 #[test]
 fn four_threads_race(rt: HostRuntime) -> Result<(), Fail> {
     let (store, mut passes) = open_race(rt.alloc())?;
-    assert_eq!(rt; passes.len(), 4);
+    holds(&rt, passes.len() == 4);
     race_all(&rt, &store, passes.as_mut_slice());
     store.meet_all(passes.as_mut_slice());
     let (first, _) = passes.split_first_mut().ok_or("no pass")?;

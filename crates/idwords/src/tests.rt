@@ -1,5 +1,5 @@
 //! The row word by word, two streams in turn, and two threads at once.
-ghost use Rattle.std.specs.Prelude.{◌≡◌, [], IfOk};
+ghost use Rattle.std.specs.Prelude.{◌≡◌, [], IfOk, IsTrue};
 ghost use Rattle.lrup_model.specs.History.{IsPublishable};
 ghost use Rattle.lrup_model.specs.Layout.{Fits};
 ghost use Rattle.lrup_model.specs.Literal.{IsLiteral, max_variable};
@@ -9,8 +9,22 @@ ghost use Rattle.idwords.specs.Worked.{IsAt};
 use super::*;
 use lrup_model::{Formula, Layout, Lit, Owner, Published, Retired};
 use std::alloc::{AllocError, Global};
+use std::fmt;
+use std::process::Abort;
 use std::test::Fail;
 use std::thread::join;
+
+/// Stops the test where two values differ: an assertion that is proved once for all tests.
+fn same<T: PartialEq + fmt::Debug + Drop>(rt: &impl Abort, value: T, wanted: T) {
+    assert_eq!(rt; value, wanted);
+}
+
+/// Stops the test where this doesn't hold.
+fn holds(rt: &impl Abort, fact: bool)
+    ensures { IsTrue fact }
+{
+    assert!(rt; fact);
+}
 
 /// The literal of this number.
 fn literal(value: i64) -> Lit
@@ -128,24 +142,24 @@ fn retire(row: &Row, layout: &Layout, seat: &mut Seat, stream: u64, id: u64) -> 
 fn the_row_has_its_words(rt: HostRuntime) -> Result<(), Fail> {
     let formula = four_clauses(rt.alloc())?;
     let layout = Layout::new(2, 4, 8, 1, 1, 2)?;
-    assert!(rt; layout.fits(&formula));
+    holds(&rt, layout.fits(&formula));
     let (row, mut seat) = open_one(rt.alloc(), &formula, &layout)?;
     let mut words = [0; 16];
     words[1..5].copy_from_slice(&[25165833, 29360137, 33554441, 37748745]);
     words[6..10].copy_from_slice(&[17179869186, 17179869187, 21474836482, 21474836483]);
-    assert!(rt; has_words(&row, &layout, &mut seat, &words));
-    assert_eq!(rt; seat.room(), 2);
+    holds(&rt, has_words(&row, &layout, &mut seat, &words));
+    same(&rt, seat.room(), 2);
     let answer = publish(&row, &layout, &mut seat, 1, 5, &[literal(2)]);
-    assert_eq!(rt; answer, Some(Published::Done));
+    same(&rt, answer, Some(Published::Done));
     words[5] = 58720261;
     words[14] = 4;
-    assert!(rt; has_words(&row, &layout, &mut seat, &words));
-    assert_eq!(rt; seat.room(), 1);
+    holds(&rt, has_words(&row, &layout, &mut seat, &words));
+    same(&rt, seat.room(), 1);
     let answer = retire(&row, &layout, &mut seat, 1, 5);
-    assert_eq!(rt; answer, Some(Retired::Done));
+    same(&rt, answer, Some(Retired::Done));
     words[5] = 58720262;
-    assert!(rt; has_words(&row, &layout, &mut seat, &words));
-    assert_eq!(rt; seat.room(), 1);
+    holds(&rt, has_words(&row, &layout, &mut seat, &words));
+    same(&rt, seat.room(), 1);
     Ok(())
 }
 
@@ -154,19 +168,19 @@ fn the_row_has_its_words(rt: HostRuntime) -> Result<(), Fail> {
 fn a_clause_begins_in_a_word_of_its_own(rt: HostRuntime) -> Result<(), Fail> {
     let formula = four_clauses(rt.alloc())?;
     let layout = Layout::new(2, 4, 8, 1, 2, 3)?;
-    assert!(rt; layout.fits(&formula));
+    holds(&rt, layout.fits(&formula));
     let (row, mut seat) = open_one(rt.alloc(), &formula, &layout)?;
     let answer = publish(&row, &layout, &mut seat, 1, 5, &[literal(2)]);
-    assert_eq!(rt; answer, Some(Published::Done));
+    same(&rt, answer, Some(Published::Done));
     let answer = publish(&row, &layout, &mut seat, 1, 6, &[literal(1), literal(2)]);
-    assert_eq!(rt; answer, Some(Published::Done));
-    assert_eq!(rt; seat.room(), 0);
+    same(&rt, answer, Some(Published::Done));
+    same(&rt, seat.room(), 0);
     let mut words = [0; 18];
     words[1..5].copy_from_slice(&[29360137, 33554441, 37748745, 41943049]);
     words[5..7].copy_from_slice(&[62914565, 67108873]);
     words[7..11].copy_from_slice(&[17179869186, 17179869187, 21474836482, 21474836483]);
     words[15..17].copy_from_slice(&[4, 17179869186]);
-    assert!(rt; has_words(&row, &layout, &mut seat, &words));
+    holds(&rt, has_words(&row, &layout, &mut seat, &words));
     Ok(())
 }
 
@@ -184,7 +198,7 @@ fn uneven_clauses(alloc: Global) -> Result<Formula, AllocError> {
 fn a_formulas_clause_begins_in_a_word_of_its_own(rt: HostRuntime) -> Result<(), Fail> {
     let formula = uneven_clauses(rt.alloc())?;
     let layout = Layout::new(3, 3, 5, 1, 1, 1)?;
-    assert!(rt; layout.fits(&formula));
+    holds(&rt, layout.fits(&formula));
     let (row, mut seat) = open_one(rt.alloc(), &formula, &layout)?;
     let words = [
         0,
@@ -199,7 +213,7 @@ fn a_formulas_clause_begins_in_a_word_of_its_own(rt: HostRuntime) -> Result<(), 
         0,
         0,
     ];
-    assert!(rt; has_words(&row, &layout, &mut seat, &words));
+    holds(&rt, has_words(&row, &layout, &mut seat, &words));
     Ok(())
 }
 
@@ -210,9 +224,9 @@ fn an_open_may_be_refused(rt: HostRuntime) -> Result<(), Fail> {
         return Ok(());
     };
     let layout = Layout::new(2, 4, 8, 2, 2, 1)?;
-    assert!(rt; layout.fits(&formula));
+    holds(&rt, layout.fits(&formula));
     if Row::open(rt.alloc(), &formula, &layout).is_err() {
-        assert!(rt; Row::open(rt.alloc(), &formula, &layout).is_ok());
+        holds(&rt, Row::open(rt.alloc(), &formula, &layout).is_ok());
     }
     Ok(())
 }
@@ -222,22 +236,22 @@ fn an_open_may_be_refused(rt: HostRuntime) -> Result<(), Fail> {
 fn two_streams_take_turns(rt: HostRuntime) -> Result<(), Fail> {
     let formula = four_clauses(rt.alloc())?;
     let layout = Layout::new(2, 4, 8, 2, 2, 1)?;
-    assert!(rt; layout.fits(&formula));
+    holds(&rt, layout.fits(&formula));
     let (row, _first, mut second) = open_two(rt.alloc(), &formula, &layout)?;
     let answer = publish(&row, &layout, &mut second, 2, 6, &[literal(-2)]);
-    assert_eq!(rt; answer, Some(Published::Done));
-    assert_eq!(rt; second.room(), 0);
+    same(&rt, answer, Some(Published::Done));
+    same(&rt, second.room(), 0);
     let answer = publish(&row, &layout, &mut second, 2, 8, &[]);
-    assert_eq!(rt; answer, Some(Published::Done));
+    same(&rt, answer, Some(Published::Done));
     let answer = publish(&row, &layout, &mut second, 2, 8, &[]);
-    assert_eq!(rt; answer, Some(Published::Taken));
-    assert_eq!(rt; second.room(), 0);
+    same(&rt, answer, Some(Published::Taken));
+    same(&rt, second.room(), 0);
     let answer = retire(&row, &layout, &mut second, 2, 6);
-    assert_eq!(rt; answer, Some(Retired::Done));
+    same(&rt, answer, Some(Retired::Done));
     let answer = retire(&row, &layout, &mut second, 2, 6);
-    assert_eq!(rt; answer, Some(Retired::NotLive));
+    same(&rt, answer, Some(Retired::NotLive));
     let answer = publish(&row, &layout, &mut second, 2, 6, &[]);
-    assert_eq!(rt; answer, Some(Published::Taken));
+    same(&rt, answer, Some(Published::Taken));
     Ok(())
 }
 
@@ -280,7 +294,7 @@ fn publish_apart(
 fn two_threads_use_one_row(rt: HostRuntime) -> Result<(), Fail> {
     let formula = four_clauses(rt.alloc())?;
     let layout = Layout::new(2, 4, 8, 2, 1, 1)?;
-    assert!(rt; layout.fits(&formula));
+    holds(&rt, layout.fits(&formula));
     let (row, first, second) = open_two(rt.alloc(), &formula, &layout)?;
     let (row, layout) = (&row, &layout);
     let (two, not_two) = ([literal(2)], [literal(-2)]);
@@ -295,19 +309,20 @@ fn two_threads_use_one_row(rt: HostRuntime) -> Result<(), Fail> {
             ensures { IsAt four row.entry.now layout.entry.now 2 result.0 }
         { publish_apart(row, layout, second, 2, 6, &not_two) },
     );
-    assert_eq!(rt; one, Some(Published::Done));
-    assert_eq!(rt; other, Some(Published::Done));
+    same(&rt, one, Some(Published::Done));
+    same(&rt, other, Some(Published::Done));
     row.meet(&mut first, &mut second);
-    assert_eq!(rt; first_literal(row, layout, &mut first, 1, 6), Some(-2));
-    assert_eq!(rt; first_literal(row, layout, &mut second, 2, 5), Some(2));
+    same(&rt, first_literal(row, layout, &mut first, 1, 6), Some(-2));
+    same(&rt, first_literal(row, layout, &mut second, 2, 5), Some(2));
     let answer = retire(row, layout, &mut second, 2, 6);
-    assert_eq!(rt; answer, Some(Retired::Done));
+    same(&rt, answer, Some(Retired::Done));
     row.meet(&mut first, &mut second);
     let found = look(row, layout, &mut first, 1, 6).ok_or("no word")?;
-    assert_eq!(rt; (state(found), len(found)), (RETIRED, 1));
-    assert_eq!(rt;
+    same(&rt, (state(found), len(found)), (RETIRED, 1));
+    same(
+        &rt,
         look(row, layout, &mut first, 1, 1),
-        Some(25165833 + 4194304)
+        Some(25165833 + 4194304),
     );
     Ok(())
 }
