@@ -394,17 +394,17 @@ fn one_client_has_both_maps(rt: HostRuntime) -> Result<(), Fail> {
     let mut map = PlainMap::open(rt.alloc(), &formula, &layout)?;
     let (store, a, b) = open_two(rt.alloc(), &formula, layout)?;
     let wanted = (Some(Published::Done), None);
-    same(&rt, at_plain_desk(&mut map, 1, 5, 6), wanted);
+    assert_eq!(rt; at_plain_desk(&mut map, 1, 5, 6), wanted);
     let (a, found) = at_desk(&store, a, 5, 6, 1);
-    same(&rt, found, wanted);
+    assert_eq!(rt; found, wanted);
     let wanted = (Some(Published::Done), Some(lit(2)));
-    same(&rt, at_plain_desk(&mut map, 2, 6, 5), wanted);
+    assert_eq!(rt; at_plain_desk(&mut map, 2, 6, 5), wanted);
     let (_b, found) = at_desk(&store, b, 6, 5, 1);
-    same(&rt, found, wanted);
+    assert_eq!(rt; found, wanted);
     let wanted = (None, Some(lit(2)));
-    same(&rt, at_plain_desk(&mut map, 1, 6, 6), wanted);
+    assert_eq!(rt; at_plain_desk(&mut map, 1, 6, 6), wanted);
     let (_a, found) = at_desk(&store, a, 6, 6, 1);
-    same(&rt, found, wanted);
+    assert_eq!(rt; found, wanted);
     Ok(())
 }
 
