@@ -9,11 +9,18 @@ use crate::{Checker, Ending, Fault, Gate, Report, Turn};
 use lrup_model::{ClauseMap, Formula, Id, Layout, Lit, PlainMap};
 use lrup_text::LineFault;
 use std::alloc::{AllocError, Global};
+use std::fmt;
+use std::process::Abort;
 use std::test::Fail;
 
 mod late_map;
 mod memory;
 mod two_streams;
+
+/// Stops the test where two values differ: an assertion that is proved once for all tests.
+fn same<T: PartialEq + fmt::Debug + Drop>(rt: &impl Abort, value: T, wanted: T) {
+    assert_eq!(rt; value, wanted);
+}
 
 /// What a gate was told.
 #[derive(Clone, Copy, Debug, PartialEq, Eq)]
@@ -172,128 +179,185 @@ const FIRST_OF_TWO: Options = Options {
     tries: 0,
 };
 
+/// Each of these streams, checked so, has this report; where it stands there, its gate is told this.
+fn have_reports(
+    rt: &impl Abort,
+    alloc: Global,
+    rows: &[(Options, &str, Report, Option<Told>)],
+) -> Result<(), Fail> {
+    for &(options, lines, said, told) in rows {
+        let (report, gate) = one_report(alloc, options, lines.as_bytes())?;
+        let heard = if told.is_some() { Some(gate) } else { None };
+        same(rt, (lines, report, heard), (lines, said, told));
+    }
+    Ok(())
+}
+
 #[test]
 fn good_lines_are_counted(rt: HostRuntime) -> Result<(), Fail> {
-    let alloc = rt.alloc();
-    let (said, told) = one_report(alloc, DEFAULTS, b"5 2 0 1 2 0\n6 0 5 3 4 0\n")?;
-    assert_eq!(rt; said, said_of(2, 0, true, Ending::Ended));
-    assert_eq!(rt; told, told_of(5, 1, 2));
-    let (said, _) = one_report(alloc, DEFAULTS, b"")?;
-    assert_eq!(rt; said, said_of(0, 0, false, Ending::Ended));
-    let options = Options {
+    let little_room = Options {
         room: 1,
         ..DEFAULTS
     };
-    let (said, _) = one_report(alloc, options, b"5 2 2 0 1 2 0\n")?;
-    assert_eq!(rt; said, said_of(1, 0, false, Ending::Ended));
-    Ok(())
+    have_reports(
+        &rt,
+        rt.alloc(),
+        &[
+            (
+                DEFAULTS,
+                "5 2 0 1 2 0\n6 0 5 3 4 0\n",
+                said_of(2, 0, true, Ending::Ended),
+                Some(told_of(5, 1, 2)),
+            ),
+            (DEFAULTS, "", said_of(0, 0, false, Ending::Ended), None),
+            (
+                little_room,
+                "5 2 2 0 1 2 0\n",
+                said_of(1, 0, false, Ending::Ended),
+                None,
+            ),
+        ],
+    )
 }
 
 #[test]
 fn an_empty_clause_stays_counted(rt: HostRuntime) -> Result<(), Fail> {
     let lines = b"5 2 0 1 2 0\n6 0 5 3 4 0\n7 2 0 1 0\n";
     let (said, _) = one_report(rt.alloc(), DEFAULTS, lines)?;
-    assert_eq!(rt;
+    same(
+        &rt,
         said,
-        said_of(2, 0, true, Ending::Bad(3, Fault::NoConflict))
+        said_of(2, 0, true, Ending::Bad(3, Fault::NoConflict)),
     );
     Ok(())
 }
 
 #[test]
 fn hints_are_judged_one_after_the_other(rt: HostRuntime) -> Result<(), Fail> {
-    let alloc = rt.alloc();
-    let (said, told) = one_report(alloc, DEFAULTS, b"5 2 0 2 3 0\n")?;
-    assert_eq!(rt; said, first_bad(Fault::NotUnit(3)));
-    assert_eq!(rt; told, told_of(2, 1, 0));
-    let (said, told) = one_report(alloc, DEFAULTS, b"5 2 0 1 2 3 0\n")?;
-    assert_eq!(rt; said, first_bad(Fault::Excess(3)));
-    assert_eq!(rt; told, told_of(2, 1, 0));
-    let (said, _) = one_report(alloc, DEFAULTS, b"5 2 0 1 0\n")?;
-    assert_eq!(rt; said, first_bad(Fault::NoConflict));
-    let (said, told) = one_report(alloc, DEFAULTS, b"5 2 0 0\n")?;
-    assert_eq!(rt; said, first_bad(Fault::NoConflict));
-    assert_eq!(rt; told, told_of(0, 0, 0));
-    let (said, told) = one_report(alloc, DEFAULTS, b"5 2 0 5 0\n")?;
-    assert_eq!(rt; said, first_bad(Fault::Missing(5)));
-    assert_eq!(rt; told, told_of(1, 1, 0));
-    Ok(())
+    have_reports(
+        &rt,
+        rt.alloc(),
+        &[
+            (
+                DEFAULTS,
+                "5 2 0 2 3 0\n",
+                first_bad(Fault::NotUnit(3)),
+                Some(told_of(2, 1, 0)),
+            ),
+            (
+                DEFAULTS,
+                "5 2 0 1 2 3 0\n",
+                first_bad(Fault::Excess(3)),
+                Some(told_of(2, 1, 0)),
+            ),
+            (DEFAULTS, "5 2 0 1 0\n", first_bad(Fault::NoConflict), None),
+            (
+                DEFAULTS,
+                "5 2 0 0\n",
+                first_bad(Fault::NoConflict),
+                Some(told_of(0, 0, 0)),
+            ),
+            (
+                DEFAULTS,
+                "5 2 0 5 0\n",
+                first_bad(Fault::Missing(5)),
+                Some(told_of(1, 1, 0)),
+            ),
+        ],
+    )
 }
 
 #[test]
 fn the_first_test_that_fails_decides(rt: HostRuntime) -> Result<(), Fail> {
-    let alloc = rt.alloc();
-    let (said, _) = one_report(alloc, DEFAULTS, b"5 d 3 0\n5 2 0 1 2 3 0\n")?;
-    assert_eq!(rt;
-        said,
-        said_of(0, 1, false, Ending::Bad(2, Fault::Excess(3)))
-    );
-    let (said, _) = one_report(alloc, DEFAULTS, b"5 2 0 1 2 5 0\n")?;
-    assert_eq!(rt; said, first_bad(Fault::Excess(5)));
-    let (said, told) = one_report(alloc, FIRST_OF_TWO, b"5 d 6 0\n5 2 0 6 0\n")?;
-    assert_eq!(rt;
-        said,
-        said_of(0, 1, false, Ending::Bad(2, Fault::Dropped(6)))
-    );
-    assert_eq!(rt; told, told_of(0, 0, 0));
-    let (said, _) = one_report(alloc, DEFAULTS, b"9999999 3 -3 0 1 0\n")?;
-    assert_eq!(rt; said, first_bad(Fault::Identity));
-    Ok(())
+    have_reports(
+        &rt,
+        rt.alloc(),
+        &[
+            (
+                DEFAULTS,
+                "5 d 3 0\n5 2 0 1 2 3 0\n",
+                said_of(0, 1, false, Ending::Bad(2, Fault::Excess(3))),
+                None,
+            ),
+            (
+                DEFAULTS,
+                "5 2 0 1 2 5 0\n",
+                first_bad(Fault::Excess(5)),
+                None,
+            ),
+            (
+                FIRST_OF_TWO,
+                "5 d 6 0\n5 2 0 6 0\n",
+                said_of(0, 1, false, Ending::Bad(2, Fault::Dropped(6))),
+                Some(told_of(0, 0, 0)),
+            ),
+            (
+                DEFAULTS,
+                "9999999 3 -3 0 1 0\n",
+                first_bad(Fault::Identity),
+                None,
+            ),
+        ],
+    )
 }
 
 #[test]
 fn a_vacant_hint_is_fetched_again(rt: HostRuntime) -> Result<(), Fail> {
-    let alloc = rt.alloc();
-    let line = b"5 0 6 0\n";
-    let (said, told) = one_report(alloc, FIRST_OF_TWO, line)?;
-    assert_eq!(rt; said, first_bad(Fault::Missing(6)));
-    assert_eq!(rt; told, told_of(1, 1, 0));
-    let options = Options {
-        tries: 1,
+    let line = "5 0 6 0\n";
+    let missing = first_bad(Fault::Missing(6));
+    let tries = |tries| Options {
+        tries,
         ..FIRST_OF_TWO
     };
-    let (said, told) = one_report(alloc, options, line)?;
-    assert_eq!(rt; said, first_bad(Fault::Missing(6)));
-    assert_eq!(rt; told, told_of(2, 2, 0));
-    let options = Options {
-        tries: 3,
-        ..FIRST_OF_TWO
-    };
-    let (said, told) = one_report(alloc, options, line)?;
-    assert_eq!(rt; said, first_bad(Fault::Missing(6)));
-    assert_eq!(rt; told, told_of(4, 4, 0));
-    let (said, told) = one_report(alloc, options, b"5 0 9999999 0\n")?;
-    assert_eq!(rt; said, first_bad(Fault::Missing(9_999_999)));
-    assert_eq!(rt; told, told_of(0, 0, 0));
-    Ok(())
+    have_reports(
+        &rt,
+        rt.alloc(),
+        &[
+            (FIRST_OF_TWO, line, missing, Some(told_of(1, 1, 0))),
+            (tries(1), line, missing, Some(told_of(2, 2, 0))),
+            (tries(3), line, missing, Some(told_of(4, 4, 0))),
+            (
+                tries(3),
+                "5 0 9999999 0\n",
+                first_bad(Fault::Missing(9_999_999)),
+                Some(told_of(0, 0, 0)),
+            ),
+        ],
+    )
 }
 
 #[test]
 fn identities_are_deleted_from_the_left(rt: HostRuntime) -> Result<(), Fail> {
-    let alloc = rt.alloc();
-    let lines = b"5 2 0 1 2 0\n5 d 5 0\n6 0 5 3 4 0\n";
-    let (said, told) = one_report(alloc, DEFAULTS, lines)?;
-    assert_eq!(rt;
-        said,
-        said_of(1, 1, false, Ending::Bad(3, Fault::Retired(5)))
-    );
-    assert_eq!(rt; told, told_of(3, 1, 1));
-    let (said, _) = one_report(alloc, DEFAULTS, b"5 2 0 1 2 0\n5 d 5 5 0\n")?;
-    assert_eq!(rt;
-        said,
-        said_of(1, 1, false, Ending::Bad(2, Fault::NotLive(5)))
-    );
-    let (said, _) = one_report(alloc, DEFAULTS, b"5 d 1 1 0\n")?;
-    assert_eq!(rt;
-        said,
-        said_of(0, 1, false, Ending::Bad(1, Fault::NotLive(1)))
-    );
-    let (said, _) = one_report(alloc, DEFAULTS, b"5 d 1 0\n5 2 0 1 2 0\n")?;
-    assert_eq!(rt;
-        said,
-        said_of(0, 1, false, Ending::Bad(2, Fault::Dropped(1)))
-    );
-    Ok(())
+    have_reports(
+        &rt,
+        rt.alloc(),
+        &[
+            (
+                DEFAULTS,
+                "5 2 0 1 2 0\n5 d 5 0\n6 0 5 3 4 0\n",
+                said_of(1, 1, false, Ending::Bad(3, Fault::Retired(5))),
+                Some(told_of(3, 1, 1)),
+            ),
+            (
+                DEFAULTS,
+                "5 2 0 1 2 0\n5 d 5 5 0\n",
+                said_of(1, 1, false, Ending::Bad(2, Fault::NotLive(5))),
+                None,
+            ),
+            (
+                DEFAULTS,
+                "5 d 1 1 0\n",
+                said_of(0, 1, false, Ending::Bad(1, Fault::NotLive(1))),
+                None,
+            ),
+            (
+                DEFAULTS,
+                "5 d 1 0\n5 2 0 1 2 0\n",
+                said_of(0, 1, false, Ending::Bad(2, Fault::Dropped(1))),
+                None,
+            ),
+        ],
+    )
 }
 
 #[test]
@@ -324,7 +388,7 @@ fn the_room_ends(rt: HostRuntime) -> Result<(), Fail> {
     ] {
         let options = Options { room, ..DEFAULTS };
         let (found, _) = one_report(rt.alloc(), options, lines.as_bytes())?;
-        assert_eq!(rt; found, said, "{room} {lines}");
+        same(&rt, (room, lines, found), (room, lines, said));
     }
     Ok(())
 }
@@ -357,7 +421,11 @@ fn the_identities_end(rt: HostRuntime) -> Result<(), Fail> {
             ..DEFAULTS
         };
         let (found, _) = one_report(rt.alloc(), options, lines.as_bytes())?;
-        assert_eq!(rt; found, said, "{stream} of {streams}: {lines}");
+        same(
+            &rt,
+            (stream, streams, lines, found),
+            (stream, streams, lines, said),
+        );
     }
     Ok(())
 }
@@ -380,60 +448,82 @@ fn identities_rise(rt: HostRuntime) -> Result<(), Fail> {
         ),
     ] {
         let (found, _) = one_report(rt.alloc(), DEFAULTS, lines.as_bytes())?;
-        assert_eq!(rt; found, said, "{lines}");
+        same(&rt, (lines, found), (lines, said));
     }
     Ok(())
 }
 
 #[test]
 fn a_bad_identity_fetches_nothing(rt: HostRuntime) -> Result<(), Fail> {
-    let (said, told) = one_report(rt.alloc(), FIRST_OF_TWO, b"6 2 0 1 2 0\n")?;
-    assert_eq!(rt; said, first_bad(Fault::Identity));
-    assert_eq!(rt; told, told_of(0, 0, 0));
-    let options = Options {
+    let one_line = Options {
         lines: 1,
         ..DEFAULTS
     };
-    let (said, told) = one_report(rt.alloc(), options, b"5 2 0 1 2 0\n6 0 5 3 4 0\n")?;
-    assert_eq!(rt; said, said_of(1, 0, false, Ending::Bad(2, Fault::Identity)));
-    assert_eq!(rt; told, told_of(2, 1, 1));
-    Ok(())
+    have_reports(
+        &rt,
+        rt.alloc(),
+        &[
+            (
+                FIRST_OF_TWO,
+                "6 2 0 1 2 0\n",
+                first_bad(Fault::Identity),
+                Some(told_of(0, 0, 0)),
+            ),
+            (
+                one_line,
+                "5 2 0 1 2 0\n6 0 5 3 4 0\n",
+                said_of(1, 0, false, Ending::Bad(2, Fault::Identity)),
+                Some(told_of(2, 1, 1)),
+            ),
+        ],
+    )
 }
 
 #[test]
 fn bad_clauses_are_refused_before_their_hints(rt: HostRuntime) -> Result<(), Fail> {
-    let alloc = rt.alloc();
-    let (said, told) = one_report(alloc, DEFAULTS, b"5 1 -1 0 1 0\n")?;
-    assert_eq!(rt; said, first_bad(Fault::Tautology));
-    assert_eq!(rt; told, told_of(0, 0, 0));
-    let (said, _) = one_report(alloc, DEFAULTS, b"5 3 -3 0 1 0\n")?;
-    assert_eq!(rt; said, first_bad(Fault::Literal));
-    let (said, _) = one_report(alloc, DEFAULTS, b"999999999999999999 2 0 1 2 0\n")?;
-    assert_eq!(rt; said, first_bad(Fault::Identity));
-    Ok(())
+    have_reports(
+        &rt,
+        rt.alloc(),
+        &[
+            (
+                DEFAULTS,
+                "5 1 -1 0 1 0\n",
+                first_bad(Fault::Tautology),
+                Some(told_of(0, 0, 0)),
+            ),
+            (DEFAULTS, "5 3 -3 0 1 0\n", first_bad(Fault::Literal), None),
+            (
+                DEFAULTS,
+                "999999999999999999 2 0 1 2 0\n",
+                first_bad(Fault::Identity),
+                None,
+            ),
+        ],
+    )
 }
 
 #[test]
 fn bad_texts_end_the_reading(rt: HostRuntime) -> Result<(), Fail> {
-    let alloc = rt.alloc();
-    let (said, _) = one_report(alloc, DEFAULTS, b"5 1 0 -2 0\n")?;
-    assert_eq!(rt; said, first_bad(Fault::Text(LineFault::RatHint)));
-    let (said, _) = one_report(alloc, DEFAULTS, b"5  2 0 1 2 0\n6 0 5 3 4 0\n")?;
-    assert_eq!(rt; said, first_bad(Fault::Text(LineFault::Spelling)));
-    let (said, _) = one_report(alloc, DEFAULTS, b"1000000000000000000 2 0 1 2 0\n")?;
-    assert_eq!(rt; said, first_bad(Fault::Text(LineFault::TooLong)));
-    let (said, _) = one_report(alloc, DEFAULTS, b"5 2 0 1 2 0")?;
-    assert_eq!(rt; said, first_bad(Fault::Text(LineFault::Truncated)));
-    let (said, _) = one_report(alloc, DEFAULTS, b"5 2 0 1 2 0\n6")?;
-    assert_eq!(rt;
-        said,
-        said_of(
-            1,
-            0,
-            false,
-            Ending::Bad(2, Fault::Text(LineFault::Truncated))
-        )
-    );
+    let unfinished = Fault::Text(LineFault::Truncated);
+    for (lines, said) in [
+        ("5 1 0 -2 0\n", first_bad(Fault::Text(LineFault::RatHint))),
+        (
+            "5  2 0 1 2 0\n6 0 5 3 4 0\n",
+            first_bad(Fault::Text(LineFault::Spelling)),
+        ),
+        (
+            "1000000000000000000 2 0 1 2 0\n",
+            first_bad(Fault::Text(LineFault::TooLong)),
+        ),
+        ("5 2 0 1 2 0", first_bad(unfinished)),
+        (
+            "5 2 0 1 2 0\n6",
+            said_of(1, 0, false, Ending::Bad(2, unfinished)),
+        ),
+    ] {
+        let (found, _) = one_report(rt.alloc(), DEFAULTS, lines.as_bytes())?;
+        same(&rt, (lines, found), (lines, said));
+    }
     Ok(())
 }
 
@@ -441,18 +531,13 @@ fn bad_texts_end_the_reading(rt: HostRuntime) -> Result<(), Fail> {
 fn a_failed_read_is_told(rt: HostRuntime) -> Result<(), Fail> {
     let layout = Layout::new(2, 4, 8, 1, 9, 9)?;
     let mut checker = Checker::new(rt.alloc(), 1, &layout, 0)?;
-    assert!(rt; !checker.is_over());
+    same(&rt, checker.is_over(), false);
+    let told = said_of(0, 0, false, Ending::ReadFailed(1));
     checker.read_failed();
     assert!(rt; checker.is_over());
-    assert_eq!(rt;
-        checker.report(),
-        said_of(0, 0, false, Ending::ReadFailed(1))
-    );
+    same(&rt, checker.report(), told);
     checker.end();
     assert!(rt; checker.is_over());
-    assert_eq!(rt;
-        checker.report(),
-        said_of(0, 0, false, Ending::ReadFailed(1))
-    );
+    same(&rt, checker.report(), told);
     Ok(())
 }
