@@ -1,8 +1,10 @@
-use Rattle.std.proofs.Common.{arith, rules, ◌≤◌, get_or, to_z, of_z, w64, subst, sym}
+use Rattle.std.proofs.Common.{arith, rules, ◌≡◌, ◌≤◌, ◌++◌, ◌∷◌, [], ◌∙◌, take, get_or, to_z, of_z, w64, ap, subst, sym}
 use Rattle.std.specs.Prelude.{pos, nat_abs}
+use Rattle.std.specs.List.{AllByRecursion}
 use Rattle.std.proofs.lemmas.Int.{to_z-of_z}
 use mir.Val.{SFits}
 use Rattle.lrup_model.specs.Literal.{IsLiteral, max_variable}
+use Rattle.lrup_model.specs.ClauseLemmas.{All-push, take-read}
 use Rattle.std.proofs.lemmas.List.Elements.{All-from_recursion}
 use Rattle.stream_check.proofs.addition.read_literals.Goals as goal
 
@@ -17,3 +19,19 @@ returns-in_default-2-clause-within c = (
       let lit : IsLiteral max_variable (to_z w64 (of_z w64 z)) = subst (IsLiteral max_variable) (sym (to_z-of_z w64 z fits)) (here.0, most) in
       c.in_default.ensures.literal.1 lit,
 )
+
+pub loop-number-preserved : goal.loop-number-preserved
+loop-number-preserved c =
+    let xs = c.args.numbers.now in
+    let k = c.loop-number.number-index in
+    let x = c.in-Some.lit in
+    let same : x ≡ get_or xs k x = search rules in
+    let next = take-read xs k x c.loop-number-test.true same in
+    let most : nat_abs x ≤ c.args.vars = omega (arith, c.var.ensures.variable, c.if-var-vars.true) in
+    let here : IsLiteral c.args.vars x = (c.var.ensures.literal.0, most) in
+    record {
+      items = c.push_reserved.ensures.items ∙ ap (λ ls. ls ++ x ∷ []) c.loop-number.invariant.items ∙ sym next;
+      within = subst (AllByRecursion (IsLiteral c.args.vars)) (sym next) (All-push (IsLiteral c.args.vars) (take k xs) x c.loop-number.invariant.within here);
+      count = search rules;
+      capacity = search rules;
+    }
