@@ -1,5 +1,5 @@
 -- Why the program ends without a report: what it says of that, and its status (this project's own).
-use Rattle.std.specs.Prelude.{ℕ, List, [], ◌++◌, codes, Option, None, Some}
+use Rattle.std.specs.Prelude.{ℕ, List, ◌++◌, codes, Option}
 use Rattle.std.specs.Fmt.{decimal}
 use Rattle.command_line.specs.declared.words.WordsFault.{WordsFault}
 use Rattle.command_line.specs.declared.words.WordsFault.TheVariants as words
@@ -10,6 +10,7 @@ use Rattle.lrup_model.specs.declared.layout.LayoutFault.{LayoutFault}
 use Rattle.lrup_model.specs.declared.layout.LayoutFault.TheVariants as layouts
 use Rattle.portfolio.specs.declared.outcome.RunFault.{RunFault}
 use Rattle.portfolio.specs.declared.outcome.RunFault.TheVariants as runs
+use Rattle.stream_check.specs.Faults.{number_text}
 use Rattle.command.specs.declared.files.OpenFault.{OpenFault}
 use Rattle.command.specs.declared.files.OpenFault.TheVariants as opens
 use Rattle.command.specs.declared.fault.CommandFault.{CommandFault}
@@ -81,9 +82,5 @@ text_of (faults.Usage text) = text
 text_of fault = line_of (cause_text fault)
 
 -- a text, a number if there is one, and the rest
-abbrev pub number_text : Option ℕ → List ℕ
-number_text None = []
-number_text (Some number) = decimal number
-
 abbrev pub cause_bytes : List ℕ → Option ℕ → List ℕ → List ℕ
 cause_bytes text number rest = text ++ number_text number ++ rest

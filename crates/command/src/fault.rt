@@ -3,7 +3,8 @@ ghost use Rattle.std.specs.Prelude.{◌≡◌, [], Some, false, is_err};
 ghost use Rattle.lrup_text.specs.Writing.{PutsAll, WritesText};
 ghost use Rattle.lrup_model.specs.Layout.{fault_text as layout_text};
 ghost use Rattle.command.specs.Faults.{cause_bytes, cause_text, formula_fault_text, line_of};
-ghost use Rattle.command.specs.Faults.{number_text, status_of, text_of};
+ghost use Rattle.command.specs.Faults.{status_of, text_of};
+ghost use Rattle.stream_check.specs.Faults.{number_text};
 
 use crate::files::OpenFault;
 use command_line::{UsageText, WordsFault};

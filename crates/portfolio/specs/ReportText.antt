@@ -1,5 +1,5 @@
 -- The text of a run's report (this project's own).
-use Rattle.std.specs.Prelude.{◌+◌, ◌++◌, ℕ, List, [], ◌∷◌, Option, None, Some, codes}
+use Rattle.std.specs.Prelude.{◌+◌, ◌++◌, ℕ, List, [], ◌∷◌, codes}
 use Rattle.std.specs.Fmt.{decimal}
 use Rattle.stream_check.specs.Faults.{fault_text}
 use Rattle.stream_check.specs.declared.report.Ending.{Ending}
@@ -7,11 +7,6 @@ use Rattle.stream_check.specs.declared.report.Ending.TheVariants as endings
 use Rattle.stream_check.specs.declared.report.Report.{Report}
 use Rattle.portfolio.specs.declared.outcome.Verdict.{Verdict}
 use Rattle.portfolio.specs.declared.outcome.Verdict.TheVariants as verdicts
-
--- a number in decimal, where there is one
-abbrev pub number_text : Option ℕ → List ℕ
-number_text None = []
-number_text (Some n) = decimal n
 
 abbrev pub ending_text : Ending → List ℕ
 ending_text endings.Ended = codes "ended"

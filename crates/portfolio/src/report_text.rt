@@ -3,10 +3,10 @@ ghost use Rattle.std.specs.Prelude.{◌≡◌, ◌++◌, false, is_err};
 ghost use Rattle.std.specs.Fmt.{decimal};
 ghost use Rattle.lrup_text.specs.Writing.{PutsAll, WritesText};
 ghost use Rattle.stream_check.specs.Faults.{fault_text};
-ghost use Rattle.portfolio.specs.ReportText.{ending_text, number_text, report_text, stream_line, verdict_line};
+ghost use Rattle.portfolio.specs.ReportText.{ending_text, report_text, stream_line, verdict_line};
 
 use crate::outcome::Verdict;
-use lrup_text::{LineFault, Sink, WriteBuffer, WriteFault};
+use lrup_text::{Sink, WriteBuffer, WriteFault};
 use stream_check::{Ending, Fault, Report};
 
 /// Writes the line of each stream, in order, and the verdict's line. After a fault, what went out is a beginning of the text.
@@ -92,33 +92,11 @@ fn put_fault<W: Sink>(
         buffer.old buffer.new (fault_text fault) }
     ensures failed { W.has_failed sink.new ≡ is_err result }
 {
-    let (words, number) = fault_words(fault);
+    let (words, number) = fault.words();
+    let text = words.as_bytes();
     match number {
-        None => buffer.put(words, sink),
-        Some(number) => put_numbered(buffer, words, number, sink),
-    }
-}
-
-/// The words for a fault, and the number that follows them, where one does.
-fn fault_words(fault: Fault) -> (&'static [u8], Option<u64>)
-    ensures { fault_text fault ≡ result.0.now ++ number_text result.1 }
-{
-    match fault {
-        Fault::Text(LineFault::Spelling) => (b"spelling", None),
-        Fault::Text(LineFault::TooLong) => (b"too long", None),
-        Fault::Text(LineFault::Truncated) => (b"truncated", None),
-        Fault::Text(LineFault::RatHint) => (b"rat hint", None),
-        Fault::Identity => (b"identity", None),
-        Fault::Literal => (b"literal", None),
-        Fault::Tautology => (b"tautology", None),
-        Fault::NoRoom => (b"no room", None),
-        Fault::Dropped(hint) => (b"dropped ", Some(hint)),
-        Fault::Missing(hint) => (b"missing ", Some(hint)),
-        Fault::Retired(hint) => (b"retired ", Some(hint)),
-        Fault::NotUnit(hint) => (b"not unit ", Some(hint)),
-        Fault::Excess(hint) => (b"excess ", Some(hint)),
-        Fault::NoConflict => (b"no conflict", None),
-        Fault::NotLive(id) => (b"not live ", Some(id)),
+        None => buffer.put(text, sink),
+        Some(number) => put_numbered(buffer, text, number, sink),
     }
 }
 

@@ -1,5 +1,5 @@
 -- The texts of the faults of a line (this project's own).
-use Rattle.std.specs.Prelude.{◌++◌, ℕ, List, codes}
+use Rattle.std.specs.Prelude.{◌++◌, ℕ, List, [], Option, None, Some, codes}
 use Rattle.std.specs.Fmt.{decimal}
 use Rattle.lrup_text.specs.declared.LineFault.TheVariants as texts
 use Rattle.stream_check.specs.declared.fault.Fault.{Fault}
@@ -22,3 +22,8 @@ fault_text (faults.NotUnit hint) = codes "not unit " ++ decimal hint
 fault_text (faults.Excess hint) = codes "excess " ++ decimal hint
 fault_text faults.NoConflict = codes "no conflict"
 fault_text (faults.NotLive id) = codes "not live " ++ decimal id
+
+-- a number in decimal, where there is one
+abbrev pub number_text : Option ℕ → List ℕ
+number_text None = []
+number_text (Some n) = decimal n

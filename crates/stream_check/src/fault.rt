@@ -1,6 +1,6 @@
 //! Why a line is bad.
-ghost use Rattle.std.specs.Prelude.{Some};
-ghost use Rattle.stream_check.specs.Faults.{fault_text};
+ghost use Rattle.std.specs.Prelude.{◌≡◌, ◌++◌, Some};
+ghost use Rattle.stream_check.specs.Faults.{fault_text, number_text};
 
 use lrup_model::Id;
 use lrup_text::LineFault;
@@ -36,26 +36,39 @@ pub enum Fault {
     NotLive(Id),
 }
 
+impl Fault {
+    /// Its words, and the identity that follows them, where one does.
+    pub fn words(self) -> (&'static str, Option<Id>)
+        ensures { fault_text self ≡ result.0.now ++ number_text result.1 }
+    {
+        match self {
+            Fault::Text(LineFault::Spelling) => ("spelling", None),
+            Fault::Text(LineFault::TooLong) => ("too long", None),
+            Fault::Text(LineFault::Truncated) => ("truncated", None),
+            Fault::Text(LineFault::RatHint) => ("rat hint", None),
+            Fault::Identity => ("identity", None),
+            Fault::Literal => ("literal", None),
+            Fault::Tautology => ("tautology", None),
+            Fault::NoRoom => ("no room", None),
+            Fault::Dropped(hint) => ("dropped ", Some(hint)),
+            Fault::Missing(hint) => ("missing ", Some(hint)),
+            Fault::Retired(hint) => ("retired ", Some(hint)),
+            Fault::NotUnit(hint) => ("not unit ", Some(hint)),
+            Fault::Excess(hint) => ("excess ", Some(hint)),
+            Fault::NoConflict => ("no conflict", None),
+            Fault::NotLive(id) => ("not live ", Some(id)),
+        }
+    }
+}
+
 impl fmt::Display for Fault {
     ghost output = { λ fault. Some (fault_text fault) };
 
     fn fmt<W: fmt::Write>(&self, f: &mut fmt::Formatter<W>) -> fmt::Result {
-        match *self {
-            Fault::Text(LineFault::Spelling) => f.write_str("spelling"),
-            Fault::Text(LineFault::TooLong) => f.write_str("too long"),
-            Fault::Text(LineFault::Truncated) => f.write_str("truncated"),
-            Fault::Text(LineFault::RatHint) => f.write_str("rat hint"),
-            Fault::Identity => f.write_str("identity"),
-            Fault::Literal => f.write_str("literal"),
-            Fault::Tautology => f.write_str("tautology"),
-            Fault::NoRoom => f.write_str("no room"),
-            Fault::Dropped(hint) => write!(f, "dropped {hint}"),
-            Fault::Missing(hint) => write!(f, "missing {hint}"),
-            Fault::Retired(hint) => write!(f, "retired {hint}"),
-            Fault::NotUnit(hint) => write!(f, "not unit {hint}"),
-            Fault::Excess(hint) => write!(f, "excess {hint}"),
-            Fault::NoConflict => f.write_str("no conflict"),
-            Fault::NotLive(id) => write!(f, "not live {id}"),
+        let (words, number) = self.words();
+        match number {
+            None => f.write_str(words),
+            Some(number) => write!(f, "{words}{number}"),
         }
     }
 }

@@ -1,6 +1,6 @@
 use Rattle.std.proofs.Common.{refl}
 use Rattle.lrup_text.specs.WritingLemmas.{at_err, breaks_more, breaks_then, puts_then, puts_all_next}
-use Rattle.command.specs.Faults.{number_text}
+use Rattle.stream_check.specs.Faults.{number_text}
 use Rattle.command.proofs.fault.put_cause.Goals as goal
 
 pub returns-in_err-put-clause-puts : goal.returns-in_err-put-clause-puts

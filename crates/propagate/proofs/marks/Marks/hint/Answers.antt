@@ -1,5 +1,4 @@
-use Rattle.std.proofs.Common.{[], ◌∷◌, ◌++◌, neg_ℤ, false, refl, ap, subst}
-use Rattle.std.proofs.lemmas.List.{take-append-le}
+use Rattle.std.proofs.Common.{false, refl, ap, subst}
 use Rattle.lrup_model.specs.Place.{text_of}
 use Rattle.lrup_model.specs.PassLemmas.{known_follows}
 use Rattle.lrup_model.specs.Propagation.{IsConflict, IsUnit}
@@ -42,13 +41,6 @@ pub returns-in-One-clause-unit : goal.returns-in-One-clause-unit
 returns-in-One-clause-unit g c =
     let d = text_of (g.M.ClauseMap.place c.args.map.now) c.args.clip.now in
     (λ same. (c.in-One.lit, subst (λ m. IsUnit m.falses d c.in-One.lit) c.self.view_is c.in-One.ensures.left), λ some. refl)
-
-pub returns-in-One-clause-step : goal.returns-in-One-clause-step
-returns-in-One-clause-step g c =
-    let d = text_of (g.M.ClauseMap.place c.args.map.now) c.args.clip.now in
-    let unit = subst (λ m. IsUnit m.falses d c.in-One.lit) c.self.view_is c.in-One.ensures.left in
-    let same = ap {A = Propagation} (λ m. record m { falses = m.falses ++ neg_ℤ c.in-One.lit ∷ [] }) c.self.view_is in
-    (c.in-One.lit, unit, rw (c.add.ensures, c.complement.ensures, take-append-le _ _ _ c.self.invariant) same)
 
 pub returns-in-More-clause-conflict : goal.returns-in-More-clause-conflict
 returns-in-More-clause-conflict g c =
