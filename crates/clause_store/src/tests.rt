@@ -54,15 +54,17 @@ fn four_clauses(alloc: Global) -> Result<Formula, AllocError>
     Ok(formula)
 }
 
-/// The store of a layout of two streams, and their passes.
-fn open_two(alloc: Global, formula: &Formula, layout: Layout) -> Result<(Store, Pass, Pass), Fail>
-    requires formula { formula.now ≡ four }
-    requires fits { Fits layout formula.now }
-    requires streams { layout.streams ≡ 2 }
+/// A store of four clauses for two streams with so many identities and so much room each, and their passes.
+fn open_two(alloc: Global, identities: u64, room: u64) -> Result<(Store, Pass, Pass), Fail>
     ensures first { IfOk result (λ opened. IsAt four opened.0 opened.1) }
     ensures second { IfOk result (λ opened. IsAt four opened.0 opened.2) }
 {
-    let (store, mut passes) = Store::open(alloc, formula, layout)?;
+    let formula = four_clauses(alloc)?;
+    let layout = Layout::new(2, 4, 8, 2, identities, room)?;
+    if !layout.fits(&formula) {
+        return Err("no layout".into());
+    }
+    let (store, mut passes) = Store::open(alloc, &formula, layout)?;
     let second = passes.pop().ok_or("no pass")?;
     let first = passes.pop().ok_or("one pass")?;
     Ok((store, first, second))
@@ -104,18 +106,6 @@ fn live(store: &Store, pass: &mut Pass, id: Id) -> Option<Clip>
         Fetched::Live(clip) => Some(clip),
         _ => None,
     }
-}
-
-/// The first literal of a clip's clause.
-fn first_literal(store: &Store, pass: &mut Pass, clip: &Clip) -> Option<Lit>
-    requires at { IsAt four store.now pass.old }
-    requires known { IsKnown (pass_place pass.old.view) clip.now }
-    ensures { pass.new ≡ pass.old }
-{
-    if clip.is_empty() {
-        return None;
-    }
-    Some(store.literal(pass, clip, 0))
 }
 
 /// Publishes a clause under an identity of the pass's own.
@@ -204,25 +194,54 @@ fn retire_by<R: Threads>(
     join(rt, there, || ()).0
 }
 
-/// Each stream has one identity and room for two literals: 5 is the first's, and 6 the second's.
-fn take_turns<R: Threads + Abort>(rt: &R, alloc: Global, apart: bool) -> Result<(), Fail> {
-    let formula = four_clauses(alloc)?;
-    let layout = Layout::new(2, 4, 8, 2, 1, 2)?;
-    holds(rt, layout.fits(&formula));
-    let (store, mut a, b) = open_two(alloc, &formula, layout)?;
-    same(rt, look(&store, &mut a, 6), Some(Found::Vacant));
-    let (mut b, answer) = publish_by(rt, apart, &store, b, 6, &[lit(-2)]);
+/// The second pass publishes, and the first finds that once they have met.
+fn publish_in_turn<R: Threads + Abort>(
+    rt: &R,
+    apart: bool,
+    store: &Store,
+    mut a: Pass,
+    b: Pass,
+) -> (Pass, Pass)
+    requires first { IsAt four store.now a }
+    requires second { IsAt four store.now b }
+    ensures first { IsAt four store.now result.0 }
+    ensures second { IsAt four store.now result.1 }
+{
+    same(rt, look(store, &mut a, 6), Some(Found::Vacant));
+    let (mut b, answer) = publish_by(rt, apart, store, b, 6, &[lit(-2)]);
     same(rt, answer, Some(Published::Done));
     store.meet(&mut a, &mut b);
-    same(rt, look(&store, &mut a, 6), Some(Found::Live));
-    let clip = live(&store, &mut a, 6).ok_or("6 isn't live")?;
-    same(rt, clip.len(), 1);
-    same(rt, first_literal(&store, &mut a, &clip), Some(lit(-2)));
-    let (mut b, answer) = retire_by(rt, apart, &store, b, 6);
+    same(rt, look(store, &mut a, 6), Some(Found::Live));
+    (a, b)
+}
+
+/// The second pass retires it. The first reads it all the same, and finds it retired once they have met.
+fn retire_in_turn<R: Threads + Abort>(
+    rt: &R,
+    apart: bool,
+    store: &Store,
+    mut a: Pass,
+    b: Pass,
+) -> Result<Pass, Fail>
+    requires first { IsAt four store.now a }
+    requires second { IsAt four store.now b }
+    ensures { IfOk result (λ pass. IsAt four store.now pass) }
+{
+    let clip = live(store, &mut a, 6).ok_or("6 isn't live")?;
+    holds(rt, reads_back(store, &mut a, &clip, &[lit(-2)]));
+    let (mut b, answer) = retire_by(rt, apart, store, b, 6);
     same(rt, answer, Some(Retired::Done));
-    same(rt, first_literal(&store, &mut a, &clip), Some(lit(-2)));
+    holds(rt, reads_back(store, &mut a, &clip, &[lit(-2)]));
     store.meet(&mut a, &mut b);
-    same(rt, look(&store, &mut a, 6), Some(Found::Retired));
+    same(rt, look(store, &mut a, 6), Some(Found::Retired));
+    Ok(b)
+}
+
+/// Each stream has one identity and room for two literals: 5 is the first's, and 6 the second's.
+fn take_turns<R: Threads + Abort>(rt: &R, alloc: Global, apart: bool) -> Result<(), Fail> {
+    let (store, a, b) = open_two(alloc, 1, 2)?;
+    let (a, b) = publish_in_turn(rt, apart, &store, a, b);
+    let b = retire_in_turn(rt, apart, &store, a, b)?;
     let (b, answer) = publish_by(rt, apart, &store, b, 6, &[lit(-2)]);
     same(rt, answer, Some(Published::Taken));
     let (_b, answer) = retire_by(rt, apart, &store, b, 6);
@@ -243,16 +262,12 @@ fn two_passes_take_turns_on_two_threads(rt: HostRuntime) -> Result<(), Fail> {
 /// Each stream has two identities and room for one literal.
 #[test]
 fn a_pass_spends_its_room(rt: HostRuntime) -> Result<(), Fail> {
-    let formula = four_clauses(rt.alloc())?;
-    let layout = Layout::new(2, 4, 8, 2, 2, 1)?;
-    holds(&rt, layout.fits(&formula));
-    let (store, _a, mut b) = open_two(rt.alloc(), &formula, layout)?;
+    let (store, _a, mut b) = open_two(rt.alloc(), 2, 1)?;
     let answer = publish(&store, &mut b, 6, &[lit(-2)]);
     same(&rt, answer, Some(Published::Done));
     same(&rt, store.room(&b), 0);
     same(&rt, publish(&store, &mut b, 8, &[]), Some(Published::Done));
-    let clip = live(&store, &mut b, 8).ok_or("8 isn't live")?;
-    same(&rt, clip.len(), 0);
+    holds(&rt, is_kept(&store, &mut b, 8, &[]));
     same(&rt, publish(&store, &mut b, 8, &[]), Some(Published::Taken));
     same(&rt, store.room(&b), 0);
     Ok(())
@@ -275,28 +290,31 @@ fn reads_back(store: &Store, pass: &mut Pass, clip: &Clip, clause: &[Lit]) -> bo
     true
 }
 
+/// Is the clause live under this identity, with its literals in this order?
+fn is_kept(store: &Store, pass: &mut Pass, id: Id, clause: &[Lit]) -> bool
+    requires { IsAt four store.now pass.old }
+    ensures { IsAt four store.now pass.new }
+{
+    match live(store, pass, id) {
+        Some(clip) => reads_back(store, pass, &clip, clause),
+        None => false,
+    }
+}
+
 /// An odd clause, one of two literals after it, and the last one: each is read back, literal by literal.
 #[test]
 fn clauses_are_read_back(rt: HostRuntime) -> Result<(), Fail> {
-    let formula = four_clauses(rt.alloc())?;
-    let layout = Layout::new(2, 4, 8, 2, 3, 6)?;
-    holds(&rt, layout.fits(&formula));
-    let (store, mut a, _b) = open_two(rt.alloc(), &formula, layout)?;
+    let (store, mut a, _b) = open_two(rt.alloc(), 3, 6)?;
+    let done = Some(Published::Done);
     let three = [lit(1), lit(-2), lit(2)];
     let two = [lit(-1), lit(2)];
-    let answer = publish(&store, &mut a, 5, &three);
-    same(&rt, answer, Some(Published::Done));
-    let answer = publish(&store, &mut a, 7, &two);
-    same(&rt, answer, Some(Published::Done));
+    same(&rt, publish(&store, &mut a, 5, &three), done);
+    same(&rt, publish(&store, &mut a, 7, &two), done);
     same(&rt, store.room(&a), 1);
-    let answer = publish(&store, &mut a, 9, &[lit(2)]);
-    same(&rt, answer, Some(Published::Done));
-    let clip = live(&store, &mut a, 5).ok_or("5 isn't live")?;
-    holds(&rt, reads_back(&store, &mut a, &clip, &three));
-    let clip = live(&store, &mut a, 7).ok_or("7 isn't live")?;
-    holds(&rt, reads_back(&store, &mut a, &clip, &two));
-    let clip = live(&store, &mut a, 3).ok_or("3 isn't live")?;
-    holds(&rt, reads_back(&store, &mut a, &clip, &[lit(1), lit(-2)]));
+    same(&rt, publish(&store, &mut a, 9, &[lit(2)]), done);
+    holds(&rt, is_kept(&store, &mut a, 5, &three));
+    holds(&rt, is_kept(&store, &mut a, 7, &two));
+    holds(&rt, is_kept(&store, &mut a, 3, &[lit(1), lit(-2)]));
     Ok(())
 }
 
@@ -352,6 +370,20 @@ fn publish_and_read<M: ClauseMap>(
     (answer, None)
 }
 
+/// The map of one thread, of four clauses for two streams with one identity and room for one literal each.
+fn open_plain(alloc: Global) -> Result<PlainMap, Fail>
+    ensures formula { IfOk result (λ map. formula_of map ≡ four) }
+    ensures streams { IfOk result (λ map. map.layout.streams ≡ 2) }
+{
+    let formula = four_clauses(alloc)?;
+    let layout = Layout::new(2, 4, 8, 2, 1, 1)?;
+    if !layout.fits(&formula) {
+        return Err("no layout".into());
+    }
+    let map = PlainMap::open(alloc, &formula, &layout)?;
+    Ok(map)
+}
+
 /// The client, which looks once, at the desk of a stream of the map of one thread.
 fn at_plain_desk(
     map: &mut PlainMap,
@@ -384,27 +416,32 @@ fn at_desk(
     (desk.into_pass(), found)
 }
 
+/// What the client found, three times: a stream, the next one, and the first one once more.
+type ThreeFound = [(Option<Published>, Option<Lit>); 3];
+
+fn found_at_plain_desks(alloc: Global) -> Result<ThreeFound, Fail> {
+    let mut map = open_plain(alloc)?;
+    let first = at_plain_desk(&mut map, 1, 5, 6);
+    let second = at_plain_desk(&mut map, 2, 6, 5);
+    Ok([first, second, at_plain_desk(&mut map, 1, 6, 6)])
+}
+
+fn found_at_desks(alloc: Global) -> Result<ThreeFound, Fail> {
+    let (store, a, b) = open_two(alloc, 1, 1)?;
+    let (a, first) = at_desk(&store, a, 5, 6, 1);
+    let (_b, second) = at_desk(&store, b, 6, 5, 1);
+    let (_a, third) = at_desk(&store, a, 6, 6, 1);
+    Ok([first, second, third])
+}
+
 /// At the map of one thread and at a store, a stream finds nothing yet, the next one what that published, and then the first
 /// what the next one did.
 #[test]
 fn one_client_has_both_maps(rt: HostRuntime) -> Result<(), Fail> {
-    let formula = four_clauses(rt.alloc())?;
-    let layout = Layout::new(2, 4, 8, 2, 1, 1)?;
-    holds(&rt, layout.fits(&formula));
-    let mut map = PlainMap::open(rt.alloc(), &formula, &layout)?;
-    let (store, a, b) = open_two(rt.alloc(), &formula, layout)?;
-    let wanted = (Some(Published::Done), None);
-    assert_eq!(rt; at_plain_desk(&mut map, 1, 5, 6), wanted);
-    let (a, found) = at_desk(&store, a, 5, 6, 1);
-    assert_eq!(rt; found, wanted);
-    let wanted = (Some(Published::Done), Some(lit(2)));
-    assert_eq!(rt; at_plain_desk(&mut map, 2, 6, 5), wanted);
-    let (_b, found) = at_desk(&store, b, 6, 5, 1);
-    assert_eq!(rt; found, wanted);
-    let wanted = (None, Some(lit(2)));
-    assert_eq!(rt; at_plain_desk(&mut map, 1, 6, 6), wanted);
-    let (_a, found) = at_desk(&store, a, 6, 6, 1);
-    assert_eq!(rt; found, wanted);
+    let done = Some(Published::Done);
+    let wanted = [(done, None), (done, Some(lit(2))), (None, Some(lit(2)))];
+    assert_eq!(rt; found_at_plain_desks(rt.alloc())?, wanted);
+    assert_eq!(rt; found_at_desks(rt.alloc())?, wanted);
     Ok(())
 }
 
@@ -441,10 +478,7 @@ fn at_two_desks<R: Threads>(
 /// they met.
 #[test]
 fn two_threads_have_one_client(rt: HostRuntime) -> Result<(), Fail> {
-    let formula = four_clauses(rt.alloc())?;
-    let layout = Layout::new(2, 4, 8, 2, 2, 3)?;
-    holds(&rt, layout.fits(&formula));
-    let (store, a, b) = open_two(rt.alloc(), &formula, layout)?;
+    let (store, a, b) = open_two(rt.alloc(), 2, 3)?;
     let (passes, found) = at_two_desks(&rt, &store, (a, b), (5, 6), TURNS);
     same(&rt, found, [(Some(Published::Done), Some(lit(2))); 2]);
     let (passes, found) = at_two_desks(&rt, &store, passes, (7, 8), 0);
