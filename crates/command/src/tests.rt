@@ -203,7 +203,10 @@ fn assert_ends<T: Threads + Wait + Sync + Clock + Abort>(
 ) {
     let ran = run_on(rt, alloc, words, files, 0, 0);
     let (out, err, status) = want;
-    assert!(rt; ran.out.as_slice() == out.as_bytes(), "{words:?}: {out}");
-    assert!(rt; ran.err.as_slice() == err.as_bytes(), "{words:?}: {err}");
-    assert_eq!(rt; ran.status, status, "{words:?}");
+    let wrote = (ran.out.as_slice(), ran.err.as_slice(), ran.status);
+    assert_eq!(rt;
+        wrote,
+        (out.as_bytes(), err.as_bytes(), status),
+        "{words:?}"
+    );
 }

@@ -1,6 +1,6 @@
 //! What is taken up, the text of the one fault, and hints at a plain map.
-ghost use Rattle.std.specs.Prelude.{◌≡◌, ◌≤◌, ℤ, IfOk, OnOk, IsTrue};
-ghost use Rattle.lrup_model.specs.Literal.{max_variable};
+ghost use Rattle.std.specs.Prelude.{◌≡◌, ℤ, IfOk, OnOk, IsTrue};
+ghost use Rattle.lrup_model.specs.Plain.{formula_of};
 
 use crate::{Marks, Step, Tautology};
 use lrup_model::{ClauseMap, Fetched, Formula, Layout, Lit, PlainMap};
@@ -70,16 +70,22 @@ fn a_tautology_leaves_no_clause(rt: HostRuntime) -> Result<(), Fail> {
     Ok(())
 }
 
-/// A formula of clauses of two literals each.
-fn formula_of_pairs(alloc: Global, vars: u32, pairs: &[(i64, i64)]) -> Result<Formula, Fail>
-    requires { vars ≤ max_variable }
-    ensures { IfOk result (λ f. f.vars ≡ vars) }
+/// The map of a formula of clauses of two literals each, over three variables.
+fn map_of_pairs(alloc: Global, pairs: &[(i64, i64)]) -> Result<PlainMap, Fail>
+    ensures formula { IfOk result (λ map. (formula_of map).vars ≡ 3) }
+    ensures streams { IfOk result (λ map. map.layout.streams ≡ 1) }
 {
-    let mut formula = Formula::new(alloc, vars);
+    let mut formula = Formula::new(alloc, 3);
     for &(one, other) in pairs {
         push_pair(&mut formula, lit(one)?, lit(other)?)?;
     }
-    Ok(formula)
+    let clauses = pairs.len() as u64;
+    let layout = Layout::new(3, clauses, 2 * clauses, 1, 1, 1)?;
+    if !layout.fits(&formula) {
+        return Err("no layout".into());
+    }
+    let map = PlainMap::open(alloc, &formula, &layout)?;
+    Ok(map)
 }
 
 fn push_pair(formula: &mut Formula, one: Lit, other: Lit) -> Result<(), Fail>
@@ -94,56 +100,64 @@ fn push_pair(formula: &mut Formula, one: Lit, other: Lit) -> Result<(), Fail>
 }
 
 /// Tries the clause that the map has under the identity.
-fn try_hint<M: ClauseMap>(marks: &mut Marks, map: &mut M, id: u64) -> Result<Step, Fail>
-    requires { (M.place map.old).caller.formula.vars ≤ marks.old.vars }
-    ensures marks { marks.new.vars ≡ marks.old.vars }
-    ensures map { (M.place map.new).caller.formula ≡ (M.place map.old).caller.formula }
+fn try_hint<M: ClauseMap>(marks: &mut Marks, map: &mut M, id: u64) -> Option<Step>
+    requires marks { marks.old.vars ≡ 3 }
+    requires map { (M.place map.old).caller.formula.vars ≡ 3 }
+    ensures marks { marks.new.vars ≡ 3 }
+    ensures map { (M.place map.new).caller.formula.vars ≡ 3 }
 {
     if !marks.ready() || !map.covers(id) {
-        return Err("no hint is due".into());
+        return None;
     }
-    let Fetched::Live(clip) = map.fetch(id) else {
-        return Err("no clause".into());
-    };
-    Ok(marks.hint(map, &clip))
+    match map.fetch(id) {
+        Fetched::Live(clip) => Some(marks.hint(map, &clip)),
+        _ => None,
+    }
+}
+
+/// Takes up the clause of the literal 1 and tries these hints: the last one's step, and whether another may follow.
+fn try_hints<M: ClauseMap>(marks: &mut Marks, map: &mut M, ids: &[u64]) -> Option<(Step, bool)>
+    requires marks { marks.old.vars ≡ 3 }
+    requires map { (M.place map.old).caller.formula.vars ≡ 3 }
+    ensures marks { marks.new.vars ≡ 3 }
+    ensures map { (M.place map.new).caller.formula.vars ≡ 3 }
+{
+    let one = Lit::new(1)?;
+    marks.begin(&[one]).ok()?;
+    let mut step = None;
+    for &id in ids {
+        step = Some(try_hint(marks, map, id)?);
+    }
+    if marks.clause() != [one].as_slice() {
+        return None;
+    }
+    Some((step?, marks.ready()))
 }
 
 #[test]
 fn hints_are_unit_until_the_conflict(rt: HostRuntime) -> Result<(), Fail> {
-    let alloc = rt.alloc();
-    let formula = formula_of_pairs(alloc, 3, &[(1, 2), (-2, 3), (-3, 1), (2, 3)])?;
-    let layout = Layout::new(3, 4, 8, 1, 1, 1)?;
-    holds(&rt, layout.fits(&formula));
-    let mut map = PlainMap::open(alloc, &formula, &layout)?;
+    let mut map = map_of_pairs(rt.alloc(), &[(1, 2), (-2, 3), (-3, 1), (2, 3)])?;
     let mut desk = map.desk(1);
-    let mut marks = Marks::new(alloc, 3)?;
-    let one = lit(1)?;
-    marks.begin(&[one])?;
-    same(&rt, try_hint(&mut marks, &mut desk, 1)?, Step::Unit);
-    same(&rt, try_hint(&mut marks, &mut desk, 2)?, Step::Unit);
-    same(&rt, try_hint(&mut marks, &mut desk, 3)?, Step::Conflict);
-    holds(&rt, !marks.ready());
-    same(&rt, marks.clause(), [one].as_slice());
+    let mut marks = Marks::new(rt.alloc(), 3)?;
+    let found = try_hints(&mut marks, &mut desk, &[1]);
+    same(&rt, found, Some((Step::Unit, true)));
+    let found = try_hints(&mut marks, &mut desk, &[1, 2]);
+    same(&rt, found, Some((Step::Unit, true)));
+    let found = try_hints(&mut marks, &mut desk, &[1, 2, 3]);
+    same(&rt, found, Some((Step::Conflict, false)));
     Ok(())
 }
 
 #[test]
 fn a_true_literal_or_two_left_are_not_unit(rt: HostRuntime) -> Result<(), Fail> {
-    let alloc = rt.alloc();
-    let formula = formula_of_pairs(alloc, 3, &[(1, 2), (2, 3)])?;
-    let layout = Layout::new(3, 2, 4, 1, 1, 1)?;
-    holds(&rt, layout.fits(&formula));
-    let mut map = PlainMap::open(alloc, &formula, &layout)?;
+    let mut map = map_of_pairs(rt.alloc(), &[(1, 2), (2, 3)])?;
     let mut desk = map.desk(1);
-    let mut marks = Marks::new(alloc, 3)?;
-    let one = lit(1)?;
-    marks.begin(&[one])?;
-    same(&rt, try_hint(&mut marks, &mut desk, 2)?, Step::NotUnit);
-    holds(&rt, !marks.ready());
-    marks.begin(&[one])?;
-    same(&rt, try_hint(&mut marks, &mut desk, 1)?, Step::Unit);
-    holds(&rt, marks.ready());
-    same(&rt, try_hint(&mut marks, &mut desk, 2)?, Step::NotUnit);
-    holds(&rt, !marks.ready());
+    let mut marks = Marks::new(rt.alloc(), 3)?;
+    let found = try_hints(&mut marks, &mut desk, &[2]);
+    same(&rt, found, Some((Step::NotUnit, false)));
+    let found = try_hints(&mut marks, &mut desk, &[1]);
+    same(&rt, found, Some((Step::Unit, true)));
+    let found = try_hints(&mut marks, &mut desk, &[1, 2]);
+    same(&rt, found, Some((Step::NotUnit, false)));
     Ok(())
 }

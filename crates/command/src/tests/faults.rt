@@ -17,6 +17,22 @@ fn assert_fault<T: Threads + Wait + Sync + Clock + Abort>(
     Ok(())
 }
 
+/// The run over two empty streams ends with this fault, and opened or asked for these files.
+fn assert_opened<T: Threads + Wait + Sync + Clock + Abort>(
+    rt: &T,
+    alloc: Global,
+    words: &[&str],
+    formula: &str,
+    want: (&str, u8, &str),
+) -> Result<(), Fail> {
+    let (line, status, opened) = want;
+    let mut files = shelf_of(alloc, formula, &["", ""])?;
+    assert_fault(rt, alloc, words, &mut files, line, status)?;
+    assert_eq!(rt; files.opened.as_str(), opened, "{words:?}");
+    Ok(())
+}
+
+/// The stream isn't looked for.
 #[test]
 fn formulas_that_are_refused(rt: HostRuntime) -> Result<(), Fail> {
     for (formula, line) in [
@@ -35,13 +51,7 @@ fn formulas_that_are_refused(rt: HostRuntime) -> Result<(), Fail> {
         ),
         ("p cnf 16777216 0\n", "formula refused: limit"),
     ] {
-        let mut files = shelf_of(rt.alloc(), formula, &[])?;
-        assert_fault(&rt, rt.alloc(), &["f", "1"], &mut files, line, 4)?;
-        assert_eq!(rt;
-            files.opened.as_str(),
-            "f ",
-            "the missing stream isn't looked for"
-        );
+        assert_opened(&rt, rt.alloc(), &["f", "no"], formula, (line, 4, "f "))?;
     }
     Ok(())
 }
@@ -54,9 +64,7 @@ fn files_that_are_missing(rt: HostRuntime) -> Result<(), Fail> {
         (["f", "no", "no"], "cannot open stream 1", "f no "),
         (["f", "1", "no"], "cannot open stream 2", "f 1 no "),
     ] {
-        let mut files = shelf_of(rt.alloc(), FOUR, &["", ""])?;
-        assert_fault(&rt, rt.alloc(), &words, &mut files, line, 5)?;
-        assert_eq!(rt; files.opened.as_str(), opened);
+        assert_opened(&rt, rt.alloc(), &words, FOUR, (line, 5, opened))?;
     }
     Ok(())
 }
@@ -88,21 +96,34 @@ s UNKNOWN
     Ok(())
 }
 
+/// There is no layout, for this reason.
+fn assert_no_layout<T: Threads + Wait + Sync + Clock + Abort>(
+    rt: &T,
+    alloc: Global,
+    words: &[&str],
+    line: &str,
+) -> Result<(), Fail> {
+    let mut files = shelf_of(alloc, FOUR, &[""])?;
+    assert_fault(rt, alloc, words, &mut files, line, 2)
+}
+
 #[test]
 fn layouts_that_there_are_not(rt: HostRuntime) -> Result<(), Fail> {
     let mut words = vec![in rt.alloc(); "f"]?;
     for _ in 0..65 {
         words.push("1")?;
     }
-    let mut files = shelf_of(rt.alloc(), FOUR, &[""])?;
-    assert_fault(&rt, rt.alloc(), &words, &mut files, "stream count", 2)?;
+    assert_no_layout(&rt, rt.alloc(), &words, "stream count")?;
     words.push("--serial")?;
-    assert_fault(&rt, rt.alloc(), &words, &mut files, "stream count", 2)?;
-    for option in ["--lines=268435456", "--room=268435456"] {
-        let words = [option, "f", "1"];
-        assert_fault(&rt, rt.alloc(), &words, &mut files, "row too long", 2)?;
-        let words = ["--serial", option, "f", "1"];
-        assert_fault(&rt, rt.alloc(), &words, &mut files, "row too long", 2)?;
+    assert_no_layout(&rt, rt.alloc(), &words, "stream count")?;
+    for words in [
+        ["--lines=268435456", "f", "1"],
+        ["--room=268435456", "f", "1"],
+    ] {
+        assert_no_layout(&rt, rt.alloc(), &words, "row too long")?;
+        let [option, formula, stream] = words;
+        let words = ["--serial", option, formula, stream];
+        assert_no_layout(&rt, rt.alloc(), &words, "row too long")?;
     }
     Ok(())
 }
@@ -114,7 +135,23 @@ fn memory_is_out_at_an_opening(rt: HostRuntime) -> Result<(), Fail> {
     assert_fault(&rt, rt.alloc(), &["f", "1"], &mut files, "out of memory", 6)
 }
 
-/// What `clap` says of the words goes out as it stands, and no file is opened.
+/// What `clap` says of these words, this part in it, goes out as it stands, and no file is opened.
+fn assert_usage<T: Threads + Wait + Sync + Clock + Abort>(
+    rt: &T,
+    alloc: Global,
+    words: &[&str],
+    part: &str,
+) -> Result<(), Fail> {
+    let mut files = shelf_of(alloc, FOUR, &[""])?;
+    let ran = run_on(rt, alloc, words, &mut files, 0, 0);
+    let found = (ran.status, ran.out.len(), files.opened.as_str());
+    assert_eq!(rt; found, (2, 0, ""), "{words:?}");
+    let err = String::from_utf8(ran.err).map_err(|_| Fail::from("no text"))?;
+    let is_usage = err.contains(part) && !err.starts_with("lrupd: ");
+    assert!(rt; is_usage, "{words:?}: {err}");
+    Ok(())
+}
+
 #[test]
 fn words_with_a_fault(rt: HostRuntime) -> Result<(), Fail> {
     let none: &[&str] = &[];
@@ -128,50 +165,59 @@ fn words_with_a_fault(rt: HostRuntime) -> Result<(), Fail> {
             "Usage: lrupd [OPTIONS] <FORMULA> <STREAM>...\n",
         ),
     ] {
-        let mut files = shelf_of(rt.alloc(), FOUR, &[""])?;
-        let ran = run_on(&rt, rt.alloc(), words, &mut files, 0, 0);
-        assert_eq!(rt; ran.status, 2, "{words:?}");
-        assert!(rt; ran.out.is_empty(), "{words:?}");
-        let err = String::from_utf8(ran.err).map_err(|_| Fail::from("no text"))?;
-        assert!(rt; err.contains(part), "{words:?}: {err}");
-        assert!(rt; !err.starts_with("lrupd: "), "{words:?}: {err}");
-        assert_eq!(rt; files.opened.as_str(), "");
+        assert_usage(&rt, rt.alloc(), words, part)?;
     }
+    Ok(())
+}
+
+/// What goes out of a report whose writing fails at this write, from 1 on.
+fn assert_unwritten<T: Threads + Wait + Sync + Clock + Abort>(
+    rt: &T,
+    alloc: Global,
+    fails_at: usize,
+    out: &[u8],
+) -> Result<(), Fail> {
+    let mut files = shelf_of(alloc, FOUR, &[""])?;
+    let ran = run_on(rt, alloc, &["f", "1"], &mut files, fails_at, 0);
+    let said = b"lrupd: cannot write report\n".as_slice();
+    let found = (ran.out.as_slice(), ran.err.as_slice(), ran.status);
+    assert_eq!(rt; found, (out, said, 7), "write {fails_at}");
     Ok(())
 }
 
 /// The report has 38 + 10 bytes, of which seven go out at each write.
 #[test]
 fn reports_that_are_not_written(rt: HostRuntime) -> Result<(), Fail> {
-    let report = "c stream 1: 0 added, 0 deleted, ended\ns UNKNOWN\n";
-    for fails_at in 1..=report.len().div_ceil(7) {
-        let mut files = shelf_of(rt.alloc(), FOUR, &[""])?;
-        let ran = run_on(&rt, rt.alloc(), &["f", "1"], &mut files, fails_at, 0);
-        assert_eq!(rt; ran.status, 7);
-        assert_eq!(rt;
-            ran.out.as_slice(),
-            &report.as_bytes()[..(fails_at - 1) * 7]
-        );
-        assert_eq!(rt;
-            ran.err.as_slice(),
-            b"lrupd: cannot write report\n".as_slice()
-        );
+    let report = "c stream 1: 0 added, 0 deleted, ended\ns UNKNOWN\n".as_bytes();
+    for (i, out) in (1..).zip((0..report.len()).step_by(7)) {
+        assert_unwritten(&rt, rt.alloc(), i, &report[..out])?;
     }
     Ok(())
+}
+
+/// What is left of a run where standard error fails too, or alone: the status, and how many bytes went where.
+fn silent<T: Threads + Wait + Sync + Clock>(
+    rt: &T,
+    alloc: Global,
+    words: &[&str],
+    out_fails_at: usize,
+    err_fails_at: usize,
+) -> Result<(u8, usize, usize), Fail> {
+    let mut files = shelf_of(alloc, FOUR, &[""])?;
+    let ran = run_on(rt, alloc, words, &mut files, out_fails_at, err_fails_at);
+    Ok((ran.status, ran.out.len(), ran.err.len()))
 }
 
 /// A standard error that fails changes no status.
 #[test]
 fn faults_that_are_not_said(rt: HostRuntime) -> Result<(), Fail> {
-    let mut files = shelf_of(rt.alloc(), FOUR, &[""])?;
-    for fails_at in 1..=3usize {
-        let ran = run_on(&rt, rt.alloc(), &["f"], &mut files, 0, fails_at);
-        assert_eq!(rt; ran.status, 2);
-        let ran = run_on(&rt, rt.alloc(), &["no", "1"], &mut files, 0, fails_at);
-        assert_eq!(rt; (ran.status, ran.err.len()), (5, (fails_at - 1) * 7));
-        let ran = run_on(&rt, rt.alloc(), &["f", "1"], &mut files, 1, fails_at);
-        assert_eq!(rt; (ran.status, ran.err.len()), (7, (fails_at - 1) * 7));
-        assert!(rt; ran.out.is_empty());
+    for (fails_at, said) in [(1, 0), (2, 7), (3, 14)] {
+        let usage = silent(&rt, rt.alloc(), &["f"], 0, fails_at)?;
+        assert_eq!(rt; usage, (2, 0, said));
+        let unread = silent(&rt, rt.alloc(), &["no", "1"], 0, fails_at)?;
+        assert_eq!(rt; unread, (5, 0, said));
+        let unwritten = silent(&rt, rt.alloc(), &["f", "1"], 1, fails_at)?;
+        assert_eq!(rt; unwritten, (7, 0, said));
     }
     Ok(())
 }

@@ -293,28 +293,28 @@ impl Clock for Sleeps {
     }
 }
 
+/// The status, and how often the clock was slept by, of a run that cites a clause which never comes.
+fn sleeps_of<T: Threads + Wait + Sync + Abort>(
+    rt: &T,
+    alloc: Global,
+    tries: &str,
+) -> Result<(u8, usize), Fail> {
+    let mut files = shelf_of(alloc, FOUR, &["5 0 6 0\n", ""])?;
+    let clock = Sleeps {
+        count: AtomicUsize::new(0),
+    };
+    let mut out = Paper::new(alloc, 0);
+    let mut err = Paper::new(alloc, 0);
+    let words = [tries, "f", "1", "2"];
+    let status = command(rt, &clock, alloc, &words, &mut files, &mut out, &mut err);
+    Ok((status, clock.count.load(Ordering::SeqCst)))
+}
+
 /// A hint that never comes is looked up as often again as `--tries` says, a microsecond later each time.
 #[test]
 fn tries_are_those_of_the_words(rt: HostRuntime) -> Result<(), Fail> {
     for (tries, sleeps) in [("--tries=0", 0), ("--tries=3", 3), ("--tries=17", 17)] {
-        let mut files = shelf_of(rt.alloc(), FOUR, &["5 0 6 0\n", ""])?;
-        let clock = Sleeps {
-            count: AtomicUsize::new(0),
-        };
-        let mut out = Paper::new(rt.alloc(), 0);
-        let mut err = Paper::new(rt.alloc(), 0);
-        let words = [tries, "f", "1", "2"];
-        let status = command(
-            &rt,
-            &clock,
-            rt.alloc(),
-            &words,
-            &mut files,
-            &mut out,
-            &mut err,
-        );
-        assert_eq!(rt; status, 3);
-        assert_eq!(rt; clock.count.load(Ordering::SeqCst), sleeps, "{tries}");
+        assert_eq!(rt; sleeps_of(&rt, rt.alloc(), tries)?, (3, sleeps), "{tries}");
     }
     Ok(())
 }
