@@ -6,8 +6,6 @@ mod outcome;
 mod pause;
 mod report_text;
 mod serial;
-#[cfg(test)]
-mod tests;
 mod threads;
 mod worker;
 

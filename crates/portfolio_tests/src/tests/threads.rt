@@ -1,14 +1,15 @@
 //! Runs with a thread for each stream, with answers worked out by hand from the rules; gates that hold threads until others
 //! have come as far, so that one thread that takes the streams one after the other never passes them.
-ghost use Rattle.std.specs.Prelude.{◌≡◌, IfOk, vec_len};
+ghost use Rattle.std.specs.Prelude.{◌≡◌, false, IfOk, vec_len};
+ghost use Rattle.std.specs.List.{AllByRecursion};
 
 use super::{
     CITING, Open, Pieces, bad_line, defaults, four_clauses, holds, options, readers_of, report,
     same,
 };
-use crate::{Options, Outcome, Pause, RunFault, Verdict, run};
 use lrup_model::{Id, LayoutFault};
 use lrup_text::Source;
+use portfolio::{Options, Outcome, Pause, RunFault, Verdict, run};
 use std::alloc::{AllocError, Global};
 use std::process::Abort;
 use std::sync::Wait;
@@ -68,17 +69,31 @@ impl Gate for Holds<'_> {
     }
 }
 
+/// A run over the four clauses, with this gate for each stream.
+fn run_with<'a, T: Threads + Wait + Sync, G: Gate + Copy + Send + Drop>(
+    rt: &T,
+    alloc: Global,
+    options: Options,
+    gate: G,
+    readers: Vec<Pieces<'a>>,
+) -> Result<Outcome<Pieces<'a>>, Fail>
+    requires { AllByRecursion (λ r. r.failed ≡ false) readers.items }
+{
+    let formula = four_clauses(alloc)?;
+    let gates = gates_of(alloc, gate, readers.len())?;
+    let outcome = run(rt, alloc, &formula, options, readers, gates)?;
+    Ok(outcome)
+}
+
 #[test]
 fn a_held_stream_finds_the_others_clause(rt: HostRuntime) -> Result<(), Fail> {
-    let formula = four_clauses(rt.alloc())?;
     let (published, late) = (AtomicBool::new(false), AtomicBool::new(false));
     let gate = Holds {
         published: &published,
         late: &late,
     };
     let readers = readers_of(rt.alloc(), &CITING, 5)?;
-    let gates = gates_of(rt.alloc(), gate, readers.len())?;
-    let outcome = run(&rt, rt.alloc(), &formula, defaults()?, readers, gates)?;
+    let outcome = run_with(&rt, rt.alloc(), defaults(), gate, readers)?;
     assert!(rt; !late.load(Ordering::SeqCst), "stream 2 published in time");
     same(
         &rt,
@@ -127,7 +142,6 @@ fn meet<'a, T: Threads + Wait + Sync>(
     texts: &[&'a str],
     flags: &[AtomicBool],
 ) -> Result<(Outcome<Pieces<'a>>, bool), Fail> {
-    let formula = four_clauses(alloc)?;
     let late = AtomicBool::new(false);
     let gate = Meets {
         flags,
@@ -135,8 +149,7 @@ fn meet<'a, T: Threads + Wait + Sync>(
         has_met: false,
     };
     let readers = readers_of(alloc, texts, 5)?;
-    let gates = gates_of(alloc, gate, readers.len())?;
-    let outcome = run(rt, alloc, &formula, options, readers, gates)?;
+    let outcome = run_with(rt, alloc, options, gate, readers)?;
     Ok((outcome, late.load(Ordering::SeqCst)))
 }
 
@@ -144,7 +157,7 @@ fn meet<'a, T: Threads + Wait + Sync>(
 #[test]
 fn workers_one_after_the_other(rt: HostRuntime) -> Result<(), Fail> {
     let flags = [AtomicBool::new(false), AtomicBool::new(false)];
-    let (_outcome, late) = meet(&rt, rt.alloc(), defaults()?, &CITING, &flags)?;
+    let (_outcome, late) = meet(&rt, rt.alloc(), defaults(), &CITING, &flags)?;
     assert!(rt; !late, "both saw the other");
     Ok(())
 }
@@ -173,7 +186,7 @@ fn eight_threads_are_at_work_at_once(rt: HostRuntime) -> Result<(), Fail> {
         AtomicBool::new(false),
         AtomicBool::new(false),
     ];
-    let (outcome, late) = meet(&rt, rt.alloc(), options(1_000, 1, 1)?, &EIGHT, &flags)?;
+    let (outcome, late) = meet(&rt, rt.alloc(), options(1_000, 1, 1), &EIGHT, &flags)?;
     assert!(rt; !late, "each saw all others");
     holds(&rt, outcome.reports.len() == 8);
     for report in &outcome.reports {
@@ -183,24 +196,34 @@ fn eight_threads_are_at_work_at_once(rt: HostRuntime) -> Result<(), Fail> {
     Ok(())
 }
 
-#[test]
-fn sixty_four_streams(rt: HostRuntime) -> Result<(), Fail> {
-    let formula = four_clauses(rt.alloc())?;
-    let mut lines = Vec::new(rt.alloc());
-    for s in 1u64..=64 {
-        lines.push(format!(in rt.alloc(); "{} 2 0 1 2 0\n", 4 + s)?)?;
+/// The lines of 64 streams, each of which publishes one clause.
+fn sixty_four_lines(alloc: Global) -> Result<Vec<String>, Fail> {
+    let mut lines = Vec::new(alloc);
+    for id in 5..69u64 {
+        lines.push(format!(in alloc; "{id} 2 0 1 2 0\n")?)?;
     }
-    let mut texts = Vec::new(rt.alloc());
-    for line in &lines {
+    Ok(lines)
+}
+
+/// Each stream is the text of one of these lines.
+fn readers_of_lines<'a>(alloc: Global, lines: &'a [String]) -> Result<Vec<Pieces<'a>>, Fail>
+    ensures { IfOk result (λ readers. AllByRecursion (λ r. r.failed ≡ false) readers.items) }
+{
+    let mut texts = Vec::new(alloc);
+    for line in lines {
         texts.push(line.as_str())?;
     }
-    let readers = readers_of(rt.alloc(), &texts, 5)?;
-    let gates = gates_of(rt.alloc(), Open, readers.len())?;
-    let outcome = run(&rt, rt.alloc(), &formula, options(0, 1, 1)?, readers, gates)?;
-    holds(&rt, outcome.reports.len() == 64);
-    for report in &outcome.reports {
-        same(&rt, *report, ended(1, false));
-    }
+    let readers = readers_of(alloc, &texts, 5)?;
+    Ok(readers)
+}
+
+#[test]
+fn sixty_four_streams(rt: HostRuntime) -> Result<(), Fail> {
+    let lines = sixty_four_lines(rt.alloc())?;
+    let readers = readers_of_lines(rt.alloc(), &lines)?;
+    let outcome = run_with(&rt, rt.alloc(), options(0, 1, 1), Open, readers)?;
+    let wanted = [ended(1, false); 64];
+    same(&rt, outcome.reports.as_slice(), wanted.as_slice());
     same(&rt, outcome.verdict, Verdict::Unknown);
     for (s, pass) in (1..=64).zip(&outcome.passes) {
         same(&rt, pass.stream(), s);
@@ -208,22 +231,25 @@ fn sixty_four_streams(rt: HostRuntime) -> Result<(), Fail> {
     Ok(())
 }
 
-#[test]
-fn one_reader_fails(rt: HostRuntime) -> Result<(), Fail> {
-    let formula = four_clauses(rt.alloc())?;
-    let mut readers = Vec::new(rt.alloc());
+/// Three readers, of which the second fails in its second line.
+fn second_fails(alloc: Global) -> Result<Vec<Pieces<'static>>, AllocError>
+    ensures { IfOk result (λ readers. AllByRecursion (λ r. r.failed ≡ false) readers.items) }
+{
+    let mut readers = Vec::new(alloc);
     readers.push(Pieces::new("5 2 0 1 2 0\n8 0 5 3 4 0\n", 5, 0))?;
     readers.push(Pieces::new("6 2 0 1 2 0\n9 2 0", 5, 5))?;
     readers.push(Pieces::new("7 2 0 1 0\n10 2 0 1 2 0\n", 5, 0))?;
-    let gates = gates_of(rt.alloc(), Open, readers.len())?;
-    let outcome = run(&rt, rt.alloc(), &formula, defaults()?, readers, gates)?;
+    Ok(readers)
+}
+
+#[test]
+fn one_reader_fails(rt: HostRuntime) -> Result<(), Fail> {
+    let readers = second_fails(rt.alloc())?;
+    let outcome = run_with(&rt, rt.alloc(), defaults(), Open, readers)?;
     let failed = report(1, 0, Ending::ReadFailed(2));
     let bad = bad_line(1, Fault::NoConflict);
-    same(
-        &rt,
-        outcome.reports.as_slice(),
-        [ended(2, true), failed, bad].as_slice(),
-    );
+    let wanted = [ended(2, true), failed, bad];
+    same(&rt, outcome.reports.as_slice(), wanted.as_slice());
     same(&rt, outcome.verdict, Verdict::Unsatisfiable);
     holds(&rt, outcome.readers.len() == 3);
     for (reader, fails) in outcome.readers.iter().zip([false, true, false]) {
@@ -273,7 +299,7 @@ fn run_missing<T: Threads + Wait + Sync + Abort, G: Gate + Send + Drop>(
         rt,
         alloc,
         &formula,
-        options(3, 65_536, 1_048_576)?,
+        options(3, 65_536, 1_048_576),
         readers,
         gates,
     )?;
@@ -351,7 +377,7 @@ fn no_streams_have_no_layout(rt: HostRuntime) -> Result<(), Fail> {
     let formula = four_clauses(rt.alloc())?;
     let readers = readers_of(rt.alloc(), &[], 5)?;
     let gates = gates_of(rt.alloc(), Open, readers.len())?;
-    let fault = run(&rt, rt.alloc(), &formula, defaults()?, readers, gates).err();
+    let fault = run(&rt, rt.alloc(), &formula, defaults(), readers, gates).err();
     same(
         &rt,
         fault,

@@ -1,10 +1,11 @@
 // The texts of a report, and sinks that fail; and what the runs of both modules are given.
-ghost use Rattle.std.specs.Prelude.{◌≡◌, Some, false, IfOk, IsTrue};
+ghost use Rattle.std.specs.Prelude.{◌≡◌, ◌≤◌, Some, false, IfOk, IsTrue};
 ghost use Rattle.std.specs.List.{AllByRecursion};
+ghost use Rattle.portfolio.specs.Outcomes.{max_tries};
 
-use crate::{Options, RunFault, Verdict, write_report};
 use lrup_model::{Formula, Id, LayoutFault, Lit};
 use lrup_text::{LineFault, ReadFault, Sink, Source, WriteFault};
+use portfolio::{Options, RunFault, Verdict, write_report};
 use std::alloc::{AllocError, Global};
 use std::fmt;
 use std::process::Abort;
@@ -36,12 +37,9 @@ impl Gate for Open {
     fn after_publish(&mut self, _stream: u64, _id: Id) {}
 }
 
-fn lit(value: i64) -> Result<Lit, Fail> {
-    let lit = Lit::new(value).ok_or("no literal")?;
-    Ok(lit)
-}
-
-fn push_pair(formula: &mut Formula, one: Lit, other: Lit) -> Result<(), Fail> {
+fn push_pair(formula: &mut Formula, one: i64, other: i64) -> Result<(), Fail> {
+    let one = Lit::new(one).ok_or("no literal")?;
+    let other = Lit::new(other).ok_or("no literal")?;
     let vars = formula.vars();
     if one == other || one.var() > vars || other.var() > vars || formula.len() > 9 {
         return Err("no pair".into());
@@ -53,22 +51,22 @@ fn push_pair(formula: &mut Formula, one: Lit, other: Lit) -> Result<(), Fail> {
 /// 1 2 0 / -1 2 0 / 1 -2 0 / -1 -2 0, which no assignment makes all true.
 fn four_clauses(alloc: Global) -> Result<Formula, Fail> {
     let mut formula = Formula::new(alloc, 2);
-    push_pair(&mut formula, lit(1)?, lit(2)?)?;
-    push_pair(&mut formula, lit(-1)?, lit(2)?)?;
-    push_pair(&mut formula, lit(1)?, lit(-2)?)?;
-    push_pair(&mut formula, lit(-1)?, lit(-2)?)?;
+    for (one, other) in [(1, 2), (-1, 2), (1, -2), (-1, -2)] {
+        push_pair(&mut formula, one, other)?;
+    }
     Ok(formula)
 }
 
 /// Two streams over them; the first cites the clause that the second derives.
 const CITING: [&str; 2] = ["5 2 0 1 2 0\n7 0 5 6 0\n", "6 -2 0 3 4 0\n"];
 
-fn options(tries: u64, lines: u64, room: u64) -> Result<Options, Fail> {
-    let options = Options::new(tries, lines, room).ok_or("too many tries")?;
-    Ok(options)
+fn options(tries: u64, lines: u64, room: u64) -> Options
+    requires { tries ≤ max_tries }
+{
+    Options::new(tries, lines, room).unwrap()
 }
 
-fn defaults() -> Result<Options, Fail> {
+fn defaults() -> Options {
     options(1_000, 65_536, 1_048_576)
 }
 
@@ -204,7 +202,7 @@ fn writes_text(
     verdict: Verdict,
     text: &str,
 ) -> Result<(), Fail> {
-    for (most, writes) in [(usize::MAX, 1), (1, text.len())] {
+    for (most, writes) in [(usize::MAX, text.len().div_ceil(512)), (1, text.len())] {
         let mut paper = Paper::new(alloc, most, 0);
         write_report(reports, verdict, &mut paper)?;
         same(rt, paper.bytes.as_slice(), text.as_bytes());
@@ -213,6 +211,11 @@ fn writes_text(
     }
     Ok(())
 }
+
+const VERDICTS: [(Verdict, &str); 2] = [
+    (Verdict::Unknown, "UNKNOWN"),
+    (Verdict::Unsatisfiable, "UNSATISFIABLE"),
+];
 
 #[test]
 fn reports_of_one_stream(rt: HostRuntime) -> Result<(), Fail> {
@@ -289,16 +292,10 @@ fn reports_of_one_stream(rt: HostRuntime) -> Result<(), Fail> {
             "1 added, 1 deleted, bad line 2 (not live 5)",
         ),
     ] {
-        let text = format!(in rt.alloc(); "c stream 1: {line}\ns UNKNOWN\n")?;
-        writes_text(&rt, rt.alloc(), &[report], Verdict::Unknown, text.as_str())?;
-        let text = format!(in rt.alloc(); "c stream 1: {line}\ns UNSATISFIABLE\n")?;
-        writes_text(
-            &rt,
-            rt.alloc(),
-            &[report],
-            Verdict::Unsatisfiable,
-            text.as_str(),
-        )?;
+        for (verdict, word) in VERDICTS {
+            let text = format!(in rt.alloc(); "c stream 1: {line}\ns {word}\n")?;
+            writes_text(&rt, rt.alloc(), &[report], verdict, text.as_str())?;
+        }
     }
     Ok(())
 }
@@ -362,24 +359,14 @@ fn long_reports(rt: HostRuntime) -> Result<(), Fail> {
         )?;
     }
     text.push_str("s UNKNOWN\n")?;
-    let writes = text.len().div_ceil(512);
-    for fails_at in 0..=writes {
+    writes_text(&rt, rt.alloc(), &reports, Verdict::Unknown, text.as_str())?;
+    for fails_at in 1..=text.len().div_ceil(512) {
         let mut paper = Paper::new(rt.alloc(), usize::MAX, fails_at);
         let wrote = write_report(&reports, Verdict::Unknown, &mut paper);
-        same(&rt, wrote.is_err(), fails_at > 0);
-        same(&rt, paper.failed(), fails_at > 0);
-        let went = if fails_at > 0 {
-            same(&rt, paper.writes, fails_at);
-            (fails_at - 1) * 512
-        } else {
-            same(&rt, paper.writes, writes);
-            text.len()
-        };
-        same(
-            &rt,
-            paper.bytes.as_slice(),
-            &text.as_bytes()[..went.min(text.len())],
-        );
+        same(&rt, (wrote, paper.failed()), (Err(WriteFault), true));
+        same(&rt, paper.writes, fails_at);
+        let went = ((fails_at - 1) * 512).min(text.len());
+        same(&rt, paper.bytes.as_slice(), &text.as_bytes()[..went]);
     }
     Ok(())
 }

@@ -5,9 +5,9 @@ ghost use Rattle.std.specs.List.{AllByRecursion};
 use super::{
     CITING, Open, Paper, Pieces, defaults, four_clauses, holds, options, readers_of, same,
 };
-use crate::{Options, RunFault, SerialOutcome, run_serial, write_report};
 use lrup_model::{Formula, Id, LayoutFault};
 use lrup_text::{ReadFault, Source};
+use portfolio::{Options, RunFault, SerialOutcome, run_serial, write_report};
 use std::alloc::Global;
 use std::cell::Cell;
 use std::process::Abort;
@@ -15,17 +15,17 @@ use std::sync::Wait;
 use std::test::Fail;
 use stream_check::Gate;
 
+/// A run over the four clauses.
 fn run_pieces<'a, W: Wait>(
     wait: &W,
     alloc: Global,
-    formula: &Formula,
-    options: Options,
     readers: Vec<Pieces<'a>>,
 ) -> Result<SerialOutcome<Pieces<'a>>, Fail>
     requires { AllByRecursion (λ r. r.failed ≡ false) readers.items }
 {
+    let formula = four_clauses(alloc)?;
     let gates = vec![in alloc; Open; readers.len()]?;
-    let outcome = run_serial(wait, alloc, formula, options, readers, gates)?;
+    let outcome = run_serial(wait, alloc, &formula, defaults(), readers, gates)?;
     Ok(outcome)
 }
 
@@ -56,10 +56,35 @@ fn row<R: Abort + Wait>(
 ) -> Result<(), Fail> {
     for most in [1, 2, usize::MAX] {
         let readers = readers_of(alloc, streams, most)?;
-        let outcome = run_pieces(rt, alloc, formula, options, readers)?;
+        let gates = vec![in alloc; Open; readers.len()]?;
+        let outcome = run_serial(rt, alloc, formula, options, readers, gates)?;
         says(rt, alloc, &outcome, text)?;
     }
     Ok(())
+}
+
+/// The same, over the four clauses.
+fn row_of_four<R: Abort + Wait>(
+    rt: &R,
+    alloc: Global,
+    options: Options,
+    streams: &[&str],
+    text: &str,
+) -> Result<(), Fail> {
+    let formula = four_clauses(alloc)?;
+    row(rt, alloc, &formula, options, streams, text)
+}
+
+/// The same, of one stream that doesn't add the empty clause: its line in the report.
+fn line_of_one<R: Abort + Wait>(
+    rt: &R,
+    alloc: Global,
+    options: Options,
+    stream: &str,
+    line: &str,
+) -> Result<(), Fail> {
+    let text = format!(in alloc; "c stream 1: {line}\ns UNKNOWN\n")?;
+    row_of_four(rt, alloc, options, &[stream], text.as_str())
 }
 
 /// Row 1, and row 16 in pieces.
@@ -80,7 +105,6 @@ const SAYS_19: &str = "c stream 1: 0 added, 1 deleted, bad line 2 (dropped 1)\ns
 /// The rows of one stream and the default options.
 #[test]
 fn rows_of_one_stream(rt: HostRuntime) -> Result<(), Fail> {
-    let formula = four_clauses(rt.alloc())?;
     for (stream, line) in [
         // 4 to 7
         (
@@ -133,22 +157,13 @@ fn rows_of_one_stream(rt: HostRuntime) -> Result<(), Fail> {
         ),
         ("5 2 0 5 0\n", "0 added, 0 deleted, bad line 1 (missing 5)"),
     ] {
-        let text = format!(in rt.alloc(); "c stream 1: {line}\ns UNKNOWN\n")?;
-        row(
-            &rt,
-            rt.alloc(),
-            &formula,
-            defaults()?,
-            &[stream],
-            text.as_str(),
-        )?;
+        line_of_one(&rt, rt.alloc(), defaults(), stream, line)?;
     }
     // 24
-    row(
+    row_of_four(
         &rt,
         rt.alloc(),
-        &formula,
-        defaults()?,
+        defaults(),
         &["5 2 0 1 2 0\n6 0 5 3 4 0\n7 2 0 1 0\n"],
         "c stream 1: 2 added, 0 deleted, bad line 3 (no conflict)\ns UNSATISFIABLE\n",
     )
@@ -157,7 +172,6 @@ fn rows_of_one_stream(rt: HostRuntime) -> Result<(), Fail> {
 /// Rows 14, 15 and 20, of one stream and an option each.
 #[test]
 fn rows_with_options(rt: HostRuntime) -> Result<(), Fail> {
-    let formula = four_clauses(rt.alloc())?;
     for (lines, room, stream, line) in [
         (
             65_536,
@@ -179,15 +193,8 @@ fn rows_with_options(rt: HostRuntime) -> Result<(), Fail> {
         ),
         (65_536, 1, "5 2 2 0 1 2 0\n", "1 added, 0 deleted, ended"),
     ] {
-        let text = format!(in rt.alloc(); "c stream 1: {line}\ns UNKNOWN\n")?;
-        row(
-            &rt,
-            rt.alloc(),
-            &formula,
-            options(1_000, lines, room)?,
-            &[stream],
-            text.as_str(),
-        )?;
+        let options = options(1_000, lines, room);
+        line_of_one(&rt, rt.alloc(), options, stream, line)?;
     }
     Ok(())
 }
@@ -195,20 +202,17 @@ fn rows_with_options(rt: HostRuntime) -> Result<(), Fail> {
 /// Rows 3 and 8, of two streams.
 #[test]
 fn rows_of_two_streams(rt: HostRuntime) -> Result<(), Fail> {
-    let formula = four_clauses(rt.alloc())?;
-    row(
+    row_of_four(
         &rt,
         rt.alloc(),
-        &formula,
-        options(0, 65_536, 1_048_576)?,
+        options(0, 65_536, 1_048_576),
         &["5 0 6 0\n", "6 -2 0 3 4 0\n"],
         "c stream 1: 0 added, 0 deleted, bad line 1 (missing 6)\nc stream 2: 1 added, 0 deleted, ended\ns UNKNOWN\n",
     )?;
-    row(
+    row_of_four(
         &rt,
         rt.alloc(),
-        &formula,
-        defaults()?,
+        defaults(),
         &["6 2 0 1 2 0\n", ""],
         "c stream 1: 0 added, 0 deleted, bad line 1 (identity)\nc stream 2: 0 added, 0 deleted, ended\ns UNKNOWN\n",
     )
@@ -222,7 +226,7 @@ fn rows_without_variables(rt: HostRuntime) -> Result<(), Fail> {
         &rt,
         rt.alloc(),
         &formula,
-        defaults()?,
+        defaults(),
         &[""],
         "c stream 1: 0 added, 0 deleted, ended\ns UNKNOWN\n",
     )?;
@@ -231,7 +235,7 @@ fn rows_without_variables(rt: HostRuntime) -> Result<(), Fail> {
         &rt,
         rt.alloc(),
         &formula,
-        defaults()?,
+        defaults(),
         &["2 0 1 0\n"],
         "c stream 1: 1 added, 0 deleted, ended\ns UNSATISFIABLE\n",
     )
@@ -240,10 +244,9 @@ fn rows_without_variables(rt: HostRuntime) -> Result<(), Fail> {
 /// A run that has memory answers. Rows 1, 2, 16 and 19.
 #[test]
 fn always_out_of_memory(rt: HostRuntime) -> Result<(), Fail> {
-    let formula = four_clauses(rt.alloc())?;
-    row(&rt, rt.alloc(), &formula, defaults()?, &[ROW_1], SAYS_1)?;
-    row(&rt, rt.alloc(), &formula, defaults()?, &CITING, SAYS_2)?;
-    row(&rt, rt.alloc(), &formula, defaults()?, &[ROW_19], SAYS_19)
+    row_of_four(&rt, rt.alloc(), defaults(), &[ROW_1], SAYS_1)?;
+    row_of_four(&rt, rt.alloc(), defaults(), &CITING, SAYS_2)?;
+    row_of_four(&rt, rt.alloc(), defaults(), &[ROW_19], SAYS_19)
 }
 
 /// A gate that writes down whose publishes were answered.
@@ -261,31 +264,55 @@ impl Gate for Order<'_> {
     }
 }
 
+/// The streams whose publishes are answered, in order, as digits, in a run of row 2.
+fn publishes_of<R: Abort + Wait>(rt: &R, alloc: Global, most: usize) -> Result<u64, Fail> {
+    let formula = four_clauses(alloc)?;
+    let publishes = Cell::new(0);
+    let readers = readers_of(alloc, &CITING, most)?;
+    let mut gates = Vec::new(alloc);
+    for _ in 0..readers.len() {
+        gates.push(Order {
+            publishes: &publishes,
+        })?;
+    }
+    holds(rt, gates.len() == readers.len());
+    let outcome = run_serial(rt, alloc, &formula, defaults(), readers, gates)?;
+    says(rt, alloc, &outcome, SAYS_2)?;
+    Ok(publishes.get())
+}
+
 /// Row 2, whose line 7 cites the other stream's line: turns go round, stream 1 first, and take one line each.
 #[test]
 fn serial_takes_streams_whole(rt: HostRuntime) -> Result<(), Fail> {
-    let formula = four_clauses(rt.alloc())?;
     for most in [1, 2, usize::MAX] {
-        let publishes = Cell::new(0);
-        let readers = readers_of(rt.alloc(), &CITING, most)?;
-        let mut gates = Vec::new(rt.alloc());
-        for _ in 0..readers.len() {
-            gates.push(Order {
-                publishes: &publishes,
-            })?;
-        }
-        holds(&rt, gates.len() == readers.len());
-        let outcome = run_serial(&rt, rt.alloc(), &formula, defaults()?, readers, gates)?;
-        says(&rt, rt.alloc(), &outcome, SAYS_2)?;
-        same(&rt, publishes.get(), 121);
+        same(&rt, publishes_of(&rt, rt.alloc(), most)?, 121);
     }
+    Ok(())
+}
+
+/// A run of two streams, whose second reader fails at this read: the first stream is read to its end.
+fn second_reader_fails<R: Abort + Wait>(
+    rt: &R,
+    alloc: Global,
+    most: usize,
+    fails_at: usize,
+    text: &str,
+) -> Result<(), Fail> {
+    let mut readers = Vec::new(alloc);
+    readers.push(Pieces::new("5 2 0 1 2 0\n7 0 5 3 4 0\n", most, 0))?;
+    readers.push(Pieces::new("6 -2 0 3 4 0\n", most, fails_at))?;
+    let outcome = run_pieces(rt, alloc, readers)?;
+    says(rt, alloc, &outcome, text)?;
+    holds(rt, outcome.readers.len() == 2);
+    let (first, second) = (&outcome.readers[0], &outcome.readers[1]);
+    holds(rt, !first.failed() && first.left.is_empty());
+    same(rt, (second.failed(), second.reads), (true, fails_at));
     Ok(())
 }
 
 /// Another stream's reader fails, at once, in the middle of its line, or after it.
 #[test]
 fn readers_that_fail(rt: HostRuntime) -> Result<(), Fail> {
-    let formula = four_clauses(rt.alloc())?;
     for (most, fails_at, line) in [
         (5, 1, "0 added, 0 deleted, read failed at line 1"),
         (5, 2, "0 added, 0 deleted, read failed at line 1"),
@@ -293,29 +320,25 @@ fn readers_that_fail(rt: HostRuntime) -> Result<(), Fail> {
         (5, 4, "1 added, 0 deleted, read failed at line 2"),
         (13, 2, "1 added, 0 deleted, read failed at line 2"),
     ] {
-        let mut readers = Vec::new(rt.alloc());
-        readers.push(Pieces::new("5 2 0 1 2 0\n7 0 5 3 4 0\n", most, 0))?;
-        readers.push(Pieces::new("6 -2 0 3 4 0\n", most, fails_at))?;
-        let outcome = run_pieces(&rt, rt.alloc(), &formula, defaults()?, readers)?;
         let text = format!(in rt.alloc();
             "c stream 1: 2 added, 0 deleted, ended\nc stream 2: {line}\ns UNSATISFIABLE\n"
         )?;
-        says(&rt, rt.alloc(), &outcome, text.as_str())?;
-        holds(&rt, outcome.readers.len() == 2);
-        holds(
-            &rt,
-            !outcome.readers[0].failed() && outcome.readers[0].left.is_empty(),
-        );
-        holds(&rt, outcome.readers[1].failed());
-        same(&rt, outcome.readers[1].reads, fails_at);
+        second_reader_fails(&rt, rt.alloc(), most, fails_at, text.as_str())?;
     }
     Ok(())
+}
+
+/// How often the one stream of a run is read.
+fn reads_of<W: Wait>(wait: &W, alloc: Global, stream: &str, most: usize) -> Result<usize, Fail> {
+    let readers = readers_of(alloc, &[stream], most)?;
+    let outcome = run_pieces(wait, alloc, readers)?;
+    let reader = outcome.readers.first().ok_or("no reader")?;
+    Ok(reader.reads)
 }
 
 /// A stream is read through the byte that ended it, and a whole one once more.
 #[test]
 fn nothing_is_read_after_a_bad_line(rt: HostRuntime) -> Result<(), Fail> {
-    let formula = four_clauses(rt.alloc())?;
     for (stream, needed) in [
         ("5 2 0 1 0\n5 2 0 1 2 0\n", 10),
         ("5 2 0 1 2 0\n7 0 5 3 0\n9 2 0 1 2 0\n", 22),
@@ -324,34 +347,40 @@ fn nothing_is_read_after_a_bad_line(rt: HostRuntime) -> Result<(), Fail> {
         (ROW_1, 25),
     ] {
         for most in [1, 4, 64] {
-            let readers = readers_of(rt.alloc(), &[stream], most)?;
-            let outcome = run_pieces(&rt, rt.alloc(), &formula, defaults()?, readers)?;
-            holds(&rt, outcome.readers.len() == 1);
             let reads = if needed > stream.len() {
                 stream.len().div_ceil(most) + 1
             } else {
                 needed.div_ceil(most)
             };
-            same(&rt, (stream, outcome.readers[0].reads), (stream, reads));
+            let found = reads_of(&rt, rt.alloc(), stream, most)?;
+            same(&rt, (stream, found), (stream, reads));
         }
     }
     Ok(())
 }
 
-/// 72,024 bytes come in two pieces: 12,000 deletions of nothing, and row 1.
-#[test]
-fn a_read_asks_for_one_piece(rt: HostRuntime) -> Result<(), Fail> {
-    let formula = four_clauses(rt.alloc())?;
-    let mut stream = String::new(rt.alloc());
+/// 12,000 deletions of nothing, and row 1: 72,024 bytes.
+fn long_stream(alloc: Global) -> Result<String, Fail> {
+    let mut stream = String::new(alloc);
     for _ in 0..12_000 {
         stream.push_str("1 d 0\n")?;
     }
     stream.push_str(ROW_1)?;
+    Ok(stream)
+}
+
+/// A long stream comes in two pieces.
+#[test]
+fn a_read_asks_for_one_piece(rt: HostRuntime) -> Result<(), Fail> {
+    let stream = long_stream(rt.alloc())?;
     let readers = readers_of(rt.alloc(), &[stream.as_str()], usize::MAX)?;
-    let outcome = run_pieces(&rt, rt.alloc(), &formula, defaults()?, readers)?;
+    let outcome = run_pieces(&rt, rt.alloc(), readers)?;
     says(&rt, rt.alloc(), &outcome, SAYS_1)?;
-    holds(&rt, outcome.readers.len() == 1);
-    same(&rt, outcome.readers[0].reads, 3);
+    same(
+        &rt,
+        reads_of(&rt, rt.alloc(), stream.as_str(), usize::MAX)?,
+        3,
+    );
     Ok(())
 }
 
@@ -376,39 +405,45 @@ impl Source for Watched<'_> {
     }
 }
 
+/// The fault of a run of one stream with so many identities, and whether the stream was read.
+fn run_watched<W: Wait>(
+    wait: &W,
+    alloc: Global,
+    lines: u64,
+) -> Result<(Option<RunFault>, bool), Fail> {
+    let formula = four_clauses(alloc)?;
+    let read = Cell::new(false);
+    let mut readers = Vec::new(alloc);
+    readers.push(Watched { read: &read })?;
+    let mut gates = Vec::new(alloc);
+    gates.push(Open)?;
+    let ran = run_serial(wait, alloc, &formula, options(0, lines, 0), readers, gates);
+    Ok((ran.err(), read.get()))
+}
+
+/// The fault of a run of so many streams.
+fn fault_of<W: Wait>(wait: &W, alloc: Global, count: usize) -> Result<Option<RunFault>, Fail> {
+    let formula = four_clauses(alloc)?;
+    let streams = vec![in alloc; ""; count]?;
+    let readers = readers_of(alloc, &streams, 1)?;
+    let gates = vec![in alloc; Open; readers.len()]?;
+    let ran = run_serial(wait, alloc, &formula, defaults(), readers, gates);
+    Ok(ran.err())
+}
+
 #[test]
 fn no_layout_no_read(rt: HostRuntime) -> Result<(), Fail> {
-    let formula = four_clauses(rt.alloc())?;
-    for (lines, fault) in [
-        (268_435_456, Some(RunFault::Layout(LayoutFault::RowTooLong))),
-        (65_536, None),
-    ] {
-        let read = Cell::new(false);
-        let mut readers = Vec::new(rt.alloc());
-        readers.push(Watched { read: &read })?;
-        let mut gates = Vec::new(rt.alloc());
-        gates.push(Open)?;
-        let ran = run_serial(
-            &rt,
-            rt.alloc(),
-            &formula,
-            options(0, lines, 0)?,
-            readers,
-            gates,
-        );
-        same(&rt, ran.err(), fault);
-        same(&rt, read.get(), fault.is_none());
-    }
+    let fault = Some(RunFault::Layout(LayoutFault::RowTooLong));
+    same(
+        &rt,
+        run_watched(&rt, rt.alloc(), 268_435_456)?,
+        (fault, false),
+    );
+    same(&rt, run_watched(&rt, rt.alloc(), 65_536)?, (None, true));
     for count in [0, 65] {
-        let streams = vec![in rt.alloc(); ""; count]?;
-        let readers = readers_of(rt.alloc(), &streams, 1)?;
-        let gates = vec![in rt.alloc(); Open; readers.len()]?;
-        let ran = run_serial(&rt, rt.alloc(), &formula, defaults()?, readers, gates);
-        same(
-            &rt,
-            ran.err(),
-            Some(RunFault::Layout(LayoutFault::BadStreamCount)),
-        );
+        let fault = fault_of(&rt, rt.alloc(), count)?;
+        let wanted = Some(RunFault::Layout(LayoutFault::BadStreamCount));
+        same(&rt, fault, wanted);
     }
     Ok(())
 }
