@@ -41,3 +41,9 @@ returns-clause-passes g c =
     let none : (into_iter_items (zip_first c.loop-worker.worker-iterator) ≡ []) ⊎ (into_iter_items (zip_second c.loop-worker.worker-iterator) ≡ []) =
     elim c.in-None.ensures.steps [ inl e ↦ inl (iter_end (zip_first c.loop-worker.worker-iterator) e.0 e.1) | inr e ↦ inr (iter_end (zip_second c.loop-worker.worker-iterator) e.0 e.1) ] in
     (starting_end _ _ _ _ _ _ _ c.loop-worker.invariant.2 none).1
+
+pub returns-in_default-clause-spawn : goal.returns-in_default-clause-spawn
+returns-in_default-clause-spawn g c =
+    let now = c.loop-worker in
+    let steps = c.in-Some.ensures.steps in
+    (omega arith, omega (arith, steps.0.1, now.invariant.3))
