@@ -75,21 +75,15 @@ impl Two {
         );
     }
 
-    /// What is said of both at the end of their streams.
-    fn into_reports(self) -> Result<[(Report, Told); 2], Fail> {
-        let Two {
-            map: _,
-            mut first,
-            mut second,
-            first_told,
-            second_told,
-        } = self;
-        first.end();
-        second.end();
-        if !first.is_over() || !second.is_over() {
+    /// Ends both streams. What is said of them then?
+    fn end(&mut self) -> Result<[(Report, Told); 2], Fail> {
+        self.first.end();
+        self.second.end();
+        if !self.first.is_over() || !self.second.is_over() {
             return Err("not over".into());
         }
-        Ok([(first.report(), first_told), (second.report(), second_told)])
+        let first = (self.first.report(), self.first_told);
+        Ok([first, (self.second.report(), self.second_told)])
     }
 }
 
@@ -109,7 +103,7 @@ fn judged_by_turns(alloc: Global, tries: u64, turns: &[Turn]) -> Result<[(Report
             Turn::Second(piece) => two.feed_second(piece.as_bytes()),
         }
     }
-    two.into_reports()
+    two.end()
 }
 
 /// The piece of the second stream that publishes `-2` under 6.
