@@ -23,9 +23,9 @@ trap 'exit 1' HUP INT TERM
 log=$work/log
 failed=0
 
-# tests CRATE N: the crate's tests, with allocation N refused in each.
+# tests CRATE N: the tests of the crate, with allocation N refused in each.
 tests() {
-    (cd "$root/crates/$1" && "$rt" try --test --seconds 5 --fail-alloc "$2") > "$log" 2>&1
+    (cd "$root/crates/$1_tests" && "$rt" try --test --seconds 5 --fail-alloc "$2") > "$log" 2>&1
 }
 
 # want CRATE N TEST ENDING: of the tests that ran last; ok or FAILED.

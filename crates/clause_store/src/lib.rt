@@ -6,8 +6,6 @@ mod desk;
 mod meeting;
 mod pass;
 mod store;
-#[cfg(test)]
-mod tests;
 
 pub use desk::Desk;
 pub use pass::Pass;

@@ -5,8 +5,6 @@ mod checking;
 mod fault;
 mod files;
 mod program;
-#[cfg(test)]
-mod tests;
 
 pub use files::{Files, OpenFault};
 pub use program::command;

@@ -4,8 +4,6 @@
 mod arguments;
 mod help;
 pub mod laws;
-#[cfg(test)]
-mod tests;
 mod words;
 
 pub use words::{CommandLine, Paths, UsageText, WordsFault, read_words};

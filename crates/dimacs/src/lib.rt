@@ -13,8 +13,6 @@ mod header;
 pub mod laws;
 mod marks;
 mod open_clause;
-#[cfg(test)]
-mod tests;
 mod tokens;
 
 pub use fault::DimacsFault;

@@ -7,8 +7,6 @@ mod opening;
 mod row;
 mod rule;
 mod seat;
-#[cfg(test)]
-mod tests;
 mod word;
 
 pub use row::Row;

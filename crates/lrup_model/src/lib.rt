@@ -9,8 +9,6 @@ pub mod laws;
 mod layout;
 mod lit;
 mod plain_map;
-#[cfg(test)]
-mod tests;
 
 pub use clause_map::{ClauseMap, Clip, Fetched, Published, Retired};
 pub use formula::Formula;

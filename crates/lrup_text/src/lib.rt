@@ -85,6 +85,3 @@ pub enum LineFault {
     #[error("rat hint")]
     RatHint,
 }
-
-#[cfg(test)]
-mod tests;

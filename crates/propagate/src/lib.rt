@@ -6,8 +6,6 @@
 pub mod laws;
 mod marks;
 mod tautology;
-#[cfg(test)]
-mod tests;
 mod trail;
 
 pub use marks::{Marks, Step};

@@ -17,8 +17,6 @@ mod progress;
 mod report;
 mod setting;
 #[cfg(test)]
-mod tests;
-#[cfg(test)]
 mod worked;
 
 pub use checker::Checker;

@@ -1,8 +1,0 @@
-use Rattle.clause_store.specs.Worked.{IsAt, raced}
-use Rattle.clause_store.proofs.tests.race.Given as goal
-
-abbrev pub invariant-loop-stream : goal.invariant-loop-stream
-invariant-loop-stream g l = IsAt raced l.store l.pass
-
-abbrev pub invariant-loop-line : goal.invariant-loop-line
-invariant-loop-line g l = IsAt raced l.store l.pass

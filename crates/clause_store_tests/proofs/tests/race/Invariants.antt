@@ -1,0 +1,8 @@
+use Rattle.clause_store.specs.Worked.{IsAt, raced}
+use Rattle.clause_store_tests.proofs.tests.race.Given as goal
+
+abbrev pub invariant-loop-stream : goal.invariant-loop-stream
+invariant-loop-stream g l = IsAt raced l.store l.pass
+
+abbrev pub invariant-loop-line : goal.invariant-loop-line
+invariant-loop-line g l = IsAt raced l.store l.pass

@@ -1,0 +1,641 @@
+//! Passes of one store, in turn and on threads of their own.
+ghost use Rattle.std.specs.Prelude.{◌≡◌, ◌-◌, ◌<◌, ◌≤◌, ◌∷◌, [], pos, negsuc, neg_ℤ, IfOk, IfSome, IsTrue};
+ghost use Rattle.lrup_model.specs.Event.{History};
+ghost use Rattle.lrup_model.specs.History.{IsPublishable};
+ghost use Rattle.lrup_model.specs.Layout.{Fits, IsStream};
+ghost use Rattle.lrup_model.specs.Literal.{IsLiteral, max_variable};
+ghost use Rattle.lrup_model.specs.Plain.{formula_of};
+ghost use Rattle.lrup_model.specs.Pass.{pass_place};
+ghost use Rattle.lrup_model.specs.Place.{IsKnown};
+ghost use Rattle.lrup_model.specs.Worked.{four};
+ghost use Rattle.clause_store.specs.Passes.{store_of, AreOf};
+ghost use Rattle.clause_store.specs.Worked.{IsAt, AreAt, raced};
+
+use clause_store::{Desk, Pass, Store};
+use lrup_model::{
+    ClauseMap, Clip, Fetched, Formula, Id, Layout, Lit, PlainMap, Published, Retired,
+};
+use std::alloc::{AllocError, Global};
+use std::fmt;
+use std::process::Abort;
+use std::sync::atomic::{AtomicU64, Ordering};
+use std::test::Fail;
+use std::thread::{Threads, for_each_mut, join, yield_now};
+
+/// Stops the test where two values differ: an assertion that is proved once for all tests.
+fn same<T: PartialEq + fmt::Debug + Drop>(rt: &impl Abort, value: T, wanted: T) {
+    assert_eq!(rt; value, wanted);
+}
+
+/// Stops the test where this doesn't hold.
+fn holds(rt: &impl Abort, fact: bool)
+    ensures { IsTrue fact }
+{
+    assert!(rt; fact);
+}
+
+/// The literal of this number.
+fn lit(value: i64) -> Lit
+    requires { IsLiteral max_variable value }
+    ensures { result ≡ value }
+{
+    Lit::new(value).unwrap()
+}
+
+/// The formula of four clauses over two variables that no assignment satisfies.
+fn four_clauses(alloc: Global) -> Result<Formula, AllocError>
+    ensures { IfOk result (λ formula. formula ≡ four) }
+{
+    let mut formula = Formula::new(alloc, 2);
+    formula.push(&[lit(1), lit(2)])?;
+    formula.push(&[lit(-1), lit(2)])?;
+    formula.push(&[lit(1), lit(-2)])?;
+    formula.push(&[lit(-1), lit(-2)])?;
+    Ok(formula)
+}
+
+/// A store of four clauses for two streams with so many identities and so much room each, and their passes.
+fn open_two(alloc: Global, identities: u64, room: u64) -> Result<(Store, Pass, Pass), Fail>
+    ensures first { IfOk result (λ opened. IsAt four opened.0 opened.1) }
+    ensures second { IfOk result (λ opened. IsAt four opened.0 opened.2) }
+{
+    let formula = four_clauses(alloc)?;
+    let layout = Layout::new(2, 4, 8, 2, identities, room)?;
+    if !layout.fits(&formula) {
+        return Err("no layout".into());
+    }
+    let (store, mut passes) = Store::open(alloc, &formula, layout)?;
+    let second = passes.pop().ok_or("no pass")?;
+    let first = passes.pop().ok_or("one pass")?;
+    Ok((store, first, second))
+}
+
+/// What a fetch found.
+#[derive(Clone, Copy, Debug, PartialEq, Eq)]
+enum Found {
+    Vacant,
+    Live,
+    Retired,
+}
+
+/// What the store has under an identity.
+fn look(store: &Store, pass: &mut Pass, id: Id) -> Option<Found>
+    requires { IsAt four store.now pass.old }
+    ensures { IsAt four store.now pass.new }
+{
+    if !store.covers(id) {
+        return None;
+    }
+    Some(match store.fetch(pass, id) {
+        Fetched::Vacant => Found::Vacant,
+        Fetched::Live(_) => Found::Live,
+        Fetched::Retired => Found::Retired,
+    })
+}
+
+/// The clip of a live clause.
+fn live(store: &Store, pass: &mut Pass, id: Id) -> Option<Clip>
+    requires { IsAt four store.now pass.old }
+    ensures at { IsAt four store.now pass.new }
+    ensures known { IfSome result (λ clip. IsKnown (pass_place pass.new.view) clip) }
+{
+    if !store.covers(id) {
+        return None;
+    }
+    match store.fetch(pass, id) {
+        Fetched::Live(clip) => Some(clip),
+        _ => None,
+    }
+}
+
+/// Publishes a clause under an identity of the pass's own.
+fn publish(store: &Store, pass: &mut Pass, id: Id, clause: &[Lit]) -> Option<Published>
+    requires at { IsAt four store.now pass.old }
+    requires clause { IsPublishable four clause.now }
+    ensures { IsAt four store.now pass.new }
+{
+    if !store.owns(pass, id) || store.room(pass) < clause.len() as u64 {
+        return None;
+    }
+    Some(store.publish(pass, id, clause))
+}
+
+/// Retires the clause of an identity of the pass's own.
+fn retire(store: &Store, pass: &mut Pass, id: Id) -> Option<Retired>
+    requires { IsAt four store.now pass.old }
+    ensures { IsAt four store.now pass.new }
+{
+    if !store.owns(pass, id) {
+        return None;
+    }
+    Some(store.retire(pass, id))
+}
+
+/// Publishes a clause, and hands the pass back.
+fn published(store: &Store, mut pass: Pass, id: Id, clause: &[Lit]) -> (Pass, Option<Published>)
+    requires at { IsAt four store.now pass }
+    requires clause { IsPublishable four clause.now }
+    ensures { IsAt four store.now result.0 }
+{
+    let answer = publish(store, &mut pass, id, clause);
+    (pass, answer)
+}
+
+/// The same, and where it is asked for in a thread of its own, which is joined.
+fn publish_by<R: Threads>(
+    rt: &R,
+    apart: bool,
+    store: &Store,
+    pass: Pass,
+    id: Id,
+    clause: &[Lit],
+) -> (Pass, Option<Published>)
+    requires at { IsAt four store.now pass }
+    requires clause { IsPublishable four clause.now }
+    ensures { IsAt four store.now result.0 }
+{
+    if !apart {
+        return published(store, pass, id, clause);
+    }
+    let there = || -> (Pass, Option<Published>)
+        requires { IsAt four store.now pass × IsPublishable four clause.now }
+        ensures { IsAt four store.entry.now result.0 }
+    { published(store, pass, id, clause) };
+    join(rt, there, || ()).0
+}
+
+/// Retires a clause, and hands the pass back.
+fn withdrawn(store: &Store, mut pass: Pass, id: Id) -> (Pass, Option<Retired>)
+    requires { IsAt four store.now pass }
+    ensures { IsAt four store.now result.0 }
+{
+    let answer = retire(store, &mut pass, id);
+    (pass, answer)
+}
+
+/// The same, and where it is asked for in a thread of its own, which is joined.
+fn retire_by<R: Threads>(
+    rt: &R,
+    apart: bool,
+    store: &Store,
+    pass: Pass,
+    id: Id,
+) -> (Pass, Option<Retired>)
+    requires { IsAt four store.now pass }
+    ensures { IsAt four store.now result.0 }
+{
+    if !apart {
+        return withdrawn(store, pass, id);
+    }
+    let there = || -> (Pass, Option<Retired>)
+        requires { IsAt four store.now pass }
+        ensures { IsAt four store.entry.now result.0 }
+    { withdrawn(store, pass, id) };
+    join(rt, there, || ()).0
+}
+
+/// The second pass publishes, and the first finds that once they have met.
+fn publish_in_turn<R: Threads + Abort>(
+    rt: &R,
+    apart: bool,
+    store: &Store,
+    mut a: Pass,
+    b: Pass,
+) -> (Pass, Pass)
+    requires first { IsAt four store.now a }
+    requires second { IsAt four store.now b }
+    ensures first { IsAt four store.now result.0 }
+    ensures second { IsAt four store.now result.1 }
+{
+    same(rt, look(store, &mut a, 6), Some(Found::Vacant));
+    let (mut b, answer) = publish_by(rt, apart, store, b, 6, &[lit(-2)]);
+    same(rt, answer, Some(Published::Done));
+    store.meet(&mut a, &mut b);
+    same(rt, look(store, &mut a, 6), Some(Found::Live));
+    (a, b)
+}
+
+/// The second pass retires it. The first reads it all the same, and finds it retired once they have met.
+fn retire_in_turn<R: Threads + Abort>(
+    rt: &R,
+    apart: bool,
+    store: &Store,
+    mut a: Pass,
+    b: Pass,
+) -> Result<Pass, Fail>
+    requires first { IsAt four store.now a }
+    requires second { IsAt four store.now b }
+    ensures { IfOk result (λ pass. IsAt four store.now pass) }
+{
+    let clip = live(store, &mut a, 6).ok_or("6 isn't live")?;
+    holds(rt, reads_back(store, &mut a, &clip, &[lit(-2)]));
+    let (mut b, answer) = retire_by(rt, apart, store, b, 6);
+    same(rt, answer, Some(Retired::Done));
+    holds(rt, reads_back(store, &mut a, &clip, &[lit(-2)]));
+    store.meet(&mut a, &mut b);
+    same(rt, look(store, &mut a, 6), Some(Found::Retired));
+    Ok(b)
+}
+
+/// Each stream has one identity and room for two literals: 5 is the first's, and 6 the second's.
+fn take_turns<R: Threads + Abort>(rt: &R, alloc: Global, apart: bool) -> Result<(), Fail> {
+    let (store, a, b) = open_two(alloc, 1, 2)?;
+    let (a, b) = publish_in_turn(rt, apart, &store, a, b);
+    let b = retire_in_turn(rt, apart, &store, a, b)?;
+    let (b, answer) = publish_by(rt, apart, &store, b, 6, &[lit(-2)]);
+    same(rt, answer, Some(Published::Taken));
+    let (_b, answer) = retire_by(rt, apart, &store, b, 6);
+    same(rt, answer, Some(Retired::NotLive));
+    Ok(())
+}
+
+#[test]
+fn two_passes_take_turns(rt: HostRuntime) -> Result<(), Fail> {
+    take_turns(&rt, rt.alloc(), false)
+}
+
+#[test]
+fn two_passes_take_turns_on_two_threads(rt: HostRuntime) -> Result<(), Fail> {
+    take_turns(&rt, rt.alloc(), true)
+}
+
+/// Each stream has two identities and room for one literal.
+#[test]
+fn a_pass_spends_its_room(rt: HostRuntime) -> Result<(), Fail> {
+    let (store, _a, mut b) = open_two(rt.alloc(), 2, 1)?;
+    let answer = publish(&store, &mut b, 6, &[lit(-2)]);
+    same(&rt, answer, Some(Published::Done));
+    same(&rt, store.room(&b), 0);
+    same(&rt, publish(&store, &mut b, 8, &[]), Some(Published::Done));
+    holds(&rt, is_kept(&store, &mut b, 8, &[]));
+    same(&rt, publish(&store, &mut b, 8, &[]), Some(Published::Taken));
+    same(&rt, store.room(&b), 0);
+    Ok(())
+}
+
+/// Are these the literals of a clip's clause, in this order?
+fn reads_back(store: &Store, pass: &mut Pass, clip: &Clip, clause: &[Lit]) -> bool
+    requires at { IsAt four store.now pass.old }
+    requires known { IsKnown (pass_place pass.old.view) clip.now }
+    ensures { pass.new ≡ pass.old }
+{
+    if clip.len() as usize != clause.len() {
+        return false;
+    }
+    for k in 0..clip.len() {
+        if store.literal(pass, clip, k) != clause[k as usize] {
+            return false;
+        }
+    }
+    true
+}
+
+/// Is the clause live under this identity, with its literals in this order?
+fn is_kept(store: &Store, pass: &mut Pass, id: Id, clause: &[Lit]) -> bool
+    requires { IsAt four store.now pass.old }
+    ensures { IsAt four store.now pass.new }
+{
+    match live(store, pass, id) {
+        Some(clip) => reads_back(store, pass, &clip, clause),
+        None => false,
+    }
+}
+
+/// An odd clause, one of two literals after it, and the last one: each is read back, literal by literal.
+#[test]
+fn clauses_are_read_back(rt: HostRuntime) -> Result<(), Fail> {
+    let (store, mut a, _b) = open_two(rt.alloc(), 3, 6)?;
+    let done = Some(Published::Done);
+    let three = [lit(1), lit(-2), lit(2)];
+    let two = [lit(-1), lit(2)];
+    same(&rt, publish(&store, &mut a, 5, &three), done);
+    same(&rt, publish(&store, &mut a, 7, &two), done);
+    same(&rt, store.room(&a), 1);
+    same(&rt, publish(&store, &mut a, 9, &[lit(2)]), done);
+    holds(&rt, is_kept(&store, &mut a, 5, &three));
+    holds(&rt, is_kept(&store, &mut a, 7, &two));
+    holds(&rt, is_kept(&store, &mut a, 3, &[lit(1), lit(-2)]));
+    Ok(())
+}
+
+/// Publishes `2`, which the first two clauses show, under an identity of the caller's own.
+fn publish_two<M: ClauseMap>(map: &mut M, id: Id) -> Option<Published>
+    requires { (M.place map.old).caller.formula ≡ four }
+    ensures { (es : History) × M.moves map.old map.new es }
+{
+    if !map.owns(id) || map.room() == 0 {
+        return None;
+    }
+    Some(map.publish(id, &[lit(2)]))
+}
+
+/// The literal of a live clause that has just one.
+fn read_one<M: ClauseMap>(map: &mut M, id: Id) -> Option<Lit>
+    ensures { (es : History) × M.moves map.old map.new es }
+{
+    if !map.covers(id) {
+        return None;
+    }
+    let Fetched::Live(clip) = map.fetch(id) else {
+        return None;
+    };
+    if clip.len() != 1 {
+        return None;
+    }
+    Some(map.literal(&clip, 0))
+}
+
+/// How often a thread looks for what another does, before it gives up.
+const TURNS: u32 = 10_000_000;
+
+/// The client of a clause map, whichever it is: it publishes `2` under the one identity, and then looks so often whether the
+/// other is live, to read it.
+fn publish_and_read<M: ClauseMap>(
+    map: &mut M,
+    own: Id,
+    other: Id,
+    turns: u32,
+) -> (Option<Published>, Option<Lit>)
+    requires { (M.place map.old).caller.formula ≡ four }
+    ensures { (es : History) × M.moves map.old map.new es }
+{
+    let answer = publish_two(map, own);
+    for _turn in 0..turns {
+        let found = read_one(map, other);
+        if found.is_some() {
+            return (answer, found);
+        }
+        yield_now();
+    }
+    (answer, None)
+}
+
+/// The map of one thread, of four clauses for two streams with one identity and room for one literal each.
+fn open_plain(alloc: Global) -> Result<PlainMap, Fail>
+    ensures formula { IfOk result (λ map. formula_of map ≡ four) }
+    ensures streams { IfOk result (λ map. map.layout.streams ≡ 2) }
+{
+    let formula = four_clauses(alloc)?;
+    let layout = Layout::new(2, 4, 8, 2, 1, 1)?;
+    if !layout.fits(&formula) {
+        return Err("no layout".into());
+    }
+    let map = PlainMap::open(alloc, &formula, &layout)?;
+    Ok(map)
+}
+
+/// The client, which looks once, at the desk of a stream of the map of one thread.
+fn at_plain_desk(
+    map: &mut PlainMap,
+    stream: u64,
+    own: Id,
+    other: Id,
+) -> (Option<Published>, Option<Lit>)
+    requires formula { formula_of map.old ≡ four }
+    requires stream { IsStream map.old.layout stream }
+    ensures formula { formula_of map.new ≡ four }
+    ensures layout { map.new.layout ≡ map.old.layout }
+{
+    let mut desk = map.desk(stream);
+    publish_and_read(&mut desk, own, other, 1)
+}
+
+/// The client at the desk of a pass.
+fn at_desk(
+    store: &Store,
+    pass: Pass,
+    own: Id,
+    other: Id,
+    turns: u32,
+) -> (Pass, (Option<Published>, Option<Lit>))
+    requires { IsAt four store.now pass }
+    ensures { IsAt four store.now result.0 }
+{
+    let mut desk = Desk::new(store, pass);
+    let found = publish_and_read(&mut desk, own, other, turns);
+    (desk.into_pass(), found)
+}
+
+/// What the client found, three times: a stream, the next one, and the first one once more.
+type ThreeFound = [(Option<Published>, Option<Lit>); 3];
+
+fn found_at_plain_desks(alloc: Global) -> Result<ThreeFound, Fail> {
+    let mut map = open_plain(alloc)?;
+    let first = at_plain_desk(&mut map, 1, 5, 6);
+    let second = at_plain_desk(&mut map, 2, 6, 5);
+    Ok([first, second, at_plain_desk(&mut map, 1, 6, 6)])
+}
+
+fn found_at_desks(alloc: Global) -> Result<ThreeFound, Fail> {
+    let (store, a, b) = open_two(alloc, 1, 1)?;
+    let (a, first) = at_desk(&store, a, 5, 6, 1);
+    let (_b, second) = at_desk(&store, b, 6, 5, 1);
+    let (_a, third) = at_desk(&store, a, 6, 6, 1);
+    Ok([first, second, third])
+}
+
+/// At the map of one thread and at a store, a stream finds nothing yet, the next one what that published, and then the first
+/// what the next one did.
+#[test]
+fn one_client_has_both_maps(rt: HostRuntime) -> Result<(), Fail> {
+    let done = Some(Published::Done);
+    let wanted = [(done, None), (done, Some(lit(2))), (None, Some(lit(2)))];
+    assert_eq!(rt; found_at_plain_desks(rt.alloc())?, wanted);
+    assert_eq!(rt; found_at_desks(rt.alloc())?, wanted);
+    Ok(())
+}
+
+/// The client at two desks, each in a thread of its own, at the same time.
+fn at_two_desks<R: Threads>(
+    rt: &R,
+    store: &Store,
+    passes: (Pass, Pass),
+    owned: (Id, Id),
+    turns: u32,
+) -> ((Pass, Pass), [(Option<Published>, Option<Lit>); 2])
+    requires first { IsAt four store.now passes.0 }
+    requires second { IsAt four store.now passes.1 }
+    ensures first { IsAt four store.now result.0.0 }
+    ensures second { IsAt four store.now result.0.1 }
+{
+    let (a, b) = passes;
+    let (own, other) = owned;
+    let ((a, one), (b, two)) = join(
+        rt,
+        || -> (Pass, (Option<Published>, Option<Lit>))
+            requires { IsAt four store.now a }
+            ensures { IsAt four store.entry.now result.0 }
+        { at_desk(store, a, own, other, turns) },
+        || -> (Pass, (Option<Published>, Option<Lit>))
+            requires { IsAt four store.now b }
+            ensures { IsAt four store.entry.now result.0 }
+        { at_desk(store, b, other, own, turns) },
+    );
+    ((a, b), [one, two])
+}
+
+/// Each publishes a clause, and reads the other's by a later fetch. Then each publishes once more, and reads the other's after
+/// they met.
+#[test]
+fn two_threads_have_one_client(rt: HostRuntime) -> Result<(), Fail> {
+    let (store, a, b) = open_two(rt.alloc(), 2, 3)?;
+    let (passes, found) = at_two_desks(&rt, &store, (a, b), (5, 6), TURNS);
+    same(&rt, found, [(Some(Published::Done), Some(lit(2))); 2]);
+    let (passes, found) = at_two_desks(&rt, &store, passes, (7, 8), 0);
+    same(&rt, found, [(Some(Published::Done), None); 2]);
+    let (mut a, mut b) = passes;
+    store.meet(&mut a, &mut b);
+    let (_, found) = at_two_desks(&rt, &store, (a, b), (7, 8), 1);
+    same(&rt, found, [(Some(Published::Taken), Some(lit(2))); 2]);
+    Ok(())
+}
+
+/// The formula of the empty clause, from which each clause follows, over as many variables as the race has identities.
+fn refuted(alloc: Global) -> Result<Formula, AllocError>
+    ensures { IfOk result (λ formula. formula ≡ raced) }
+{
+    let mut formula = Formula::new(alloc, 40_001);
+    formula.push(&[])?;
+    Ok(formula)
+}
+
+/// The store of the race, for four streams of 10,000 identities, and its passes.
+fn open_race(alloc: Global) -> Result<(Store, Vec<Pass>), Fail>
+    ensures { IfOk result (λ opened. AreAt raced opened.0 opened.1.items) }
+{
+    let formula = refuted(alloc)?;
+    let layout = Layout::new(40_001, 1, 0, 4, 10_000, 20_000)?;
+    if !layout.fits(&formula) {
+        return Err("no layout".into());
+    }
+    let (store, passes) = Store::open(alloc, &formula, layout)?;
+    Ok((store, passes))
+}
+
+/// The two literals that the clause of an identity has at most: its own number, and its neighbour's complement.
+fn raced_literals(id: Id) -> (Lit, Lit)
+    requires { (1 < id) × (id ≤ 40001) }
+    ensures first { result.0 ≡ pos id }
+    ensures second { result.1 ≡ neg_ℤ (pos (id - 1)) }
+{
+    (lit(id as i64), lit((id - 1) as i64).complement())
+}
+
+/// Publishes an identity's clause in the race: none, one or both of its literals, by turns.
+fn publish_raced(store: &Store, pass: &mut Pass, id: Id) -> Option<Published>
+    requires { IsAt raced store.now pass.old }
+    ensures { IsAt raced store.now pass.new }
+{
+    if id < 2 || 40_001 < id || !store.owns(pass, id) || store.room(pass) < 2 {
+        return None;
+    }
+    let (first, second) = raced_literals(id);
+    Some(match id % 3 {
+        0 => store.publish(pass, id, &[]),
+        1 => store.publish(pass, id, &[first]),
+        _ => store.publish(pass, id, &[first, second]),
+    })
+}
+
+/// Is this the clause of the race, in whichever order it lies?
+fn is_raced(store: &Store, pass: &mut Pass, clip: &Clip) -> bool
+    requires store { store_of pass.old ≡ store.now }
+    requires known { IsKnown (pass_place pass.old.view) clip.now }
+    ensures { pass.new ≡ pass.old }
+{
+    let id = clip.id();
+    if id < 2 || 40_001 < id || u64::from(clip.len()) != id % 3 {
+        return false;
+    }
+    let (first, second) = raced_literals(id);
+    if clip.len() == 0 {
+        return true;
+    }
+    let found = store.literal(pass, clip, 0);
+    if clip.len() == 1 {
+        return found == first;
+    }
+    let other = store.literal(pass, clip, 1);
+    (found, other) == (first, second) || (other, found) == (first, second)
+}
+
+/// Is the identity live with its clause of the race? None where it is vacant.
+fn finds_raced(store: &Store, pass: &mut Pass, id: Id) -> Option<bool>
+    requires { store_of pass.old ≡ store.now }
+    ensures store { store_of pass.new ≡ store.now }
+    ensures caller { pass.new.view.caller ≡ pass.old.view.caller }
+{
+    if !store.covers(id) {
+        return Some(false);
+    }
+    match store.fetch(pass, id) {
+        Fetched::Vacant => None,
+        Fetched::Live(clip) => Some(clip.id() == id && is_raced(store, pass, &clip)),
+        Fetched::Retired => Some(false),
+    }
+}
+
+/// Waits for the other threads, some time.
+fn all_started(started: &AtomicU64) -> bool {
+    started.fetch_add(1, Ordering::SeqCst);
+    for _turn in 0..TURNS {
+        if started.load(Ordering::SeqCst) == 4 {
+            return true;
+        }
+        yield_now();
+    }
+    false
+}
+
+/// Publishes the clauses of a stream of the race, one after the other, and at each looks at the same one of all streams.
+fn race<R: Abort>(rt: &R, store: &Store, started: &AtomicU64, pass: &mut Pass)
+    requires { IsAt raced store.now pass.old }
+    ensures { IsAt raced store.now pass.new }
+{
+    assert!(rt; all_started(started), "one thread only");
+    let own = pass.stream();
+    for line in 0..10_000u64 {
+        let answer = publish_raced(store, pass, 4 * line + own + 1);
+        assert_eq!(rt; answer, Some(Published::Done), "line {line} of {own}");
+        for stream in 1..5u64 {
+            let found = finds_raced(store, pass, 4 * line + stream + 1);
+            let wanted = found == Some(true) || stream != own && found.is_none();
+            assert!(rt; wanted, "line {line} of {stream} at {own}");
+        }
+    }
+}
+
+/// Four passes race, each in a thread of its own.
+fn race_all<R: Threads + Abort + Sync>(rt: &R, store: &Store, passes: &mut [Pass])
+    requires { AreAt raced store.now passes.old }
+    ensures { AreOf store.now passes.new }
+{
+    let started = AtomicU64::new(0);
+    for_each_mut(
+        rt,
+        passes,
+        4,
+        &|_, pass: &mut Pass| race(rt, store, &started, pass),
+    );
+}
+
+/// Has the pass all clauses of the race?
+fn finds_all<R: Abort>(rt: &R, store: &Store, pass: &mut Pass)
+    requires { store_of pass.old ≡ store.now }
+{
+    for id in 2..40_002 {
+        assert_eq!(rt; finds_raced(store, pass, id), Some(true), "at {id}");
+    }
+}
+
+/// Four streams publish 10,000 clauses each at the same time, and look at each other's. Once all have met, a pass has them all.
+#[test]
+fn four_threads_race(rt: HostRuntime) -> Result<(), Fail> {
+    let (store, mut passes) = open_race(rt.alloc())?;
+    holds(&rt, passes.len() == 4);
+    race_all(&rt, &store, passes.as_mut_slice());
+    store.meet_all(passes.as_mut_slice());
+    let (first, _) = passes.split_first_mut().ok_or("no pass")?;
+    finds_all(&rt, &store, first);
+    Ok(())
+}

@@ -1,0 +1,212 @@
+//! Runs of the whole program over files and sinks of the tests' own.
+ghost use Rattle.std.specs.Prelude.{◌≡◌, None, true, false};
+
+use command::{Files, OpenFault, command};
+use lrup_text::{ReadFault, Sink, Source, WriteFault};
+use std::alloc::Global;
+use std::process::Abort;
+use std::sync::Wait;
+use std::test::Fail;
+use std::thread::Threads;
+use std::time::Clock;
+
+mod faults;
+mod rows;
+
+/// 1 2 0 / -1 2 0 / 1 -2 0 / -1 -2 0
+const FOUR: &str = "p cnf 2 4\n1 2 0\n-1 2 0\n1 -2 0\n-1 -2 0\n";
+
+/// A file that comes three bytes a read, until a read of this number, from 1 on, fails.
+#[derive(Drop)]
+struct Pieces<'a> {
+    left: &'a [u8],
+    fails_at: usize,
+    reads: usize,
+    failed: bool,
+}
+
+impl Source for Pieces<'_> {
+    ghost left = { λ _. None };
+
+    ghost has_failed = { λ s. s.failed };
+
+    fn read(&mut self, buffer: &mut [u8]) -> Result<usize, ReadFault> {
+        self.reads = self.reads.saturating_add(1);
+        if self.reads == self.fails_at {
+            self.failed = true;
+            return Err(ReadFault);
+        }
+        let count = buffer.len().min(3).min(self.left.len());
+        let (front, rest) = self.left.split_at(count);
+        buffer[..count].copy_from_slice(front);
+        self.left = rest;
+        Ok(count)
+    }
+
+    fn failed(&self) -> bool {
+        self.failed
+    }
+}
+
+/// A file of the shelf.
+#[derive(Clone, Copy)]
+struct Entry<'a> {
+    path: &'a str,
+    text: &'a str,
+    /// Which read of it fails, from 1 on; 0 for none.
+    fails_at: usize,
+}
+
+/// Files, and the paths that were opened or asked for, in order, each followed by a space.
+#[derive(Drop)]
+struct Shelf<'a> {
+    entries: Vec<Entry<'a>>,
+    opened: String,
+    /// Whether memory is out at each opening.
+    is_full: bool,
+}
+
+impl Shelf<'_> {
+    /// Read number `read` of the file at this path fails, from 1 on.
+    fn fail_at(&mut self, path: &str, read: usize) {
+        for entry in self.entries.iter_mut() {
+            if entry.path == path {
+                entry.fails_at = read;
+            }
+        }
+    }
+}
+
+impl<'a> Files for Shelf<'a> {
+    type Input = Pieces<'a>;
+
+    ghost tells = { λ _ _. None };
+
+    ghost may_refuse = { λ _ _. true };
+
+    fn open(&mut self, path: &str) -> Result<Pieces<'a>, OpenFault> {
+        if self.is_full || self.opened.push_str(path).is_err() || self.opened.push(' ').is_err() {
+            return Err(OpenFault::Memory);
+        }
+        match self.entries.iter().find(|entry| entry.path == path) {
+            Some(entry) => Ok(Pieces {
+                left: entry.text.as_bytes(),
+                fails_at: entry.fails_at,
+                reads: 0,
+                failed: false,
+            }),
+            None => Err(OpenFault::NotOpened),
+        }
+    }
+}
+
+/// Paper that takes seven bytes a write, until a write of this number, from 1 on, fails.
+#[derive(Drop)]
+struct Paper {
+    bytes: Vec<u8>,
+    fails_at: usize,
+    writes: usize,
+    failed: bool,
+}
+
+impl Paper {
+    fn new(alloc: Global, fails_at: usize) -> Paper
+        ensures { result.failed ≡ false }
+    {
+        Paper {
+            bytes: Vec::new(alloc),
+            fails_at,
+            writes: 0,
+            failed: false,
+        }
+    }
+}
+
+impl Sink for Paper {
+    ghost written = { λ _. None };
+
+    ghost has_failed = { λ p. p.failed };
+
+    fn write(&mut self, bytes: &[u8]) -> Result<usize, WriteFault> {
+        self.writes = self.writes.saturating_add(1);
+        let count = bytes.len().min(7);
+        if self.writes == self.fails_at || self.bytes.extend_from_slice(&bytes[..count]).is_err() {
+            self.failed = true;
+            return Err(WriteFault);
+        }
+        Ok(count)
+    }
+
+    fn failed(&self) -> bool {
+        self.failed
+    }
+}
+
+const PATHS: &[&str] = &["1", "2", "3", "4", "5", "6", "7", "8", "9"];
+
+/// The formula at `f`, and the streams at `1`, `2` and so on up to 9.
+fn shelf_of<'a>(alloc: Global, formula: &'a str, streams: &[&'a str]) -> Result<Shelf<'a>, Fail> {
+    let mut entries = Vec::new(alloc);
+    entries.push(Entry {
+        path: "f",
+        text: formula,
+        fails_at: 0,
+    })?;
+    for (path, text) in PATHS.iter().zip(streams) {
+        entries.push(Entry {
+            path,
+            text,
+            fails_at: 0,
+        })?;
+    }
+    Ok(Shelf {
+        entries,
+        opened: String::new(alloc),
+        is_full: false,
+    })
+}
+
+/// What a run wrote, and its status.
+#[derive(Drop)]
+struct Ran {
+    out: Vec<u8>,
+    err: Vec<u8>,
+    status: u8,
+}
+
+/// Runs the program over the files. The sinks fail at these writes, from 1 on; 0 for none.
+fn run_on<T: Threads + Wait + Sync + Clock>(
+    rt: &T,
+    alloc: Global,
+    words: &[&str],
+    files: &mut Shelf<'_>,
+    out_fails_at: usize,
+    err_fails_at: usize,
+) -> Ran {
+    let mut out = Paper::new(alloc, out_fails_at);
+    let mut err = Paper::new(alloc, err_fails_at);
+    let status = command(rt, rt, alloc, words, files, &mut out, &mut err);
+    Ran {
+        out: out.bytes,
+        err: err.bytes,
+        status,
+    }
+}
+
+/// The run of these words over these files ends so.
+fn assert_ends<T: Threads + Wait + Sync + Clock + Abort>(
+    rt: &T,
+    alloc: Global,
+    words: &[&str],
+    files: &mut Shelf<'_>,
+    want: (&str, &str, u8),
+) {
+    let ran = run_on(rt, alloc, words, files, 0, 0);
+    let (out, err, status) = want;
+    let wrote = (ran.out.as_slice(), ran.err.as_slice(), ran.status);
+    assert_eq!(rt;
+        wrote,
+        (out.as_bytes(), err.as_bytes(), status),
+        "{words:?}"
+    );
+}

@@ -1,0 +1,328 @@
+//! The row word by word, two streams in turn, and two threads at once.
+ghost use Rattle.std.specs.Prelude.{◌≡◌, [], IfOk, IsTrue};
+ghost use Rattle.lrup_model.specs.History.{IsPublishable};
+ghost use Rattle.lrup_model.specs.Layout.{Fits};
+ghost use Rattle.lrup_model.specs.Literal.{IsLiteral, max_variable};
+ghost use Rattle.lrup_model.specs.Worked.{four};
+ghost use Rattle.idwords.specs.Worked.{IsAt};
+
+use idwords::{LIVE, RETIRED, Row, Seat, len, lit, start, state};
+use lrup_model::{Formula, Layout, Lit, Owner, Published, Retired};
+use std::alloc::{AllocError, Global};
+use std::fmt;
+use std::process::Abort;
+use std::test::Fail;
+use std::thread::join;
+
+/// Stops the test where two values differ: an assertion that is proved once for all tests.
+fn same<T: PartialEq + fmt::Debug + Drop>(rt: &impl Abort, value: T, wanted: T) {
+    assert_eq!(rt; value, wanted);
+}
+
+/// Stops the test where this doesn't hold.
+fn holds(rt: &impl Abort, fact: bool)
+    ensures { IsTrue fact }
+{
+    assert!(rt; fact);
+}
+
+/// The literal of this number.
+fn literal(value: i64) -> Lit
+    requires { IsLiteral max_variable value }
+    ensures { result ≡ value }
+{
+    Lit::new(value).unwrap()
+}
+
+/// The formula of four clauses over two variables that no assignment satisfies.
+fn four_clauses(alloc: Global) -> Result<Formula, AllocError>
+    ensures { IfOk result (λ formula. formula ≡ four) }
+{
+    let mut formula = Formula::new(alloc, 2);
+    formula.push(&[literal(1), literal(2)])?;
+    formula.push(&[literal(-1), literal(2)])?;
+    formula.push(&[literal(1), literal(-2)])?;
+    formula.push(&[literal(-1), literal(-2)])?;
+    Ok(formula)
+}
+
+/// A row of one stream, and its seat.
+fn open_one(alloc: Global, formula: &Formula, layout: &Layout) -> Result<(Row, Seat), Fail>
+    requires fits { Fits layout.now formula.now }
+    requires streams { layout.now.streams ≡ 1 }
+    ensures { IfOk result (λ opened. IsAt formula.now opened.0 layout.now 1 opened.1) }
+{
+    let (row, mut seats) = Row::open(alloc, formula, layout)?;
+    let seat = seats.pop().ok_or("no seat")?;
+    Ok((row, seat))
+}
+
+/// A row of two streams, and their seats.
+fn open_two(alloc: Global, formula: &Formula, layout: &Layout) -> Result<(Row, Seat, Seat), Fail>
+    requires formula { formula.now ≡ four }
+    requires fits { Fits layout.now formula.now }
+    requires streams { layout.now.streams ≡ 2 }
+    ensures first { IfOk result (λ opened. IsAt four opened.0 layout.now 1 opened.1) }
+    ensures second { IfOk result (λ opened. IsAt four opened.0 layout.now 2 opened.2) }
+{
+    let (row, mut seats) = Row::open(alloc, formula, layout)?;
+    let second = seats.pop().ok_or("no seat")?;
+    let first = seats.pop().ok_or("one seat")?;
+    Ok((row, first, second))
+}
+
+/// Has the row these words?
+fn has_words(row: &Row, layout: &Layout, seat: &mut Seat, words: &[u64]) -> bool
+    requires row { seat.old.table ≡ row.now }
+    requires layout { seat.old.view.caller.layout ≡ layout.now }
+    ensures { seat.new ≡ seat.old }
+{
+    if layout.row_words() != words.len() as u64 {
+        return false;
+    }
+    for (place, word) in words.iter().enumerate() {
+        if row.word(seat, place as u64) != *word {
+            return false;
+        }
+    }
+    true
+}
+
+/// What the word of an identity is.
+fn look(row: &Row, layout: &Layout, seat: &mut Seat, stream: u64, id: u64) -> Option<u64>
+    requires { IsAt four row.now layout.now stream seat.old }
+    ensures { IsAt four row.now layout.now stream seat.new }
+{
+    if !layout.covers(id) {
+        return None;
+    }
+    Some(row.look(seat, id))
+}
+
+/// Publishes a clause under an identity of the stream's own.
+fn publish(
+    row: &Row,
+    layout: &Layout,
+    seat: &mut Seat,
+    stream: u64,
+    id: u64,
+    clause: &[Lit],
+) -> Option<Published>
+    requires at { IsAt four row.now layout.now stream seat.old }
+    requires clause { IsPublishable four clause.now }
+    ensures { IsAt four row.now layout.now stream seat.new }
+{
+    if layout.owner(id) != Owner::Stream(stream) || seat.room() < clause.len() as u64 {
+        return None;
+    }
+    let mut left = clause;
+    'pairs: while let [first, second, rest @ ..] = left {
+        row.write(seat, *first, Some(*second));
+        left = rest;
+    }
+    if let [last] = left {
+        row.write(seat, *last, None);
+    }
+    Some(row.claim(seat, id))
+}
+
+/// Retires the clause of an identity of the stream's own.
+fn retire(row: &Row, layout: &Layout, seat: &mut Seat, stream: u64, id: u64) -> Option<Retired>
+    requires { IsAt four row.now layout.now stream seat.old }
+    ensures { IsAt four row.now layout.now stream seat.new }
+{
+    if layout.owner(id) != Owner::Stream(stream) {
+        return None;
+    }
+    Some(row.withdraw(seat, id))
+}
+
+/// The row of one stream, as it is opened, after a publish, and after that clause was retired.
+#[test]
+fn the_row_has_its_words(rt: HostRuntime) -> Result<(), Fail> {
+    let formula = four_clauses(rt.alloc())?;
+    let layout = Layout::new(2, 4, 8, 1, 1, 2)?;
+    holds(&rt, layout.fits(&formula));
+    let (row, mut seat) = open_one(rt.alloc(), &formula, &layout)?;
+    let mut words = [0; 16];
+    words[1..5].copy_from_slice(&[25165833, 29360137, 33554441, 37748745]);
+    words[6..10].copy_from_slice(&[17179869186, 17179869187, 21474836482, 21474836483]);
+    holds(&rt, has_words(&row, &layout, &mut seat, &words));
+    same(&rt, seat.room(), 2);
+    let answer = publish(&row, &layout, &mut seat, 1, 5, &[literal(2)]);
+    same(&rt, answer, Some(Published::Done));
+    words[5] = 58720261;
+    words[14] = 4;
+    holds(&rt, has_words(&row, &layout, &mut seat, &words));
+    same(&rt, seat.room(), 1);
+    let answer = retire(&row, &layout, &mut seat, 1, 5);
+    same(&rt, answer, Some(Retired::Done));
+    words[5] = 58720262;
+    holds(&rt, has_words(&row, &layout, &mut seat, &words));
+    same(&rt, seat.room(), 1);
+    Ok(())
+}
+
+/// The row after a clause of one literal, and then one of two, which begins in a word of its own.
+#[test]
+fn a_clause_begins_in_a_word_of_its_own(rt: HostRuntime) -> Result<(), Fail> {
+    let formula = four_clauses(rt.alloc())?;
+    let layout = Layout::new(2, 4, 8, 1, 2, 3)?;
+    holds(&rt, layout.fits(&formula));
+    let (row, mut seat) = open_one(rt.alloc(), &formula, &layout)?;
+    let answer = publish(&row, &layout, &mut seat, 1, 5, &[literal(2)]);
+    same(&rt, answer, Some(Published::Done));
+    let answer = publish(&row, &layout, &mut seat, 1, 6, &[literal(1), literal(2)]);
+    same(&rt, answer, Some(Published::Done));
+    same(&rt, seat.room(), 0);
+    let mut words = [0; 18];
+    words[1..5].copy_from_slice(&[29360137, 33554441, 37748745, 41943049]);
+    words[5..7].copy_from_slice(&[62914565, 67108873]);
+    words[7..11].copy_from_slice(&[17179869186, 17179869187, 21474836482, 21474836483]);
+    words[15..17].copy_from_slice(&[4, 17179869186]);
+    holds(&rt, has_words(&row, &layout, &mut seat, &words));
+    Ok(())
+}
+
+/// Clauses of three literals, of none and of two.
+fn uneven_clauses(alloc: Global) -> Result<Formula, AllocError> {
+    let mut formula = Formula::new(alloc, 3);
+    formula.push(&[literal(1), literal(2), literal(3)])?;
+    formula.push(&[])?;
+    formula.push(&[literal(-1), literal(-2)])?;
+    Ok(formula)
+}
+
+/// The row of a formula with an odd clause and an empty one, as it is opened.
+#[test]
+fn a_formulas_clause_begins_in_a_word_of_its_own(rt: HostRuntime) -> Result<(), Fail> {
+    let formula = uneven_clauses(rt.alloc())?;
+    let layout = Layout::new(3, 3, 5, 1, 1, 1)?;
+    holds(&rt, layout.fits(&formula));
+    let (row, mut seat) = open_one(rt.alloc(), &formula, &layout)?;
+    let words = [
+        0,
+        20971533,
+        29360129,
+        29360137,
+        0,
+        17179869186,
+        6,
+        21474836483,
+        0,
+        0,
+        0,
+    ];
+    holds(&rt, has_words(&row, &layout, &mut seat, &words));
+    Ok(())
+}
+
+/// Where memory is refused it says so, and may be called again.
+#[test]
+fn an_open_may_be_refused(rt: HostRuntime) -> Result<(), Fail> {
+    let Ok(formula) = four_clauses(rt.alloc()) else {
+        return Ok(());
+    };
+    let layout = Layout::new(2, 4, 8, 2, 2, 1)?;
+    holds(&rt, layout.fits(&formula));
+    if Row::open(rt.alloc(), &formula, &layout).is_err() {
+        holds(&rt, Row::open(rt.alloc(), &formula, &layout).is_ok());
+    }
+    Ok(())
+}
+
+/// Two streams, each with two identities and room for one literal.
+#[test]
+fn two_streams_take_turns(rt: HostRuntime) -> Result<(), Fail> {
+    let formula = four_clauses(rt.alloc())?;
+    let layout = Layout::new(2, 4, 8, 2, 2, 1)?;
+    holds(&rt, layout.fits(&formula));
+    let (row, _first, mut second) = open_two(rt.alloc(), &formula, &layout)?;
+    let answer = publish(&row, &layout, &mut second, 2, 6, &[literal(-2)]);
+    same(&rt, answer, Some(Published::Done));
+    same(&rt, second.room(), 0);
+    let answer = publish(&row, &layout, &mut second, 2, 8, &[]);
+    same(&rt, answer, Some(Published::Done));
+    let answer = publish(&row, &layout, &mut second, 2, 8, &[]);
+    same(&rt, answer, Some(Published::Taken));
+    same(&rt, second.room(), 0);
+    let answer = retire(&row, &layout, &mut second, 2, 6);
+    same(&rt, answer, Some(Retired::Done));
+    let answer = retire(&row, &layout, &mut second, 2, 6);
+    same(&rt, answer, Some(Retired::NotLive));
+    let answer = publish(&row, &layout, &mut second, 2, 6, &[]);
+    same(&rt, answer, Some(Published::Taken));
+    Ok(())
+}
+
+/// The first literal of an identity's clause, where it is live.
+fn first_literal(row: &Row, layout: &Layout, seat: &mut Seat, stream: u64, id: u64) -> Option<i64>
+    requires { IsAt four row.now layout.now stream seat.old }
+    ensures { IsAt four row.now layout.now stream seat.new }
+{
+    let found = look(row, layout, seat, stream, id)?;
+    if state(found) != LIVE || len(found) == 0 || layout.row_words() <= start(found) {
+        return None;
+    }
+    let word = row.word(seat, start(found));
+    let code = word % (1 << 32);
+    if code < 2 || 33_554_431 < code {
+        return None;
+    }
+    Some(lit(word, 0).value())
+}
+
+/// Publishes a clause, and hands the seat back.
+fn publish_apart(
+    row: &Row,
+    layout: &Layout,
+    mut seat: Seat,
+    stream: u64,
+    id: u64,
+    clause: &[Lit],
+) -> (Seat, Option<Published>)
+    requires at { IsAt four row.now layout.now stream seat }
+    requires clause { IsPublishable four clause.now }
+    ensures { IsAt four row.now layout.now stream result.0 }
+{
+    let answer = publish(row, layout, &mut seat, stream, id, clause);
+    (seat, answer)
+}
+
+/// Two threads use two seats at the same time. Once they met, each sees what the other did.
+#[test]
+fn two_threads_use_one_row(rt: HostRuntime) -> Result<(), Fail> {
+    let formula = four_clauses(rt.alloc())?;
+    let layout = Layout::new(2, 4, 8, 2, 1, 1)?;
+    holds(&rt, layout.fits(&formula));
+    let (row, first, second) = open_two(rt.alloc(), &formula, &layout)?;
+    let (row, layout) = (&row, &layout);
+    let (two, not_two) = ([literal(2)], [literal(-2)]);
+    let ((mut first, one), (mut second, other)) = join(
+        &rt,
+        || -> (Seat, Option<Published>)
+            requires { IsAt four row.now layout.now 1 first × IsPublishable four two }
+            ensures { IsAt four row.entry.now layout.entry.now 1 result.0 }
+        { publish_apart(row, layout, first, 1, 5, &two) },
+        || -> (Seat, Option<Published>)
+            requires { IsAt four row.now layout.now 2 second × IsPublishable four not_two }
+            ensures { IsAt four row.entry.now layout.entry.now 2 result.0 }
+        { publish_apart(row, layout, second, 2, 6, &not_two) },
+    );
+    same(&rt, one, Some(Published::Done));
+    same(&rt, other, Some(Published::Done));
+    row.meet(&mut first, &mut second);
+    same(&rt, first_literal(row, layout, &mut first, 1, 6), Some(-2));
+    same(&rt, first_literal(row, layout, &mut second, 2, 5), Some(2));
+    let answer = retire(row, layout, &mut second, 2, 6);
+    same(&rt, answer, Some(Retired::Done));
+    row.meet(&mut first, &mut second);
+    let found = look(row, layout, &mut first, 1, 6).ok_or("no word")?;
+    same(&rt, (state(found), len(found)), (RETIRED, 1));
+    same(
+        &rt,
+        look(row, layout, &mut first, 1, 1),
+        Some(25165833 + 4194304),
+    );
+    Ok(())
+}

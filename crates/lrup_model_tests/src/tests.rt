@@ -1,0 +1,435 @@
+//! Worked values, texts, and each public call once.
+ghost use Rattle.std.specs.Prelude.{◌≡◌, ◌∷◌, ◌++◌, [], pos, negsuc, Some, None, IfOk, IsTrue};
+ghost use Rattle.lrup_model.specs.Entailment.{IsUnsatisfiable};
+ghost use Rattle.lrup_model.specs.Event.{History, vacant, fetch, publish, spent};
+ghost use Rattle.lrup_model.specs.History.{IsLegal};
+ghost use Rattle.lrup_model.specs.Layout.{IsStream, row_words};
+ghost use Rattle.lrup_model.specs.Literal.{IsLiteral, max_variable};
+ghost use Rattle.lrup_model.specs.Plain.{formula_of};
+ghost use Rattle.lrup_model.specs.Propagation.{Accepts};
+ghost use Rattle.lrup_model.specs.State.{state, retired};
+ghost use Rattle.lrup_model.specs.Worked.{four, first, second, third, fourth, unit, one_line, calls};
+
+use lrup_model::{
+    ClauseMap, Clip, Fetched, Formula, Id, Layout, LayoutFault, Lit, Owner, PlainMap, Published,
+    Retired,
+};
+use std::alloc::{AllocError, Global};
+use std::fmt;
+use std::process::Abort;
+use std::test::Fail;
+
+/// Stops the test where two values differ: an assertion that is proved once for all tests.
+fn same<T: PartialEq + fmt::Debug + Drop>(rt: &impl Abort, value: T, wanted: T) {
+    assert_eq!(rt; value, wanted);
+}
+
+/// Stops the test where this doesn't hold.
+fn holds(rt: &impl Abort, fact: bool)
+    ensures { IsTrue fact }
+{
+    assert!(rt; fact);
+}
+
+/// The literal of this number.
+fn lit(value: i64) -> Lit
+    requires { IsLiteral max_variable value }
+    ensures { result ≡ value }
+{
+    Lit::new(value).unwrap()
+}
+
+#[test]
+fn literals_have_a_limit(rt: HostRuntime) -> Result<(), Fail> {
+    for (value, var, complement) in [
+        (1, 1, -1),
+        (-1, 1, 1),
+        (16_777_215, 16_777_215, -16_777_215),
+        (-16_777_215, 16_777_215, 16_777_215),
+    ] {
+        let literal = Lit::new(value).ok_or("no literal")?;
+        let found = (literal.value(), literal.var(), literal.complement().value());
+        same(&rt, found, (value, var, complement));
+    }
+    for value in [0, 16_777_216, -16_777_216, i64::MAX, i64::MIN] {
+        same(&rt, (value, Lit::new(value)), (value, None));
+    }
+    Ok(())
+}
+
+#[test]
+fn literals_have_codes(rt: HostRuntime) -> Result<(), Fail> {
+    for (value, code) in [
+        (1, 2),
+        (-1, 3),
+        (2, 4),
+        (-2, 5),
+        (16_777_215, 33_554_430),
+        (-16_777_215, 33_554_431),
+    ] {
+        let literal = Lit::new(value).ok_or("no literal")?;
+        same(&rt, (value, literal.code()), (value, code));
+        holds(&rt, 2 <= code && code <= 33_554_431);
+        same(&rt, (code, Lit::from_code(code)), (code, literal));
+    }
+    Ok(())
+}
+
+#[test]
+fn layouts_have_limits(rt: HostRuntime) {
+    const ALL: u64 = u64::MAX;
+    use LayoutFault::{BadStreamCount, RowTooLong, TooManyClauses, TooManyVariables};
+    let table = [
+        (16_777_215, 4, 8, 1, 0, 0, None),
+        (16_777_216, 4, 8, 1, 0, 0, Some(TooManyVariables)),
+        (2, 16_777_215, 8, 1, 0, 0, None),
+        (2, 16_777_216, 8, 1, 0, 0, Some(TooManyClauses)),
+        (2, 4, 8, 0, 0, 0, Some(BadStreamCount)),
+        (2, 4, 8, 64, 0, 0, None),
+        (2, 4, 8, 65, 0, 0, Some(BadStreamCount)),
+        (2, 4, 8, 1, 268_435_443, 0, None),
+        (2, 4, 8, 1, 268_435_444, 0, Some(RowTooLong)),
+        (2, 4, 8, 1, 0, 268_435_443, None),
+        (2, 4, 8, 1, 0, 268_435_444, Some(RowTooLong)),
+        (2, 4, 268_435_451, 1, 0, 0, None),
+        (2, 4, 268_435_452, 1, 0, 0, Some(RowTooLong)),
+        (2, 4, 8, 64, 2_097_151, 2_097_152, None),
+        (2, 4, 8, 64, 2_097_152, 2_097_152, Some(RowTooLong)),
+        (ALL, ALL, ALL, ALL, ALL, ALL, Some(TooManyVariables)),
+        (2, ALL, ALL, ALL, ALL, ALL, Some(TooManyClauses)),
+        (2, 4, ALL, ALL, ALL, ALL, Some(BadStreamCount)),
+        (2, 4, ALL, 64, ALL, ALL, Some(RowTooLong)),
+        (2, 4, 8, 64, ALL, 0, Some(RowTooLong)),
+        (2, 4, 8, 64, 0, ALL, Some(RowTooLong)),
+    ];
+    for (vars, clauses, literals, streams, lines, room, fault) in table {
+        let found = Layout::new(vars, clauses, literals, streams, lines, room).err();
+        let numbers = (vars, clauses, literals, streams, lines, room);
+        same(&rt, (numbers, found), (numbers, fault));
+    }
+}
+
+#[test]
+fn the_longest_row_has_its_words(rt: HostRuntime) -> Result<(), Fail> {
+    let layout = Layout::new(2, 4, 8, 1, 268_435_443, 0)?;
+    same(&rt, layout.row_words(), 268_435_456);
+    same(&rt, layout.last_identity(), 268_435_447);
+    same(
+        &rt,
+        (
+            layout.vars(),
+            layout.streams(),
+            layout.room(),
+            layout.all_room(),
+        ),
+        (2, 1, 0, 0),
+    );
+    Ok(())
+}
+
+#[test]
+fn streams_own_by_turns(rt: HostRuntime) -> Result<(), Fail> {
+    let layout = Layout::new(2, 4, 8, 2, 2, 3)?;
+    let owners = [
+        Owner::Outside,
+        Owner::Formula,
+        Owner::Formula,
+        Owner::Formula,
+        Owner::Formula,
+        Owner::Stream(1),
+        Owner::Stream(2),
+        Owner::Stream(1),
+        Owner::Stream(2),
+        Owner::Outside,
+    ];
+    for (id, owner) in owners.iter().enumerate() {
+        let found = (id, layout.owner(id as u64), layout.covers(id as u64));
+        same(&rt, found, (id, *owner, 0 < id && id < 9));
+    }
+    same(&rt, layout.owner(u64::MAX), Owner::Outside);
+    Ok(())
+}
+
+#[test]
+fn faults_and_literals_have_texts(rt: HostRuntime) -> Result<(), Fail> {
+    let alloc = rt.alloc();
+    for (fault, text) in [
+        (LayoutFault::TooManyVariables, "formula refused: limit"),
+        (LayoutFault::TooManyClauses, "formula refused: limit"),
+        (LayoutFault::BadStreamCount, "stream count"),
+        (LayoutFault::RowTooLong, "row too long"),
+    ] {
+        same(&rt, fault.to_string(alloc)?.as_str(), text);
+    }
+    for (value, text) in [(-2, "-2"), (16_777_215, "16777215")] {
+        same(&rt, lit(value).to_string(alloc)?.as_str(), text);
+    }
+    Ok(())
+}
+
+/// The formula of four clauses over two variables that no assignment satisfies.
+fn four_clauses(alloc: Global) -> Result<Formula, AllocError>
+    ensures { IfOk result (λ formula. formula ≡ four) }
+{
+    let mut formula = Formula::new(alloc, 2);
+    formula.push(&[lit(1), lit(2)])?;
+    formula.push(&[lit(-1), lit(2)])?;
+    formula.push(&[lit(1), lit(-2)])?;
+    formula.push(&[lit(-1), lit(-2)])?;
+    Ok(formula)
+}
+
+#[test]
+fn a_formula_keeps_its_clauses(rt: HostRuntime) -> Result<(), Fail> {
+    holds(&rt, Formula::new(rt.alloc(), 2).is_empty());
+    let formula = four_clauses(rt.alloc())?;
+    same(
+        &rt,
+        (formula.vars(), formula.len(), formula.literals()),
+        (2, 4, 8),
+    );
+    holds(&rt, !formula.is_empty());
+    same(&rt, formula.clause(1), [lit(1), lit(2)].as_slice());
+    same(&rt, formula.clause(2), [lit(-1), lit(2)].as_slice());
+    same(&rt, formula.clause(4), [lit(-1), lit(-2)].as_slice());
+    let layout = Layout::new(2, 4, 8, 1, 0, 0)?;
+    holds(&rt, layout.fits(&formula));
+    let other = Layout::new(2, 4, 7, 1, 0, 0)?;
+    holds(&rt, !other.fits(&formula));
+    Ok(())
+}
+
+/// The gate runs this test with each of its allocations refused, one after the other; the second attempt then has memory.
+#[test]
+fn a_refused_push_changes_nothing(rt: HostRuntime) -> Result<(), Fail> {
+    let mut formula = Formula::new(rt.alloc(), 2);
+    if formula.push(&[lit(1), lit(2)]).is_err() {
+        same(&rt, (formula.len(), formula.literals()), (0, 0));
+        formula = Formula::new(rt.alloc(), 2);
+        formula.push(&[lit(1), lit(2)])?;
+    }
+    same(&rt, (formula.len(), formula.literals()), (1, 2));
+    Ok(())
+}
+
+/// As the test above.
+#[test]
+fn a_refused_open_can_be_made_again(rt: HostRuntime) -> Result<(), Fail> {
+    let formula = Formula::new(rt.alloc(), 2);
+    let layout = Layout::new(2, 0, 0, 2, 3, 4)?;
+    holds(&rt, layout.fits(&formula));
+    let map = match PlainMap::open(rt.alloc(), &formula, &layout) {
+        Ok(map) => map,
+        Err(_) => PlainMap::open(rt.alloc(), &formula, &layout)?,
+    };
+    same(&rt, map.layout().last_identity(), 6);
+    holds(&rt, formula.is_empty());
+    Ok(())
+}
+
+#[test]
+fn clips_tell_their_parts(rt: HostRuntime) {
+    let clip = Clip::new(5, 1, 14);
+    same(&rt, (clip.id(), clip.len(), clip.start()), (5, 1, 14));
+    holds(&rt, !clip.is_empty());
+}
+
+/// Publishes `2`, which the first two clauses show, under an identity of the caller's own.
+fn publish_two<M: ClauseMap>(desk: &mut M, id: Id) -> Option<Published>
+    requires { (M.place desk.old).caller.formula ≡ four }
+    ensures { (es : History) × M.moves desk.old desk.new es }
+{
+    if !desk.owns(id) || desk.room() == 0 {
+        return None;
+    }
+    Some(desk.publish(id, &[lit(2)]))
+}
+
+/// What stands under an identity, as the count of a live clause's literals.
+fn look<M: ClauseMap>(desk: &mut M, id: Id) -> Option<Fetched>
+    ensures { (es : History) × M.moves desk.old desk.new es }
+{
+    if !desk.covers(id) {
+        return None;
+    }
+    Some(desk.fetch(id))
+}
+
+fn withdraw<M: ClauseMap>(desk: &mut M, id: Id) -> Option<Retired>
+    ensures { (es : History) × M.moves desk.old desk.new es }
+{
+    if !desk.owns(id) {
+        return None;
+    }
+    Some(desk.retire(id))
+}
+
+/// Retires a live clause of the caller's own, and then reads its first literal.
+fn withdraw_and_read<M: ClauseMap>(desk: &mut M, id: Id) -> Option<(Retired, Lit)>
+    ensures { (es : History) × M.moves desk.old desk.new es }
+{
+    if !desk.covers(id) {
+        return None;
+    }
+    let Fetched::Live(clip) = desk.fetch(id) else {
+        return None;
+    };
+    if clip.is_empty() || !desk.owns(id) {
+        return None;
+    }
+    let answer = desk.retire(id);
+    Some((answer, desk.literal(&clip, 0)))
+}
+
+/// Stream 1 publishes 5 and retires it.
+fn first_desk(rt: &impl Abort, map: &mut PlainMap)
+    requires formula { formula_of map.old ≡ four }
+    requires stream { IsStream map.old.layout 1 }
+    ensures formula { formula_of map.new ≡ four }
+    ensures layout { map.new.layout ≡ map.old.layout }
+{
+    let mut desk = map.desk(1);
+    same(rt, (desk.stream(), desk.room()), (1, 2));
+    same(rt, look(&mut desk, 5), Some(Fetched::Vacant));
+    same(rt, withdraw(&mut desk, 5), Some(Retired::NotLive));
+    same(rt, publish_two(&mut desk, 5), Some(Published::Done));
+    same(rt, desk.room(), 1);
+    same(rt, publish_two(&mut desk, 5), Some(Published::Taken));
+    same(
+        rt,
+        withdraw_and_read(&mut desk, 5),
+        Some((Retired::Done, lit(2))),
+    );
+    same(rt, withdraw(&mut desk, 5), Some(Retired::NotLive));
+    same(rt, publish_two(&mut desk, 5), Some(Published::Taken));
+    same(rt, look(&mut desk, 5), Some(Fetched::Retired));
+    same(rt, desk.room(), 1);
+    same(rt, publish_two(&mut desk, 6), None);
+}
+
+/// Stream 2 publishes 6, which costs nothing of what stream 1 has, and reads what is there.
+fn second_desk(rt: &impl Abort, map: &mut PlainMap)
+    requires formula { formula_of map.old ≡ four }
+    requires stream { IsStream map.old.layout 2 }
+{
+    let mut desk = map.desk(2);
+    same(rt, (desk.stream(), desk.room()), (2, 2));
+    same(rt, look(&mut desk, 5), Some(Fetched::Retired));
+    same(rt, look(&mut desk, 0), None);
+    same(rt, look(&mut desk, 7), None);
+    same(rt, withdraw(&mut desk, 5), None);
+    same(rt, publish_two(&mut desk, 6), Some(Published::Done));
+    holds(rt, reads_as(&mut desk, 6, &[lit(2)]));
+    holds(rt, reads_in_pairs_as(&mut desk, 6, &[lit(2)]));
+    holds(rt, reads_as(&mut desk, 3, &[lit(1), lit(-2)]));
+    holds(rt, reads_in_pairs_as(&mut desk, 3, &[lit(1), lit(-2)]));
+    same(rt, desk.room(), 1);
+}
+
+/// The last of 64 streams has its own room and identities.
+fn last_desk(rt: &impl Abort, map: &mut PlainMap)
+    requires formula { formula_of map.old ≡ four }
+    requires stream { IsStream map.old.layout 64 }
+{
+    let mut desk = map.desk(64);
+    same(rt, (desk.stream(), desk.room()), (64, 2));
+    same(rt, publish_two(&mut desk, 67), None);
+    same(rt, publish_two(&mut desk, 68), Some(Published::Done));
+    holds(rt, reads_as(&mut desk, 68, &[lit(2)]));
+    same(rt, look(&mut desk, 196), Some(Fetched::Vacant));
+    same(rt, look(&mut desk, 197), None);
+}
+
+/// Has the live clause these literals, in this order?
+fn reads_as<M: ClauseMap>(desk: &mut M, id: Id, literals: &[Lit]) -> bool
+    ensures { (es : History) × M.moves desk.old desk.new es }
+{
+    if !desk.covers(id) {
+        return false;
+    }
+    let Fetched::Live(clip) = desk.fetch(id) else {
+        return false;
+    };
+    if clip.id() != id || clip.len() as usize != literals.len() || clip.is_empty() {
+        return false;
+    }
+    for (k, literal) in literals.iter().enumerate() {
+        if desk.literal(&clip, k as u32) != *literal {
+            return false;
+        }
+    }
+    true
+}
+
+/// Has the live clause these literals, in this order, when they are read by pairs?
+fn reads_in_pairs_as<M: ClauseMap>(desk: &mut M, id: Id, literals: &[Lit]) -> bool
+    ensures { (es : History) × M.moves desk.old desk.new es }
+{
+    if !desk.covers(id) {
+        return false;
+    }
+    let Fetched::Live(clip) = desk.fetch(id) else {
+        return false;
+    };
+    if clip.len() as usize != literals.len() {
+        return false;
+    }
+    for i in 0..clip.pairs() {
+        let (first, second) = desk.pair(&clip, i);
+        let k = 2 * i as usize;
+        if literals[k] != first || literals.get(k + 1).copied() != second {
+            return false;
+        }
+    }
+    true
+}
+
+#[test]
+fn two_desks_use_one_map(rt: HostRuntime) -> Result<(), Fail> {
+    let formula = four_clauses(rt.alloc())?;
+    let layout = Layout::new(2, 4, 8, 2, 1, 2)?;
+    holds(&rt, layout.fits(&formula));
+    let mut map = PlainMap::open(rt.alloc(), &formula, &layout)?;
+    same(&rt, map.layout().last_identity(), 6);
+    first_desk(&rt, &mut map);
+    second_desk(&rt, &mut map);
+    Ok(())
+}
+
+#[test]
+fn sixty_four_streams_have_a_map(rt: HostRuntime) -> Result<(), Fail> {
+    let formula = four_clauses(rt.alloc())?;
+    let layout = Layout::new(2, 4, 8, 64, 3, 2)?;
+    holds(&rt, layout.fits(&formula));
+    let mut map = PlainMap::open(rt.alloc(), &formula, &layout)?;
+    last_desk(&rt, &mut map);
+    Ok(())
+}
+
+/// The worked row has 16 words, and its stream spent one literal of its room.
+fn worked_row_is_counted()
+    ensures words { row_words one_line ≡ 16 }
+    ensures spent { spent 1 calls ≡ 1 }
+{}
+
+/// The worked calls are legal, and a publish over a retired clause is not.
+fn calls_are_legal()
+    ensures legal { IsLegal four one_line calls }
+    ensures state { state four calls 5 ≡ retired unit }
+    ensures again { ¬ IsLegal four one_line (calls ++ publish 1 5 unit Published.Done ∷ []) }
+    ensures formula { ¬ IsLegal four one_line (publish 1 4 unit Published.Done ∷ []) }
+    ensures foreign { ¬ IsLegal four one_line (publish 2 5 unit Published.Done ∷ []) }
+    ensures outside { ¬ IsLegal four one_line (fetch 1 6 vacant ∷ []) }
+{}
+
+/// Hints as they are judged: each before the last is unit and the last is a conflict.
+fn hints_are_judged()
+    ensures shown { Accepts unit (first ∷ second ∷ []) }
+    ensures empty { Accepts [] (unit ∷ third ∷ fourth ∷ []) }
+    ensures not_unit { ¬ Accepts unit (second ∷ third ∷ []) }
+    ensures excess { ¬ Accepts unit (first ∷ second ∷ third ∷ []) }
+    ensures no_conflict { ¬ Accepts unit (first ∷ []) }
+    ensures no_hint { ¬ Accepts unit [] }
+    ensures tautology { ¬ Accepts (pos 1 ∷ negsuc 0 ∷ []) (first ∷ []) }
+    ensures refuted { IsUnsatisfiable four }
+{}

@@ -1,0 +1,629 @@
+// Reading texts that were spelled by hand, in every cutting, and writing.
+ghost use Rattle.std.specs.Prelude.{◌≡◌, Some, IfOk, IsTrue};
+
+use lrup_text::{
+    End, Line, LineFault, LineReader, ReadFault, Reading, Sink, Source, Turn, WriteBuffer,
+    WriteFault, Writing, write_all, write_line,
+};
+use std::alloc::Global;
+use std::process::Abort;
+use std::test::Fail;
+use std::{fmt, io};
+
+/// Stops the test where two values differ: an assertion that is proved once for all tests.
+fn same<T: PartialEq + fmt::Debug + Drop>(rt: &impl Abort, value: T, wanted: T) {
+    assert_eq!(rt; value, wanted);
+}
+
+/// Stops the test where this doesn't hold.
+fn holds(rt: &impl Abort, fact: bool)
+    ensures { IsTrue fact }
+{
+    assert!(rt; fact);
+}
+
+/// Feeds the bytes in two pieces, cut at a place, and then the end.
+fn feed_cut(
+    rt: &impl Abort,
+    alloc: Global,
+    bytes: &[u8],
+    cut: usize,
+    used: usize,
+    turn: Turn,
+    end: End,
+) -> Result<(), Fail> {
+    let mut reader = LineReader::new(alloc)?;
+    let cut = cut.min(bytes.len());
+    let first = reader.feed(&bytes[..cut]);
+    if first.turn != Turn::NeedMore {
+        same(rt, first.used, used);
+        same(rt, first.turn, turn);
+        same(rt, reader.end(), end);
+        return Ok(());
+    }
+    same(rt, first.used, cut);
+    let second = reader.feed(&bytes[cut..]);
+    same(rt, second.used, used.saturating_sub(cut));
+    same(rt, second.turn, turn);
+    same(rt, reader.end(), end);
+    Ok(())
+}
+
+/// Feeds the bytes one by one, and then the end.
+fn feed_each(
+    rt: &impl Abort,
+    alloc: Global,
+    bytes: &[u8],
+    used: usize,
+    turn: Turn,
+    end: End,
+) -> Result<(), Fail> {
+    let mut reader = LineReader::new(alloc)?;
+    for (i, byte) in bytes.iter().enumerate() {
+        let fed = reader.feed(&[*byte]);
+        same(rt, fed.used, 1);
+        if fed.turn != Turn::NeedMore {
+            same(rt, i + 1, used);
+            same(rt, fed.turn, turn);
+            same(rt, reader.end(), end);
+            return Ok(());
+        }
+    }
+    same(rt, bytes.len(), used);
+    same(rt, turn, Turn::NeedMore);
+    same(rt, reader.end(), end);
+    Ok(())
+}
+
+/// Feeds the bytes in each cutting into two pieces, and one by one, and then the end.
+fn feed_every_way(
+    rt: &impl Abort,
+    alloc: Global,
+    bytes: &[u8],
+    used: usize,
+    turn: Turn,
+) -> Result<(), Fail> {
+    let end = match turn {
+        Turn::Fault(fault) => End::Fault(fault),
+        Turn::NeedMore if !bytes.is_empty() => End::Fault(LineFault::Truncated),
+        _ => End::Clean,
+    };
+    for cut in 0..=bytes.len() {
+        feed_cut(rt, alloc, bytes, cut, used, turn, end)?;
+    }
+    feed_each(rt, alloc, bytes, used, turn, end)
+}
+
+#[test]
+fn lines(rt: HostRuntime) -> Result<(), Fail> {
+    let alloc = rt.alloc();
+    let five = Line::Add {
+        id: 5,
+        lits: &[2],
+        hints: &[1, 2],
+    };
+    feed_every_way(&rt, alloc, b"5 2 0 1 2 0\n", 12, Turn::Line(five))?;
+    feed_every_way(&rt, alloc, b"5 2 0 1 2 0\n6 0", 12, Turn::Line(five))?;
+    let six = Line::Add {
+        id: 6,
+        lits: &[],
+        hints: &[5, 3, 4],
+    };
+    feed_every_way(&rt, alloc, b"6 0 5 3 4 0\n", 12, Turn::Line(six))?;
+    let nothing = Line::Delete { lead: 5, ids: &[] };
+    feed_every_way(&rt, alloc, b"5 d 0\n", 6, Turn::Line(nothing))?;
+    let two = Line::Delete {
+        lead: 9,
+        ids: &[5, 6],
+    };
+    feed_every_way(&rt, alloc, b"9 d 5 6 0\n", 10, Turn::Line(two))?;
+    let unit = Line::Add {
+        id: 5,
+        lits: &[2],
+        hints: &[],
+    };
+    feed_every_way(&rt, alloc, b"5 2 0 0\n", 8, Turn::Line(unit))?;
+    let signs = Line::Add {
+        id: 999_999_999_999_999_999,
+        lits: &[-1, 999_999_999_999_999_999, -999_999_999_999_999_999],
+        hints: &[10],
+    };
+    let text = b"999999999999999999 -1 999999999999999999 -999999999999999999 0 10 0\n";
+    feed_every_way(&rt, alloc, text, 68, Turn::Line(signs))
+}
+
+#[test]
+fn unfinished(rt: HostRuntime) -> Result<(), Fail> {
+    let alloc = rt.alloc();
+    feed_every_way(&rt, alloc, b"", 0, Turn::NeedMore)?;
+    feed_every_way(&rt, alloc, b"5 2 0", 5, Turn::NeedMore)
+}
+
+#[test]
+fn faults(rt: HostRuntime) -> Result<(), Fail> {
+    let alloc = rt.alloc();
+    let spelling = Turn::Fault(LineFault::Spelling);
+    feed_every_way(&rt, alloc, b"\n", 1, spelling)?;
+    feed_every_way(&rt, alloc, b"05 2 0 0\n", 1, spelling)?;
+    feed_every_way(&rt, alloc, b"0 d 5 0\n", 1, spelling)?;
+    feed_every_way(&rt, alloc, b"5  2 0 1 2 0\n", 3, spelling)?;
+    feed_every_way(&rt, alloc, b"5 +2 0 0\n", 3, spelling)?;
+    feed_every_way(&rt, alloc, b"5 -0 0 0\n", 4, spelling)?;
+    feed_every_way(&rt, alloc, b"5 2 0 1 0\r\n", 10, spelling)?;
+    feed_every_way(&rt, alloc, b"5 2 0 1 0 \n", 10, spelling)?;
+    feed_every_way(&rt, alloc, b"5 d -1 0\n", 5, spelling)?;
+    feed_every_way(
+        &rt,
+        alloc,
+        b"5 1 0 -2 0\n",
+        7,
+        Turn::Fault(LineFault::RatHint),
+    )?;
+    let long = Turn::Fault(LineFault::TooLong);
+    feed_every_way(&rt, alloc, b"1000000000000000000 0 0\n", 19, long)?;
+    feed_every_way(
+        &rt,
+        alloc,
+        b"5 1111111111111111111111111111111111111111",
+        21,
+        long,
+    )?;
+    feed_every_way(
+        &rt,
+        alloc,
+        b"5 -1111111111111111111111111111111111111111",
+        22,
+        long,
+    )
+}
+
+/// Feeds a beginning, so many times a part, and an end.
+fn feed_repeated(
+    rt: &impl Abort,
+    alloc: Global,
+    texts: (&[u8], &[u8], &[u8]),
+    count: usize,
+    used: usize,
+    turn: Turn,
+) -> Result<(), Fail> {
+    let (start, part, end) = texts;
+    let mut text = Vec::from_slice(alloc, start)?;
+    for _ in 0..count {
+        text.extend_from_slice(part)?;
+    }
+    text.extend_from_slice(end)?;
+    let end = match turn {
+        Turn::Fault(fault) => End::Fault(fault),
+        _ => End::Clean,
+    };
+    feed_cut(rt, alloc, &text, 0, used, turn, end)?;
+    feed_cut(rt, alloc, &text, 65_536, used, turn, end)?;
+    feed_each(rt, alloc, &text, used, turn, end)
+}
+
+#[test]
+fn limits(rt: HostRuntime) -> Result<(), Fail> {
+    let alloc = rt.alloc();
+    let long = Turn::Fault(LineFault::TooLong);
+    feed_repeated(&rt, alloc, (b"5 ", b"1 ", b""), 65_536, 131_073, long)?;
+    feed_repeated(&rt, alloc, (b"5 2 0", b" 1", b""), 65_537, 131_079, long)?;
+    feed_repeated(&rt, alloc, (b"5 d", b" 1", b""), 65_537, 131_077, long)?;
+    let rat = Turn::Fault(LineFault::RatHint);
+    feed_repeated(&rt, alloc, (b"5 2 0", b" 1", b" -"), 65_536, 131_079, rat)?;
+    let literals = vec![in alloc; 1; 65_535]?;
+    let longest = Line::Add {
+        id: 5,
+        lits: &literals,
+        hints: &[],
+    };
+    feed_repeated(
+        &rt,
+        alloc,
+        (b"5 ", b"1 ", b"0 0\n"),
+        65_535,
+        131_076,
+        Turn::Line(longest),
+    )?;
+    let identities = vec![in alloc; 1; 65_536]?;
+    let deletion = Line::Delete {
+        lead: 5,
+        ids: &identities,
+    };
+    feed_repeated(
+        &rt,
+        alloc,
+        (b"5 d", b" 1", b" 0\n"),
+        65_536,
+        131_078,
+        Turn::Line(deletion),
+    )
+}
+
+#[test]
+fn ends(rt: HostRuntime) -> Result<(), Fail> {
+    let mut reader = LineReader::new(rt.alloc())?;
+    same(&rt, reader.feed(b"").turn, Turn::NeedMore);
+    same(&rt, reader.end(), End::Clean);
+    let unit = Line::Add {
+        id: 5,
+        lits: &[2],
+        hints: &[],
+    };
+    let text = b"5 2 0 0\n6 0 5 0\n7";
+    let fed = reader.feed(text);
+    same(&rt, fed.used, 8);
+    same(&rt, fed.turn, Turn::Line(unit));
+    same(&rt, reader.end(), End::Clean);
+    let empty = Line::Add {
+        id: 6,
+        lits: &[],
+        hints: &[5],
+    };
+    let fed = reader.feed(&text[8..]);
+    same(&rt, fed.used, 8);
+    same(&rt, fed.turn, Turn::Line(empty));
+    same(&rt, reader.feed(&text[16..]).turn, Turn::NeedMore);
+    let truncated = LineFault::Truncated;
+    same(&rt, reader.end(), End::Fault(truncated));
+    let after = reader.feed(text);
+    same(&rt, after.used, 0);
+    same(&rt, after.turn, Turn::Fault(truncated));
+    same(&rt, reader.end(), End::Fault(truncated));
+    Ok(())
+}
+
+#[test]
+fn fault_stays(rt: HostRuntime) -> Result<(), Fail> {
+    let mut reader = LineReader::new(rt.alloc())?;
+    same(&rt, reader.feed(b"5 2 0 0\n").used, 8);
+    let fault = Turn::Fault(LineFault::RatHint);
+    let fed = reader.feed(b"5 1 0 -2 0\n");
+    same(&rt, fed.used, 7);
+    same(&rt, fed.turn, fault);
+    let again = reader.feed(b"5 2 0 0\n");
+    same(&rt, again.used, 0);
+    same(&rt, again.turn, fault);
+    same(&rt, reader.end(), End::Fault(LineFault::RatHint));
+    Ok(())
+}
+
+#[test]
+fn fault_texts(rt: HostRuntime) -> Result<(), Fail> {
+    let faults = [
+        (LineFault::Spelling, "spelling"),
+        (LineFault::TooLong, "too long"),
+        (LineFault::Truncated, "truncated"),
+        (LineFault::RatHint, "rat hint"),
+    ];
+    for (fault, text) in faults {
+        same(&rt, fault.to_string(rt.alloc())?.as_str(), text);
+    }
+    Ok(())
+}
+
+#[test]
+fn fits(rt: HostRuntime) -> Result<(), Fail> {
+    let most = 999_999_999_999_999_999;
+    let add = |id, literal, hint| {
+        Line::Add {
+            id,
+            lits: &[literal],
+            hints: &[hint],
+        }
+        .fits()
+    };
+    holds(&rt, add(most as u64, most, 1));
+    holds(&rt, add(1, -most, most as u64));
+    holds(&rt, !add(0, 1, 1));
+    holds(&rt, !add(1, 0, 1));
+    holds(&rt, !add(1, most + 1, 1));
+    holds(&rt, !add(1, -most - 1, 1));
+    holds(&rt, !add(1, 1, 0));
+    let many = vec![in rt.alloc(); 1; 65_537]?;
+    holds(
+        &rt,
+        !Line::Delete {
+            lead: 1,
+            ids: &many,
+        }
+        .fits(),
+    );
+    holds(
+        &rt,
+        Line::Delete {
+            lead: 1,
+            ids: &many[..65_536],
+        }
+        .fits(),
+    );
+    Ok(())
+}
+
+/// Paper that takes three bytes a write, and no more after so many writes.
+#[derive(Drop)]
+struct Paper {
+    bytes: Vec<u8>,
+    writes: usize,
+    failed: bool,
+}
+
+impl Sink for Paper {
+    ghost written = { λ p. Some p.bytes.items };
+
+    ghost has_failed = { λ p. p.failed };
+
+    fn write(&mut self, bytes: &[u8]) -> Result<usize, WriteFault> {
+        let count = bytes.len().min(3);
+        if self.writes == 0 || self.bytes.extend_from_slice(&bytes[..count]).is_err() {
+            self.failed = true;
+            return Err(WriteFault);
+        }
+        self.writes -= 1;
+        Ok(count)
+    }
+
+    fn failed(&self) -> bool {
+        self.failed
+    }
+}
+
+#[test]
+fn writes(rt: HostRuntime) -> Result<(), Fail> {
+    let line = Line::Add {
+        id: 17,
+        lits: &[-20, 3],
+        hints: &[9, 100],
+    };
+    let text = b"17 -20 3 0 9 100 0\n";
+    for writes in 0..8 {
+        let mut paper = Paper {
+            bytes: Vec::new(rt.alloc()),
+            writes,
+            failed: false,
+        };
+        let wrote = if line.fits() {
+            write_line(&line, &mut paper)
+        } else {
+            Ok(())
+        };
+        same(&rt, wrote.is_err(), writes < 7);
+        same(&rt, paper.failed(), writes < 7);
+        same(
+            &rt,
+            paper.bytes.as_slice(),
+            &text[..(3 * writes).min(text.len())],
+        );
+    }
+    let deletion = Line::Delete {
+        lead: 5,
+        ids: &[5, 6],
+    };
+    let mut sink = Writing::new(Vec::new(rt.alloc()));
+    if deletion.fits() {
+        write_line(&deletion, &mut sink)?;
+    }
+    holds(&rt, !sink.failed());
+    same(&rt, sink.into_inner().as_slice(), b"5 d 5 6 0\n".as_slice());
+    Ok(())
+}
+
+#[test]
+fn texts_are_written(rt: HostRuntime) -> Result<(), Fail> {
+    let mut sink = Writing::new(Vec::new(rt.alloc()));
+    let mut buffer = WriteBuffer::new();
+    write_all(b"numbers: ", &mut sink)?;
+    buffer.put_number(0, &mut sink)?;
+    buffer.put(b", ", &mut sink)?;
+    buffer.put_number(10, &mut sink)?;
+    buffer.put(b", ", &mut sink)?;
+    buffer.put_number(u64::MAX, &mut sink)?;
+    buffer.flush(&mut sink)?;
+    same(
+        &rt,
+        sink.into_inner().as_slice(),
+        b"numbers: 0, 10, 18446744073709551615".as_slice(),
+    );
+    Ok(())
+}
+
+/// A tape that is read two bytes at a time, and may break at its end.
+#[derive(Drop)]
+struct Tape<'a> {
+    bytes: &'a [u8],
+    breaks: bool,
+    failed: bool,
+}
+
+impl<'a> Source for Tape<'a> {
+    ghost left = { λ t. Some t.bytes.now };
+
+    ghost has_failed = { λ t. t.failed };
+
+    fn read(&mut self, buffer: &mut [u8]) -> Result<usize, ReadFault> {
+        if self.bytes.is_empty() && self.breaks {
+            self.failed = true;
+            return Err(ReadFault);
+        }
+        let count = buffer.len().min(2).min(self.bytes.len());
+        let (front, rest) = self.bytes.split_at(count);
+        buffer[..count].copy_from_slice(front);
+        self.bytes = rest;
+        Ok(count)
+    }
+
+    fn failed(&self) -> bool {
+        self.failed
+    }
+}
+
+/// How many lines a source gives before it ends or fails.
+fn count_lines<S: Source>(rt: &impl Abort, alloc: Global, source: &mut S) -> Result<usize, Fail> {
+    let mut reader = LineReader::new(alloc)?;
+    let mut lines = 0usize;
+    let mut buffer = [0; 4];
+    for _ in 0..64 {
+        if source.failed() {
+            break;
+        }
+        let Ok(count) = source.read(&mut buffer) else {
+            break;
+        };
+        if count == 0 {
+            break;
+        }
+        let mut at = 0;
+        for _ in 0..4 {
+            let end = count.min(4);
+            let fed = reader.feed(&buffer[at.min(end)..end]);
+            at = at.saturating_add(fed.used);
+            match fed.turn {
+                Turn::Line(_) => lines = lines.saturating_add(1),
+                Turn::NeedMore => {}
+                Turn::Fault(_) => holds(rt, false),
+            }
+        }
+    }
+    Ok(lines)
+}
+
+#[test]
+fn sources_end_and_fail(rt: HostRuntime) -> Result<(), Fail> {
+    let text = b"5 2 0 0\n6 0 5 0\n5 d 5 0\n";
+    for end in 0..=text.len() {
+        for breaks in [false, true] {
+            let mut tape = Tape {
+                bytes: &text[..end],
+                breaks,
+                failed: false,
+            };
+            same(&rt, count_lines(&rt, rt.alloc(), &mut tape)?, end / 8);
+            same(&rt, tape.failed(), breaks);
+        }
+        let mut source = Reading::new(&text[..end]);
+        same(&rt, count_lines(&rt, rt.alloc(), &mut source)?, end / 8);
+        holds(&rt, !source.failed());
+    }
+    Ok(())
+}
+
+/// A device that moves all bytes it is given room for, and fails at one of its calls alone.
+#[derive(Drop)]
+struct FailsOnce {
+    calls: usize,
+    fails_at: usize,
+}
+
+impl FailsOnce {
+    fn new(fails_at: usize) -> FailsOnce {
+        FailsOnce { calls: 0, fails_at }
+    }
+
+    fn call(&mut self, bytes: usize) -> io::Result<usize>
+        ensures { IfOk result (λ count. count ≡ bytes) }
+    {
+        self.calls = self.calls.saturating_add(1);
+        if self.calls == self.fails_at {
+            return Err(io::Error::from(io::ErrorKind::Interrupted));
+        }
+        Ok(bytes)
+    }
+}
+
+impl io::Read for FailsOnce {
+    fn read(&mut self, buffer: &mut [u8]) -> io::Result<usize> {
+        buffer.fill(b'1');
+        self.call(buffer.len())
+    }
+}
+
+impl io::Write for FailsOnce {
+    fn write(&mut self, bytes: &[u8]) -> io::Result<usize> {
+        self.call(bytes.len())
+    }
+
+    fn flush(&mut self) -> io::Result<()> {
+        Ok(())
+    }
+}
+
+#[test]
+fn failed_reads_are_not_repeated(rt: HostRuntime) -> Result<(), Fail> {
+    for size in [8usize, 70_000] {
+        let mut buffer = vec![in rt.alloc(); 0u8; size]?;
+        for fails_at in 1..=5usize {
+            let mut source = Reading::new(FailsOnce::new(fails_at));
+            for call in 1..=8usize {
+                if source.failed() {
+                    break;
+                }
+                let wanted = if call == fails_at {
+                    Err(ReadFault)
+                } else {
+                    Ok(size)
+                };
+                same(&rt, source.read(&mut buffer), wanted);
+            }
+            holds(&rt, source.failed());
+            same(&rt, source.into_inner().calls, fails_at);
+        }
+    }
+    Ok(())
+}
+
+#[test]
+fn failed_writes_are_not_repeated(rt: HostRuntime) -> Result<(), Fail> {
+    for size in [8usize, 512, 513, 70_000] {
+        let bytes = vec![in rt.alloc(); b'1'; size]?;
+        for fails_at in 1..=5usize {
+            let mut sink = Writing::new(FailsOnce::new(fails_at));
+            for call in 1..=8usize {
+                if sink.failed() {
+                    break;
+                }
+                let wanted = if call == fails_at {
+                    Err(WriteFault)
+                } else {
+                    Ok(size)
+                };
+                same(&rt, sink.write(&bytes), wanted);
+            }
+            holds(&rt, sink.failed());
+            same(&rt, sink.into_inner().calls, fails_at);
+        }
+    }
+    Ok(())
+}
+
+#[test]
+fn long_lines_are_written_up_to_a_fault(rt: HostRuntime) -> Result<(), Fail> {
+    let ids = vec![in rt.alloc(); 999_999_999_999_999_999; 65_536]?;
+    let line = Line::Delete { lead: 5, ids: &ids };
+    for fails_at in [0usize, 1, 2, 3, 1_000] {
+        let mut sink = Writing::new(FailsOnce::new(fails_at));
+        if line.fits() {
+            let wrote = write_line(&line, &mut sink);
+            same(&rt, wrote.is_err(), fails_at > 0);
+        }
+        same(&rt, sink.failed(), fails_at > 0);
+        let calls = sink.into_inner().calls;
+        holds(&rt, calls > 1_000 || calls == fails_at);
+    }
+    Ok(())
+}
+
+#[test]
+fn buffers_write_512_bytes_at_a_time(rt: HostRuntime) -> Result<(), Fail> {
+    let bytes = vec![in rt.alloc(); b'x'; 1_300]?;
+    for (fails_at, calls) in [(0usize, 3), (1, 1), (2, 2), (3, 3)] {
+        let mut sink = Writing::new(FailsOnce::new(fails_at));
+        let mut buffer = WriteBuffer::new();
+        let wrote = match buffer.put(&bytes, &mut sink) {
+            Ok(()) => buffer.flush(&mut sink),
+            Err(fault) => Err(fault),
+        };
+        same(&rt, wrote.is_err(), fails_at > 0);
+        same(&rt, sink.failed(), fails_at > 0);
+        same(&rt, sink.into_inner().calls, calls);
+    }
+    Ok(())
+}

@@ -1,0 +1,163 @@
+//! What is taken up, the text of the one fault, and hints at a plain map.
+ghost use Rattle.std.specs.Prelude.{◌≡◌, ℤ, IfOk, OnOk, IsTrue};
+ghost use Rattle.lrup_model.specs.Plain.{formula_of};
+
+use lrup_model::{ClauseMap, Fetched, Formula, Layout, Lit, PlainMap};
+use propagate::{Marks, Step, Tautology};
+use std::alloc::Global;
+use std::fmt;
+use std::process::Abort;
+use std::test::Fail;
+
+/// Stops the test where two values differ: an assertion that is proved once for all tests.
+fn same<T: PartialEq + fmt::Debug + Drop>(rt: &impl Abort, value: T, wanted: T) {
+    assert_eq!(rt; value, wanted);
+}
+
+/// Stops the test where this doesn't hold.
+fn holds(rt: &impl Abort, fact: bool)
+    ensures { IsTrue fact }
+{
+    assert!(rt; fact);
+}
+
+fn lit(value: i64) -> Result<Lit, Fail>
+    ensures { IfOk result (λ l. l ≡ value) }
+{
+    let lit = Lit::new(value).ok_or("no literal")?;
+    Ok(lit)
+}
+
+#[test]
+fn a_clause_has_each_literal_once(rt: HostRuntime) -> Result<(), Fail> {
+    let mut marks = Marks::new(rt.alloc(), 9)?;
+    holds(&rt, !marks.ready());
+    let (one, three, not_nine) = (lit(1)?, lit(3)?, lit(-9)?);
+    marks.begin(&[three, not_nine, three, one, not_nine])?;
+    same(&rt, marks.clause(), [three, not_nine, one].as_slice());
+    holds(&rt, marks.ready());
+    marks.begin(&[])?;
+    holds(&rt, marks.clause().is_empty());
+    holds(&rt, marks.ready());
+    Ok(())
+}
+
+#[test]
+fn the_most_variables_fit(rt: HostRuntime) -> Result<(), Fail> {
+    let mut marks = Marks::new(rt.alloc(), Lit::MAX_VARIABLE)?;
+    let (last, not_last) = (lit(16_777_215)?, lit(-16_777_215)?);
+    marks.begin(&[not_last])?;
+    same(&rt, marks.clause(), [not_last].as_slice());
+    same(&rt, marks.begin(&[last, not_last]), Err(Tautology));
+    Ok(())
+}
+
+#[test]
+fn a_tautology_leaves_no_clause(rt: HostRuntime) -> Result<(), Fail> {
+    let mut marks = Marks::new(rt.alloc(), 2)?;
+    let (one, two, not_two) = (lit(1)?, lit(2)?, lit(-2)?);
+    let fault = marks.begin(&[two, one, not_two]);
+    same(&rt, fault, Err(Tautology));
+    same(
+        &rt,
+        format!(in rt.alloc(); "{Tautology}")?.as_str(),
+        "tautology",
+    );
+    holds(&rt, marks.clause().is_empty());
+    holds(&rt, !marks.ready());
+    marks.begin(&[not_two])?;
+    same(&rt, marks.clause(), [not_two].as_slice());
+    Ok(())
+}
+
+/// The map of a formula of clauses of two literals each, over three variables.
+fn map_of_pairs(alloc: Global, pairs: &[(i64, i64)]) -> Result<PlainMap, Fail>
+    ensures formula { IfOk result (λ map. (formula_of map).vars ≡ 3) }
+    ensures streams { IfOk result (λ map. map.layout.streams ≡ 1) }
+{
+    let mut formula = Formula::new(alloc, 3);
+    for &(one, other) in pairs {
+        push_pair(&mut formula, lit(one)?, lit(other)?)?;
+    }
+    let clauses = pairs.len() as u64;
+    let layout = Layout::new(3, clauses, 2 * clauses, 1, 1, 1)?;
+    if !layout.fits(&formula) {
+        return Err("no layout".into());
+    }
+    let map = PlainMap::open(alloc, &formula, &layout)?;
+    Ok(map)
+}
+
+fn push_pair(formula: &mut Formula, one: Lit, other: Lit) -> Result<(), Fail>
+    ensures { OnOk result (formula.new.vars ≡ formula.old.vars) }
+{
+    let vars = formula.vars();
+    if one == other || one.var() > vars || other.var() > vars || formula.len() > 9 {
+        return Err("no pair".into());
+    }
+    formula.push(&[one, other])?;
+    Ok(())
+}
+
+/// Tries the clause that the map has under the identity.
+fn try_hint<M: ClauseMap>(marks: &mut Marks, map: &mut M, id: u64) -> Option<Step>
+    requires marks { marks.old.vars ≡ 3 }
+    requires map { (M.place map.old).caller.formula.vars ≡ 3 }
+    ensures marks { marks.new.vars ≡ 3 }
+    ensures map { (M.place map.new).caller.formula.vars ≡ 3 }
+{
+    if !marks.ready() || !map.covers(id) {
+        return None;
+    }
+    match map.fetch(id) {
+        Fetched::Live(clip) => Some(marks.hint(map, &clip)),
+        _ => None,
+    }
+}
+
+/// Takes up the clause of the literal 1 and tries these hints: the last one's step, and whether another may follow.
+fn try_hints<M: ClauseMap>(marks: &mut Marks, map: &mut M, ids: &[u64]) -> Option<(Step, bool)>
+    requires marks { marks.old.vars ≡ 3 }
+    requires map { (M.place map.old).caller.formula.vars ≡ 3 }
+    ensures marks { marks.new.vars ≡ 3 }
+    ensures map { (M.place map.new).caller.formula.vars ≡ 3 }
+{
+    let one = Lit::new(1)?;
+    marks.begin(&[one]).ok()?;
+    let mut step = None;
+    for &id in ids {
+        step = Some(try_hint(marks, map, id)?);
+    }
+    if marks.clause() != [one].as_slice() {
+        return None;
+    }
+    Some((step?, marks.ready()))
+}
+
+#[test]
+fn hints_are_unit_until_the_conflict(rt: HostRuntime) -> Result<(), Fail> {
+    let mut map = map_of_pairs(rt.alloc(), &[(1, 2), (-2, 3), (-3, 1), (2, 3)])?;
+    let mut desk = map.desk(1);
+    let mut marks = Marks::new(rt.alloc(), 3)?;
+    let found = try_hints(&mut marks, &mut desk, &[1]);
+    same(&rt, found, Some((Step::Unit, true)));
+    let found = try_hints(&mut marks, &mut desk, &[1, 2]);
+    same(&rt, found, Some((Step::Unit, true)));
+    let found = try_hints(&mut marks, &mut desk, &[1, 2, 3]);
+    same(&rt, found, Some((Step::Conflict, false)));
+    Ok(())
+}
+
+#[test]
+fn a_true_literal_or_two_left_are_not_unit(rt: HostRuntime) -> Result<(), Fail> {
+    let mut map = map_of_pairs(rt.alloc(), &[(1, 2), (2, 3)])?;
+    let mut desk = map.desk(1);
+    let mut marks = Marks::new(rt.alloc(), 3)?;
+    let found = try_hints(&mut marks, &mut desk, &[2]);
+    same(&rt, found, Some((Step::NotUnit, false)));
+    let found = try_hints(&mut marks, &mut desk, &[1]);
+    same(&rt, found, Some((Step::Unit, true)));
+    let found = try_hints(&mut marks, &mut desk, &[1, 2]);
+    same(&rt, found, Some((Step::NotUnit, false)));
+    Ok(())
+}

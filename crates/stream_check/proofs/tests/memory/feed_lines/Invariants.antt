@@ -1,5 +1,0 @@
-use Rattle.stream_check.specs.Checker.{IsReadyAt}
-use Rattle.stream_check.proofs.tests.memory.feed_lines.Given as goal
-
-abbrev pub invariant-loop-line : goal.invariant-loop-line
-invariant-loop-line g l = IsReadyAt l.checker (g.M.ClauseMap.place l.map)

@@ -1,0 +1,15 @@
+use Rattle.std.proofs.Common.{rules}
+use Rattle.lrup_model.specs.Layout.{Fits}
+use Rattle.stream_check.proofs.ReadyLemmas.{ready_at_desk}
+use Rattle.stream_check_tests.proofs.tests.memory.said_of_lines.Goals as goal
+
+-- the map was just opened
+pub feed_lines-requires : goal.feed_lines-requires
+feed_lines-requires g c =
+    let f = c.in_ok-formula.formula in
+    let layout = c.in_ok-layout.layout in
+    let desk = c.desk-desk.ensures in
+    let opened = c.in_ok-map.ensures in
+    let fits : Fits layout f = search rules in
+    ready_at_desk f layout 1 0 c.in_ok-checker.checker c.in_ok-map.map c.desk-desk.result c.in_ok-checker.ensures fits
+    opened.layout opened.formula opened.state desk.map_now desk.stream

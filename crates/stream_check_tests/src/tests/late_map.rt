@@ -1,0 +1,330 @@
+//! How many events a line makes, at a map where another stream publishes late.
+ghost use Rattle.std.specs.Prelude.{◌≡◌, ◌≤◌, []};
+ghost use Rattle.lrup_model.specs.Event.{History};
+ghost use Rattle.lrup_model.specs.Place.{Tells};
+ghost use Rattle.lrup_model.specs.Plain.{PlainMoves, formula_of, free_at, plain_place};
+ghost use Rattle.lrup_model.specs.Worked.{four};
+
+use super::{Told, feed_cut, four_clauses, lit, told_of};
+use lrup_model::{ClauseMap, Clip, Fetched, Id, Layout, Lit, Owner, PlainMap, Published, Retired};
+use lrup_text::LineFault;
+use std::alloc::Global;
+use std::process::Abort;
+use std::test::Fail;
+use stream_check::{Checker, Ending, Fault};
+
+/// When stream 2 publishes `-2` under identity 6.
+#[derive(Clone, Copy, Debug)]
+enum Late {
+    Never,
+    /// Right before this fetch of stream 1, counted from 1.
+    Published(u64),
+    /// As above, and it is retired at once.
+    Retired(u64),
+}
+
+/// The events that stream 1 made.
+#[derive(Clone, Copy, Debug, PartialEq, Eq)]
+struct Events {
+    fetches: u64,
+    publishes: u64,
+    retires: u64,
+}
+
+/// Stream 1's place at a map that has at least two streams.
+#[derive(Drop)]
+struct LateMap {
+    map: PlainMap,
+    /// What is left of stream 1's room.
+    room: u64,
+    late: Late,
+    events: Events,
+    ghost room_left: { room ≡ free_at map 1 },
+    ghost formula: { formula_of map ≡ four },
+    ghost streams: { 2 ≤ map.layout.streams },
+}
+
+/// Publishes `-2` under identity 6, or retires it.
+fn call_at_six<M: ClauseMap>(desk: &mut M, retires: bool)
+    requires { (M.place desk.old).caller.formula ≡ four }
+    ensures { (es : History) × M.moves desk.old desk.new es }
+{
+    if !desk.owns(6) {
+        return;
+    }
+    if retires {
+        let _ = desk.retire(6);
+    } else if desk.room() > 0 {
+        let _ = desk.publish(6, &[lit(-2)]);
+    }
+}
+
+/// The same by stream 2.
+fn call_second(map: &mut PlainMap, retires: bool)
+    requires formula { formula_of map.old ≡ four }
+    requires streams { 2 ≤ map.old.layout.streams }
+    ensures { (es : History) × PlainMoves map.old map.new 2 es }
+{
+    call_at_six(&mut map.desk(2), retires);
+}
+
+/// The calls of stream 2 that are due before this fetch of stream 1.
+fn call_late(map: &mut PlainMap, late: Late, fetch: u64)
+    requires formula { formula_of map.old ≡ four }
+    requires streams { 2 ≤ map.old.layout.streams }
+    ensures { Tells (plain_place map.old 1) (plain_place map.new 1) [] }
+{
+    match late {
+        Late::Published(at) if at == fetch => call_second(map, false),
+        Late::Retired(at) if at == fetch => {
+            call_second(map, false);
+            call_second(map, true);
+        }
+        _ => {}
+    }
+}
+
+impl ClauseMap for LateMap {
+    ghost use Rattle.stream_check.specs.TellsLemmas.{tells_none, tells_append};
+
+    ghost place = { λ m. plain_place m.map 1 };
+
+    ghost moves = { λ a b es. Tells (plain_place a.map 1) (plain_place b.map 1) es };
+
+    fn stream(&self) -> u64 {
+        1
+    }
+
+    fn covers(&self, id: Id) -> bool {
+        self.map.layout().covers(id)
+    }
+
+    fn owns(&self, id: Id) -> bool {
+        self.map.layout().owner(id) == Owner::Stream(1)
+    }
+
+    fn room(&self) -> u64 {
+        self.room
+    }
+
+    fn fetch(&mut self, id: Id) -> Fetched {
+        self.events.fetches = self.events.fetches.saturating_add(1);
+        call_late(&mut self.map, self.late, self.events.fetches);
+        let mut desk = self.map.desk(1);
+        let answer = desk.fetch(id);
+        self.room = desk.room();
+        answer
+    }
+
+    fn literal(&mut self, clip: &Clip, k: u32) -> Lit {
+        let mut desk = self.map.desk(1);
+        let literal = desk.literal(clip, k);
+        self.room = desk.room();
+        literal
+    }
+
+    fn publish(&mut self, id: Id, clause: &[Lit]) -> Published {
+        self.events.publishes = self.events.publishes.saturating_add(1);
+        let mut desk = self.map.desk(1);
+        let answer = desk.publish(id, clause);
+        self.room = desk.room();
+        answer
+    }
+
+    fn retire(&mut self, id: Id) -> Retired {
+        self.events.retires = self.events.retires.saturating_add(1);
+        let mut desk = self.map.desk(1);
+        let answer = desk.retire(id);
+        self.room = desk.room();
+        answer
+    }
+
+    ghost moves_none = { λ m. tells_none (plain_place m.map 1) };
+
+    ghost moves_append = { λ a b c.
+        tells_append (plain_place a.map 1) (plain_place b.map 1) (plain_place c.map 1) };
+
+    ghost moves_tells = { λ a b es moves. moves };
+}
+
+const NOTHING: Events = Events {
+    fetches: 0,
+    publishes: 0,
+    retires: 0,
+};
+
+/// What a stream's lines come to where it has room for two literals. Its own identities are 5 and 7, the other's 6 and 8.
+fn events_of(
+    alloc: Global,
+    tries: u64,
+    late: Late,
+    lines: &str,
+) -> Result<(Ending, Events, Told), Fail> {
+    let formula = four_clauses(alloc)?;
+    let layout = Layout::new(2, 4, 8, 2, 2, 2)?;
+    if !layout.fits(&formula) || tries > 1_000_000 {
+        return Err("no layout".into());
+    }
+    let mut map = LateMap {
+        map: PlainMap::open(alloc, &formula, &layout)?,
+        room: 2,
+        late,
+        events: NOTHING,
+    };
+    let mut gate = told_of(0, 0, 0);
+    let mut checker = Checker::new(alloc, 1, &layout, tries)?;
+    feed_cut(&mut checker, &mut map, &mut gate, lines.as_bytes(), 65_536);
+    if !checker.is_over() {
+        return Err("not over".into());
+    }
+    Ok((checker.report().ending, map.events, gate))
+}
+
+/// Where stream 2 publishes nothing, the lines make so many fetches, publishes and retires, and end so. No hint is fetched again.
+fn makes<R: AllocGlobal + Abort>(
+    rt: &R,
+    lines: &str,
+    events: (u64, u64, u64),
+    ending: Ending,
+) -> Result<(), Fail> {
+    let (fetches, publishes, retires) = events;
+    let wanted = Events {
+        fetches,
+        publishes,
+        retires,
+    };
+    let (said, made, told) = events_of(rt.alloc(), 3, Late::Never, lines)?;
+    assert_eq!(rt; said, ending, "{lines}");
+    assert_eq!(rt; made, wanted, "{lines}");
+    assert_eq!(rt;
+        told,
+        told_of(fetches, fetches.min(1), publishes),
+        "{lines}"
+    );
+    Ok(())
+}
+
+/// Hints that are outside, the formula's, or own ones: vacant, the line's own, live and retired. A hint that isn't reached,
+/// and one that was dropped.
+#[test]
+fn hints_that_are_not_foreign_are_fetched_once(rt: HostRuntime) -> Result<(), Fail> {
+    let missing = |hint| Ending::Bad(1, Fault::Missing(hint));
+    for (lines, events, ending) in [
+        ("5 2 0 9 0\n", (0, 0, 0), missing(9)),
+        ("5 1 2 0 1 0\n", (1, 1, 0), Ending::Ended),
+        ("5 2 0 7 0\n", (1, 0, 0), missing(7)),
+        ("5 2 0 5 0\n", (1, 0, 0), missing(5)),
+        ("5 2 0 1 2 0\n7 2 0 5 0\n", (3, 2, 0), Ending::Ended),
+        (
+            "5 2 0 1 2 0\n5 d 5 0\n7 2 0 5 0\n",
+            (3, 1, 1),
+            Ending::Bad(3, Fault::Retired(5)),
+        ),
+        (
+            "5 2 0 1 2 6 0\n",
+            (2, 0, 0),
+            Ending::Bad(1, Fault::Excess(6)),
+        ),
+        (
+            "5 d 6 0\n5 2 0 6 0\n",
+            (0, 0, 0),
+            Ending::Bad(2, Fault::Dropped(6)),
+        ),
+    ] {
+        makes(&rt, lines, events, ending)?;
+    }
+    Ok(())
+}
+
+/// One retire for each own identity that is reached, and nothing for others.
+#[test]
+fn deletions_retire_own_identities_alone(rt: HostRuntime) -> Result<(), Fail> {
+    let not_live = |id| Ending::Bad(1, Fault::NotLive(id));
+    for (lines, events, ending) in [
+        ("5 d 0\n", (0, 0, 0), Ending::Ended),
+        ("5 d 1 6 0\n", (0, 0, 0), Ending::Ended),
+        ("5 2 0 1 2 0\n5 d 1 5 6 0\n", (2, 1, 1), Ending::Ended),
+        (
+            "5 2 0 1 2 0\n7 2 0 5 0\n5 d 5 7 0\n",
+            (3, 2, 2),
+            Ending::Ended,
+        ),
+        ("5 d 7 5 0\n", (0, 0, 1), not_live(7)),
+        ("5 d 9 5 0\n", (0, 0, 0), not_live(9)),
+        ("5 d 1 1 5 0\n", (0, 0, 0), not_live(1)),
+    ] {
+        makes(&rt, lines, events, ending)?;
+    }
+    Ok(())
+}
+
+/// The faults of the text and those of an addition before its hints.
+#[test]
+fn early_faults_make_no_event(rt: HostRuntime) -> Result<(), Fail> {
+    for (line, fault) in [
+        ("5  2 0 1 2 0\n", Fault::Text(LineFault::Spelling)),
+        (
+            "1000000000000000000 2 0 1 2 0\n",
+            Fault::Text(LineFault::TooLong),
+        ),
+        ("5 2 0 1 2 0", Fault::Text(LineFault::Truncated)),
+        ("5 1 0 -2 0\n", Fault::Text(LineFault::RatHint)),
+        ("6 2 0 1 2 0\n", Fault::Identity),
+        ("5 3 0 1 2 0\n", Fault::Literal),
+        ("5 1 -1 0 1 0\n", Fault::Tautology),
+    ] {
+        makes(&rt, line, (0, 0, 0), Ending::Bad(1, fault))?;
+    }
+    let lines = "5 1 2 0 1 0\n7 2 0 1 2 0\n";
+    makes(&rt, lines, (1, 1, 0), Ending::Bad(2, Fault::NoRoom))
+}
+
+/// The row of a foreign hint: how often it may be fetched again, when it comes, how often it is fetched, and the ending. An
+/// accepted addition makes one publish.
+#[test]
+fn a_foreign_hint_is_fetched_until_it_comes(rt: HostRuntime) -> Result<(), Fail> {
+    let missing = Ending::Bad(1, Fault::Missing(6));
+    let retired = Ending::Bad(1, Fault::Retired(6));
+    for (tries, late, fetches, ending) in [
+        (0, Late::Never, 1, missing),
+        (0, Late::Published(1), 1, Ending::Ended),
+        (0, Late::Retired(1), 1, retired),
+        (0, Late::Published(2), 1, missing),
+        (1, Late::Never, 2, missing),
+        (1, Late::Published(1), 1, Ending::Ended),
+        (1, Late::Published(2), 2, Ending::Ended),
+        (1, Late::Retired(2), 2, retired),
+        (1, Late::Published(3), 2, missing),
+        (3, Late::Never, 4, missing),
+        (3, Late::Published(1), 1, Ending::Ended),
+        (3, Late::Published(2), 2, Ending::Ended),
+        (3, Late::Published(4), 4, Ending::Ended),
+        (3, Late::Retired(1), 1, retired),
+        (3, Late::Retired(2), 2, retired),
+        (3, Late::Retired(4), 4, retired),
+        (3, Late::Published(5), 4, missing),
+        (1_000_000, Late::Never, 1_000_001, missing),
+        (
+            1_000_000,
+            Late::Published(1_000_001),
+            1_000_001,
+            Ending::Ended,
+        ),
+    ] {
+        let (said, made, told) = events_of(rt.alloc(), tries, late, "5 -2 0 6 0\n")?;
+        let publishes = u64::from(ending == Ending::Ended);
+        let wanted = Events {
+            fetches,
+            publishes,
+            retires: 0,
+        };
+        assert_eq!(rt; said, ending, "{tries} {late:?}");
+        assert_eq!(rt; made, wanted, "{tries} {late:?}");
+        assert_eq!(rt;
+            told,
+            told_of(fetches, fetches, publishes),
+            "{tries} {late:?}"
+        );
+    }
+    Ok(())
+}

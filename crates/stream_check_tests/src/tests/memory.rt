@@ -1,0 +1,96 @@
+//! Want of memory. With ample memory these tests see none. They are also run with one allocation of each refused, by
+//! `rt try --test --fail-alloc N`.
+ghost use Rattle.std.specs.Prelude.{IsSome};
+ghost use Rattle.stream_check.specs.Checker.{IsReadyAt};
+
+use super::{four_clauses, said_of, told_of};
+use lrup_model::{ClauseMap, Layout, PlainMap};
+use std::process::Abort;
+use std::test::Fail;
+use stream_check::{Checker, Ending, Report, Turn};
+
+/// Each line but the first deletes one identity more that is kept, and the second an own one before it: where line `L` is
+/// the one that wants memory, `L - 1` identities were deleted before.
+const LINES: [&str; 20] = [
+    "5 2 0 1 2 0\n",
+    "5 d 5 1 0\n",
+    "5 d 2 0\n",
+    "5 d 3 0\n",
+    "5 d 4 0\n",
+    "5 d 6 0\n",
+    "5 d 8 0\n",
+    "5 d 10 0\n",
+    "5 d 12 0\n",
+    "5 d 14 0\n",
+    "5 d 16 0\n",
+    "5 d 18 0\n",
+    "5 d 20 0\n",
+    "5 d 22 0\n",
+    "5 d 24 0\n",
+    "5 d 26 0\n",
+    "5 d 28 0\n",
+    "5 d 30 0\n",
+    "5 d 32 0\n",
+    "5 d 34 0\n",
+];
+
+/// Feeds these lines, each alone. Where the checker is over before the last it has used the whole line, and a further line
+/// changes nothing.
+fn feed_lines<R: Abort, M: ClauseMap>(rt: &R, checker: &mut Checker, map: &mut M)
+    requires { IsReadyAt checker.old (M.place map.old) }
+    ensures { IsSome checker.new.ending }
+{
+    let mut gate = told_of(0, 0, 0);
+    for line in LINES {
+        let progress = checker.feed(map, &mut gate, line.as_bytes());
+        assert_eq!(rt; progress.used, line.len());
+        if checker.is_over() {
+            assert_eq!(rt; progress.turn, Turn::Over);
+            let said = checker.report();
+            let more = checker.feed(map, &mut gate, b"7 2 0 1 2 0\n");
+            assert_eq!(rt; (more.used, more.turn), (0, Turn::Over));
+            assert_eq!(rt; checker.report(), said);
+            break;
+        }
+        assert_eq!(rt; progress.turn, Turn::Line);
+    }
+    checker.end();
+}
+
+/// What is said of a stream of these lines.
+fn said_of_lines(rt: &(impl AllocGlobal + Abort)) -> Result<Report, Fail> {
+    let formula = four_clauses(rt.alloc())?;
+    let layout = Layout::new(2, 4, 8, 2, 15, 2)?;
+    if !layout.fits(&formula) {
+        return Err("no layout".into());
+    }
+    let mut map = PlainMap::open(rt.alloc(), &formula, &layout)?;
+    let mut desk = map.desk(1);
+    let mut checker = Checker::new(rt.alloc(), 1, &layout, 0)?;
+    feed_lines(rt, &mut checker, &mut desk);
+    Ok(checker.report())
+}
+
+/// What is dropped is counted, and what came before a refused growth stays counted, its own line's identities too.
+#[test]
+fn a_refused_growth_ends_the_reading(rt: HostRuntime) -> Result<(), Fail> {
+    let said = said_of_lines(&rt)?;
+    match said.ending {
+        Ending::Memory(line) => {
+            assert_eq!(rt;
+                said,
+                said_of(1, line.saturating_sub(1), false, Ending::Memory(line))
+            );
+        }
+        _ => assert_eq!(rt; said, said_of(1, 20, false, Ending::Ended)),
+    }
+    Ok(())
+}
+
+/// This one fails where a growth is refused, and so shows that one was.
+#[test]
+fn every_growth_has_memory(rt: HostRuntime) -> Result<(), Fail> {
+    let said = said_of_lines(&rt)?;
+    assert_eq!(rt; said, said_of(1, 20, false, Ending::Ended));
+    Ok(())
+}
