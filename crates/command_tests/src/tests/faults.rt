@@ -189,8 +189,9 @@ fn assert_unwritten<T: Threads + Wait + Sync + Clock + Abort>(
 #[test]
 fn reports_that_are_not_written(rt: HostRuntime) -> Result<(), Fail> {
     let report = "c stream 1: 0 added, 0 deleted, ended\ns UNKNOWN\n".as_bytes();
-    for (i, out) in (1..).zip((0..report.len()).step_by(7)) {
-        assert_unwritten(&rt, rt.alloc(), i, &report[..out])?;
+    for fails_at in 1..=report.len().div_ceil(7) {
+        let out = &report[..(fails_at - 1) * 7];
+        assert_unwritten(&rt, rt.alloc(), fails_at, out)?;
     }
     Ok(())
 }
