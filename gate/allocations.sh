@@ -20,16 +20,16 @@ root=$(cd "$(dirname "$0")/.." && pwd)
 work=$(mktemp -d) || exit 2
 trap 'rm -rf "$work"' EXIT
 trap 'exit 1' HUP INT TERM
-log=$work/log
 failed=0
 
 # tests CRATE N: the tests of the crate, with allocation N refused in each.
 tests() {
-    (cd "$root/crates/$1_tests" && "$rt" try --test --seconds 5 --fail-alloc "$2") > "$log" 2>&1
+    (cd "$root/crates/$1_tests" && "$rt" try --test --seconds 5 --fail-alloc "$2") > "$work/$1.$2" 2>&1
 }
 
-# want CRATE N TEST ENDING: of the tests that ran last; ok or FAILED.
+# want CRATE N TEST ENDING: of these tests; ok or FAILED.
 want() {
+    log=$work/$1.$2
     found=$(sed -n "s/^test tests::$3 \.\.\. //p" "$log")
     if [ "$found" = "$4" ]; then
         echo "$1, allocation $2 refused: $3: $4"
@@ -40,8 +40,13 @@ want() {
     fi
 }
 
+# Each of these runs builds for itself, on one processor.
+for n in 1 2 3 4; do tests lrup_model $n & done
+wait
+for n in 11 12 23 24; do tests stream_check $n & done
+wait
+
 for n in 1 2 3 4; do
-    tests lrup_model $n
     want lrup_model $n a_refused_push_changes_nothing ok
     want lrup_model $n a_refused_open_can_be_made_again ok
     # This one makes more allocations, and has no second attempt: it shows that one was refused.
@@ -52,16 +57,13 @@ done
 ends_the_reading=memory::a_refused_growth_ends_the_reading
 has_memory=memory::every_growth_has_memory
 n=11
-tests stream_check $n
 want stream_check $n $ends_the_reading FAILED
 want stream_check $n $has_memory FAILED
 for n in 12 23; do
-    tests stream_check $n
     want stream_check $n $ends_the_reading ok
     want stream_check $n $has_memory FAILED
 done
 n=24
-tests stream_check $n
 want stream_check $n $ends_the_reading ok
 want stream_check $n $has_memory ok
 
@@ -75,12 +77,13 @@ awk 'BEGIN { for (i = 1; i <= 500; i++) print "534 d " i " 0" }' > "$streams/dro
 # program N: a run on each stream, with allocation N refused.
 program() {
     (cd "$root/crates/lrupd" && "$rt" try --seconds 20 --fail-alloc "$1" --cases "$streams" \
-        --data "formula.cnf=$root/examples/bmc.cnf" -- formula.cnf '{}') > "$work/out" 2> "$work/err"
-    { cat "$work/out" && echo && cat "$work/err"; } > "$log"
+        --data "formula.cnf=$root/examples/bmc.cnf" -- formula.cnf '{}') > "$work/out.$1" 2> "$work/err.$1"
+    { cat "$work/out.$1" && echo && cat "$work/err.$1"; } > "$work/lrupd.$1"
 }
 
-# seen N COUNT PATTERN: the runs above left so many lines of this kind.
+# seen N COUNT PATTERN: these runs left so many lines of this kind.
 seen() {
+    log=$work/lrupd.$1
     found=$(grep -cE "$3" "$log")
     if [ "$found" = "$2" ]; then
         echo "lrupd, allocation $1 refused: $2 times $3"
@@ -91,8 +94,10 @@ seen() {
     fi
 }
 
+for n in 1 40 80; do program $n & done
+wait
+
 for n in 1 40; do
-    program $n
     seen $n 3 '^case=[a-z]+ run=ended status=6 '
     seen $n 3 '^lrupd: out of memory$'
     seen $n 0 '^(c|s) '
@@ -100,7 +105,6 @@ done
 
 # The last one before the first line is the 74th; lists that grow by doubling would take a dozen more for the 5,000 lines.
 n=80
-program $n
 seen $n 3 '^case=[a-z]+ run=ended status=3 '
 seen $n 3 '^s UNKNOWN$'
 seen $n 1 '^c stream 1: 1 added, 0 deleted, ended$'
