@@ -1,4 +1,4 @@
-//! Tests of `portfolio`, by its public calls alone. In a crate of their own they don't check its proofs once more.
+//! Tests of `portfolio`, by its public calls alone.
 #![tactic(auto)]
 
 #[cfg(test)]

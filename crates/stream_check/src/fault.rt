@@ -37,7 +37,7 @@ pub enum Fault {
 }
 
 impl Fault {
-    /// Its words, and the identity that follows them, where one does.
+    /// Its words in the report, and the identity that follows them, where one does; they end with a space then.
     pub fn words(self) -> (&'static str, Option<Id>)
         ensures { fault_text self ≡ result.0.now ++ number_text result.1 }
     {

@@ -196,8 +196,8 @@ fn reports_that_are_not_written(rt: HostRuntime) -> Result<(), Fail> {
     Ok(())
 }
 
-/// What is left of a run where standard error fails too, or alone: the status, and how many bytes went where.
-fn silent<T: Threads + Wait + Sync + Clock>(
+/// The status of a run whose sinks fail at these writes, from 1 on, 0 for none; and how many bytes went to either.
+fn status_and_bytes<T: Threads + Wait + Sync + Clock>(
     rt: &T,
     alloc: Global,
     words: &[&str],
@@ -213,11 +213,11 @@ fn silent<T: Threads + Wait + Sync + Clock>(
 #[test]
 fn faults_that_are_not_said(rt: HostRuntime) -> Result<(), Fail> {
     for (fails_at, said) in [(1, 0), (2, 7), (3, 14)] {
-        let usage = silent(&rt, rt.alloc(), &["f"], 0, fails_at)?;
+        let usage = status_and_bytes(&rt, rt.alloc(), &["f"], 0, fails_at)?;
         assert_eq!(rt; usage, (2, 0, said));
-        let unread = silent(&rt, rt.alloc(), &["no", "1"], 0, fails_at)?;
+        let unread = status_and_bytes(&rt, rt.alloc(), &["no", "1"], 0, fails_at)?;
         assert_eq!(rt; unread, (5, 0, said));
-        let unwritten = silent(&rt, rt.alloc(), &["f", "1"], 1, fails_at)?;
+        let unwritten = status_and_bytes(&rt, rt.alloc(), &["f", "1"], 1, fails_at)?;
         assert_eq!(rt; unwritten, (7, 0, said));
     }
     Ok(())

@@ -293,7 +293,7 @@ impl Clock for Sleeps {
     }
 }
 
-/// The status, and how often the clock was slept by, of a run that cites a clause which never comes.
+/// The status of a run that cites a clause which never comes, and how often it slept a microsecond.
 fn sleeps_of<T: Threads + Wait + Sync + Abort>(
     rt: &T,
     alloc: Global,
