@@ -119,27 +119,3 @@ fn unmark(marks: &mut [bool], literals: &[Lit])
         marks[lit.code() as usize] = false;
     }
 }
-
-#[cfg(test)]
-mod tests {
-    use super::*;
-    use std::test::Fail;
-
-    #[test]
-    fn clauses_in_turn_take_no_more_memory(rt: HostRuntime) -> Result<(), Fail> {
-        let mut trail = Trail::new(rt.alloc(), 3)?;
-        let one = Lit::new(1).ok_or("no literal")?;
-        let two = Lit::new(2).ok_or("no literal")?;
-        let not_three = Lit::new(-3).ok_or("no literal")?;
-        let marks = trail.marks.capacity();
-        let literals = trail.literals.capacity();
-        for _ in 0..1000 {
-            trail.clear();
-            trail.add_all(&[one, two, not_three, one])?;
-        }
-        assert_eq!(rt; trail.len(), 3);
-        assert_eq!(rt; trail.marks.capacity(), marks);
-        assert_eq!(rt; trail.literals.capacity(), literals);
-        Ok(())
-    }
-}

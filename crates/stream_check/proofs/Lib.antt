@@ -19,6 +19,5 @@ pub mod CutLemmas
 pub mod CountLemmas
 pub mod DeletedLemmas
 pub mod WithinLemmas
-pub mod WorkedLemmas
 pub mod ReadyLemmas
 pub mod BesideLemmas

@@ -15,5 +15,4 @@ pub mod Forks
 pub mod Reducing
 pub mod Finding
 pub mod Laws
-pub mod Worked
 pub mod TellsLemmas

@@ -16,8 +16,6 @@ mod line;
 mod progress;
 mod report;
 mod setting;
-#[cfg(test)]
-mod worked;
 
 pub use checker::Checker;
 pub use fault::Fault;

@@ -1,10 +1,10 @@
 use Rattle.std.proofs.Common.{[], ◌∷◌, inr, refl, arith}
 use Rattle.lrup_model.specs.Event.{vacant}
 use Rattle.stream_check.specs.Verdicts.{Bad}
-use Rattle.stream_check.specs.Worked.{six_vacant}
+use Rattle.stream_check_tests.specs.Worked.{six_vacant}
 use Rattle.stream_check.specs.declared.fault.Fault.TheVariants as faults
-use Rattle.stream_check.proofs.WorkedLemmas.{unit_passes}
-use Rattle.stream_check.proofs.worked.missing_hints_are_judged.Goals as goal
+use Rattle.stream_check_tests.proofs.WorkedLemmas.{unit_passes}
+use Rattle.stream_check_tests.proofs.worked.missing_hints_are_judged.Goals as goal
 
 pub returns-clause-foreign : goal.returns-clause-foreign
 returns-clause-foreign c = unit_passes (6 ∷ []) (six_vacant ∷ six_vacant ∷ []) (Bad 0 (faults.Missing 6)) (inr (

@@ -3,9 +3,9 @@ ghost use Rattle.std.specs.Prelude.{[], ◌∷◌, pos, negsuc};
 ghost use Rattle.lrup_text.specs.Lines.{Addition, Deletion};
 ghost use Rattle.stream_check.specs.Verdicts.{Good, Bad};
 ghost use Rattle.stream_check.specs.Judging.{JudgesLine};
-ghost use Rattle.stream_check.specs.Worked.{first_stream, at_start, after_drop, first_found, second_found, six_vacant, unit_published, five_retired, five_refused};
+ghost use Rattle.stream_check_tests.specs.Worked.{first_stream, at_start, after_drop, first_found, second_found, six_vacant, unit_published, five_retired, five_refused};
 
-use crate::Fault;
+use stream_check::Fault;
 
 /// An addition that is good, and its last event; and one with a hint after the conflict, which isn't fetched.
 fn additions_are_judged()

@@ -8,7 +8,7 @@ use Rattle.lrup_text.specs.Lines.{Addition}
 use Rattle.stream_check.specs.Verdicts.{Verdict}
 use Rattle.stream_check.specs.Additions.{JudgesHints, published_by}
 use Rattle.stream_check.specs.Judging.{JudgesLine}
-use Rattle.stream_check.specs.Worked.{first_stream, at_start}
+use Rattle.stream_check_tests.specs.Worked.{first_stream, at_start}
 
 two_not_one : pos 2 ≡ pos 1 → ⊥
 two_not_one e = let same : 2 ≡ 1 = ap nat_abs e in omega (arith, same)

@@ -2,10 +2,10 @@ use Rattle.std.proofs.Common.{pos, [], ◌∷◌, inl, inr, refl}
 use Rattle.lrup_model.specs.Event.{live}
 use Rattle.lrup_model.specs.Worked.{first, second}
 use Rattle.stream_check.specs.Verdicts.{Good, Bad}
-use Rattle.stream_check.specs.Worked.{first_found, second_found, unit_published}
+use Rattle.stream_check_tests.specs.Worked.{first_found, second_found, unit_published}
 use Rattle.stream_check.specs.declared.fault.Fault.TheVariants as faults
-use Rattle.stream_check.proofs.WorkedLemmas.{unit_passes, first_is_unit, second_is_conflict}
-use Rattle.stream_check.proofs.worked.additions_are_judged.Goals as goal
+use Rattle.stream_check_tests.proofs.WorkedLemmas.{unit_passes, first_is_unit, second_is_conflict}
+use Rattle.stream_check_tests.proofs.worked.additions_are_judged.Goals as goal
 
 pub returns-clause-good : goal.returns-clause-good
 returns-clause-good c = unit_passes (1 ∷ 2 ∷ []) (first_found ∷ second_found ∷ unit_published ∷ []) Good (inr (

@@ -1,5 +1,5 @@
 use Rattle.std.proofs.Common.{pos, inl, inr, refl, arith}
-use Rattle.stream_check.proofs.worked.tests_are_judged.Goals as goal
+use Rattle.stream_check_tests.proofs.worked.tests_are_judged.Goals as goal
 
 pub returns-clause-tautology : goal.returns-clause-tautology
 returns-clause-tautology c =
