@@ -1,63 +1,29 @@
 //! Passes of one store, in turn and on threads of their own.
-ghost use Rattle.std.specs.Prelude.{◌≡◌, ◌-◌, ◌<◌, ◌≤◌, ◌∷◌, [], pos, negsuc, neg_ℤ, IfOk, IfSome, IsTrue};
+ghost use Rattle.std.specs.Prelude.{◌≡◌, ◌-◌, ◌<◌, ◌≤◌, ◌∷◌, [], pos, neg_ℤ, IfOk, IfSome};
 ghost use Rattle.lrup_model.specs.Event.{History};
 ghost use Rattle.lrup_model.specs.History.{IsPublishable};
 ghost use Rattle.lrup_model.specs.Layout.{IsStream};
-ghost use Rattle.lrup_model.specs.Literal.{IsLiteral, max_variable};
 ghost use Rattle.lrup_model.specs.Plain.{formula_of};
 ghost use Rattle.lrup_model.specs.Pass.{pass_place};
 ghost use Rattle.lrup_model.specs.Place.{IsKnown};
-ghost use Rattle.lrup_model.specs.Worked.{four};
+ghost use Rattle.test_support.specs.Worked.{four};
 ghost use Rattle.clause_store.specs.Passes.{store_of, AreOf};
-ghost use Rattle.clause_store.specs.Worked.{IsAt, AreAt, raced};
+ghost use Rattle.clause_store_tests.specs.Worked.{IsAt, AreAt, raced};
 
 use clause_store::{Desk, Pass, Store};
 use lrup_model::{
     ClauseMap, Clip, Fetched, Formula, Id, Layout, Lit, PlainMap, Published, Retired,
 };
 use std::alloc::{AllocError, Global};
-use std::fmt;
 use std::process::Abort;
 use std::sync::atomic::{AtomicU64, Ordering};
 use std::test::Fail;
 use std::thread::{Threads, for_each_mut, join, yield_now};
-
-/// Stops the test where two values differ: an assertion that is proved once for all tests.
-fn same<T: PartialEq + fmt::Debug + Drop>(rt: &impl Abort, value: T, wanted: T) {
-    assert_eq!(rt; value, wanted);
-}
-
-/// Stops the test where this doesn't hold.
-fn holds(rt: &impl Abort, fact: bool)
-    ensures { IsTrue fact }
-{
-    assert!(rt; fact);
-}
-
-/// The literal of this number.
-fn lit(value: i64) -> Lit
-    requires { IsLiteral max_variable value }
-    ensures { result ≡ value }
-{
-    Lit::new(value).unwrap()
-}
-
-/// The formula of four clauses over two variables that no assignment satisfies.
-fn four_clauses(alloc: Global) -> Result<Formula, AllocError>
-    ensures { IfOk result (λ formula. formula ≡ four) }
-{
-    let mut formula = Formula::new(alloc, 2);
-    formula.push(&[lit(1), lit(2)])?;
-    formula.push(&[lit(-1), lit(2)])?;
-    formula.push(&[lit(1), lit(-2)])?;
-    formula.push(&[lit(-1), lit(-2)])?;
-    Ok(formula)
-}
+use test_support::{four_clauses, holds, lit, same};
 
 /// A store of four clauses for two streams with so many identities and so much room each, and their passes.
 fn open_two(alloc: Global, identities: u64, room: u64) -> Result<(Store, Pass, Pass), Fail>
-    ensures first { IfOk result (λ opened. IsAt four opened.0 opened.1) }
-    ensures second { IfOk result (λ opened. IsAt four opened.0 opened.2) }
+    ensures { IfOk result (λ opened. AreAt four opened.0 (opened.1 ∷ opened.2 ∷ [])) }
 {
     let formula = four_clauses(alloc)?;
     let layout = Layout::new(2, 4, 8, 2, identities, room)?;

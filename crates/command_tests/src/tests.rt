@@ -1,52 +1,20 @@
 //! Runs of the whole program over files and sinks of the tests' own.
-ghost use Rattle.std.specs.Prelude.{◌≡◌, None, true, false};
+ghost use Rattle.std.specs.Prelude.{None, true, false};
 
 use command::{Files, OpenFault, command};
-use lrup_text::{ReadFault, Sink, Source, WriteFault};
 use std::alloc::Global;
 use std::process::Abort;
 use std::sync::Wait;
 use std::test::Fail;
 use std::thread::Threads;
 use std::time::Clock;
+use test_support::{Paper, Pieces};
 
 mod faults;
 mod rows;
 
 /// 1 2 0 / -1 2 0 / 1 -2 0 / -1 -2 0
 const FOUR: &str = "p cnf 2 4\n1 2 0\n-1 2 0\n1 -2 0\n-1 -2 0\n";
-
-/// A file that comes three bytes a read, until a read of this number, from 1 on, fails.
-#[derive(Drop)]
-struct Pieces<'a> {
-    left: &'a [u8],
-    fails_at: usize,
-    reads: usize,
-    failed: bool,
-}
-
-impl Source for Pieces<'_> {
-    ghost left = { λ _. None };
-
-    ghost has_failed = { λ s. s.failed };
-
-    fn read(&mut self, buffer: &mut [u8]) -> Result<usize, ReadFault> {
-        self.reads = self.reads.saturating_add(1);
-        if self.reads == self.fails_at {
-            self.failed = true;
-            return Err(ReadFault);
-        }
-        let count = buffer.len().min(3).min(self.left.len());
-        let (front, rest) = self.left.split_at(count);
-        buffer[..count].copy_from_slice(front);
-        self.left = rest;
-        Ok(count)
-    }
-
-    fn failed(&self) -> bool {
-        self.failed
-    }
-}
 
 /// A file of the shelf.
 #[derive(Clone, Copy)]
@@ -89,56 +57,9 @@ impl<'a> Files for Shelf<'a> {
             return Err(OpenFault::Memory);
         }
         match self.entries.iter().find(|entry| entry.path == path) {
-            Some(entry) => Ok(Pieces {
-                left: entry.text.as_bytes(),
-                fails_at: entry.fails_at,
-                reads: 0,
-                failed: false,
-            }),
+            Some(entry) => Ok(Pieces::new(entry.text, 3, entry.fails_at)),
             None => Err(OpenFault::NotOpened),
         }
-    }
-}
-
-/// Paper that takes seven bytes a write, until a write of this number, from 1 on, fails.
-#[derive(Drop)]
-struct Paper {
-    bytes: Vec<u8>,
-    fails_at: usize,
-    writes: usize,
-    failed: bool,
-}
-
-impl Paper {
-    fn new(alloc: Global, fails_at: usize) -> Paper
-        ensures { result.failed ≡ false }
-    {
-        Paper {
-            bytes: Vec::new(alloc),
-            fails_at,
-            writes: 0,
-            failed: false,
-        }
-    }
-}
-
-impl Sink for Paper {
-    ghost written = { λ _. None };
-
-    ghost has_failed = { λ p. p.failed };
-
-    fn write(&mut self, bytes: &[u8]) -> Result<usize, WriteFault> {
-        self.writes = self.writes.saturating_add(1);
-        let count = bytes.len().min(7);
-        if self.writes == self.fails_at || self.bytes.extend_from_slice(&bytes[..count]).is_err() {
-            self.failed = true;
-            return Err(WriteFault);
-        }
-        Ok(count)
-    }
-
-    fn failed(&self) -> bool {
-        self.failed
     }
 }
 
@@ -183,8 +104,8 @@ fn run_on<T: Threads + Wait + Sync + Clock>(
     out_fails_at: usize,
     err_fails_at: usize,
 ) -> Ran {
-    let mut out = Paper::new(alloc, out_fails_at);
-    let mut err = Paper::new(alloc, err_fails_at);
+    let mut out = Paper::new(alloc, 7, out_fails_at);
+    let mut err = Paper::new(alloc, 7, err_fails_at);
     let status = command(rt, rt, alloc, words, files, &mut out, &mut err);
     Ran {
         out: out.bytes,

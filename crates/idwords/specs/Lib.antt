@@ -4,4 +4,3 @@ pub mod Opening
 pub mod Rule
 pub mod Steps
 pub mod Seats
-pub mod Worked

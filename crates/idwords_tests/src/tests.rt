@@ -1,50 +1,16 @@
 //! The row word by word, two streams in turn, and two threads at once.
-ghost use Rattle.std.specs.Prelude.{◌≡◌, [], IfOk, IsTrue};
+ghost use Rattle.std.specs.Prelude.{◌≡◌, [], IfOk};
 ghost use Rattle.lrup_model.specs.History.{IsPublishable};
 ghost use Rattle.lrup_model.specs.Layout.{Fits};
-ghost use Rattle.lrup_model.specs.Literal.{IsLiteral, max_variable};
-ghost use Rattle.lrup_model.specs.Worked.{four};
-ghost use Rattle.idwords.specs.Worked.{IsAt};
+ghost use Rattle.test_support.specs.Worked.{four};
+ghost use Rattle.idwords_tests.specs.Worked.{IsAt};
 
-use idwords::{LIVE, RETIRED, Row, Seat, len, lit, start, state};
+use idwords::{LIVE, RETIRED, Row, Seat, len, start, state};
 use lrup_model::{Formula, Layout, Lit, Owner, Published, Retired};
 use std::alloc::{AllocError, Global};
-use std::fmt;
-use std::process::Abort;
 use std::test::Fail;
 use std::thread::join;
-
-/// Stops the test where two values differ: an assertion that is proved once for all tests.
-fn same<T: PartialEq + fmt::Debug + Drop>(rt: &impl Abort, value: T, wanted: T) {
-    assert_eq!(rt; value, wanted);
-}
-
-/// Stops the test where this doesn't hold.
-fn holds(rt: &impl Abort, fact: bool)
-    ensures { IsTrue fact }
-{
-    assert!(rt; fact);
-}
-
-/// The literal of this number.
-fn literal(value: i64) -> Lit
-    requires { IsLiteral max_variable value }
-    ensures { result ≡ value }
-{
-    Lit::new(value).unwrap()
-}
-
-/// The formula of four clauses over two variables that no assignment satisfies.
-fn four_clauses(alloc: Global) -> Result<Formula, AllocError>
-    ensures { IfOk result (λ formula. formula ≡ four) }
-{
-    let mut formula = Formula::new(alloc, 2);
-    formula.push(&[literal(1), literal(2)])?;
-    formula.push(&[literal(-1), literal(2)])?;
-    formula.push(&[literal(1), literal(-2)])?;
-    formula.push(&[literal(-1), literal(-2)])?;
-    Ok(formula)
-}
+use test_support::{four_clauses, holds, lit, same};
 
 /// A row of one stream, and its seat.
 fn open_one(alloc: Global, formula: &Formula, layout: &Layout) -> Result<(Row, Seat), Fail>
@@ -149,7 +115,7 @@ fn the_row_has_its_words(rt: HostRuntime) -> Result<(), Fail> {
     words[6..10].copy_from_slice(&[17179869186, 17179869187, 21474836482, 21474836483]);
     holds(&rt, has_words(&row, &layout, &mut seat, &words));
     same(&rt, seat.room(), 2);
-    let answer = publish(&row, &layout, &mut seat, 1, 5, &[literal(2)]);
+    let answer = publish(&row, &layout, &mut seat, 1, 5, &[lit(2)]);
     same(&rt, answer, Some(Published::Done));
     words[5] = 58720261;
     words[14] = 4;
@@ -170,9 +136,9 @@ fn a_clause_begins_in_a_word_of_its_own(rt: HostRuntime) -> Result<(), Fail> {
     let layout = Layout::new(2, 4, 8, 1, 2, 3)?;
     holds(&rt, layout.fits(&formula));
     let (row, mut seat) = open_one(rt.alloc(), &formula, &layout)?;
-    let answer = publish(&row, &layout, &mut seat, 1, 5, &[literal(2)]);
+    let answer = publish(&row, &layout, &mut seat, 1, 5, &[lit(2)]);
     same(&rt, answer, Some(Published::Done));
-    let answer = publish(&row, &layout, &mut seat, 1, 6, &[literal(1), literal(2)]);
+    let answer = publish(&row, &layout, &mut seat, 1, 6, &[lit(1), lit(2)]);
     same(&rt, answer, Some(Published::Done));
     same(&rt, seat.room(), 0);
     let mut words = [0; 18];
@@ -187,9 +153,9 @@ fn a_clause_begins_in_a_word_of_its_own(rt: HostRuntime) -> Result<(), Fail> {
 /// Clauses of three literals, of none and of two.
 fn uneven_clauses(alloc: Global) -> Result<Formula, AllocError> {
     let mut formula = Formula::new(alloc, 3);
-    formula.push(&[literal(1), literal(2), literal(3)])?;
+    formula.push(&[lit(1), lit(2), lit(3)])?;
     formula.push(&[])?;
-    formula.push(&[literal(-1), literal(-2)])?;
+    formula.push(&[lit(-1), lit(-2)])?;
     Ok(formula)
 }
 
@@ -238,7 +204,7 @@ fn two_streams_take_turns(rt: HostRuntime) -> Result<(), Fail> {
     let layout = Layout::new(2, 4, 8, 2, 2, 1)?;
     holds(&rt, layout.fits(&formula));
     let (row, _first, mut second) = open_two(rt.alloc(), &formula, &layout)?;
-    let answer = publish(&row, &layout, &mut second, 2, 6, &[literal(-2)]);
+    let answer = publish(&row, &layout, &mut second, 2, 6, &[lit(-2)]);
     same(&rt, answer, Some(Published::Done));
     same(&rt, second.room(), 0);
     let answer = publish(&row, &layout, &mut second, 2, 8, &[]);
@@ -269,7 +235,7 @@ fn first_literal(row: &Row, layout: &Layout, seat: &mut Seat, stream: u64, id: u
     if code < 2 || 33_554_431 < code {
         return None;
     }
-    Some(lit(word, 0).value())
+    Some(idwords::lit(word, 0).value())
 }
 
 /// Publishes a clause, and hands the seat back.
@@ -297,7 +263,7 @@ fn two_threads_use_one_row(rt: HostRuntime) -> Result<(), Fail> {
     holds(&rt, layout.fits(&formula));
     let (row, first, second) = open_two(rt.alloc(), &formula, &layout)?;
     let (row, layout) = (&row, &layout);
-    let (two, not_two) = ([literal(2)], [literal(-2)]);
+    let (two, not_two) = ([lit(2)], [lit(-2)]);
     let ((mut first, one), (mut second, other)) = join(
         &rt,
         || -> (Seat, Option<Published>)

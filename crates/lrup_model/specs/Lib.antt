@@ -25,4 +25,3 @@ pub mod EntryLemmas
 pub mod EntailmentLemmas
 pub mod PassLemmas
 pub mod RestrictionLemmas
-pub mod Worked

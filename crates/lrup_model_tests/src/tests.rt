@@ -1,43 +1,21 @@
 //! Worked values, texts, and each public call once.
-ghost use Rattle.std.specs.Prelude.{◌≡◌, ◌∷◌, ◌++◌, [], pos, negsuc, Some, None, IfOk, IsTrue};
+ghost use Rattle.std.specs.Prelude.{◌≡◌, ◌∷◌, ◌++◌, [], pos, negsuc, Some, None};
 ghost use Rattle.lrup_model.specs.Entailment.{IsUnsatisfiable};
 ghost use Rattle.lrup_model.specs.Event.{History, vacant, fetch, publish, spent};
 ghost use Rattle.lrup_model.specs.History.{IsLegal};
 ghost use Rattle.lrup_model.specs.Layout.{IsStream, row_words};
-ghost use Rattle.lrup_model.specs.Literal.{IsLiteral, max_variable};
 ghost use Rattle.lrup_model.specs.Plain.{formula_of};
 ghost use Rattle.lrup_model.specs.Propagation.{Accepts};
 ghost use Rattle.lrup_model.specs.State.{state, retired};
-ghost use Rattle.lrup_model.specs.Worked.{four, first, second, third, fourth, unit, one_line, calls};
+ghost use Rattle.test_support.specs.Worked.{four, first, second, third, fourth, unit, one_line, calls};
 
 use lrup_model::{
     ClauseMap, Clip, Fetched, Formula, Id, Layout, LayoutFault, Lit, Owner, PlainMap, Published,
     Retired,
 };
-use std::alloc::{AllocError, Global};
-use std::fmt;
 use std::process::Abort;
 use std::test::Fail;
-
-/// Stops the test where two values differ: an assertion that is proved once for all tests.
-fn same<T: PartialEq + fmt::Debug + Drop>(rt: &impl Abort, value: T, wanted: T) {
-    assert_eq!(rt; value, wanted);
-}
-
-/// Stops the test where this doesn't hold.
-fn holds(rt: &impl Abort, fact: bool)
-    ensures { IsTrue fact }
-{
-    assert!(rt; fact);
-}
-
-/// The literal of this number.
-fn lit(value: i64) -> Lit
-    requires { IsLiteral max_variable value }
-    ensures { result ≡ value }
-{
-    Lit::new(value).unwrap()
-}
+use test_support::{four_clauses, holds, lit, same};
 
 #[test]
 fn literals_have_a_limit(rt: HostRuntime) -> Result<(), Fail> {
@@ -165,18 +143,6 @@ fn faults_and_literals_have_texts(rt: HostRuntime) -> Result<(), Fail> {
         same(&rt, lit(value).to_string(alloc)?.as_str(), text);
     }
     Ok(())
-}
-
-/// The formula of four clauses over two variables that no assignment satisfies.
-fn four_clauses(alloc: Global) -> Result<Formula, AllocError>
-    ensures { IfOk result (λ formula. formula ≡ four) }
-{
-    let mut formula = Formula::new(alloc, 2);
-    formula.push(&[lit(1), lit(2)])?;
-    formula.push(&[lit(-1), lit(2)])?;
-    formula.push(&[lit(1), lit(-2)])?;
-    formula.push(&[lit(-1), lit(-2)])?;
-    Ok(formula)
 }
 
 #[test]

@@ -1,26 +1,15 @@
 // Reading texts that were spelled by hand, in every cutting, and writing.
-ghost use Rattle.std.specs.Prelude.{◌≡◌, Some, IfOk, IsTrue};
+ghost use Rattle.std.specs.Prelude.{◌≡◌, Some, IfOk};
 
 use lrup_text::{
     End, Line, LineFault, LineReader, ReadFault, Reading, Sink, Source, Turn, WriteBuffer,
     WriteFault, Writing, write_all, write_line,
 };
 use std::alloc::Global;
+use std::io;
 use std::process::Abort;
 use std::test::Fail;
-use std::{fmt, io};
-
-/// Stops the test where two values differ: an assertion that is proved once for all tests.
-fn same<T: PartialEq + fmt::Debug + Drop>(rt: &impl Abort, value: T, wanted: T) {
-    assert_eq!(rt; value, wanted);
-}
-
-/// Stops the test where this doesn't hold.
-fn holds(rt: &impl Abort, fact: bool)
-    ensures { IsTrue fact }
-{
-    assert!(rt; fact);
-}
+use test_support::{Paper, holds, same};
 
 /// Feeds the bytes in two pieces, cut at a place, and then the end.
 fn feed_cut(
@@ -339,34 +328,6 @@ fn fits(rt: HostRuntime) -> Result<(), Fail> {
     Ok(())
 }
 
-/// Paper that takes three bytes a write, and no more after so many writes.
-#[derive(Drop)]
-struct Paper {
-    bytes: Vec<u8>,
-    writes: usize,
-    failed: bool,
-}
-
-impl Sink for Paper {
-    ghost written = { λ p. Some p.bytes.items };
-
-    ghost has_failed = { λ p. p.failed };
-
-    fn write(&mut self, bytes: &[u8]) -> Result<usize, WriteFault> {
-        let count = bytes.len().min(3);
-        if self.writes == 0 || self.bytes.extend_from_slice(&bytes[..count]).is_err() {
-            self.failed = true;
-            return Err(WriteFault);
-        }
-        self.writes -= 1;
-        Ok(count)
-    }
-
-    fn failed(&self) -> bool {
-        self.failed
-    }
-}
-
 #[test]
 fn writes(rt: HostRuntime) -> Result<(), Fail> {
     let line = Line::Add {
@@ -376,11 +337,7 @@ fn writes(rt: HostRuntime) -> Result<(), Fail> {
     };
     let text = b"17 -20 3 0 9 100 0\n";
     for writes in 0..8 {
-        let mut paper = Paper {
-            bytes: Vec::new(rt.alloc()),
-            writes,
-            failed: false,
-        };
+        let mut paper = Paper::new(rt.alloc(), 3, writes + 1);
         let wrote = if line.fits() {
             write_line(&line, &mut paper)
         } else {

@@ -1,31 +1,19 @@
 // The texts of a report, and sinks that fail; and what the runs of both modules are given.
-ghost use Rattle.std.specs.Prelude.{◌≡◌, ◌≤◌, Some, false, IfOk, IsTrue};
+ghost use Rattle.std.specs.Prelude.{◌≡◌, ◌≤◌, false, IfOk};
 ghost use Rattle.std.specs.List.{AllByRecursion};
 ghost use Rattle.portfolio.specs.Outcomes.{max_tries};
 
-use lrup_model::{Formula, Id, LayoutFault, Lit};
-use lrup_text::{LineFault, ReadFault, Sink, Source, WriteFault};
+use lrup_model::{Id, LayoutFault};
+use lrup_text::{LineFault, Sink, WriteFault};
 use portfolio::{Options, RunFault, Verdict, write_report};
 use std::alloc::{AllocError, Global};
-use std::fmt;
 use std::process::Abort;
 use std::test::Fail;
 use stream_check::{Ending, Fault, Gate, Report};
+use test_support::{Paper, Pieces, holds, same};
 
 mod serial;
 mod threads;
-
-/// Stops the test where two values differ: an assertion that is proved once for all tests.
-fn same<T: PartialEq + fmt::Debug + Drop>(rt: &impl Abort, value: T, wanted: T) {
-    assert_eq!(rt; value, wanted);
-}
-
-/// Stops the test where this doesn't hold.
-fn holds(rt: &impl Abort, fact: bool)
-    ensures { IsTrue fact }
-{
-    assert!(rt; fact);
-}
 
 /// A gate that does nothing.
 #[derive(Clone, Copy)]
@@ -37,27 +25,7 @@ impl Gate for Open {
     fn after_publish(&mut self, _stream: u64, _id: Id) {}
 }
 
-fn push_pair(formula: &mut Formula, one: i64, other: i64) -> Result<(), Fail> {
-    let one = Lit::new(one).ok_or("no literal")?;
-    let other = Lit::new(other).ok_or("no literal")?;
-    let vars = formula.vars();
-    if one == other || one.var() > vars || other.var() > vars || formula.len() > 9 {
-        return Err("no pair".into());
-    }
-    formula.push(&[one, other])?;
-    Ok(())
-}
-
-/// 1 2 0 / -1 2 0 / 1 -2 0 / -1 -2 0, which no assignment makes all true.
-fn four_clauses(alloc: Global) -> Result<Formula, Fail> {
-    let mut formula = Formula::new(alloc, 2);
-    for (one, other) in [(1, 2), (-1, 2), (1, -2), (-1, -2)] {
-        push_pair(&mut formula, one, other)?;
-    }
-    Ok(formula)
-}
-
-/// Two streams over them; the first cites the clause that the second derives.
+/// Two streams over the four clauses; the first cites the clause that the second derives.
 const CITING: [&str; 2] = ["5 2 0 1 2 0\n7 0 5 6 0\n", "6 -2 0 3 4 0\n"];
 
 fn options(tries: u64, lines: u64, room: u64) -> Options
@@ -68,57 +36,6 @@ fn options(tries: u64, lines: u64, room: u64) -> Options
 
 fn defaults() -> Options {
     options(1_000, 65_536, 1_048_576)
-}
-
-/// A stream that comes so many bytes a read, until a read of this number, from 1 on, fails.
-#[derive(Drop)]
-struct Pieces<'a> {
-    left: &'a [u8],
-    most: usize,
-    fails_at: usize,
-    reads: usize,
-    /// The most bytes that a read asked for.
-    asked: usize,
-    failed: bool,
-}
-
-impl<'a> Pieces<'a> {
-    fn new(text: &'a str, most: usize, fails_at: usize) -> Pieces<'a>
-        ensures { result.failed ≡ false }
-    {
-        Pieces {
-            left: text.as_bytes(),
-            most,
-            fails_at,
-            reads: 0,
-            asked: 0,
-            failed: false,
-        }
-    }
-}
-
-impl<'a> Source for Pieces<'a> {
-    ghost left = { λ s. Some s.left.now };
-
-    ghost has_failed = { λ s. s.failed };
-
-    fn read(&mut self, buffer: &mut [u8]) -> Result<usize, ReadFault> {
-        self.reads = self.reads.saturating_add(1);
-        self.asked = self.asked.max(buffer.len());
-        if self.reads == self.fails_at {
-            self.failed = true;
-            return Err(ReadFault);
-        }
-        let count = buffer.len().min(self.most.max(1)).min(self.left.len());
-        let (front, rest) = self.left.split_at(count);
-        buffer[..count].copy_from_slice(front);
-        self.left = rest;
-        Ok(count)
-    }
-
-    fn failed(&self) -> bool {
-        self.failed
-    }
 }
 
 /// A reader of each stream, which gives so many bytes a read and never fails.
@@ -134,50 +51,6 @@ fn readers_of<'a>(
         readers.push(Pieces::new(stream, most, 0))?;
     }
     Ok(readers)
-}
-
-/// Paper that takes so many bytes a write, at least one, until a write of this number, from 1 on.
-#[derive(Drop)]
-struct Paper {
-    bytes: Vec<u8>,
-    most: usize,
-    fails_at: usize,
-    writes: usize,
-    failed: bool,
-}
-
-impl Paper {
-    fn new(alloc: Global, most: usize, fails_at: usize) -> Paper
-        ensures { result.failed ≡ false }
-    {
-        Paper {
-            bytes: Vec::new(alloc),
-            most,
-            fails_at,
-            writes: 0,
-            failed: false,
-        }
-    }
-}
-
-impl Sink for Paper {
-    ghost written = { λ p. Some p.bytes.items };
-
-    ghost has_failed = { λ p. p.failed };
-
-    fn write(&mut self, bytes: &[u8]) -> Result<usize, WriteFault> {
-        self.writes = self.writes.saturating_add(1);
-        let count = bytes.len().min(self.most.max(1));
-        if self.writes == self.fails_at || self.bytes.extend_from_slice(&bytes[..count]).is_err() {
-            self.failed = true;
-            return Err(WriteFault);
-        }
-        Ok(count)
-    }
-
-    fn failed(&self) -> bool {
-        self.failed
-    }
 }
 
 fn report(added: u64, deleted: u64, ending: Ending) -> Report {

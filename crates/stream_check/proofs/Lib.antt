@@ -20,4 +20,3 @@ pub mod CountLemmas
 pub mod DeletedLemmas
 pub mod WithinLemmas
 pub mod ReadyLemmas
-pub mod BesideLemmas

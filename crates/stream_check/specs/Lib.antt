@@ -15,4 +15,3 @@ pub mod Forks
 pub mod Reducing
 pub mod Finding
 pub mod Laws
-pub mod TellsLemmas

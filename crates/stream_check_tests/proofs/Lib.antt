@@ -1,1 +1,3 @@
 pub mod WorkedLemmas
+pub mod OpenedLemmas
+pub mod BesideLemmas

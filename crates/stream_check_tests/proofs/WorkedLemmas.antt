@@ -1,14 +1,14 @@
 -- Lemmas for the worked example.
-use Rattle.std.proofs.Common.{◌≡◌, ℕ, pos, negsuc, neg_ℤ, nat_abs, [], ◌∷◌, List, refl, sym, ap, ◌∙◌, inl, inr, arith}
+use Rattle.std.proofs.Common.{◌≡◌, ℕ, ℤ, pos, negsuc, neg_ℤ, nat_abs, [], ◌∷◌, List, refl, sym, ap, ◌∙◌, inl, inr, arith}
 use Rattle.lrup_model.specs.Clause.{IsTautology}
-use Rattle.lrup_model.specs.Event.{History}
+use Rattle.lrup_model.specs.Event.{History, live}
 use Rattle.lrup_model.specs.Propagation.{IsConflict, IsUnit}
-use Rattle.lrup_model.specs.Worked.{first, second, unit}
+use Rattle.test_support.specs.Worked.{first, second, unit}
 use Rattle.lrup_text.specs.Lines.{Addition}
 use Rattle.stream_check.specs.Verdicts.{Verdict}
-use Rattle.stream_check.specs.Additions.{JudgesHints, published_by}
+use Rattle.stream_check.specs.Additions.{JudgesHints, AtConflict, published_by}
 use Rattle.stream_check.specs.Judging.{JudgesLine}
-use Rattle.stream_check_tests.specs.Worked.{first_stream, at_start}
+use Rattle.stream_check_tests.specs.Worked.{first_stream, at_start, first_found, second_found}
 
 two_not_one : pos 2 ≡ pos 1 → ⊥
 two_not_one e = let same : 2 ≡ 1 = ap nat_abs e in omega (arith, same)
@@ -16,13 +16,13 @@ two_not_one e = let same : 2 ≡ 1 = ap nat_abs e in omega (arith, same)
 signs : (m n : ℕ) → pos m ≡ negsuc n → ⊥
 signs m n e = cc
 
-pub unit_is_proper : IsTautology unit → ⊥
+unit_is_proper : IsTautology unit → ⊥
 unit_is_proper t = elim t.1 [
   | inl here ↦ elim t.2 [ inl beside ↦ signs 2 1 (beside ∙ ap neg_ℤ (sym here)) | inr none ↦ none ]
   | inr none ↦ none
 ]
 
-pub first_is_unit : IsUnit unit first (pos 1)
+first_is_unit : IsUnit unit first (pos 1)
 first_is_unit = record {
   here = inl refl;
   not_false = λ h. elim h [ inl e ↦ two_not_one e | inr none ↦ none ];
@@ -30,9 +30,21 @@ first_is_unit = record {
   others = λ k h. elim h [ inl e ↦ inl (sym e) | inr there ↦ inr there ];
 }
 
-pub second_is_conflict : IsConflict (pos 2 ∷ negsuc 0 ∷ []) second
+second_is_conflict : IsConflict (pos 2 ∷ negsuc 0 ∷ []) second
 second_is_conflict l h = elim h [ inl e ↦ inr (inl e) | inr there ↦ elim there [ inl e ↦ inl e | inr none ↦ absurd none ] ]
 
+-- the hints of the unit clause under 5, where these literals are false
+abbrev pub JudgesFrom : List ℤ → List ℕ → History → Verdict → Type 0
+JudgesFrom n hints es v = JudgesHints first_stream at_start.gone (published_by first_stream 5 unit) n hints es v
+
+-- hint 1 is unit
+pub first_is_tried : (hints : List ℕ) (es : History) (v : Verdict) → JudgesFrom (pos 2 ∷ negsuc 0 ∷ []) hints es v → JudgesFrom unit (1 ∷ hints) (first_found ∷ es) v
+first_is_tried hints es v judged = inr (refl, record { asked = first_found ∷ []; reply = live first; rest = es; events = refl; asks = refl; next = inr (inl (pos 1, first_is_unit, judged)) })
+
+-- hint 2 after it is the conflict
+pub second_is_tried : (hints : List ℕ) (es : History) (v : Verdict) → AtConflict hints (published_by first_stream 5 unit) es v → JudgesFrom (pos 2 ∷ negsuc 0 ∷ []) (2 ∷ hints) (second_found ∷ es) v
+second_is_tried hints es v judged = inr (refl, record { asked = second_found ∷ []; reply = live second; rest = es; events = refl; asks = refl; next = inl (second_is_conflict, judged) })
+
 -- the unit clause under 5 passes the tests before its hints
-pub unit_passes : (hints : List ℕ) (es : History) (v : Verdict) → JudgesHints first_stream at_start.gone (published_by first_stream 5 unit) unit hints es v → JudgesLine first_stream at_start (Addition 5 unit hints) es v
+pub unit_passes : (hints : List ℕ) (es : History) (v : Verdict) → JudgesFrom unit hints es v → JudgesLine first_stream at_start (Addition 5 unit hints) es v
 unit_passes hints es v judged = inr ((refl, omega arith), inr ((omega arith, tt), inr (unit_is_proper, inr (omega arith, judged))))

@@ -4,7 +4,7 @@ use Rattle.lrup_model.specs.Event.{Event, vacant, live, fetch, publish, retire}
 use Rattle.lrup_model.specs.Layout.{LayoutValue}
 use Rattle.lrup_model.specs.declared.clause_map.Published.TheVariants as publishing
 use Rattle.lrup_model.specs.declared.clause_map.Retired.TheVariants as retiring
-use Rattle.lrup_model.specs.Worked.{first, second, unit}
+use Rattle.test_support.specs.Worked.{first, second, unit}
 use Rattle.lrup_text.specs.Lines.{Deletion}
 use Rattle.stream_check.specs.Setting.{Setting}
 use Rattle.stream_check.specs.Standing.{Standing, standing_of}

@@ -1,26 +1,24 @@
 //! The worked rows at a plain map, each whole, byte by byte and in pieces of two, with the calls of the gate.
-ghost use Rattle.std.specs.Prelude.{◌≡◌, ◌<◌, IfOk};
+ghost use Rattle.std.specs.Prelude.{◌≡◌, ◌<◌, IfOk, IsSome, replicate};
 ghost use Rattle.lrup_model.specs.Event.{History};
-ghost use Rattle.lrup_model.specs.Literal.{IsLiteral, max_variable};
-ghost use Rattle.lrup_model.specs.Worked.{four};
+ghost use Rattle.lrup_model.specs.Layout.{IsStream};
+ghost use Rattle.lrup_model.specs.Plain.{formula_of, plain_place};
+ghost use Rattle.test_support.specs.Worked.{four};
 ghost use Rattle.stream_check.specs.Checker.{IsReadyAt};
+ghost use Rattle.stream_check_tests.specs.Opened.{IsOpened};
 
-use lrup_model::{ClauseMap, Formula, Id, Layout, Lit, PlainMap};
+use lrup_model::{ClauseMap, Id, Layout, PlainMap};
 use lrup_text::LineFault;
-use std::alloc::{AllocError, Global};
-use std::fmt;
+use std::alloc::Global;
 use std::process::Abort;
 use std::test::Fail;
+use stream_check::laws::ready_new;
 use stream_check::{Checker, Ending, Fault, Gate, Report, Turn};
+use test_support::{four_clauses, same};
 
 mod late_map;
 mod memory;
 mod two_streams;
-
-/// Stops the test where two values differ: an assertion that is proved once for all tests.
-fn same<T: PartialEq + fmt::Debug + Drop>(rt: &impl Abort, value: T, wanted: T) {
-    assert_eq!(rt; value, wanted);
-}
 
 /// What a gate was told.
 #[derive(Clone, Copy, Debug, PartialEq, Eq)]
@@ -67,24 +65,35 @@ const DEFAULTS: Options = Options {
     tries: 3,
 };
 
-/// The literal of this number.
-fn lit(value: i64) -> Lit
-    requires { IsLiteral max_variable value }
-    ensures { result ≡ value }
+/// The map of the four clauses, with so many identities and so much room for each stream.
+fn open_map(alloc: Global, streams: u64, lines: u64, room: u64) -> Result<PlainMap, Fail>
+    ensures opened { IfOk result IsOpened }
+    ensures formula { IfOk result (λ map. formula_of map ≡ four) }
+    ensures streams { IfOk result (λ map. map.layout.streams ≡ streams) }
+    ensures room { IfOk result (λ map. map.free ≡ replicate streams room) }
 {
-    Lit::new(value).unwrap()
+    let formula = four_clauses(alloc)?;
+    let layout = Layout::new(2, 4, 8, streams, lines, room)?;
+    if !layout.fits(&formula) {
+        return Err("no layout".into());
+    }
+    let map = PlainMap::open(alloc, &formula, &layout)?;
+    Ok(map)
 }
 
-/// 1 2 0 / -1 2 0 / 1 -2 0 / -1 -2 0
-fn four_clauses(alloc: Global) -> Result<Formula, AllocError>
-    ensures { IfOk result (λ formula. formula ≡ four) }
+/// A checker of this stream, before its first byte.
+fn checker_at(alloc: Global, map: &PlainMap, stream: u64, tries: u64) -> Result<Checker, Fail>
+    requires { IsOpened map.now }
+    ensures stream { IfOk result (λ _. IsStream map.now.layout stream) }
+    ensures ready { IfOk result (λ checker. IsReadyAt checker (plain_place map.now stream)) }
 {
-    let mut formula = Formula::new(alloc, 2);
-    formula.push(&[lit(1), lit(2)])?;
-    formula.push(&[lit(-1), lit(2)])?;
-    formula.push(&[lit(1), lit(-2)])?;
-    formula.push(&[lit(-1), lit(-2)])?;
-    Ok(formula)
+    ready_new();
+    let layout = map.layout();
+    if stream == 0 || stream > layout.streams() || tries > 1_000_000 {
+        return Err("no such stream".into());
+    }
+    let checker = Checker::new(alloc, stream, layout, tries)?;
+    Ok(checker)
 }
 
 /// Feeds a piece to its end, or until the checker is over.
@@ -114,6 +123,7 @@ fn feed_cut<M: ClauseMap>(
 )
     requires ready { IsReadyAt checker.old (M.place map.old) }
     requires cut { 0 < cut }
+    ensures { IsSome checker.new.ending }
 {
     for piece in bytes.chunks(cut) {
         feed_whole(checker, map, gate, piece);
@@ -126,22 +136,11 @@ fn feed_cut<M: ClauseMap>(
 fn judged(alloc: Global, options: Options, bytes: &[u8], cut: usize) -> Result<(Report, Told), Fail>
     requires { 0 < cut }
 {
-    let formula = four_clauses(alloc)?;
-    let layout = Layout::new(2, 4, 8, options.streams, options.lines, options.room)?;
-    if !layout.fits(&formula) || options.stream == 0 || options.stream > layout.streams() {
-        return Err("no such stream".into());
-    }
-    if options.tries > 1_000_000 {
-        return Err("too many tries".into());
-    }
-    let mut map = PlainMap::open(alloc, &formula, &layout)?;
-    let mut desk = map.desk(options.stream);
+    let Options { stream, tries, .. } = options;
+    let mut map = open_map(alloc, options.streams, options.lines, options.room)?;
+    let mut checker = checker_at(alloc, &map, stream, tries)?;
     let mut gate = told_of(0, 0, 0);
-    let mut checker = Checker::new(alloc, options.stream, &layout, options.tries)?;
-    feed_cut(&mut checker, &mut desk, &mut gate, bytes, cut);
-    if !checker.is_over() {
-        return Err("not over".into());
-    }
+    feed_cut(&mut checker, &mut map.desk(stream), &mut gate, bytes, cut);
     Ok((checker.report(), gate))
 }
 

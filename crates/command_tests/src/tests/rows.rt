@@ -303,8 +303,8 @@ fn sleeps_of<T: Threads + Wait + Sync + Abort>(
     let clock = Sleeps {
         count: AtomicUsize::new(0),
     };
-    let mut out = Paper::new(alloc, 0);
-    let mut err = Paper::new(alloc, 0);
+    let mut out = Paper::new(alloc, 7, 0);
+    let mut err = Paper::new(alloc, 7, 0);
     let words = [tries, "f", "1", "2"];
     let status = command(rt, &clock, alloc, &words, &mut files, &mut out, &mut err);
     Ok((status, clock.count.load(Ordering::SeqCst)))

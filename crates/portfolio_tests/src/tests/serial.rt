@@ -2,9 +2,7 @@
 ghost use Rattle.std.specs.Prelude.{◌≡◌, Some, None, false};
 ghost use Rattle.std.specs.List.{AllByRecursion};
 
-use super::{
-    CITING, Open, Paper, Pieces, defaults, four_clauses, holds, options, readers_of, same,
-};
+use super::{CITING, Open, defaults, options, readers_of};
 use lrup_model::{Formula, Id, LayoutFault};
 use lrup_text::{ReadFault, Source};
 use portfolio::{Options, RunFault, SerialOutcome, run_serial, write_report};
@@ -14,6 +12,7 @@ use std::process::Abort;
 use std::sync::Wait;
 use std::test::Fail;
 use stream_check::Gate;
+use test_support::{Paper, Pieces, four_clauses, holds, same};
 
 /// A run over the four clauses.
 fn run_pieces<'a, W: Wait>(

@@ -3,10 +3,7 @@
 ghost use Rattle.std.specs.Prelude.{◌≡◌, false, IfOk, vec_len};
 ghost use Rattle.std.specs.List.{AllByRecursion};
 
-use super::{
-    CITING, Open, Pieces, bad_line, defaults, four_clauses, holds, options, readers_of, report,
-    same,
-};
+use super::{CITING, Open, bad_line, defaults, options, readers_of, report};
 use lrup_model::{Id, LayoutFault};
 use lrup_text::Source;
 use portfolio::{Options, Outcome, Pause, RunFault, Verdict, run};
@@ -19,6 +16,7 @@ use std::thread::Threads;
 use std::time::{Clock, Duration};
 use std::{io, thread};
 use stream_check::{Ending, Fault, Gate, Report};
+use test_support::{Pieces, four_clauses, holds, same};
 
 /// A gate for each stream.
 fn gates_of<G: Copy>(alloc: Global, gate: G, count: usize) -> Result<Vec<G>, AllocError>

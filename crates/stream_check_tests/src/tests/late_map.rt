@@ -3,18 +3,19 @@ ghost use Rattle.std.specs.Prelude.{◌≡◌, ◌≤◌, []};
 ghost use Rattle.lrup_model.specs.Event.{History};
 ghost use Rattle.lrup_model.specs.Place.{Tells};
 ghost use Rattle.lrup_model.specs.Plain.{PlainMoves, formula_of, free_at, plain_place};
-ghost use Rattle.lrup_model.specs.Worked.{four};
+ghost use Rattle.test_support.specs.Worked.{four};
 
-use super::{Told, feed_cut, four_clauses, lit, told_of};
-use lrup_model::{ClauseMap, Clip, Fetched, Id, Layout, Lit, Owner, PlainMap, Published, Retired};
+use super::{Told, checker_at, feed_cut, open_map, told_of};
+use lrup_model::{ClauseMap, Clip, Fetched, Id, Lit, Owner, PlainMap, Published, Retired};
 use lrup_text::LineFault;
 use std::alloc::Global;
 use std::process::Abort;
 use std::test::Fail;
-use stream_check::{Checker, Ending, Fault};
+use stream_check::{Ending, Fault};
+use test_support::{lit, same};
 
 /// When stream 2 publishes `-2` under identity 6.
-#[derive(Clone, Copy, Debug)]
+#[derive(Clone, Copy, Debug, PartialEq, Eq)]
 enum Late {
     Never,
     /// Right before this fetch of stream 1, counted from 1.
@@ -85,7 +86,7 @@ fn call_late(map: &mut PlainMap, late: Late, fetch: u64)
 }
 
 impl ClauseMap for LateMap {
-    ghost use Rattle.stream_check.specs.TellsLemmas.{tells_none, tells_append};
+    ghost use Rattle.stream_check_tests.specs.TellsLemmas.{tells_none, tells_append};
 
     ghost place = { λ m. plain_place m.map 1 };
 
@@ -160,23 +161,16 @@ fn events_of(
     late: Late,
     lines: &str,
 ) -> Result<(Ending, Events, Told), Fail> {
-    let formula = four_clauses(alloc)?;
-    let layout = Layout::new(2, 4, 8, 2, 2, 2)?;
-    if !layout.fits(&formula) || tries > 1_000_000 {
-        return Err("no layout".into());
-    }
+    let map = open_map(alloc, 2, 2, 2)?;
+    let mut checker = checker_at(alloc, &map, 1, tries)?;
     let mut map = LateMap {
-        map: PlainMap::open(alloc, &formula, &layout)?,
+        map,
         room: 2,
         late,
         events: NOTHING,
     };
     let mut gate = told_of(0, 0, 0);
-    let mut checker = Checker::new(alloc, 1, &layout, tries)?;
     feed_cut(&mut checker, &mut map, &mut gate, lines.as_bytes(), 65_536);
-    if !checker.is_over() {
-        return Err("not over".into());
-    }
     Ok((checker.report().ending, map.events, gate))
 }
 
@@ -193,14 +187,9 @@ fn makes<R: AllocGlobal + Abort>(
         publishes,
         retires,
     };
-    let (said, made, told) = events_of(rt.alloc(), 3, Late::Never, lines)?;
-    assert_eq!(rt; said, ending, "{lines}");
-    assert_eq!(rt; made, wanted, "{lines}");
-    assert_eq!(rt;
-        told,
-        told_of(fetches, fetches.min(1), publishes),
-        "{lines}"
-    );
+    let found = events_of(rt.alloc(), 3, Late::Never, lines)?;
+    let told = told_of(fetches, fetches.min(1), publishes);
+    same(rt, (lines, found), (lines, (ending, wanted, told)));
     Ok(())
 }
 
@@ -311,20 +300,15 @@ fn a_foreign_hint_is_fetched_until_it_comes(rt: HostRuntime) -> Result<(), Fail>
             Ending::Ended,
         ),
     ] {
-        let (said, made, told) = events_of(rt.alloc(), tries, late, "5 -2 0 6 0\n")?;
+        let found = events_of(rt.alloc(), tries, late, "5 -2 0 6 0\n")?;
         let publishes = u64::from(ending == Ending::Ended);
-        let wanted = Events {
+        let made = Events {
             fetches,
             publishes,
             retires: 0,
         };
-        assert_eq!(rt; said, ending, "{tries} {late:?}");
-        assert_eq!(rt; made, wanted, "{tries} {late:?}");
-        assert_eq!(rt;
-            told,
-            told_of(fetches, fetches, publishes),
-            "{tries} {late:?}"
-        );
+        let wanted = (ending, made, told_of(fetches, fetches, publishes));
+        same(&rt, (tries, late, found), (tries, late, wanted));
     }
     Ok(())
 }

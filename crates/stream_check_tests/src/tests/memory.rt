@@ -3,11 +3,12 @@
 ghost use Rattle.std.specs.Prelude.{IsSome};
 ghost use Rattle.stream_check.specs.Checker.{IsReadyAt};
 
-use super::{four_clauses, said_of, told_of};
-use lrup_model::{ClauseMap, Layout, PlainMap};
+use super::{checker_at, open_map, said_of, told_of};
+use lrup_model::ClauseMap;
 use std::process::Abort;
 use std::test::Fail;
 use stream_check::{Checker, Ending, Report, Turn};
+use test_support::same;
 
 /// Each line but the first deletes one identity more that is kept, and the second an own one before it: where line `L` is
 /// the one that wants memory, `L - 1` identities were deleted before.
@@ -34,8 +35,7 @@ const LINES: [&str; 20] = [
     "5 d 34 0\n",
 ];
 
-/// Feeds these lines, each alone. Where the checker is over before the last it has used the whole line, and a further line
-/// changes nothing.
+/// Feeds these lines, each alone. Where the checker is over before the last it has used the whole line.
 fn feed_lines<R: Abort, M: ClauseMap>(rt: &R, checker: &mut Checker, map: &mut M)
     requires { IsReadyAt checker.old (M.place map.old) }
     ensures { IsSome checker.new.ending }
@@ -43,31 +43,33 @@ fn feed_lines<R: Abort, M: ClauseMap>(rt: &R, checker: &mut Checker, map: &mut M
     let mut gate = told_of(0, 0, 0);
     for line in LINES {
         let progress = checker.feed(map, &mut gate, line.as_bytes());
-        assert_eq!(rt; progress.used, line.len());
+        same(rt, progress.used, line.len());
         if checker.is_over() {
-            assert_eq!(rt; progress.turn, Turn::Over);
-            let said = checker.report();
-            let more = checker.feed(map, &mut gate, b"7 2 0 1 2 0\n");
-            assert_eq!(rt; (more.used, more.turn), (0, Turn::Over));
-            assert_eq!(rt; checker.report(), said);
+            same(rt, progress.turn, Turn::Over);
+            stays_over(rt, checker, map);
             break;
         }
-        assert_eq!(rt; progress.turn, Turn::Line);
+        same(rt, progress.turn, Turn::Line);
     }
     checker.end();
 }
 
+/// A further line changes nothing.
+fn stays_over<R: Abort, M: ClauseMap>(rt: &R, checker: &mut Checker, map: &mut M)
+    requires ready { IsReadyAt checker.old (M.place map.old) }
+    requires over { IsSome checker.old.ending }
+{
+    let said = checker.report();
+    let more = checker.feed(map, &mut told_of(0, 0, 0), b"7 2 0 1 2 0\n");
+    same(rt, (more.used, more.turn), (0, Turn::Over));
+    same(rt, checker.report(), said);
+}
+
 /// What is said of a stream of these lines.
 fn said_of_lines(rt: &(impl AllocGlobal + Abort)) -> Result<Report, Fail> {
-    let formula = four_clauses(rt.alloc())?;
-    let layout = Layout::new(2, 4, 8, 2, 15, 2)?;
-    if !layout.fits(&formula) {
-        return Err("no layout".into());
-    }
-    let mut map = PlainMap::open(rt.alloc(), &formula, &layout)?;
-    let mut desk = map.desk(1);
-    let mut checker = Checker::new(rt.alloc(), 1, &layout, 0)?;
-    feed_lines(rt, &mut checker, &mut desk);
+    let mut map = open_map(rt.alloc(), 2, 15, 2)?;
+    let mut checker = checker_at(rt.alloc(), &map, 1, 0)?;
+    feed_lines(rt, &mut checker, &mut map.desk(1));
     Ok(checker.report())
 }
 
@@ -75,15 +77,11 @@ fn said_of_lines(rt: &(impl AllocGlobal + Abort)) -> Result<Report, Fail> {
 #[test]
 fn a_refused_growth_ends_the_reading(rt: HostRuntime) -> Result<(), Fail> {
     let said = said_of_lines(&rt)?;
-    match said.ending {
-        Ending::Memory(line) => {
-            assert_eq!(rt;
-                said,
-                said_of(1, line.saturating_sub(1), false, Ending::Memory(line))
-            );
-        }
-        _ => assert_eq!(rt; said, said_of(1, 20, false, Ending::Ended)),
-    }
+    let wanted = match said.ending {
+        Ending::Memory(line) => said_of(1, line.saturating_sub(1), false, said.ending),
+        _ => said_of(1, 20, false, Ending::Ended),
+    };
+    same(&rt, said, wanted);
     Ok(())
 }
 
@@ -91,6 +89,6 @@ fn a_refused_growth_ends_the_reading(rt: HostRuntime) -> Result<(), Fail> {
 #[test]
 fn every_growth_has_memory(rt: HostRuntime) -> Result<(), Fail> {
     let said = said_of_lines(&rt)?;
-    assert_eq!(rt; said, said_of(1, 20, false, Ending::Ended));
+    same(&rt, said, said_of(1, 20, false, Ending::Ended));
     Ok(())
 }

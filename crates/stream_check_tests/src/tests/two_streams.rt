@@ -1,16 +1,17 @@
 //! Two streams at one map, by turns.
-ghost use Rattle.std.specs.Prelude.{◌≡◌, ◌≤◌, IfOk};
+ghost use Rattle.std.specs.Prelude.{◌≡◌, ◌≤◌};
 ghost use Rattle.lrup_model.specs.Event.{History};
 ghost use Rattle.lrup_model.specs.Layout.{IsStream};
 ghost use Rattle.lrup_model.specs.Plain.{PlainMoves, plain_place};
 ghost use Rattle.stream_check.specs.Checker.{IsReadyAt};
 
-use super::{Told, feed_whole, four_clauses, said_of, told_of};
-use lrup_model::{Layout, PlainMap};
+use super::{Told, checker_at, feed_whole, open_map, said_of, told_of};
+use lrup_model::PlainMap;
 use std::alloc::Global;
 use std::test::Fail;
 use stream_check::laws::ready_beside;
 use stream_check::{Checker, Ending, Fault, Report};
+use test_support::same;
 
 /// The checkers of streams 1 and 2, their gates, and their map.
 #[derive(Drop)]
@@ -39,15 +40,13 @@ fn feed_at(map: &mut PlainMap, s: u64, checker: &mut Checker, gate: &mut Told, p
 impl Two {
     /// The first has identities 5 and 7, and the second 6 and 8; each has room for two literals.
     fn open(alloc: Global, tries: u64) -> Result<Two, Fail> {
-        let formula = four_clauses(alloc)?;
-        let layout = Layout::new(2, 4, 8, 2, 2, 2)?;
-        if !layout.fits(&formula) || tries > 1_000_000 {
-            return Err("no layout".into());
-        }
+        let map = open_map(alloc, 2, 2, 2)?;
+        let first = checker_at(alloc, &map, 1, tries)?;
+        let second = checker_at(alloc, &map, 2, tries)?;
         Ok(Two {
-            map: PlainMap::open(alloc, &formula, &layout)?,
-            first: Checker::new(alloc, 1, &layout, tries)?,
-            second: Checker::new(alloc, 2, &layout, tries)?,
+            map,
+            first,
+            second,
             first_told: told_of(0, 0, 0),
             second_told: told_of(0, 0, 0),
         })
@@ -113,22 +112,24 @@ const SIX: Turn = Turn::Second("6 -2 0 3 4 0\n");
 fn a_foreign_hint_is_found_after_its_publish(rt: HostRuntime) -> Result<(), Fail> {
     let turns = [SIX, Turn::First("5 2 0 1 2 0\n7 0 5 6 0\n")];
     let said = judged_by_turns(rt.alloc(), 0, &turns)?;
-    assert_eq!(rt;
+    same(
+        &rt,
         said,
         [
             (said_of(2, 0, true, Ending::Ended), told_of(4, 1, 2)),
             (said_of(1, 0, false, Ending::Ended), told_of(2, 1, 1)),
-        ]
+        ],
     );
     // A line is checked at its end: the publish may come between two pieces of it.
     let turns = [Turn::First("5 -2 0 6"), SIX, Turn::First(" 0\n")];
     let said = judged_by_turns(rt.alloc(), 0, &turns)?;
-    assert_eq!(rt;
+    same(
+        &rt,
         said,
         [
             (said_of(1, 0, false, Ending::Ended), told_of(1, 1, 1)),
             (said_of(1, 0, false, Ending::Ended), told_of(2, 1, 1)),
-        ]
+        ],
     );
     Ok(())
 }
@@ -143,12 +144,13 @@ fn a_hint_that_comes_too_late_is_missing(rt: HostRuntime) -> Result<(), Fail> {
     for (tries, fetches) in [(0, 1), (1, 2), (7, 8)] {
         let said = judged_by_turns(rt.alloc(), tries, &turns)?;
         let missing = Ending::Bad(1, Fault::Missing(6));
-        assert_eq!(rt;
+        same(
+            &rt,
             said,
             [
                 (said_of(0, 0, false, missing), told_of(fetches, fetches, 0)),
                 (said_of(1, 0, false, Ending::Ended), told_of(2, 1, 1)),
-            ]
+            ],
         );
     }
     Ok(())
@@ -164,12 +166,13 @@ fn a_hint_that_its_owner_retired_is_retired(rt: HostRuntime) -> Result<(), Fail>
     ];
     let said = judged_by_turns(rt.alloc(), 7, &turns)?;
     let retired = Ending::Bad(2, Fault::Retired(6));
-    assert_eq!(rt;
+    same(
+        &rt,
         said,
         [
             (said_of(1, 0, false, retired), told_of(2, 1, 1)),
             (said_of(1, 1, false, Ending::Ended), told_of(2, 1, 1)),
-        ]
+        ],
     );
     Ok(())
 }
@@ -183,12 +186,13 @@ fn a_foreign_deletion_drops_for_one_stream(rt: HostRuntime) -> Result<(), Fail> 
     for turns in [[SIX, drops, uses, hints], [drops, SIX, hints, uses]] {
         let said = judged_by_turns(rt.alloc(), 7, &turns)?;
         let dropped = Ending::Bad(2, Fault::Dropped(6));
-        assert_eq!(rt;
+        same(
+            &rt,
             said,
             [
                 (said_of(0, 2, false, dropped), told_of(0, 0, 0)),
                 (said_of(2, 1, true, Ending::Ended), told_of(5, 1, 2)),
-            ]
+            ],
         );
     }
     Ok(())
@@ -202,12 +206,13 @@ fn room_is_not_shared(rt: HostRuntime) -> Result<(), Fail> {
     ];
     let said = judged_by_turns(rt.alloc(), 0, &turns)?;
     let no_room = Ending::Bad(2, Fault::NoRoom);
-    assert_eq!(rt;
+    same(
+        &rt,
         said,
         [
             (said_of(1, 0, false, no_room), told_of(1, 1, 1)),
             (said_of(1, 0, false, Ending::Ended), told_of(1, 1, 1)),
-        ]
+        ],
     );
     Ok(())
 }

@@ -3,7 +3,7 @@ use Rattle.std.proofs.lemmas.Option.{slice_get_within}
 use Rattle.lrup_model.specs.Formula.{Cnf}
 use Rattle.lrup_model.specs.Place.{Caller}
 use Rattle.clause_store.specs.Passes.{StoreValue, PassValue}
-use Rattle.clause_store.specs.Worked.{IsAt, AreAt, raced}
+use Rattle.clause_store_tests.specs.Worked.{IsAt, AreAt, raced}
 use Rattle.clause_store_tests.proofs.tests.open_race.Goals as goal
 
 -- where the pass at each place is of the store and formula, all are

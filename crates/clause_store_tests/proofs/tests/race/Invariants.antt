@@ -1,4 +1,4 @@
-use Rattle.clause_store.specs.Worked.{IsAt, raced}
+use Rattle.clause_store_tests.specs.Worked.{IsAt, raced}
 use Rattle.clause_store_tests.proofs.tests.race.Given as goal
 
 abbrev pub invariant-loop-stream : goal.invariant-loop-stream

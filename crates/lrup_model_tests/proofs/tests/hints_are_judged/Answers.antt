@@ -1,7 +1,7 @@
 use Rattle.std.proofs.Common.{◌≡◌, ℕ, ℤ, pos, negsuc, neg_ℤ, nat_abs, [], ◌∷◌, refl, sym, ap, ◌∙◌, inl, inr, arith}
 use Rattle.lrup_model.specs.Clause.{Has, IsTautology}
 use Rattle.lrup_model.specs.Propagation.{IsUnit}
-use Rattle.lrup_model.specs.Worked.{first, second, third, unit}
+use Rattle.test_support.specs.Worked.{first, second, third, unit}
 use Rattle.lrup_model_tests.proofs.tests.hints_are_judged.Goals as goal
 
 -- literals that are two

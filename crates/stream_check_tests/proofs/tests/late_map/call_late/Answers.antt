@@ -1,6 +1,6 @@
 use Rattle.std.proofs.Common.{[], arith}
 use Rattle.lrup_model.specs.Plain.{plain_place}
-use Rattle.stream_check.proofs.BesideLemmas.{tells_beside, tells_then}
+use Rattle.stream_check_tests.proofs.BesideLemmas.{tells_beside, tells_then}
 use Rattle.stream_check_tests.proofs.tests.late_map.call_late.Goals as goal
 
 pub returns-in-Published : goal.returns-in-Published

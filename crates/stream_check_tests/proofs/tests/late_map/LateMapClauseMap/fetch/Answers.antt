@@ -1,5 +1,5 @@
 use Rattle.lrup_model.specs.Plain.{plain_place}
-use Rattle.stream_check.proofs.BesideLemmas.{tells_then, desk_fetched}
+use Rattle.stream_check_tests.proofs.BesideLemmas.{tells_then, desk_fetched}
 use Rattle.stream_check_tests.proofs.tests.late_map.LateMapClauseMap.fetch.Goals as goal
 
 -- what stream 2 did, and then the fetch

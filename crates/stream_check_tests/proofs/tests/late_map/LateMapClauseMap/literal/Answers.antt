@@ -1,5 +1,5 @@
 use Rattle.std.proofs.Common.{[]}
-use Rattle.stream_check.proofs.BesideLemmas.{desk_told}
+use Rattle.stream_check_tests.proofs.BesideLemmas.{desk_told}
 use Rattle.stream_check_tests.proofs.tests.late_map.LateMapClauseMap.literal.Goals as goal
 
 pub returns-clause-event : goal.returns-clause-event

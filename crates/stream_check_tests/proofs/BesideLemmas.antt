@@ -12,7 +12,7 @@ use Rattle.lrup_model.specs.Desk.{map_of, stream_at, desk_place, DeskMoves}
 use Rattle.lrup_model.specs.declared.clause_map.Fetched.{Fetched}
 use Rattle.lrup_model.specs.declared.plain_map.PlainDesk.{PlainDesk}
 use Rattle.lrup_model.specs.HistoryLemmas.{run-others}
-use Rattle.stream_check.specs.TellsLemmas.{tells_append}
+use Rattle.stream_check_tests.specs.TellsLemmas.{tells_append}
 use Rattle.stream_check.proofs.ReadyLemmas.{calls_differ}
 
 -- the calls of stream t are none of stream s

@@ -1,0 +1,106 @@
+//! A reader and a writer that take few bytes a call, and fail at one.
+ghost use Rattle.std.specs.Prelude.{◌≡◌, None, false};
+
+use lrup_text::{ReadFault, Sink, Source, WriteFault};
+use std::alloc::Global;
+
+/// A text that comes so many bytes a read, at least one, until a read of some number, from 1 on, fails.
+#[derive(Drop)]
+pub struct Pieces<'a> {
+    /// What no read has given yet.
+    pub left: &'a [u8],
+    /// The reads, the failed one among them.
+    pub reads: usize,
+    /// The most bytes that a read asked for.
+    pub asked: usize,
+    most: usize,
+    fails_at: usize,
+    failed: bool,
+}
+
+impl<'a> Pieces<'a> {
+    /// Reads of at most `most` bytes; number `fails_at` fails, and none where that is 0.
+    pub fn new(text: &'a str, most: usize, fails_at: usize) -> Pieces<'a>
+        ensures { result.failed ≡ false }
+    {
+        Pieces {
+            left: text.as_bytes(),
+            reads: 0,
+            asked: 0,
+            most,
+            fails_at,
+            failed: false,
+        }
+    }
+}
+
+impl Source for Pieces<'_> {
+    ghost left = { λ _. None };
+
+    ghost has_failed = { λ s. s.failed };
+
+    fn read(&mut self, buffer: &mut [u8]) -> Result<usize, ReadFault> {
+        self.reads = self.reads.saturating_add(1);
+        self.asked = self.asked.max(buffer.len());
+        if self.reads == self.fails_at {
+            self.failed = true;
+            return Err(ReadFault);
+        }
+        let count = buffer.len().min(self.most.max(1)).min(self.left.len());
+        let (front, rest) = self.left.split_at(count);
+        buffer[..count].copy_from_slice(front);
+        self.left = rest;
+        Ok(count)
+    }
+
+    fn failed(&self) -> bool {
+        self.failed
+    }
+}
+
+/// Paper that takes so many bytes a write, at least one, until a write of some number, from 1 on, fails.
+#[derive(Drop)]
+pub struct Paper {
+    /// What was written.
+    pub bytes: Vec<u8>,
+    /// The writes, the failed one among them.
+    pub writes: usize,
+    most: usize,
+    fails_at: usize,
+    failed: bool,
+}
+
+impl Paper {
+    /// Writes of at most `most` bytes; number `fails_at` fails, and none where that is 0.
+    pub fn new(alloc: Global, most: usize, fails_at: usize) -> Paper
+        ensures { result.failed ≡ false }
+    {
+        Paper {
+            bytes: Vec::new(alloc),
+            writes: 0,
+            most,
+            fails_at,
+            failed: false,
+        }
+    }
+}
+
+impl Sink for Paper {
+    ghost written = { λ _. None };
+
+    ghost has_failed = { λ p. p.failed };
+
+    fn write(&mut self, bytes: &[u8]) -> Result<usize, WriteFault> {
+        self.writes = self.writes.saturating_add(1);
+        let count = bytes.len().min(self.most.max(1));
+        if self.writes == self.fails_at || self.bytes.extend_from_slice(&bytes[..count]).is_err() {
+            self.failed = true;
+            return Err(WriteFault);
+        }
+        Ok(count)
+    }
+
+    fn failed(&self) -> bool {
+        self.failed
+    }
+}
