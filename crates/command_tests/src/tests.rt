@@ -8,7 +8,7 @@ use std::sync::Wait;
 use std::test::Fail;
 use std::thread::Threads;
 use std::time::Clock;
-use test_support::{Paper, Pieces};
+use test_support::{Paper, Pieces, same};
 
 mod faults;
 mod rows;
@@ -125,9 +125,6 @@ fn assert_ends<T: Threads + Wait + Sync + Clock + Abort>(
     let ran = run_on(rt, alloc, words, files, 0, 0);
     let (out, err, status) = want;
     let wrote = (ran.out.as_slice(), ran.err.as_slice(), ran.status);
-    assert_eq!(rt;
-        wrote,
-        (out.as_bytes(), err.as_bytes(), status),
-        "{words:?}"
-    );
+    let wanted = (out.as_bytes(), err.as_bytes(), status);
+    same(rt, (words, wrote), (words, wanted));
 }

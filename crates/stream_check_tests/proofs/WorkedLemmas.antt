@@ -1,37 +1,13 @@
 -- Lemmas for the worked example.
-use Rattle.std.proofs.Common.{◌≡◌, ℕ, ℤ, pos, negsuc, neg_ℤ, nat_abs, [], ◌∷◌, List, refl, sym, ap, ◌∙◌, inl, inr, arith}
-use Rattle.lrup_model.specs.Clause.{IsTautology}
+use Rattle.std.proofs.Common.{ℕ, ℤ, pos, negsuc, [], ◌∷◌, List, refl, inl, inr, arith}
 use Rattle.lrup_model.specs.Event.{History, live}
-use Rattle.lrup_model.specs.Propagation.{IsConflict, IsUnit}
 use Rattle.test_support.specs.Worked.{first, second, unit}
+use Rattle.test_support.specs.WorkedLemmas.{unit_is_proper, first_is_unit, second_is_conflict}
 use Rattle.lrup_text.specs.Lines.{Addition}
 use Rattle.stream_check.specs.Verdicts.{Verdict}
 use Rattle.stream_check.specs.Additions.{JudgesHints, AtConflict, published_by}
 use Rattle.stream_check.specs.Judging.{JudgesLine}
 use Rattle.stream_check_tests.specs.Worked.{first_stream, at_start, first_found, second_found}
-
-two_not_one : pos 2 ≡ pos 1 → ⊥
-two_not_one e = let same : 2 ≡ 1 = ap nat_abs e in omega (arith, same)
-
-signs : (m n : ℕ) → pos m ≡ negsuc n → ⊥
-signs m n e = cc
-
-unit_is_proper : IsTautology unit → ⊥
-unit_is_proper t = elim t.1 [
-  | inl here ↦ elim t.2 [ inl beside ↦ signs 2 1 (beside ∙ ap neg_ℤ (sym here)) | inr none ↦ none ]
-  | inr none ↦ none
-]
-
-first_is_unit : IsUnit unit first (pos 1)
-first_is_unit = record {
-  here = inl refl;
-  not_false = λ h. elim h [ inl e ↦ two_not_one e | inr none ↦ none ];
-  not_true = λ h. elim h [ inl e ↦ signs 2 0 e | inr none ↦ none ];
-  others = λ k h. elim h [ inl e ↦ inl (sym e) | inr there ↦ inr there ];
-}
-
-second_is_conflict : IsConflict (pos 2 ∷ negsuc 0 ∷ []) second
-second_is_conflict l h = elim h [ inl e ↦ inr (inl e) | inr there ↦ elim there [ inl e ↦ inl e | inr none ↦ absurd none ] ]
 
 -- the hints of the unit clause under 5, where these literals are false
 abbrev pub JudgesFrom : List ℤ → List ℕ → History → Verdict → Type 0

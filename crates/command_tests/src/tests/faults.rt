@@ -28,7 +28,7 @@ fn assert_opened<T: Threads + Wait + Sync + Clock + Abort>(
     let (line, status, opened) = want;
     let mut files = shelf_of(alloc, formula, &["", ""])?;
     assert_fault(rt, alloc, words, &mut files, line, status)?;
-    assert_eq!(rt; files.opened.as_str(), opened, "{words:?}");
+    same(rt, (words, files.opened.as_str()), (words, opened));
     Ok(())
 }
 
@@ -145,7 +145,7 @@ fn assert_usage<T: Threads + Wait + Sync + Clock + Abort>(
     let mut files = shelf_of(alloc, FOUR, &[""])?;
     let ran = run_on(rt, alloc, words, &mut files, 0, 0);
     let found = (ran.status, ran.out.len(), files.opened.as_str());
-    assert_eq!(rt; found, (2, 0, ""), "{words:?}");
+    same(rt, (words, found), (words, (2, 0, "")));
     let err = String::from_utf8(ran.err).map_err(|_| Fail::from("no text"))?;
     let is_usage = err.contains(part) && !err.starts_with("lrupd: ");
     assert!(rt; is_usage, "{words:?}: {err}");
@@ -181,7 +181,7 @@ fn assert_unwritten<T: Threads + Wait + Sync + Clock + Abort>(
     let ran = run_on(rt, alloc, &["f", "1"], &mut files, fails_at, 0);
     let said = b"lrupd: cannot write report\n".as_slice();
     let found = (ran.out.as_slice(), ran.err.as_slice(), ran.status);
-    assert_eq!(rt; found, (out, said, 7), "write {fails_at}");
+    same(rt, (fails_at, found), (fails_at, (out, said, 7)));
     Ok(())
 }
 
@@ -214,11 +214,13 @@ fn status_and_bytes<T: Threads + Wait + Sync + Clock>(
 fn faults_that_are_not_said(rt: HostRuntime) -> Result<(), Fail> {
     for (fails_at, said) in [(1, 0), (2, 7), (3, 14)] {
         let usage = status_and_bytes(&rt, rt.alloc(), &["f"], 0, fails_at)?;
-        assert_eq!(rt; usage, (2, 0, said));
         let unread = status_and_bytes(&rt, rt.alloc(), &["no", "1"], 0, fails_at)?;
-        assert_eq!(rt; unread, (5, 0, said));
         let unwritten = status_and_bytes(&rt, rt.alloc(), &["f", "1"], 1, fails_at)?;
-        assert_eq!(rt; unwritten, (7, 0, said));
+        same(
+            &rt,
+            (usage, unread, unwritten),
+            ((2, 0, said), (5, 0, said), (7, 0, said)),
+        );
     }
     Ok(())
 }

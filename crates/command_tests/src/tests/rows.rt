@@ -1,8 +1,6 @@
 //! The worked rows: words, formula and streams, and the report and the status that they end with.
 use super::*;
-use std::io;
-use std::sync::atomic::{AtomicUsize, Ordering};
-use std::time::Duration;
+use test_support::Sleeps;
 
 /// A run: its words, where `f` is the formula and `1`, `2` and so on are the streams.
 #[derive(Clone, Copy)]
@@ -271,50 +269,27 @@ s UNKNOWN
     assert_row(&rt, rt.alloc(), &row)
 }
 
-/// A clock that counts the sleeps.
-#[derive(Drop)]
-struct Sleeps {
-    count: AtomicUsize,
-}
-
-impl Clock for Sleeps {
-    fn monotonic(&self) -> io::Result<Duration> {
-        Ok(Duration::from_micros(0))
-    }
-
-    fn since_1970(&self) -> io::Result<Duration> {
-        Ok(Duration::from_micros(0))
-    }
-
-    fn sleep(&self, duration: Duration) {
-        if duration.as_nanos() == 1_000 {
-            self.count.fetch_add(1, Ordering::SeqCst);
-        }
-    }
-}
-
-/// The status of a run that cites a clause which never comes, and how often it slept a microsecond.
+/// The status of a run that cites a clause which never comes, and how often it slept a microsecond, and another while.
 fn sleeps_of<T: Threads + Wait + Sync + Abort>(
     rt: &T,
     alloc: Global,
     tries: &str,
-) -> Result<(u8, usize), Fail> {
+) -> Result<(u8, (u64, u64)), Fail> {
     let mut files = shelf_of(alloc, FOUR, &["5 0 6 0\n", ""])?;
-    let clock = Sleeps {
-        count: AtomicUsize::new(0),
-    };
+    let clock = Sleeps::new();
     let mut out = Paper::new(alloc, 7, 0);
     let mut err = Paper::new(alloc, 7, 0);
     let words = [tries, "f", "1", "2"];
     let status = command(rt, &clock, alloc, &words, &mut files, &mut out, &mut err);
-    Ok((status, clock.count.load(Ordering::SeqCst)))
+    Ok((status, clock.counts()))
 }
 
 /// A hint that never comes is looked up as often again as `--tries` says, a microsecond later each time.
 #[test]
 fn tries_are_those_of_the_words(rt: HostRuntime) -> Result<(), Fail> {
     for (tries, sleeps) in [("--tries=0", 0), ("--tries=3", 3), ("--tries=17", 17)] {
-        assert_eq!(rt; sleeps_of(&rt, rt.alloc(), tries)?, (3, sleeps), "{tries}");
+        let found = sleeps_of(&rt, rt.alloc(), tries)?;
+        same(&rt, (tries, found), (tries, (3, (sleeps, 0))));
     }
     Ok(())
 }

@@ -12,11 +12,9 @@ use std::process::Abort;
 use std::sync::Wait;
 use std::sync::atomic::{AtomicBool, AtomicU64, Ordering};
 use std::test::Fail;
-use std::thread::Threads;
-use std::time::{Clock, Duration};
-use std::{io, thread};
+use std::thread::{self, Threads};
 use stream_check::{Ending, Fault, Gate, Report};
-use test_support::{Pieces, four_clauses, holds, same};
+use test_support::{Pieces, Sleeps, four_clauses, holds, same};
 
 /// A gate for each stream.
 fn gates_of<G: Copy>(alloc: Global, gate: G, count: usize) -> Result<Vec<G>, AllocError>
@@ -325,41 +323,12 @@ fn a_vacant_hint_is_tried_again(rt: HostRuntime) -> Result<(), Fail> {
     Ok(())
 }
 
-/// A clock that counts the sleeps of one microsecond, and all others.
-#[derive(Drop)]
-struct Sleeps {
-    micros: AtomicU64,
-    others: AtomicU64,
-}
-
-impl Clock for Sleeps {
-    fn monotonic(&self) -> io::Result<Duration> {
-        Ok(Duration::from_micros(0))
-    }
-
-    fn since_1970(&self) -> io::Result<Duration> {
-        Ok(Duration::from_micros(0))
-    }
-
-    fn sleep(&self, duration: Duration) {
-        if duration.as_nanos() == 1_000 {
-            self.micros.fetch_add(1, Ordering::SeqCst);
-        } else {
-            self.others.fetch_add(1, Ordering::SeqCst);
-        }
-    }
-}
-
 #[test]
 fn a_pause_sleeps_before_later_attempts(rt: HostRuntime) -> Result<(), Fail> {
-    let clock = Sleeps {
-        micros: AtomicU64::new(0),
-        others: AtomicU64::new(0),
-    };
+    let clock = Sleeps::new();
     let gates = vec![in rt.alloc(); Pause::new(&clock), Pause::new(&clock)]?;
     run_missing(&rt, rt.alloc(), gates)?;
-    same(&rt, clock.micros.load(Ordering::SeqCst), 3);
-    same(&rt, clock.others.load(Ordering::SeqCst), 0);
+    same(&rt, clock.counts(), (3, 0));
     Ok(())
 }
 

@@ -1,36 +1,11 @@
-use Rattle.std.proofs.Common.{◌≡◌, ℕ, ℤ, pos, negsuc, neg_ℤ, nat_abs, [], ◌∷◌, refl, sym, ap, ◌∙◌, inl, inr, arith}
-use Rattle.lrup_model.specs.Clause.{Has, IsTautology}
+use Rattle.std.proofs.Common.{◌≡◌, ℤ, pos, negsuc, neg_ℤ, nat_abs, [], ◌∷◌, refl, sym, ap, ◌∙◌, inl, inr, arith}
 use Rattle.lrup_model.specs.Propagation.{IsUnit}
-use Rattle.test_support.specs.Worked.{first, second, third, unit}
+use Rattle.test_support.specs.Worked.{second, third, unit}
+use Rattle.test_support.specs.WorkedLemmas.{two_not_one, signs, unit_is_proper, first_is_unit, second_is_conflict, swapped}
 use Rattle.lrup_model_tests.proofs.tests.hints_are_judged.Goals as goal
-
--- literals that are two
-two_not_one : pos 2 ≡ pos 1 → ⊥
-two_not_one e = let same : 2 ≡ 1 = ap nat_abs e in omega (arith, same)
 
 minus_two_not_minus_one : negsuc 1 ≡ negsuc 0 → ⊥
 minus_two_not_minus_one e = let same : 2 ≡ 1 = ap nat_abs e in omega (arith, same)
-
-signs : (m n : ℕ) → pos m ≡ negsuc n → ⊥
-signs m n e = cc
-
-unit_is_proper : IsTautology unit → ⊥
-unit_is_proper t =
-    elim t.1 [
-      | inl here ↦ elim t.2 [
-        | inl beside ↦ signs 2 1 (beside ∙ ap neg_ℤ (sym here))
-        | inr none ↦ none
-      ]
-      | inr none ↦ none
-    ]
-
-first_is_unit : IsUnit unit first (pos 1)
-first_is_unit = record {
-  here = inl refl;
-  not_false = λ h. elim h [ inl e ↦ two_not_one e | inr none ↦ none ];
-  not_true = λ h. elim h [ inl e ↦ signs 2 0 e | inr none ↦ none ];
-  others = λ k h. elim h [ inl e ↦ inl (sym e) | inr there ↦ inr there ];
-}
 
 unit_is_unit : IsUnit [] unit (pos 2)
 unit_is_unit = record {
@@ -48,12 +23,8 @@ third_is_unit = record {
   others = λ k h. elim h [ inl e ↦ inl (sym e) | inr there ↦ inr there ];
 }
 
--- the two literals in the other order
-swapped : (x y l : ℤ) → Has (x ∷ y ∷ []) l → Has (y ∷ x ∷ []) l
-swapped x y l h = elim h [ inl e ↦ inr (inl e) | inr there ↦ elim there [ inl e ↦ inl e | inr none ↦ absurd none ] ]
-
 pub returns-clause-shown : goal.returns-clause-shown
-returns-clause-shown c = (unit_is_proper, (pos 1, first_is_unit, swapped (negsuc 0) (pos 2)))
+returns-clause-shown c = (unit_is_proper, (pos 1, first_is_unit, second_is_conflict))
 
 pub returns-clause-empty : goal.returns-clause-empty
 returns-clause-empty c = (λ t. t.1, (pos 2, unit_is_unit, (pos 1, third_is_unit, swapped (negsuc 0) (negsuc 1))))

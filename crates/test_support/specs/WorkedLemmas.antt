@@ -1,0 +1,33 @@
+-- Hints of the worked formula.
+use Rattle.std.specs.Prelude.{◌≡◌, ℕ, ℤ, pos, negsuc, neg_ℤ, nat_abs, [], ◌∷◌}
+use Rattle.std.proofs.Common.{refl, sym, ap, ◌∙◌, inl, inr, arith}
+use Rattle.lrup_model.specs.Clause.{Has, IsTautology}
+use Rattle.lrup_model.specs.Propagation.{IsConflict, IsUnit}
+use Rattle.test_support.specs.Worked.{first, second, unit}
+
+pub two_not_one : pos 2 ≡ pos 1 → ⊥
+two_not_one e = let same : 2 ≡ 1 = ap nat_abs e in omega (arith, same)
+
+pub signs : (m n : ℕ) → pos m ≡ negsuc n → ⊥
+signs m n e = cc
+
+pub unit_is_proper : IsTautology unit → ⊥
+unit_is_proper t = elim t.1 [
+  | inl here ↦ elim t.2 [ inl beside ↦ signs 2 1 (beside ∙ ap neg_ℤ (sym here)) | inr none ↦ none ]
+  | inr none ↦ none
+]
+
+pub first_is_unit : IsUnit unit first (pos 1)
+first_is_unit = record {
+  here = inl refl;
+  not_false = λ h. elim h [ inl e ↦ two_not_one e | inr none ↦ none ];
+  not_true = λ h. elim h [ inl e ↦ signs 2 0 e | inr none ↦ none ];
+  others = λ k h. elim h [ inl e ↦ inl (sym e) | inr there ↦ inr there ];
+}
+
+-- the two literals in the other order
+pub swapped : (x y l : ℤ) → Has (x ∷ y ∷ []) l → Has (y ∷ x ∷ []) l
+swapped x y l h = elim h [ inl e ↦ inr (inl e) | inr there ↦ elim there [ inl e ↦ inl e | inr none ↦ absurd none ] ]
+
+pub second_is_conflict : IsConflict (pos 2 ∷ negsuc 0 ∷ []) second
+second_is_conflict = swapped (negsuc 0) (pos 2)
