@@ -1,4 +1,6 @@
 //! The one fault of a clause that is taken up.
+ghost use Rattle.std.specs.Prelude.{Some, codes};
+
 use std::error::Error;
 use std::fmt;
 
@@ -7,6 +9,8 @@ use std::fmt;
 pub struct Tautology;
 
 impl fmt::Display for Tautology {
+    ghost output = { λ _. Some (codes "tautology") };
+
     fn fmt<W: fmt::Write>(&self, f: &mut fmt::Formatter<W>) -> fmt::Result {
         f.write_str("tautology")
     }

@@ -1,9 +1,15 @@
-use Rattle.std.proofs.Common.{arith}
+use Rattle.std.proofs.Common.{refl, arith}
 use Rattle.portfolio.proofs.TurnsLemmas.{goes_twice, over_each, over_more, running_on}
 use Rattle.portfolio.proofs.serial.take_round.Goals as goal
 
 pub take_turn-going-requires-clause-running : goal.take_turn-going-requires-clause-running
 take_turn-going-requires-clause-running g c = running_on c.args.map.now c.loop-i.map c.args.workers.now c.loop-i.workers c.requires.running c.loop-i.invariant.runs
+
+pub loop-i-init : goal.loop-i-init
+loop-i-init g c = record {
+  runs = λ f p tries entries runs. runs;
+  over = λ none. (refl, λ k below. absurd (omega (arith, below)));
+}
 
 pub loop-i-preserved : goal.loop-i-preserved
 loop-i-preserved g c =
