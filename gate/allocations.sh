@@ -7,6 +7,9 @@
 # lrup_model: a push and an open take at most three allocations. Where one is refused nothing has changed, and the next
 # attempt succeeds, whichever it was.
 #
+# propagate: new marks take two allocations, and a thousand clauses that are taken up none: the third is the test's own, after
+# them all.
+#
 # stream_check: eleven allocations come before the first line of a stream that drops some twenty identities, and twelve more
 # while it is read, all for the set of these. Where one of the twelve is refused the stream is over, and its report counts
 # what came before.
@@ -95,7 +98,10 @@ seen() {
 }
 
 for n in 1 40 80; do program $n & done
+tests propagate 3 &
 wait
+
+want propagate 3 the_third_allocation_comes_after_all_clauses FAILED
 
 for n in 1 40; do
     seen $n 3 '^case=[a-z]+ run=ended status=6 '

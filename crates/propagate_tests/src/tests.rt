@@ -1,5 +1,7 @@
 //! What is taken up, the text of the one fault, and hints at a plain map.
 ghost use Rattle.std.specs.Prelude.{◌≡◌, IfOk, OnOk};
+ghost use Rattle.std.specs.List.{AllByRecursion};
+ghost use Rattle.lrup_model.specs.Literal.{IsLiteral};
 ghost use Rattle.lrup_model.specs.Plain.{formula_of};
 
 use lrup_model::{ClauseMap, Fetched, Formula, Layout, Lit, PlainMap};
@@ -36,6 +38,28 @@ fn the_most_variables_fit(rt: HostRuntime) -> Result<(), Fail> {
     marks.begin(&[not_last])?;
     same(&rt, marks.clause(), [not_last].as_slice());
     same(&rt, marks.begin(&[last, not_last]), Err(Tautology));
+    Ok(())
+}
+
+/// Clauses in turn take no memory: `new` makes two allocations, and the third is the one after the last clause. The gate
+/// refuses that one, and this test has to fail then.
+#[test]
+fn the_third_allocation_comes_after_all_clauses(rt: HostRuntime) -> Result<(), Fail> {
+    let mut marks = Marks::new(rt.alloc(), 3)?;
+    let clause = [lit(1)?, lit(2)?, lit(-3)?, lit(1)?];
+    begin_often(&mut marks, &clause)?;
+    same(&rt, marks.clause().len(), 3);
+    let _third: Vec<u8> = Vec::with_capacity(rt.alloc(), 1)?;
+    Ok(())
+}
+
+/// Takes the clause up a thousand times.
+fn begin_often(marks: &mut Marks, clause: &[Lit]) -> Result<(), Tautology>
+    requires { AllByRecursion (IsLiteral marks.old.vars) clause.now }
+{
+    for _ in 0..1_000 {
+        marks.begin(clause)?;
+    }
     Ok(())
 }
 
