@@ -1,5 +1,5 @@
 //! Passes of one store, in turn and on threads of their own.
-ghost use Rattle.std.specs.Prelude.{◌≡◌, ◌-◌, ◌<◌, ◌≤◌, ◌∷◌, [], pos, neg_ℤ, IfOk, IfSome};
+ghost use Rattle.std.specs.Prelude.{◌≡◌, ◌-◌, ◌<◌, ◌≤◌, ◌∷◌, [], pos, neg_ℤ, IfOk, IfSome, IsTrue};
 ghost use Rattle.lrup_model.specs.Event.{History};
 ghost use Rattle.lrup_model.specs.History.{IsPublishable};
 ghost use Rattle.lrup_model.specs.Layout.{IsStream};
@@ -15,11 +15,24 @@ use lrup_model::{
     ClauseMap, Clip, Fetched, Formula, Id, Layout, Lit, PlainMap, Published, Retired,
 };
 use std::alloc::{AllocError, Global};
+use std::fmt;
 use std::process::Abort;
 use std::sync::atomic::{AtomicU64, Ordering};
 use std::test::Fail;
 use std::thread::{Threads, for_each_mut, join, yield_now};
-use test_support::{four_clauses, holds, lit, same};
+use test_support::{four_clauses, lit};
+
+/// Stops the test where two values differ: an assertion that is proved once for all tests.
+fn same<T: PartialEq + fmt::Debug + Drop>(rt: &impl Abort, value: T, wanted: T) {
+    assert_eq!(rt; value, wanted);
+}
+
+/// Stops the test where this doesn't hold.
+fn holds(rt: &impl Abort, fact: bool)
+    ensures { IsTrue fact }
+{
+    assert!(rt; fact);
+}
 
 /// A store of four clauses for two streams with so many identities and so much room each, and their passes.
 fn open_two(alloc: Global, identities: u64, room: u64) -> Result<(Store, Pass, Pass), Fail>

@@ -3,15 +3,21 @@ ghost use Rattle.std.specs.Prelude.{None, true, false};
 
 use command::{Files, OpenFault, command};
 use std::alloc::Global;
+use std::fmt;
 use std::process::Abort;
 use std::sync::Wait;
 use std::test::Fail;
 use std::thread::Threads;
 use std::time::Clock;
-use test_support::{Paper, Pieces, same};
+use test_support::{Paper, Pieces};
 
 mod faults;
 mod rows;
+
+/// Stops the test where two values differ: an assertion that is proved once for all tests.
+fn same<T: PartialEq + fmt::Debug + Drop>(rt: &impl Abort, value: T, wanted: T) {
+    assert_eq!(rt; value, wanted);
+}
 
 /// 1 2 0 / -1 2 0 / 1 -2 0 / -1 -2 0
 const FOUR: &str = "p cnf 2 4\n1 2 0\n-1 2 0\n1 -2 0\n-1 -2 0\n";

@@ -1,5 +1,5 @@
 //! The row word by word, two streams in turn, and two threads at once.
-ghost use Rattle.std.specs.Prelude.{◌≡◌, [], IfOk};
+ghost use Rattle.std.specs.Prelude.{◌≡◌, [], IfOk, IsTrue};
 ghost use Rattle.lrup_model.specs.History.{IsPublishable};
 ghost use Rattle.lrup_model.specs.Layout.{Fits};
 ghost use Rattle.test_support.specs.Worked.{four};
@@ -8,9 +8,23 @@ ghost use Rattle.idwords_tests.specs.Worked.{IsAt};
 use idwords::{LIVE, RETIRED, Row, Seat, len, start, state};
 use lrup_model::{Formula, Layout, Lit, Owner, Published, Retired};
 use std::alloc::{AllocError, Global};
+use std::fmt;
+use std::process::Abort;
 use std::test::Fail;
 use std::thread::join;
-use test_support::{four_clauses, holds, lit, same};
+use test_support::{four_clauses, lit};
+
+/// Stops the test where two values differ: an assertion that is proved once for all tests.
+fn same<T: PartialEq + fmt::Debug + Drop>(rt: &impl Abort, value: T, wanted: T) {
+    assert_eq!(rt; value, wanted);
+}
+
+/// Stops the test where this doesn't hold.
+fn holds(rt: &impl Abort, fact: bool)
+    ensures { IsTrue fact }
+{
+    assert!(rt; fact);
+}
 
 /// A row of one stream, and its seat.
 fn open_one(alloc: Global, formula: &Formula, layout: &Layout) -> Result<(Row, Seat), Fail>

@@ -1,5 +1,5 @@
 //! Worked values, texts, and each public call once.
-ghost use Rattle.std.specs.Prelude.{◌≡◌, ◌∷◌, ◌++◌, [], pos, negsuc, Some, None};
+ghost use Rattle.std.specs.Prelude.{◌≡◌, ◌∷◌, ◌++◌, [], pos, negsuc, Some, None, IsTrue};
 ghost use Rattle.lrup_model.specs.Entailment.{IsUnsatisfiable};
 ghost use Rattle.lrup_model.specs.Event.{History, vacant, fetch, publish, spent};
 ghost use Rattle.lrup_model.specs.History.{IsLegal};
@@ -13,9 +13,22 @@ use lrup_model::{
     ClauseMap, Clip, Fetched, Formula, Id, Layout, LayoutFault, Lit, Owner, PlainMap, Published,
     Retired,
 };
+use std::fmt;
 use std::process::Abort;
 use std::test::Fail;
-use test_support::{four_clauses, holds, lit, same};
+use test_support::{four_clauses, lit};
+
+/// Stops the test where two values differ: an assertion that is proved once for all tests.
+fn same<T: PartialEq + fmt::Debug + Drop>(rt: &impl Abort, value: T, wanted: T) {
+    assert_eq!(rt; value, wanted);
+}
+
+/// Stops the test where this doesn't hold.
+fn holds(rt: &impl Abort, fact: bool)
+    ensures { IsTrue fact }
+{
+    assert!(rt; fact);
+}
 
 #[test]
 fn literals_have_a_limit(rt: HostRuntime) -> Result<(), Fail> {

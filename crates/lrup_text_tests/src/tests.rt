@@ -1,15 +1,27 @@
 // Reading texts that were spelled by hand, in every cutting, and writing.
-ghost use Rattle.std.specs.Prelude.{◌≡◌, Some, IfOk};
+ghost use Rattle.std.specs.Prelude.{◌≡◌, Some, IfOk, IsTrue};
 
 use lrup_text::{
     End, Line, LineFault, LineReader, ReadFault, Reading, Sink, Source, Turn, WriteBuffer,
     WriteFault, Writing, write_all, write_line,
 };
 use std::alloc::Global;
-use std::io;
 use std::process::Abort;
 use std::test::Fail;
-use test_support::{Paper, holds, same};
+use std::{fmt, io};
+use test_support::Paper;
+
+/// Stops the test where two values differ: an assertion that is proved once for all tests.
+fn same<T: PartialEq + fmt::Debug + Drop>(rt: &impl Abort, value: T, wanted: T) {
+    assert_eq!(rt; value, wanted);
+}
+
+/// Stops the test where this doesn't hold.
+fn holds(rt: &impl Abort, fact: bool)
+    ensures { IsTrue fact }
+{
+    assert!(rt; fact);
+}
 
 /// Feeds the bytes in two pieces, cut at a place, and then the end.
 fn feed_cut(

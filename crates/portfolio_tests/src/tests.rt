@@ -1,5 +1,5 @@
 // The texts of a report, and sinks that fail; and what the runs of both modules are given.
-ghost use Rattle.std.specs.Prelude.{◌≡◌, ◌≤◌, false, IfOk};
+ghost use Rattle.std.specs.Prelude.{◌≡◌, ◌≤◌, false, IfOk, IsTrue};
 ghost use Rattle.std.specs.List.{AllByRecursion};
 ghost use Rattle.portfolio.specs.Outcomes.{max_tries};
 
@@ -7,13 +7,26 @@ use lrup_model::{Id, LayoutFault};
 use lrup_text::{LineFault, Sink, WriteFault};
 use portfolio::{Options, RunFault, Verdict, write_report};
 use std::alloc::{AllocError, Global};
+use std::fmt;
 use std::process::Abort;
 use std::test::Fail;
 use stream_check::{Ending, Fault, Gate, Report};
-use test_support::{Paper, Pieces, holds, same};
+use test_support::{Paper, Pieces};
 
 mod serial;
 mod threads;
+
+/// Stops the test where two values differ: an assertion that is proved once for all tests.
+fn same<T: PartialEq + fmt::Debug + Drop>(rt: &impl Abort, value: T, wanted: T) {
+    assert_eq!(rt; value, wanted);
+}
+
+/// Stops the test where this doesn't hold.
+fn holds(rt: &impl Abort, fact: bool)
+    ensures { IsTrue fact }
+{
+    assert!(rt; fact);
+}
 
 /// A gate that does nothing.
 #[derive(Clone, Copy)]

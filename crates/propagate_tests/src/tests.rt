@@ -1,5 +1,5 @@
 //! What is taken up, the text of the one fault, and hints at a plain map.
-ghost use Rattle.std.specs.Prelude.{◌≡◌, IfOk, OnOk};
+ghost use Rattle.std.specs.Prelude.{◌≡◌, IfOk, OnOk, IsTrue};
 ghost use Rattle.std.specs.List.{AllByRecursion};
 ghost use Rattle.lrup_model.specs.Literal.{IsLiteral};
 ghost use Rattle.lrup_model.specs.Plain.{formula_of};
@@ -7,8 +7,21 @@ ghost use Rattle.lrup_model.specs.Plain.{formula_of};
 use lrup_model::{ClauseMap, Fetched, Formula, Layout, Lit, PlainMap};
 use propagate::{Marks, Step, Tautology};
 use std::alloc::Global;
+use std::fmt;
+use std::process::Abort;
 use std::test::Fail;
-use test_support::{holds, same};
+
+/// Stops the test where two values differ: an assertion that is proved once for all tests.
+fn same<T: PartialEq + fmt::Debug + Drop>(rt: &impl Abort, value: T, wanted: T) {
+    assert_eq!(rt; value, wanted);
+}
+
+/// Stops the test where this doesn't hold.
+fn holds(rt: &impl Abort, fact: bool)
+    ensures { IsTrue fact }
+{
+    assert!(rt; fact);
+}
 
 fn lit(value: i64) -> Result<Lit, Fail>
     ensures { IfOk result (λ l. l ≡ value) }

@@ -10,15 +10,21 @@ ghost use Rattle.stream_check_tests.specs.Opened.{IsOpened};
 use lrup_model::{ClauseMap, Id, Layout, PlainMap};
 use lrup_text::LineFault;
 use std::alloc::Global;
+use std::fmt;
 use std::process::Abort;
 use std::test::Fail;
 use stream_check::laws::ready_new;
 use stream_check::{Checker, Ending, Fault, Gate, Report, Turn};
-use test_support::{four_clauses, same};
+use test_support::four_clauses;
 
 mod late_map;
 mod memory;
 mod two_streams;
+
+/// Stops the test where two values differ: an assertion that is proved once for all tests.
+fn same<T: PartialEq + fmt::Debug + Drop>(rt: &impl Abort, value: T, wanted: T) {
+    assert_eq!(rt; value, wanted);
+}
 
 /// What a gate was told.
 #[derive(Clone, Copy, Debug, PartialEq, Eq)]

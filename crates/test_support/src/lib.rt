@@ -1,12 +1,10 @@
-//! What the tests of several crates use: assertions, the worked formula, a reader and a writer that fail at a call, and a clock.
+//! What the tests of several crates use: the worked formula, a reader and a writer that fail at a call, and a clock.
 #![tactic(auto)]
 
-mod asserting;
 mod clock;
 mod devices;
 mod formula;
 
-pub use asserting::{holds, same};
 pub use clock::Sleeps;
 pub use devices::{Paper, Pieces};
 pub use formula::{four_clauses, lit};

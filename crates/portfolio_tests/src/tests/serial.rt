@@ -2,7 +2,7 @@
 ghost use Rattle.std.specs.Prelude.{◌≡◌, Some, None, false};
 ghost use Rattle.std.specs.List.{AllByRecursion};
 
-use super::{CITING, Open, defaults, options, readers_of};
+use super::{CITING, Open, defaults, holds, options, readers_of, same};
 use lrup_model::{Formula, Id, LayoutFault};
 use lrup_text::{ReadFault, Source};
 use portfolio::{Options, RunFault, SerialOutcome, run_serial, write_report};
@@ -12,7 +12,7 @@ use std::process::Abort;
 use std::sync::Wait;
 use std::test::Fail;
 use stream_check::Gate;
-use test_support::{Paper, Pieces, four_clauses, holds, same};
+use test_support::{Paper, Pieces, four_clauses};
 
 /// A run over the four clauses.
 fn run_pieces<'a, W: Wait>(

@@ -3,7 +3,7 @@
 ghost use Rattle.std.specs.Prelude.{◌≡◌, false, IfOk, vec_len};
 ghost use Rattle.std.specs.List.{AllByRecursion};
 
-use super::{CITING, Open, bad_line, defaults, options, readers_of, report};
+use super::{CITING, Open, bad_line, defaults, holds, options, readers_of, report, same};
 use lrup_model::{Id, LayoutFault};
 use lrup_text::Source;
 use portfolio::{Options, Outcome, Pause, RunFault, Verdict, run};
@@ -14,7 +14,7 @@ use std::sync::atomic::{AtomicBool, AtomicU64, Ordering};
 use std::test::Fail;
 use std::thread::{self, Threads};
 use stream_check::{Ending, Fault, Gate, Report};
-use test_support::{Pieces, Sleeps, four_clauses, holds, same};
+use test_support::{Pieces, Sleeps, four_clauses};
 
 /// A gate for each stream.
 fn gates_of<G: Copy>(alloc: Global, gate: G, count: usize) -> Result<Vec<G>, AllocError>

@@ -5,14 +5,14 @@ ghost use Rattle.lrup_model.specs.Place.{Tells};
 ghost use Rattle.lrup_model.specs.Plain.{PlainMoves, formula_of, free_at, plain_place};
 ghost use Rattle.test_support.specs.Worked.{four};
 
-use super::{Told, checker_at, feed_cut, open_map, told_of};
+use super::{Told, checker_at, feed_cut, open_map, same, told_of};
 use lrup_model::{ClauseMap, Clip, Fetched, Id, Lit, Owner, PlainMap, Published, Retired};
 use lrup_text::LineFault;
 use std::alloc::Global;
 use std::process::Abort;
 use std::test::Fail;
 use stream_check::{Ending, Fault};
-use test_support::{lit, same};
+use test_support::lit;
 
 /// When stream 2 publishes `-2` under identity 6.
 #[derive(Clone, Copy, Debug, PartialEq, Eq)]

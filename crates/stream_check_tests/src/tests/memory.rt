@@ -3,12 +3,11 @@
 ghost use Rattle.std.specs.Prelude.{IsSome};
 ghost use Rattle.stream_check.specs.Checker.{IsReadyAt};
 
-use super::{checker_at, open_map, said_of, told_of};
+use super::{checker_at, open_map, said_of, same, told_of};
 use lrup_model::ClauseMap;
 use std::process::Abort;
 use std::test::Fail;
 use stream_check::{Checker, Ending, Report, Turn};
-use test_support::same;
 
 /// Each line but the first deletes one identity more that is kept, and the second an own one before it: where line `L` is
 /// the one that wants memory, `L - 1` identities were deleted before.

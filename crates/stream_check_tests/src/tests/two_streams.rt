@@ -5,13 +5,12 @@ ghost use Rattle.lrup_model.specs.Layout.{IsStream};
 ghost use Rattle.lrup_model.specs.Plain.{PlainMoves, plain_place};
 ghost use Rattle.stream_check.specs.Checker.{IsReadyAt};
 
-use super::{Told, checker_at, feed_whole, open_map, said_of, told_of};
+use super::{Told, checker_at, feed_whole, open_map, said_of, same, told_of};
 use lrup_model::PlainMap;
 use std::alloc::Global;
 use std::test::Fail;
 use stream_check::laws::ready_beside;
 use stream_check::{Checker, Ending, Fault, Report};
-use test_support::same;
 
 /// The checkers of streams 1 and 2, their gates, and their map.
 #[derive(Drop)]
