@@ -2,6 +2,7 @@
 ghost use Rattle.std.specs.Prelude.{None, true, false};
 
 use command::{Files, OpenFault, command};
+use lrup_text::{ReadFault, Source};
 use std::alloc::Global;
 use std::fmt;
 use std::process::Abort;
@@ -21,6 +22,24 @@ fn same<T: PartialEq + fmt::Debug + Drop>(rt: &impl Abort, value: T, wanted: T) 
 
 /// 1 2 0 / -1 2 0 / 1 -2 0 / -1 -2 0
 const FOUR: &str = "p cnf 2 4\n1 2 0\n-1 2 0\n1 -2 0\n-1 -2 0\n";
+
+/// An open file, which comes three bytes a read. As one of the machine it doesn't tell its bytes.
+#[derive(Drop)]
+struct OpenFile<'a>(Pieces<'a>);
+
+impl Source for OpenFile<'_> {
+    ghost left = { λ _. None };
+
+    ghost has_failed = { λ f. f.0.failed };
+
+    fn read(&mut self, buffer: &mut [u8]) -> Result<usize, ReadFault> {
+        self.0.read(buffer)
+    }
+
+    fn failed(&self) -> bool {
+        self.0.failed()
+    }
+}
 
 /// A file of the shelf.
 #[derive(Clone, Copy)]
@@ -52,18 +71,18 @@ impl Shelf<'_> {
 }
 
 impl<'a> Files for Shelf<'a> {
-    type Input = Pieces<'a>;
+    type Input = OpenFile<'a>;
 
     ghost tells = { λ _ _. None };
 
     ghost may_refuse = { λ _ _. true };
 
-    fn open(&mut self, path: &str) -> Result<Pieces<'a>, OpenFault> {
+    fn open(&mut self, path: &str) -> Result<OpenFile<'a>, OpenFault> {
         if self.is_full || self.opened.push_str(path).is_err() || self.opened.push(' ').is_err() {
             return Err(OpenFault::Memory);
         }
         match self.entries.iter().find(|entry| entry.path == path) {
-            Some(entry) => Ok(Pieces::new(entry.text, 3, entry.fails_at)),
+            Some(entry) => Ok(OpenFile(Pieces::new(entry.text, 3, entry.fails_at))),
             None => Err(OpenFault::NotOpened),
         }
     }

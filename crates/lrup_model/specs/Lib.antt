@@ -25,3 +25,4 @@ pub mod EntryLemmas
 pub mod EntailmentLemmas
 pub mod PassLemmas
 pub mod RestrictionLemmas
+pub mod CallerLemmas

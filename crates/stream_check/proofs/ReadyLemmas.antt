@@ -1,14 +1,13 @@
 -- Where a checker may be fed: at a map that was just opened, and still after other streams' calls.
-use Rattle.std.proofs.Common.{◌≡◌, ◌≢◌, ◌∷◌, [], ℕ, sym, ap, ap₂, subst, ◌∙◌}
-use Rattle.std.specs.List.{AllByRecursion}
+use Rattle.std.proofs.Common.{ℕ, sym, ap, ap₂, subst, ◌∙◌}
 use Rattle.lrup_model.specs.Formula.{Cnf}
 use Rattle.lrup_model.specs.Layout.{LayoutValue, Owns}
-use Rattle.lrup_model.specs.Event.{History, stream_of}
 use Rattle.lrup_model.specs.State.{State}
 use Rattle.lrup_model.specs.Place.{Caller}
 use Rattle.lrup_model.specs.Plain.{plain_place}
 use Rattle.lrup_model.specs.Laws.{VacantAboveStays}
 use Rattle.lrup_model.specs.HistoryLemmas.{opening-owned}
+use Rattle.lrup_model.specs.CallerLemmas.{calls_differ}
 use Rattle.stream_check.specs.Setting.{Setting}
 use Rattle.stream_check.specs.Laws.{ReadyNew, ReadyStays, ReadyBeside}
 
@@ -33,11 +32,6 @@ ready_stays law v p q es ready same legal others own =
       vacant = λ id owns above. own id (before id owns)
           ∙ law p.caller.formula p.caller.layout p.own es p.caller.stream v.last legal others ready.vacant id (before id owns) above;
     }
-
--- calls of one stream are none of another
-pub calls_differ : (s t : ℕ) (es : History) → t ≢ s → AllByRecursion (λ e. stream_of e ≡ t) es → AllByRecursion (λ e. stream_of e ≢ s) es
-calls_differ s t [] other all = tt
-calls_differ s t (e ∷ es) other all = (λ is. other (sym all.0 ∙ is), calls_differ s t es other all.1)
 
 pub ready_beside : VacantAboveStays → ReadyBeside
 ready_beside law v old new t es ready moves other =

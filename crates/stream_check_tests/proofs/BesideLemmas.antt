@@ -12,8 +12,8 @@ use Rattle.lrup_model.specs.Desk.{map_of, stream_at, desk_place, DeskMoves}
 use Rattle.lrup_model.specs.declared.clause_map.Fetched.{Fetched}
 use Rattle.lrup_model.specs.declared.plain_map.PlainDesk.{PlainDesk}
 use Rattle.lrup_model.specs.HistoryLemmas.{run-others}
+use Rattle.lrup_model.specs.CallerLemmas.{calls_differ}
 use Rattle.stream_check_tests.specs.TellsLemmas.{tells_append}
-use Rattle.stream_check.proofs.ReadyLemmas.{calls_differ}
 
 -- the calls of stream t are none of stream s
 pub tells_beside : (old new : Plain) (s t : ℕ) (es : History) → 0 < s → s ≢ t → PlainMoves old new t es → Tells (plain_place old s) (plain_place new s) []

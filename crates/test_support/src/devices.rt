@@ -1,5 +1,5 @@
 //! A reader and a writer that take few bytes a call, and fail at one.
-ghost use Rattle.std.specs.Prelude.{◌≡◌, None, false};
+ghost use Rattle.std.specs.Prelude.{◌≡◌, [], Some, false};
 
 use lrup_text::{ReadFault, Sink, Source, WriteFault};
 use std::alloc::Global;
@@ -21,7 +21,11 @@ pub struct Pieces<'a> {
 impl<'a> Pieces<'a> {
     /// Reads of at most `most` bytes; number `fails_at` fails, and none where that is 0.
     pub fn new(text: &'a str, most: usize, fails_at: usize) -> Pieces<'a>
-        ensures { result.failed ≡ false }
+        ensures left { result.left.now ≡ text.now }
+        ensures most { result.most ≡ most }
+        ensures fails_at { result.fails_at ≡ fails_at }
+        ensures reads { (result.reads ≡ 0) × (result.asked ≡ 0) }
+        ensures failed { result.failed ≡ false }
     {
         Pieces {
             left: text.as_bytes(),
@@ -35,7 +39,7 @@ impl<'a> Pieces<'a> {
 }
 
 impl Source for Pieces<'_> {
-    ghost left = { λ _. None };
+    ghost left = { λ s. Some s.left.now };
 
     ghost has_failed = { λ s. s.failed };
 
@@ -73,7 +77,11 @@ pub struct Paper {
 impl Paper {
     /// Writes of at most `most` bytes; number `fails_at` fails, and none where that is 0.
     pub fn new(alloc: Global, most: usize, fails_at: usize) -> Paper
-        ensures { result.failed ≡ false }
+        ensures bytes { result.bytes.items ≡ [] }
+        ensures most { result.most ≡ most }
+        ensures fails_at { result.fails_at ≡ fails_at }
+        ensures writes { result.writes ≡ 0 }
+        ensures failed { result.failed ≡ false }
     {
         Paper {
             bytes: Vec::new(alloc),
@@ -86,7 +94,7 @@ impl Paper {
 }
 
 impl Sink for Paper {
-    ghost written = { λ _. None };
+    ghost written = { λ p. Some p.bytes.items };
 
     ghost has_failed = { λ p. p.failed };
 

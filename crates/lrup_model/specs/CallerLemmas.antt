@@ -1,0 +1,10 @@
+-- Whose calls the events of a history are.
+use Rattle.std.specs.Prelude.{◌≡◌, ◌≢◌, ℕ, [], ◌∷◌}
+use Rattle.std.specs.List.{AllByRecursion}
+use Rattle.std.proofs.Common.{sym, ◌∙◌}
+use Rattle.lrup_model.specs.Event.{History, stream_of}
+
+-- calls of one stream are none of another
+pub calls_differ : (s t : ℕ) (es : History) → t ≢ s → AllByRecursion (λ e. stream_of e ≡ t) es → AllByRecursion (λ e. stream_of e ≢ s) es
+calls_differ s t [] other all = tt
+calls_differ s t (e ∷ es) other all = (λ is. other (sym all.0 ∙ is), calls_differ s t es other all.1)
