@@ -13,7 +13,7 @@ pub const FORMULA: &str = "The formula, a file in DIMACS CNF.";
 pub const STREAM: &str = "\
 The proofs, 1 to 64 files or pipes, one from each solver, in LRAT text
 without RAT steps: a line 'id literals 0 hints 0' derives a clause, a
-line 'id d ids 0' deletes clauses. With M clauses in the formula and N
+line 'lead d ids 0' deletes clauses. With M clauses in the formula and N
 streams, the first stream derives the clauses M+1, M+1+N, M+1+2N and
 so on, the second M+2, M+2+N and so on, each in rising order.";
 
@@ -26,14 +26,14 @@ cite each other, or where a report says 'missing'.";
 
 /// Of `--lines`.
 pub const LINES: &str = "\
-How many identities each stream has. Each takes 8 bytes.
-0 to 268,435,456, default 65,536. Raise it for streams that derive
-more clauses or leave gaps, or where a report says 'identity'.";
+How many identities each stream has. Each takes 8 bytes, 12 with
+--serial. 0 to 268,435,456, default 65,536. Raise it for streams that
+derive more clauses or leave gaps, or where a report says 'identity'.";
 
 /// Of `--room`.
 pub const ROOM: &str = "\
 How many literals the clauses that a stream derives may have together,
-deleted ones too. Each takes 8 bytes, in each stream.
+deleted ones too. Each takes 8 bytes in each stream, 4 with --serial.
 0 to 268,435,456, default 1,048,576. Raise it for streams with more or
 longer clauses, or where a report says 'no room'.";
 
