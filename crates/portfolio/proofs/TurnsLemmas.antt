@@ -25,7 +25,7 @@ use Rattle.stream_check.specs.Laws.{ReadyBeside}
 use Rattle.portfolio.proofs.EmptyLemmas.{sound_in_order}
 use Rattle.portfolio.proofs.WorkingLemmas.{not_over}
 use Rattle.portfolio.specs.Outcomes.{OptionsValue, layout_of}
-use Rattle.portfolio.specs.Streams.{Stream, IsTold, AreTold, JudgesStream, Block, blocks_of, events_in, IsBlockWithin, setting_of, AreJudged, IsOrdered}
+use Rattle.portfolio.specs.Streams.{Stream, IsTold, AreTold, JudgesStream, Block, blocks_of, events_in, IsBlockWithin, setting_of, AreJudged, IsOrdered, StandsOnStreams, Terms, terms_at}
 use Rattle.portfolio.specs.Working.{WorkerValue, WorksBy, Works, WorksOn, IsStarted}
 use Rattle.portfolio.specs.Turns.{HasRun, IsWorking, AreWorking, Runs, IsRunning, GoesOn, IsOver, AreOver, IsOverAt, AreStarted, HaveReports}
 
@@ -150,17 +150,17 @@ run_more f p blocks m n s bs has stream moves =
     }
 
 -- the worker whose turn it was
-working_on : (p : LayoutValue) (tries : ℕ) (blocks : List Block) (m n : Plain) (s : ℕ) (bs : List History) (entry : Option (List ℕ)) (w v : WorkerValue) → IsWorking p tries blocks m s entry w
-    → WorksOn w (free_at m s) bs v (free_at n s) → IsReadyAt v.checker (plain_place n s) → v.checker.setting ≡ w.checker.setting → IsWorking p tries (blocks ++ tagged s bs) n s entry v
-working_on p tries blocks m n s bs entry w v working on ready setting = record {
+working_on : (terms : Terms) (blocks : List Block) (m n : Plain) (s : ℕ) (bs : List History) (entry : Option (List ℕ)) (w v : WorkerValue) → IsWorking terms blocks m s entry w
+    → WorksOn w (free_at m s) bs v (free_at n s) → IsReadyAt v.checker (plain_place n s) → v.checker.setting ≡ w.checker.setting → IsWorking terms (blocks ++ tagged s bs) n s entry v
+working_on terms blocks m n s bs entry w v working on ready setting = record {
   setting = setting ∙ working.setting;
   works = subst (Works entry v (free_at n s)) (sym (blocks_more s blocks bs)) (on entry (blocks_of s blocks) working.works);
   ready = ready;
 }
 
 -- the other workers
-module _ (law : ReadyBeside) (p : LayoutValue) (tries : ℕ) (blocks : List Block) (m n : Plain) (s : ℕ) (bs : List History) (moves : PlainMoves m n s (joined bs)) where
-  working_beside : (t : ℕ) (entry : Option (List ℕ)) (w : WorkerValue) → 0 < t → s ≢ t → IsWorking p tries blocks m t entry w → IsWorking p tries (blocks ++ tagged s bs) n t entry w
+module _ (law : ReadyBeside) (terms : Terms) (blocks : List Block) (m n : Plain) (s : ℕ) (bs : List History) (moves : PlainMoves m n s (joined bs)) where
+  working_beside : (t : ℕ) (entry : Option (List ℕ)) (w : WorkerValue) → 0 < t → s ≢ t → IsWorking terms blocks m t entry w → IsWorking terms (blocks ++ tagged s bs) n t entry w
   working_beside t entry w positive other working =
       let stream : w.checker.setting.stream ≡ t = ap (λ (c : Setting). c.stream) working.setting in
       let here : IsReadyAt w.checker (plain_place m w.checker.setting.stream) = subst (λ k. IsReadyAt w.checker (plain_place m k)) (sym stream) working.ready in
@@ -171,7 +171,7 @@ module _ (law : ReadyBeside) (p : LayoutValue) (tries : ℕ) (blocks : List Bloc
         ready = subst (λ k. IsReadyAt w.checker (plain_place n k)) stream (law w.checker m n s (joined bs) here moves (λ is. other (is ∙ stream)));
       }
 
-  working_above : (k : ℕ) (entries : List (Option (List ℕ))) (ws : List WorkerValue) → s < k → AreWorking p tries blocks m k entries ws → AreWorking p tries (blocks ++ tagged s bs) n k entries ws
+  working_above : (k : ℕ) (entries : List (Option (List ℕ))) (ws : List WorkerValue) → s < k → AreWorking terms blocks m k entries ws → AreWorking terms (blocks ++ tagged s bs) n k entries ws
   working_above k [] [] above working = tt
   working_above k [] (w ∷ ws) above working = absurd working
   working_above k (entry ∷ entries) [] above working = absurd working
@@ -181,14 +181,14 @@ module _ (law : ReadyBeside) (p : LayoutValue) (tries : ℕ) (blocks : List Bloc
   -- the turn of the worker at place i, which is now v
   turn_at : (k i : ℕ) (entries : List (Option (List ℕ))) (ws : List WorkerValue) (d w v : WorkerValue) → 0 < k → s ≡ k + i → i < length ws → get_or ws i d ≡ w
       → WorksOn w (free_at m s) bs v (free_at n s) → IsReadyAt v.checker (plain_place n s) → v.checker.setting ≡ w.checker.setting
-      → AreWorking p tries blocks m k entries ws → AreWorking p tries (blocks ++ tagged s bs) n k entries (set ws i v)
+      → AreWorking terms blocks m k entries ws → AreWorking terms (blocks ++ tagged s bs) n k entries (set ws i v)
   turn_at k i [] [] d w v positive place within is on ready setting working = absurd (omega (arith, within))
   turn_at k i [] (x ∷ ws) d w v positive place within is on ready setting working = absurd working
   turn_at k i (entry ∷ entries) [] d w v positive place within is on ready setting working = absurd working
   turn_at k zero (entry ∷ entries) (x ∷ ws) d w v positive place within is on ready setting working =
       let here : s ≡ k = omega (arith, place) in
-      let mine : IsWorking p tries blocks m s entry w = subst (λ (y : WorkerValue). IsWorking p tries blocks m s entry y) is (subst (λ t. IsWorking p tries blocks m t entry x) (sym here) working.0) in (
-        subst (λ t. IsWorking p tries (blocks ++ tagged s bs) n t entry v) here (working_on p tries blocks m n s bs entry w v mine on ready setting),
+      let mine : IsWorking terms blocks m s entry w = subst (λ (y : WorkerValue). IsWorking terms blocks m s entry y) is (subst (λ t. IsWorking terms blocks m t entry x) (sym here) working.0) in (
+        subst (λ t. IsWorking terms (blocks ++ tagged s bs) n t entry v) here (working_on terms blocks m n s bs entry w v mine on ready setting),
         working_above (k + 1) entries ws (omega (arith, here)) working.1,
       )
   turn_at k (suc i) (entry ∷ entries) (x ∷ ws) d w v positive place within is on ready setting working = (
@@ -199,17 +199,17 @@ module _ (law : ReadyBeside) (p : LayoutValue) (tries : ℕ) (blocks : List Bloc
 -- ---- what a worker has before its turn
 
 -- the worker at place i, where they are counted on from k
-pub working_at : (p : LayoutValue) (tries : ℕ) (blocks : List Block) (m : Plain) (k i : ℕ) (entries : List (Option (List ℕ))) (ws : List WorkerValue) (d w : WorkerValue) → i < length ws → get_or ws i d ≡ w
-    → AreWorking p tries blocks m k entries ws → IsReadyAt w.checker (plain_place m (k + i))
-working_at p tries blocks m k i [] [] d w within is working = absurd (omega (arith, within))
-working_at p tries blocks m k i [] (x ∷ ws) d w within is working = absurd working
-working_at p tries blocks m k i (entry ∷ entries) [] d w within is working = absurd working
-working_at p tries blocks m k zero (entry ∷ entries) (x ∷ ws) d w within is working =
+pub working_at : (terms : Terms) (blocks : List Block) (m : Plain) (k i : ℕ) (entries : List (Option (List ℕ))) (ws : List WorkerValue) (d w : WorkerValue) → i < length ws → get_or ws i d ≡ w
+    → AreWorking terms blocks m k entries ws → IsReadyAt w.checker (plain_place m (k + i))
+working_at terms blocks m k i [] [] d w within is working = absurd (omega (arith, within))
+working_at terms blocks m k i [] (x ∷ ws) d w within is working = absurd working
+working_at terms blocks m k i (entry ∷ entries) [] d w within is working = absurd working
+working_at terms blocks m k zero (entry ∷ entries) (x ∷ ws) d w within is working =
     let place : k ≡ k + zero = omega arith in
     subst (λ t. IsReadyAt w.checker (plain_place m t)) place (subst (λ (y : WorkerValue). IsReadyAt y.checker (plain_place m k)) is working.0.ready)
-working_at p tries blocks m k (suc i) (entry ∷ entries) (x ∷ ws) d w within is working =
+working_at terms blocks m k (suc i) (entry ∷ entries) (x ∷ ws) d w within is working =
     let place : k + 1 + i ≡ k + suc i = omega arith in
-    subst (λ t. IsReadyAt w.checker (plain_place m t)) place (working_at p tries blocks m (k + 1) i entries ws d w (omega (arith, within)) is working.1)
+    subst (λ t. IsReadyAt w.checker (plain_place m t)) place (working_at terms blocks m (k + 1) i entries ws d w (omega (arith, within)) is working.1)
 
 -- the worker at this place isn't over
 pub going_at : (ws : List WorkerValue) (i : ℕ) (d e : WorkerValue) (over : Bool) → i < length ws
@@ -220,32 +220,32 @@ going_at ws i d e over within is going =
 -- the worker of stream i + 1 of a run, whatever run it is
 pub ready_at : (m : Plain) (ws : List WorkerValue) (i : ℕ) (d : WorkerValue) → IsRunning m ws → i < length ws → IsReadyAt (get_or ws i d).checker (plain_place m (i + 1))
 ready_at m ws i d running within =
-    let runs = running.4 in
-    let here = working_at running.1 running.2 runs.blocks m 1 i running.3 ws d (get_or ws i d) within refl runs.workers_are in
+    let runs = running.3 in
+    let here = working_at running.1 runs.blocks m 1 i running.2 ws d (get_or ws i d) within refl runs.workers_are in
     let place : 1 + i ≡ i + 1 = omega arith in
     subst (λ t. IsReadyAt (get_or ws i d).checker (plain_place m t)) place here
 
 -- a run goes on by a turn of the worker at place i
-pub runs_more : (law : ReadyBeside) (f : Cnf) (p : LayoutValue) (tries : ℕ) (entries : List (Option (List ℕ))) (m n : Plain) (ws : List WorkerValue) (i : ℕ) (d v : WorkerValue) (bs : List History)
+pub runs_more : (law : ReadyBeside) (f : Cnf) (terms : Terms) (entries : List (Option (List ℕ))) (m n : Plain) (ws : List WorkerValue) (i : ℕ) (d v : WorkerValue) (bs : List History)
     → i < length ws → PlainMoves m n (i + 1) (joined bs)
     → WorksOn (get_or ws i d) (free_at m (i + 1)) bs v (free_at n (i + 1)) → IsReadyAt v.checker (plain_place n (i + 1)) → v.checker.setting ≡ (get_or ws i d).checker.setting
-    → Runs f p tries entries m ws → Runs f p tries entries n (set ws i v)
-runs_more law f p tries entries m n ws i d v bs within moves on ready setting runs =
-    let count : length (set ws i v) ≡ p.streams = omega (arith, length-set {A = WorkerValue}, runs.count) in
+    → Runs f terms entries m ws → Runs f terms entries n (set ws i v)
+runs_more law f terms entries m n ws i d v bs within moves on ready setting runs =
+    let count : length (set ws i v) ≡ terms.layout.streams = omega (arith, length-set {A = WorkerValue}, runs.count) in
     record {
       count = count;
       blocks = runs.blocks ++ tagged (i + 1) bs;
-      map_is = run_more f p runs.blocks m n (i + 1) bs runs.map_is (omega arith, omega (arith, within, runs.count)) moves;
-      workers_are = turn_at law p tries runs.blocks m n (i + 1) bs moves 1 i entries ws d (get_or ws i d) v (omega arith) (omega arith) within refl on ready setting runs.workers_are;
+      map_is = run_more f terms.layout runs.blocks m n (i + 1) bs runs.map_is (omega arith, omega (arith, within, runs.count)) moves;
+      workers_are = turn_at law terms runs.blocks m n (i + 1) bs moves 1 i entries ws d (get_or ws i d) v (omega arith) (omega arith) within refl on ready setting runs.workers_are;
     }
 
 -- whatever run stood at the start stands after two stretches
 pub goes_twice : (a b c : Plain) (us vs ws : List WorkerValue) → GoesOn a us b vs → GoesOn b vs c ws → GoesOn a us c ws
-goes_twice a b c us vs ws front back f p tries entries runs = back f p tries entries (front f p tries entries runs)
+goes_twice a b c us vs ws front back f terms entries runs = back f terms entries (front f terms entries runs)
 
 -- so some run stands
 pub running_on : (a b : Plain) (us vs : List WorkerValue) → IsRunning a us → GoesOn a us b vs → IsRunning b vs
-running_on a b us vs running on = (running.0, running.1, running.2, running.3, on running.0 running.1 running.2 running.3 running.4)
+running_on a b us vs running on = (running.0, running.1, running.2, on running.0 running.1 running.2 running.3)
 
 -- one more stream was over, where all were
 pub over_more : (i : ℕ) (going turned : Bool) (first old new : List WorkerValue) → (going || turned) ≡ false
@@ -288,21 +288,21 @@ map_more {A} {B} {C} f h xs zs ys x y is before here =
 -- ---- before the first turn
 
 -- one worker more
-started_more : (p : LayoutValue) (tries k : ℕ) (entries : List (Option (List ℕ))) (ws : List WorkerValue) (entry : Option (List ℕ)) (w : WorkerValue)
-    → AreStarted p tries k entries ws → IsStarted p (k + length ws) tries entry w → AreStarted p tries k (entries ++ entry ∷ []) (ws ++ w ∷ [])
-started_more p tries k [] [] entry w started here = let place : k + 0 ≡ k = omega arith in (subst (λ s. IsStarted p s tries entry w) place here, tt)
-started_more p tries k [] (v ∷ ws) entry w started here = absurd started
-started_more p tries k (other ∷ entries) [] entry w started here = absurd started
-started_more p tries k (other ∷ entries) (v ∷ ws) entry w started here =
+started_more : (terms : Terms) (k : ℕ) (entries : List (Option (List ℕ))) (ws : List WorkerValue) (entry : Option (List ℕ)) (w : WorkerValue)
+    → AreStarted terms k entries ws → IsStarted terms (k + length ws) entry w → AreStarted terms k (entries ++ entry ∷ []) (ws ++ w ∷ [])
+started_more terms k [] [] entry w started here = let place : k + 0 ≡ k = omega arith in (subst (λ s. IsStarted terms s entry w) place here, tt)
+started_more terms k [] (v ∷ ws) entry w started here = absurd started
+started_more terms k (other ∷ entries) [] entry w started here = absurd started
+started_more terms k (other ∷ entries) (v ∷ ws) entry w started here =
     let place : k + length (v ∷ ws) ≡ k + 1 + length ws = omega arith in
-    (started.0, started_more p tries (k + 1) entries ws entry w started.1 (subst (λ s. IsStarted p s tries entry w) place here))
+    (started.0, started_more terms (k + 1) entries ws entry w started.1 (subst (λ s. IsStarted terms s entry w) place here))
 
-pub started_pushed : {X : Type 0} (p : LayoutValue) (tries s : ℕ) (f : X → Option (List ℕ)) (xs : List X) (x : X) (ws vs : List WorkerValue) (w : WorkerValue)
-    → vs ≡ ws ++ w ∷ [] → s ≡ length ws + 1 → AreStarted p tries 1 (map f xs) ws → IsStarted p s tries (f x) w → AreStarted p tries 1 (map f (xs ++ x ∷ [])) vs
-started_pushed {X} p tries s f xs x ws vs w pushed place started here =
+pub started_pushed : {X : Type 0} (terms : Terms) (s : ℕ) (f : X → Option (List ℕ)) (xs : List X) (x : X) (ws vs : List WorkerValue) (w : WorkerValue)
+    → vs ≡ ws ++ w ∷ [] → s ≡ length ws + 1 → AreStarted terms 1 (map f xs) ws → IsStarted terms s (f x) w → AreStarted terms 1 (map f (xs ++ x ∷ [])) vs
+started_pushed {X} terms s f xs x ws vs w pushed place started here =
     let next : s ≡ 1 + length ws = omega (arith, place) in
-    let more : AreStarted p tries 1 (map f xs ++ f x ∷ []) (ws ++ w ∷ []) = started_more p tries 1 (map f xs) ws (f x) w started (subst (λ k. IsStarted p k tries (f x) w) next here) in
-    subst (AreStarted p tries 1 (map f (xs ++ x ∷ []))) (sym pushed) (subst (λ entries. AreStarted p tries 1 entries (ws ++ w ∷ [])) (sym (map-append f xs (x ∷ []))) more)
+    let more : AreStarted terms 1 (map f xs ++ f x ∷ []) (ws ++ w ∷ []) = started_more terms 1 (map f xs) ws (f x) w started (subst (λ k. IsStarted terms k (f x) w) next here) in
+    subst (AreStarted terms 1 (map f (xs ++ x ∷ []))) (sym pushed) (subst (λ entries. AreStarted terms 1 entries (ws ++ w ∷ [])) (sym (map-append f xs (x ∷ []))) more)
 
 -- the first of the rest is the next of those that were taken
 pub taken_first : {X Y C : Type 0} (f : X → C) (h : Y → C) (xs : List X) (x : X) (ys zs : List Y) (y : Y) (all : List C) → ys ≡ y ∷ zs → f x ≡ h y → map f xs ++ map h ys ≡ all → map f (xs ++ x ∷ []) ++ map h zs ≡ all
@@ -310,11 +310,11 @@ taken_first {X} {Y} {C} f h xs x ys zs y all first same before =
     ap (λ (l : List C). l ++ map h zs) (map-append f xs (x ∷ [])) ∙ append_assoc (map f xs) (f x ∷ []) (map h zs)
     ∙ ap (λ (c : C). map f xs ++ (c ∷ map h zs)) same ∙ ap (λ (l : List Y). map f xs ++ map h l) (sym first) ∙ before
 
-count_started : (p : LayoutValue) (tries k : ℕ) (entries : List (Option (List ℕ))) (ws : List WorkerValue) → AreStarted p tries k entries ws → length ws ≡ length entries
-count_started p tries k [] [] started = refl
-count_started p tries k [] (w ∷ ws) started = absurd started
-count_started p tries k (entry ∷ entries) [] started = absurd started
-count_started p tries k (entry ∷ entries) (w ∷ ws) started = omega (arith, count_started p tries (k + 1) entries ws started.1)
+count_started : (terms : Terms) (k : ℕ) (entries : List (Option (List ℕ))) (ws : List WorkerValue) → AreStarted terms k entries ws → length ws ≡ length entries
+count_started terms k [] [] started = refl
+count_started terms k [] (w ∷ ws) started = absurd started
+count_started terms k (entry ∷ entries) [] started = absurd started
+count_started terms k (entry ∷ entries) (w ∷ ws) started = omega (arith, count_started terms (k + 1) entries ws started.1)
 
 -- a map before the first turn
 pub record IsOpened (f : Cnf) (p : LayoutValue) (m : Plain) : Type 0 where
@@ -328,7 +328,7 @@ module _ (f : Cnf) (p : LayoutValue) (m : Plain) (opened : IsOpened f p m) where
   room_opened : (s : ℕ) → IsStream p s → free_at m s ≡ p.room
   room_opened s stream = ap (λ (rooms : List ℕ). get_or rooms (s - 1) 0) opened.room ∙ get_or-replicate p.streams (s - 1) p.room 0 (omega (arith, stream.0, stream.1))
 
-  ready_opened : (tries s : ℕ) (entry : Option (List ℕ)) (w : WorkerValue) → IsStarted p s tries entry w → IsReadyAt w.checker (plain_place m s)
+  ready_opened : (tries s : ℕ) (entry : Option (List ℕ)) (w : WorkerValue) → IsStarted (terms_at p tries) s entry w → IsReadyAt w.checker (plain_place m s)
   ready_opened tries s entry w started = record {
     at = record {
       layout = opened.layout ∙ sym (ap (λ (c : Setting). c.layout) started.setting);
@@ -338,7 +338,7 @@ module _ (f : Cnf) (p : LayoutValue) (m : Plain) (opened : IsOpened f p m) where
         ap (λ (state : State). state id) opened.state ∙ opening-owned f p s id opened.fits (subst (λ (q : LayoutValue). Owns q s id) opened.layout owns);
   }
 
-  working_started : (tries k : ℕ) (entries : List (Option (List ℕ))) (ws : List WorkerValue) → 0 < k → k + length ws ≤ p.streams + 1 → AreStarted p tries k entries ws → AreWorking p tries [] m k entries ws
+  working_started : (tries k : ℕ) (entries : List (Option (List ℕ))) (ws : List WorkerValue) → 0 < k → k + length ws ≤ p.streams + 1 → AreStarted (terms_at p tries) k entries ws → AreWorking (terms_at p tries) [] m k entries ws
   working_started tries k [] [] positive within started = tt
   working_started tries k [] (w ∷ ws) positive within started = absurd started
   working_started tries k (entry ∷ entries) [] positive within started = absurd started
@@ -363,9 +363,9 @@ module _ (f : Cnf) (p : LayoutValue) (m : Plain) (opened : IsOpened f p m) where
   }
 
   -- a run before its first turn
-  pub runs_opened : (tries : ℕ) (entries : List (Option (List ℕ))) (ws : List WorkerValue) → length entries ≡ p.streams → AreStarted p tries 1 entries ws → Runs f p tries entries m ws
+  pub runs_opened : (tries : ℕ) (entries : List (Option (List ℕ))) (ws : List WorkerValue) → length entries ≡ p.streams → AreStarted (terms_at p tries) 1 entries ws → Runs f (terms_at p tries) entries m ws
   runs_opened tries entries ws count started =
-      let same : length ws ≡ p.streams = omega (arith, count_started p tries 1 entries ws started, count) in
+      let same : length ws ≡ p.streams = omega (arith, count_started (terms_at p tries) 1 entries ws started, count) in
       record {
         count = same;
         blocks = [];
@@ -381,66 +381,68 @@ told_over : (o : Option Ending) (ending : Ending) (entry : Option (List ℕ)) (w
 told_over o ending entry w free blocks is works = let at : WorksBy (Some ending) entry w free blocks = subst (λ e. WorksBy e entry w free blocks) is works in at
 
 -- each stream is what its reader told, and is judged by its blocks
-pub streams_over : (p : LayoutValue) (tries : ℕ) (blocks : List Block) (m : Plain) (k : ℕ) (entries : List (Option (List ℕ))) (ws : List WorkerValue) (reports : List Report)
-    → AreWorking p tries blocks m k entries ws → HaveReports ws reports
-    → (streams : List Stream) × AreTold entries (map (λ w. w.left) ws) (map (λ w. w.has_failed) ws) streams × AreJudged p tries (λ s. true) blocks k streams reports
-streams_over p tries blocks m k [] [] [] working have = ([], tt, tt)
-streams_over p tries blocks m k [] [] (r ∷ reports) working have = absurd have
-streams_over p tries blocks m k [] (w ∷ ws) reports working have = absurd working
-streams_over p tries blocks m k (entry ∷ entries) [] reports working have = absurd working
-streams_over p tries blocks m k (entry ∷ entries) (w ∷ ws) [] working have = absurd have
-streams_over p tries blocks m k (entry ∷ entries) (w ∷ ws) (r ∷ reports) working have =
-    let others = streams_over p tries blocks m (k + 1) entries ws reports working.1 have.1 in
+pub streams_over : (terms : Terms) (blocks : List Block) (m : Plain) (k : ℕ) (entries : List (Option (List ℕ))) (ws : List WorkerValue) (reports : List Report)
+    → AreWorking terms blocks m k entries ws → HaveReports ws reports
+    → (streams : List Stream) × AreTold entries (map (λ w. w.left) ws) (map (λ w. w.has_failed) ws) streams × AreJudged terms (λ s. true) blocks k streams reports
+streams_over terms blocks m k [] [] [] working have = ([], tt, tt)
+streams_over terms blocks m k [] [] (r ∷ reports) working have = absurd have
+streams_over terms blocks m k [] (w ∷ ws) reports working have = absurd working
+streams_over terms blocks m k (entry ∷ entries) [] reports working have = absurd working
+streams_over terms blocks m k (entry ∷ entries) (w ∷ ws) [] working have = absurd have
+streams_over terms blocks m k (entry ∷ entries) (w ∷ ws) (r ∷ reports) working have =
+    let others = streams_over terms blocks m (k + 1) entries ws reports working.1 have.1 in
     let told = told_over w.checker.ending have.0.0 entry w (free_at m k) (blocks_of k blocks) have.0.1 working.0.works in
-    let judged : JudgesStream (setting_of p tries k) told.0 (blocks_of k blocks) r =
+    let judged : JudgesStream (setting_of terms k) told.0 (blocks_of k blocks) r =
     subst (λ (c : Setting). JudgesStream c told.0 (blocks_of k blocks) r) working.0.setting
     (subst (λ (x : Report). JudgesStream w.checker.setting told.0 (blocks_of k blocks) x) (sym have.0.2) told.2) in
     (told.0 ∷ others.0, (told.1, others.1), (λ all. judged, others.2))
 
 -- the reports have an order of lines
-pub ordered_over : (f : Cnf) (p : LayoutValue) (tries : ℕ) (entries : List (Option (List ℕ))) (m : Plain) (ws : List WorkerValue) (reports : List Report) → Runs f p tries entries m ws → HaveReports ws reports
-    → (streams : List Stream) × AreTold entries (map (λ w. w.left) ws) (map (λ w. w.has_failed) ws) streams × IsOrdered f p tries (λ s. true) streams reports
-ordered_over f p tries entries m ws reports runs have =
-    let streams = streams_over p tries runs.blocks m 1 entries ws reports runs.workers_are have in (
+pub ordered_over : (f : Cnf) (terms : Terms) (entries : List (Option (List ℕ))) (m : Plain) (ws : List WorkerValue) (reports : List Report) → Runs f terms entries m ws → HaveReports ws reports
+    → (streams : List Stream) × AreTold entries (map (λ w. w.left) ws) (map (λ w. w.has_failed) ws) streams × IsOrdered f terms (λ s. true) streams reports
+ordered_over f terms entries m ws reports runs have =
+    let streams = streams_over terms runs.blocks m 1 entries ws reports runs.workers_are have in (
       streams.0,
       streams.1,
       record {
         blocks = runs.blocks;
         within = runs.map_is.within;
-        legal = record { events = runs.map_is.legal; room = within_room f p runs.blocks m runs.map_is };
+        legal = record { events = runs.map_is.legal; room = within_room f terms.layout runs.blocks m runs.map_is };
         judged = streams.2;
       },
     )
 
 -- where one of the reports says 'empty', no assignment makes every clause of the formula true
-sound_among : (f : Cnf) (p : LayoutValue) (tries : ℕ) (blocks : List Block) (k : ℕ) (streams : List Stream) (reports : List Report) → IsLegal f p (events_in blocks)
-    → AreJudged p tries (λ s. true) blocks k streams reports → IsTrue (list_any (λ report. report.empty) reports) → IsUnsatisfiable f
-sound_among f p tries blocks k [] [] legal judged some = absurd (let none : false ≡ true = some in cc)
-sound_among f p tries blocks k [] (r ∷ reports) legal judged some = absurd judged
-sound_among f p tries blocks k (stream ∷ streams) [] legal judged some = absurd judged
-sound_among f p tries blocks k (stream ∷ streams) (r ∷ reports) legal judged some =
+sound_among : (f : Cnf) (terms : Terms) (blocks : List Block) (k : ℕ) (streams : List Stream) (reports : List Report) → IsLegal f terms.layout (events_in blocks)
+    → AreJudged terms (λ s. true) blocks k streams reports → IsTrue (list_any (λ report. report.empty) reports) → IsUnsatisfiable f
+sound_among f terms blocks k [] [] legal judged some = absurd (let none : false ≡ true = some in cc)
+sound_among f terms blocks k [] (r ∷ reports) legal judged some = absurd judged
+sound_among f terms blocks k (stream ∷ streams) [] legal judged some = absurd judged
+sound_among f terms blocks k (stream ∷ streams) (r ∷ reports) legal judged some =
     elim (cases_Bool r.empty) [
-      | inl yes' ↦ sound_in_order f p blocks k (setting_of p tries k) stream r legal (judged.0 refl) yes'
-      | inr none ↦ sound_among f p tries blocks (k + 1) streams reports legal judged.1 (ap (λ b. b || list_any (λ (report : Report). report.empty) reports) (sym none) ∙ some)
+      | inl yes' ↦ sound_in_order f terms.layout blocks k (setting_of terms k) stream r legal (judged.0 refl) yes'
+      | inr none ↦ sound_among f terms blocks (k + 1) streams reports legal judged.1 (ap (λ b. b || list_any (λ (report : Report). report.empty) reports) (sym none) ∙ some)
     ]
 
-pub sound_over : (f : Cnf) (p : LayoutValue) (tries : ℕ) (streams : List Stream) (reports : List Report) → IsOrdered f p tries (λ s. true) streams reports
+pub sound_over : (f : Cnf) (terms : Terms) (streams : List Stream) (reports : List Report) → IsOrdered f terms (λ s. true) streams reports
     → IsTrue (list_any (λ report. report.empty) reports) → IsUnsatisfiable f
-sound_over f p tries streams reports ordered some = sound_among f p tries ordered.blocks 1 streams reports ordered.legal ordered.judged some
+sound_over f terms streams reports ordered some = sound_among f terms ordered.blocks 1 streams reports ordered.legal ordered.judged some
 
 -- the whole run: opened, gone on with, and over
-pub run_ordered : (f : Cnf) (p q : LayoutValue) (tries wanted : ℕ) (entries lefts : List (Option (List ℕ))) (faileds : List Bool) (m n : Plain) (us vs ws xs : List WorkerValue) (reports : List Report)
-    → IsOpened f p m → p ≡ q → tries ≡ wanted → length entries ≡ p.streams → AreStarted p tries 1 entries us
+pub run_ordered : (f : Cnf) (p : LayoutValue) (tries : ℕ) (wanted : Terms) (entries lefts : List (Option (List ℕ))) (faileds : List Bool) (m n : Plain) (us vs ws xs : List WorkerValue) (reports : List Report)
+    → IsOpened f p m → terms_at p tries ≡ wanted → length entries ≡ p.streams → AreStarted (terms_at p tries) 1 entries us
     → vs ≡ us → GoesOn m vs n ws → xs ≡ ws → HaveReports xs reports → lefts ≡ map (λ w. w.left) xs → faileds ≡ map (λ w. w.has_failed) xs
-    → (streams : List Stream) × AreTold entries lefts faileds streams × IsOrdered f q wanted (λ s. true) streams reports
-run_ordered f p q tries wanted entries lefts faileds m n us vs ws xs reports opened same_layout same_tries count started same_start goes same_end have left failed =
-    let begun : Runs f p tries entries m vs = subst (Runs f p tries entries m) (sym same_start) (runs_opened f p m opened tries entries us count started) in
-    let ended : Runs f p tries entries n xs = subst (Runs f p tries entries n) (sym same_end) (goes f p tries entries begun) in
-    let ordered = ordered_over f p tries entries n xs reports ended have in (
-      ordered.0,
-      subst (λ (l : List (Option (List ℕ))). AreTold entries l faileds ordered.0) (sym left) (subst (λ (l : List Bool). AreTold entries (map (λ w. w.left) xs) l ordered.0) (sym failed) ordered.1),
-      subst (λ (l : LayoutValue). IsOrdered f l wanted (λ s. true) ordered.0 reports) same_layout (subst (λ k. IsOrdered f p k (λ s. true) ordered.0 reports) same_tries ordered.2),
-    )
+    → StandsOnStreams entries lefts faileds (λ streams. IsOrdered f wanted (λ s. true) streams reports)
+run_ordered f p tries wanted entries lefts faileds m n us vs ws xs reports opened same count started same_start goes same_end have left failed =
+    let terms = terms_at p tries in
+    let begun : Runs f terms entries m vs = subst (Runs f terms entries m) (sym same_start) (runs_opened f p m opened tries entries us count started) in
+    let ended : Runs f terms entries n xs = subst (Runs f terms entries n) (sym same_end) (goes f terms entries begun) in
+    let ordered = ordered_over f terms entries n xs reports ended have in
+    record {
+      streams = ordered.0;
+      told = subst (λ (l : List (Option (List ℕ))). AreTold entries l faileds ordered.0) (sym left) (subst (λ (l : List Bool). AreTold entries (map (λ w. w.left) xs) l ordered.0) (sym failed) ordered.1);
+      judged = subst (λ (t : Terms). IsOrdered f t (λ s. true) ordered.0 reports) same ordered.2;
+    }
 
 -- so many streams as the layout was asked for
 pub streams_asked : (options : OptionsValue) (f : Cnf) (n : ℕ) (p : LayoutValue) → p ≡ layout_of options f n → p.streams ≡ n

@@ -1,5 +1,5 @@
 -- What a run with a thread for each stream promises (this project's own).
-use Rattle.std.specs.Prelude.{◌≡◌, ◌+◌, ℕ, List, [], ◌∷◌, length}
+use Rattle.std.specs.Prelude.{◌≡◌, ◌+◌, ℕ, Bool, IsTrue, List, [], ◌∷◌, length}
 use Rattle.lrup_model.specs.Formula.{Cnf}
 use Rattle.lrup_model.specs.Layout.{LayoutValue}
 use Rattle.lrup_model.specs.Event.{History, own}
@@ -8,7 +8,7 @@ use Rattle.lrup_model.specs.Pass.{View}
 use Rattle.stream_check.specs.declared.report.Report.{Report}
 use Rattle.stream_check.specs.Setting.{Setting}
 use Rattle.stream_check.specs.Judging.{joined}
-use Rattle.portfolio.specs.Streams.{Stream, JudgesStream, setting_of}
+use Rattle.portfolio.specs.Streams.{Stream, JudgesStream, Terms, setting_of}
 
 -- The passes, of the streams counted on from s: each is that stream's at this formula and layout, has seen the history, and
 -- its calls are the history's events of that stream, in order.
@@ -17,21 +17,25 @@ HaveCalls f p h s [] = Unit {0}
 HaveCalls f p h s (v ∷ vs) =
     (v.caller ≡ record { formula = f; layout = p; stream = s }) × (v.seen ≡ h) × (v.mine ≡ own h s) × HaveCalls f p h (s + 1) vs
 
--- One history of the one-thread clause map: it is legal, and has each stream's calls once, in its order.
-pub record HaveOneHistory (f : Cnf) (p : LayoutValue) (passes : List View) : Type 0 where
-  pub history : History
-  pub legal : IsLegal f p history
+-- what the first of the passes has seen
+abbrev pub seen_by : List View → History
+seen_by [] = []
+seen_by (v ∷ vs) = v.seen
+
+-- The passes have this one history of the one-thread clause map: it is legal, and has each stream's calls once, in its order.
+pub record HaveOneHistory (f : Cnf) (p : LayoutValue) (h : History) (passes : List View) : Type 0 where
+  pub legal : IsLegal f p h
   pub count : length passes ≡ p.streams
-  pub calls : HaveCalls f p history 1 passes
+  pub calls : HaveCalls f p h 1 passes
 
 -- a stream is judged by these events
 abbrev pub IsJudgedBy : Setting → Stream → History → Report → Type 0
 IsJudgedBy c stream es report = (blocks : List History) × (es ≡ joined blocks) × JudgesStream c stream blocks report
 
--- Each report is the judgement of what the stream's reader told and of the calls of the stream's pass, for the streams counted
--- on from s.
-abbrev pub AreJudgedBy : LayoutValue → ℕ → ℕ → List Stream → List View → List Report → Type 0
-AreJudgedBy p tries s [] [] [] = Unit {0}
-AreJudgedBy p tries s (stream ∷ streams) (v ∷ vs) (report ∷ reports) =
-    IsJudgedBy (setting_of p tries s) stream v.mine report × AreJudgedBy p tries (s + 1) streams vs reports
-AreJudgedBy p tries s _ _ _ = ⊥
+-- Each stream of the set, counted on from s, is judged by its own events of the history, as its report says.
+abbrev pub AreJudgedIn : Terms → (ℕ → Bool) → History → ℕ → List Stream → List Report → Type 0
+AreJudgedIn terms set h s [] [] = Unit {0}
+AreJudgedIn terms set h s (stream ∷ streams) (report ∷ reports) =
+    (IsTrue (set s) → IsJudgedBy (setting_of terms s) stream (own h s) report)
+    × AreJudgedIn terms set h (s + 1) streams reports
+AreJudgedIn terms set h s _ _ = ⊥

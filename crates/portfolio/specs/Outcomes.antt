@@ -1,5 +1,5 @@
 -- What a run is asked for, and what it says in the end (this project's own).
-use Rattle.std.specs.Prelude.{◌≡◌, ◌↔◌, ℕ, IsTrue, List, length, Result, Err}
+use Rattle.std.specs.Prelude.{◌≡◌, ◌↔◌, ℕ, List, length, Result, Err, if◌then◌else◌}
 use Rattle.std.specs.List.{list_any}
 use Rattle.lrup_model.specs.Formula.{Cnf, literals_of}
 use Rattle.lrup_model.specs.Layout.{LayoutValue, layout_value, IsFault}
@@ -8,7 +8,8 @@ use Rattle.stream_check.specs.declared.report.Report.{Report}
 use Rattle.portfolio.specs.declared.outcome.RunFault.{RunFault}
 use Rattle.portfolio.specs.declared.outcome.RunFault.TheVariants.{Layout}
 use Rattle.portfolio.specs.declared.outcome.Verdict.{Verdict}
-use Rattle.portfolio.specs.declared.outcome.Verdict.TheVariants.{Unsatisfiable}
+use Rattle.portfolio.specs.declared.outcome.Verdict.TheVariants.{Unsatisfiable, Unknown}
+use Rattle.portfolio.specs.Streams.{Terms, terms_at}
 
 -- how often a hint of another stream is fetched again while it is vacant; and for each stream, identities and room in literals
 pub record OptionsValue : Type 0 where
@@ -24,9 +25,13 @@ max_tries = 1000000
 abbrev pub layout_of : OptionsValue → Cnf → ℕ → LayoutValue
 layout_of options f streams = layout_value f.vars (length f.clauses) (literals_of f) streams options.lines options.room
 
--- the verdict is 'unsatisfiable' exactly if some stream added the empty clause
-abbrev pub IsVerdictOf : List Report → Verdict → Type 0
-IsVerdictOf reports verdict = (verdict ≡ Unsatisfiable) ↔ IsTrue (list_any (λ report. report.empty) reports)
+-- what a run of a formula and so many streams is checked by
+abbrev pub terms_of : OptionsValue → Cnf → ℕ → Terms
+terms_of options f streams = terms_at (layout_of options f streams) options.tries
+
+-- the verdict: 'unsatisfiable' exactly if some stream added the empty clause
+abbrev pub verdict_of : List Report → Verdict
+verdict_of reports = if list_any (λ report. report.empty) reports then Unsatisfiable else Unknown
 
 -- a run answers that there is no layout exactly where these numbers have none, and says why
 abbrev pub IsLayoutFault : {T : Type 0} → Result T RunFault → LayoutValue → Type 0

@@ -59,6 +59,12 @@ AreTold (entry ∷ entries) (left ∷ lefts) (has_failed ∷ faileds) (stream �
     IsTold entry left has_failed stream × AreTold entries lefts faileds streams
 AreTold _ _ _ _ = ⊥
 
+-- What the reports of a run stand on: the streams that the readers told, of which the judgement holds.
+pub record StandsOnStreams (entries lefts : List (Option (List ℕ))) (faileds : List Bool) (Judged : List Stream → Type 0) : Type 0 where
+  pub streams : List Stream
+  pub told : AreTold entries lefts faileds streams
+  pub judged : Judged streams
+
 -- An order of lines
 
 -- all events of one line, and the stream, from 1 on, whose line it is
@@ -80,21 +86,29 @@ abbrev pub IsBlockWithin : LayoutValue → (ℕ → Bool) → Block → Type 0
 IsBlockWithin p set block =
     IsStream p block.stream × IsTrue (set block.stream) × AllByRecursion (λ e. stream_of e ≡ block.stream) block.events
 
-abbrev pub setting_of : LayoutValue → ℕ → ℕ → Setting
-setting_of p tries s = record { layout = p; stream = s; tries = tries }
+-- What the streams of a run are all checked by: the layout, and how often a hint of another stream is fetched again.
+pub record Terms : Type 0 where
+  pub layout : LayoutValue
+  pub tries : ℕ
+
+abbrev pub terms_at : LayoutValue → ℕ → Terms
+terms_at p tries = record { layout = p; tries = tries }
+
+abbrev pub setting_of : Terms → ℕ → Setting
+setting_of terms s = record { layout = terms.layout; stream = s; tries = terms.tries }
 
 -- each stream of the set, counted on from s, is judged by its blocks
-abbrev pub AreJudged : LayoutValue → ℕ → (ℕ → Bool) → List Block → ℕ → List Stream → List Report → Type 0
-AreJudged p tries set blocks s [] [] = Unit {0}
-AreJudged p tries set blocks s (stream ∷ streams) (report ∷ reports) =
-    (IsTrue (set s) → JudgesStream (setting_of p tries s) stream (blocks_of s blocks) report)
-    × AreJudged p tries set blocks (s + 1) streams reports
-AreJudged p tries set blocks s _ _ = ⊥
+abbrev pub AreJudged : Terms → (ℕ → Bool) → List Block → ℕ → List Stream → List Report → Type 0
+AreJudged terms set blocks s [] [] = Unit {0}
+AreJudged terms set blocks s (stream ∷ streams) (report ∷ reports) =
+    (IsTrue (set s) → JudgesStream (setting_of terms s) stream (blocks_of s blocks) report)
+    × AreJudged terms set blocks (s + 1) streams reports
+AreJudged terms set blocks s _ _ = ⊥
 
 -- The reports of a set of streams have an order of lines: a legal history of whole lines of these streams, each stream's in
 -- its order, by which each stream is judged so.
-pub record IsOrdered (f : Cnf) (p : LayoutValue) (tries : ℕ) (set : ℕ → Bool) (streams : List Stream) (reports : List Report) : Type 0 where
+pub record IsOrdered (f : Cnf) (terms : Terms) (set : ℕ → Bool) (streams : List Stream) (reports : List Report) : Type 0 where
   pub blocks : List Block
-  pub within : AllByRecursion (IsBlockWithin p set) blocks
-  pub legal : IsLegal f p (events_in blocks)
-  pub judged : AreJudged p tries set blocks 1 streams reports
+  pub within : AllByRecursion (IsBlockWithin terms.layout set) blocks
+  pub legal : IsLegal f terms.layout (events_in blocks)
+  pub judged : AreJudged terms set blocks 1 streams reports

@@ -10,7 +10,7 @@ use Rattle.lrup_model.specs.Plain.{Plain, formula_of, state_of, free_at, plain_p
 use Rattle.stream_check.specs.declared.report.Ending.{Ending}
 use Rattle.stream_check.specs.declared.report.Report.{Report}
 use Rattle.stream_check.specs.Checker.{IsReadyAt, report_at}
-use Rattle.portfolio.specs.Streams.{Block, blocks_of, events_in, IsBlockWithin, setting_of}
+use Rattle.portfolio.specs.Streams.{Block, blocks_of, events_in, IsBlockWithin, Terms, setting_of}
 use Rattle.portfolio.specs.Working.{WorkerValue, Works, IsStarted}
 
 -- the map is the one that the blocks' events leave, and they are legal
@@ -23,35 +23,35 @@ pub record HasRun (f : Cnf) (p : LayoutValue) (blocks : List Block) (map : Plain
   pub room : (s : ℕ) → IsStream p s → free_at map s + spent s (events_in blocks) ≡ p.room
 
 -- the worker is stream s's, has come to this by the stream's blocks, and can go on at the map
-pub record IsWorking (p : LayoutValue) (tries : ℕ) (blocks : List Block) (map : Plain) (s : ℕ) (entry : Option (List ℕ)) (w : WorkerValue) : Type 0 where
-  pub setting : w.checker.setting ≡ setting_of p tries s
+pub record IsWorking (terms : Terms) (blocks : List Block) (map : Plain) (s : ℕ) (entry : Option (List ℕ)) (w : WorkerValue) : Type 0 where
+  pub setting : w.checker.setting ≡ setting_of terms s
   pub works : Works entry w (free_at map s) (blocks_of s blocks)
   pub ready : IsReadyAt w.checker (plain_place map s)
 
 -- so it is with each worker, counted on from s
-abbrev pub AreWorking : LayoutValue → ℕ → List Block → Plain → ℕ → List (Option (List ℕ)) → List WorkerValue → Type 0
-AreWorking p tries blocks map s [] [] = Unit {0}
-AreWorking p tries blocks map s (entry ∷ entries) (w ∷ ws) =
-    IsWorking p tries blocks map s entry w × AreWorking p tries blocks map (s + 1) entries ws
-AreWorking p tries blocks map s _ _ = ⊥
+abbrev pub AreWorking : Terms → List Block → Plain → ℕ → List (Option (List ℕ)) → List WorkerValue → Type 0
+AreWorking terms blocks map s [] [] = Unit {0}
+AreWorking terms blocks map s (entry ∷ entries) (w ∷ ws) =
+    IsWorking terms blocks map s entry w × AreWorking terms blocks map (s + 1) entries ws
+AreWorking terms blocks map s _ _ = ⊥
 
 -- A run between two turns: its map is that of the blocks so far, and each worker has come to what its own blocks say.
-pub record Runs (f : Cnf) (p : LayoutValue) (tries : ℕ) (entries : List (Option (List ℕ))) (map : Plain) (workers : List WorkerValue) : Type 0 where
-  pub count : length workers ≡ p.streams
+pub record Runs (f : Cnf) (terms : Terms) (entries : List (Option (List ℕ))) (map : Plain) (workers : List WorkerValue) : Type 0 where
+  pub count : length workers ≡ terms.layout.streams
   pub blocks : List Block
-  pub map_is : HasRun f p blocks map
-  pub workers_are : AreWorking p tries blocks map 1 entries workers
+  pub map_is : HasRun f terms.layout blocks map
+  pub workers_are : AreWorking terms blocks map 1 entries workers
 
 -- the run of some formula, layout and readers stands here
 abbrev pub IsRunning : Plain → List WorkerValue → Type 0
 IsRunning map workers =
-    (f : Cnf) × (p : LayoutValue) × (tries : ℕ) × (entries : List (Option (List ℕ))) × Runs f p tries entries map workers
+    (f : Cnf) × (terms : Terms) × (entries : List (Option (List ℕ))) × Runs f terms entries map workers
 
 -- whatever run stood at the one moment stands at the other
 abbrev pub GoesOn : Plain → List WorkerValue → Plain → List WorkerValue → Type 0
 GoesOn map workers later after =
-    (f : Cnf) (p : LayoutValue) (tries : ℕ) (entries : List (Option (List ℕ)))
-    → Runs f p tries entries map workers → Runs f p tries entries later after
+    (f : Cnf) (terms : Terms) (entries : List (Option (List ℕ)))
+    → Runs f terms entries map workers → Runs f terms entries later after
 
 abbrev pub IsOver : WorkerValue → Type 0
 IsOver w = IsSome w.checker.ending
@@ -64,10 +64,10 @@ abbrev pub IsOverAt : List WorkerValue → ℕ → Type 0
 IsOverAt ws i = IfSome (slice_get ws i) IsOver
 
 -- the workers of the streams counted on from s, before their first bytes
-abbrev pub AreStarted : LayoutValue → ℕ → ℕ → List (Option (List ℕ)) → List WorkerValue → Type 0
-AreStarted p tries s [] [] = Unit {0}
-AreStarted p tries s (entry ∷ entries) (w ∷ ws) = IsStarted p s tries entry w × AreStarted p tries (s + 1) entries ws
-AreStarted p tries s _ _ = ⊥
+abbrev pub AreStarted : Terms → ℕ → List (Option (List ℕ)) → List WorkerValue → Type 0
+AreStarted terms s [] [] = Unit {0}
+AreStarted terms s (entry ∷ entries) (w ∷ ws) = IsStarted terms s entry w × AreStarted terms (s + 1) entries ws
+AreStarted terms s _ _ = ⊥
 
 -- the reports of workers that are over
 abbrev pub HaveReports : List WorkerValue → List Report → Type 0

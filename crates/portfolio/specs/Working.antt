@@ -2,12 +2,11 @@
 use Rattle.std.specs.Prelude.{◌≡◌, ◌≤◌, ◌<◌, ◌++◌, ℕ, Bool, false, List, [], Option, None, Some}
 use Rattle.std.specs.Io.KnownBytes.{Consumes}
 use Rattle.lrup_model.specs.Event.{History}
-use Rattle.lrup_model.specs.Layout.{LayoutValue}
 use Rattle.stream_check.specs.declared.report.Ending.{Ending}
 use Rattle.stream_check.specs.CheckerValue.{CheckerValue}
 use Rattle.stream_check.specs.Checker.{state_of, report_at}
 use Rattle.stream_check.specs.Leaving.{Leaves}
-use Rattle.portfolio.specs.Streams.{Stream, IsTold, JudgesStream, setting_of}
+use Rattle.portfolio.specs.Streams.{Stream, IsTold, JudgesStream, Terms, setting_of}
 
 -- what the reader has left, where the device tells it, whether it has failed, the bytes read and not checked yet, and the checker
 pub record WorkerValue : Type 0 where
@@ -42,8 +41,8 @@ pub record IsWorker (has_failed : Bool) (size from to : ℕ) (ending : Option En
   pub running : ending ≡ None → has_failed ≡ false
 
 -- a worker of this stream before its first byte, whose reader has this left
-pub record IsStarted (p : LayoutValue) (s tries : ℕ) (entry : Option (List ℕ)) (w : WorkerValue) : Type 0 where
-  pub setting : w.checker.setting ≡ setting_of p tries s
-  pub last : w.checker.last ≡ p.clauses
+pub record IsStarted (terms : Terms) (s : ℕ) (entry : Option (List ℕ)) (w : WorkerValue) : Type 0 where
+  pub setting : w.checker.setting ≡ setting_of terms s
+  pub last : w.checker.last ≡ terms.layout.clauses
   pub ending : w.checker.ending ≡ None
-  pub works : Works entry w p.room []
+  pub works : Works entry w terms.layout.room []

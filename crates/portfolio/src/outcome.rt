@@ -1,6 +1,6 @@
 //! What a run says in the end.
 ghost use Rattle.std.specs.Prelude.{◌≡◌};
-ghost use Rattle.portfolio.specs.Outcomes.{IsVerdictOf};
+ghost use Rattle.portfolio.specs.Outcomes.{verdict_of};
 
 use clause_store::Pass;
 use lrup_model::LayoutFault;
@@ -20,7 +20,7 @@ pub enum Verdict {
 impl Verdict {
     /// The verdict of the reports of all streams.
     pub fn of(reports: &[Report]) -> Verdict
-        ensures { IsVerdictOf reports.now result }
+        ensures { result ≡ verdict_of reports.now }
     {
         if reports.iter().any(|report| report.empty) {
             Verdict::Unsatisfiable

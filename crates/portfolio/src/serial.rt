@@ -7,8 +7,8 @@ ghost use Rattle.lrup_model.specs.Layout.{IsStream};
 ghost use Rattle.lrup_model.specs.Plain.{PlainMoves, free_at, plain_place};
 ghost use Rattle.stream_check.specs.Checker.{IsReadyAt};
 ghost use Rattle.stream_check.specs.Judging.{joined};
-ghost use Rattle.portfolio.specs.Outcomes.{IsLayoutFault, IsVerdictOf, layout_of, max_tries};
-ghost use Rattle.portfolio.specs.Streams.{AreTold, IsOrdered, Stream};
+ghost use Rattle.portfolio.specs.Outcomes.{IsLayoutFault, layout_of, max_tries, terms_of, verdict_of};
+ghost use Rattle.portfolio.specs.Streams.{IsOrdered, StandsOnStreams, terms_at};
 ghost use Rattle.portfolio.specs.Turns.{AreOver, AreStarted, GoesOn, HaveReports, IsOverAt, IsRunning};
 ghost use Rattle.portfolio.specs.Working.{WorksOn};
 
@@ -39,12 +39,12 @@ pub fn run_serial<W: Wait, R: Source + Drop, G: Gate + Drop>(
     ensures layout { IsLayoutFault result (layout_of options formula.now (length readers.items)) }
     ensures alone { (stream : ℕ) → result ≢ Err (RunFault.Spawn stream) }
     // Each stream is what its reader told, and the reports have an order of lines.
-    ensures ordered { IfOk result (λ outcome. (streams : List Stream)
-        × AreTold (map R.left readers.items) (map R.left outcome.readers.items)
-        (map R.has_failed outcome.readers.items) streams
-        × IsOrdered formula.now (layout_of options formula.now (length readers.items)) options.tries
-        (λ s. true) streams outcome.reports.items) }
-    ensures verdict { IfOk result (λ outcome. IsVerdictOf outcome.reports.items outcome.verdict) }
+    ensures ordered { let terms = terms_of options formula.now (length readers.items) in
+        IfOk result (λ outcome. StandsOnStreams (map R.left readers.items)
+        (map R.left outcome.readers.items) (map R.has_failed outcome.readers.items)
+        (λ streams. IsOrdered formula.now terms (λ s. true) streams outcome.reports.items)) }
+    ensures verdict { IfOk result (λ outcome.
+        outcome.verdict ≡ verdict_of outcome.reports.items) }
     // What a user relies on.
     ensures sound { IfOk result (λ outcome.
         outcome.verdict ≡ Verdict.Unsatisfiable → IsUnsatisfiable formula.now) }
@@ -71,7 +71,7 @@ pub(crate) fn workers_of<R: Source + Drop, G: Gate + Drop>(
     requires streams { layout.now.streams ≡ length readers.items }
     requires tries { tries ≤ max_tries }
     ensures { IfOk result (λ workers.
-        AreStarted layout.now tries 1 (map R.left readers.items) workers.items) }
+        AreStarted (terms_at layout.now tries) 1 (map R.left readers.items) workers.items) }
 {
     let mut workers = Vec::with_capacity(alloc, readers.len())?;
     for (reader, gate) in readers.into_iter().zip(gates) {
@@ -166,7 +166,7 @@ fn outcome_of<R: Source + Drop, G: Gate + Drop>(
     ensures reports { HaveReports workers.items result.reports.items }
     ensures left { map R.left result.readers.items ≡ map (λ w. w.left) workers.items }
     ensures failed { map R.has_failed result.readers.items ≡ map (λ w. w.has_failed) workers.items }
-    ensures verdict { IsVerdictOf result.reports.items result.verdict }
+    ensures verdict { result.verdict ≡ verdict_of result.reports.items }
 {
     for worker in workers {
         let (report, reader) = worker.into_parts();

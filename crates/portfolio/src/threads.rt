@@ -1,14 +1,14 @@
 //! A run with a thread for each stream.
-ghost use Rattle.std.specs.Prelude.{◌≡◌, ◌<◌, ◌≤◌, false, ℕ, List, [], Err, IfErr, IfOk, IfSome, OnOk, length, map, vec_capacity, vec_len};
+ghost use Rattle.std.specs.Prelude.{◌≡◌, ◌<◌, ◌≤◌, true, false, ℕ, [], Err, IfErr, IfOk, IfSome, OnOk, length, map, vec_capacity, vec_len};
 ghost use Rattle.std.specs.List.{AllByRecursion};
 ghost use Rattle.lrup_model.specs.Entailment.{IsUnsatisfiable};
 ghost use Rattle.lrup_model.specs.Layout.{IsStream};
 ghost use Rattle.lrup_model.specs.Pass.{AreMet};
 ghost use Rattle.clause_store.specs.Passes.{AreOf, HaveMet, store_of, views};
-ghost use Rattle.portfolio.specs.Headline.{AreJudgedBy, HaveOneHistory};
+ghost use Rattle.portfolio.specs.Headline.{AreJudgedIn, HaveOneHistory, seen_by};
 ghost use Rattle.portfolio.specs.Joining.{AllCanBegin, AllFinish, CanBegin, Finishes};
-ghost use Rattle.portfolio.specs.Outcomes.{IsLayoutFault, IsVerdictOf, layout_of};
-ghost use Rattle.portfolio.specs.Streams.{AreTold, Stream};
+ghost use Rattle.portfolio.specs.Outcomes.{IsLayoutFault, layout_of, terms_of, verdict_of};
+ghost use Rattle.portfolio.specs.Streams.{StandsOnStreams};
 
 use crate::options::Options;
 use crate::outcome::{Outcome, RunFault, Verdict};
@@ -43,15 +43,18 @@ pub fn run<T: Threads + Wait + Sync, R: Source + Send + Drop, G: Gate + Send + D
     ensures spawn { (stream : ℕ) → result ≡ Err (RunFault.Spawn stream)
         → IsStream (layout_of options formula.now (length readers.items)) stream }
     // One legal history has each stream's calls once, in its order, with the replies that it got.
-    ensures history { IfOk result (λ outcome. HaveOneHistory formula.now
-        (layout_of options formula.now (length readers.items)) (views outcome.passes.items)) }
-    // Each stream is what its reader told, and its report is the judgement of its bytes and its calls.
-    ensures reports { IfOk result (λ outcome. (streams : List Stream)
-        × AreTold (map R.left readers.items) (map R.left outcome.readers.items)
-        (map R.has_failed outcome.readers.items) streams
-        × AreJudgedBy (layout_of options formula.now (length readers.items)) options.tries 1 streams
-        (views outcome.passes.items) outcome.reports.items) }
-    ensures verdict { IfOk result (λ outcome. IsVerdictOf outcome.reports.items outcome.verdict) }
+    ensures history { IfOk result (λ outcome. let passes = views outcome.passes.items in
+        HaveOneHistory formula.now (layout_of options formula.now (length readers.items))
+        (seen_by passes) passes) }
+    // Each stream is what its reader told, and its report is the judgement of its bytes and its
+    // events of that history.
+    ensures reports { let terms = terms_of options formula.now (length readers.items) in
+        IfOk result (λ outcome. StandsOnStreams (map R.left readers.items)
+        (map R.left outcome.readers.items) (map R.has_failed outcome.readers.items)
+        (λ streams. AreJudgedIn terms (λ s. true) (seen_by (views outcome.passes.items)) 1
+        streams outcome.reports.items)) }
+    ensures verdict { IfOk result (λ outcome.
+        outcome.verdict ≡ verdict_of outcome.reports.items) }
     // What a user relies on.
     ensures sound { IfOk result (λ outcome.
         outcome.verdict ≡ Verdict.Unsatisfiable → IsUnsatisfiable formula.now) }
@@ -310,7 +313,7 @@ fn outcome_of<R: Source + Drop>(
     ensures failed { map R.has_failed result.readers.items ≡ map (λ f. f.has_failed) found.items }
     ensures met { AreMet (views (map (λ f. f.pass) found.items)) (views result.passes.items) }
     ensures one { HaveMet (views result.passes.items) }
-    ensures verdict { IsVerdictOf result.reports.items result.verdict }
+    ensures verdict { result.verdict ≡ verdict_of result.reports.items }
 {
     for one in found {
         let Found {

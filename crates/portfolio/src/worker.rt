@@ -6,6 +6,7 @@ ghost use Rattle.lrup_model.specs.Layout.{IsStream};
 ghost use Rattle.stream_check.specs.Checker.{IsReadyAt, report_at};
 ghost use Rattle.stream_check.specs.Judging.{joined};
 ghost use Rattle.portfolio.specs.Outcomes.{max_tries};
+ghost use Rattle.portfolio.specs.Streams.{terms_at};
 ghost use Rattle.portfolio.specs.Working.{IsStarted, WorksOn};
 
 use lrup_model::{ClauseMap, Layout};
@@ -60,7 +61,7 @@ impl<R: Source + Drop, G: Gate + Drop> Worker<R, G> {
         requires running { R.has_failed reader ≡ false }
         requires stream { IsStream layout.now stream }
         requires tries { tries ≤ max_tries }
-        ensures { IfOk result (IsStarted layout.now stream tries (R.left reader)) }
+        ensures { IfOk result (IsStarted (terms_at layout.now tries) stream (R.left reader)) }
     {
         Ok(Worker {
             reader,

@@ -1,7 +1,7 @@
-use Rattle.std.proofs.Common.{◌∷◌, ◌∙◌, List, map, ap, subst, arith}
+use Rattle.std.proofs.Common.{◌≡◌, ◌∷◌, ◌∙◌, List, map, ap, subst, arith}
 use Rattle.std.specs.Vec.Iter.{into_iter_items}
 use Rattle.stream_check.specs.declared.report.Report.{Report}
-use Rattle.portfolio.specs.Outcomes.{IsVerdictOf}
+use Rattle.portfolio.specs.Outcomes.{verdict_of}
 use Rattle.portfolio.specs.Turns.{AreOver, HaveReports}
 use Rattle.portfolio.specs.Working.{WorkerValue}
 use Rattle.portfolio.proofs.JoiningLemmas.{whole_end, whole_more}
@@ -45,4 +45,4 @@ returns-clause-failed g c =
     now.invariant.failed ∙ ap (map (λ (w : WorkerValue). w.has_failed)) (whole_end now.yielded c.args.workers.items now.worker-iterator c.next.new.self c.in-None.ensures.steps now.invariant.whole)
 
 pub returns-clause-verdict : goal.returns-clause-verdict
-returns-clause-verdict g c = subst (λ (rs : List Report). IsVerdictOf rs c.of-verdict.result) c.deref.ensures.value c.of-verdict.ensures
+returns-clause-verdict g c = subst (λ (rs : List Report). c.of-verdict.result ≡ verdict_of rs) c.deref.ensures.value c.of-verdict.ensures

@@ -1,9 +1,10 @@
-use Rattle.std.proofs.Common.{◌≡◌, ◌∙◌, length, map, drop, sym, ap, subst, arith}
+use Rattle.std.proofs.Common.{◌≡◌, ℕ, ◌∙◌, length, map, drop, sym, ap, ap₂, subst, arith}
 use Rattle.std.proofs.lemmas.List.{length-map}
 use Rattle.lrup_model.specs.Layout.{LayoutValue, IsFault}
-use Rattle.portfolio.specs.Outcomes.{layout_of}
+use Rattle.portfolio.specs.Outcomes.{layout_of, terms_of}
+use Rattle.portfolio.specs.Streams.{terms_at}
 use Rattle.portfolio.specs.Turns.{AreOver, Runs}
-use Rattle.portfolio.proofs.HeadlineLemmas.{no_fault}
+use Rattle.portfolio.proofs.HeadlineLemmas.{is_empty, no_fault}
 use Rattle.portfolio.proofs.TurnsLemmas.{IsOpened, runs_opened, run_ordered, sound_over, streams_asked, written_back}
 use Rattle.portfolio.proofs.serial.run_serial.Goals as goal
 
@@ -28,7 +29,7 @@ take_turns-requires g c =
     let same : p.streams ≡ c.len.result = streams_asked c.args.options f c.len.result p c.in_ok-layout.ensures.layout.0 in
     let count : length entries ≡ p.streams = omega (arith, length-map c.args.readers.items g.R.Source.left, same, c.len.ensures, c.args.readers.ok.0) in
     record {
-      running = (f, p, c.tries.result, entries, subst (Runs f p c.tries.result entries m) (sym c.deref_mut.ensures.value) (runs_opened f p m opened c.tries.result entries c.in_ok-workers.workers.items count c.in_ok-workers.ensures));
+      running = (f, terms_at p c.tries.result, entries, subst (Runs f (terms_at p c.tries.result) entries m) (sym c.deref_mut.ensures.value) (runs_opened f p m opened c.tries.result entries c.in_ok-workers.workers.items count c.in_ok-workers.ensures));
     }
 
 pub outcome_of-requires-clause-over : goal.outcome_of-requires-clause-over
@@ -70,12 +71,14 @@ returns-clause-ordered g c =
     let each : p.streams ≡ length readers = streams_asked c.args.options f (length readers) p same in
     let count : length entries ≡ p.streams = omega (arith, length-map readers g.R.Source.left, each) in
     let back = written_back started.len worked (drop (length worked) started.items) (c.take_turns.auto.workers ∙ c.deref_mut.ensures.len) in
-    run_ordered f p (layout_of c.args.options f (length readers)) c.tries.result c.args.options.tries entries (map g.R.Source.left outcome.readers.items) (map g.R.Source.has_failed outcome.readers.items)
-    m c.take_turns.new.map started.items c.deref_mut.result.now worked _ outcome.reports.items opened same c.tries.ensures.tries count c.in_ok-workers.ensures
+    let wanted = terms_of c.args.options f (length readers) in
+    let terms : terms_at p c.tries.result ≡ wanted = ap₂ (λ (l : LayoutValue) (n : ℕ). terms_at l n) same c.tries.ensures.tries in
+    run_ordered f p c.tries.result wanted entries (map g.R.Source.left outcome.readers.items) (map g.R.Source.has_failed outcome.readers.items)
+    m c.take_turns.new.map started.items c.deref_mut.result.now worked _ outcome.reports.items opened terms count c.in_ok-workers.ensures
     c.deref_mut.ensures.value c.take_turns.ensures.runs back c.outcome_of.ensures.reports c.outcome_of.ensures.left c.outcome_of.ensures.failed
 
 pub returns-clause-sound : goal.returns-clause-sound
 returns-clause-sound g c unsatisfiable =
     let ordered = returns-clause-ordered g c in
-    sound_over c.args.formula.now (layout_of c.args.options c.args.formula.now (length c.args.readers.items)) c.args.options.tries ordered.0 c.outcome_of.result.reports.items ordered.2
-    (c.outcome_of.ensures.verdict.0 unsatisfiable)
+    sound_over c.args.formula.now (terms_of c.args.options c.args.formula.now (length c.args.readers.items)) ordered.streams c.outcome_of.result.reports.items ordered.judged
+    (is_empty c.outcome_of.result.reports.items c.outcome_of.result.verdict c.outcome_of.ensures.verdict unsatisfiable)

@@ -7,7 +7,7 @@ take_turn-going-requires-clause-running g c = running_on c.args.map.now c.loop-i
 
 pub loop-i-init : goal.loop-i-init
 loop-i-init g c = record {
-  runs = λ f p tries entries runs. runs;
+  runs = λ f terms entries runs. runs;
   over = λ none. (refl, λ k below. absurd (omega (arith, below)));
 }
 

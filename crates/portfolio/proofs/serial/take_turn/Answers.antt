@@ -5,7 +5,7 @@ use Rattle.portfolio.proofs.serial.take_turn.Goals as goal
 
 pub turn_at_desk-requires-clause-stream : goal.turn_at_desk-requires-clause-stream
 turn_at_desk-requires-clause-stream g c =
-    let runs = c.requires.running.4 in
+    let runs = c.requires.running.3 in
     (omega arith, omega (arith, c.requires.within, runs.count, ap (λ (p : LayoutValue). p.streams) runs.map_is.layout))
 
 pub turn_at_desk-requires-clause-ready : goal.turn_at_desk-requires-clause-ready
@@ -16,9 +16,9 @@ turn_at_desk-requires-clause-going g c =
     going_at c.args.workers.now c.args.i c.index-workers-i.result c.index-workers-i-2.result c.is_over.result c.requires.within c.is_over.ensures c.if-is_over.false
 
 pub returns-clause-runs : goal.returns-clause-runs
-returns-clause-runs g c f p tries entries runs =
+returns-clause-runs g c f terms entries runs =
     let turn = c.turn_at_desk.ensures in
-    runs_more c.ready_beside.ensures f p tries entries c.args.map.now c.turn_at_desk.new.map c.args.workers.now c.args.i c.index-workers-i-2.result c.turn_at_desk.new.worker turn.works.0
+    runs_more c.ready_beside.ensures f terms entries c.args.map.now c.turn_at_desk.new.map c.args.workers.now c.args.i c.index-workers-i-2.result c.turn_at_desk.new.worker turn.works.0
     c.requires.within turn.works.1 turn.works.2 turn.ready turn.setting runs
 
 pub returns-clause-over : goal.returns-clause-over

@@ -2,6 +2,7 @@ use Rattle.std.proofs.Common.{◌≡◌, ◌+◌, ◌++◌, false, map, vec_len,
 use Rattle.std.specs.Iterator.Adapters.{zip_first, zip_second}
 use Rattle.std.specs.List.{AllByRecursion}
 use Rattle.std.specs.Vec.Iter.{into_iter_items, into_iter_len}
+use Rattle.portfolio.specs.Streams.{terms_at}
 use Rattle.portfolio.specs.Turns.{AreStarted}
 use Rattle.portfolio.proofs.serial.workers_of.Given as goal
 
@@ -10,7 +11,7 @@ invariant-loop-reader g l =
     let rest = zip_first l.reader-iterator in
     record {
       running : AllByRecursion (λ r. g.R.Source.has_failed r ≡ false) (into_iter_items rest);
-      started : AreStarted l.layout l.tries 1 (map (λ x. g.R.Source.left x.0) l.yielded) l.workers.items;
+      started : AreStarted (terms_at l.layout l.tries) 1 (map (λ x. g.R.Source.left x.0) l.yielded) l.workers.items;
       entries : map (λ x. g.R.Source.left x.0) l.yielded ++ map g.R.Source.left (into_iter_items rest) ≡ map g.R.Source.left l.fn.readers.items;
       count : vec_len l.workers + into_iter_len rest ≡ vec_len l.fn.readers;
       gates : into_iter_len (zip_second l.reader-iterator) ≡ into_iter_len rest;

@@ -1,8 +1,9 @@
-use Rattle.std.proofs.Common.{◌≡◌, ℕ, length, map, sym, ap, subst, ◌∙◌, arith}
+use Rattle.std.proofs.Common.{◌≡◌, ℕ, length, map, sym, ap, ap₂, subst, ◌∙◌, arith}
 use Rattle.std.proofs.lemmas.List.{length-map}
 use Rattle.lrup_model.specs.Layout.{LayoutValue, IsFault}
-use Rattle.portfolio.specs.Headline.{HaveOneHistory}
-use Rattle.portfolio.specs.Outcomes.{layout_of}
+use Rattle.portfolio.specs.Headline.{HaveOneHistory, seen_by}
+use Rattle.portfolio.specs.Outcomes.{layout_of, terms_of}
+use Rattle.portfolio.specs.Streams.{Terms, terms_at}
 use Rattle.portfolio.proofs.HeadlineLemmas.{no_fault, AreOpened, are_opened, all_can_begin, started_count, finish_of, finish_workers, one_history, judged_by, judged_so, sound_run}
 use Rattle.portfolio.proofs.threads.run.Goals as goal
 
@@ -17,10 +18,10 @@ run_workers-requires-clause-begin g c κs within =
     let entries = map g.R.Source.left c.args.readers.items in
     let streams = ap (λ (l : LayoutValue). l.streams) c.in_ok-layout.ensures.layout.0 in
     let opened : AreOpened c.in_ok-store.store f 1 passes.items = are_opened c.in_ok-store.store f p passes.items (sym passes.ok.0 ∙ opens.count) opens.passes in
-    let each : length workers.items ≡ length entries = started_count p c.tries.result 1 entries workers.items c.in_ok-workers.ensures in
+    let each : length workers.items ≡ length entries = started_count (terms_at p c.tries.result) 1 entries workers.items c.in_ok-workers.ensures in
     let readers : length entries ≡ length c.args.readers.items = length-map c.args.readers.items g.R.Source.left in
     let count : length workers.items ≡ length passes.items = omega (arith, each, readers, streams, c.len.ensures, c.args.readers.ok.0, opens.count, passes.ok.0) in
-    all_can_begin f p c.in_ok-store.store c.tries.result c.in_ok-layout.ensures.layout.2 opens.layout 1 entries workers.items passes.items
+    all_can_begin f (terms_at p c.tries.result) c.in_ok-store.store c.in_ok-layout.ensures.layout.2 opens.layout 1 entries workers.items passes.items
     c.in_ok-workers.ensures opened count
 
 pub outcome_of-requires-clause-store : goal.outcome_of-requires-clause-store
@@ -71,7 +72,7 @@ returns-in-Ok-clause-history g c =
     c.in_ok-layout.ensures.layout.0 ∙ ap (λ (n : ℕ). layout_of c.args.options f n) (c.len.ensures ∙ c.args.readers.ok.0) in
     let count = sym passes.ok.0 ∙ opens.count in
     let opened : AreOpened c.in_ok-store.store f 1 passes.items = are_opened c.in_ok-store.store f p passes.items count opens.passes in
-    subst (λ (l : LayoutValue). HaveOneHistory f l vs) same
+    subst (λ (l : LayoutValue). HaveOneHistory f l (seen_by vs) vs) same
     (one_history f p c.in_ok-store.store c.in_ok-workers.workers.items passes.items c.in-Ok.found.items vs
     c.in_ok-layout.ensures.layout.1 opens.layout count opened c.in-Ok.ensures.found c.outcome_of.ensures.met c.outcome_of.ensures.one)
 
@@ -88,35 +89,29 @@ returns-in-Ok-clause-reports g c =
     let same : p ≡ layout_of c.args.options f (length c.args.readers.items) =
     c.in_ok-layout.ensures.layout.0 ∙ ap (λ (n : ℕ). layout_of c.args.options f n) (c.len.ensures ∙ c.args.readers.ok.0) in
     let opened : AreOpened c.in_ok-store.store f 1 passes.items = are_opened c.in_ok-store.store f p passes.items (sym passes.ok.0 ∙ opens.count) opens.passes in
-    let judged = judged_by f p c.in_ok-store.store c.tries.result opens.layout 1 entries c.in_ok-workers.workers.items passes.items found vs
+    let judged = judged_by f (terms_at p c.tries.result) c.in_ok-store.store opens.layout 1 entries c.in_ok-workers.workers.items passes.items found vs
     c.in_ok-workers.ensures opened c.in-Ok.ensures.found out.ensures.met in
-    judged_so p (layout_of c.args.options f (length c.args.readers.items)) c.tries.result c.args.options.tries entries (map g.R.Source.left out.result.readers.items)
+    let wanted = terms_of c.args.options f (length c.args.readers.items) in
+    let terms : terms_at p c.tries.result ≡ wanted = ap₂ (λ (l : LayoutValue) (n : ℕ). terms_at l n) same c.tries.ensures.tries in
+    judged_so f (terms_at p c.tries.result) wanted entries (map g.R.Source.left out.result.readers.items)
     (map g.R.Source.has_failed out.result.readers.items) out.result.reports.items found vs
-    judged same c.tries.ensures.tries out.ensures.left out.ensures.failed out.ensures.reports
+    judged terms (returns-in-Ok-clause-history g c) out.ensures.left out.ensures.failed out.ensures.reports
 
 pub returns-in-Ok-clause-sound : goal.returns-in-Ok-clause-sound
 returns-in-Ok-clause-sound g c =
-    let f = c.args.formula.now in
-    let p = c.in_ok-layout.layout in
-    let passes = c.in_ok-store.passes in
-    let opens = c.in_ok-store.ensures in
-    let found = c.in-Ok.found.items in
-    let workers = c.in_ok-workers.workers.items in
     let out = c.outcome_of in
     let vs = map (λ q. q.view) out.result.passes.items in
-    let entries = map g.R.Source.left c.args.readers.items in
-    let count = sym passes.ok.0 ∙ opens.count in
-    let opened : AreOpened c.in_ok-store.store f 1 passes.items = are_opened c.in_ok-store.store f p passes.items count opens.passes in
-    let one = one_history f p c.in_ok-store.store workers passes.items found vs c.in_ok-layout.ensures.layout.1 opens.layout count opened c.in-Ok.ensures.found out.ensures.met out.ensures.one in
-    let judged = judged_by f p c.in_ok-store.store c.tries.result opens.layout 1 entries workers passes.items found vs c.in_ok-workers.ensures opened c.in-Ok.ensures.found out.ensures.met in
-    sound_run f p c.tries.result entries found vs out.result.reports.items out.result.verdict one judged out.ensures.reports out.ensures.verdict
+    let history = returns-in-Ok-clause-history g c in
+    let reports = returns-in-Ok-clause-reports g c in
+    sound_run c.args.formula.now (terms_of c.args.options c.args.formula.now (length c.args.readers.items)) (seen_by vs) reports.streams out.result.reports.items out.result.verdict
+    history.legal reports.judged out.ensures.verdict
 
 pub returns-clause-spawn : goal.returns-clause-spawn
 returns-clause-spawn g c = λ stream e.
     let here : c.in-Err.stream ≡ stream = cc in
     let workers = c.in_ok-workers.workers in
     let entries = map g.R.Source.left c.args.readers.items in
-    let each : length workers.items ≡ length entries = started_count c.in_ok-layout.layout c.tries.result 1 entries workers.items c.in_ok-workers.ensures in
+    let each : length workers.items ≡ length entries = started_count (terms_at c.in_ok-layout.layout c.tries.result) 1 entries workers.items c.in_ok-workers.ensures in
     let readers : length entries ≡ length c.args.readers.items = length-map c.args.readers.items g.R.Source.left in
     let within = c.in-Err.ensures.spawn in (
       omega (arith, within.0, here),
