@@ -191,12 +191,12 @@ abbrev pub ReducedStream : Type 0
 ReducedStream = (c : Setting) (bytes : List ℕ) (end : StreamEnd) (blocks : List History) (report : Report)
     → JudgesBlocks c bytes end blocks report → JudgesBlocks c bytes end (map reduced blocks) report
 
--- What hints cite
+-- What lines cite
 
--- the hints of an addition
-abbrev pub hints_of : StreamLine → List ℕ
-hints_of (Addition id lits hints) = hints
-hints_of (Deletion lead ids) = []
+-- each identity that the judgement of a line may fetch, also own ones and the formula's: the hints of an addition; a deletion fetches none
+abbrev pub cited_by : StreamLine → List ℕ
+cited_by (Addition id lits hints) = hints
+cited_by (Deletion lead ids) = []
 
 -- a fetch is of an identity that passes the test
 abbrev pub FetchesOnly : (ℕ → Bool) → Event → Type 0
@@ -209,11 +209,11 @@ abbrev pub JudgedLinesCut : Type 0
 JudgedLinesCut = (c : Setting) (bytes : List ℕ) (end : StreamEnd) (blocks : List History) (report : Report) (all : List StreamLine) (rest : List ℕ)
     → (j : JudgesBlocks c bytes end blocks report) → Cut bytes all rest → (more : List StreamLine) × (all ≡ j.lines ++ more)
 
--- a stream fetches no identity but the hints of its lines: where all hints pass a test, so does what it fetches
-abbrev pub HintsFetched : Type 0
-HintsFetched = (c : Setting) (bytes : List ℕ) (end : StreamEnd) (blocks : List History) (report : Report) (all : List StreamLine) (rest : List ℕ) (p : ℕ → Bool)
+-- a stream fetches no identity that its lines don't cite: where all that they cite pass a test, so does what it fetches
+abbrev pub CitedFetched : Type 0
+CitedFetched = (c : Setting) (bytes : List ℕ) (end : StreamEnd) (blocks : List History) (report : Report) (all : List StreamLine) (rest : List ℕ) (p : ℕ → Bool)
     → JudgesBlocks c bytes end blocks report → Cut bytes all rest
-    → AllByRecursion (λ line. AllByRecursion (λ h. IsTrue (p h)) (hints_of line)) all
+    → AllByRecursion (λ line. AllByRecursion (λ h. IsTrue (p h)) (cited_by line)) all
     → AllByRecursion (FetchesOnly p) (joined blocks)
 
 -- Counts
