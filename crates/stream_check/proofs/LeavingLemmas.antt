@@ -17,7 +17,7 @@ use Rattle.stream_check.specs.Verdicts.{Good, Bad}
 use Rattle.stream_check.specs.Deletions.{StopsDeletion}
 use Rattle.stream_check.specs.Judging.{JudgesLine, AreGood, joined, BeginsGood, report_of, EndsAtLine, EndsAtText, EndsAtMemory, EndsAtEnd, EndsAfter, StreamEnd, ended, failed, ending_at, JudgesBlocks}
 use Rattle.stream_check.specs.Leaving.{Holding, SameStanding, LeavesGoing, standing_after, tally_after}
-use Rattle.stream_check.specs.Laws.{FreshLeft, PendingGrows, GoodLineTaken, BadLineTaken, BadTextRead, MemoryWanted, EndJudged, OverStays, IsDecided, EitherEnd}
+use Rattle.stream_check.specs.Laws.{FreshLeft, PendingGrows, GoodLineTaken, BadLineTaken, BadTextRead, MemoryWanted, EndJudged, OverStays, IsDecided, EitherEnd, DecidedBeforeFailure}
 use Rattle.stream_check.proofs.StandingLemmas.{standing_of-snoc, tally_of-snoc, same_standing}
 
 -- one good line more, with its block
@@ -290,6 +290,10 @@ not_decided failed rest number decided = decided
 pub either_end : EitherEnd
 either_end c bytes more end other blocks report decided j = before_end c bytes more end other blocks report j
     (λ last. absurd (not_decided end j.rest (line_number (length j.lines)) (subst IsDecided (ap (λ (r : Report). r.ending) last.says) decided)))
+
+pub decided_before_failure : DecidedBeforeFailure
+decided_before_failure c bytes more end blocks report untold j = before_end c bytes more failed end blocks report j
+    (λ last. absurd (untold (line_number (length j.lines), ap (λ (r : Report). r.ending) last.says)))
 
 -- the ending that a failed read has is no other's
 says_failed : (c : Setting) (lines others : List StreamLine) (rest left : List ℕ) (report : Report)

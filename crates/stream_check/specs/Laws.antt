@@ -21,7 +21,7 @@ use Rattle.stream_check.specs.declared.report.Ending.TheVariants as endings
 use Rattle.stream_check.specs.declared.report.Report.{Report}
 use Rattle.stream_check.specs.Setting.{Setting}
 use Rattle.stream_check.specs.Deletions.{StopsDeletion}
-use Rattle.stream_check.specs.Judging.{JudgesLine, joined, report_of, StreamEnd, ending_at, JudgesBlocks, Judges}
+use Rattle.stream_check.specs.Judging.{JudgesLine, joined, report_of, StreamEnd, failed, ending_at, JudgesBlocks, Judges}
 use Rattle.stream_check.specs.Forks.{NeverFork}
 use Rattle.propagate.specs.Distinct.{distinct}
 use Rattle.stream_check.specs.Standing.{Standing}
@@ -94,6 +94,15 @@ IsDecided (endings.Memory line) = Unit {0}
 abbrev pub EitherEnd : Type 0
 EitherEnd = (c : Setting) (bytes more : List ℕ) (end other : StreamEnd) (blocks : List History) (report : Report)
     → IsDecided report.ending → JudgesBlocks c bytes end blocks report → JudgesBlocks c (bytes ++ more) other blocks report
+
+-- the report tells of a failed read
+abbrev pub IsOfFailure : Report → Type 0
+IsOfFailure report = (line : ℕ) × (report.ending ≡ endings.ReadFailed line)
+
+-- where the read failed and the report doesn't tell so, it was decided before: it is right for either end, and whatever follows
+abbrev pub DecidedBeforeFailure : Type 0
+DecidedBeforeFailure = (c : Setting) (bytes more : List ℕ) (end : StreamEnd) (blocks : List History) (report : Report)
+    → ¬ IsOfFailure report → JudgesBlocks c bytes failed blocks report → JudgesBlocks c (bytes ++ more) end blocks report
 
 -- Where a checker may be fed
 
