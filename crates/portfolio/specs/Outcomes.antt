@@ -5,6 +5,7 @@ use Rattle.lrup_model.specs.Formula.{Cnf, literals_of}
 use Rattle.lrup_model.specs.Layout.{LayoutValue, layout_value, IsFault}
 use Rattle.lrup_model.specs.declared.layout.LayoutFault.{LayoutFault}
 use Rattle.stream_check.specs.declared.report.Report.{Report}
+use Rattle.stream_check.specs.Setting as setting
 use Rattle.portfolio.specs.declared.outcome.RunFault.{RunFault}
 use Rattle.portfolio.specs.declared.outcome.RunFault.TheVariants.{Layout}
 use Rattle.portfolio.specs.declared.outcome.Verdict.{Verdict}
@@ -17,9 +18,9 @@ pub record OptionsValue : Type 0 where
   pub lines : ℕ
   pub room : ℕ
 
--- the greatest number of tries
+-- the greatest number of tries, which is a checker's
 abbrev pub max_tries : ℕ
-max_tries = 1000000
+max_tries = setting.max_tries
 
 -- the layout of a formula and so many streams
 abbrev pub layout_of : OptionsValue → Cnf → ℕ → LayoutValue

@@ -5,6 +5,7 @@ ghost use Rattle.portfolio.specs.Outcomes.{max_tries, layout_of};
 
 use lrup_model::{Formula, Layout, LayoutFault};
 use std::marker::Model;
+use stream_check::Checker;
 
 /// How often a hint of another stream is fetched again while it is vacant, and what each stream may publish.
 #[derive(Clone, Copy, Debug, PartialEq, Eq)]
@@ -29,7 +30,7 @@ impl Model for Options {
 
 impl Options {
     /// The greatest number of tries.
-    pub const MAX_TRIES: u64 = 1_000_000;
+    pub const MAX_TRIES: u64 = Checker::MAX_TRIES;
 
     /// So many tries of a vacant hint after the first, and for each stream so many identities and room for so many literals.
     /// None exactly where there are more than 1,000,000 tries.

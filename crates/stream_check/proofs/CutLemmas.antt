@@ -8,7 +8,7 @@ use Rattle.stream_check.specs.Setting.{Setting}
 use Rattle.stream_check.specs.Standing.{standing_of}
 use Rattle.stream_check.specs.Verdicts.{Good, Bad}
 use Rattle.stream_check.specs.Judging.{AreGood, joined, EndsAfter, StreamEnd}
-use Rattle.stream_check.specs.Laws.{hints_of, FetchesOnly, JudgedLinesCut, HintsFetched}
+use Rattle.stream_check.specs.Laws.{cited_by, FetchesOnly, JudgedLinesCut, CitedFetched}
 use Rattle.stream_check.proofs.LeavingLemmas.{joined-append}
 use Rattle.stream_check.proofs.EventLemmas.{all_append, line_fetches}
 use Rattle.stream_check.proofs.StreamLemmas.{TextLaws, same_first, split_first}
@@ -35,15 +35,15 @@ pub judged_lines_cut : TextLaws → JudgedLinesCut
 judged_lines_cut laws c bytes end blocks report all rest j cut =
     let begins = lines_begin laws j.lines all j.rest rest j.begins.fits cut.each cut.last (sym j.begins.text ∙ cut.bytes) in (begins.0, begins.1)
 
-HintsPass : (ℕ → Bool) → StreamLine → Type 0
-HintsPass p line = AllByRecursion (λ h. IsTrue (p h)) (hints_of line)
+CitedPass : (ℕ → Bool) → StreamLine → Type 0
+CitedPass p line = AllByRecursion (λ h. IsTrue (p h)) (cited_by line)
 
 lines_append : (P : StreamLine → Type 0) (a b : List StreamLine) → AllByRecursion P (a ++ b) → AllByRecursion P a × AllByRecursion P b
 lines_append P [] b all = (tt, all)
 lines_append P (l ∷ a) b all = let rest = lines_append P a b all.1 in ((all.0, rest.0), rest.1)
 
-good_fetch : (c : Setting) (p : ℕ → Bool) (before lines : List StreamLine) (blocks : List History) → AllByRecursion (HintsPass p) lines → AreGood c before lines blocks → AllByRecursion (FetchesOnly p) (joined blocks)
-unfolding HintsPass
+good_fetch : (c : Setting) (p : ℕ → Bool) (before lines : List StreamLine) (blocks : List History) → AllByRecursion (CitedPass p) lines → AreGood c before lines blocks → AllByRecursion (FetchesOnly p) (joined blocks)
+unfolding CitedPass
 good_fetch c p before [] [] all good = tt
 good_fetch c p before [] (block ∷ blocks) all good = absurd good
 good_fetch c p before (line ∷ lines) [] all good = absurd good
@@ -58,13 +58,13 @@ none_fetch : (p : ℕ → Bool) (back : List History) → back ≡ [] → AllByR
 none_fetch p back e = subst (λ b. AllByRecursion (FetchesOnly p) (joined b)) (sym e) tt
 
 -- a line that passes, where it is the first of some that do
-first_passes : (p : ℕ → Bool) (line : StreamLine) (lines others : List StreamLine) → lines ≡ line ∷ others → AllByRecursion (HintsPass p) lines → HintsPass p line
-first_passes p line lines others e all = (subst (AllByRecursion (HintsPass p)) e all).0
+first_passes : (p : ℕ → Bool) (line : StreamLine) (lines others : List StreamLine) → lines ≡ line ∷ others → AllByRecursion (CitedPass p) lines → CitedPass p line
+first_passes p line lines others e all = (subst (AllByRecursion (CitedPass p)) e all).0
 
 ends_fetch : TextLaws → (c : Setting) (p : ℕ → Bool) (lines more : List StreamLine) (left rest : List ℕ) (end : StreamEnd) (back : List History) (report : Report)
-    → left ≡ flat_map line_text more ++ rest → AllByRecursion IsWithinLimits more → HasNoLine rest → AllByRecursion (HintsPass p) more
+    → left ≡ flat_map line_text more ++ rest → AllByRecursion IsWithinLimits more → HasNoLine rest → AllByRecursion (CitedPass p) more
     → EndsAfter c lines left end back report → AllByRecursion (FetchesOnly p) (joined back)
-unfolding HintsPass
+unfolding CitedPass
 ends_fetch laws c p lines more left rest end back report is fits none all (inl e) =
     let first = line_begins laws e.line more e.more left rest e.fits fits none e.text is in
     one_fetches p e.block back e.one_block (line_fetches c p (standing_of c lines) e.line e.block (Bad e.deleted e.fault) (first_passes p e.line more first.0 first.1 all) e.bad)
@@ -73,12 +73,12 @@ ends_fetch laws c p lines more left rest end back report is fits none all (inr (
     one_fetches p e.block back e.one_block (line_fetches c p (standing_of c lines) (Deletion e.lead e.earlier) e.block Good tt e.stops.before)
 ends_fetch laws c p lines more left rest end back report is fits none all (inr (inr (inr e))) = none_fetch p back e.no_block
 
-pub hints_fetched : TextLaws → HintsFetched
-unfolding HintsPass
-hints_fetched laws c bytes end blocks report all rest p j cut passes =
+pub cited_fetched : TextLaws → CitedFetched
+unfolding CitedPass
+cited_fetched laws c bytes end blocks report all rest p j cut passes =
     let begins = lines_begin laws j.lines all j.rest rest j.begins.fits cut.each cut.last (sym j.begins.text ∙ cut.bytes) in
     let more = begins.0 in
-    let parts = lines_append (HintsPass p) j.lines more (subst (AllByRecursion (HintsPass p)) begins.1 passes) in
+    let parts = lines_append (CitedPass p) j.lines more (subst (AllByRecursion (CitedPass p)) begins.1 passes) in
     let fit = lines_append IsWithinLimits j.lines more (subst (AllByRecursion IsWithinLimits) begins.1 cut.each) in
     let whole = all_append (FetchesOnly p) (joined j.front) (joined j.back) (good_fetch c p [] j.lines j.front parts.0 j.begins.good)
     (ends_fetch laws c p j.lines more j.rest rest end j.back report begins.2 fit.1 cut.last parts.1 j.ends) in

@@ -19,7 +19,7 @@ use Rattle.stream_check.specs.Additions.{AtConflict, AtReply, JudgesHints, publi
 use Rattle.stream_check.specs.Deletions.{DeletesAt, JudgesIdentities}
 use Rattle.stream_check.specs.Judging.{JudgesLine}
 use Rattle.stream_check.specs.Reducing.{IsEarly, StartsWithFetchOf, TriesAgain}
-use Rattle.stream_check.specs.Laws.{LineCalls, EarlyEvents, VacantTriesAgain, hints_of, FetchesOnly}
+use Rattle.stream_check.specs.Laws.{LineCalls, EarlyEvents, VacantTriesAgain, cited_by, FetchesOnly}
 
 -- Something that holds of the events of a line, from the last one on
 
@@ -85,7 +85,7 @@ module _ (c : Setting) (IsHint : ℕ → Type 0) (P : History → Type 0) (holds
       at_holds (side_of c id) gone earlier id es v (λ rest. JudgesIdentities c gone (earlier ++ id ∷ []) ids rest v)
       (λ rest k. identities_hold gone (earlier ++ id ∷ []) ids rest v k) judged
 
-  pub line_holds : (st : Standing) (line : StreamLine) (es : History) (v : Verdict) → AllByRecursion IsHint (hints_of line) → JudgesLine c st line es v → P es
+  pub line_holds : (st : Standing) (line : StreamLine) (es : History) (v : Verdict) → AllByRecursion IsHint (cited_by line) → JudgesLine c st line es v → P es
   line_holds st (Addition id lits hints) es v all judged =
       test_holds (Owns c.layout c.stream id × (st.last < id)) faults.Identity es v _
       (λ a. test_holds (AllByRecursion (λ l. nat_abs l ≤ c.layout.vars) lits) faults.Literal es v _
@@ -129,7 +129,7 @@ line_calls c st line es v judged =
       asked = λ h asked rest r any asks ends all. all_append IsOurs asked rest (asked_are (side_of c h) IsOurs c h asked r (λ x. refl) asks) all;
       retired = λ id rest all. (refl, all);
       refused = λ id. (refl, tt);
-    }) st line es v (all_any (hints_of line)) judged
+    }) st line es v (all_any (cited_by line)) judged
 
 -- Before the last event
 
@@ -163,7 +163,7 @@ early_events c st line es front last v judged e =
       asked = λ h asked rest r any asks ends early. early_append asked rest (asked_are (side_of c h) IsEarly c h asked r (λ x. tt) asks) early;
       retired = λ id rest early. (early_if rest (events.retire c.stream id retiring.Done) tt, early);
       refused = λ id. (tt, tt);
-    }) st line es v (all_any (hints_of line)) judged))
+    }) st line es v (all_any (cited_by line)) judged))
 
 -- Vacant fetches
 
@@ -194,12 +194,12 @@ vacant_tries_again c st line es v judged =
       asked = λ h asked rest r any asks ends tries. tries_asked (side_of c h) c h asked rest r asks ends tries;
       retired = λ id rest tries. tries;
       refused = λ id. tt;
-    }) st line es v (all_any (hints_of line)) judged
+    }) st line es v (all_any (cited_by line)) judged
 
--- Hints that pass a test
+-- Cited identities that pass a test
 
 pub line_fetches : (c : Setting) (p : ℕ → Bool) (st : Standing) (line : StreamLine) (es : History) (v : Verdict)
-    → AllByRecursion (λ h. IsTrue (p h)) (hints_of line) → JudgesLine c st line es v → AllByRecursion (FetchesOnly p) es
+    → AllByRecursion (λ h. IsTrue (p h)) (cited_by line) → JudgesLine c st line es v → AllByRecursion (FetchesOnly p) es
 line_fetches c p st line es v all judged =
     line_holds c (λ h. IsTrue (p h)) (AllByRecursion (FetchesOnly p)) (record {
       none = tt;

@@ -179,7 +179,7 @@ new_left law layout stream tries h r setting last dropped retired added empty li
     let c : Setting = h.setting in
     let same : c.layout ≡ layout = ap (λ (s : Setting). s.layout) setting in
     let fresh : IsFresh c (hold h (read_of r) layout.room) = record {
-      tally = tally_is (tally_at h) (tally_of []) added (omega (arith, retired, ap (λ (ids : List ℕ). length ids) dropped)) empty;
+      tally = tally_is (tally_at h) (tally_of c []) added (omega (arith, retired, ap (λ (ids : List ℕ). length ids) dropped)) empty;
       standing = record {
         last = last ∙ sym (ap (λ (l : LayoutValue). l.clauses) same);
         free = omega (arith, ap (λ (l : LayoutValue). l.room) same);

@@ -17,7 +17,7 @@ use Rattle.stream_check.specs.Verdicts.{Good, Bad}
 use Rattle.stream_check.specs.Deletions.{StopsDeletion}
 use Rattle.stream_check.specs.Judging.{JudgesLine, AreGood, joined, BeginsGood, report_of, EndsAtLine, EndsAtText, EndsAtMemory, EndsAtEnd, EndsAfter, StreamEnd, ended, failed, ending_at, JudgesBlocks}
 use Rattle.stream_check.specs.Leaving.{Holding, SameStanding, LeavesGoing, standing_after, tally_after}
-use Rattle.stream_check.specs.Laws.{FreshLeft, PendingGrows, GoodLineTaken, BadLineTaken, BadTextRead, MemoryWanted, EndJudged, OverStays, IsDecided, EitherEnd}
+use Rattle.stream_check.specs.Laws.{FreshLeft, PendingGrows, GoodLineTaken, BadLineTaken, BadTextRead, MemoryWanted, EndJudged, OverStays, IsDecided, EitherEnd, DecidedBeforeFailure}
 use Rattle.stream_check.proofs.StandingLemmas.{standing_of-snoc, tally_of-snoc, same_standing}
 
 -- one good line more, with its block
@@ -113,7 +113,7 @@ good_line_taken texts none c bytes piece blocks block old new line before text j
       cut = rest.0;
       pending = rest.1;
       good = good_snoc c [] lines blocks line block before.good here;
-      tally = taken.tally ∙ ap (λ t. tally_after t line) before.tally ∙ tally_of-snoc lines line;
+      tally = taken.tally ∙ ap (λ t. tally_after c t line) before.tally ∙ tally_of-snoc c lines line;
       standing = same_trans new.standing (standing_after c (standing_of c lines) line) (standing_of c (lines ++ line ∷ []))
           (subst (λ st. SameStanding new.standing (standing_after c st line)) same_old taken.standing)
           (standing_of-snoc c lines line block here);
@@ -137,9 +137,9 @@ ends_behind c bytes piece blocks back old end report before ends = record {
 
 -- the same report by what the checker holds and by the lines
 held_report : (c : Setting) (bytes : List ℕ) (blocks : List History) (old : Holding) (deleted : ℕ) (ending : ℕ → Ending) → (before : LeavesGoing c bytes blocks old)
-    → report_of old.tally deleted (ending old.line) ≡ report_of (tally_of before.lines) deleted (ending (line_number (length before.lines)))
+    → report_of old.tally deleted (ending old.line) ≡ report_of (tally_of c before.lines) deleted (ending (line_number (length before.lines)))
 held_report c bytes blocks old deleted ending before =
-    ap (λ t. report_of t deleted (ending old.line)) before.tally ∙ ap (λ n. report_of (tally_of before.lines) deleted (ending n)) before.line
+    ap (λ t. report_of t deleted (ending old.line)) before.tally ∙ ap (λ n. report_of (tally_of c before.lines) deleted (ending n)) before.line
 
 whole_text : (line : StreamLine) (bytes : List ℕ) → LineText line bytes → bytes ≡ line_text line ++ []
 whole_text line bytes text = text.1 ∙ sym (append-nil (line_text line))
@@ -189,7 +189,7 @@ pub bad_text_read : BadTextRead
 bad_text_read c bytes piece blocks old fault before refused =
     let lines = before.lines in
     let report = report_of old.tally 0 (endings.Bad old.line (faults.Text fault)) in
-    let at_text : EndsAtText lines (old.pending ++ piece) [] report = record {
+    let at_text : EndsAtText c lines (old.pending ++ piece) [] report = record {
       fault = fault;
       text = refused_alone (old.pending ++ piece) fault refused;
       no_block = refl;
@@ -204,11 +204,11 @@ pub end_judged : EndJudged
 end_judged c bytes blocks old end before =
     let lines = before.lines in
     let report = report_of old.tally 0 (ending_at end old.pending old.line) in
-    let at_end : EndsAtEnd lines (old.pending ++ []) end [] report = record {
+    let at_end : EndsAtEnd c lines (old.pending ++ []) end [] report = record {
       pending = subst IsPending (sym (append-nil old.pending)) before.pending;
       no_block = refl;
       says = held_report c bytes blocks old 0 (λ n. ending_at end old.pending n) before
-          ∙ ap (λ rest. report_of (tally_of lines) 0 (ending_at end rest (line_number (length lines)))) (sym (append-nil old.pending));
+          ∙ ap (λ rest. report_of (tally_of c lines) 0 (ending_at end rest (line_number (length lines)))) (sym (append-nil old.pending));
     } in
     subst (λ b. JudgesBlocks c b end blocks report) (append-nil bytes)
     (subst (λ b. JudgesBlocks c (bytes ++ []) end b report) (append-nil blocks)
@@ -262,18 +262,18 @@ memory_longer c lines rest more back report e = record {
   says = e.says;
 }
 
-text_longer : (lines : List StreamLine) (rest more : List ℕ) (back : List History) (report : Report) → EndsAtText lines rest back report → EndsAtText lines (rest ++ more) back report
-text_longer lines rest more back report e = record { fault = e.fault; text = fault_stays rest more e.fault e.text; no_block = e.no_block; says = e.says }
+text_longer : (c : Setting) (lines : List StreamLine) (rest more : List ℕ) (back : List History) (report : Report) → EndsAtText c lines rest back report → EndsAtText c lines (rest ++ more) back report
+text_longer c lines rest more back report e = record { fault = e.fault; text = fault_stays rest more e.fault e.text; no_block = e.no_block; says = e.says }
 
 -- what is judged by a line, a text or want of memory is so for either end, whatever follows; what is judged by its end is left
 before_end : (c : Setting) (bytes more : List ℕ) (end other : StreamEnd) (blocks : List History) (report : Report) → (j : JudgesBlocks c bytes end blocks report)
-    → (EndsAtEnd j.lines j.rest end j.back report → JudgesBlocks c (bytes ++ more) other blocks report)
+    → (EndsAtEnd c j.lines j.rest end j.back report → JudgesBlocks c (bytes ++ more) other blocks report)
     → JudgesBlocks c (bytes ++ more) other blocks report
 before_end c bytes more end other blocks report j at_end =
     elim j.ends [
       | inl line ↦ judges_longer c bytes more end other blocks report j (inl (line_longer c j.lines j.rest more j.back report line))
       | inr rest ↦ elim rest [
-        | inl text ↦ judges_longer c bytes more end other blocks report j (inr (inl (text_longer j.lines j.rest more j.back report text)))
+        | inl text ↦ judges_longer c bytes more end other blocks report j (inr (inl (text_longer c j.lines j.rest more j.back report text)))
         | inr rest ↦ elim rest [
           | inl memory ↦ judges_longer c bytes more end other blocks report j (inr (inr (inl (memory_longer c j.lines j.rest more j.back report memory))))
           | inr last ↦ at_end last
@@ -291,12 +291,16 @@ pub either_end : EitherEnd
 either_end c bytes more end other blocks report decided j = before_end c bytes more end other blocks report j
     (λ last. absurd (not_decided end j.rest (line_number (length j.lines)) (subst IsDecided (ap (λ (r : Report). r.ending) last.says) decided)))
 
+pub decided_before_failure : DecidedBeforeFailure
+decided_before_failure c bytes more end blocks report untold j = before_end c bytes more failed end blocks report j
+    (λ last. absurd (untold (line_number (length j.lines), ap (λ (r : Report). r.ending) last.says)))
+
 -- the ending that a failed read has is no other's
-says_failed : (lines others : List StreamLine) (rest left : List ℕ) (report : Report)
-    → report ≡ report_of (tally_of lines) 0 (ending_at ended rest (line_number (length lines)))
-    → report ≡ report_of (tally_of others) 0 (ending_at failed left (line_number (length others))) → ⊥
-says_failed lines others [] left report a b = let e : endings.Ended ≡ endings.ReadFailed (line_number (length others)) = ap (λ (r : Report). r.ending) (sym a ∙ b) in cc
-says_failed lines others (byte ∷ rest) left report a b = let e : endings.Bad (line_number (length lines)) _ ≡ endings.ReadFailed (line_number (length others)) = ap (λ (r : Report). r.ending) (sym a ∙ b) in cc
+says_failed : (c : Setting) (lines others : List StreamLine) (rest left : List ℕ) (report : Report)
+    → report ≡ report_of (tally_of c lines) 0 (ending_at ended rest (line_number (length lines)))
+    → report ≡ report_of (tally_of c others) 0 (ending_at failed left (line_number (length others))) → ⊥
+says_failed c lines others [] left report a b = let e : endings.Ended ≡ endings.ReadFailed (line_number (length others)) = ap (λ (r : Report). r.ending) (sym a ∙ b) in cc
+says_failed c lines others (byte ∷ rest) left report a b = let e : endings.Bad (line_number (length lines)) _ ≡ endings.ReadFailed (line_number (length others)) = ap (λ (r : Report). r.ending) (sym a ∙ b) in cc
 
 -- A report that fits both ends is decided before the end, so that it fits whatever follows.
 over_longer : (c : Setting) (bytes more : List ℕ) (blocks : List History) (report : Report) (end : StreamEnd)
@@ -304,7 +308,7 @@ over_longer : (c : Setting) (bytes more : List ℕ) (blocks : List History) (rep
 over_longer c bytes more blocks report end a b =
     before_end c bytes more ended end blocks report a
     (λ at_end. before_end c bytes more failed end blocks report b
-    (λ failed_end. absurd (says_failed a.lines b.lines a.rest b.rest report at_end.says failed_end.says)))
+    (λ failed_end. absurd (says_failed c a.lines b.lines a.rest b.rest report at_end.says failed_end.says)))
 
 pub over_stays : OverStays
 over_stays c bytes more blocks report over = (over_longer c bytes more blocks report ended over.0 over.1, over_longer c bytes more blocks report failed over.0 over.1)

@@ -141,7 +141,7 @@ takes_addition old new free left id lits hints es is_empty adds is room judged =
     let line : StreamLine = Addition id lits hints in (
       judged,
       λ read. record {
-        tally = tally_is (tally_at new) (tally_after (tally_at old) line) adds.added
+        tally = tally_is (tally_at new) (tally_after old.setting (tally_at old) line) adds.added
             (omega (arith, adds.retired, ap (λ (ids : List ℕ). length ids) adds.dropped))
             (adds.empty ∙ ap (λ (b : Bool). old.empty || b) (empty_is is_empty id lits hints is));
         standing = record {
@@ -169,7 +169,7 @@ takes_deletion old mid new free left lead ids es count kept counts more room del
     let line : StreamLine = Deletion lead ids in (
       deletes.0,
       λ read. record {
-        tally = tally_is (tally_at new) (tally_after (tally_at old) line)
+        tally = tally_is (tally_at new) (tally_after old.setting (tally_at old) line)
             (omega (arith, counts.added, kept.added))
             (omega (arith, counts.retired, ap (λ (js : List ℕ). length js) counts.dropped, more, deletes.1))
             (counts.empty ∙ kept.empty ∙ or_false old.empty);

@@ -61,8 +61,8 @@ same_tally a b added deleted empty =
     ap (λ x. made x a.deleted a.empty) added ∙ ap (λ y. made b.added y a.empty) deleted ∙ ap (λ z. made b.added b.deleted z) empty
 
 -- the counts after one good line more
-pub tally_of-snoc : (lines : List StreamLine) (line : StreamLine) → tally_after (tally_of lines) line ≡ tally_of (lines ++ line ∷ [])
-tally_of-snoc lines line = same_tally (tally_after (tally_of lines) line) (tally_of (lines ++ line ∷ []))
+pub tally_of-snoc : (c : Setting) (lines : List StreamLine) (line : StreamLine) → tally_after c (tally_of c lines) line ≡ tally_of c (lines ++ line ∷ [])
+tally_of-snoc c lines line = same_tally (tally_after c (tally_of c lines) line) (tally_of c (lines ++ line ∷ []))
     (omega (arith, sum_by-append added_by lines (line ∷ [])))
     (omega (arith, sum_by-append (λ l. length (deleted_by l)) lines (line ∷ [])))
     (sym (list_any-append adds_empty lines (line ∷ []) ∙ ap (λ t. list_any adds_empty lines || t) (or_false (adds_empty line))))

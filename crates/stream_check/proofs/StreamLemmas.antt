@@ -93,32 +93,32 @@ lines_agree laws c lines rest back aft report other a b never =
     let deleted : a.deleted ≡ b.deleted = cc in
     let fault : a.fault ≡ b.fault = cc in (
       a.one_block ∙ ap (λ x. x ∷ []) agree.events ∙ sym b.one_block,
-      a.says ∙ ap (λ d. report_of (tally_of lines) d (endings.Bad (line_number (length lines)) a.fault)) deleted
-          ∙ ap (λ f. report_of (tally_of lines) b.deleted (endings.Bad (line_number (length lines)) f)) fault ∙ sym b.says,
+      a.says ∙ ap (λ d. report_of (tally_of c lines) d (endings.Bad (line_number (length lines)) a.fault)) deleted
+          ∙ ap (λ f. report_of (tally_of c lines) b.deleted (endings.Bad (line_number (length lines)) f)) fault ∙ sym b.says,
     )
 
 -- where a text has a fault or the stream ends, no line is whole
-rest_has_no_line : TextLaws → (lines : List StreamLine) (rest : List ℕ) (end : StreamEnd) (back : List History) (report : Report)
-    → EndsAtText lines rest back report ⊎ EndsAtEnd lines rest end back report → HasNoLine rest
-rest_has_no_line laws lines rest end back report (inl text) = faulty_has_no_line laws rest text.fault text.text
-rest_has_no_line laws lines rest end back report (inr at_end) = at_end.pending.whole
+rest_has_no_line : TextLaws → (c : Setting) (lines : List StreamLine) (rest : List ℕ) (end : StreamEnd) (back : List History) (report : Report)
+    → EndsAtText c lines rest back report ⊎ EndsAtEnd c lines rest end back report → HasNoLine rest
+rest_has_no_line laws c lines rest end back report (inl text) = faulty_has_no_line laws rest text.fault text.text
+rest_has_no_line laws c lines rest end back report (inr at_end) = at_end.pending.whole
 
 -- a text fault or the end, twice
-rests_agree : TextLaws → (lines : List StreamLine) (rest : List ℕ) (end : StreamEnd) (back aft : List History) (report other : Report)
-    → EndsAtText lines rest back report ⊎ EndsAtEnd lines rest end back report → EndsAtText lines rest aft other ⊎ EndsAtEnd lines rest end aft other
+rests_agree : TextLaws → (c : Setting) (lines : List StreamLine) (rest : List ℕ) (end : StreamEnd) (back aft : List History) (report other : Report)
+    → EndsAtText c lines rest back report ⊎ EndsAtEnd c lines rest end back report → EndsAtText c lines rest aft other ⊎ EndsAtEnd c lines rest end aft other
     → (back ≡ aft) × (report ≡ other)
-rests_agree laws lines rest end back aft report other (inl a) (inl b) = (
+rests_agree laws c lines rest end back aft report other (inl a) (inl b) = (
   a.no_block ∙ sym b.no_block,
-  a.says ∙ ap (λ f. report_of (tally_of lines) 0 (endings.Bad (line_number (length lines)) (faults.Text f))) ((laws.fault rest a.fault b.fault a.text).0 b.text) ∙ sym b.says,
+  a.says ∙ ap (λ f. report_of (tally_of c lines) 0 (endings.Bad (line_number (length lines)) (faults.Text f))) ((laws.fault rest a.fault b.fault a.text).0 b.text) ∙ sym b.says,
 )
-rests_agree laws lines rest end back aft report other (inl a) (inr b) = absurd ((laws.fault rest a.fault a.fault a.text).1 b.pending.begins)
-rests_agree laws lines rest end back aft report other (inr a) (inl b) = absurd ((laws.fault rest b.fault b.fault b.text).1 a.pending.begins)
-rests_agree laws lines rest end back aft report other (inr a) (inr b) = (a.no_block ∙ sym b.no_block, a.says ∙ sym b.says)
+rests_agree laws c lines rest end back aft report other (inl a) (inr b) = absurd ((laws.fault rest a.fault a.fault a.text).1 b.pending.begins)
+rests_agree laws c lines rest end back aft report other (inr a) (inl b) = absurd ((laws.fault rest b.fault b.fault b.text).1 a.pending.begins)
+rests_agree laws c lines rest end back aft report other (inr a) (inr b) = (a.no_block ∙ sym b.no_block, a.says ∙ sym b.says)
 
 -- what ends a stream without want of memory: a bad line, or else
 EndsWithout : Setting → List StreamLine → List ℕ → StreamEnd → List History → Report → Type 0
 EndsWithout c lines rest end back report =
-    EndsAtLine c lines rest back report ⊎ (EndsAtText lines rest back report ⊎ EndsAtEnd lines rest end back report)
+    EndsAtLine c lines rest back report ⊎ (EndsAtText c lines rest back report ⊎ EndsAtEnd c lines rest end back report)
 
 memory_says : (c : Setting) (lines : List StreamLine) (rest : List ℕ) (back : List History) (report : Report) → EndsAtMemory c lines rest back report → IsOfMemory report
 memory_says c lines rest back report e = (line_number (length lines), ap (λ (r : Report). r.ending) e.says)
@@ -135,16 +135,16 @@ ends_agree : TextLaws → (c : Setting) (lines : List StreamLine) (rest : List �
     → EndsWithout c lines rest end back report → EndsWithout c lines rest end aft other → NeverFork (joined back) (joined aft) → (back ≡ aft) × (report ≡ other)
 unfolding EndsWithout
 ends_agree laws c lines rest end back aft report other (inl a) (inl b) never = lines_agree laws c lines rest back aft report other a b never
-ends_agree laws c lines rest end back aft report other (inl a) (inr b) never = absurd (rest_has_no_line laws lines rest end aft other b a.line a.more a.fits a.text)
-ends_agree laws c lines rest end back aft report other (inr a) (inl b) never = absurd (rest_has_no_line laws lines rest end back report a b.line b.more b.fits b.text)
-ends_agree laws c lines rest end back aft report other (inr a) (inr b) never = rests_agree laws lines rest end back aft report other a b
+ends_agree laws c lines rest end back aft report other (inl a) (inr b) never = absurd (rest_has_no_line laws c lines rest end aft other b a.line a.more a.fits a.text)
+ends_agree laws c lines rest end back aft report other (inr a) (inl b) never = absurd (rest_has_no_line laws c lines rest end back report a b.line b.more b.fits b.text)
+ends_agree laws c lines rest end back aft report other (inr a) (inr b) never = rests_agree laws c lines rest end back aft report other a b
 
 -- a stream doesn't end at a line that is good
 ends_not_good : TextLaws → (c : Setting) (lines : List StreamLine) (rest more : List ℕ) (end : StreamEnd) (back : List History) (report : Report) (line : StreamLine) (block r : History)
     → EndsWithout c lines rest end back report → IsWithinLimits line → rest ≡ line_text line ++ more → JudgesLine c (standing_of c lines) line block Good
     → NeverFork (joined back) (block ++ r) → ⊥
 unfolding EndsWithout
-ends_not_good laws c lines rest more end back report line block r (inr a) fits text good never = rest_has_no_line laws lines rest end back report a line more fits text
+ends_not_good laws c lines rest more end back report line block r (inr a) fits text good never = rest_has_no_line laws c lines rest end back report a line more fits text
 ends_not_good laws c lines rest more end back report line block r (inl a) fits text good never =
     let same = same_first laws a.line line a.more more a.fits fits (sym a.text ∙ text) in
     let bad = subst (λ l. JudgesLine c (standing_of c lines) l a.block (Bad a.deleted a.fault)) same.0 a.bad in

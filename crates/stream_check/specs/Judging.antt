@@ -54,14 +54,14 @@ pub record EndsAtLine (c : Setting) (lines : List StreamLine) (rest : List ℕ) 
   pub deleted : ℕ
   pub fault : Fault
   pub bad : JudgesLine c (standing_of c lines) line block (Bad deleted fault)
-  pub says : report ≡ report_of (tally_of lines) deleted (endings.Bad (line_number (length lines)) fault)
+  pub says : report ≡ report_of (tally_of c lines) deleted (endings.Bad (line_number (length lines)) fault)
 
 -- After good lines: a text that begins no line, whatever follows it.
-pub record EndsAtText (lines : List StreamLine) (rest : List ℕ) (blocks : List History) (report : Report) : Type 0 where
+pub record EndsAtText (c : Setting) (lines : List StreamLine) (rest : List ℕ) (blocks : List History) (report : Report) : Type 0 where
   pub fault : LineFault
   pub text : HasTextFault rest fault
   pub no_block : blocks ≡ []
-  pub says : report ≡ report_of (tally_of lines) 0 (endings.Bad (line_number (length lines)) (faults.Text fault))
+  pub says : report ≡ report_of (tally_of c lines) 0 (endings.Bad (line_number (length lines)) (faults.Text fault))
 
 -- After good lines: a deletion that stopped for want of memory, whatever follows it.
 pub record EndsAtMemory (c : Setting) (lines : List StreamLine) (rest : List ℕ) (blocks : List History) (report : Report) : Type 0 where
@@ -74,7 +74,7 @@ pub record EndsAtMemory (c : Setting) (lines : List StreamLine) (rest : List ℕ
   pub one_block : blocks ≡ block ∷ []
   pub earlier : List ℕ
   pub stops : StopsDeletion c (standing_of c lines).gone ids block earlier
-  pub says : report ≡ report_of (tally_of lines) (length earlier) (endings.Memory (line_number (length lines)))
+  pub says : report ≡ report_of (tally_of c lines) (length earlier) (endings.Memory (line_number (length lines)))
 
 -- how the reader of a stream ended
 pub data StreamEnd : Type 0 where
@@ -88,17 +88,17 @@ ending_at ended (byte ∷ bytes) number = endings.Bad number (faults.Text texts.
 ending_at failed rest number = endings.ReadFailed number
 
 -- After good lines: the end of the stream, with a rest that may still become a line.
-pub record EndsAtEnd (lines : List StreamLine) (rest : List ℕ) (end : StreamEnd) (blocks : List History) (report : Report) : Type 0 where
+pub record EndsAtEnd (c : Setting) (lines : List StreamLine) (rest : List ℕ) (end : StreamEnd) (blocks : List History) (report : Report) : Type 0 where
   pub pending : IsPending rest
   pub no_block : blocks ≡ []
-  pub says : report ≡ report_of (tally_of lines) 0 (ending_at end rest (line_number (length lines)))
+  pub says : report ≡ report_of (tally_of c lines) 0 (ending_at end rest (line_number (length lines)))
 
 abbrev pub EndsAfter : Setting → List StreamLine → List ℕ → StreamEnd → List History → Report → Type 0
 EndsAfter c lines rest end blocks report =
     EndsAtLine c lines rest blocks report
-    ⊎ (EndsAtText lines rest blocks report
+    ⊎ (EndsAtText c lines rest blocks report
     ⊎ (EndsAtMemory c lines rest blocks report
-    ⊎ EndsAtEnd lines rest end blocks report))
+    ⊎ EndsAtEnd c lines rest end blocks report))
 
 -- The stream of these bytes and this end, whose lines have these blocks of events, is judged so: its good lines come first, and then what ended it.
 pub record JudgesBlocks (c : Setting) (bytes : List ℕ) (end : StreamEnd) (blocks : List History) (report : Report) : Type 0 where

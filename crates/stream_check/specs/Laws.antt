@@ -21,7 +21,7 @@ use Rattle.stream_check.specs.declared.report.Ending.TheVariants as endings
 use Rattle.stream_check.specs.declared.report.Report.{Report}
 use Rattle.stream_check.specs.Setting.{Setting}
 use Rattle.stream_check.specs.Deletions.{StopsDeletion}
-use Rattle.stream_check.specs.Judging.{JudgesLine, joined, report_of, StreamEnd, ending_at, JudgesBlocks, Judges}
+use Rattle.stream_check.specs.Judging.{JudgesLine, joined, report_of, StreamEnd, failed, ending_at, JudgesBlocks, Judges}
 use Rattle.stream_check.specs.Forks.{NeverFork}
 use Rattle.propagate.specs.Distinct.{distinct}
 use Rattle.stream_check.specs.Standing.{Standing}
@@ -94,6 +94,15 @@ IsDecided (endings.Memory line) = Unit {0}
 abbrev pub EitherEnd : Type 0
 EitherEnd = (c : Setting) (bytes more : List ℕ) (end other : StreamEnd) (blocks : List History) (report : Report)
     → IsDecided report.ending → JudgesBlocks c bytes end blocks report → JudgesBlocks c (bytes ++ more) other blocks report
+
+-- the report tells of a failed read
+abbrev pub IsOfFailure : Report → Type 0
+IsOfFailure report = (line : ℕ) × (report.ending ≡ endings.ReadFailed line)
+
+-- where the read failed and the report doesn't tell so, it was decided before: it is right for either end, and whatever follows
+abbrev pub DecidedBeforeFailure : Type 0
+DecidedBeforeFailure = (c : Setting) (bytes more : List ℕ) (end : StreamEnd) (blocks : List History) (report : Report)
+    → ¬ IsOfFailure report → JudgesBlocks c bytes failed blocks report → JudgesBlocks c (bytes ++ more) end blocks report
 
 -- Where a checker may be fed
 
@@ -191,12 +200,12 @@ abbrev pub ReducedStream : Type 0
 ReducedStream = (c : Setting) (bytes : List ℕ) (end : StreamEnd) (blocks : List History) (report : Report)
     → JudgesBlocks c bytes end blocks report → JudgesBlocks c bytes end (map reduced blocks) report
 
--- What hints cite
+-- What lines cite
 
--- the hints of an addition
-abbrev pub hints_of : StreamLine → List ℕ
-hints_of (Addition id lits hints) = hints
-hints_of (Deletion lead ids) = []
+-- each identity that the judgement of a line may fetch, also own ones and the formula's: the hints of an addition; a deletion fetches none
+abbrev pub cited_by : StreamLine → List ℕ
+cited_by (Addition id lits hints) = hints
+cited_by (Deletion lead ids) = []
 
 -- a fetch is of an identity that passes the test
 abbrev pub FetchesOnly : (ℕ → Bool) → Event → Type 0
@@ -209,11 +218,11 @@ abbrev pub JudgedLinesCut : Type 0
 JudgedLinesCut = (c : Setting) (bytes : List ℕ) (end : StreamEnd) (blocks : List History) (report : Report) (all : List StreamLine) (rest : List ℕ)
     → (j : JudgesBlocks c bytes end blocks report) → Cut bytes all rest → (more : List StreamLine) × (all ≡ j.lines ++ more)
 
--- a stream fetches no identity but the hints of its lines: where all hints pass a test, so does what it fetches
-abbrev pub HintsFetched : Type 0
-HintsFetched = (c : Setting) (bytes : List ℕ) (end : StreamEnd) (blocks : List History) (report : Report) (all : List StreamLine) (rest : List ℕ) (p : ℕ → Bool)
+-- a stream fetches no identity that its lines don't cite: where all that they cite pass a test, so does what it fetches
+abbrev pub CitedFetched : Type 0
+CitedFetched = (c : Setting) (bytes : List ℕ) (end : StreamEnd) (blocks : List History) (report : Report) (all : List StreamLine) (rest : List ℕ) (p : ℕ → Bool)
     → JudgesBlocks c bytes end blocks report → Cut bytes all rest
-    → AllByRecursion (λ line. AllByRecursion (λ h. IsTrue (p h)) (hints_of line)) all
+    → AllByRecursion (λ line. AllByRecursion (λ h. IsTrue (p h)) (cited_by line)) all
     → AllByRecursion (FetchesOnly p) (joined blocks)
 
 -- Counts

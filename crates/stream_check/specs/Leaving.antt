@@ -30,7 +30,7 @@ pub record LeavesGoing (c : Setting) (bytes : List ℕ) (blocks : List History) 
   pub cut : Cut bytes lines now.pending
   pub pending : IsPending now.pending
   pub good : AreGood c [] lines blocks
-  pub tally : now.tally ≡ tally_of lines
+  pub tally : now.tally ≡ tally_of c lines
   pub standing : SameStanding now.standing (standing_of c lines)
   pub line : now.line ≡ line_number (length lines)
 
@@ -52,8 +52,8 @@ standing_after c st line = record {
   gone = λ id. st.gone id || is_shared (side_of c id) && is_among (deleted_by line) id;
 }
 
-abbrev pub tally_after : Tally → StreamLine → Tally
-tally_after t line = record {
+abbrev pub tally_after : Setting → Tally → StreamLine → Tally
+tally_after c t line = record {
   added = t.added + added_by line;
   deleted = capped (t.deleted + length (deleted_by line));
   empty = t.empty || adds_empty line;
@@ -61,14 +61,14 @@ tally_after t line = record {
 
 -- what a checker holds after one good line more
 pub record TakesLine (c : Setting) (old : Holding) (taken : StreamLine) (new : Holding) : Type 0 where
-  pub tally : new.tally ≡ tally_after old.tally taken
+  pub tally : new.tally ≡ tally_after c old.tally taken
   pub standing : SameStanding new.standing (standing_after c old.standing taken)
   pub pending : new.pending ≡ []
   pub line : new.line ≡ capped (old.line + 1)
 
 -- what a checker holds before the first byte
 pub record IsFresh (c : Setting) (now : Holding) : Type 0 where
-  pub tally : now.tally ≡ tally_of []
+  pub tally : now.tally ≡ tally_of c []
   pub standing : SameStanding now.standing (standing_of c [])
   pub pending : now.pending ≡ []
   pub line : now.line ≡ 1

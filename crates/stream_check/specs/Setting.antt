@@ -10,6 +10,10 @@ pub record Setting : Type 0 where
   pub stream : ℕ
   pub tries : ℕ
 
+-- the greatest number of tries
+abbrev pub max_tries : ℕ
+max_tries = 1000000
+
 -- whose an identity is, as one stream sees it
 pub data Side : Type 0 where
   formula : Side

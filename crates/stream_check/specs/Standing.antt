@@ -62,8 +62,8 @@ adds_empty (Addition id [] hints) = true
 adds_empty (Addition id (l ∷ lits) hints) = false
 adds_empty (Deletion lead ids) = false
 
-abbrev pub tally_of : List StreamLine → Tally
-tally_of lines = record {
+abbrev pub tally_of : Setting → List StreamLine → Tally
+tally_of c lines = record {
   added = sum_by added_by lines;
   deleted = capped (sum_by (λ line. length (deleted_by line)) lines);
   empty = list_any adds_empty lines;

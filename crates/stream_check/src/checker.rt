@@ -2,6 +2,7 @@
 ghost use Rattle.std.specs.Prelude.{◌≡◌, ◌↔◌, ◌≤◌, ◌<◌, IsTrue, IsSome, IfSome, IfOk, List, take, length};
 ghost use Rattle.lrup_model.specs.Event.{History};
 ghost use Rattle.lrup_model.specs.Layout.{IsStream};
+ghost use Rattle.stream_check.specs.Setting.{max_tries};
 ghost use Rattle.stream_check.specs.Judging.{joined, ended, failed};
 ghost use Rattle.stream_check.specs.Checker.{state_of, report_at, IsReadyAt, LeavesOn, AreBlocksOf, Turns, StaysOver, IsNew, Ends, ReportsEnd};
 
@@ -42,6 +43,9 @@ impl Model for Checker {
 }
 
 impl Checker {
+    /// The greatest number of tries.
+    pub const MAX_TRIES: u64 = 1_000_000;
+
     /// A checker of stream `stream`, from 1 on, before its first byte. A hint of another stream is fetched again while it is
     /// vacant, up to `tries` times, at most 1,000,000. All memory is taken here, but for the identities that the stream drops.
     pub fn new(
@@ -51,7 +55,7 @@ impl Checker {
         tries: u64,
     ) -> Result<Checker, AllocError>
         requires stream { IsStream layout.now stream }
-        requires tries { tries ≤ 1000000 }
+        requires tries { tries ≤ max_tries }
         ensures { IfOk result (IsNew layout.now stream tries) }
     {
         fresh_left();

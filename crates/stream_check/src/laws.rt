@@ -1,5 +1,5 @@
 //! Laws of judging. Each function does nothing; its contract is the law, which holds of every stream, layout and history.
-ghost use Rattle.stream_check.specs.Laws.{FreshLeft, PendingGrows, GoodLineTaken, BadLineTaken, BadTextRead, MemoryWanted, EndJudged, OverStays, EitherEnd, ReadyNew, ReadyStays, ReadyBeside, OneReport, RepliesDecide, LegalNeverFork, AloneDecides, GoodExactlyIf, GoodFollows, LineCalls, EarlyEvents, VacantTriesAgain, ReducedLine, ReducedStream, JudgedLinesCut, HintsFetched, CountsWithin};
+ghost use Rattle.stream_check.specs.Laws.{FreshLeft, PendingGrows, GoodLineTaken, BadLineTaken, BadTextRead, MemoryWanted, EndJudged, OverStays, EitherEnd, DecidedBeforeFailure, ReadyNew, ReadyStays, ReadyBeside, OneReport, RepliesDecide, LegalNeverFork, AloneDecides, GoodExactlyIf, GoodFollows, LineCalls, EarlyEvents, VacantTriesAgain, ReducedLine, ReducedStream, JudgedLinesCut, CitedFetched, CountsWithin};
 
 use lrup_model::laws::{propagation_sound, vacant_above_stays};
 use lrup_text::laws::{
@@ -56,6 +56,11 @@ pub fn over_stays()
 /// A bad line or text, or want of memory, is judged alike for either end and whatever follows.
 pub fn either_end()
     ensures { EitherEnd }
+{}
+
+/// Where the read failed and the report doesn't tell so, it is right for either end and whatever follows.
+pub fn decided_before_failure()
+    ensures { DecidedBeforeFailure }
 {}
 
 /// A new checker may be fed at the opening of a run.
@@ -159,9 +164,9 @@ pub fn judged_lines_cut()
     a_text_has_one_fault();
 }
 
-/// A stream fetches no identity but the hints of its lines.
-pub fn hints_fetched()
-    ensures { HintsFetched }
+/// A stream fetches no identity that its lines don't cite.
+pub fn cited_fetched()
+    ensures { CitedFetched }
 {
     a_text_spells_one_line();
     no_text_begins_another();

@@ -95,7 +95,7 @@ fn checker_at(alloc: Global, map: &PlainMap, stream: u64, tries: u64) -> Result<
 {
     ready_new();
     let layout = map.layout();
-    if stream == 0 || stream > layout.streams() || tries > 1_000_000 {
+    if stream == 0 || stream > layout.streams() || tries > Checker::MAX_TRIES {
         return Err("no such stream".into());
     }
     let checker = Checker::new(alloc, stream, layout, tries)?;

@@ -1,5 +1,5 @@
-use Rattle.stream_check.proofs.CutLemmas.{hints_fetched as lemma}
-use Rattle.stream_check.proofs.laws.hints_fetched.Goals as goal
+use Rattle.stream_check.proofs.CutLemmas.{cited_fetched as lemma}
+use Rattle.stream_check.proofs.laws.cited_fetched.Goals as goal
 
 pub returns : goal.returns
 returns c = lemma (record {

@@ -1,0 +1,5 @@
+use Rattle.stream_check.proofs.LeavingLemmas.{decided_before_failure as lemma}
+use Rattle.stream_check.proofs.laws.decided_before_failure.Goals as goal
+
+pub returns : goal.returns
+returns c = lemma
