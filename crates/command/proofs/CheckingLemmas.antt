@@ -2,8 +2,6 @@
 use Rattle.std.proofs.Common.{◌≡◌, ◌∙◌, ℕ, Bool, false, List, map, length, Option, Some, IfSome, Result, Ok, Err, IfOk, IfErr, inl, inr, sym, ap, subst, rules}
 use Rattle.std.proofs.lemmas.List.{length-map}
 use Rattle.std.specs.Prelude.{IsErrAnd}
-use Rattle.std.specs.Option.{ForSome}
-use Rattle.dimacs.specs.FormulaText.{IsTextOf}
 use Rattle.lrup_model.specs.Entailment.{IsUnsatisfiable}
 use Rattle.lrup_model.specs.Formula.{Cnf}
 use Rattle.lrup_model.specs.Layout.{LayoutValue, IsFault, IsStream}
@@ -16,7 +14,7 @@ use Rattle.stream_check.specs.declared.report.Report.{Report}
 use Rattle.command_line.specs.CommandLine.{IsCommandLineOf}
 use Rattle.command_line.specs.declared.words.CommandLine.{CommandLine}
 use Rattle.command.specs.Commands.{AreChecked, IsCause, IsFormulaAt, IsOpenCause, IsOutcome, IsReadCause}
-use Rattle.command.specs.Commands.{FilesView, ReaderView, IsUnsatisfiableText, IsRunCause, Text, layout_at, options_of}
+use Rattle.command.specs.Commands.{FilesView, IsRunCause, NameUnsatisfiable, Text, layout_at, options_of}
 use Rattle.command.specs.Faults.{of_run}
 use Rattle.command.specs.declared.fault.CommandFault.{CommandFault}
 use Rattle.command.specs.declared.fault.CommandFault.TheVariants as faults
@@ -67,12 +65,14 @@ same_layout options f given count options_are count_is =
 same_count : {A B C : Type 0} (f : A → C) (g : B → C) (xs : List A) (ys : List B) → map f xs ≡ map g ys → length xs ≡ length ys
 same_count f g xs ys same = sym (length-map xs f) ∙ ap length same ∙ length-map ys g
 
-pub is_unsatisfiable_text : (told : Option (List ℕ)) (f : Cnf) → IsFormulaAt told f → IsUnsatisfiable f → ForSome told IsUnsatisfiableText
-is_unsatisfiable_text told f at refuted all is = (f, subst (λ bytes. IsTextOf bytes f) (sym (at.1 all is)) at.2, refuted)
+-- what was read is a text of a formula that no assignment satisfies
+pub names_unsatisfiable : (R : Type 0) (files : FilesView R) (words : List Text) (given : CommandLine) (f : Cnf) → IsCommandLineOf words given
+    → IsFormulaAt R files given.formula.now f → IsUnsatisfiable f → NameUnsatisfiable R files words
+names_unsatisfiable R files words given f line at refuted = (given, at.0, line, at.1, (f, at.2, refuted))
 
 -- what is checked is the outcome of the words and the files
 pub is_outcome : (R : Type 0) (files : FilesView R) (words : List Text) (given : CommandLine) (f : Cnf) (options : OptionsValue) (readers : List R)
-    → IsCommandLineOf words given → IsFormulaAt (files.tells given.formula.now) f
+    → IsCommandLineOf words given → IsFormulaAt R files given.formula.now f
     → options ≡ options_of given → map files.reading.left readers ≡ map files.tells given.streams
     → (reports : List Report) (verdict : Verdict)
     → AreChecked R files.reading given.serial f (layout_of options f (length readers)) options.tries (map files.reading.left readers) reports verdict
@@ -99,7 +99,7 @@ read_cause R files words given line faults.Memory cause = tt
 read_cause R files words given line faults.Unwritten cause = absurd cause
 
 pub open_cause : (R : Type 0) (files : FilesView R) (words : List Text) (given : CommandLine) (f : Cnf) → IsCommandLineOf words given
-    → IsFormulaAt (files.tells given.formula.now) f → (fault : CommandFault) → IsOpenCause R files given.streams fault → IsCause R files words fault
+    → IsFormulaAt R files given.formula.now f → (fault : CommandFault) → IsOpenCause files.may_refuse given.streams fault → IsCause R files words fault
 open_cause R files words given f line at (faults.Usage text) cause = absurd cause
 open_cause R files words given f line at faults.Unread cause = absurd cause
 open_cause R files words given f line at (faults.Refused fault) cause = absurd cause
@@ -110,7 +110,7 @@ open_cause R files words given f line at faults.Memory cause = tt
 open_cause R files words given f line at faults.Unwritten cause = absurd cause
 
 line_cause : (R : Type 0) (files : FilesView R) (words : List Text) (given : CommandLine) (f : Cnf) → IsCommandLineOf words given
-    → IsFormulaAt (files.tells given.formula.now) f → (fault : CommandFault) → IsRunCause given.serial (layout_at given f) fault → IsCause R files words fault
+    → IsFormulaAt R files given.formula.now f → (fault : CommandFault) → IsRunCause given.serial (layout_at given f) fault → IsCause R files words fault
 line_cause R files words given f line at (faults.Usage text) cause = absurd cause
 line_cause R files words given f line at faults.Unread cause = absurd cause
 line_cause R files words given f line at (faults.Refused fault) cause = absurd cause
@@ -122,7 +122,7 @@ line_cause R files words given f line at faults.Unwritten cause = absurd cause
 
 -- so a run's cause, by the layout that the run has
 pub run_cause_of : (R : Type 0) (files : FilesView R) (words : List Text) (given : CommandLine) (f : Cnf) (options : OptionsValue) (readers : List R)
-    → IsCommandLineOf words given → IsFormulaAt (files.tells given.formula.now) f
+    → IsCommandLineOf words given → IsFormulaAt R files given.formula.now f
     → options ≡ options_of given → map files.reading.left readers ≡ map files.tells given.streams
     → (fault : CommandFault) → IsRunCause given.serial (layout_of options f (length readers)) fault → IsCause R files words fault
 run_cause_of R files words given f options readers line at options_are entries_are fault cause =
@@ -130,12 +130,9 @@ run_cause_of R files words given f options readers line at options_are entries_a
     let moved = subst (λ (p : LayoutValue). IsRunCause given.serial p fault) (same_layout options f given (length readers) options_are count) cause in
     line_cause R files words given f line at fault moved
 
--- the files are known by the same before and after the formula was read
-pub open_moved : (R : Type 0) (reading : ReaderView R) (tells later_tells : Text → Option (List ℕ)) (may later_may : Text → Bool) (paths later_paths : List Text)
-    → later_tells ≡ tells → later_may ≡ may → later_paths ≡ paths → (fault : CommandFault)
-    → IsOpenCause R (record { tells = later_tells; may_refuse = later_may; reading = reading }) later_paths fault
-    → IsOpenCause R (record { tells = tells; may_refuse = may; reading = reading }) paths fault
-open_moved R reading tells later_tells may later_may paths later_paths tells_stay may_stays paths_are fault cause =
-    let one = subst (λ (t : Text → Option (List ℕ)). IsOpenCause R (record { tells = t; may_refuse = later_may; reading = reading }) later_paths fault) tells_stay cause in
-    let two = subst (λ (m : Text → Bool). IsOpenCause R (record { tells = tells; may_refuse = m; reading = reading }) later_paths fault) may_stays one in
-    subst (λ (ps : List Text). IsOpenCause R (record { tells = tells; may_refuse = may; reading = reading }) ps fault) paths_are two
+-- the files refuse the same before and after the formula was read
+pub open_moved : (may later_may : Text → Bool) (paths later_paths : List Text) → later_may ≡ may → later_paths ≡ paths → (fault : CommandFault)
+    → IsOpenCause later_may later_paths fault → IsOpenCause may paths fault
+open_moved may later_may paths later_paths may_stays paths_are fault cause =
+    let one = subst (λ (m : Text → Bool). IsOpenCause m later_paths fault) may_stays cause in
+    subst (λ (ps : List Text). IsOpenCause may ps fault) paths_are one

@@ -1,3 +1,4 @@
 mod CheckingLemmas
 mod OpeningLemmas
 mod WritingLemmas
+mod ReadingLemmas

@@ -10,6 +10,7 @@ use Rattle.lrup_model.specs.declared.layout.LayoutFault.{LayoutFault}
 use Rattle.dimacs.specs.FormulaFault.{IsFaultOf as IsFormulaFault}
 use Rattle.dimacs.specs.FormulaText.{IsTextOf}
 use Rattle.dimacs.specs.declared.fault.DimacsFault.TheVariants as formulas
+use Rattle.lrup_text.specs.Reads.{BrokeOff, GaveAll, ReadsOf}
 use Rattle.stream_check.specs.declared.report.Report.{Report}
 use Rattle.portfolio.specs.Headline.{HaveOneHistory, AreJudgedBy}
 use Rattle.portfolio.specs.Outcomes.{IsVerdictOf, OptionsValue, layout_of}
@@ -30,15 +31,6 @@ Text = List ℕ
 -- the bytes are a text of a formula that no assignment satisfies
 abbrev pub IsUnsatisfiableText : List ℕ → Type 0
 IsUnsatisfiableText bytes = (f : Cnf) × IsTextOf bytes f × IsUnsatisfiable f
-
--- The file at the path of the words' formula, if the device tells its bytes, is a text of a formula that no assignment satisfies.
-abbrev pub NameUnsatisfiable : List Text → (Text → Option (List ℕ)) → Type 0
-NameUnsatisfiable words tells =
-    (given : CommandLine) × IsCommandLineOf words given × ForSome (tells given.formula.now) IsUnsatisfiableText
-
--- the formula whose text is all that the file told; where the device doesn't tell, some formula that has a text
-abbrev pub IsFormulaAt : Option (List ℕ) → Cnf → Type 0
-IsFormulaAt told f = (bytes : List ℕ) × ForSome told (λ all. all ≡ bytes) × IsTextOf bytes f
 
 -- the options of a command line
 abbrev pub options_of : CommandLine → OptionsValue
@@ -71,52 +63,85 @@ pub record AreChecked (R : Type 0) (reading : ReaderView R) (serial : Bool) (f :
   pub is_verdict : IsVerdictOf reports verdict
   pub sound : verdict ≡ Unsatisfiable → IsUnsatisfiable f
 
--- What is known of files: what the file at each path tells, where the device tells it, whether a path may be refused, and the
--- readers that they are opened as.
-pub record FilesView (R : Type 0) : Type 0 where
+-- What is known of files: what the file at each path tells, where the device tells it, whether a path may be refused, the readers
+-- that they are opened as, and what an opening and a read do.
+pub record FilesView (R : Type 0) : Type 1 where
   pub tells : Text → Option (List ℕ)
   pub may_refuse : Text → Bool
   pub reading : ReaderView R
+  pub opens : Text → R → Type 0
+  pub reads : ReadsOf R
 
-abbrev pub files_view : {R : Type 0} → (Text → Option (List ℕ)) → (Text → Bool) → (R → Option (List ℕ)) → (R → Bool) → FilesView R
-files_view tells may_refuse left has_failed =
-    record { tells = tells; may_refuse = may_refuse; reading = record { left = left; has_failed = has_failed } }
+abbrev pub files_view : {R : Type 0} → (Text → Option (List ℕ)) → (Text → Bool)
+    → (R → Option (List ℕ)) → (R → Bool) → (Text → R → Type 0) → ReadsOf R → FilesView R
+files_view tells may_refuse left has_failed opens reads = record {
+  tells = tells;
+  may_refuse = may_refuse;
+  reading = record { left = left; has_failed = has_failed };
+  opens = opens;
+  reads = reads;
+}
+
+-- The file at the path was opened, and its reads gave these bytes, up to the end. If the device tells the file's bytes, it is these.
+pub record WasRead (R : Type 0) (files : FilesView R) (path : Text) (bytes : List ℕ) : Type 0 where
+  pub reader : R
+  pub opened : files.opens path reader
+  pub gave : GaveAll R files.reads reader bytes
+  pub told : ForSome (files.tells path) (λ all. all ≡ bytes)
+
+-- What was read of the file at the path of the words' formula is a text of a formula that no assignment satisfies.
+abbrev pub NameUnsatisfiable : (R : Type 0) → FilesView R → List Text → Type 0
+NameUnsatisfiable R files words = (given : CommandLine) × (bytes : List ℕ) × IsCommandLineOf words given
+    × WasRead R files given.formula.now bytes × IsUnsatisfiableText bytes
+
+-- the formula whose text was read of the file at a path
+abbrev pub IsFormulaAt : (R : Type 0) → FilesView R → Text → Cnf → Type 0
+IsFormulaAt R files path f = (bytes : List ℕ) × WasRead R files path bytes × IsTextOf bytes f
 
 -- The reports and the verdict that the words and the files come to.
 pub record IsOutcome (R : Type 0) (files : FilesView R) (words : List Text) (reports : List Report) (verdict : Verdict) : Type 0 where
   pub given : CommandLine
   pub command_line : IsCommandLineOf words given
   pub formula : Cnf
-  pub is_formula : IsFormulaAt (files.tells given.formula.now) formula
+  pub is_formula : IsFormulaAt R files given.formula.now formula
   pub checked : AreChecked R files.reading given.serial formula (layout_at given formula) given.tries (map files.tells given.streams) reports verdict
 
 -- Causes. Nothing shows afterwards that memory ran out or that a thread wasn't started, so these are taken as causes whatever the
 -- files hold.
 
--- a reader has failed
-abbrev pub HasFailed : (R : Type 0) → ReaderView R → Type 0
-HasFailed R reading = (reader : R) × (reading.has_failed reader ≡ true)
+-- Reads of a file gave some bytes, and then one failed. If the device tells what was left of the file, it began with these bytes.
+pub record HasBrokenOff (R : Type 0) (reading : ReaderView R) (reads : ReadsOf R) (first : R) : Type 0 where
+  pub bytes : List ℕ
+  pub broke : BrokeOff R reads reading.has_failed first bytes
+  pub told : ForSome (reading.left first) (λ all. (rest : List ℕ) × (all ≡ bytes ++ rest))
 
 -- why a file that was opened wasn't read to its end
-abbrev pub IsFailedRead : (R : Type 0) → ReaderView R → CommandFault → Type 0
-IsFailedRead R reading faults.Unread = HasFailed R reading
-IsFailedRead R reading faults.Memory = Unit {0}
-IsFailedRead R reading fault = ⊥
+abbrev pub IsFailedRead : (R : Type 0) → ReaderView R → ReadsOf R → R → CommandFault → Type 0
+IsFailedRead R reading reads first faults.Unread = HasBrokenOff R reading reads first
+IsFailedRead R reading reads first faults.Memory = Unit {0}
+IsFailedRead R reading reads first fault = ⊥
 
--- why the formula at a path wasn't read: its file was refused or failed, or holds no formula
+-- The file at the path was opened, and its reading failed.
+pub record WasUnread (R : Type 0) (files : FilesView R) (path : Text) : Type 0 where
+  pub reader : R
+  pub opened : files.opens path reader
+  pub left : files.reading.left reader ≡ files.tells path
+  pub broken : HasBrokenOff R files.reading files.reads reader
+
+-- why the formula at a path wasn't read: its file was refused, or its reading failed, or it holds no formula
 abbrev pub IsReadCause : (R : Type 0) → FilesView R → Text → CommandFault → Type 0
-IsReadCause R files path faults.Unread = IsTrue (files.may_refuse path) ⊎ HasFailed R files.reading
+IsReadCause R files path faults.Unread = IsTrue (files.may_refuse path) ⊎ WasUnread R files path
 IsReadCause R files path (faults.Refused fault) =
-    (fault ≢ formulas.Memory) × ((bytes : List ℕ) × ForSome (files.tells path) (λ all. all ≡ bytes) × IsFormulaFault bytes fault)
+    (fault ≢ formulas.Memory) × ((bytes : List ℕ) × WasRead R files path bytes × IsFormulaFault bytes fault)
 IsReadCause R files path faults.Memory = Unit {0}
 IsReadCause R files path fault = ⊥
 
 -- why not all of the streams at these paths were opened: the file of one was refused, counted from 1
-abbrev pub IsOpenCause : (R : Type 0) → FilesView R → List Text → CommandFault → Type 0
-IsOpenCause R files paths (faults.NotOpened stream) =
-    (place : ℕ) × (path : Text) × (stream ≡ place + 1) × (slice_get paths place ≡ Some path) × IsTrue (files.may_refuse path)
-IsOpenCause R files paths faults.Memory = Unit {0}
-IsOpenCause R files paths fault = ⊥
+abbrev pub IsOpenCause : (Text → Bool) → List Text → CommandFault → Type 0
+IsOpenCause may_refuse paths (faults.NotOpened stream) =
+    (place : ℕ) × (path : Text) × (stream ≡ place + 1) × (slice_get paths place ≡ Some path) × IsTrue (may_refuse path)
+IsOpenCause may_refuse paths faults.Memory = Unit {0}
+IsOpenCause may_refuse paths fault = ⊥
 
 -- why streams weren't checked: there is no layout; or there is one, and a thread wasn't started
 abbrev pub IsRunCause : Bool → LayoutValue → CommandFault → Type 0
@@ -130,8 +155,8 @@ IsRunCause serial p fault = ⊥
 abbrev pub IsCauseAt : (R : Type 0) → FilesView R → CommandLine → CommandFault → Type 0
 IsCauseAt R files given fault =
     IsReadCause R files given.formula.now fault
-    ⊎ ((f : Cnf) × IsFormulaAt (files.tells given.formula.now) f
-    × (IsOpenCause R files given.streams fault ⊎ IsRunCause given.serial (layout_at given f) fault))
+    ⊎ ((f : Cnf) × IsFormulaAt R files given.formula.now f
+    × (IsOpenCause files.may_refuse given.streams fault ⊎ IsRunCause given.serial (layout_at given f) fault))
 
 -- Why there is no outcome, by the words and the files.
 abbrev pub IsCause : (R : Type 0) → FilesView R → List Text → CommandFault → Type 0

@@ -4,8 +4,10 @@ ghost use Rattle.std.specs.List.{AllByRecursion};
 ghost use Rattle.std.specs.Option.{ForSome};
 ghost use Rattle.clap.specs.Walk.{texts};
 ghost use Rattle.portfolio.specs.Outcomes.{layout_of};
-ghost use Rattle.command.specs.Commands.{AreChecked, IsCause, IsFailedRead, IsFormulaAt, IsOpenCause, files_view};
-ghost use Rattle.command.specs.Commands.{IsOutcome, IsReadCause, IsRunCause, NameUnsatisfiable};
+ghost use Rattle.lrup_text.specs.Reads.{GaveAll};
+ghost use Rattle.command.specs.Commands.{AreChecked, IsCause, IsFailedRead, IsFormulaAt};
+ghost use Rattle.command.specs.Commands.{IsOpenCause, IsOutcome, IsReadCause, IsRunCause};
+ghost use Rattle.command.specs.Commands.{NameUnsatisfiable, files_view};
 
 use crate::fault::CommandFault;
 use crate::files::{Files, OpenFault};
@@ -40,13 +42,15 @@ pub fn check_words<T: Threads + Wait + Sync, C: Clock + Sync, F: Files>(
     files: &mut F,
 ) -> Result<Found, CommandFault>
     ensures outcome { let view = files_view (F.tells files.old) (F.may_refuse files.old)
-        F.Input.Source.left F.Input.Source.has_failed in
+        F.Input.Source.left F.Input.Source.has_failed (F.opens files.old) F.Input.Source.reads in
         IfOk result (λ found.
         IsOutcome _ view (texts words.now) found.reports.items found.verdict) }
-    ensures sound { IfOk result (λ found. found.verdict ≡ Verdict.Unsatisfiable
-        → NameUnsatisfiable (texts words.now) (F.tells files.old)) }
+    ensures sound { let view = files_view (F.tells files.old) (F.may_refuse files.old)
+        F.Input.Source.left F.Input.Source.has_failed (F.opens files.old) F.Input.Source.reads in
+        IfOk result (λ found. found.verdict ≡ Verdict.Unsatisfiable
+        → NameUnsatisfiable _ view (texts words.now)) }
     ensures cause { let view = files_view (F.tells files.old) (F.may_refuse files.old)
-        F.Input.Source.left F.Input.Source.has_failed in
+        F.Input.Source.left F.Input.Source.has_failed (F.opens files.old) F.Input.Source.reads in
         IfErr result (IsCause _ view (texts words.now)) }
 {
     let line = read_words(alloc, words)?;
@@ -71,9 +75,11 @@ fn read_formula<W: Wait, F: Files>(
     files: &mut F,
     path: &str,
 ) -> Result<Formula, CommandFault>
-    ensures formula { IfOk result (IsFormulaAt (F.tells files.old path.now)) }
+    ensures formula { let view = files_view (F.tells files.old) (F.may_refuse files.old)
+        F.Input.Source.left F.Input.Source.has_failed (F.opens files.old) F.Input.Source.reads in
+        IfOk result (IsFormulaAt _ view path.now) }
     ensures cause { let view = files_view (F.tells files.old) (F.may_refuse files.old)
-        F.Input.Source.left F.Input.Source.has_failed in
+        F.Input.Source.left F.Input.Source.has_failed (F.opens files.old) F.Input.Source.reads in
         IfErr result (IsReadCause _ view path.now) }
     ensures stays { F.tells files.new ≡ F.tells files.old }
     ensures stays_refused { F.may_refuse files.new ≡ F.may_refuse files.old }
@@ -92,9 +98,10 @@ fn read_all<W: Wait, S: Source>(
 ) -> Result<Vec<u8>, CommandFault>
     requires running { S.has_failed source.old ≡ false }
     requires some { 0 < most }
+    ensures gave { IfOk result (λ bytes. GaveAll _ S.reads source.old bytes.items) }
     ensures all { IfOk result (λ bytes. ForSome (S.left source.old) (λ all. all ≡ bytes.items)) }
-    ensures fault { IfErr result
-        (IsFailedRead _ (record { left = S.left; has_failed = S.has_failed })) }
+    ensures fault { IfErr result (IsFailedRead _
+        (record { left = S.left; has_failed = S.has_failed }) S.reads source.old) }
 {
     let mut bytes = Vec::new(alloc);
     let mut buffer = vec![in alloc; 0; most]?;
@@ -119,9 +126,7 @@ fn open_streams<F: Files>(
         map F.Input.Source.left readers.items ≡ map (F.tells files.old) (texts paths.now)) }
     ensures running { IfOk result (λ readers.
         AllByRecursion (λ r. F.Input.Source.has_failed r ≡ false) readers.items) }
-    ensures cause { let view = files_view (F.tells files.old) (F.may_refuse files.old)
-        F.Input.Source.left F.Input.Source.has_failed in
-        IfErr result (IsOpenCause _ view (texts paths.now)) }
+    ensures cause { IfErr result (IsOpenCause (F.may_refuse files.old) (texts paths.now)) }
 {
     let mut readers = Vec::with_capacity(alloc, paths.len())?;
     for path in paths {

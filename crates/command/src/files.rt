@@ -27,11 +27,15 @@ pub trait Files {
     /// Whether the opening of a path may fail for another cause than memory.
     ghost may_refuse: { Self → List ℕ → Bool };
 
+    /// What an opening does: the files before it, the path, and the file that is open then.
+    ghost opens: { Self → List ℕ → Self.Input → Type 0 } = { λ _ _ _. Unit {0} };
+
     /// Opens the file at a path, which is read from its beginning.
     fn open(&mut self, path: &str) -> Result<Self::Input, OpenFault>
         ensures left { IfOk result (λ input.
             Self.Input.Source.left input ≡ tells self.old path.now) }
         ensures running { IfOk result (λ input. Self.Input.Source.has_failed input ≡ false) }
+        ensures opens { IfOk result (opens self.old path.now) }
         ensures refused { result ≡ Err OpenFault.NotOpened → IsTrue (may_refuse self.old path.now) }
         ensures stays { tells self.new ≡ tells self.old }
         ensures stays_refused { may_refuse self.new ≡ may_refuse self.old };

@@ -43,10 +43,12 @@ pub fn command<T: Threads + Wait + Sync, C: Clock + Sync, F: Files, O: Sink, E: 
     requires out { O.has_failed out.old ≡ false }
     requires err { E.has_failed err.old ≡ false }
     // What a user relies on: with status 0 the file of FORMULA, where it is told, is a text of a formula that no assignment satisfies.
-    ensures sound { result ≡ 0 → NameUnsatisfiable (texts words.now) (F.tells files.old) }
+    ensures sound { let view = files_view (F.tells files.old) (F.may_refuse files.old)
+        F.Input.Source.left F.Input.Source.has_failed (F.opens files.old) F.Input.Source.reads in
+        result ≡ 0 → NameUnsatisfiable _ view (texts words.now) }
     // A report of what the words and the files come to, or none and the cause; what goes out; and the status.
     ensures ends { let view = files_view (F.tells files.old) (F.may_refuse files.old)
-        F.Input.Source.left F.Input.Source.has_failed in
+        F.Input.Source.left F.Input.Source.has_failed (F.opens files.old) F.Input.Source.reads in
         let output = change (O.written out.old) (O.written out.new) (O.has_failed out.new) in
         let errors = change (E.written err.old) (E.written err.new) (E.has_failed err.new) in
         EndsWithReport _ view (texts words.now) output errors result

@@ -1,18 +1,19 @@
 -- Every list of bytes is cut into lines: bytes are taken one by one, up to the end of a line or the byte that decides.
 use Rattle.std.proofs.Common.{◌≡◌, ◌≢◌, ℕ, suc, zero, ◌+◌, ◌<◌, ◌≤◌, ◌⊎◌, inl, inr, Bool, true, false, List, [], ◌∷◌, ◌++◌, length, refl, sym, ◌∙◌, ap, subst, arith}
-use Rattle.std.specs.List.{flat_map}
+use Rattle.std.specs.List.{AllByRecursion, flat_map}
 use Rattle.std.proofs.lemmas.Bool.{cases_eq, cases_lt}
+use Rattle.std.proofs.lemmas.Grind.{flat_map-append}
 use Rattle.std.proofs.lemmas.List.{append_assoc, append-nil, length-append, nil_from_length}
 use Rattle.lrup_text.specs.declared.LineFault.{LineFault}
 use Rattle.lrup_text.specs.declared.LineFault.TheVariants.{Spelling, TooLong, RatHint}
 use Rattle.lrup_text.specs.Faults.{Decides, HasTextFault}
 use Rattle.lrup_text.specs.Grammar.{IsDigit, IsLine, standard, line_feed, space, minus, zero_digit, letter_d}
-use Rattle.lrup_text.specs.Laws.{EveryCut, PendingOrFaulty}
+use Rattle.lrup_text.specs.Laws.{BeginningCut, CutGoesOn, EveryCut, PendingOrFaulty}
 use Rattle.lrup_text.specs.Lines.{StreamLine, IsWithinLimits, line_text, HasNoLine, Cut, IsPending}
 use Rattle.lrup_text.specs.Rests.{Spot, AtStart, InLead, BeforeLiteral, AfterMinus, InLiteral, BeforeList, BeforeItem, InItem, AtEnd, MayComplete, Tracks, Moves, Blocks, Allows}
 use Rattle.lrup_text.proofs.Decisions.{decides_spelling, decides_long, decides_rat}
 use Rattle.lrup_text.proofs.Steps.{IsBounded, Exceeds, NoFirst, NoDigit, at_start, start_digit, lead_digit, lead_space, body_zero, body_deletion, body_minus, body_digit, minus_digit, literal_digit, literal_space, list_space, item_zero, item_digit, number_digit, number_space, start_blocks, lead_blocks, body_blocks, minus_blocks, literal_blocks, list_blocks, item_blocks, number_blocks, end_blocks, lead_exceeds, literal_exceeds, number_exceeds, body_exceeds_digit, body_exceeds_minus, item_exceeds, hint_allows, standard_lifted, one_more, tracks_more}
-use Rattle.lrup_text.proofs.Streams.{texts_are_lines, refused_stays}
+use Rattle.lrup_text.proofs.Streams.{one_cut, texts_are_lines, refused_stays}
 use Rattle.lrup_text.proofs.TextLaws.{empty_pending, tracks_pending}
 
 -- What a byte is at a spot.
@@ -201,3 +202,23 @@ cut_up_to (suc most) stream few = elim (front_of stream) [
 
 pub every_cut : EveryCut
 every_cut stream = cut_up_to (length stream) stream (omega arith)
+
+-- Bytes and what follows them.
+
+all_of_both : {A : Type 0} (P : A → Type 0) (xs ys : List A) → AllByRecursion P xs → AllByRecursion P ys → AllByRecursion P (xs ++ ys)
+all_of_both P [] ys a b = b
+all_of_both P (x ∷ xs) ys a b = (a.0, all_of_both P xs ys a.1 b)
+
+pub cut_goes_on : CutGoesOn
+cut_goes_on bytes more lines others rest left a b = record {
+  bytes = ap (λ l. l ++ more) a.bytes ∙ append_assoc (flat_map line_text lines) rest more ∙ ap (λ l. flat_map line_text lines ++ l) b.bytes
+      ∙ sym (append_assoc (flat_map line_text lines) (flat_map line_text others) left) ∙ ap (λ l. l ++ left) (sym (flat_map-append line_text lines others));
+  each = all_of_both IsWithinLimits lines others a.each b.each;
+  last = b.last;
+}
+
+pub beginning_cut : BeginningCut
+beginning_cut bytes more lines all rest left a whole =
+    let after = every_cut (rest ++ more) in
+    let same = one_cut (bytes ++ more) all (lines ++ after.0) left after.1 whole (cut_goes_on bytes more lines after.0 rest after.1 a after.2) in
+    (after.0, same.0, subst (Cut (rest ++ more) after.0) (sym same.1) after.2)

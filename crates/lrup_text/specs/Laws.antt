@@ -37,6 +37,17 @@ OneCut = (stream : List ℕ) (lines others : List StreamLine) (rest left : List 
 abbrev pub EveryCut : Type 0
 EveryCut = (stream : List ℕ) → (lines : List StreamLine) × (rest : List ℕ) × Cut stream lines rest
 
+-- the lines of a beginning begin those of the whole, and the others are cut from its rest and what follows
+abbrev pub BeginningCut : Type 0
+BeginningCut = (bytes more : List ℕ) (lines all : List StreamLine) (rest left : List ℕ)
+    → Cut bytes lines rest → Cut (bytes ++ more) all left
+    → (others : List StreamLine) × (all ≡ lines ++ others) × Cut (rest ++ more) others left
+
+-- a cut goes on with that of its rest and what follows
+abbrev pub CutGoesOn : Type 0
+CutGoesOn = (bytes more : List ℕ) (lines others : List StreamLine) (rest left : List ℕ)
+    → Cut bytes lines rest → Cut (rest ++ more) others left → Cut (bytes ++ more) (lines ++ others) left
+
 -- a rest in which no line is whole may become one, or has a fault
 abbrev pub PendingOrFaulty : Type 0
 PendingOrFaulty = (rest : List ℕ) → HasNoLine rest → IsPending rest ⊎ ((fault : LineFault) × HasTextFault rest fault)

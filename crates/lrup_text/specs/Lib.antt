@@ -6,6 +6,7 @@ pub mod Laws
 pub mod Lending
 pub mod Lines
 pub mod Reading
+pub mod Reads
 pub mod Rests
 pub mod Writing
 pub mod WritingLemmas

@@ -1,6 +1,7 @@
 //! Where streams come from and go to.
 ghost use Rattle.std.specs.Prelude.{◌≡◌, ◌<◌, ◌≤◌, ℕ, List, Bool, false, Option, IfOk, is_err, length};
 ghost use Rattle.std.specs.Io.KnownBytes.{ReadConsumes, WriteAppends};
+ghost use Rattle.lrup_text.specs.Reads.{bytes_given};
 
 use std::io;
 use thiserror::Error;
@@ -23,6 +24,10 @@ pub trait Source {
     /// Whether a read has failed.
     ghost has_failed: { Self → Bool };
 
+    /// What a read does: the source before it, how long the buffer is, the bytes given or none after a fault, and the source after
+    /// it. A source that doesn't say allows any.
+    ghost reads: { Self → ℕ → Option (List ℕ) → Self → Type 0 } = { λ _ _ _ _. Unit {0} };
+
     /// Reads bytes into the front of a buffer, and says how many. 0 bytes into a buffer that isn't empty are the end.
     ///
     /// A fault reads nothing, and there is no read after it.
@@ -30,7 +35,8 @@ pub trait Source {
         requires { has_failed self.old ≡ false }
         ensures bound { IfOk result (λ count. count ≤ length buffer.new) }
         ensures bytes { ReadConsumes (left self.old) (left self.new) result buffer.new }
-        ensures failed { has_failed self.new ≡ is_err result };
+        ensures failed { has_failed self.new ≡ is_err result }
+        ensures reads { reads self.old (length buffer.new) (bytes_given result buffer.new) self.new };
 
     /// Whether a read has failed.
     fn failed(&self) -> bool

@@ -10,6 +10,8 @@ ghost use Rattle.lrup_text.specs.Laws.{
   CallCuts,
   CallsCut,
   EveryCut,
+  BeginningCut,
+  CutGoesOn,
   PendingOrFaulty,
   RefusedStays,
   OneFirstLine,
@@ -50,6 +52,16 @@ pub fn a_stream_is_cut_in_one_way()
 /// Every list of bytes is cut into lines.
 pub fn every_stream_is_cut()
     ensures { EveryCut }
+{}
+
+/// The lines of a beginning of a stream begin those of the stream, and the others are cut from its rest and what follows.
+pub fn a_beginning_is_cut_alike()
+    ensures { BeginningCut }
+{}
+
+/// A cut goes on with the cut of its rest and of what follows.
+pub fn a_cut_goes_on()
+    ensures { CutGoesOn }
 {}
 
 /// Bytes that hold no whole line in front may become one, or have a fault.

@@ -1,7 +1,7 @@
 use Rattle.std.proofs.Common.{◌≡◌, ◌∙◌, map, sym, ap, subst}
 use Rattle.clap.specs.Walk.{texts}
-use Rattle.command.specs.Commands.{IsCause, IsOutcome, ReaderView, files_view, options_of}
-use Rattle.command.proofs.CheckingLemmas.{err_given, if_err, if_ok, is_outcome, is_unsatisfiable_text, open_cause, open_moved, run_cause_of, some_given}
+use Rattle.command.specs.Commands.{IsCause, IsOutcome, files_view, options_of}
+use Rattle.command.proofs.CheckingLemmas.{err_given, if_err, if_ok, is_outcome, names_unsatisfiable, open_cause, open_moved, run_cause_of, some_given}
 use Rattle.command.proofs.checking.check_words.Goals as goal
 
 pub returns : goal.returns
@@ -10,7 +10,7 @@ returns g c =
     let line = c.in_ok-line.line in
     let words = texts c.args.words.now in
     let left = g.F.Input.Source.left in
-    let files = files_view (g.F.Files.tells c.args.files.now) (g.F.Files.may_refuse c.args.files.now) left g.F.Input.Source.has_failed in
+    let files = files_view (g.F.Files.tells c.args.files.now) (g.F.Files.may_refuse c.args.files.now) left g.F.Input.Source.has_failed (g.F.Files.opens c.args.files.now) g.F.Input.Source.reads in
     let formula = c.in_ok-formula.formula in
     let at = c.in_ok-formula.ensures.formula in
     let readers = c.in_ok-readers.readers.items in
@@ -22,7 +22,7 @@ returns g c =
           (λ found. is_outcome R files words line formula c.unwrap-options.result readers c.in_ok-line.ensures.ok at options entries found.reports.items found.verdict)
           c.check_streams.ensures.checked;
       sound = if_ok c.check_streams.result _ _
-          (λ found checked unsatisfiable. (line, c.in_ok-line.ensures.ok, is_unsatisfiable_text _ _ at (checked.sound unsatisfiable)))
+          (λ found checked unsatisfiable. names_unsatisfiable R files words line formula c.in_ok-line.ensures.ok at (checked.sound unsatisfiable))
           c.check_streams.ensures.checked;
       cause = if_err c.check_streams.result _ (IsCause R files words)
           (run_cause_of R files words line formula c.unwrap-options.result readers c.in_ok-line.ensures.ok at options entries)
@@ -34,10 +34,9 @@ returns-in_err-readers-clause-cause g c =
     let line = c.in_ok-line.line in
     let R = g.row.F-Input.Denot in
     let words = texts c.args.words.now in
-    let reading : ReaderView R = record { left = g.F.Input.Source.left; has_failed = g.F.Input.Source.has_failed } in
-    let files = files_view (g.F.Files.tells c.args.files.now) (g.F.Files.may_refuse c.args.files.now) g.F.Input.Source.left g.F.Input.Source.has_failed in
-    let moved = open_moved R reading files.tells (g.F.Files.tells c.read_formula.new.files) files.may_refuse (g.F.Files.may_refuse c.read_formula.new.files) line.streams (texts c.as_slice.result.now)
-    c.in_ok-formula.ensures.stays c.in_ok-formula.ensures.stays_refused c.as_slice.ensures c.in_err-readers.field-0.0 c.in_err-readers.ensures.cause in
+    let files = files_view (g.F.Files.tells c.args.files.now) (g.F.Files.may_refuse c.args.files.now) g.F.Input.Source.left g.F.Input.Source.has_failed (g.F.Files.opens c.args.files.now) g.F.Input.Source.reads in
+    let moved = open_moved files.may_refuse (g.F.Files.may_refuse c.read_formula.new.files) line.streams (texts c.as_slice.result.now)
+    c.in_ok-formula.ensures.stays_refused c.as_slice.ensures c.in_err-readers.field-0.0 c.in_err-readers.ensures.cause in
     let cause = open_cause R files words line c.in_ok-formula.formula c.in_ok-line.ensures.ok c.in_ok-formula.ensures.formula c.in_err-readers.field-0.0 moved in
     err_given c.from_residual-in_err-readers.result _ (IsCause R files words)
     (λ fault is. subst (IsCause R files words) (sym is) cause) c.from_residual-in_err-readers.ensures.1

@@ -1,0 +1,40 @@
+use Rattle.std.proofs.Common.{◌≡◌, ℕ, List, None, rules, subst, sym, true}
+use Rattle.std.specs.Io.KnownBytes.{Consumes}
+use Rattle.lrup_text.specs.Reads.{Gave, ReadsOf}
+use Rattle.command.specs.Commands.{HasBrokenOff, IsFailedRead, ReaderView}
+use Rattle.command.specs.declared.fault.CommandFault.{CommandFault}
+use Rattle.command.specs.declared.fault.CommandFault.TheVariants as faults
+use Rattle.command.proofs.CheckingLemmas.{err_given}
+use Rattle.command.proofs.ReadingLemmas.{consumed_begins, consumed_more, gave_more}
+use Rattle.command.proofs.checking.read_all.Goals as goal
+
+pub loop-preserved : goal.loop-preserved
+loop-preserved g c =
+    let read = c.in_ok-count.ensures in
+    let items = c.in_ok-extend_from_slice.ensures.items in
+    record {
+      gave = gave_more _ g.S.Source.reads _ _ _ _ _ _ _ c.loop.invariant.gave read.reads items;
+      consumes = consumed_more _ _ _ _ _ _ c.loop.invariant.consumes read.bytes.0 items;
+      running = read.failed;
+      piece = search rules;
+    }
+
+-- why the source wasn't read to its end
+broken_off : (R : Type 0) (reading : ReaderView R) (reads : ReadsOf R) (first last after : R) (bytes : List ℕ) (room : ℕ) (fault : CommandFault)
+    → Gave R reads first bytes last → Consumes (reading.left first) (reading.left last) bytes → reads last room None after → reading.has_failed after ≡ true
+    → fault ≡ faults.Unread → IsFailedRead R reading reads first fault
+broken_off R reading reads first last after bytes room fault gave consumed read failed is =
+    let broken : HasBrokenOff R reading reads first = record {
+      bytes = bytes;
+      broke = record { last = last; given = gave; room = room; after = after; fault = read; failed = failed };
+      told = consumed_begins _ _ bytes consumed;
+    } in
+    subst (IsFailedRead R reading reads first) (sym is) broken
+
+pub returns-in_err-count-clause-fault : goal.returns-in_err-count-clause-fault
+returns-in_err-count-clause-fault g c =
+    let reading : ReaderView g.row.S.Denot = record { left = g.S.Source.left; has_failed = g.S.Source.has_failed } in
+    let read = c.in_err-count.ensures in
+    err_given c.from_residual-in_err-count.result _ (IsFailedRead _ reading g.S.Source.reads c.args.source.now)
+    (λ fault is. broken_off _ reading g.S.Source.reads _ _ _ _ _ fault c.loop.invariant.gave c.loop.invariant.consumes read.reads read.failed is)
+    c.from_residual-in_err-count.ensures.1

@@ -1,0 +1,37 @@
+-- Reads of a source, one after another, and what they gave.
+use Rattle.std.specs.Prelude.{◌≡◌, ◌<◌, ℕ, Bool, true, List, [], take}
+use Rattle.std.specs.Prelude.{Option, Some, None, Result, Ok, Err}
+use Rattle.std.specs.List.{FoldsTo, concat}
+
+-- what a read gives: the bytes at the front of the buffer, or none after a fault
+abbrev pub bytes_given : {E : Type 0} → Result ℕ E → List ℕ → Option (List ℕ)
+bytes_given (Ok count) buffer = Some (take count buffer)
+bytes_given (Err fault) buffer = None
+
+-- what reads do: the source before, how long the buffer is, what is given, and the source after
+abbrev pub ReadsOf : Type 0 → Type 1
+ReadsOf S = S → ℕ → Option (List ℕ) → S → Type 0
+
+-- Reads, one after another, took a source from first to last, and gave these bytes together.
+pub record Gave (S : Type 0) (reads : ReadsOf S) (first : S) (bytes : List ℕ) (last : S) : Type 0 where
+  pub pieces : List (List ℕ)
+  pub calls : FoldsTo (λ s piece t. (room : ℕ) × reads s room (Some piece) t) first pieces last
+  pub whole : bytes ≡ concat pieces
+
+-- Reads gave all bytes of a source: after them one gave none, though its buffer had room.
+pub record GaveAll (S : Type 0) (reads : ReadsOf S) (first : S) (bytes : List ℕ) : Type 0 where
+  pub last : S
+  pub given : Gave S reads first bytes last
+  pub room : ℕ
+  pub some : 0 < room
+  pub after : S
+  pub end : reads last room (Some []) after
+
+-- Reads gave these bytes of a source, and then one failed.
+pub record BrokeOff (S : Type 0) (reads : ReadsOf S) (has_failed : S → Bool) (first : S) (bytes : List ℕ) : Type 0 where
+  pub last : S
+  pub given : Gave S reads first bytes last
+  pub room : ℕ
+  pub after : S
+  pub fault : reads last room None after
+  pub failed : has_failed after ≡ true
