@@ -6,7 +6,7 @@ use Rattle.lrup_model.specs.Entailment.{IsUnsatisfiable}
 use Rattle.lrup_model.specs.Formula.{Cnf}
 use Rattle.lrup_model.specs.Layout.{LayoutValue, IsFault, IsStream}
 use Rattle.lrup_model.specs.declared.layout.LayoutFault.{LayoutFault}
-use Rattle.portfolio.specs.Outcomes.{IsLayoutFault, OptionsValue, layout_of}
+use Rattle.portfolio.specs.Outcomes.{IsLayoutFault, OptionsValue, layout_of, terms_of}
 use Rattle.portfolio.specs.declared.outcome.RunFault.{RunFault}
 use Rattle.portfolio.specs.declared.outcome.RunFault.TheVariants as runs
 use Rattle.portfolio.specs.declared.outcome.Verdict.{Verdict}
@@ -14,7 +14,7 @@ use Rattle.stream_check.specs.declared.report.Report.{Report}
 use Rattle.command_line.specs.CommandLine.{IsCommandLineOf}
 use Rattle.command_line.specs.declared.words.CommandLine.{CommandLine}
 use Rattle.command.specs.Commands.{AreChecked, IsCause, IsFormulaAt, IsOpenCause, IsOutcome, IsReadCause}
-use Rattle.command.specs.Commands.{FilesView, IsRunCause, NameUnsatisfiable, Text, layout_at, options_of}
+use Rattle.command.specs.Commands.{FilesView, IsRunCause, NameUnsatisfiable, Text, layout_at, terms_given, options_of}
 use Rattle.command.specs.Faults.{of_run}
 use Rattle.command.specs.declared.fault.CommandFault.{CommandFault}
 use Rattle.command.specs.declared.fault.CommandFault.TheVariants as faults
@@ -75,15 +75,15 @@ pub is_outcome : (R : Type 0) (files : FilesView R) (words : List Text) (given :
     → IsCommandLineOf words given → IsFormulaAt R files given.formula.now f
     → options ≡ options_of given → map files.reading.left readers ≡ map files.tells given.streams
     → (reports : List Report) (verdict : Verdict)
-    → AreChecked R files.reading given.serial f (layout_of options f (length readers)) options.tries (map files.reading.left readers) reports verdict
+    → AreChecked R files.reading given.serial f (terms_of options f (length readers)) (map files.reading.left readers) reports verdict
     → IsOutcome R files words reports verdict
 is_outcome R files words given f options readers line at options_are entries_are reports verdict checked =
     let reading = files.reading in
     let entries = map reading.left readers in
-    let one = subst (λ (o : OptionsValue). AreChecked R reading given.serial f (layout_of o f (length readers)) o.tries entries reports verdict) options_are checked in
-    let two = subst (λ (n : ℕ). AreChecked R reading given.serial f (layout_of (options_of given) f n) given.tries entries reports verdict)
+    let one = subst (λ (o : OptionsValue). AreChecked R reading given.serial f (terms_of o f (length readers)) entries reports verdict) options_are checked in
+    let two = subst (λ (n : ℕ). AreChecked R reading given.serial f (terms_of (options_of given) f n) entries reports verdict)
     (same_count _ _ readers given.streams entries_are) one in
-    let three = subst (λ (es : List (Option (List ℕ))). AreChecked R reading given.serial f (layout_at given f) given.tries es reports verdict) entries_are two in
+    let three = subst (λ (es : List (Option (List ℕ))). AreChecked R reading given.serial f (terms_given given f) es reports verdict) entries_are two in
     record { given = given; command_line = line; formula = f; is_formula = at; checked = three }
 
 -- The causes are those of the words and the files.

@@ -3,19 +3,20 @@ use Rattle.std.specs.Prelude.{◌≡◌, ◌≢◌, ◌+◌, ◌++◌, ◌⊎◌
 use Rattle.std.specs.Io.KnownBytes.{Appends, Keeps}
 use Rattle.std.specs.Option.{ForSome}
 use Rattle.lrup_model.specs.Entailment.{IsUnsatisfiable}
+use Rattle.lrup_model.specs.Event.{History}
 use Rattle.lrup_model.specs.Formula.{Cnf}
+use Rattle.lrup_model.specs.History.{IsLegal}
 use Rattle.lrup_model.specs.Layout.{LayoutValue, IsFault, IsStream}
-use Rattle.lrup_model.specs.Pass.{View}
 use Rattle.lrup_model.specs.declared.layout.LayoutFault.{LayoutFault}
 use Rattle.dimacs.specs.FormulaFault.{IsFaultOf as IsFormulaFault}
 use Rattle.dimacs.specs.FormulaText.{IsTextOf}
 use Rattle.dimacs.specs.declared.fault.DimacsFault.TheVariants as formulas
 use Rattle.lrup_text.specs.Reads.{BrokeOff, GaveAll, ReadsOf}
 use Rattle.stream_check.specs.declared.report.Report.{Report}
-use Rattle.portfolio.specs.Headline.{HaveOneHistory, AreJudgedBy}
-use Rattle.portfolio.specs.Outcomes.{IsVerdictOf, OptionsValue, layout_of}
+use Rattle.portfolio.specs.Headline.{AreJudgedIn}
+use Rattle.portfolio.specs.Outcomes.{OptionsValue, layout_of, terms_of, verdict_of}
 use Rattle.portfolio.specs.ReportText.{report_text}
-use Rattle.portfolio.specs.Streams.{AreTold, IsOrdered, Stream}
+use Rattle.portfolio.specs.Streams.{IsOrdered, StandsOnStreams, Stream, Terms}
 use Rattle.portfolio.specs.declared.outcome.Verdict.{Verdict}
 use Rattle.portfolio.specs.declared.outcome.Verdict.TheVariants.{Unsatisfiable, Unknown}
 use Rattle.command_line.specs.CommandLine.{HaveFault, IsCommandLineOf}
@@ -40,12 +41,16 @@ options_of given = record { tries = given.tries; lines = given.lines; room = giv
 abbrev pub layout_at : CommandLine → Cnf → LayoutValue
 layout_at given f = layout_of (options_of given) f (length given.streams)
 
+-- what a run of a command line and a formula is checked by
+abbrev pub terms_given : CommandLine → Cnf → Terms
+terms_given given f = terms_of (options_of given) f (length given.streams)
+
 -- what the reports say of the streams: on one thread they have an order of lines; with a thread for each stream they are judged
--- by the calls of one history
-abbrev pub AreReported : Bool → Cnf → LayoutValue → ℕ → List Stream → List Report → Type 0
-AreReported true f p tries streams reports = IsOrdered f p tries (λ s. true) streams reports
-AreReported false f p tries streams reports =
-    (passes : List View) × HaveOneHistory f p passes × AreJudgedBy p tries 1 streams passes reports
+-- by their events of one legal history
+abbrev pub AreReported : Bool → Cnf → Terms → List Report → List Stream → Type 0
+AreReported true f terms reports streams = IsOrdered f terms (λ s. true) streams reports
+AreReported false f terms reports streams =
+    (h : History) × IsLegal f terms.layout h × AreJudgedIn terms (λ s. true) h 1 streams reports
 
 -- what is known of a reader: the bytes that it has left, where the device tells them, and whether it has failed
 pub record ReaderView (R : Type 0) : Type 0 where
@@ -54,13 +59,13 @@ pub record ReaderView (R : Type 0) : Type 0 where
 
 -- The reports and the verdict of a formula's streams. `entries` is what each stream's file told when it was opened; the readers
 -- are those of the streams in the end.
-pub record AreChecked (R : Type 0) (reading : ReaderView R) (serial : Bool) (f : Cnf) (p : LayoutValue) (tries : ℕ) (entries : List (Option (List ℕ))) (reports : List Report) (verdict : Verdict) : Type 0 where
-  pub layout : (fault : LayoutFault) → IsFault p fault → ⊥
+pub record AreChecked (R : Type 0) (reading : ReaderView R) (serial : Bool) (f : Cnf) (terms : Terms)
+    (entries : List (Option (List ℕ))) (reports : List Report) (verdict : Verdict) : Type 0 where
+  pub layout : (fault : LayoutFault) → IsFault terms.layout fault → ⊥
   pub readers : List R
-  pub streams : List Stream
-  pub told : AreTold entries (map reading.left readers) (map reading.has_failed readers) streams
-  pub reported : AreReported serial f p tries streams reports
-  pub is_verdict : IsVerdictOf reports verdict
+  pub reported : StandsOnStreams entries (map reading.left readers) (map reading.has_failed readers)
+      (AreReported serial f terms reports)
+  pub is_verdict : verdict ≡ verdict_of reports
   pub sound : verdict ≡ Unsatisfiable → IsUnsatisfiable f
 
 -- What is known of files: what the file at each path tells, where the device tells it, whether a path may be refused, the readers
@@ -104,7 +109,7 @@ pub record IsOutcome (R : Type 0) (files : FilesView R) (words : List Text) (rep
   pub command_line : IsCommandLineOf words given
   pub formula : Cnf
   pub is_formula : IsFormulaAt R files given.formula.now formula
-  pub checked : AreChecked R files.reading given.serial formula (layout_at given formula) given.tries (map files.tells given.streams) reports verdict
+  pub checked : AreChecked R files.reading given.serial formula (terms_given given formula) (map files.tells given.streams) reports verdict
 
 -- Causes. Nothing shows afterwards that memory ran out or that a thread wasn't started, so these are taken as causes whatever the
 -- files hold.

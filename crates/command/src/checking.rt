@@ -3,7 +3,7 @@ ghost use Rattle.std.specs.Prelude.{◌≡◌, ◌<◌, true, false, IfErr, IfOk
 ghost use Rattle.std.specs.List.{AllByRecursion};
 ghost use Rattle.std.specs.Option.{ForSome};
 ghost use Rattle.clap.specs.Walk.{texts};
-ghost use Rattle.portfolio.specs.Outcomes.{layout_of};
+ghost use Rattle.portfolio.specs.Outcomes.{layout_of, terms_of};
 ghost use Rattle.lrup_text.specs.Reads.{GaveAll};
 ghost use Rattle.command.specs.Commands.{AreChecked, IsCause, IsFailedRead, IsFormulaAt};
 ghost use Rattle.command.specs.Commands.{IsOpenCause, IsOutcome, IsReadCause, IsRunCause};
@@ -152,10 +152,9 @@ fn check_streams<T: Threads + Wait + Sync, C: Clock + Sync, R: Source + Send + D
     readers: Vec<R>,
 ) -> Result<Found, CommandFault>
     requires running { AllByRecursion (λ r. R.has_failed r ≡ false) readers.items }
-    ensures checked { let layout = layout_of options formula.now (length readers.items) in
+    ensures checked { let terms = terms_of options formula.now (length readers.items) in
         IfOk result (λ found. AreChecked _ (record { left = R.left; has_failed = R.has_failed })
-        serial formula.now layout options.tries (map R.left readers.items)
-        found.reports.items found.verdict) }
+        serial formula.now terms (map R.left readers.items) found.reports.items found.verdict) }
     ensures cause { IfErr result
         (IsRunCause serial (layout_of options formula.now (length readers.items))) }
 {
@@ -175,10 +174,9 @@ fn check_serially<W: Wait, R: Source + Drop>(
     readers: Vec<R>,
 ) -> Result<Found, CommandFault>
     requires running { AllByRecursion (λ r. R.has_failed r ≡ false) readers.items }
-    ensures checked { let layout = layout_of options formula.now (length readers.items) in
+    ensures checked { let terms = terms_of options formula.now (length readers.items) in
         IfOk result (λ found. AreChecked _ (record { left = R.left; has_failed = R.has_failed })
-        true formula.now layout options.tries (map R.left readers.items)
-        found.reports.items found.verdict) }
+        true formula.now terms (map R.left readers.items) found.reports.items found.verdict) }
     ensures cause { IfErr result
         (IsRunCause true (layout_of options formula.now (length readers.items))) }
 {
@@ -202,10 +200,9 @@ fn check_in_threads<T: Threads + Wait + Sync, C: Clock + Sync, R: Source + Send 
     readers: Vec<R>,
 ) -> Result<Found, CommandFault>
     requires running { AllByRecursion (λ r. R.has_failed r ≡ false) readers.items }
-    ensures checked { let layout = layout_of options formula.now (length readers.items) in
+    ensures checked { let terms = terms_of options formula.now (length readers.items) in
         IfOk result (λ found. AreChecked _ (record { left = R.left; has_failed = R.has_failed })
-        false formula.now layout options.tries (map R.left readers.items)
-        found.reports.items found.verdict) }
+        false formula.now terms (map R.left readers.items) found.reports.items found.verdict) }
     ensures cause { IfErr result
         (IsRunCause false (layout_of options formula.now (length readers.items))) }
 {

@@ -19,9 +19,11 @@ returns-clause-checked g c =
     record {
       layout = has_layout p c.run.result c.in_ok-outcome.outcome c.in_ok-outcome.was c.run.ensures.layout;
       readers = c.in_ok-outcome.outcome.readers.items;
-      streams = reports.0;
-      told = reports.1;
-      reported = (_, c.in_ok-outcome.ensures.history, reports.2);
+      reported = record {
+        streams = reports.streams;
+        told = reports.told;
+        judged = (_, c.in_ok-outcome.ensures.history.legal, reports.judged);
+      };
       is_verdict = c.in_ok-outcome.ensures.verdict;
       sound = c.in_ok-outcome.ensures.sound;
     }
