@@ -42,7 +42,7 @@ pub fn command<T: Threads + Wait + Sync, C: Clock + Sync, F: Files, O: Sink, E: 
 ) -> u8
     requires out { O.has_failed out.old ≡ false }
     requires err { E.has_failed err.old ≡ false }
-    // What a user relies on: with status 0 the file of FORMULA, where it is told, is a text of a formula that no assignment satisfies.
+    // What a user relies on: with status 0 the bytes that were read of FORMULA are a text of a formula that no assignment satisfies.
     ensures sound { let view = files_view (F.tells files.old) (F.may_refuse files.old)
         F.Input.Source.left F.Input.Source.has_failed (F.opens files.old) F.Input.Source.reads in
         result ≡ 0 → NameUnsatisfiable _ view (texts words.now) }

@@ -14,6 +14,7 @@ use test_support::{Paper, Pieces};
 
 mod faults;
 mod rows;
+mod told;
 
 /// Stops the test where two values differ: an assertion that is proved once for all tests.
 fn same<T: PartialEq + fmt::Debug + Drop>(rt: &impl Abort, value: T, wanted: T) {

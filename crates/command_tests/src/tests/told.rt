@@ -1,0 +1,54 @@
+//! Files that tell their bytes, and what status 0 says of them.
+ghost use Rattle.std.specs.Prelude.{◌≡◌, IsTrue, Some, cond, false, length, nat_eq};
+ghost use Rattle.command.specs.Commands.{IsUnsatisfiableText};
+
+use super::*;
+use command_line::laws::plain_words;
+
+/// A formula at the paths of one byte, and a stream at all others.
+#[derive(Drop)]
+struct Told<'a> {
+    formula: &'a str,
+    stream: &'a str,
+}
+
+impl<'a> Files for Told<'a> {
+    type Input = Pieces<'a>;
+
+    ghost tells = { λ files path.
+        Some (cond (nat_eq (length path) 1) files.formula.now files.stream.now) };
+
+    ghost may_refuse = { λ _ _. false };
+
+    fn open(&mut self, path: &str) -> Result<Pieces<'a>, OpenFault> {
+        let text = if path.len() == 1 {
+            self.formula
+        } else {
+            self.stream
+        };
+        Ok(Pieces::new(text, 3, 0))
+    }
+}
+
+/// Whether the program ends with status 0. By its contract the text is then one of a formula that no assignment satisfies.
+fn refutes<T: Threads + Wait + Sync + Clock>(
+    rt: &T,
+    alloc: Global,
+    formula: &str,
+    stream: &str,
+) -> bool
+    ensures { IsTrue result → IsUnsatisfiableText formula.now }
+{
+    plain_words();
+    let mut files = Told { formula, stream };
+    let mut out = Paper::new(alloc, 7, 0);
+    let mut err = Paper::new(alloc, 7, 0);
+    command(rt, rt, alloc, &["f", "s1"], &mut files, &mut out, &mut err) == 0
+}
+
+#[test]
+fn a_formula_that_is_told(rt: HostRuntime) {
+    let proof = "5 2 0 1 2 0\n6 0 5 3 4 0\n";
+    same(&rt, refutes(&rt, rt.alloc(), FOUR, proof), true);
+    same(&rt, refutes(&rt, rt.alloc(), FOUR, ""), false);
+}
