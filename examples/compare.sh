@@ -252,6 +252,15 @@ usage 'no number' --room x "$absent" "$absent"
 usage 'no such option' --fast "$absent" "$absent"
 usage 'a word that is no UTF-8' "$(printf '\377')" "$absent"
 
+# Runs that take much memory, and have it: the marks of 16,000,000 variables, and a set of 1,100,000 dropped identities.
+
+given 'p cnf 16000000 1\n16000000 0\n'
+streams '16,000,000 variables' '' 3 '1 added, 0 deleted, ended' '2 16000000 0 1 0\n'
+given "$four"
+awk 'BEGIN { for (i = 6; i <= 2200004; i += 2) print "5 d " i " 0" }' > "$work/drops"
+want 'c stream 1: 0 added, 1100000 deleted, ended\nc stream 2: 0 added, 0 deleted, ended\ns UNKNOWN\n' ''
+run '1,100,000 identities dropped' 3 --lines 1100000 "$work/formula" "$work/drops" /dev/null
+
 limited 'out of memory' 1000000 --room 268000000 "$work/formula" "$work/one"
 limited 'worker 1 not started' 9000 --lines 1 --room 1 "$work/formula" "$work/one"
 
