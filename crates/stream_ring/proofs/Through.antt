@@ -1,0 +1,108 @@
+-- Bytes and a mark, sent and received.
+use Rattle.std.proofs.Common.{◌≡◌, ℕ, suc, ◌<◌, ◌≤◌, ◌+◌, ◌-◌, List, [], ◌∷◌, ◌++◌, Bool, true, false, length, take, get_or, nat_eq, map, refl, ap, sym, ◌∙◌, arith, append_assoc, Option}
+use Rattle.std.specs.Prelude.{All}
+use native.Mathlib.Numerals.{unary_clauses}
+use Rattle.std.proofs.Math.Seq.{take-suc, take-append_seam}
+use Rattle.std.proofs.lemmas.List.{map-append, length-map, length-take-le, length-append}
+use Rattle.stream_ring.specs.Items.{SendsAll, EndsAtMark, mark_of, byte_of, CameThrough}
+
+head_below : (x : ℕ) (xs : List ℕ) → All (λ b. b < 256) (x ∷ xs) → x < 256
+head_below x xs h = h 0 0 (omega arith)
+
+tail_below : (x : ℕ) (xs : List ℕ) → All (λ b. b < 256) (x ∷ xs) → All (λ b. b < 256) xs
+tail_below x xs h = λ k d below. simp unary_clauses at (h (k + 1) d (omega arith))
+
+cons_parts : (x y : ℕ) (xs ys : List ℕ) → x ∷ xs ≡ y ∷ ys → (x ≡ y) × (xs ≡ ys)
+cons_parts x y xs ys e = (cc, cc)
+
+no_more : (x m : ℕ) (xs ys : List ℕ) → xs ++ x ∷ ys ≡ [] → m ≡ m + 1
+no_more x m [] ys e = cc
+no_more x m (_ ∷ _) ys e = cc
+
+byte_stays : (x : ℕ) → x < 256 → byte_of x ≡ x
+byte_stays x h = omega (arith, h)
+
+-- the first mark of a list stands at one place
+pub same_mark : (taken bytes rest : List ℕ) (mark m : ℕ) → All (λ b. b < 256) bytes → 256 ≤ mark → 256 ≤ m
+    → taken ++ mark ∷ rest ≡ bytes ++ m ∷ [] → (map byte_of taken ≡ bytes) × (mark ≡ m)
+same_mark [] [] rest mark m b p q e = (refl, (cons_parts mark m rest [] e).0)
+same_mark [] (y ∷ bytes) rest mark m b p q e =
+    let h = head_below y bytes b in
+    let s = (cons_parts mark y rest (bytes ++ m ∷ []) e).0 in
+    absurd (omega (arith, h, s))
+same_mark (x ∷ taken) [] rest mark m b p q e =
+    let s = no_more mark m taken rest (cons_parts x m (taken ++ mark ∷ rest) [] e).1 in
+    absurd (omega (arith, s))
+same_mark (x ∷ taken) (y ∷ bytes) rest mark m b p q e =
+    let s = cons_parts x y (taken ++ mark ∷ rest) (bytes ++ m ∷ []) e in
+    let t = same_mark taken bytes rest mark m (tail_below y bytes b) p q s.1 in
+    let h : x < 256 = rw s.0 (head_below y bytes b) in
+    let l : byte_of x ≡ y = byte_stays x h ∙ s.0 in
+    (cc (l, t.0), t.1)
+
+-- the last item popped is a mark
+pub last_is_mark : (past items bytes : List ℕ) (n : ℕ) → 0 < n → n ≤ length items
+    → 256 ≤ get_or items (n - 1) 0 → take (n - 1) bytes ≡ map byte_of (take (n - 1) items)
+    → EndsAtMark (map byte_of past ++ take (n - 1) bytes) (nat_eq (get_or items (n - 1) 0) 257) (past ++ take n items)
+last_is_mark past items bytes n some fits m same =
+    let i : suc (n - 1) ≡ n = omega (arith, some) in
+    let below : n - 1 < length items = omega (arith, some, fits) in
+    let e : take n items ≡ take (n - 1) items ++ get_or items (n - 1) 0 ∷ [] = ap (λ k. take k items) (sym i) ∙ take-suc items (n - 1) 0 below in
+    record {
+      taken = past ++ take (n - 1) items;
+      mark = get_or items (n - 1) 0;
+      bytes_are = ap (λ u. map byte_of past ++ u) same ∙ sym (map-append byte_of past (take (n - 1) items));
+      is_mark = m;
+      failed_is = refl;
+      items_are = ap (λ u. past ++ u) e ∙ sym (append_assoc past (take (n - 1) items) (get_or items (n - 1) 0 ∷ []));
+    }
+
+-- the bytes before the last of a block
+front_bytes : (items rest : List ℕ) (k n : ℕ) → suc k ≡ n → n ≤ length items
+    → take k (map byte_of (take n items) ++ rest) ≡ map byte_of (take k items)
+front_bytes items rest k n i fits =
+    let below : k < length items = omega (arith, i, fits) in
+    let t = take k items in
+    let b = byte_of (get_or items k 0) in
+    let e : take n items ≡ t ++ get_or items k 0 ∷ [] = ap (λ m. take m items) (sym i) ∙ take-suc items k 0 below in
+    let f : map byte_of (take n items) ≡ map byte_of t ++ b ∷ [] = ap (λ u. map byte_of u) e ∙ map-append byte_of t (get_or items k 0 ∷ []) in
+    let j : length (map byte_of t) ≡ k = length-map t byte_of ∙ length-take-le k items (omega (arith, below)) in
+    ap (λ u. take k (u ++ rest)) f ∙ (ap (λ u. take k u) (append_assoc (map byte_of t) (b ∷ []) rest)
+    ∙ (ap (λ m. take m (map byte_of t ++ b ∷ rest)) (sym j) ∙ take-append_seam (map byte_of t) (b ∷ rest)))
+
+-- the last item popped is a mark, and all of them are narrowed
+pub ends_there : (past items new rest : List ℕ) (n count : ℕ) (failed : Bool) → 0 < n → n ≤ length items
+    → 256 ≤ get_or items (n - 1) 0 → new ≡ map byte_of (take n items)
+    → n - 1 ≡ count → nat_eq (get_or items (n - 1) 0) 257 ≡ failed
+    → (count ≤ length (new ++ rest)) × EndsAtMark (map byte_of past ++ take count (new ++ rest)) failed (past ++ take n items)
+ends_there past items new rest n count failed some fits m are at f =
+    let i : suc (n - 1) ≡ n = omega (arith, some) in
+    let same : take (n - 1) (new ++ rest) ≡ map byte_of (take (n - 1) items) =
+    ap (λ u. take (n - 1) (u ++ rest)) are ∙ front_bytes items rest (n - 1) n i fits in
+    let long : length new ≡ n = ap length are ∙ (length-map (take n items) byte_of ∙ length-take-le n items fits) in
+    let ends = last_is_mark past items (new ++ rest) n some fits m same in (
+      omega (arith, length-append new rest, long, at, some),
+      rw (f, at) at ends,
+    )
+
+mark_is : (failed : Bool) → 256 ≤ mark_of failed
+mark_is true = omega arith
+mark_is false = omega arith
+
+mark_tells : (failed : Bool) → nat_eq (mark_of failed) 257 ≡ failed
+mark_tells true = refl
+mark_tells false = refl
+
+pub came_by : (items received known : List ℕ) → received ++ known ≡ items
+    → (before after : Option (List ℕ)) (has failed : Bool) (bytes : List ℕ)
+    → SendsAll before after has items → EndsAtMark bytes failed received → CameThrough before after has failed bytes
+came_by items received known whole before after has failed bytes s t =
+    let both : t.taken ++ t.mark ∷ known ≡ s.bytes ++ mark_of has ∷ [] = sym (append_assoc t.taken (t.mark ∷ []) known) ∙ (ap (λ u. u ++ known) (sym t.items_are) ∙ (whole ∙ s.items_are)) in
+    let same = same_mark t.taken s.bytes known t.mark (mark_of has) s.small t.is_mark (mark_is has) both in
+    let flag : failed ≡ has = t.failed_is ∙ (ap (λ u. nat_eq u 257) same.1 ∙ mark_tells has) in
+    let are : s.bytes ≡ bytes = sym same.0 ∙ sym t.bytes_are in
+    record {
+      told = rw (← are) s.told;
+      all = λ e. s.all (sym flag ∙ e);
+      failed_is = flag;
+    }
