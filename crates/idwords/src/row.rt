@@ -16,7 +16,7 @@ use crate::rule::{
     Claim, Deal, Find, Hand, Look, Meet, Part, Plan, Read, Retire, Token, Unite, Words, Write,
 };
 use crate::seat::Seat;
-use crate::word::{LIVE, live_word, pair_word, state};
+use crate::word::{LIVE, VACANT, live_word, pair_word, state};
 use lrup_model::{Formula, Layout, Lit, Published, Retired};
 use std::alloc::{AllocError, Global};
 use std::marker::Model;
@@ -163,9 +163,9 @@ impl Row {
         let len = seat.drafted;
         let word = live_word(len, seat.top);
         let shared = &self.table.shared;
-        let found = shared.compare_exchange::<Claim>(&mut seat.token, id as usize, 0, word);
+        let found = shared.compare_exchange::<Claim>(&mut seat.token, id as usize, VACANT, word);
         seat.drafted = 0;
-        if found == 0 {
+        if found == VACANT {
             seat.top += (len + 1) / 2;
             seat.room -= len;
             Published::Done

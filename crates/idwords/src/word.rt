@@ -8,7 +8,7 @@ ghost use Rattle.idwords.specs.Words.{identity_word, state_of, length_of, start_
 
 use lrup_model::Lit;
 
-/// The state of an identity's word.
+/// The state of the word of an identity that has no clause, and the whole word.
 pub const VACANT: u64 = 0;
 
 /// The state of the word of a live clause.

@@ -40,14 +40,14 @@ compare_exchange-found-requires c =
     c.seat.invariant c.seat.view_is (c.requires.row ∙ sym c.self.view_is) (omega (arith, who.identity))
     (claims (part_of seat) token.id c.args.id word c.requires.owns c.requires.clause is) (changes Claims one)
 
-pub invariant_of-seat-else-found-eq0 : goal.invariant_of-seat-else-found-eq0
-invariant_of-seat-else-found-eq0 c =
+pub invariant_of-seat-else-found-eq-VACANT : goal.invariant_of-seat-else-found-eq-VACANT
+invariant_of-seat-else-found-eq-VACANT c =
     let token = c.seat.inside.token in
     let new = c.compare_exchange-found.new.seat in
     let shared = c.self.inside.table.shared in
     let one = step {S = ℕ} shared.table_id.slots c.args.id 0 c.live_word-word.result none in
     (seated_claim token.table_id new.table_id token.me new.me c.seat.inside.top c.seat.inside.drafted c.seat.inside.room c.compare_exchange-found.result c.args.id one
-    c.seat.invariant c.compare_exchange-found.ensures.0 c.compare_exchange-found.ensures.2).1 c.if-found-eq0.false
+    c.seat.invariant c.compare_exchange-found.ensures.0 c.compare_exchange-found.ensures.2).1 c.if-found-eq-VACANT.false
 
 pub invariant_of-seat : goal.invariant_of-seat
 invariant_of-seat c =
@@ -56,28 +56,28 @@ invariant_of-seat c =
     let shared = c.self.inside.table.shared in
     let one = step {S = ℕ} shared.table_id.slots c.args.id 0 c.live_word-word.result none in
     (seated_claim token.table_id new.table_id token.me new.me c.seat.inside.top c.seat.inside.drafted c.seat.inside.room c.compare_exchange-found.result c.args.id one
-    c.seat.invariant c.compare_exchange-found.ensures.0 c.compare_exchange-found.ensures.2).0 c.if-found-eq0.true
+    c.seat.invariant c.compare_exchange-found.ensures.0 c.compare_exchange-found.ensures.2).0 c.if-found-eq-VACANT.true
 
-pub returns-then-found-eq0-clause-calls : goal.returns-then-found-eq0-clause-calls
-returns-then-found-eq0-clause-calls c = search rules
+pub returns-then-found-eq-VACANT-clause-calls : goal.returns-then-found-eq-VACANT-clause-calls
+returns-then-found-eq-VACANT-clause-calls c = search rules
 
-pub returns-then-found-eq0-clause-done : goal.returns-then-found-eq0-clause-done
-returns-then-found-eq0-clause-done c = search rules
+pub returns-then-found-eq-VACANT-clause-done : goal.returns-then-found-eq-VACANT-clause-done
+returns-then-found-eq-VACANT-clause-done c = search rules
 
-pub returns-then-found-eq0-clause-top : goal.returns-then-found-eq0-clause-top
-returns-then-found-eq0-clause-top c = search rules
+pub returns-then-found-eq-VACANT-clause-top : goal.returns-then-found-eq-VACANT-clause-top
+returns-then-found-eq-VACANT-clause-top c = search rules
 
-pub returns-then-found-eq0-clause-draft : goal.returns-then-found-eq0-clause-draft
-returns-then-found-eq0-clause-draft c = search rules
+pub returns-then-found-eq-VACANT-clause-draft : goal.returns-then-found-eq-VACANT-clause-draft
+returns-then-found-eq-VACANT-clause-draft c = search rules
 
-pub returns-else-found-eq0-clause-calls : goal.returns-else-found-eq0-clause-calls
-returns-else-found-eq0-clause-calls c = search rules
+pub returns-else-found-eq-VACANT-clause-calls : goal.returns-else-found-eq-VACANT-clause-calls
+returns-else-found-eq-VACANT-clause-calls c = search rules
 
-pub returns-else-found-eq0-clause-done : goal.returns-else-found-eq0-clause-done
-returns-else-found-eq0-clause-done c = search rules
+pub returns-else-found-eq-VACANT-clause-done : goal.returns-else-found-eq-VACANT-clause-done
+returns-else-found-eq-VACANT-clause-done c = search rules
 
-pub returns-else-found-eq0-clause-top : goal.returns-else-found-eq0-clause-top
-returns-else-found-eq0-clause-top c = search rules
+pub returns-else-found-eq-VACANT-clause-top : goal.returns-else-found-eq-VACANT-clause-top
+returns-else-found-eq-VACANT-clause-top c = search rules
 
-pub returns-else-found-eq0-clause-draft : goal.returns-else-found-eq0-clause-draft
-returns-else-found-eq0-clause-draft c = search rules
+pub returns-else-found-eq-VACANT-clause-draft : goal.returns-else-found-eq-VACANT-clause-draft
+returns-else-found-eq-VACANT-clause-draft c = search rules
