@@ -86,26 +86,26 @@ fn line_of_one<R: Abort + Wait>(
     row_of_four(rt, alloc, options, &[stream], text.as_str())
 }
 
-/// Row 1, and row 16 in pieces.
-const ROW_1: &str = "5 2 0 1 2 0\n6 0 5 3 4 0\n";
+/// A refutation by one stream, read whole and in pieces.
+const REFUTATION: &str = "5 2 0 1 2 0\n6 0 5 3 4 0\n";
 
-const SAYS_1: &str = "c stream 1: 2 added, 0 deleted, ended\ns UNSATISFIABLE\n";
+const SAYS_REFUTED: &str = "c stream 1: 2 added, 0 deleted, ended\ns UNSATISFIABLE\n";
 
-/// Row 2 is CITING.
-const SAYS_2: &str = "c stream 1: 2 added, 0 deleted, ended
+/// What is said of CITING.
+const SAYS_CITING: &str = "c stream 1: 2 added, 0 deleted, ended
 c stream 2: 1 added, 0 deleted, ended
 s UNSATISFIABLE
 ";
 
-const ROW_19: &str = "5 d 1 0\n5 2 0 1 2 0\n";
+const USES_DROPPED: &str = "5 d 1 0\n5 2 0 1 2 0\n";
 
-const SAYS_19: &str = "c stream 1: 0 added, 1 deleted, bad line 2 (dropped 1)\ns UNKNOWN\n";
+const SAYS_DROPPED: &str = "c stream 1: 0 added, 1 deleted, bad line 2 (dropped 1)\ns UNKNOWN\n";
 
 /// The rows of one stream and the default options.
 #[test]
 fn rows_of_one_stream(rt: HostRuntime) -> Result<(), Fail> {
     for (stream, line) in [
-        // 4 to 7
+        // hints
         (
             "5 2 0 2 3 0\n",
             "0 added, 0 deleted, bad line 1 (not unit 3)",
@@ -120,7 +120,7 @@ fn rows_of_one_stream(rt: HostRuntime) -> Result<(), Fail> {
         ),
         ("5 2 0 0\n", "0 added, 0 deleted, bad line 1 (no conflict)"),
         ("5 1 0 -2 0\n", "0 added, 0 deleted, bad line 1 (rat hint)"),
-        // 9 to 11
+        // deletions, and an end within a line
         (
             "5 2 0 1 2 0\n5 d 5 0\n6 0 5 3 4 0\n",
             "1 added, 1 deleted, bad line 3 (retired 5)",
@@ -131,7 +131,7 @@ fn rows_of_one_stream(rt: HostRuntime) -> Result<(), Fail> {
         ),
         ("5 d 1 1 0\n", "0 added, 1 deleted, bad line 1 (not live 1)"),
         ("5 2 0 1 2 0", "0 added, 0 deleted, bad line 1 (truncated)"),
-        // 17, 18
+        // spelling, and an identity below the last
         (
             "5  2 0 1 2 0\n",
             "0 added, 0 deleted, bad line 1 (spelling)",
@@ -140,7 +140,7 @@ fn rows_of_one_stream(rt: HostRuntime) -> Result<(), Fail> {
             "7 2 0 1 2 0\n6 0 7 3 4 0\n",
             "1 added, 0 deleted, bad line 2 (identity)",
         ),
-        // 21 to 23
+        // literals, and numbers
         (
             "5 1 -1 0 1 0\n",
             "0 added, 0 deleted, bad line 1 (tautology)",
@@ -158,7 +158,7 @@ fn rows_of_one_stream(rt: HostRuntime) -> Result<(), Fail> {
     ] {
         line_of_one(&rt, rt.alloc(), defaults(), stream, line)?;
     }
-    // 24
+    // a bad line after the empty clause
     row_of_four(
         &rt,
         rt.alloc(),
@@ -168,7 +168,7 @@ fn rows_of_one_stream(rt: HostRuntime) -> Result<(), Fail> {
     )
 }
 
-/// Rows 14, 15 and 20, of one stream and an option each.
+/// No room, one line, and room for one literal that is repeated: one stream each.
 #[test]
 fn rows_with_options(rt: HostRuntime) -> Result<(), Fail> {
     for (lines, room, stream, line) in [
@@ -187,7 +187,7 @@ fn rows_with_options(rt: HostRuntime) -> Result<(), Fail> {
         (
             1,
             1_048_576,
-            ROW_1,
+            REFUTATION,
             "1 added, 0 deleted, bad line 2 (identity)",
         ),
         (65_536, 1, "5 2 2 0 1 2 0\n", "1 added, 0 deleted, ended"),
@@ -198,7 +198,7 @@ fn rows_with_options(rt: HostRuntime) -> Result<(), Fail> {
     Ok(())
 }
 
-/// Rows 3 and 8, of two streams.
+/// A hint that never comes, and an identity of the other stream.
 #[test]
 fn rows_of_two_streams(rt: HostRuntime) -> Result<(), Fail> {
     row_of_four(
@@ -217,7 +217,7 @@ fn rows_of_two_streams(rt: HostRuntime) -> Result<(), Fail> {
     )
 }
 
-/// Rows 12 and 13, of formulas without variables.
+/// Formulas without variables: with no clause, and with the empty one.
 #[test]
 fn rows_without_variables(rt: HostRuntime) -> Result<(), Fail> {
     let mut formula = Formula::new(rt.alloc(), 0);
@@ -240,12 +240,12 @@ fn rows_without_variables(rt: HostRuntime) -> Result<(), Fail> {
     )
 }
 
-/// A run that has memory answers. Rows 1, 2, 16 and 19.
+/// A run that has memory answers: a refutation, two streams that cite each other, and a dropped clause.
 #[test]
 fn always_out_of_memory(rt: HostRuntime) -> Result<(), Fail> {
-    row_of_four(&rt, rt.alloc(), defaults(), &[ROW_1], SAYS_1)?;
-    row_of_four(&rt, rt.alloc(), defaults(), &CITING, SAYS_2)?;
-    row_of_four(&rt, rt.alloc(), defaults(), &[ROW_19], SAYS_19)
+    row_of_four(&rt, rt.alloc(), defaults(), &[REFUTATION], SAYS_REFUTED)?;
+    row_of_four(&rt, rt.alloc(), defaults(), &CITING, SAYS_CITING)?;
+    row_of_four(&rt, rt.alloc(), defaults(), &[USES_DROPPED], SAYS_DROPPED)
 }
 
 /// A gate that writes down whose publishes were answered.
@@ -263,7 +263,7 @@ impl Gate for Order<'_> {
     }
 }
 
-/// The streams whose publishes are answered, in order, as digits, in a run of row 2.
+/// The streams whose publishes are answered, in order, as digits, in a run of CITING.
 fn publishes_of<R: Abort + Wait>(rt: &R, alloc: Global, most: usize) -> Result<u64, Fail> {
     let formula = four_clauses(alloc)?;
     let publishes = Cell::new(0);
@@ -276,11 +276,11 @@ fn publishes_of<R: Abort + Wait>(rt: &R, alloc: Global, most: usize) -> Result<u
     }
     holds(rt, gates.len() == readers.len());
     let outcome = run_serial(rt, alloc, &formula, defaults(), readers, gates)?;
-    says(rt, alloc, &outcome, SAYS_2)?;
+    says(rt, alloc, &outcome, SAYS_CITING)?;
     Ok(publishes.get())
 }
 
-/// Row 2, whose line 7 cites the other stream's line: turns go round, stream 1 first, and take one line each.
+/// CITING, whose line 7 cites the other stream's line: turns go round, stream 1 first, and take one line each.
 #[test]
 fn serial_takes_streams_whole(rt: HostRuntime) -> Result<(), Fail> {
     for most in [1, 2, usize::MAX] {
@@ -343,7 +343,7 @@ fn nothing_is_read_after_a_bad_line(rt: HostRuntime) -> Result<(), Fail> {
         ("5 2 0 1 2 0\n7 0 5 3 0\n9 2 0 1 2 0\n", 22),
         ("5  2 0 1 2 0\n", 3),
         ("5 2 0 1 2 0\n5 1 0 -2 0\n", 19),
-        (ROW_1, 25),
+        (REFUTATION, 25),
     ] {
         for most in [1, 4, 64] {
             let reads = if needed > stream.len() {
@@ -358,13 +358,13 @@ fn nothing_is_read_after_a_bad_line(rt: HostRuntime) -> Result<(), Fail> {
     Ok(())
 }
 
-/// 12,000 deletions of nothing, and row 1: 72,024 bytes.
+/// 12,000 deletions of nothing, and the refutation: 72,024 bytes.
 fn long_stream(alloc: Global) -> Result<String, Fail> {
     let mut stream = String::new(alloc);
     for _ in 0..12_000 {
         stream.push_str("1 d 0\n")?;
     }
-    stream.push_str(ROW_1)?;
+    stream.push_str(REFUTATION)?;
     Ok(stream)
 }
 
@@ -374,7 +374,7 @@ fn a_read_asks_for_one_piece(rt: HostRuntime) -> Result<(), Fail> {
     let stream = long_stream(rt.alloc())?;
     let readers = readers_of(rt.alloc(), &[stream.as_str()], usize::MAX)?;
     let outcome = run_pieces(&rt, rt.alloc(), readers)?;
-    says(&rt, rt.alloc(), &outcome, SAYS_1)?;
+    says(&rt, rt.alloc(), &outcome, SAYS_REFUTED)?;
     same(
         &rt,
         reads_of(&rt, rt.alloc(), stream.as_str(), usize::MAX)?,
