@@ -1,14 +1,16 @@
-# lrupd: make run, make test, make install. Building needs Rattle's toolchain, the command rt, and nothing else.
+# lrupd: make run, make test, make install. Building needs Rattle's toolchain, the command rt, and nothing else; make demo and
+# make test also need a C compiler and Python 3.
 
 RT ?= rt
 PREFIX ?= /usr/local
 PROGRAM := crates/lrupd/out/lrupd
 LOG := crates/lrupd/out/build.log
+SOLVER := examples/solver/out/solver
 FORMULA ?= examples/bmc.cnf
 STREAMS ?= $(addprefix examples/bmc-four.,1 2 3 4)
 OPTIONS ?= --tries 1000000
 
-.PHONY: run build install examples live allocations test toolchain
+.PHONY: run build install examples live demo solver solver-test filter-test allocations test toolchain c-and-python
 
 # Builds the proved program and runs it on an example, or on files of one's own:
 #     make run FORMULA=path/to/formula.cnf STREAMS="path/to/stream1 path/to/stream2"
@@ -29,26 +31,49 @@ install: build
 	install -m 755 $(PROGRAM) "$(DESTDIR)$(PREFIX)/bin/lrupd"
 	install -m 644 docs/lrupd.1 "$(DESTDIR)$(PREFIX)/share/man/man1/lrupd.1"
 
-# What the program writes on standard output and standard error, and its status, on the examples and on some seventy small runs.
+# What the program writes on standard output and standard error, and its status, on the examples and on some seventy small runs;
+# and two groups of streams, checked apart.
 examples: build
 	@sh examples/compare.sh $(PROGRAM)
+	@sh examples/groups.sh $(PROGRAM)
 
 # Four recorded solvers, line by line through pipes, checked while they run.
 live: build
 	@sh examples/live.sh $(PROGRAM)
+
+# Four solvers that share their clauses, and the program beside them.
+demo: build solver
+	@python3 examples/solver/demo.py $(PROGRAM) $(SOLVER)
+
+# The solver of the demo: an example, and not verified.
+solver: c-and-python
+	@mkdir -p $(dir $(SOLVER))
+	@$(CC) -std=c11 -O2 -Wall -Wextra -pthread -o $(SOLVER) examples/solver/*.c
+
+# The solver's streams, and those that the filter for inexact proofs makes.
+solver-test: build solver
+	@python3 examples/solver/test.py $(PROGRAM) $(SOLVER)
+
+filter-test: build c-and-python
+	@python3 tools/test.py $(PROGRAM)
 
 # Runs with one allocation refused.
 allocations: toolchain
 	@sh gate/allocations.sh $(RT)
 
 # The whole gate: every proof from nothing, each edit that must be refused, each test, and the program as two compilers
-# build it; then, with the program that was built there, the examples, the live run and the refused allocations. The last
-# line is rt's own, 'N passed, M failed'.
+# build it; then, with the program that was built there, the examples, the live run, the solver's streams and the filter's, and
+# the refused allocations. The last line is rt's own, 'N passed, M failed'.
 test: SHELL := /bin/bash
-test: toolchain
+test: toolchain solver
 	@set -o pipefail; log=$$(mktemp); trap 'rm -f "$$log"' EXIT; \
-	$(RT) ci | tee "$$log" && sh examples/compare.sh $(PROGRAM) && sh examples/live.sh $(PROGRAM) && \
-	sh gate/allocations.sh $(RT) && tail -n 1 "$$log"
+	$(RT) ci | tee "$$log" && sh examples/compare.sh $(PROGRAM) && sh examples/groups.sh $(PROGRAM) && \
+	sh examples/live.sh $(PROGRAM) && python3 examples/solver/test.py $(PROGRAM) $(SOLVER) && \
+	python3 tools/test.py $(PROGRAM) && sh gate/allocations.sh $(RT) && tail -n 1 "$$log"
 
 toolchain:
 	@command -v $(RT) > /dev/null || { echo "lrupd needs Rattle's toolchain: no command '$(RT)' is on the PATH"; exit 1; }
+
+c-and-python:
+	@for command in $(firstword $(CC)) python3; do command -v $$command > /dev/null || \
+	{ echo "make demo and make test need a C compiler and Python 3: no command '$$command' is on the PATH"; exit 1; }; done

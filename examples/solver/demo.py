@@ -1,0 +1,49 @@
+#!/usr/bin/env python3
+"""Four solvers that share their clauses, and lrupd beside them, through FIFOs.
+
+    demo.py PROGRAM SOLVER [FORMULA]
+
+Shows once a second how many lines each stream has, then what the solvers say, the report, and how long after the solvers'
+last byte it came. Without FORMULA it is random 3-SAT that takes some ten seconds. The status is the program's.
+"""
+import os
+import subprocess
+import sys
+import tempfile
+import time
+
+STREAMS = 4
+OPTIONS = ["--tries", "1000000", "--lines", "500000", "--room", "10000000"]
+
+
+def main():
+    if len(sys.argv) not in (3, 4):
+        sys.exit(__doc__)
+    program, solver = (os.path.abspath(path) for path in sys.argv[1:3])
+    with tempfile.TemporaryDirectory() as work:
+        formula = os.path.join(work, "formula.cnf")
+        if len(sys.argv) == 4:
+            formula = sys.argv[3]
+        else:
+            generator = os.path.join(os.path.dirname(os.path.abspath(__file__)), "generate.py")
+            with open(formula, "w") as out:
+                subprocess.run([sys.executable, generator, "random", "270", "5"], stdout=out, check=True)
+        pipes = [os.path.join(work, f"proof{number}") for number in range(1, STREAMS + 1)]
+        for pipe in pipes:
+            os.mkfifo(pipe)
+        print("solver --progress formula.cnf proof1 proof2 proof3 proof4 &")
+        print("lrupd", *OPTIONS, "formula.cnf proof1 proof2 proof3 proof4", flush=True)
+        with subprocess.Popen([solver, "--progress", formula] + pipes, stdout=subprocess.PIPE, text=True) as solvers, \
+                subprocess.Popen([program] + OPTIONS + [formula] + pipes, stdout=subprocess.PIPE, text=True) as checker:
+            said = solvers.stdout.readline()    # comes when all streams are closed
+            last_byte = time.monotonic()
+            said += solvers.stdout.read()
+            report = checker.stdout.read()
+            waited = time.monotonic() - last_byte
+        print("\nThe solvers:", "".join(line for line in said.splitlines(True) if line[0] != "v"), sep="\n")
+        print("The report, %.3f s after the last byte:" % waited, report, sep="\n")
+        print("status", checker.returncode)
+        return checker.returncode
+
+
+sys.exit(main())

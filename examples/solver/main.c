@@ -1,0 +1,139 @@
+// Unverified: several solvers that share their clauses, and write a stream each for lrupd. An example, and no part of lrupd.
+//
+//     solver [--share LBD] [--seed N] [--first S --streams N] [--progress] FORMULA STREAM...
+//
+// One thread for each STREAM. They are the streams 1, 2, .. of lrupd's command line; or, with --first and --streams, S, S + 1, ..
+// of N, where other processes write the rest. Clauses of at most that LBD are given to the other threads (4; 0: none).
+// Standard output: what each stream has, the answer, and where the formula is satisfiable an assignment, which was checked.
+// The status is 20 where the formula is refuted, 10 where it is satisfied, 1 where something failed.
+#include <signal.h>
+#include <stdio.h>
+#include <stdlib.h>
+#include <string.h>
+#include <threads.h>
+#include <time.h>
+
+#include "solver.h"
+
+_Noreturn void fail(const char *cause, const char *object) {
+    fprintf(stderr, "solver: %s %s\n", cause, object);
+    exit(1);
+}
+
+void *grow(void *memory, size_t bytes) {
+    if (bytes == 0) {
+        free(memory);
+        return NULL;
+    }
+    memory = realloc(memory, bytes);
+    if (memory == NULL) fail("out of", "memory");
+    return memory;
+}
+
+void *zeroed(size_t count, size_t bytes) {
+    void *memory = calloc(count > 0 ? count : 1, bytes);
+    if (memory == NULL) fail("out of", "memory");
+    return memory;
+}
+
+static double seconds(void) {
+    struct timespec now;
+    timespec_get(&now, TIME_UTC);
+    return (double)now.tv_sec + (double)now.tv_nsec * 1e-9;
+}
+
+// Once a second, how many lines each stream has.
+static int show_progress(void *argument) {
+    Portfolio *portfolio = argument;
+    const struct timespec pause = { .tv_sec = 1 };
+    for (int second = 1; thrd_sleep(&pause, NULL) == 0; second++) {
+        char text[1024];
+        int used = snprintf(text, sizeof text, "%3d s, lines:", second);
+        for (int k = 0; k < portfolio->solvers; k++)
+            used += snprintf(text + used, sizeof text - (size_t)used, " %9lu", portfolio->solver[k].proof.added);
+        fprintf(stderr, "%s\n", text);
+    }
+    return 0;
+}
+
+static int work(void *argument) {
+    solver_run(argument);
+    return 0;
+}
+
+static uint64_t number_of(char **words) {
+    char *end;
+    if (words[1] == NULL) fail("no number after", words[0]);
+    unsigned long long number = strtoull(words[1], &end, 10);
+    if (*words[1] < '0' || *words[1] > '9' || *end != 0) fail("no number:", words[1]);
+    return number;
+}
+
+// The first word that isn't an option.
+static char **read_options(Portfolio *portfolio, char **words, bool *progress) {
+    for (; *words != NULL && strncmp(*words, "--", 2) == 0; words++) {
+        if (strcmp(*words, "--progress") == 0) *progress = true;
+        else if (strcmp(*words, "--imports") == 0) portfolio->imports = true;
+        else if (strcmp(*words, "--share") == 0) portfolio->share = (unsigned)number_of(words++);
+        else if (strcmp(*words, "--seed") == 0) portfolio->seed = number_of(words++);
+        else if (strcmp(*words, "--first") == 0) portfolio->first = (int)number_of(words++);
+        else if (strcmp(*words, "--streams") == 0) portfolio->streams = (int)number_of(words++);
+        else fail("no such option:", *words);
+    }
+    return words;
+}
+
+// The streams are opened one after the other, as lrupd opens them: with FIFOs each side waits for the other.
+static void open_all(Portfolio *portfolio, char **paths) {
+    for (int k = 0; k < portfolio->solvers; k++) {
+        Solver *solver = &portfolio->solver[k];
+        solver->portfolio = portfolio;
+        solver->place = k;
+        solver_open(solver);
+        proof_open(&solver->proof, paths[k], portfolio->formula.clauses, portfolio->first + k, portfolio->streams);
+    }
+}
+
+static void run_all(Portfolio *portfolio) {
+    thrd_t *threads = zeroed((size_t)portfolio->solvers, sizeof *threads);
+    for (int k = 0; k < portfolio->solvers; k++)
+        if (thrd_create(&threads[k], work, &portfolio->solver[k]) != thrd_success) fail("cannot start", "a thread");
+    for (int k = 0; k < portfolio->solvers; k++) thrd_join(threads[k], NULL);
+}
+
+static void tell(const Portfolio *portfolio, double time) {
+    unsigned long bytes = 0;
+    for (int k = 0; k < portfolio->solvers; k++) {
+        const Proof *proof = &portfolio->solver[k].proof;
+        printf("c stream %d: %lu added, %lu deleted\n", portfolio->first + k, proof->added, proof->deleted);
+        bytes += proof->bytes;
+    }
+    printf("c %lu bytes in %.2f s\n", bytes, time);
+    puts(portfolio->answer == SATISFIABLE ? "s SATISFIABLE" : "s UNSATISFIABLE");
+    if (portfolio->answer != SATISFIABLE) return;
+    if (!formula_satisfied(&portfolio->formula, portfolio->model)) fail("the assignment satisfies", "nothing");
+    for (int k = 0; k < portfolio->formula.variables; k++)
+        printf("v %d\n", portfolio->model[k] > 0 ? k + 1 : -(k + 1));
+    puts("v 0");
+}
+
+int main(int count, char **words) {
+    static Portfolio portfolio = { .share = 4, .first = 1 };
+    bool progress = false;
+    char **paths = read_options(&portfolio, words + 1, &progress);
+    portfolio.solvers = count - (int)(paths - words) - 1;
+    if (portfolio.streams == 0) portfolio.streams = portfolio.solvers;
+    if (portfolio.solvers < 1 || portfolio.first < 1 || portfolio.first + portfolio.solvers - 1 > portfolio.streams)
+        fail("usage: solver [--share LBD] [--seed N] [--first S --streams N] [--progress]", "FORMULA STREAM...");
+    if (portfolio.solvers == 1) portfolio.share = 0;
+    signal(SIGPIPE, SIG_IGN);       // a reader that went away is told as a write that failed
+    formula_read(&portfolio.formula, paths[0]);
+    portfolio.solver = zeroed((size_t)portfolio.solvers, sizeof *portfolio.solver);
+    open_all(&portfolio, paths + 1);
+    double start = seconds();
+    thrd_t thread;
+    if (progress && thrd_create(&thread, show_progress, &portfolio) != thrd_success) fail("cannot start", "a thread");
+    run_all(&portfolio);
+    tell(&portfolio, seconds() - start);
+    return portfolio.answer;
+}

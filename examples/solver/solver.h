@@ -1,0 +1,157 @@
+// Unverified: an example of solvers that write streams for lrupd, and no part of it. What its files have in common.
+#ifndef SOLVER_H
+#define SOLVER_H
+
+#include <stdatomic.h>
+#include <stdbool.h>
+#include <stddef.h>
+#include <stdint.h>
+
+// 2 v is the literal of the variable v, counted from 0, and 2 v + 1 its complement.
+typedef int Literal;
+
+static inline Literal complement_of(Literal literal) { return literal ^ 1; }
+static inline int variable_of(Literal literal) { return literal >> 1; }
+static inline int as_written(Literal literal) {
+    return literal & 1 ? -(variable_of(literal) + 1) : variable_of(literal) + 1;
+}
+
+// Lists that grow.
+typedef struct { Literal *items; size_t length, capacity; } Literals;
+typedef struct { uint64_t *items; size_t length, capacity; } Identities;
+
+#define PUSH(list, item)                                                                    \
+    do {                                                                                    \
+        if ((list)->length == (list)->capacity) {                                           \
+            (list)->capacity = (list)->capacity ? 2 * (list)->capacity : 8;                 \
+            (list)->items = grow((list)->items, (list)->capacity * sizeof *(list)->items);  \
+        }                                                                                   \
+        (list)->items[(list)->length++] = (item);                                           \
+    } while (0)
+
+void *grow(void *memory, size_t bytes);         // main.c: realloc, or the end
+void *zeroed(size_t count, size_t bytes);       // main.c: calloc, or the end
+_Noreturn void fail(const char *cause, const char *object);
+
+// formula.c: the clauses in the order of the file, so that clause k has the identity k + 1. Literals are sorted, each once.
+typedef struct {
+    int variables;
+    size_t clauses;
+    size_t *starts;         // clause k is literals.items[starts[k]] up to starts[k + 1]
+    Literals literals;
+} Formula;
+
+void formula_read(Formula *formula, const char *path);
+bool formula_satisfied(const Formula *formula, const signed char *values);
+
+// proof.c: the stream of one solver.
+typedef struct {
+    int file;
+    const char *path;
+    uint64_t next, step;            // the identity of the next line, and from one to the next
+    uint64_t last;                  // the identity of the last line
+    size_t used;
+    char buffer[1 << 16];
+    atomic_ulong added, deleted, bytes;
+} Proof;
+
+void proof_open(Proof *proof, const char *path, uint64_t clauses, int stream, int streams);
+uint64_t proof_add(Proof *proof, const Literal *literals, size_t length, const Identities *hints);
+void proof_delete(Proof *proof, const Identities *identities);
+void proof_import(Proof *proof, uint64_t identity, const Literal *literals, size_t length);
+void proof_flush(Proof *proof);
+void proof_close(Proof *proof);
+
+// sharing.c: what one solver gives to all others, in an outbox that each of them reads at its own pace.
+typedef struct {
+    uint64_t identity;
+    unsigned lbd, length;
+    Literal literals[];
+} Gift;
+
+#define GIFTS_OF_A_PAGE 1024
+typedef struct Page {
+    Gift *gifts[GIFTS_OF_A_PAGE];
+    struct Page *next;
+} Page;
+
+typedef struct { Page *first, *last; atomic_size_t given; } Outbox;
+typedef struct { Page *page; size_t taken; } Inbox;
+
+void outbox_open(Outbox *outbox);
+void outbox_give(Outbox *outbox, Gift *gift);
+const Gift *inbox_take(Inbox *inbox, Outbox *outbox);
+Gift *gift_of(uint64_t identity, unsigned lbd, const Literal *literals, size_t length);
+
+typedef struct Clause {
+    uint64_t identity;
+    unsigned length;
+    unsigned lbd;               // the levels that its literals had when it was learnt; 0 for the formula's
+    bool given;                 // other solvers may cite it
+    bool removed;
+    Literal literals[];         // the first two are watched; a reason's first literal is the one that it gave
+} Clause;
+
+typedef struct { Clause *clause; Literal other; } Watch;
+typedef struct { Watch *items; size_t length, capacity; } Watches;
+typedef struct { Clause **items; size_t length, capacity; } Clauses;
+typedef struct { Gift **items; size_t length, capacity; } Gifts;
+
+typedef enum { UNKNOWN = 0, SATISFIABLE = 10, UNSATISFIABLE = 20 } Answer;
+
+// What all solvers of the process share.
+typedef struct Portfolio {
+    Formula formula;
+    int solvers;                // threads here, each with its stream
+    int streams, first;         // streams in all, and which of them is the first one here
+    unsigned share;             // clauses of at most this LBD are given away; 0: none
+    uint64_t seed;
+    bool imports;
+    struct Solver *solver;
+    atomic_int answer;
+    signed char *model;         // by variable, where satisfiable
+} Portfolio;
+
+typedef struct Solver {
+    Portfolio *portfolio;
+    int place;                  // from 0, in the portfolio
+    Proof proof;
+    Outbox outbox;
+    Inbox *inboxes;
+    Gifts gifts;                // written, and not yet given away
+
+    signed char *values;        // by literal: 1 true, -1 false, 0 open
+    signed char *phases;        // by variable: the value that it had last
+    int *levels;                // by variable
+    Clause **reasons;           // by variable: the clause that gave its value; none of a decision, and none at level 0
+    uint64_t *units;            // by variable: the identity of the unit clause that gives its value at level 0
+    Literals trail, decisions;  // the true literals in order; of each level the length of the trail before it
+    size_t propagated, named;   // of the trail: whose watches were looked at; whose unit clauses are written
+    Watches *watches;           // by literal
+    Clauses clauses;            // learnt here or taken over
+
+    double *activity, bump;
+    int *heap, *heap_place;     // of variables, the most active first; where each is, or -1
+    size_t heap_length;
+
+    unsigned char *marks;       // learn.c's, by variable
+    Literals marked, learnt;
+    Identities hints;
+    uint64_t *level_stamps, stamp;
+
+    uint64_t random, conflicts, restarts, next_restart, next_reduction, reductions;
+} Solver;
+
+// learn.c
+void find_clause(Solver *solver, Clause *conflict);     // leaves it in `learnt`, and its chain in `hints`
+unsigned lbd_of(Solver *solver, const Literals *literals);
+void name_units(Solver *solver);
+void refute(Solver *solver, const Clause *conflict);
+
+// search.c
+void solver_open(Solver *solver);
+void solver_run(Solver *solver);
+void bump_variable(Solver *solver, int variable);
+static inline int level_of(const Solver *solver) { return (int)solver->decisions.length; }
+
+#endif
