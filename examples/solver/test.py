@@ -149,7 +149,7 @@ def main():
         generate("pigeons 12", path)    # takes much longer than it is let run
         for streams, seconds in ((1, 0.2), (3, 0.4), (8, 0.6)):
             name = f"{streams} streams, killed after {seconds} s"
-            outcomes.append(attempt(name, killed, program, [solver], path, streams, seconds))
+            outcomes.append(attempt(name, killed, program, [solver, "--share", "100"], path, streams, seconds))
     print(f"{len(outcomes) - sum(outcomes)} passed, {sum(outcomes)} failed")
     return 1 if any(outcomes) else 0
 
