@@ -10,9 +10,9 @@
 # propagate: new marks take two allocations, and a thousand clauses that are taken up none: the third is the test's own, after
 # them all, and there is no fourth.
 #
-# stream_check: eleven allocations come before the first line of a stream that drops some twenty identities, and twelve more
-# while it is read, all for the set of these. Where one of the twelve is refused the stream is over, and its report counts
-# what came before.
+# stream_check: eleven allocations come before the first line of a stream that drops some twenty identities, none is made for
+# that line, an addition with literals, and twelve come later, all for the set of these. Where one of the twelve is refused
+# the stream is over, and its report counts what came before.
 #
 # lrupd: where the first allocation or the fortieth is refused, the program says that it is out of memory, and gives no report.
 # One line and 5,000 take the same number of allocations: some more than those before the first line, both have a report. The

@@ -173,7 +173,7 @@ none_gone : (s : Bool) → false ≡ (s && false)
 none_gone true = refl
 none_gone false = refl
 
-pub new_left : FreshLeft → (layout : LayoutValue) (stream tries : ℕ) (h : Held) (r : ReaderState) → h.setting ≡ record { layout = layout; stream = stream; tries = tries } → h.last ≡ layout.clauses → h.dropped ≡ [] → h.retired ≡ 0 → h.added ≡ 0
+pub new_left : FreshLeft → (layout : LayoutValue) (stream tries : ℕ) (h : Held) (r : ReaderState) → h.setting ≡ record { layout = layout; stream = stream; tries = tries } → h.last ≡ layout.clauses → h.dropped.ids ≡ [] → h.retired ≡ 0 → h.added ≡ 0
     → h.empty ≡ false → h.line ≡ 1 → r ≡ Ok [] → IsNew layout stream tries (value_of h (read_of r) None)
 new_left law layout stream tries h r setting last dropped retired added empty line reads =
     let c : Setting = h.setting in

@@ -23,6 +23,7 @@ use Rattle.stream_check.specs.Standing.{Standing, Tally, capped, is_among, adds_
 use Rattle.stream_check.specs.Verdicts.{Good, Bad}
 use Rattle.stream_check.specs.Additions.{published_by, JudgesAddition}
 use Rattle.stream_check.specs.Leaving.{tally_after}
+use Rattle.stream_check.specs.DroppedValue.{DroppedValue}
 use Rattle.stream_check.specs.Checking.{IsAt, IsFetch, IsRetire, MakesEvents, Deletes}
 use Rattle.stream_check.specs.Checker.{standing_at, tally_at, deleted_at, KeepsLines}
 use Rattle.stream_check.specs.Taking.{IsReady, DeletesMore, TakesBy}
@@ -142,12 +143,12 @@ takes_addition old new free left id lits hints es is_empty adds is room judged =
       judged,
       λ read. record {
         tally = tally_is (tally_at new) (tally_after old.setting (tally_at old) line) adds.added
-            (omega (arith, adds.retired, ap (λ (ids : List ℕ). length ids) adds.dropped))
+            (omega (arith, adds.retired, ap (λ (d : DroppedValue). length d.ids) adds.dropped))
             (adds.empty ∙ ap (λ (b : Bool). old.empty || b) (empty_is is_empty id lits hints is));
         standing = record {
           last = adds.last;
           free = room;
-          gone = λ j. ap (λ (ids : List ℕ). is_among ids j) adds.dropped ∙ none_gone (is_among old.dropped j) (is_shared (side_of old.setting j));
+          gone = λ j. ap (λ (d : DroppedValue). is_among d.ids j) adds.dropped ∙ none_gone (is_among old.dropped.ids j) (is_shared (side_of old.setting j));
         };
         pending = refl;
         line = adds.line;
@@ -164,19 +165,19 @@ pub record Counts (mid new : Held) : Type 0 where
   pub retired : new.retired ≡ mid.retired
 
 pub takes_deletion : (old mid new : Held) (free left : ℕ) (lead : ℕ) (ids : List ℕ) (es : History) (count : ℕ) → KeepsLines old mid → Counts mid new → deleted_at mid ≡ capped (deleted_at old + count) → left ≡ free
-    → Deletes old.setting old.dropped mid.dropped ids es count None → TakesBy old free new left (Deletion lead ids) es None
+    → Deletes old.setting old.dropped.ids mid.dropped.ids ids es count None → TakesBy old free new left (Deletion lead ids) es None
 takes_deletion old mid new free left lead ids es count kept counts more room deletes =
     let line : StreamLine = Deletion lead ids in (
       deletes.0,
       λ read. record {
         tally = tally_is (tally_at new) (tally_after old.setting (tally_at old) line)
             (omega (arith, counts.added, kept.added))
-            (omega (arith, counts.retired, ap (λ (js : List ℕ). length js) counts.dropped, more, deletes.1))
+            (omega (arith, counts.retired, ap (λ (d : DroppedValue). length d.ids) counts.dropped, more, deletes.1))
             (counts.empty ∙ kept.empty ∙ or_false old.empty);
         standing = record {
           last = counts.last ∙ kept.last;
           free = omega (arith, room);
-          gone = λ j. ap (λ (js : List ℕ). is_among js j) counts.dropped ∙ deletes.2 j;
+          gone = λ j. ap (λ (d : DroppedValue). is_among d.ids j) counts.dropped ∙ deletes.2 j;
         };
         pending = refl;
         line = counts.line ∙ ap (λ n. min (n + 1) (2 ^ 64 - 1)) kept.line;
@@ -189,7 +190,7 @@ pub deletes_more : (old mid : Held) (count : ℕ) → KeepsLines old mid → del
 deletes_more old mid count kept more = record { added = kept.added; deleted = more; empty = kept.empty; line = kept.line }
 
 pub stops_deletion : (old mid : Held) (free left : ℕ) (lead : ℕ) (ids : List ℕ) (es : History) (count : ℕ) (stop : Stop) → KeepsLines old mid → deleted_at mid ≡ capped (deleted_at old + count)
-    → Deletes old.setting old.dropped mid.dropped ids es count (Some stop) → TakesBy old free mid left (Deletion lead ids) es (Some stop)
+    → Deletes old.setting old.dropped.ids mid.dropped.ids ids es count (Some stop) → TakesBy old free mid left (Deletion lead ids) es (Some stop)
 stops_deletion old mid free left lead ids es count (stops.Bad fault) kept more deletes = (count, deletes, deletes_more old mid count kept more)
 stops_deletion old mid free left lead ids es count stops.Memory kept more deletes =
     (lead, ids, deletes.0, refl, deletes.2, deletes_more old mid (length deletes.0) kept (omega (arith, more, deletes.1)))

@@ -29,11 +29,11 @@ use Rattle.stream_check.specs.CheckerValue.{CheckerValue}
 
 -- what the good lines so far leave, where so much room is left
 abbrev pub standing_at : Held → ℕ → Standing
-standing_at h free = record { last = h.last; free = free; gone = is_among h.dropped }
+standing_at h free = record { last = h.last; free = free; gone = is_among h.dropped.ids }
 
 -- how many identities were deleted
 abbrev pub deleted_at : Held → ℕ
-deleted_at h = capped (h.retired + length h.dropped)
+deleted_at h = capped (h.retired + length h.dropped.ids)
 
 abbrev pub tally_at : Held → Tally
 tally_at h = record { added = h.added; deleted = deleted_at h; empty = h.empty }
@@ -73,7 +73,7 @@ value_of h pending ending = record {
   setting = h.setting;
   tally = tally_at h;
   last = h.last;
-  dropped = h.dropped;
+  dropped = h.dropped.ids;
   retired = h.retired;
   pending = pending;
   line = h.line;

@@ -1,5 +1,6 @@
 pub mod Faults
 pub mod Setting
+pub mod DroppedValue
 pub mod Standing
 pub mod Verdicts
 pub mod Asking

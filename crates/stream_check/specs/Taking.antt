@@ -45,7 +45,7 @@ TakesBy old free new left line es None =
 TakesBy old free new left line es (Some (stops.Bad fault)) =
     (count : ℕ) × JudgesLine old.setting (standing_at old free) line es (Bad count fault) × DeletesMore old new count
 TakesBy old free new left line es (Some stops.Memory) =
-    (lead : ℕ) × (ids earlier : List ℕ) × (line ≡ Deletion lead ids) × StopsDeletion old.setting (is_among old.dropped) ids es earlier × DeletesMore old new (length earlier)
+    (lead : ℕ) × (ids earlier : List ℕ) × (line ≡ Deletion lead ids) × StopsDeletion old.setting (is_among old.dropped.ids) ids es earlier × DeletesMore old new (length earlier)
 
 -- a line that stopped ends the reading so
 abbrev pub ending_of : ℕ → Stop → Ending

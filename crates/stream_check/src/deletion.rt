@@ -36,8 +36,9 @@ pub enum Stop {
 /// Drops an identity that isn't the stream's own. It is looked for first, so that one that was dropped before never wants
 /// memory.
 fn drop_shared(dropped: &mut Dropped, id: Id) -> Deleted
-    ensures drops { DropsShared id dropped.old dropped.new result }
-    ensures count { length dropped.new ≡ length dropped.old + counted result }
+    ensures drops { DropsShared id dropped.old.ids dropped.new.ids result }
+    ensures count { length dropped.new.ids ≡ length dropped.old.ids + counted result }
+    ensures spare { result ≡ Deleted.NoMemory → dropped.old.spare ≡ 0 }
 {
     if dropped.has(id) {
         return Deleted::NotLive;
@@ -53,7 +54,7 @@ fn retire_own<M: ClauseMap>(held: &mut Held, map: &mut M, id: Id) -> Deleted
     requires at { IsAt held.old.setting (M.place map.old) }
     requires owns { Owns held.old.setting.layout held.old.setting.stream id }
     ensures deletes { (es : History) × M.moves map.old map.new es × AllByRecursion IsRetire es
-        × DeletesOwn held.old.setting id held.old.dropped held.new.dropped es result }
+        × DeletesOwn held.old.setting id held.old.dropped.ids held.new.dropped.ids es result }
     ensures count { deleted_at held.new ≡ capped (deleted_at held.old + counted result) }
     ensures dropped { held.new.dropped ≡ held.old.dropped }
     ensures kept { KeepsLines held.old held.new }
@@ -71,7 +72,8 @@ fn retire_own<M: ClauseMap>(held: &mut Held, map: &mut M, id: Id) -> Deleted
 fn delete_one<M: ClauseMap>(held: &mut Held, map: &mut M, id: Id) -> Deleted
     requires at { IsAt held.old.setting (M.place map.old) }
     ensures deletes { (es : History) × M.moves map.old map.new es × AllByRecursion IsRetire es
-        × DeletesOne held.old.setting id held.old.dropped held.new.dropped es result }
+        × DeletesOne held.old.setting id held.old.dropped.ids held.new.dropped.ids es result }
+    ensures spare { result ≡ Deleted.NoMemory → held.old.dropped.spare ≡ 0 }
     ensures count { deleted_at held.new ≡ capped (deleted_at held.old + counted result) }
     ensures kept { KeepsLines held.old held.new }
 {
@@ -88,7 +90,7 @@ pub fn delete<M: ClauseMap>(held: &mut Held, map: &mut M, ids: &[Id]) -> Option<
     requires at { IsAt held.old.setting (M.place map.old) }
     ensures deleted { (es : History) × M.moves map.old map.new es × AllByRecursion IsRetire es
         × ((count : ℕ) × (deleted_at held.new ≡ capped (deleted_at held.old + count))
-        × Deletes held.old.setting held.old.dropped held.new.dropped ids.now es count result) }
+        × Deletes held.old.setting held.old.dropped.ids held.new.dropped.ids ids.now es count result) }
     ensures kept { KeepsLines held.old held.new }
 {
     for id in ids {

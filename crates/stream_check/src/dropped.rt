@@ -1,5 +1,5 @@
 //! The identities that a stream dropped.
-ghost use Rattle.std.specs.Prelude.{◌≡◌, ◌||◌, ◌==◌, ◌+◌, ◌<◌, ◌^◌, ℕ, [], false, length, OnOk, OnErr};
+ghost use Rattle.std.specs.Prelude.{◌≡◌, ◌||◌, ◌==◌, ◌+◌, ◌<◌, ◌^◌, ℕ, [], false, length, OnOk, OnErr, IsOk};
 ghost use Rattle.stream_check.specs.Standing.{is_among};
 
 use lrup_model::Id;
@@ -14,16 +14,17 @@ pub struct Dropped {
 }
 
 impl Model for Dropped {
-    ghost use Rattle.std.specs.Prelude.{List, ℕ};
+    ghost use Rattle.std.specs.HashSet.{spare};
+    ghost use Rattle.stream_check.specs.DroppedValue.{DroppedValue};
 
-    ghost Value = { List ℕ };
+    ghost Value = { DroppedValue };
 
-    ghost view = { λ d. d.ids.keys };
+    ghost view = { λ d. record { ids = d.ids.keys; spare = spare d.ids } };
 }
 
 impl Dropped {
     pub fn new(alloc: Global) -> Dropped
-        ensures { result ≡ [] }
+        ensures { result.ids ≡ [] }
     {
         Dropped {
             ids: HashSet::new(alloc),
@@ -31,18 +32,19 @@ impl Dropped {
     }
 
     pub fn has(&self, id: Id) -> bool
-        ensures { result ≡ is_among self.now id }
+        ensures { result ≡ is_among self.now.ids id }
     {
         self.ids.contains(&id)
     }
 
-    /// Keeps one identity more. Where there is no memory for it, nothing changes.
+    /// Keeps one identity more. Where there is no memory for it, nothing changes; where there is room, none is wanted.
     pub fn add(&mut self, id: Id) -> Result<(), AllocError>
-        requires { is_among self.old id ≡ false }
+        requires { is_among self.old.ids id ≡ false }
         ensures members { OnOk result
-            ((j : ℕ) → is_among self.new j ≡ (is_among self.old j || id == j)) }
-        ensures count { OnOk result (length self.new ≡ length self.old + 1) }
-        ensures err { OnErr result (self.new ≡ self.old) }
+            ((j : ℕ) → is_among self.new.ids j ≡ (is_among self.old.ids j || id == j)) }
+        ensures count { OnOk result (length self.new.ids ≡ length self.old.ids + 1) }
+        ensures err { OnErr result (self.new.ids ≡ self.old.ids) }
+        ensures spare { 0 < self.old.spare → IsOk result }
     {
         self.ids.insert(id)?;
         Ok(())
@@ -50,7 +52,7 @@ impl Dropped {
 
     /// How many identities there are.
     pub fn count(&self) -> u64
-        ensures count { result ≡ length self.now }
+        ensures count { result ≡ length self.now.ids }
         ensures small { result < 2 ^ 63 }
     {
         self.ids.len() as u64

@@ -31,7 +31,7 @@ impl Held {
         ensures setting { result.setting
             ≡ record { layout = layout.now; stream = stream; tries = tries } }
         ensures last { result.last ≡ layout.now.clauses }
-        ensures dropped { result.dropped ≡ [] }
+        ensures dropped { result.dropped.ids ≡ [] }
         ensures retired { result.retired ≡ 0 }
         ensures added { result.added ≡ 0 }
         ensures empty { result.empty ≡ false }

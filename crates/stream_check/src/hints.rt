@@ -40,7 +40,7 @@ fn try_hint<M: ClauseMap, G: Gate>(
     requires variables { setting.now.layout.vars ≤ marks.old.vars }
     ensures tried { let formula = (M.place map.old).caller.formula in
         (es : History) × M.moves map.old map.new es × AllByRecursion IsFetch es
-        × Tries setting.now (is_among dropped.now) formula marks.old hint es result marks.new }
+        × Tries setting.now (is_among dropped.now.ids) formula marks.old hint es result marks.new }
     ensures kept { KeepsClause marks.old marks.new }
 {
     if dropped.has(hint) {
@@ -81,7 +81,7 @@ pub fn try_hints<M: ClauseMap, G: Gate>(
     requires consistent { ¬ IsTautology marks.old.falses }
     ensures shown { let formula = (M.place map.old).caller.formula in
         (es : History) × M.moves map.old map.new es × AllByRecursion IsFetch es
-        × Shows setting.now (is_among dropped.now) formula marks.old.falses hints.now es result }
+        × Shows setting.now (is_among dropped.now.ids) formula marks.old.falses hints.now es result }
     ensures kept { KeepsClause marks.old marks.new }
 {
     let mut left = hints;

@@ -103,7 +103,7 @@ fn checker_at(alloc: Global, map: &PlainMap, stream: u64, tries: u64) -> Result<
 }
 
 /// Feeds a piece to its end, or until the checker is over.
-fn feed_whole<M: ClauseMap>(checker: &mut Checker, map: &mut M, gate: &mut Told, piece: &[u8])
+fn feed_whole<M: ClauseMap, G: Gate>(checker: &mut Checker, map: &mut M, gate: &mut G, piece: &[u8])
     requires { IsReadyAt checker.old (M.place map.old) }
     ensures ready { IsReadyAt checker.new (M.place map.new) }
     ensures moves { (es : History) × M.moves map.old map.new es }
@@ -120,10 +120,10 @@ fn feed_whole<M: ClauseMap>(checker: &mut Checker, map: &mut M, gate: &mut Told,
 }
 
 /// Feeds a stream in pieces of one length, and ends it.
-fn feed_cut<M: ClauseMap>(
+fn feed_cut<M: ClauseMap, G: Gate>(
     checker: &mut Checker,
     map: &mut M,
-    gate: &mut Told,
+    gate: &mut G,
     bytes: &[u8],
     cut: usize,
 )

@@ -10,8 +10,9 @@ use lrup_model::{ClauseMap, Clip, Fetched, Id, Lit, Owner, PlainMap, Published, 
 use lrup_text::LineFault;
 use std::alloc::Global;
 use std::process::Abort;
+use std::sync::atomic::{AtomicU64, Ordering};
 use std::test::Fail;
-use stream_check::{Ending, Fault};
+use stream_check::{Ending, Fault, Gate};
 use test_support::lit;
 
 /// When stream 2 publishes `-2` under identity 6.
@@ -32,9 +33,52 @@ struct Events {
     retires: u64,
 }
 
-/// Stream 1's place at a map that has at least two streams.
+/// Calls in their order, each as two digits, up to nine of them: what it is, and its identity. 1 to 4 are what comes before
+/// an attempt to fetch, by its number; 5 is a fetch, 6 a publish, 7 what comes after it, 8 a retire, 9 another stream's.
 #[derive(Drop)]
-struct LateMap {
+struct Log {
+    calls: AtomicU64,
+}
+
+impl Log {
+    fn new() -> Log {
+        Log {
+            calls: AtomicU64::new(0),
+        }
+    }
+
+    fn calls(&self) -> u64 {
+        self.calls.load(Ordering::SeqCst)
+    }
+
+    fn note(&self, what: u64, id: Id) {
+        let call = what.min(9) * 10 + id.min(9);
+        let calls = self.calls().wrapping_mul(100).wrapping_add(call);
+        self.calls.store(calls, Ordering::SeqCst);
+    }
+}
+
+/// A gate of stream 1 that notes its calls.
+#[derive(Drop)]
+struct NotingGate<'a> {
+    log: &'a Log,
+}
+
+impl Gate for NotingGate<'_> {
+    fn before_fetch(&mut self, stream: u64, id: Id, attempt: u64) {
+        self.log
+            .note(if stream == 1 { attempt.min(4) } else { 9 }, id);
+    }
+
+    fn after_publish(&mut self, stream: u64, id: Id) {
+        self.log.note(if stream == 1 { 7 } else { 9 }, id);
+    }
+}
+
+/// Stream 1's place at a map that has at least two streams. It notes the calls of stream 1.
+#[derive(Drop)]
+struct LateMap<'a> {
+    log: &'a Log,
     map: PlainMap,
     /// What is left of stream 1's room.
     room: u64,
@@ -85,7 +129,7 @@ fn call_late(map: &mut PlainMap, late: Late, fetch: u64)
     }
 }
 
-impl ClauseMap for LateMap {
+impl ClauseMap for LateMap<'_> {
     ghost use Rattle.stream_check_tests.specs.TellsLemmas.{tells_none, tells_append};
 
     ghost place = { λ m. plain_place m.map 1 };
@@ -109,6 +153,7 @@ impl ClauseMap for LateMap {
     }
 
     fn fetch(&mut self, id: Id) -> Fetched {
+        self.log.note(5, id);
         self.events.fetches = self.events.fetches.saturating_add(1);
         call_late(&mut self.map, self.late, self.events.fetches);
         let mut desk = self.map.desk(1);
@@ -125,6 +170,7 @@ impl ClauseMap for LateMap {
     }
 
     fn publish(&mut self, id: Id, clause: &[Lit]) -> Published {
+        self.log.note(6, id);
         self.events.publishes = self.events.publishes.saturating_add(1);
         let mut desk = self.map.desk(1);
         let answer = desk.publish(id, clause);
@@ -133,6 +179,7 @@ impl ClauseMap for LateMap {
     }
 
     fn retire(&mut self, id: Id) -> Retired {
+        self.log.note(8, id);
         self.events.retires = self.events.retires.saturating_add(1);
         let mut desk = self.map.desk(1);
         let answer = desk.retire(id);
@@ -161,9 +208,11 @@ fn events_of(
     late: Late,
     lines: &str,
 ) -> Result<(Ending, Events, Told), Fail> {
+    let log = Log::new();
     let map = open_map(alloc, 2, 2, 2)?;
     let mut checker = checker_at(alloc, &map, 1, tries)?;
     let mut map = LateMap {
+        log: &log,
         map,
         room: 2,
         late,
@@ -309,6 +358,42 @@ fn a_foreign_hint_is_fetched_until_it_comes(rt: HostRuntime) -> Result<(), Fail>
         };
         let wanted = (ending, made, told_of(fetches, fetches, publishes));
         same(&rt, (tries, late, found), (tries, late, wanted));
+    }
+    Ok(())
+}
+
+/// The calls of the map and of the gate while these lines are checked.
+fn calls_of(alloc: Global, tries: u64, late: Late, lines: &str) -> Result<u64, Fail> {
+    let log = Log::new();
+    let map = open_map(alloc, 2, 2, 2)?;
+    let mut checker = checker_at(alloc, &map, 1, tries)?;
+    let mut map = LateMap {
+        log: &log,
+        map,
+        room: 2,
+        late,
+        events: NOTHING,
+    };
+    let mut gate = NotingGate { log: &log };
+    feed_cut(&mut checker, &mut map, &mut gate, lines.as_bytes(), 65_536);
+    Ok(log.calls())
+}
+
+/// The gate is called right before each fetch, and right after each publish.
+#[test]
+fn the_gate_stands_between_the_calls_of_the_map(rt: HostRuntime) -> Result<(), Fail> {
+    for (tries, late, lines, calls) in [
+        (
+            0,
+            Late::Never,
+            "5 2 0 1 2 0\n5 d 5 0\n",
+            11_51_12_52_65_75_85,
+        ),
+        (3, Late::Never, "5 -2 0 6 0\n", 16_56_26_56_36_56_46_56),
+        (3, Late::Published(2), "5 -2 0 6 0\n", 16_56_26_56_65_75),
+    ] {
+        let found = calls_of(rt.alloc(), tries, late, lines)?;
+        same(&rt, (lines, late, found), (lines, late, calls));
     }
     Ok(())
 }

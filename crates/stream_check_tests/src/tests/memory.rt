@@ -9,10 +9,11 @@ use std::process::Abort;
 use std::test::Fail;
 use stream_check::{Checker, Ending, Report, Turn};
 
-/// Each line but the first deletes one identity more that is kept, and the second an own one before it: where line `L` is
-/// the one that wants memory, `L - 1` identities were deleted before.
+/// The first line is an addition, with three literals, and takes no memory. Each other deletes one identity more that is
+/// kept, and the second an own one before it: where line `L` is the one that wants memory, `L - 1` identities were deleted
+/// before.
 const LINES: [&str; 20] = [
-    "5 2 0 1 2 0\n",
+    "5 1 2 1 0 1 0\n",
     "5 d 5 1 0\n",
     "5 d 2 0\n",
     "5 d 3 0\n",

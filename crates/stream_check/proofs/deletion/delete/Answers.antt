@@ -17,8 +17,8 @@ returns-in-NotLive-clause-deleted g c =
     let id = get_or ids i 0 in
     let deleted = c.loop-id.invariant.deleted in
     let one = c.in-NotLive.ensures.deletes in
-    let deletes : DeletesOne s id c.loop-id.held.dropped c.delete_one.new.held.dropped one.0 deleting.NotLive =
-    subst (λ (x : Setting). DeletesOne x id c.loop-id.held.dropped c.delete_one.new.held.dropped one.0 deleting.NotLive) c.loop-id.invariant.kept.setting one.3 in
+    let deletes : DeletesOne s id c.loop-id.held.dropped.ids c.delete_one.new.held.dropped.ids one.0 deleting.NotLive =
+    subst (λ (x : Setting). DeletesOne x id c.loop-id.held.dropped.ids c.delete_one.new.held.dropped.ids one.0 deleting.NotLive) c.loop-id.invariant.kept.setting one.3 in
     let count : length (take i ids) ≡ i = omega (arith, length-take i ids, c.loop-id-test.true) in (
       deleted.0 ++ one.0,
       g.met.M.ClauseMap.moves_append c.args.map.now c.loop-id.map c.delete_one.new.map deleted.0 one.0 deleted.1 one.1,
@@ -26,7 +26,7 @@ returns-in-NotLive-clause-deleted g c =
       (
         length (take i ids),
         omega (arith, c.in-NotLive.ensures.count, c.loop-id.invariant.count, count),
-        bad_deletion s old.dropped (take i ids) c.loop-id.held.dropped c.delete_one.new.held.dropped id (drop (i + 1) ids) ids deleted.0 one.0 (among_ids ids i c.loop-id-test.true) deleted.3 c.loop-id.invariant.dropped deletes,
+        bad_deletion s old.dropped.ids (take i ids) c.loop-id.held.dropped.ids c.delete_one.new.held.dropped.ids id (drop (i + 1) ids) ids deleted.0 one.0 (among_ids ids i c.loop-id-test.true) deleted.3 c.loop-id.invariant.dropped deletes,
       ),
     )
 
@@ -39,8 +39,8 @@ returns-in-NoMemory-clause-deleted g c =
     let id = get_or ids i 0 in
     let deleted = c.loop-id.invariant.deleted in
     let one = c.in-NoMemory.ensures.deletes in
-    let deletes : DeletesOne s id c.loop-id.held.dropped c.delete_one.new.held.dropped one.0 deleting.NoMemory =
-    subst (λ (x : Setting). DeletesOne x id c.loop-id.held.dropped c.delete_one.new.held.dropped one.0 deleting.NoMemory) c.loop-id.invariant.kept.setting one.3 in
+    let deletes : DeletesOne s id c.loop-id.held.dropped.ids c.delete_one.new.held.dropped.ids one.0 deleting.NoMemory =
+    subst (λ (x : Setting). DeletesOne x id c.loop-id.held.dropped.ids c.delete_one.new.held.dropped.ids one.0 deleting.NoMemory) c.loop-id.invariant.kept.setting one.3 in
     let count : length (take i ids) ≡ i = omega (arith, length-take i ids, c.loop-id-test.true) in (
       deleted.0 ++ one.0,
       g.met.M.ClauseMap.moves_append c.args.map.now c.loop-id.map c.delete_one.new.map deleted.0 one.0 deleted.1 one.1,
@@ -51,7 +51,7 @@ returns-in-NoMemory-clause-deleted g c =
         (
           take i ids,
           refl,
-          stopped_deletion s old.dropped (take i ids) c.loop-id.held.dropped c.delete_one.new.held.dropped id (drop (i + 1) ids) ids deleted.0 one.0 (among_ids ids i c.loop-id-test.true) deleted.3 c.loop-id.invariant.dropped deletes,
+          stopped_deletion s old.dropped.ids (take i ids) c.loop-id.held.dropped.ids c.delete_one.new.held.dropped.ids id (drop (i + 1) ids) ids deleted.0 one.0 (among_ids ids i c.loop-id-test.true) deleted.3 c.loop-id.invariant.dropped deletes,
         ),
       ),
     )
@@ -68,20 +68,20 @@ loop-id-preserved g c =
     let id = get_or ids i 0 in
     let deleted = c.loop-id.invariant.deleted in
     let one = c.in-Done.ensures.deletes in
-    let deletes : DeletesOne s id c.loop-id.held.dropped c.delete_one.new.held.dropped one.0 deleting.Done =
-    subst (λ (x : Setting). DeletesOne x id c.loop-id.held.dropped c.delete_one.new.held.dropped one.0 deleting.Done) c.loop-id.invariant.kept.setting one.3 in
+    let deletes : DeletesOne s id c.loop-id.held.dropped.ids c.delete_one.new.held.dropped.ids one.0 deleting.Done =
+    subst (λ (x : Setting). DeletesOne x id c.loop-id.held.dropped.ids c.delete_one.new.held.dropped.ids one.0 deleting.Done) c.loop-id.invariant.kept.setting one.3 in
     let more : take (i + 1) ids ≡ take i ids ++ id ∷ [] = take_more ids i 0 c.loop-id-test.true in
     record {
       kept = keeps_on old c.loop-id.held c.delete_one.new.held c.loop-id.invariant.kept c.delete_one.ensures.kept;
       count = omega (arith, c.in-Done.ensures.count, c.loop-id.invariant.count);
-      dropped = subst (λ (js : List ℕ). AreDropped s old.dropped js c.delete_one.new.held.dropped) (sym more)
-          (dropped_more s old.dropped (take i ids) c.loop-id.held.dropped c.delete_one.new.held.dropped id one.0 c.loop-id.invariant.dropped deletes);
+      dropped = subst (λ (js : List ℕ). AreDropped s old.dropped.ids js c.delete_one.new.held.dropped.ids) (sym more)
+          (dropped_more s old.dropped.ids (take i ids) c.loop-id.held.dropped.ids c.delete_one.new.held.dropped.ids id one.0 c.loop-id.invariant.dropped deletes);
       deleted = (
         deleted.0 ++ one.0,
         g.met.M.ClauseMap.moves_append c.args.map.now c.loop-id.map c.delete_one.new.map deleted.0 one.0 deleted.1 one.1,
         retires-append IsRetire deleted.0 one.0 deleted.2 one.2,
-        subst (λ (js : List ℕ). GoesOn s old.dropped js (deleted.0 ++ one.0)) (sym more)
-            (goes_on s old.dropped (take i ids) c.loop-id.held.dropped c.delete_one.new.held.dropped id deleted.0 one.0 deleted.3 c.loop-id.invariant.dropped deletes),
+        subst (λ (js : List ℕ). GoesOn s old.dropped.ids js (deleted.0 ++ one.0)) (sym more)
+            (goes_on s old.dropped.ids (take i ids) c.loop-id.held.dropped.ids c.delete_one.new.held.dropped.ids id deleted.0 one.0 deleted.3 c.loop-id.invariant.dropped deletes),
       );
     }
 
@@ -101,9 +101,9 @@ returns-clause-deleted g c =
         i,
         c.loop-id.invariant.count,
         (
-          good_deletion s old.dropped (take i ids) ids deleted.0 whole deleted.3,
+          good_deletion s old.dropped.ids (take i ids) ids deleted.0 whole deleted.3,
           count,
-          subst (λ (js : List ℕ). AreDropped s old.dropped js c.loop-id.held.dropped) whole c.loop-id.invariant.dropped,
+          subst (λ (js : List ℕ). AreDropped s old.dropped.ids js c.loop-id.held.dropped.ids) whole c.loop-id.invariant.dropped,
         ),
       ),
     )

@@ -15,9 +15,9 @@ invariant-loop-id g l =
     record {
       kept : KeepsLines old l.held;
       count : deleted_at l.held ≡ capped (deleted_at old + l.id-index);
-      dropped : AreDropped old.setting old.dropped earlier l.held.dropped;
+      dropped : AreDropped old.setting old.dropped.ids earlier l.held.dropped.ids;
       deleted : (es : History) × g.M.ClauseMap.moves l.initial.map l.map es × AllByRecursion IsRetire es
           × ((more : List ℕ) (rest : History) (v : Verdict)
-          → JudgesIdentities old.setting (is_among old.dropped) earlier more rest v
-          → JudgesIdentities old.setting (is_among old.dropped) [] (earlier ++ more) (es ++ rest) v);
+          → JudgesIdentities old.setting (is_among old.dropped.ids) earlier more rest v
+          → JudgesIdentities old.setting (is_among old.dropped.ids) [] (earlier ++ more) (es ++ rest) v);
     }

@@ -16,7 +16,7 @@ pub returns-in-Vacant-clause-tried : goal.returns-in-Vacant-clause-tried
 returns-in-Vacant-clause-tried g c =
     let s = c.args.setting.now in
     let f = (g.M.ClauseMap.place c.args.map.now).caller.formula in
-    let gone : ℕ → Bool = is_among c.args.dropped.now in
+    let gone : ℕ → Bool = is_among c.args.dropped.now.ids in
     let kept : gone c.args.hint ≡ false = sym c.has.ensures ∙ c.if-has.false in
     let asked = c.in-Vacant.ensures.asked in
     (asked.0, asked.1, asks_fetches s c.args.hint asked.0 _ asked.2, tries_vacant s gone f c.args.marks.now c.args.marks.now c.args.hint asked.0 kept asked.2)
@@ -25,7 +25,7 @@ pub returns-in-Retired-clause-tried : goal.returns-in-Retired-clause-tried
 returns-in-Retired-clause-tried g c =
     let s = c.args.setting.now in
     let f = (g.M.ClauseMap.place c.args.map.now).caller.formula in
-    let gone : ℕ → Bool = is_among c.args.dropped.now in
+    let gone : ℕ → Bool = is_among c.args.dropped.now.ids in
     let kept : gone c.args.hint ≡ false = sym c.has.ensures ∙ c.if-has.false in
     let asked = c.in-Retired.ensures.asked in
     (asked.0, asked.1, asks_fetches s c.args.hint asked.0 _ asked.2, tries_retired s gone f c.args.marks.now c.args.marks.now c.args.hint asked.0 kept asked.2)
@@ -35,7 +35,7 @@ returns-in-Unit-clause-tried g c =
     let s = c.args.setting.now in
     let p = g.M.ClauseMap.place c.args.map.now in
     let q = g.M.ClauseMap.place c.ask.new.map in
-    let gone : ℕ → Bool = is_among c.args.dropped.now in
+    let gone : ℕ → Bool = is_among c.args.dropped.now.ids in
     let kept : gone c.args.hint ≡ false = sym c.has.ensures ∙ c.if-has.false in
     let asked = c.in-Live.ensures.asked in
     let gives = c.in-Live.ensures.gives in
@@ -52,7 +52,7 @@ returns-in-Conflict-clause-tried g c =
     let s = c.args.setting.now in
     let p = g.M.ClauseMap.place c.args.map.now in
     let q = g.M.ClauseMap.place c.ask.new.map in
-    let gone : ℕ → Bool = is_among c.args.dropped.now in
+    let gone : ℕ → Bool = is_among c.args.dropped.now.ids in
     let kept : gone c.args.hint ≡ false = sym c.has.ensures ∙ c.if-has.false in
     let asked = c.in-Live.ensures.asked in
     let gives = c.in-Live.ensures.gives in
@@ -71,7 +71,7 @@ returns-in-NotUnit-clause-tried g c =
     let s = c.args.setting.now in
     let f = (g.M.ClauseMap.place c.args.map.now).caller.formula in
     let q = g.M.ClauseMap.place c.ask.new.map in
-    let gone : ℕ → Bool = is_among c.args.dropped.now in
+    let gone : ℕ → Bool = is_among c.args.dropped.now.ids in
     let kept : gone c.args.hint ≡ false = sym c.has.ensures ∙ c.if-has.false in
     let asked = c.in-Live.ensures.asked in
     let moved = g.met.M.ClauseMap.moves_append c.args.map.now c.ask.new.map c.hint.new.map asked.0 [] asked.1 c.hint.ensures.event in (

@@ -25,7 +25,7 @@ hints-preserved g c =
     let s = c.args.setting.now in
     let f = (g.M.ClauseMap.place c.args.map.now).caller.formula in
     let q = g.M.ClauseMap.place c.hints.map in
-    let gone : ℕ → Bool = is_among c.args.dropped.now in
+    let gone : ℕ → Bool = is_among c.args.dropped.now.ids in
     let led = c.hints.invariant.led in
     let tries = c.in-Unit.ensures.tried in
     let same : q.caller.formula ≡ f = ap (λ (r : Caller). r.formula) (g.met.M.ClauseMap.moves_tells c.args.map.now c.hints.map led.0 led.1).caller in
@@ -48,7 +48,7 @@ returns-in-Conflict-clause-shown g c =
     let s = c.args.setting.now in
     let f = (g.M.ClauseMap.place c.args.map.now).caller.formula in
     let q = g.M.ClauseMap.place c.hints.map in
-    let gone : ℕ → Bool = is_among c.args.dropped.now in
+    let gone : ℕ → Bool = is_among c.args.dropped.now.ids in
     let led = c.hints.invariant.led in
     let tries = c.in-Conflict.ensures.tried in
     let same : q.caller.formula ≡ f = ap (λ (r : Caller). r.formula) (g.met.M.ClauseMap.moves_tells c.args.map.now c.hints.map led.0 led.1).caller in
@@ -66,7 +66,7 @@ pub returns-in-Fails-clause-shown : goal.returns-in-Fails-clause-shown
 returns-in-Fails-clause-shown g c =
     let s = c.args.setting.now in
     let f = (g.M.ClauseMap.place c.args.map.now).caller.formula in
-    let gone : ℕ → Bool = is_among c.args.dropped.now in
+    let gone : ℕ → Bool = is_among c.args.dropped.now.ids in
     let led = c.hints.invariant.led in
     let tries = c.in-Fails.ensures.tried in (
       led.0 ++ tries.0,
@@ -79,6 +79,6 @@ pub returns-clause-shown : goal.returns-clause-shown
 returns-clause-shown g c =
     let s = c.args.setting.now in
     let f = (g.M.ClauseMap.place c.args.map.now).caller.formula in
-    let gone : ℕ → Bool = is_among c.args.dropped.now in
+    let gone : ℕ → Bool = is_among c.args.dropped.now.ids in
     let led = c.hints.invariant.led in
     (led.0, led.1, led.2, shows_none s gone f c.args.marks.now.falses c.args.hints.now c.hints.marks.falses c.hints.left.now led.0 c.in_default.ensures.cases led.4)
