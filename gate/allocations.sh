@@ -7,8 +7,8 @@
 # lrup_model: a push and an open take at most three allocations. Where one is refused nothing has changed, and the next
 # attempt succeeds, whichever it was.
 #
-# propagate: new marks take two allocations, and a thousand clauses that are taken up none: the third is the test's own, after
-# them all, and there is no fourth.
+# propagate: a formula, its map, new marks and a list of literals take eight allocations. A thousand clauses that are taken up,
+# hinted and compared take none: the ninth is the test's own, after them all, and there is no tenth.
 #
 # stream_check: eleven allocations come before the first line of a stream that drops some twenty identities, none is made for
 # that line, an addition with literals, and twelve come later, all for the set of these. Where one of the twelve is refused
@@ -98,15 +98,15 @@ seen() {
 }
 
 for n in 1 40 80; do program $n & done
-for n in 2 3 4; do tests propagate $n & done
+for n in 8 9 10; do tests propagate $n & done
 wait
 
-# One that a clause took, whose refusal it didn't tell, would leave this test ok with the second or the third refused.
-after_all=the_third_allocation_comes_after_all_clauses
-for n in 2 3; do
+# One that a call took, whose refusal it didn't tell, would leave this test ok with the eighth or the ninth refused.
+after_all=the_ninth_allocation_comes_after_all_calls
+for n in 8 9; do
     want propagate $n $after_all FAILED
 done
-want propagate 4 $after_all ok
+want propagate 10 $after_all ok
 
 for n in 1 40; do
     seen $n 3 '^case=[a-z]+ run=ended status=6 '

@@ -18,6 +18,15 @@ AreApart (x ∷ ls) = (¬ Has ls x) × (¬ Has ls (neg_ℤ x)) × AreApart ls
 abbrev pub HaveMarks : List Bool → List ℤ → Type 0
 HaveMarks marks ls = AllByRecursion (λ l. code_of l < length marks) ls
 
+-- the literal's mark is set
+abbrev pub IsMarked : List Bool → ℤ → Type 0
+IsMarked marks l = slice_index_or marks (code_of l) false ≡ true
+
+-- each of these literals was marked before, and after that all are marked that were, but for these
+pub record AreTaken (before after : List Bool) (ls : List ℤ) : Type 0 where
+  pub marked : (l : ℤ) → Has ls l → IsMarked before l
+  pub left : (l : ℤ) → IsMarked after l ↔ (IsMarked before l × (¬ Has ls l))
+
 -- a literal over the variables is marked exactly if it is in the list, and the list has room for one of each variable
 pub record AreMarks (vars : ℕ) (marks : List Bool) (ls : List ℤ) (capacity : ℕ) : Type 0 where
   pub count : length marks ≡ 2 * vars + 2

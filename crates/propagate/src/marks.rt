@@ -139,6 +139,28 @@ impl Marks {
             }
         }
     }
+
+    /// Are the literals of the clip's clause those of the list, in which a literal may repeat, and stand beside its
+    /// complement? It reads the clause once. No clause is taken up then.
+    pub fn same<M: ClauseMap>(&mut self, map: &mut M, clip: &Clip, lits: &[Lit]) -> bool
+        requires known { IsKnown (M.place map.old) clip.now }
+        requires follow { AllFollow (M.place map.old) }
+        requires variables { (M.place map.old).caller.formula.vars ≤ self.old.vars }
+        requires literals { AllByRecursion (IsLiteral self.old.vars) lits.now }
+        ensures same { IsTrue result
+            ↔ ((l : ℤ) → Has (text_of (M.place map.old) clip.now) l ↔ Has lits.now l) }
+        ensures idle { self.new
+            ≡ record { vars = self.old.vars; clause = []; falses = []; ready = false } }
+
+        // At the map it is no event.
+        ensures event { M.moves map.old map.new [] }
+        ensures stays { M.place map.new ≡ M.place map.old }
+    {
+        self.trail.clear();
+        self.clause_len = 0;
+        self.ready = false;
+        self.trail.same(map, clip, lits)
+    }
 }
 
 /// What is left of the clause. It stops reading where more than one literal is.

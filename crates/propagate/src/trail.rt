@@ -1,13 +1,14 @@
 //! The literals that are false.
-ghost use Rattle.std.specs.Prelude.{◌≡◌, ◌↔◌, ◌≤◌, ◌<◌, ◌++◌, [], ◌∷◌, ℕ, ℤ, false, true, neg_ℤ, length, take, slice_index_or, IsTrue, IfOk, IsErr, OnOk};
+ghost use Rattle.std.specs.Prelude.{◌≡◌, ◌↔◌, ◌⊎◌, ◌≤◌, ◌<◌, ◌+◌, ◌*◌, ◌++◌, [], ◌∷◌, ℕ, ℤ, Bool, List, Some, false, true, neg_ℤ, length, take, slice_get, slice_index_or, IsTrue, IsFalse, IfOk, IsErr, OnOk};
 ghost use Rattle.std.specs.List.{AllByRecursion};
 ghost use Rattle.lrup_model.specs.Literal.{IsLiteral, code_of};
-ghost use Rattle.lrup_model.specs.Clause.{Has, IsTautology};
+ghost use Rattle.lrup_model.specs.Clause.{Has, EachOnce, IsTautology};
+ghost use Rattle.lrup_model.specs.Place.{IsKnown, AllFollow, text_of};
 ghost use Rattle.propagate.specs.Distinct.{distinct};
-ghost use Rattle.propagate.specs.Trail.{HaveMarks};
+ghost use Rattle.propagate.specs.Trail.{AreTaken, HaveMarks, IsMarked};
 
 use crate::tautology::Tautology;
-use lrup_model::Lit;
+use lrup_model::{ClauseMap, Clip, Lit};
 use std::alloc::{AllocError, Global};
 use std::marker::Model;
 
@@ -91,6 +92,22 @@ impl Trail {
         self.literals.clear();
     }
 
+    /// Are the literals of the clip's clause those of the list? No literal is false before, nor then.
+    pub fn same<M: ClauseMap>(&mut self, map: &mut M, clip: &Clip, literals: &[Lit]) -> bool
+        requires empty { self.old.literals ≡ [] }
+        requires known { IsKnown (M.place map.old) clip.now }
+        requires follow { AllFollow (M.place map.old) }
+        requires variables { (M.place map.old).caller.formula.vars ≤ self.old.vars }
+        requires literals { AllByRecursion (IsLiteral self.old.vars) literals.now }
+        ensures same { IsTrue result
+            ↔ ((l : ℤ) → Has (text_of (M.place map.old) clip.now) l ↔ Has literals.now l) }
+        ensures idle { self.new ≡ self.old }
+        ensures event { M.moves map.old map.new [] }
+        ensures stays { M.place map.new ≡ M.place map.old }
+    {
+        is_same(&mut self.marks, map, clip, literals)
+    }
+
     /// The count of the false literals.
     #[inline]
     pub fn len(&self) -> usize
@@ -118,4 +135,105 @@ fn unmark(marks: &mut [bool], literals: &[Lit])
     for &lit in literals {
         marks[lit.code() as usize] = false;
     }
+}
+
+/// Are the literals of the clip's clause, none of which has a mark, those of the list? It leaves no mark that wasn't there.
+fn is_same<M: ClauseMap>(marks: &mut [bool], map: &mut M, clip: &Clip, literals: &[Lit]) -> bool
+    requires known { IsKnown (M.place map.old) clip.now }
+    requires follow { AllFollow (M.place map.old) }
+    requires clause { HaveMarks marks.old (text_of (M.place map.old) clip.now) }
+    requires literals { HaveMarks marks.old literals.now }
+    requires unmarked { (l : ℤ) → Has (text_of (M.place map.old) clip.now) l
+        → ¬ IsMarked marks.old l }
+    ensures same { IsTrue result
+        ↔ ((l : ℤ) → Has (text_of (M.place map.old) clip.now) l ↔ Has literals.now l) }
+    ensures others { (l : ℤ) → IsMarked marks.new l → IsMarked marks.old l }
+    ensures event { M.moves map.old map.new [] }
+    ensures stays { M.place map.new ≡ M.place map.old }
+{
+    mark_all(marks, literals);
+    let same = take_clause(marks, map, clip) && !any_marked(marks, literals);
+    unmark(marks, literals);
+    same
+}
+
+/// Sets the marks of these literals, and changes no other.
+fn mark_all(marks: &mut [bool], literals: &[Lit])
+    requires { HaveMarks marks.old literals.now }
+    ensures { (l : ℤ) → IsMarked marks.new l ↔ (IsMarked marks.old l ⊎ Has literals.now l) }
+{
+    for &lit in literals {
+        marks[lit.code() as usize] = true;
+    }
+}
+
+/// Has one of these literals a mark?
+fn any_marked(marks: &[bool], literals: &[Lit]) -> bool
+    requires { HaveMarks marks.now literals.now }
+    ensures { IsTrue result ↔ ((l : ℤ) × Has literals.now l × IsMarked marks.now l) }
+{
+    for &lit in literals {
+        if marks[lit.code() as usize] {
+            return true;
+        }
+    }
+    false
+}
+
+/// Takes the marks of the clip's clause away, up to a literal that has none: had each of them a mark?
+fn take_clause<M: ClauseMap>(marks: &mut [bool], map: &mut M, clip: &Clip) -> bool
+    requires known { IsKnown (M.place map.old) clip.now }
+    requires follow { AllFollow (M.place map.old) }
+    requires marks { HaveMarks marks.old (text_of (M.place map.old) clip.now) }
+    ensures yes { IsTrue result
+        → AreTaken marks.old marks.new (text_of (M.place map.old) clip.now) }
+    ensures no { IsFalse result
+        → (l : ℤ) × Has (text_of (M.place map.old) clip.now) l × (¬ IsMarked marks.old l) }
+    ensures others { (l : ℤ) → IsMarked marks.new l → IsMarked marks.old l }
+    ensures event { M.moves map.old map.new [] }
+    ensures stays { M.place map.new ≡ M.place map.old }
+{
+    for i in 0..clip.pairs() {
+        let (first, second) = map.pair(clip, i);
+        if !take_pair(marks, first, second) {
+            return false;
+        }
+    }
+    true
+}
+
+/// Takes away the mark of the next literal, or those of the next two, of a clause that has each once, and whose literals before
+/// them were marked: were these, too?
+#[inline]
+fn take_pair(marks: &mut [bool], first: Lit, second: Option<Lit>) -> bool
+    requires first { code_of first < length marks.old }
+    requires second { (l : ℤ) → second ≡ Some l → code_of l < length marks.old }
+    ensures yes { (before : List Bool) (d : List ℤ) (i : ℕ)
+        → slice_get d (2 * i) ≡ Some first → slice_get d (2 * i + 1) ≡ second
+        → AreTaken before marks.old (take (2 * i) d)
+        → IsTrue result → AreTaken before marks.new (take (2 * (i + 1)) d) }
+    ensures no { (before : List Bool) (d : List ℤ) (i : ℕ) → EachOnce d
+        → slice_get d (2 * i) ≡ Some first → slice_get d (2 * i + 1) ≡ second
+        → AreTaken before marks.old (take (2 * i) d)
+        → IsFalse result → (l : ℤ) × Has d l × (¬ IsMarked before l) }
+    ensures others { (l : ℤ) → IsMarked marks.new l → IsMarked marks.old l }
+{
+    take_mark(marks, first)
+        && match second {
+            Some(second) => take_mark(marks, second),
+            None => true,
+        }
+}
+
+/// Takes the mark of a literal away, and changes no other: had it one?
+#[inline]
+fn take_mark(marks: &mut [bool], lit: Lit) -> bool
+    requires { code_of lit < length marks.old }
+    ensures found { IsTrue result ↔ IsMarked marks.old lit }
+    ensures left { (l : ℤ) → IsMarked marks.new l ↔ (IsMarked marks.old l × (¬ (l ≡ lit))) }
+{
+    let place = lit.code() as usize;
+    let found = marks[place];
+    marks[place] = false;
+    found
 }

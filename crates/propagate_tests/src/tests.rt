@@ -54,28 +54,6 @@ fn the_most_variables_fit(rt: HostRuntime) -> Result<(), Fail> {
     Ok(())
 }
 
-/// Clauses in turn take no memory: `new` makes two allocations, and the third is the one after the last clause. The gate
-/// refuses that one, and this test has to fail then.
-#[test]
-fn the_third_allocation_comes_after_all_clauses(rt: HostRuntime) -> Result<(), Fail> {
-    let mut marks = Marks::new(rt.alloc(), 3)?;
-    let clause = [lit(1)?, lit(2)?, lit(-3)?, lit(1)?];
-    begin_often(&mut marks, &clause)?;
-    same(&rt, marks.clause().len(), 3);
-    let _third: Vec<u8> = Vec::with_capacity(rt.alloc(), 1)?;
-    Ok(())
-}
-
-/// Takes the clause up a thousand times.
-fn begin_often(marks: &mut Marks, clause: &[Lit]) -> Result<(), Tautology>
-    requires { AllByRecursion (IsLiteral marks.old.vars) clause.now }
-{
-    for _ in 0..1_000 {
-        marks.begin(clause)?;
-    }
-    Ok(())
-}
-
 #[test]
 fn a_tautology_leaves_no_clause(rt: HostRuntime) -> Result<(), Fail> {
     let mut marks = Marks::new(rt.alloc(), 2)?;
@@ -94,7 +72,7 @@ fn a_tautology_leaves_no_clause(rt: HostRuntime) -> Result<(), Fail> {
     Ok(())
 }
 
-/// The map of a formula of clauses of two literals each, over three variables.
+/// The map of a formula of clauses of two literals each, and the empty one after them, over three variables.
 fn map_of_pairs(alloc: Global, pairs: &[(i64, i64)]) -> Result<PlainMap, Fail>
     ensures formula { IfOk result (λ map. (formula_of map).vars ≡ 3) }
     ensures streams { IfOk result (λ map. map.layout.streams ≡ 1) }
@@ -103,8 +81,12 @@ fn map_of_pairs(alloc: Global, pairs: &[(i64, i64)]) -> Result<PlainMap, Fail>
     for &(one, other) in pairs {
         push_pair(&mut formula, lit(one)?, lit(other)?)?;
     }
-    let clauses = pairs.len() as u64;
-    let layout = Layout::new(3, clauses, 2 * clauses, 1, 1, 1)?;
+    if formula.len() > 9 {
+        return Err("no clause".into());
+    }
+    formula.push(&[])?;
+    let count = pairs.len() as u64;
+    let layout = Layout::new(3, count + 1, 2 * count, 1, 1, 1)?;
     if !layout.fits(&formula) {
         return Err("no layout".into());
     }
@@ -183,5 +165,91 @@ fn a_true_literal_or_two_left_are_not_unit(rt: HostRuntime) -> Result<(), Fail> 
     same(&rt, found, Some((Step::Unit, true)));
     let found = try_hints(&mut marks, &mut desk, &[1, 2]);
     same(&rt, found, Some((Step::NotUnit, false)));
+    Ok(())
+}
+
+/// Literals over three variables.
+fn lits_of(alloc: Global, values: &[i64]) -> Result<Vec<Lit>, Fail>
+    ensures { IfOk result (λ lits. AllByRecursion (IsLiteral 3) lits.items) }
+{
+    let mut lits = Vec::new(alloc);
+    for &value in values {
+        let lit = lit(value)?;
+        if lit.var() > 3 {
+            return Err("no literal".into());
+        }
+        lits.push(lit)?;
+    }
+    Ok(lits)
+}
+
+/// Are these the literals of the clause that the map has under the identity?
+fn is_clause<M: ClauseMap>(marks: &mut Marks, map: &mut M, id: u64, lits: &[Lit]) -> Option<bool>
+    requires marks { marks.old.vars ≡ 3 }
+    requires map { (M.place map.old).caller.formula.vars ≡ 3 }
+    requires literals { AllByRecursion (IsLiteral 3) lits.now }
+    ensures marks { marks.new.vars ≡ 3 }
+    ensures map { (M.place map.new).caller.formula.vars ≡ 3 }
+{
+    if !map.covers(id) {
+        return None;
+    }
+    match map.fetch(id) {
+        Fetched::Live(clip) => Some(marks.same(map, &clip, lits)),
+        _ => None,
+    }
+}
+
+#[test]
+fn a_clause_is_compared_as_a_set(rt: HostRuntime) -> Result<(), Fail> {
+    let rows: [(u64, &[i64], bool); 12] = [
+        (1, &[1, 2], true),
+        (1, &[2, 1, 2, 2], true),
+        (1, &[1], false),
+        (1, &[1, 1], false),
+        (1, &[3, 2, 1], false),
+        (1, &[1, 3], false),
+        (1, &[1, -2], false),
+        (1, &[], false),
+        (2, &[-2, 2], true),
+        (2, &[2, 2], false),
+        (3, &[], true),
+        (3, &[-3], false),
+    ];
+    let mut map = map_of_pairs(rt.alloc(), &[(1, 2), (2, -2)])?;
+    let mut desk = map.desk(1);
+    let mut marks = Marks::new(rt.alloc(), 3)?;
+    for (id, values, wanted) in rows {
+        let lits = lits_of(rt.alloc(), values)?;
+        let found = is_clause(&mut marks, &mut desk, id, lits.as_slice());
+        same(&rt, (id, values, found), (id, values, Some(wanted)));
+        holds(&rt, marks.clause().is_empty() && !marks.ready());
+    }
+    Ok(())
+}
+
+/// A clause is taken up, its hints are tried, and one is compared, a thousand times.
+fn call_often<M: ClauseMap>(marks: &mut Marks, map: &mut M, lits: &[Lit]) -> Option<()>
+    requires marks { marks.old.vars ≡ 3 }
+    requires map { (M.place map.old).caller.formula.vars ≡ 3 }
+    requires literals { AllByRecursion (IsLiteral 3) lits.now }
+{
+    for _ in 0..1_000 {
+        try_hints(marks, map, &[1, 2])?;
+        is_clause(marks, map, 2, lits)?;
+    }
+    Some(())
+}
+
+/// No call of the marks takes memory: the formula, the map, the marks and the list take eight allocations, and the ninth is the
+/// one after the last call. The gate refuses that one, and this test has to fail then.
+#[test]
+fn the_ninth_allocation_comes_after_all_calls(rt: HostRuntime) -> Result<(), Fail> {
+    let mut map = map_of_pairs(rt.alloc(), &[(1, 2), (-2, 3)])?;
+    let mut desk = map.desk(1);
+    let mut marks = Marks::new(rt.alloc(), 3)?;
+    let lits = lits_of(rt.alloc(), &[3, -2, 3])?;
+    call_often(&mut marks, &mut desk, lits.as_slice()).ok_or("no clause")?;
+    let _last: Vec<u8> = Vec::with_capacity(rt.alloc(), 1)?;
     Ok(())
 }
