@@ -4,3 +4,4 @@ pub mod NumberLemmas
 pub mod PieceLemmas
 pub mod PlainLemmas
 pub mod PlainInsideLemmas
+pub mod CubeCodes

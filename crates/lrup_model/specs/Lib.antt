@@ -23,6 +23,8 @@ pub mod HistoryLemmas
 pub mod OwnerLemmas
 pub mod EntryLemmas
 pub mod EntailmentLemmas
+pub mod Cube
+pub mod CubeLemmas
 pub mod PassLemmas
 pub mod RestrictionLemmas
 pub mod CallerLemmas

@@ -1,6 +1,7 @@
 //! Laws of the definitions. Each function does nothing; its contract is the law, which holds of every formula, layout,
-//! history and pass.
+//! history, pass and cube.
 ghost use Rattle.lrup_model.specs.Laws.{RunsInTurn, LegalInTurn, OwnInTurn, SpentInTurn, BeginningsLegal, FormulaStays, OwnCallsDecide, OwnCallsDecideFrom, OthersLeaveOwn, VacantAboveStays, PublishedInTurn, PublishedFollow, PublishedStay, EntriesAdvance, OwnersAct, OneOwner, PropagationSound, EmptyClauseRefutes, ClausesFollow, KnownStays, KnownFollows, PassRests, PassMovesInTurn, PassTells, FairFollows, SpeltStays, PassGoesOn, PassLearns, PassSteps, PassFetches, MeetsTwice, MeetingKeeps, OpeningFair, AmongMembers, AmongKeepsOwn, RestrictionLegal, OwnLegal};
+ghost use Rattle.lrup_model.specs.Cube.{WithinRefutes, EmptyCubeWithin, EmptyCubeRefutes, UnderEveryCube, CubesAreSets};
 
 /// The state after two histories, one after the other, is the second's after the first's.
 pub fn runs_in_turn()
@@ -186,4 +187,30 @@ pub fn restriction_legal()
 /// One stream's events are a legal history by themselves, where it finds no clause of another stream.
 pub fn own_legal()
     ensures { OwnLegal }
+{}
+
+/// What follows from the formula, within a cube, leaves no assignment that makes every clause and every literal of the
+/// cube true.
+pub fn within_refutes()
+    ensures { WithinRefutes }
+{}
+
+/// Within the empty cube is the empty clause alone.
+pub fn empty_cube_within()
+    ensures { EmptyCubeWithin }
+{}
+
+/// Under the empty cube a formula is unsatisfiable exactly if it is so by itself.
+pub fn empty_cube_refutes()
+    ensures { EmptyCubeRefutes }
+{}
+
+/// What is unsatisfiable is so under every cube.
+pub fn under_every_cube()
+    ensures { UnderEveryCube }
+{}
+
+/// Of the literals that a cube was made of only the set counts: what is within it, and what it refutes.
+pub fn cubes_are_sets()
+    ensures { CubesAreSets }
 {}

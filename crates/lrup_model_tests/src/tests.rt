@@ -1,5 +1,6 @@
 //! Worked values, texts, and each public call once.
 ghost use Rattle.std.specs.Prelude.{◌≡◌, ◌∷◌, ◌++◌, [], pos, negsuc, Some, None, IsTrue};
+ghost use Rattle.lrup_model.specs.Cube.{Within};
 ghost use Rattle.lrup_model.specs.Entailment.{IsUnsatisfiable};
 ghost use Rattle.lrup_model.specs.Event.{History, vacant, fetch, publish, spent};
 ghost use Rattle.lrup_model.specs.History.{IsLegal};
@@ -10,9 +11,10 @@ ghost use Rattle.lrup_model.specs.State.{state, retired};
 ghost use Rattle.test_support.specs.Worked.{four, first, second, third, fourth, unit, one_line, calls};
 
 use lrup_model::{
-    ClauseMap, Clip, Fetched, Formula, Id, Layout, LayoutFault, Lit, Owner, PlainMap, Published,
-    Retired,
+    ClauseMap, Clip, Cube, Fetched, Formula, Id, Layout, LayoutFault, Lit, Owner, PlainMap,
+    Published, Retired,
 };
+use std::alloc::Global;
 use std::fmt;
 use std::process::Abort;
 use std::test::Fail;
@@ -203,6 +205,76 @@ fn a_refused_open_can_be_made_again(rt: HostRuntime) -> Result<(), Fail> {
     };
     same(&rt, map.layout().last_identity(), 6);
     holds(&rt, formula.is_empty());
+    Ok(())
+}
+
+/// The literals of these numbers.
+fn literals(alloc: Global, values: &[i64]) -> Result<Vec<Lit>, Fail> {
+    let mut found = Vec::new(alloc);
+    for value in values {
+        found.push(Lit::new(*value).ok_or("no literal")?)?;
+    }
+    Ok(found)
+}
+
+/// The greatest variable of the cube of these literals, whether it refutes a clause, and whether it has a literal.
+fn ask_cube(
+    alloc: Global,
+    cube: &[i64],
+    clause: &[i64],
+    literal: i64,
+) -> Result<(u32, bool, bool), Fail> {
+    let cube = Cube::of(alloc, literals(alloc, cube)?.as_slice())?;
+    let clause = literals(alloc, clause)?;
+    let literal = Lit::new(literal).ok_or("no literal")?;
+    Ok((
+        cube.vars(),
+        cube.refutes(clause.as_slice()),
+        cube.has(literal),
+    ))
+}
+
+#[test]
+fn cubes_refute_clauses(rt: HostRuntime) -> Result<(), Fail> {
+    let rows: [(&[i64], &[i64], i64, (u32, bool, bool)); 11] = [
+        (&[-2], &[2], -2, (2, true, true)),
+        (&[-2, 1, -2], &[2], 2, (2, true, false)),
+        (&[-2, 1, -2], &[-1, 2], 1, (2, true, true)),
+        (&[-2, 1, -2], &[-1, -2], -1, (2, false, false)),
+        (&[2], &[2], 2, (2, false, true)),
+        (&[2], &[], 1, (2, true, false)),
+        (&[], &[], 1, (0, true, false)),
+        (&[], &[2], -2, (0, false, false)),
+        (&[1, -1], &[1], -1, (1, true, true)),
+        (&[1, -1], &[-1, 1], 2, (1, true, false)),
+        (
+            &[3, 16_777_215, -7],
+            &[-3, -16_777_215],
+            7,
+            (16_777_215, true, false),
+        ),
+    ];
+    for (cube, clause, literal, wanted) in rows {
+        let found = ask_cube(rt.alloc(), cube, clause, literal)?;
+        same(&rt, (cube, clause, found), (cube, clause, wanted));
+    }
+    let empty = Cube::empty(rt.alloc());
+    same(
+        &rt,
+        (empty.vars(), empty.refutes(&[]), empty.refutes(&[lit(1)])),
+        (0, true, false),
+    );
+    Ok(())
+}
+
+/// As a refused push: the gate refuses each allocation.
+#[test]
+fn a_refused_cube_can_be_made_again(rt: HostRuntime) -> Result<(), Fail> {
+    let cube = match Cube::of(rt.alloc(), &[lit(-2), lit(1)]) {
+        Ok(cube) => cube,
+        Err(_) => Cube::of(rt.alloc(), &[lit(-2), lit(1)])?,
+    };
+    holds(&rt, cube.refutes(&[lit(2), lit(-1)]));
     Ok(())
 }
 
@@ -411,4 +483,12 @@ fn hints_are_judged()
     ensures no_hint { ¬ Accepts unit [] }
     ensures tautology { ¬ Accepts (pos 1 ∷ negsuc 0 ∷ []) (first ∷ []) }
     ensures refuted { IsUnsatisfiable four }
+{}
+
+/// A clause is within the complements of its literals, and within nothing less, nor within itself.
+fn clauses_are_within_cubes()
+    ensures unit { Within (pos 2 ∷ []) (negsuc 1 ∷ pos 1 ∷ []) }
+    ensures itself { ¬ Within (pos 2 ∷ []) (pos 2 ∷ []) }
+    ensures part { ¬ Within (pos 1 ∷ pos 2 ∷ []) (negsuc 1 ∷ []) }
+    ensures nothing { Within [] (pos 2 ∷ []) }
 {}

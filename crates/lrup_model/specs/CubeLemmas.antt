@@ -1,0 +1,51 @@
+-- Lemmas on cubes.
+use Rattle.std.proofs.Common.{◌≡◌, ℤ, neg_ℤ, List, [], ◌∷◌, refl, sym, subst}
+use Rattle.std.specs.List.{AllByRecursion}
+use Rattle.lrup_model.specs.Literal.{IsLiteral}
+use Rattle.lrup_model.specs.Clause.{Clause, Has}
+use Rattle.lrup_model.specs.ClauseLemmas.{All-Has, All-from_Has}
+use Rattle.lrup_model.specs.Entailment.{MakesTrue, Satisfies}
+use Rattle.lrup_model.specs.EntailmentLemmas.{not_both}
+use Rattle.lrup_model.specs.Cube.{Within, WithinRefutes, EmptyCubeWithin, EmptyCubeRefutes, UnderEveryCube, CubesAreSets}
+
+pub within_refutes : WithinRefutes
+within_refutes f c cube derived within a sat holds =
+    let some : Satisfies a c = derived.1.holds a sat in
+    let complement : Has cube (neg_ℤ some.0) = All-Has (λ l. Has cube (neg_ℤ l)) c some.0 within some.1 in
+    not_both a some.0 (All-Has (IsLiteral f.vars) c some.0 derived.0.literals some.1).0 some.2
+    (All-Has (MakesTrue a) cube (neg_ℤ some.0) holds complement)
+
+empty_only : (c : Clause) → Within c [] → c ≡ []
+empty_only [] within = refl
+empty_only (x ∷ c) within = absurd within.0
+
+pub empty_cube_within : EmptyCubeWithin
+empty_cube_within c = (empty_only c, λ e. subst (λ (d : Clause). Within d []) (sym e) tt)
+
+pub empty_cube_refutes : EmptyCubeRefutes
+empty_cube_refutes f = ((λ under a sat. under a sat tt), (λ refuted a sat holds. refuted a sat))
+
+pub under_every_cube : UnderEveryCube
+under_every_cube f cube refuted a sat holds = refuted a sat
+
+-- what holds of each literal of a list holds of each of another with no others
+same_all : (P : ℤ → Type 0) (xs ys : List ℤ) → ((l : ℤ) → Has ys l → Has xs l) → AllByRecursion P xs → AllByRecursion P ys
+same_all P xs ys in_xs all = All-from_Has P ys (λ l h. All-Has P xs l all (in_xs l h))
+
+-- a clause within one cube is within another that has all its literals
+wider : (xs ys : List ℤ) → ((l : ℤ) → Has xs l → Has ys l) → (c : Clause) → Within c xs → Within c ys
+wider xs ys in_ys [] within = tt
+wider xs ys in_ys (x ∷ c) within = (in_ys (neg_ℤ x) within.0, wider xs ys in_ys c within.1)
+
+pub cubes_are_sets : CubesAreSets
+cubes_are_sets literals cube is =
+    let to : (l : ℤ) → Has cube l → Has literals l = λ l. (is l).0 in
+    let from : (l : ℤ) → Has literals l → Has cube l = λ l. (is l).1 in
+    record {
+      within = λ c. (wider cube literals to c, wider literals cube from c);
+      refutes = λ f. (
+        (λ under a sat holds. under a sat (same_all (MakesTrue a) literals cube to holds)),
+        (λ under a sat holds. under a sat (same_all (MakesTrue a) cube literals from holds)),
+      );
+      over = λ vars. (same_all (IsLiteral vars) cube literals from, same_all (IsLiteral vars) literals cube to);
+    }

@@ -1,0 +1,92 @@
+//! Cubes: literals that are assumed.
+ghost use Rattle.std.specs.Prelude.{◌≡◌, ◌↔◌, ◌≤◌, ℕ, [], IsTrue, IfOk, map};
+ghost use Rattle.std.specs.List.{All};
+ghost use Rattle.lrup_model.specs.Literal.{literal_of, IsCode, max_variable};
+ghost use Rattle.lrup_model.specs.Clause.{Has};
+ghost use Rattle.lrup_model.specs.Cube.{IsCubeOf, IsOver, Within};
+
+use crate::lit::Lit;
+use std::alloc::{AllocError, Global};
+use std::marker::Model;
+
+/// A set of literals that are assumed. It may have a literal and its complement.
+///
+/// It keeps the codes of the literals that it was made of, in order: 4 bytes each.
+#[derive(Drop)]
+pub struct Cube {
+    codes: Vec<u32>,
+}
+
+impl Model for Cube {
+    ghost use Rattle.std.specs.Prelude.{map};
+    ghost use Rattle.lrup_model.specs.Literal.{literal_of};
+    ghost use Rattle.lrup_model.specs.Cube.{CubeValue, AreCubeCodes};
+
+    ghost Value = { CubeValue };
+
+    ghost view = { λ c. map literal_of c.codes.items };
+
+    ghost invariant = { λ c. AreCubeCodes c.codes.items };
+}
+
+impl Cube {
+    /// The set of these literals.
+    pub fn of(alloc: Global, literals: &[Lit]) -> Result<Cube, AllocError>
+        ensures { IfOk result (λ cube. IsCubeOf literals.now cube) }
+    {
+        let mut codes = codes_of(alloc, literals)?;
+        codes.sort_unstable();
+        Ok(Cube { codes })
+    }
+
+    /// The cube without literals. It takes no memory.
+    pub fn empty(alloc: Global) -> Cube
+        ensures { result ≡ [] }
+    {
+        Cube {
+            codes: Vec::new(alloc),
+        }
+    }
+
+    /// Whether the literal is in the cube. The time is that of a binary search.
+    pub fn has(&self, literal: Lit) -> bool
+        ensures { IsTrue result ↔ Has self.now literal }
+    {
+        let code = literal.code();
+        self.codes.as_slice().binary_search(&code).is_ok()
+    }
+
+    /// Whether the complement of each literal of the clause is in the cube, so that the cube makes the clause false. It
+    /// ends at the first literal whose complement isn't there. With the empty cube it is one test.
+    pub fn refutes(&self, clause: &[Lit]) -> bool
+        ensures { IsTrue result ↔ Within clause.now self.now }
+    {
+        if self.codes.as_slice().is_empty() {
+            return clause.is_empty();
+        }
+        clause.iter().all(|literal| self.has(literal.complement()))
+    }
+
+    /// The greatest variable of the cube's literals, or 0 where there are none.
+    pub fn vars(&self) -> u32
+        ensures { (n : ℕ) → IsOver n self.now ↔ (result ≤ n) }
+    {
+        match self.codes.as_slice().last() {
+            Some(code) => *code >> 1,
+            None => 0,
+        }
+    }
+}
+
+/// The codes of the literals, one by one.
+fn codes_of(alloc: Global, literals: &[Lit]) -> Result<Vec<u32>, AllocError>
+    ensures literals { IfOk result (λ codes. map literal_of codes.items ≡ literals.now) }
+    ensures codes { IfOk result (λ codes. All (IsCode max_variable) codes.items) }
+{
+    let mut codes = Vec::new(alloc);
+    codes.reserve(literals.len())?;
+    for literal in literals {
+        codes.push(literal.code())?;
+    }
+    Ok(codes)
+}
