@@ -90,7 +90,8 @@ pub fn delete<M: ClauseMap>(held: &mut Held, map: &mut M, ids: &[Id]) -> Option<
     requires at { IsAt held.old.setting (M.place map.old) }
     ensures deleted { (es : History) × M.moves map.old map.new es × AllByRecursion IsRetire es
         × ((count : ℕ) × (deleted_at held.new ≡ capped (deleted_at held.old + count))
-        × Deletes held.old.setting held.old.dropped.ids held.new.dropped.ids ids.now es count result) }
+        × Deletes held.old.setting held.old.dropped.ids held.new.dropped.ids
+        ids.now es count result) }
     ensures kept { KeepsLines held.old held.new }
 {
     for id in ids {

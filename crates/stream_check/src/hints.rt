@@ -81,7 +81,8 @@ pub fn try_hints<M: ClauseMap, G: Gate>(
     requires consistent { ¬ IsTautology marks.old.falses }
     ensures shown { let formula = (M.place map.old).caller.formula in
         (es : History) × M.moves map.old map.new es × AllByRecursion IsFetch es
-        × Shows setting.now (is_among dropped.now.ids) formula marks.old.falses hints.now es result }
+        × Shows setting.now (is_among dropped.now.ids) formula marks.old.falses
+        hints.now es result }
     ensures kept { KeepsClause marks.old marks.new }
 {
     let mut left = hints;
