@@ -11,3 +11,7 @@ pub mod LineTexts
 pub mod WholeLines
 pub mod Ahead
 pub mod Cuts
+pub mod CubeFaults
+pub mod CubeRests
+pub mod CubeReads
+pub mod CubeLaws

@@ -1,3 +1,5 @@
+pub mod CubeReading
+pub mod Cubes
 pub mod Cutting
 pub mod Faults
 pub mod Feeding

@@ -18,6 +18,7 @@ ghost use Rattle.lrup_text.specs.Laws.{
   EmptyPending,
   CutLaws,
 };
+ghost use Rattle.lrup_text.specs.Cubes.{TextHasNoFault};
 
 /// A line has one text.
 pub fn a_line_has_one_text()
@@ -97,6 +98,11 @@ pub fn a_call_cuts_on()
 /// The lines that a reader gives are those that the stream is cut into, however it comes in pieces.
 pub fn calls_cut_the_stream()
     ensures { CallsCut }
+{}
+
+/// The text of a cube's literals is neither misspelled nor too long.
+pub fn a_cube_has_no_text_fault()
+    ensures { TextHasNoFault }
 {}
 
 /// The laws that a proof about a whole stream rests on, at one call.

@@ -4,6 +4,7 @@
 ghost use Rattle.std.specs.Prelude.{◌↔◌, IsTrue};
 ghost use Rattle.lrup_text.specs.Lines.{line_of, IsWithinLimits, IsStreamNumber, IsStreamLiteral, AreFew};
 
+mod cube;
 mod device;
 mod kernel;
 pub mod laws;
@@ -11,6 +12,7 @@ mod machine;
 mod reader;
 mod writer;
 
+pub use cube::{CubeFault, read_cube};
 pub use device::{ReadFault, Reading, Sink, Source, WriteFault, Writing};
 use machine::{MOST_IDENTITIES, MOST_LITERALS, MOST_NUMBER};
 pub use reader::{End, Fed, LineReader, Turn};

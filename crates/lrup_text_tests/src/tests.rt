@@ -1,11 +1,13 @@
 // Reading texts that were spelled by hand, in every cutting, and writing.
 ghost use Rattle.std.specs.Prelude.{◌≡◌, Some, IfOk, IsTrue};
 
+use lrup_model::Lit;
 use lrup_text::{
-    End, Line, LineFault, LineReader, ReadFault, Reading, Sink, Source, Turn, WriteBuffer,
-    WriteFault, Writing, write_all, write_line,
+    CubeFault, End, Line, LineFault, LineReader, ReadFault, Reading, Sink, Source, Turn,
+    WriteBuffer, WriteFault, Writing, read_cube, write_all, write_line,
 };
-use std::alloc::Global;
+use std::alloc::{AllocError, Global};
+use std::fmt::Write;
 use std::process::Abort;
 use std::test::Fail;
 use std::{fmt, io};
@@ -295,6 +297,151 @@ fn fault_texts(rt: HostRuntime) -> Result<(), Fail> {
         (LineFault::TooLong, "too long"),
         (LineFault::Truncated, "truncated"),
         (LineFault::RatHint, "rat hint"),
+    ];
+    for (fault, text) in faults {
+        same(&rt, fault.to_string(rt.alloc())?.as_str(), text);
+    }
+    Ok(())
+}
+
+/// The literals of a text's cube over these variables, or the fault's text.
+fn cube_shown(
+    alloc: Global,
+    text: &[u8],
+    vars: u32,
+    literals: &[i64],
+) -> Result<String, AllocError> {
+    let cube = match read_cube(alloc, text, vars.min(Lit::MAX_VARIABLE)) {
+        Ok(cube) => cube,
+        Err(fault) => return format!(in alloc; "{fault}"),
+    };
+    let mut shown = String::from_str(alloc, "cube")?;
+    for literal in literals.iter().filter_map(|value| Lit::new(*value)) {
+        if cube.has(literal) {
+            write!(shown, " {literal}")?;
+        }
+    }
+    Ok(shown)
+}
+
+/// Reads the text of a cube over these variables.
+fn cube_is(
+    rt: &(impl Abort + AllocGlobal),
+    text: &[u8],
+    vars: u32,
+    wanted: &str,
+) -> Result<(), Fail> {
+    let literals = [1, -1, 2, -2, 3, -3, 16_777_215, -16_777_215];
+    let shown = cube_shown(rt.alloc(), text, vars, &literals)?;
+    assert_eq!(rt; shown.as_str(), wanted);
+    Ok(())
+}
+
+#[test]
+fn cubes(rt: HostRuntime) -> Result<(), Fail> {
+    cube_is(&rt, b"-2 0\n", 2, "cube -2")?;
+    cube_is(&rt, b"-2 1 -2 0\n", 2, "cube 1 -2")?;
+    cube_is(&rt, b"2 0\n", 2, "cube 2")?;
+    cube_is(&rt, b"0\n", 2, "cube")?;
+    cube_is(&rt, b"0\n", 0, "cube")?;
+    cube_is(&rt, b"1 -1 0\n", 2, "cube 1 -1")?;
+    cube_is(&rt, b"3 -1 2 0\n", 3, "cube -1 2 3")?;
+    let last = b"16777215 -16777215 0\n";
+    cube_is(&rt, last, 16_777_215, "cube 16777215 -16777215")
+}
+
+#[test]
+fn cubes_out_of_range(rt: HostRuntime) -> Result<(), Fail> {
+    let range = "variable out of range";
+    cube_is(&rt, b"3 0\n", 2, range)?;
+    cube_is(&rt, b"-3 0\n", 2, range)?;
+    cube_is(&rt, b"1 3 -2 0\n", 2, range)?;
+    cube_is(&rt, b"1 0\n", 0, range)?;
+    cube_is(&rt, b"16777216 0\n", 16_777_215, range)?;
+    cube_is(&rt, b"999999999999999999 0\n", 2, range)?;
+    cube_is(&rt, b"-999999999999999999 0\n", 2, range)
+}
+
+#[test]
+fn cubes_misspelled(rt: HostRuntime) -> Result<(), Fail> {
+    let texts: [&[u8]; 25] = [
+        b"",
+        b"\n",
+        b"-2 0",
+        b"+2 0\n",
+        b"-2 0\n0\n",
+        b"-2 0\n\n",
+        b"-2 0\r\n",
+        b"-2  0\n",
+        b" -2 0\n",
+        b"-2 0 \n",
+        b"-2\t0\n",
+        b"-2 00\n",
+        b"02 0\n",
+        b"-0 0\n",
+        b"- 2 0\n",
+        b"--2 0\n",
+        b"-2 d 0\n",
+        b"1,2 0\n",
+        b"1 0 2 0\n",
+        b"c\n-2 0\n",
+        b"0\n-2 0\n",
+        // misspelled, with a variable out of range before that
+        b"3 0",
+        b"3 x",
+        b"3 02 1111111111111111111 0\n",
+        b"999999999999999999",
+    ];
+    for text in texts {
+        cube_is(&rt, text, 2, "spelling")?;
+    }
+    let whole = b"-2 13 -2 0\n";
+    for end in 0..whole.len() {
+        cube_is(&rt, &whole[..end], 2, "spelling")?;
+    }
+    cube_is(&rt, whole, 2, "variable out of range")
+}
+
+#[test]
+fn cubes_too_long(rt: HostRuntime) -> Result<(), Fail> {
+    for text in [
+        b"1000000000000000000 0\n".as_slice(),
+        b"-1000000000000000000 0\n",
+        b"3 1111111111111111111 0\n",
+        b"1111111111111111111",
+        b"1111111111111111111x",
+    ] {
+        cube_is(&rt, text, 2, "too long")?;
+    }
+    for (literal, count, end, wanted) in [
+        (b"1 ".as_slice(), 65_535, b"0\n".as_slice(), "cube 1"),
+        (b"-1 ", 65_535, b"0\n", "cube -1"),
+        (b"1 ", 65_536, b"0\n", "too long"),
+        (b"-1 ", 65_536, b"0\n", "too long"),
+        (b"3 ", 65_535, b"0\n", "variable out of range"),
+        (b"1 ", 65_535, b"9", "too long"),
+        (b"1 ", 65_535, b"-x", "too long"),
+        (b"1 ", 65_535, b"x", "spelling"),
+        (b"1 ", 65_535, b"", "spelling"),
+        (b"1 ", 65_535, b"0", "spelling"),
+    ] {
+        let mut text = Vec::new(rt.alloc());
+        for _ in 0..count {
+            text.extend_from_slice(literal)?;
+        }
+        text.extend_from_slice(end)?;
+        cube_is(&rt, &text, 2, wanted)?;
+    }
+    Ok(())
+}
+
+#[test]
+fn cube_fault_texts(rt: HostRuntime) -> Result<(), Fail> {
+    let faults = [
+        (CubeFault::Spelling, "spelling"),
+        (CubeFault::TooLong, "too long"),
+        (CubeFault::Range, "variable out of range"),
+        (CubeFault::Memory, "out of memory"),
     ];
     for (fault, text) in faults {
         same(&rt, fault.to_string(rt.alloc())?.as_str(), text);

@@ -1,0 +1,32 @@
+-- The text of a cube has no fault.
+use Rattle.std.proofs.Common.{ℕ, ℤ, inl, inr, List, [], ◌∷◌, map, sym, ◌∙◌, subst, arith}
+use Rattle.std.specs.Fmt.{signed_decimal}
+use Rattle.std.specs.List.{AllByRecursion}
+use Rattle.std.proofs.lemmas.List.{append_assoc, length-map}
+use Rattle.lrup_text.specs.declared.cube.CubeFault.TheVariants.{Spelling, TooLong, Range, Memory}
+use Rattle.lrup_text.specs.Cubes.{IsTextOf, IsCubeLine, BeginsNone, TextHasNoFault}
+use Rattle.lrup_text.specs.Grammar.{standard, SpellsLiteral}
+use Rattle.lrup_text.specs.Lines.{IsStreamLiteral}
+use Rattle.lrup_text.proofs.TextLaws.{signed_word}
+
+each_word : (literals : List ℤ) → AllByRecursion IsStreamLiteral literals → AllByRecursion (SpellsLiteral 18) (map signed_decimal literals)
+each_word [] h = tt
+each_word (z ∷ zs) h = (signed_word z h.0, each_word zs h.1)
+
+text_is_line : (literals : List ℤ) (bytes : List ℕ) → IsTextOf literals bytes → IsCubeLine standard bytes
+text_is_line literals bytes text = (
+  map signed_decimal literals,
+  record { count = omega (arith, length-map literals signed_decimal, text.few.count); each = each_word literals text.few.each },
+  text.is,
+)
+
+-- no beginning of a line begins none
+none_breaks : (bytes : List ℕ) (Shortest : List ℕ → Type 0) → IsCubeLine standard bytes → BeginsNone IsCubeLine bytes Shortest → ⊥
+none_breaks bytes Shortest line h = h.none (h.after, subst (IsCubeLine standard) (h.is ∙ sym (append_assoc h.read (h.byte ∷ []) h.after)) line)
+
+pub text_has_no_fault : TextHasNoFault
+text_has_no_fault literals bytes Spelling text (inl early) = early.1 (text_is_line literals bytes text)
+text_has_no_fault literals bytes Spelling text (inr none) = none_breaks bytes _ (text_is_line literals bytes text) none
+text_has_no_fault literals bytes TooLong text none = none_breaks bytes _ (text_is_line literals bytes text) none
+text_has_no_fault literals bytes Range text h = h
+text_has_no_fault literals bytes Memory text h = h

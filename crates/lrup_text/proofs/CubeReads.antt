@@ -1,0 +1,133 @@
+-- A cube's text as far as it was read: a number, and literals.
+use Rattle.std.proofs.Common.{◌≡◌, ℕ, ℤ, ◌+◌, ◌-◌, ◌*◌, ◌<◌, ◌≤◌, true, false, List, [], ◌∷◌, ◌++◌, length, unsigned_abs, Ok, Err, refl, sym, ◌∙◌, ap, subst, arith}
+use Rattle.std.specs.Prelude.{Result, IfOk, IfErr, MatchResult}
+use Rattle.std.specs.Fmt.{decimal, signed_decimal}
+use Rattle.std.specs.List.{AllByRecursion}
+use Rattle.std.proofs.lemmas.List.{append_assoc, length-append}
+use Rattle.lrup_model.specs.Cube.{IsOver}
+use Rattle.lrup_text.specs.declared.cube.CubeFault.{CubeFault}
+use Rattle.lrup_text.specs.declared.cube.CubeFault.TheVariants.{Spelling, TooLong, Range, Memory}
+use Rattle.lrup_text.specs.CubeReading.{LiteralsFollow, DigitsFollowIn, IsRestFault, ReadsNumber, ReadsLiteral, AreKept, AreNotKept}
+use Rattle.lrup_text.specs.Cubes.{IsCubeLine, IsTextOf, IsTextFault, IsCubeFault}
+use Rattle.lrup_text.specs.Grammar.{IsDigit, line_feed, space, minus, zero_digit}
+use Rattle.lrup_text.specs.Lines.{IsStreamNumber, IsStreamLiteral}
+use Rattle.lrup_text.specs.Reading.{FitsDigits, literals_text, literal_front}
+use Rattle.lrup_text.proofs.Bytes.{first_digit, more_digits, decimal_next, positive, all_more, text_more, literals_end}
+use Rattle.lrup_text.proofs.CubeFaults.{Continues, continues_then, fault_after}
+use Rattle.lrup_text.proofs.CubeRests.{line_start, digit_continues, word_continues}
+use Rattle.lrup_text.proofs.Numerals.{decimal_one}
+use Rattle.lrup_text.proofs.TextLaws.{signed_word}
+
+-- A number: digits were read after the first.
+
+pub record DigitsSoFar (first : ℕ) (after : List ℕ) (number digits : ℕ) (rest : List ℕ) : Type 0 where
+  pub more : List ℕ
+  pub is : after ≡ more ++ rest
+  pub word : decimal number ≡ first ∷ more
+  pub fits : FitsDigits number digits
+  pub goes : (n : ℕ) → Continues (DigitsFollowIn 1 n) (DigitsFollowIn digits n) more
+
+nothing_read : (n : ℕ) → Continues (DigitsFollowIn 1 n) (DigitsFollowIn 1 n) []
+nothing_read n = record { to = λ limits lifted rest h. h; from = λ limits lifted rest h. h }
+
+pub digits_start : (first : ℕ) (after : List ℕ) → 49 ≤ first → first ≤ 57 → DigitsSoFar first after (first - 48) 1 after
+digits_start first after low high = record { more = []; is = refl; word = decimal_one first (omega arith, high); fits = first_digit first low high; goes = nothing_read }
+
+pub digits_next : (first : ℕ) (after : List ℕ) (number digits : ℕ) (rest next : List ℕ) (b : ℕ) → DigitsSoFar first after number digits rest → rest ≡ b ∷ next → IsDigit b → digits < 18
+    → DigitsSoFar first after (number * 10 + (b - 48)) (digits + 1) next
+digits_next first after number digits rest next b so is digit few = record {
+  more = so.more ++ b ∷ [];
+  is = so.is ∙ ap (λ t. so.more ++ t) is ∙ sym (append_assoc so.more (b ∷ []) next);
+  word = decimal_next number digits b so.fits few digit ∙ ap (λ t. t ++ b ∷ []) so.word;
+  fits = more_digits number digits b so.fits few digit;
+  goes = λ n. continues_then (DigitsFollowIn 1 n) (DigitsFollowIn digits n) (DigitsFollowIn (digits + 1) n) so.more (b ∷ []) (so.goes n) (digit_continues digits n b digit);
+}
+
+pub digits_read : (first : ℕ) (after : List ℕ) (number digits : ℕ) (rest next : List ℕ) → DigitsSoFar first after number digits rest → rest ≡ space ∷ next → ReadsNumber (first ∷ after) number next
+digits_read first after number digits rest next so is = record {
+  fits = positive number digits so.fits;
+  is = ap (λ t. first ∷ t) (so.is ∙ ap (λ t. so.more ++ t) is) ∙ ap (λ t. t ++ space ∷ next) (sym so.word);
+}
+
+pub digits_fault : (first : ℕ) (after : List ℕ) (number digits : ℕ) (rest : List ℕ) (fault : CubeFault) → DigitsSoFar first after number digits rest → IsRestFault (DigitsFollowIn digits) rest fault
+    → IsRestFault (DigitsFollowIn 1) after fault
+digits_fault first after number digits rest fault so h n few =
+    subst (λ t. IsTextFault (DigitsFollowIn 1 n) t fault) (sym so.is) (fault_after (DigitsFollowIn 1 n) (DigitsFollowIn digits n) so.more (so.goes n) rest fault (h n few))
+
+-- Literals.
+
+pub literal_negative : (rest next : List ℕ) (number : ℕ) (z : ℤ) → ReadsNumber rest number next → signed_decimal z ≡ literal_front true number → unsigned_abs z ≡ number → ReadsLiteral (minus ∷ rest) z next
+literal_negative rest next number z read text size = record {
+  fits = subst IsStreamNumber (sym size) read.fits;
+  is = ap (λ t. minus ∷ t) read.is ∙ ap (λ t. t ++ space ∷ next) (sym text);
+}
+
+pub literal_positive : (text next : List ℕ) (number : ℕ) (z : ℤ) → ReadsNumber text number next → signed_decimal z ≡ literal_front false number → unsigned_abs z ≡ number → ReadsLiteral text z next
+literal_positive text next number z read value size = record {
+  fits = subst IsStreamNumber (sym size) read.fits;
+  is = read.is ∙ ap (λ t. t ++ space ∷ next) (sym value);
+}
+
+pub record LiteralsSoFar (text : List ℕ) (literals : List ℤ) (count : ℕ) (rest : List ℕ) : Type 0 where
+  pub size : length literals ≡ count
+  pub few : count ≤ 65535
+  pub each : AllByRecursion IsStreamLiteral literals
+  pub is : text ≡ literals_text literals ++ rest
+  pub goes : Continues IsCubeLine (LiteralsFollow count) (literals_text literals)
+
+pub literals_start : (text : List ℕ) → LiteralsSoFar text [] 0 text
+unfolding literals_text
+literals_start text = record { size = refl; few = omega arith; each = tt; is = refl; goes = line_start }
+
+pub literals_next : (text : List ℕ) (literals : List ℤ) (count : ℕ) (rest next : List ℕ) (z : ℤ) → LiteralsSoFar text literals count rest → ReadsLiteral rest z next → count < 65535
+    → LiteralsSoFar text (literals ++ z ∷ []) (count + 1) next
+unfolding literals_text
+literals_next text literals count rest next z so read few =
+    let word = signed_decimal z ++ space ∷ [] in
+    let longer : literals_text (literals ++ z ∷ []) ≡ literals_text literals ++ word = text_more (λ x. signed_decimal x ++ space ∷ []) literals z in
+    record {
+      size = omega (arith, length-append literals (z ∷ []), so.size);
+      few = omega (arith, few);
+      each = all_more IsStreamLiteral literals z so.each read.fits;
+      is =
+          so.is ∙ ap (λ t. literals_text literals ++ t) (read.is ∙ sym (append_assoc (signed_decimal z) (space ∷ []) next))
+          ∙ sym (append_assoc (literals_text literals) word next) ∙ ap (λ t. t ++ next) (sym longer);
+      goes = subst (Continues IsCubeLine (LiteralsFollow (count + 1))) (sym longer)
+          (continues_then IsCubeLine (LiteralsFollow count) (LiteralsFollow (count + 1)) (literals_text literals) word so.goes (word_continues count (signed_decimal z) (signed_word z read.fits)));
+    }
+
+pub literals_fault : (text : List ℕ) (literals : List ℤ) (count : ℕ) (rest : List ℕ) (fault : CubeFault) → LiteralsSoFar text literals count rest → IsTextFault (LiteralsFollow count) rest fault
+    → IsTextFault IsCubeLine text fault
+literals_fault text literals count rest fault so h =
+    subst (λ t. IsTextFault IsCubeLine t fault) (sym so.is) (fault_after IsCubeLine (LiteralsFollow count) (literals_text literals) so.goes rest fault h)
+
+pub text_read : (text : List ℕ) (literals : List ℤ) (count : ℕ) (rest : List ℕ) → LiteralsSoFar text literals count rest → rest ≡ zero_digit ∷ line_feed ∷ [] → IsTextOf literals text
+text_read text literals count rest so is = record {
+  few = record { count = omega (arith, so.size, so.few); each = so.each };
+  is = so.is ∙ ap (λ t. literals_text literals ++ t) is ∙ literals_end literals (line_feed ∷ []);
+}
+
+-- What is kept of the literals of a whole text.
+
+module _ {T : Type 0} (items : T → List ℤ) (vars : ℕ) (literals : List ℤ) (text : List ℕ) (is : IsTextOf literals text) where
+  pub kept_text : (r : Result T CubeFault) → MatchResult r (λ kept. AreKept vars literals (items kept)) (AreNotKept vars literals) → IfOk r (λ kept. IsTextOf (items kept) text)
+  kept_text (Ok kept) h = subst (λ zs. IsTextOf zs text) (sym h.0) is
+  kept_text (Err fault) h = tt
+
+  pub kept_over : (r : Result T CubeFault) → MatchResult r (λ kept. AreKept vars literals (items kept)) (AreNotKept vars literals) → IfOk r (λ kept. IsOver vars (items kept))
+  kept_over (Ok kept) h = subst (IsOver vars) (sym h.0) h.1
+  kept_over (Err fault) h = tt
+
+  pub kept_fault : (r : Result T CubeFault) → MatchResult r (λ kept. AreKept vars literals (items kept)) (AreNotKept vars literals) → IfErr r (IsCubeFault vars text)
+  kept_fault (Ok kept) h = tt
+  kept_fault (Err Spelling) h = absurd h
+  kept_fault (Err TooLong) h = absurd h
+  kept_fault (Err Range) h = (literals, is, h)
+  kept_fault (Err Memory) h = (literals, is, h)
+
+-- A fault of its spelling is one of the cube.
+pub spelling_fault : (vars : ℕ) (text : List ℕ) (fault : CubeFault) → IsTextFault IsCubeLine text fault → IsCubeFault vars text fault
+spelling_fault vars text Spelling h = h
+spelling_fault vars text TooLong h = h
+spelling_fault vars text Range h = absurd h
+spelling_fault vars text Memory h = absurd h

@@ -1,0 +1,66 @@
+use Rattle.std.proofs.Common.{ℕ, List, ◌∷◌, ◌+◌, ◌-◌, ◌*◌, ◌^◌, ◌<◌, ◌∙◌, ap, sym, subst, arith}
+use Rattle.std.proofs.lemmas.List.{nil_from_length}
+use Rattle.lrup_text.specs.declared.cube.CubeFault.TheVariants.{Spelling, TooLong}
+use Rattle.lrup_text.specs.CubeReading.{DigitsFollowIn}
+use Rattle.lrup_text.specs.Cubes.{IsTextFault}
+use Rattle.lrup_text.proofs.Bytes.{below_limit, more_digits}
+use Rattle.lrup_text.proofs.CubeReads.{DigitsSoFar, digits_start, digits_next, digits_read, digits_fault}
+use Rattle.lrup_text.proofs.CubeRests.{digits_early, digits_spelling, digits_long}
+use Rattle.lrup_text.proofs.cube.read_digits.Goals as goal
+
+pub loop-byte-init : goal.loop-byte-init
+loop-byte-init c =
+    subst (λ n. DigitsSoFar c.args.first c.args.after.now n 1 c.args.after.now) (sym c.from-number.ensures) (digits_start c.args.first c.args.after.now c.requires.low c.requires.high)
+
+pub returns-then-byte-eq32-clause-number : goal.returns-then-byte-eq32-clause-number
+returns-then-byte-eq32-clause-number c =
+    digits_read c.args.first c.args.after.now c.loop-byte.number c.loop-byte.digits c.loop-byte.rest.now c.in-Some.next.now c.loop-byte.invariant
+    (c.in-Some.ensures.cases.0 ∙ ap (λ b. b ∷ c.in-Some.next.now) c.if-byte-eq32.true)
+
+pub returns-then-not-is_digit-clause-fault : goal.returns-then-not-is_digit-clause-fault
+returns-then-not-is_digit-clause-fault c =
+    let k = c.loop-byte.digits in
+    digits_fault c.args.first c.args.after.now c.loop-byte.number k c.loop-byte.rest.now Spelling c.loop-byte.invariant
+    (λ n few. subst (λ (t : List ℕ). IsTextFault (DigitsFollowIn k n) t Spelling) (sym c.in-Some.ensures.cases.0)
+    (digits_spelling k n c.in-Some.field-0-0.now c.in-Some.next.now c.loop-byte.invariant.fits.few few (λ low high. let wrong = c.if-not-is_digit.ensures.1 (low, high) in cc) c.if-byte-eq32.false))
+
+pub returns-then-digits-eq-MOST_DIGITS-clause-fault :
+    goal.returns-then-digits-eq-MOST_DIGITS-clause-fault
+returns-then-digits-eq-MOST_DIGITS-clause-fault c =
+    let digit = c.is_digit.ensures.0 c.if-not-is_digit.false in
+    digits_fault c.args.first c.args.after.now c.loop-byte.number c.loop-byte.digits c.loop-byte.rest.now TooLong c.loop-byte.invariant
+    (λ n few. subst (λ (t : List ℕ). IsTextFault (DigitsFollowIn c.loop-byte.digits n) t TooLong) (sym c.in-Some.ensures.cases.0)
+    (subst (λ k. IsTextFault (DigitsFollowIn k n) (c.in-Some.field-0-0.now ∷ c.in-Some.next.now) TooLong) (sym c.if-digits-eq-MOST_DIGITS.true)
+    (digits_long n c.in-Some.field-0-0.now c.in-Some.next.now few digit)))
+
+pub overflow_mul-number : goal.overflow_mul-number
+overflow_mul-number c =
+    let digit = c.is_digit.ensures.0 c.if-not-is_digit.false in
+    let few : c.loop-byte.digits < 18 = omega (arith, c.loop-byte.invariant.fits.few, c.if-digits-eq-MOST_DIGITS.false) in
+    let byte = c.in-Some.field-0-0.now in
+    let fits : c.loop-byte.number * 10 + (byte - 48) < 10 ^ 18 =
+    below_limit (c.loop-byte.number * 10 + (byte - 48)) (c.loop-byte.digits + 1) (more_digits c.loop-byte.number c.loop-byte.digits byte c.loop-byte.invariant.fits few digit) in
+    omega (arith, fits)
+
+pub overflow_add-number : goal.overflow_add-number
+overflow_add-number c =
+    let digit = c.is_digit.ensures.0 c.if-not-is_digit.false in
+    let few : c.loop-byte.digits < 18 = omega (arith, c.loop-byte.invariant.fits.few, c.if-digits-eq-MOST_DIGITS.false) in
+    let byte = c.in-Some.field-0-0.now in
+    let fits : c.loop-byte.number * 10 + (byte - 48) < 10 ^ 18 =
+    below_limit (c.loop-byte.number * 10 + (byte - 48)) (c.loop-byte.digits + 1) (more_digits c.loop-byte.number c.loop-byte.digits byte c.loop-byte.invariant.fits few digit) in
+    omega (arith, fits, c.from.ensures)
+
+pub loop-byte-preserved : goal.loop-byte-preserved
+loop-byte-preserved c =
+    let digit = c.is_digit.ensures.0 c.if-not-is_digit.false in
+    let few : c.loop-byte.digits < 18 = omega (arith, c.loop-byte.invariant.fits.few, c.if-digits-eq-MOST_DIGITS.false) in
+    let next = c.in-Some.next.now in
+    subst (λ d. DigitsSoFar c.args.first c.args.after.now (c.loop-byte.number * 10 + d) (c.loop-byte.digits + 1) next) (sym c.from.ensures)
+    (digits_next c.args.first c.args.after.now c.loop-byte.number c.loop-byte.digits c.loop-byte.rest.now next c.in-Some.field-0-0.now c.loop-byte.invariant c.in-Some.ensures.cases.0 digit few)
+
+pub returns-clause-fault : goal.returns-clause-fault
+returns-clause-fault c =
+    let k = c.loop-byte.digits in
+    digits_fault c.args.first c.args.after.now c.loop-byte.number k c.loop-byte.rest.now Spelling c.loop-byte.invariant
+    (λ n few. subst (λ (t : List ℕ). IsTextFault (DigitsFollowIn k n) t Spelling) (sym (nil_from_length c.loop-byte.rest.now c.in_default.ensures.cases)) (digits_early k n c.loop-byte.invariant.fits.few few))

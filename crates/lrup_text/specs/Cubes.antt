@@ -1,0 +1,70 @@
+-- The texts of cubes, in the words and within the limits of a stream's lines (this project's own):
+--     cube = *( lit SP ) "0" LF
+-- A file is the text of a cube if it is one such line and nothing more.
+use Rattle.std.specs.Prelude.{◌≡◌, ◌⊎◌, ℕ, ℤ, false, List, [], ◌∷◌, ◌++◌, map}
+use Rattle.std.specs.Fmt.{signed_decimal}
+use Rattle.lrup_model.specs.Cube.{CubeValue, IsCubeOf, IsOver}
+use Rattle.lrup_text.specs.declared.cube.CubeFault.{CubeFault}
+use Rattle.lrup_text.specs.declared.cube.CubeFault.TheVariants.{Spelling, TooLong, Range, Memory}
+use Rattle.lrup_text.specs.Grammar.{Limits, AreLifted, standard, AreWords, SpellsLiteral, clause_text, line_feed}
+use Rattle.lrup_text.specs.Lines.{IsStreamLiteral, AreFew}
+
+-- the bytes are the text of these literals, as they are written
+pub record IsTextOf (literals : List ℤ) (bytes : List ℕ) : Type 0 where
+  pub few : AreFew 65535 IsStreamLiteral literals
+  pub is : bytes ≡ clause_text (map signed_decimal literals) (line_feed ∷ [])
+
+-- the bytes are a text of the cube, whose literals are over the variables 1 to vars
+pub record IsCubeText (vars : ℕ) (bytes : List ℕ) (cube : CubeValue) : Type 0 where
+  pub literals : List ℤ
+  pub text : IsTextOf literals bytes
+  pub over : IsOver vars literals
+  pub set : IsCubeOf literals cube
+
+-- Faults.
+
+-- the bytes are such a line within the limits
+abbrev pub IsCubeLine : Limits → List ℕ → Type 0
+IsCubeLine limits bytes = (words : List (List ℕ)) × AreWords limits.literals (SpellsLiteral limits.digits) words × (bytes ≡ clause_text words (line_feed ∷ []))
+
+-- Of texts of some kind, within limits: some rest makes one of the bytes
+abbrev pub BeginsOne : (Limits → List ℕ → Type 0) → Limits → List ℕ → Type 0
+BeginsOne IsOne limits bytes = (rest : List ℕ) × IsOne limits (bytes ++ rest)
+
+-- they begin one if the limits are lifted
+abbrev pub BeginsOneLifted : (Limits → List ℕ → Type 0) → List ℕ → Type 0
+BeginsOneLifted IsOne bytes = (limits : Limits) × AreLifted false limits × BeginsOne IsOne limits bytes
+
+-- they begin one, and are none
+abbrev pub EndsEarly : (Limits → List ℕ → Type 0) → List ℕ → Type 0
+EndsEarly IsOne bytes = BeginsOne IsOne standard bytes × ¬ IsOne standard bytes
+
+-- they begin none, and what holds of their shortest beginning that begins none
+pub record BeginsNone (IsOne : Limits → List ℕ → Type 0) (bytes : List ℕ) (Shortest : List ℕ → Type 0) : Type 0 where
+  pub read : List ℕ
+  pub byte : ℕ
+  pub after : List ℕ
+  pub is : bytes ≡ read ++ byte ∷ after
+  pub before : BeginsOne IsOne standard read
+  pub none : ¬ BeginsOne IsOne standard (read ++ byte ∷ [])
+  pub shortest : Shortest (read ++ byte ∷ [])
+
+-- why they are none
+abbrev pub IsTextFault : (Limits → List ℕ → Type 0) → List ℕ → CubeFault → Type 0
+IsTextFault IsOne bytes Spelling = EndsEarly IsOne bytes ⊎ BeginsNone IsOne bytes (λ shortest. ¬ BeginsOneLifted IsOne shortest)
+IsTextFault IsOne bytes TooLong = BeginsNone IsOne bytes (BeginsOneLifted IsOne)
+IsTextFault IsOne bytes Range = ⊥
+IsTextFault IsOne bytes Memory = ⊥
+
+-- the first fault of the bytes, of a cube over the variables 1 to vars; memory is wanting only where they have none
+abbrev pub IsCubeFault : ℕ → List ℕ → CubeFault → Type 0
+IsCubeFault vars bytes Spelling = IsTextFault IsCubeLine bytes Spelling
+IsCubeFault vars bytes TooLong = IsTextFault IsCubeLine bytes TooLong
+IsCubeFault vars bytes Range = (literals : List ℤ) × IsTextOf literals bytes × ¬ IsOver vars literals
+IsCubeFault vars bytes Memory = (literals : List ℤ) × IsTextOf literals bytes × IsOver vars literals
+
+-- Laws
+
+-- the text of literals is no misspelled one, and none that is too long
+abbrev pub TextHasNoFault : Type 0
+TextHasNoFault = (literals : List ℤ) (bytes : List ℕ) (fault : CubeFault) → IsTextOf literals bytes → ¬ IsTextFault IsCubeLine bytes fault
