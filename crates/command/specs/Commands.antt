@@ -13,10 +13,10 @@ use Rattle.dimacs.specs.FormulaText.{IsTextOf}
 use Rattle.dimacs.specs.declared.fault.DimacsFault.TheVariants as formulas
 use Rattle.lrup_text.specs.Reads.{BrokeOff, GaveAll, ReadsOf}
 use Rattle.stream_check.specs.declared.report.Report.{Report}
-use Rattle.portfolio.specs.Headline.{AreJudgedIn}
+use Rattle.runs.specs.Headline.{AreJudgedIn}
 use Rattle.portfolio.specs.Outcomes.{OptionsValue, layout_of, terms_of, verdict_of}
 use Rattle.portfolio.specs.ReportText.{report_text}
-use Rattle.portfolio.specs.Streams.{IsOrdered, StandsOnStreams, Stream, Terms}
+use Rattle.runs.specs.Streams.{IsOrdered, StandsOnStreams, Stream, Terms}
 use Rattle.portfolio.specs.declared.outcome.Verdict.{Verdict}
 use Rattle.portfolio.specs.declared.outcome.Verdict.TheVariants.{Unsatisfiable, Unknown}
 use Rattle.command_line.specs.CommandLine.{HaveFault, IsCommandLineOf}

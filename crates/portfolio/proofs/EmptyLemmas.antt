@@ -24,7 +24,7 @@ use Rattle.stream_check.specs.Standing.{Standing, adds_empty}
 use Rattle.stream_check.specs.Verdicts.{Good, Bad, Fails}
 use Rattle.stream_check.specs.Additions.{AtConflict, AtReply, JudgesHints, published_by}
 use Rattle.stream_check.specs.Judging.{JudgesLine, AreGood, joined, EndsAfter, StreamEnd, ended, failed, JudgesBlocks}
-use Rattle.portfolio.specs.Streams.{Stop, at_end, at_failure, early, Stream, JudgesTo, JudgesStream, Block, blocks_of, events_in}
+use Rattle.runs.specs.Streams.{Stop, at_end, at_failure, early, Stream, JudgesTo, JudgesStream, Block, blocks_of, events_in}
 
 -- ---- some element of a list
 

@@ -21,9 +21,9 @@ use Rattle.stream_check.specs.Setting.{Setting}
 use Rattle.portfolio.specs.declared.outcome.Verdict.{Verdict}
 use Rattle.portfolio.specs.declared.outcome.Verdict.TheVariants.{Unsatisfiable, Unknown}
 use Rattle.portfolio.specs.Outcomes.{verdict_of}
-use Rattle.portfolio.specs.Headline.{HaveCalls, HaveOneHistory, IsJudgedBy, AreJudgedIn, seen_by}
+use Rattle.runs.specs.Headline.{HaveCalls, HaveOneHistory, IsJudgedBy, AreJudgedIn, seen_by}
 use Rattle.portfolio.specs.Joining.{FoundValue, CanBegin, AllCanBegin, Finishes, AllFinish}
-use Rattle.portfolio.specs.Streams.{Stream, AreTold, JudgesStream, StandsOnStreams, Terms, setting_of}
+use Rattle.runs.specs.Streams.{Stream, AreTold, JudgesStream, StandsOnStreams, Terms, setting_of}
 use Rattle.portfolio.specs.Turns.{AreStarted}
 use Rattle.portfolio.specs.Working.{WorkerValue, Works, IsStarted}
 use Rattle.portfolio.proofs.EmptyLemmas.{sound}

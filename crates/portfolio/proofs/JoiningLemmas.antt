@@ -15,7 +15,7 @@ use Rattle.stream_check.specs.declared.report.Report.{Report}
 use Rattle.stream_check.specs.Checker.{IsReadyAt, report_at}
 use Rattle.stream_check.specs.Judging.{joined}
 use Rattle.stream_check.specs.Setting.{Setting}
-use Rattle.portfolio.specs.Streams.{Stream, IsTold, JudgesStream}
+use Rattle.runs.specs.Streams.{Stream, IsTold, JudgesStream}
 use Rattle.portfolio.specs.Working.{WorkerValue, Works, WorksBy, WorksOn}
 use Rattle.portfolio.specs.Joining.{FoundValue, Finishes, CanBegin, AllCanBegin, AllFinish}
 

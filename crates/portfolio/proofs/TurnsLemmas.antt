@@ -25,7 +25,7 @@ use Rattle.stream_check.specs.Laws.{ReadyBeside}
 use Rattle.portfolio.proofs.EmptyLemmas.{sound_in_order}
 use Rattle.portfolio.proofs.WorkingLemmas.{not_over}
 use Rattle.portfolio.specs.Outcomes.{OptionsValue, layout_of}
-use Rattle.portfolio.specs.Streams.{Stream, IsTold, AreTold, JudgesStream, Block, blocks_of, events_in, IsBlockWithin, setting_of, AreJudged, IsOrdered, StandsOnStreams, Terms, terms_at}
+use Rattle.runs.specs.Streams.{Stream, IsTold, AreTold, JudgesStream, Block, blocks_of, events_in, IsBlockWithin, setting_of, AreJudged, IsOrdered, StandsOnStreams, Terms, terms_at}
 use Rattle.portfolio.specs.Working.{WorkerValue, WorksBy, Works, WorksOn, IsStarted}
 use Rattle.portfolio.specs.Turns.{HasRun, IsWorking, AreWorking, Runs, IsRunning, GoesOn, IsOver, AreOver, IsOverAt, AreStarted, HaveReports}
 

@@ -16,7 +16,7 @@ use Rattle.stream_check.specs.Judging.{joined, StreamEnd, ended, failed, ending_
 use Rattle.stream_check.specs.Leaving.{Leaves}
 use Rattle.stream_check.specs.CheckerValue.{CheckerValue}
 use Rattle.stream_check.specs.Checker.{state_by, state_of, report_at, LeavesOn, EndsBy, Ends, ReportsEnd}
-use Rattle.portfolio.specs.Streams.{Stop, early, StopsSo, StopsReading, JudgesTo}
+use Rattle.runs.specs.Streams.{Stop, early, StopsSo, StopsReading, JudgesTo}
 use Rattle.portfolio.specs.Working.{WorkerValue, WorksBy, Works, WorksOn}
 
 -- ---- in turn

@@ -6,7 +6,7 @@ use Rattle.clause_store.specs.Passes.{StoreValue, PassValue, store_of}
 use Rattle.stream_check.specs.declared.report.Report.{Report}
 use Rattle.stream_check.specs.Checker.{IsReadyAt}
 use Rattle.stream_check.specs.Judging.{joined}
-use Rattle.portfolio.specs.Streams.{Stream, IsTold, JudgesStream}
+use Rattle.runs.specs.Streams.{Stream, IsTold, JudgesStream}
 use Rattle.portfolio.specs.Working.{WorkerValue, Works}
 
 -- what a thread gives back: its stream's report, what the reader has left and whether it has failed, and the pass

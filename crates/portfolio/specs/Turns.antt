@@ -10,7 +10,7 @@ use Rattle.lrup_model.specs.Plain.{Plain, formula_of, state_of, free_at, plain_p
 use Rattle.stream_check.specs.declared.report.Ending.{Ending}
 use Rattle.stream_check.specs.declared.report.Report.{Report}
 use Rattle.stream_check.specs.Checker.{IsReadyAt, report_at}
-use Rattle.portfolio.specs.Streams.{Block, blocks_of, events_in, IsBlockWithin, Terms, setting_of}
+use Rattle.runs.specs.Streams.{Block, blocks_of, events_in, IsBlockWithin, Terms, setting_of}
 use Rattle.portfolio.specs.Working.{WorkerValue, Works, IsStarted}
 
 -- the map is the one that the blocks' events leave, and they are legal

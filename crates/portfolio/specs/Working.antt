@@ -6,7 +6,7 @@ use Rattle.stream_check.specs.declared.report.Ending.{Ending}
 use Rattle.stream_check.specs.CheckerValue.{CheckerValue}
 use Rattle.stream_check.specs.Checker.{state_of, report_at}
 use Rattle.stream_check.specs.Leaving.{Leaves}
-use Rattle.portfolio.specs.Streams.{Stream, IsTold, JudgesStream, Terms, setting_of}
+use Rattle.runs.specs.Streams.{Stream, IsTold, JudgesStream, Terms, setting_of}
 
 -- what the reader has left, where the device tells it, whether it has failed, the bytes read and not checked yet, and the checker
 pub record WorkerValue : Type 0 where

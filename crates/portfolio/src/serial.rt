@@ -7,14 +7,16 @@ ghost use Rattle.lrup_model.specs.Layout.{IsStream};
 ghost use Rattle.lrup_model.specs.Plain.{PlainMoves, free_at, plain_place};
 ghost use Rattle.stream_check.specs.Checker.{IsReadyAt};
 ghost use Rattle.stream_check.specs.Judging.{joined};
+ghost use Rattle.groups.specs.Groups.{AreIsolated};
 ghost use Rattle.portfolio.specs.Outcomes.{IsLayoutFault, layout_of, max_tries, terms_of, verdict_of};
-ghost use Rattle.portfolio.specs.Streams.{IsOrdered, StandsOnStreams, terms_at};
+ghost use Rattle.runs.specs.Streams.{IsOrdered, StandsOnStreams, terms_at};
 ghost use Rattle.portfolio.specs.Turns.{AreOver, AreStarted, GoesOn, HaveReports, IsOverAt, IsRunning};
 ghost use Rattle.portfolio.specs.Working.{WorksOn};
 
 use crate::options::Options;
 use crate::outcome::{RunFault, SerialOutcome, Verdict};
 use crate::worker::Worker;
+use groups::laws::serial_isolated;
 use lrup_model::{Formula, Layout, PlainMap};
 use lrup_text::Source;
 use std::alloc::{AllocError, Global};
@@ -43,12 +45,20 @@ pub fn run_serial<W: Wait, R: Source + Drop, G: Gate + Drop>(
         IfOk result (λ outcome. StandsOnStreams (map R.left readers.items)
         (map R.left outcome.readers.items) (map R.has_failed outcome.readers.items)
         (λ streams. IsOrdered formula.now terms (λ s. true) streams outcome.reports.items)) }
+    // Groups of streams are isolated: the reports of a closed set of streams are those of the set
+    // alone.
+    ensures isolated { let terms = terms_of options formula.now (length readers.items) in
+        IfOk result (λ outcome. AreIsolated formula.now terms (map R.left readers.items)
+        (map R.left outcome.readers.items) (map R.has_failed outcome.readers.items)
+        (λ streams. IsOrdered formula.now terms (λ s. true) streams outcome.reports.items)
+        outcome.reports.items) }
     ensures verdict { IfOk result (λ outcome.
         outcome.verdict ≡ verdict_of outcome.reports.items) }
     // What a user relies on.
     ensures sound { IfOk result (λ outcome.
         outcome.verdict ≡ Verdict.Unsatisfiable → IsUnsatisfiable formula.now) }
 {
+    serial_isolated();
     let layout = options.layout(formula, readers.len())?;
     let mut map = PlainMap::open(alloc, formula, &layout)?;
     let mut workers = workers_of(alloc, &layout, options.tries(), readers, gates)?;

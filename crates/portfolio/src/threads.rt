@@ -5,18 +5,22 @@ ghost use Rattle.lrup_model.specs.Entailment.{IsUnsatisfiable};
 ghost use Rattle.lrup_model.specs.Layout.{IsStream};
 ghost use Rattle.lrup_model.specs.Pass.{AreMet};
 ghost use Rattle.clause_store.specs.Passes.{AreOf, HaveMet, store_of, views};
-ghost use Rattle.portfolio.specs.Headline.{AreJudgedIn, HaveOneHistory, seen_by};
+ghost use Rattle.runs.specs.Headline.{AreJudgedIn, HaveOneHistory, seen_by};
 ghost use Rattle.portfolio.specs.Joining.{AllCanBegin, AllFinish, CanBegin, Finishes};
 ghost use Rattle.portfolio.specs.Outcomes.{IsLayoutFault, layout_of, terms_of, verdict_of};
-ghost use Rattle.portfolio.specs.Streams.{StandsOnStreams};
+ghost use Rattle.runs.specs.Streams.{StandsOnStreams};
+ghost use Rattle.groups.specs.Groups.{AreIsolated};
+ghost use Rattle.orders.specs.Serializable.{IsSerializable};
 
 use crate::options::Options;
 use crate::outcome::{Outcome, RunFault, Verdict};
 use crate::serial::workers_of;
 use crate::worker::Worker;
 use clause_store::{Desk, Pass, Store};
+use groups::laws::run_isolated;
 use lrup_model::Formula;
 use lrup_text::Source;
+use orders::laws::run_serializable;
 use std::alloc::{AllocError, Global};
 use std::marker::Model;
 use std::snapshot::Snapshot;
@@ -53,12 +57,27 @@ pub fn run<T: Threads + Wait + Sync, R: Source + Send + Drop, G: Gate + Send + D
         (map R.left outcome.readers.items) (map R.has_failed outcome.readers.items)
         (λ streams. AreJudgedIn terms (λ s. true) (seen_by (views outcome.passes.items)) 1
         streams outcome.reports.items)) }
+    // Groups of streams are isolated: the reports of a closed set of streams are those of the set
+    // alone.
+    ensures isolated { let terms = terms_of options formula.now (length readers.items) in
+        IfOk result (λ outcome. AreIsolated formula.now terms (map R.left readers.items)
+        (map R.left outcome.readers.items) (map R.has_failed outcome.readers.items)
+        (λ streams. AreJudgedIn terms (λ s. true) (seen_by (views outcome.passes.items)) 1
+        streams outcome.reports.items) outcome.reports.items) }
+    // The lines are serializable: those of each closed set of streams have an order, where what
+    // they found live of one another isn't left retired.
+    ensures serializable { let terms = terms_of options formula.now (length readers.items) in
+        IfOk result (λ outcome. IsSerializable formula.now terms (map R.left readers.items)
+        (map R.left outcome.readers.items) (map R.has_failed outcome.readers.items)
+        (seen_by (views outcome.passes.items)) outcome.reports.items) }
     ensures verdict { IfOk result (λ outcome.
         outcome.verdict ≡ verdict_of outcome.reports.items) }
     // What a user relies on.
     ensures sound { IfOk result (λ outcome.
         outcome.verdict ≡ Verdict.Unsatisfiable → IsUnsatisfiable formula.now) }
 {
+    run_isolated();
+    run_serializable();
     let layout = options.layout(formula, readers.len())?;
     let (store, passes) = Store::open(alloc, formula, layout)?;
     let workers = workers_of(alloc, &layout, options.tries(), readers, gates)?;

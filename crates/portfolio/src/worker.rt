@@ -6,7 +6,7 @@ ghost use Rattle.lrup_model.specs.Layout.{IsStream};
 ghost use Rattle.stream_check.specs.Checker.{IsReadyAt, report_at};
 ghost use Rattle.stream_check.specs.Judging.{joined};
 ghost use Rattle.portfolio.specs.Outcomes.{max_tries};
-ghost use Rattle.portfolio.specs.Streams.{terms_at};
+ghost use Rattle.runs.specs.Streams.{terms_at};
 ghost use Rattle.portfolio.specs.Working.{IsStarted, WorksOn};
 
 use lrup_model::{ClauseMap, Layout};

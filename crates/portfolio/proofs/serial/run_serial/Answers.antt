@@ -1,8 +1,8 @@
-use Rattle.std.proofs.Common.{◌≡◌, ℕ, ◌∙◌, length, map, drop, sym, ap, ap₂, subst, arith}
+use Rattle.std.proofs.Common.{◌≡◌, ℕ, ◌∙◌, length, map, drop, refl, sym, ap, ap₂, subst, arith}
 use Rattle.std.proofs.lemmas.List.{length-map}
-use Rattle.lrup_model.specs.Layout.{LayoutValue, IsFault}
+use Rattle.lrup_model.specs.Layout.{LayoutValue, IsFault, Fits}
 use Rattle.portfolio.specs.Outcomes.{layout_of, terms_of}
-use Rattle.portfolio.specs.Streams.{terms_at}
+use Rattle.runs.specs.Streams.{terms_at}
 use Rattle.portfolio.specs.Turns.{AreOver, Runs}
 use Rattle.portfolio.proofs.HeadlineLemmas.{is_empty, no_fault}
 use Rattle.portfolio.proofs.TurnsLemmas.{IsOpened, runs_opened, run_ordered, sound_over, streams_asked, written_back}
@@ -76,6 +76,17 @@ returns-clause-ordered g c =
     run_ordered f p c.tries.result wanted entries (map g.R.Source.left outcome.readers.items) (map g.R.Source.has_failed outcome.readers.items)
     m c.take_turns.new.map started.items c.deref_mut.result.now worked _ outcome.reports.items opened terms count c.in_ok-workers.ensures
     c.deref_mut.ensures.value c.take_turns.ensures.runs back c.outcome_of.ensures.reports c.outcome_of.ensures.left c.outcome_of.ensures.failed
+
+-- the law's premise is the layout of the formula and the readers
+pub returns-clause-isolated : goal.returns-clause-isolated
+returns-clause-isolated g c =
+    let f = c.args.formula.now in
+    let out = c.outcome_of.result in
+    let readers = c.args.readers.items in
+    let terms = terms_of c.args.options f (length readers) in
+    let fits : Fits terms.layout f = record { vars = refl; clauses = refl; literals = refl } in
+    c.serial_isolated.ensures f terms (map g.R.Source.left readers) (map g.R.Source.left out.readers.items)
+    (map g.R.Source.has_failed out.readers.items) out.reports.items fits (length-map readers g.R.Source.left)
 
 pub returns-clause-sound : goal.returns-clause-sound
 returns-clause-sound g c unsatisfiable =

@@ -2,7 +2,7 @@ use Rattle.std.proofs.Common.{◌≡◌, ◌+◌, ◌++◌, false, map, vec_len,
 use Rattle.std.specs.Iterator.Adapters.{zip_first, zip_second}
 use Rattle.std.specs.List.{AllByRecursion}
 use Rattle.std.specs.Vec.Iter.{into_iter_items, into_iter_len}
-use Rattle.portfolio.specs.Streams.{terms_at}
+use Rattle.runs.specs.Streams.{terms_at}
 use Rattle.portfolio.specs.Turns.{AreStarted}
 use Rattle.portfolio.proofs.serial.workers_of.Given as goal
 

@@ -1,9 +1,9 @@
-use Rattle.std.proofs.Common.{◌≡◌, ℕ, length, map, sym, ap, ap₂, subst, ◌∙◌, arith}
+use Rattle.std.proofs.Common.{◌≡◌, ℕ, length, map, refl, sym, ap, ap₂, subst, ◌∙◌, arith}
 use Rattle.std.proofs.lemmas.List.{length-map}
-use Rattle.lrup_model.specs.Layout.{LayoutValue, IsFault}
-use Rattle.portfolio.specs.Headline.{HaveOneHistory, seen_by}
+use Rattle.lrup_model.specs.Layout.{LayoutValue, IsFault, Fits}
+use Rattle.runs.specs.Headline.{HaveOneHistory, seen_by}
 use Rattle.portfolio.specs.Outcomes.{layout_of, terms_of}
-use Rattle.portfolio.specs.Streams.{Terms, terms_at}
+use Rattle.runs.specs.Streams.{Terms, terms_at}
 use Rattle.portfolio.proofs.HeadlineLemmas.{no_fault, AreOpened, are_opened, all_can_begin, started_count, finish_of, finish_workers, one_history, judged_by, judged_so, sound_run}
 use Rattle.portfolio.proofs.threads.run.Goals as goal
 
@@ -96,6 +96,31 @@ returns-in-Ok-clause-reports g c =
     judged_so f (terms_at p c.tries.result) wanted entries (map g.R.Source.left out.result.readers.items)
     (map g.R.Source.has_failed out.result.readers.items) out.result.reports.items found vs
     judged terms (returns-in-Ok-clause-history g c) out.ensures.left out.ensures.failed out.ensures.reports
+
+-- the laws' premises are the history, and the layout of the formula and the readers
+pub returns-in-Ok-clause-isolated : goal.returns-in-Ok-clause-isolated
+returns-in-Ok-clause-isolated g c =
+    let f = c.args.formula.now in
+    let out = c.outcome_of.result in
+    let vs = map (λ q. q.view) out.passes.items in
+    let readers = c.args.readers.items in
+    let terms = terms_of c.args.options f (length readers) in
+    let fits : Fits terms.layout f = record { vars = refl; clauses = refl; literals = refl } in
+    c.run_isolated.ensures f terms (seen_by vs) vs (map g.R.Source.left readers)
+    (map g.R.Source.left out.readers.items) (map g.R.Source.has_failed out.readers.items) out.reports.items
+    fits (length-map readers g.R.Source.left) (returns-in-Ok-clause-history g c)
+
+pub returns-in-Ok-clause-serializable : goal.returns-in-Ok-clause-serializable
+returns-in-Ok-clause-serializable g c =
+    let f = c.args.formula.now in
+    let out = c.outcome_of.result in
+    let vs = map (λ q. q.view) out.passes.items in
+    let readers = c.args.readers.items in
+    let terms = terms_of c.args.options f (length readers) in
+    let fits : Fits terms.layout f = record { vars = refl; clauses = refl; literals = refl } in
+    c.run_serializable.ensures f terms (seen_by vs) vs (map g.R.Source.left readers)
+    (map g.R.Source.left out.readers.items) (map g.R.Source.has_failed out.readers.items) out.reports.items
+    fits (length-map readers g.R.Source.left) (returns-in-Ok-clause-history g c)
 
 pub returns-in-Ok-clause-sound : goal.returns-in-Ok-clause-sound
 returns-in-Ok-clause-sound g c =

@@ -4,7 +4,7 @@ use Rattle.std.specs.Vec.{with_items}
 use Rattle.std.proofs.lemmas.List.{with_items_is}
 use Rattle.std.proofs.KnownBytes.{Consumes-nil, Consumes-kept}
 use Rattle.stream_check.specs.Judging.{ended, failed}
-use Rattle.portfolio.specs.Streams.{at_end, at_failure, StopsSo}
+use Rattle.runs.specs.Streams.{at_end, at_failure, StopsSo}
 use Rattle.portfolio.specs.Working.{WorkerValue, WorksOn}
 use Rattle.portfolio.proofs.WorkingLemmas.{worker_of, works_read, works_over, none_between}
 use Rattle.portfolio.proofs.worker.Worker.read.Goals as goal

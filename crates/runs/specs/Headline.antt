@@ -8,7 +8,7 @@ use Rattle.lrup_model.specs.Pass.{View}
 use Rattle.stream_check.specs.declared.report.Report.{Report}
 use Rattle.stream_check.specs.Setting.{Setting}
 use Rattle.stream_check.specs.Judging.{joined}
-use Rattle.portfolio.specs.Streams.{Stream, JudgesStream, Terms, setting_of}
+use Rattle.runs.specs.Streams.{Stream, JudgesStream, Terms, setting_of}
 
 -- The passes, of the streams counted on from s: each is that stream's at this formula and layout, has seen the history, and
 -- its calls are the history's events of that stream, in order.

@@ -1,0 +1,6 @@
+mod Places
+mod GroupLemmas
+mod OrderLemmas
+mod AloneLemmas
+mod EmptiedLemmas
+mod RunLemmas

@@ -1,0 +1,87 @@
+-- Groups of streams: what holds of their reports whatever the streams outside the group do (this project's own).
+use Rattle.std.specs.Prelude.{◌≡◌, ◌+◌, ◌-◌, ◌<◌, ◌==◌, ◌++◌, ℕ, Bool, true, false, IsTrue, List, [], ◌∷◌, length, Option, Some, if◌then◌else◌, slice_get}
+use Rattle.std.specs.List.{AllByRecursion}
+use Rattle.lrup_model.specs.Formula.{Cnf}
+use Rattle.lrup_model.specs.Layout.{LayoutValue, Owns}
+use Rattle.lrup_model.specs.Event.{History, stream_of}
+use Rattle.lrup_model.specs.History.{IsLegal}
+use Rattle.lrup_text.specs.Lines.{StreamLine, Cut}
+use Rattle.stream_check.specs.declared.report.Ending.TheVariants as endings
+use Rattle.stream_check.specs.declared.report.Report.{Report}
+use Rattle.stream_check.specs.Judging.{StreamEnd, ended, failed}
+use Rattle.stream_check.specs.Laws.{cited_by, IsOfMemory}
+use Rattle.runs.specs.Closed.{IsAt, CiteWithin, IsClosed}
+use Rattle.runs.specs.Streams.{Stop, at_end, at_failure, early, Stream, Terms, AreTold}
+use Rattle.runs.specs.Headline.{AreJudgedIn}
+
+-- one stream, as a set
+abbrev pub one : ℕ → ℕ → Bool
+one s = λ t. t == s
+
+-- Closed sets
+
+-- each reader of the set's streams has known bytes left at first, and all of them cite within the set
+abbrev pub AreClosedReaders : LayoutValue → (ℕ → Bool) → List (Option (List ℕ)) → Type 0
+AreClosedReaders p set entries = (s : ℕ) (entry : Option (List ℕ)) → IsTrue (set s) → IsAt entries s entry
+    → (bytes : List ℕ) × (entry ≡ Some bytes) × CiteWithin p set bytes
+
+-- Groups
+
+-- no report of the set tells of want of memory
+abbrev pub WantNoMemory : (ℕ → Bool) → List Report → Type 0
+WantNoMemory set reports = (s : ℕ) (report : Report) → IsTrue (set s) → IsAt reports s report → ¬ IsOfMemory report
+
+-- The reports of a set of streams are those of the set alone: a legal history, with events of its streams and of no others,
+-- judges each of them so, and none tells of want of memory.
+pub record IsGroup (f : Cnf) (terms : Terms) (set : ℕ → Bool) (streams : List Stream) (reports : List Report) : Type 0 where
+  pub history : History
+  pub members : AllByRecursion (λ e. IsTrue (set (stream_of e))) history
+  pub legal : IsLegal f terms.layout history
+  pub judged : AreJudgedIn terms set history 1 streams reports
+  pub memory : WantNoMemory set reports
+
+-- the report of stream s is that of a group of this stream alone
+abbrev pub IsAlone : Cnf → Terms → ℕ → List Stream → List Report → Type 0
+IsAlone f terms s streams reports = IsGroup f terms (one s) streams reports
+
+-- The reports are isolated: for every list of streams that the readers told and by which they are judged, and for every
+-- closed set of these streams none of whose reports tells of want of memory, the set's reports are those of the set alone.
+abbrev pub AreIsolated : Cnf → Terms → List (Option (List ℕ)) → List (Option (List ℕ)) → List Bool → (List Stream → Type 0) → List Report → Type 0
+AreIsolated f terms entries lefts faileds Judged reports = (streams : List Stream) → AreTold entries lefts faileds streams → Judged streams
+    → (set : ℕ → Bool) → IsClosed terms.layout set streams → WantNoMemory set reports → IsGroup f terms set streams reports
+
+-- A run in which the other streams are empty
+
+-- no bytes, read to the end
+abbrev pub empty_stream : Stream
+empty_stream = record { bytes = []; stop = at_end }
+
+-- what is said of them
+abbrev pub empty_report : Report
+empty_report = record { added = 0; deleted = 0; empty = false; ending = endings.Ended }
+
+-- the list, of the streams counted on from s, with this one in place of each that is of a stream outside the set
+abbrev pub with_others : {X : Type 0} → (ℕ → Bool) → X → ℕ → List X → List X
+with_others set x s [] = []
+with_others set x s (y ∷ ys) = (if set s then y else x) ∷ with_others set x (s + 1) ys
+
+-- Two runs
+
+-- What a run promises of its reports, with threads or on one: the readers told streams, as many as the layout has, and one
+-- legal history judges each by its own events, as its report says.
+pub record IsRun (f : Cnf) (terms : Terms) (entries lefts : List (Option (List ℕ))) (faileds : List Bool) (reports : List Report) : Type 0 where
+  pub streams : List Stream
+  pub told : AreTold entries lefts faileds streams
+  pub count : length streams ≡ terms.layout.streams
+  pub history : History
+  pub legal : IsLegal f terms.layout history
+  pub judged : AreJudgedIn terms (λ s. true) history 1 streams reports
+
+-- one reading of a stream that has these bytes and this end: all of it, or a beginning after which no more was needed
+abbrev pub IsReadingTo : Stop → List ℕ → List ℕ → StreamEnd → Type 0
+IsReadingTo at_end bytes whole end = (whole ≡ bytes) × (end ≡ ended)
+IsReadingTo at_failure bytes whole end = (whole ≡ bytes) × (end ≡ failed)
+IsReadingTo early bytes whole end = (more : List ℕ) × (whole ≡ bytes ++ more)
+
+abbrev pub IsReadingOf : List ℕ → StreamEnd → Stream → Type 0
+IsReadingOf whole end stream = IsReadingTo stream.stop stream.bytes whole end

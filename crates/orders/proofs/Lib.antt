@@ -1,0 +1,10 @@
+pub mod SwapLemmas
+pub mod BlockLemmas
+pub mod AheadLemmas
+pub mod WalkLemmas
+pub mod OrderLemmas
+pub mod KindLemmas
+pub mod JudgedLemmas
+pub mod StreamLemmas
+pub mod PremiseLemmas
+pub mod VerdictLemmas

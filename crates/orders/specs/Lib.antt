@@ -1,0 +1,4 @@
+pub mod Lines
+pub mod Premises
+pub mod Serializable
+pub mod Laws

@@ -1,0 +1,51 @@
+-- What the events of a line are like, and an order of lines (this project's own).
+use Rattle.std.specs.Prelude.{◌≡◌, ℕ, Bool, IsTrue, List, [], ◌∷◌, map}
+use Rattle.std.specs.List.{AllByRecursion}
+use Rattle.lrup_model.specs.Formula.{Cnf}
+use Rattle.lrup_model.specs.Layout.{LayoutValue, IsStream}
+use Rattle.lrup_model.specs.Event as events
+use Rattle.lrup_model.specs.Event.{Event, History}
+use Rattle.lrup_model.specs.History.{IsLegal}
+use Rattle.stream_check.specs.Reducing.{IsEarly, TriesAgain, reduced}
+use Rattle.runs.specs.Streams.{Block, blocks_of, events_in, IsBlockWithin}
+
+-- where these events follow in its line, the event is one that may stand before another
+abbrev pub IsEarlyBefore : History → Event → Type 0
+IsEarlyBefore [] e = Unit {0}
+IsEarlyBefore (d ∷ es) e = IsEarly e
+
+-- each event but the last is one that may stand before another
+abbrev pub AreEarly : History → Type 0
+AreEarly [] = Unit {0}
+AreEarly (e ∷ es) = IsEarlyBefore es e × AreEarly es
+
+-- the event is a fetch
+abbrev pub IsFetch : Event → Type 0
+IsFetch (events.fetch s id r) = Unit {0}
+IsFetch (events.publish s id c r) = ⊥
+IsFetch (events.retire s id r) = ⊥
+
+-- the event is a retire
+abbrev pub IsRetire : Event → Type 0
+IsRetire (events.fetch s id r) = ⊥
+IsRetire (events.publish s id c r) = ⊥
+IsRetire (events.retire s id r) = Unit {0}
+
+-- after a retire there are only retires
+abbrev pub RetiresLast : History → Type 0
+RetiresLast [] = Unit {0}
+RetiresLast (e ∷ es) = (IsRetire e → AllByRecursion IsRetire es) × RetiresLast es
+
+-- The events are like those of a line: before the last there are only fetches, and retires with Done; what a fetch doesn't find
+-- is fetched again, or the line ends; and a line that retires does nothing else from there on.
+pub record IsLineBlock (es : History) : Type 0 where
+  pub early : AreEarly es
+  pub again : TriesAgain es
+  pub apart : RetiresLast es
+
+-- An order of the lines of a set of streams, where these are each stream's blocks of events: a legal history of whole lines, each
+-- stream's in its order, and each without the vain fetches of what it found.
+pub record IsOrder (f : Cnf) (p : LayoutValue) (set : ℕ → Bool) (blocks : ℕ → List History) (order : List Block) : Type 0 where
+  pub within : AllByRecursion (IsBlockWithin p set) order
+  pub legal : IsLegal f p (events_in order)
+  pub lines : (s : ℕ) → IsStream p s → IsTrue (set s) → blocks_of s order ≡ map reduced (blocks s)

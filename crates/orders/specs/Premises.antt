@@ -1,0 +1,93 @@
+-- What the streams of a set may share, so that their lines have an order (this project's own).
+use Rattle.std.specs.Prelude.{◌≡◌, ◌≢◌, ◌⊎◌, ℕ, Bool, IsTrue, List, [], ◌∷◌, Option, Some}
+use Rattle.std.specs.List.{AllByRecursion, list_any}
+use Rattle.lrup_model.specs.Formula.{Cnf}
+use Rattle.lrup_model.specs.Layout.{LayoutValue, IsStream, Owns}
+use Rattle.lrup_model.specs.Event as events
+use Rattle.lrup_model.specs.Event.{Event, Reply, History, own}
+use Rattle.lrup_model.specs.State.{State, IsRetired, state}
+use Rattle.lrup_model.specs.Laws.{IsFound}
+use Rattle.lrup_model.specs.declared.clause_map.Retired.TheVariants as retiring
+use Rattle.lrup_text.specs.Lines.{StreamLine, Cut}
+use Rattle.stream_check.specs.Standing.{is_among, deleted_by}
+use Rattle.stream_check.specs.Laws.{cited_by}
+use Rattle.runs.specs.Streams.{Stream}
+use Rattle.runs.specs.Closed.{IsAt}
+
+-- By what the history leaves
+
+-- the reply is Live
+abbrev pub IsLiveReply : Reply → Type 0
+IsLiveReply events.vacant = ⊥
+IsLiveReply (events.live c) = Unit {0}
+IsLiveReply events.retired = ⊥
+
+-- where a stream found an identity live that isn't its own, this state has it not retired
+abbrev pub FindsKept : LayoutValue → State → Event → Type 0
+FindsKept p final (events.fetch s id r) = IsLiveReply r → ¬ Owns p s id → ¬ IsRetired (final id)
+FindsKept p final (events.publish s id c r) = Unit {0}
+FindsKept p final (events.retire s id r) = Unit {0}
+
+-- What a stream of the set found live, and isn't its own, the history doesn't leave retired.
+abbrev pub FoundStays : Cnf → LayoutValue → (ℕ → Bool) → History → Type 0
+FoundStays f p set h = (s : ℕ) → IsStream p s → IsTrue (set s) → AllByRecursion (FindsKept p (state f h)) (own h s)
+
+-- By events
+
+-- the event retires the identity
+abbrev pub IsRetireOf : ℕ → Event → Type 0
+IsRetireOf id (events.fetch s j r) = ⊥
+IsRetireOf id (events.publish s j c r) = ⊥
+IsRetireOf id (events.retire s j retiring.Done) = j ≡ id
+IsRetireOf id (events.retire s j retiring.NotLive) = ⊥
+
+-- the history retires the identity
+abbrev pub Retires : History → ℕ → Type 0
+Retires [] id = ⊥
+Retires (e ∷ h) id = IsRetireOf id e ⊎ Retires h id
+
+-- where a stream found an identity live that isn't its own, the history doesn't retire it
+abbrev pub FindsUnretired : LayoutValue → History → Event → Type 0
+FindsUnretired p h (events.fetch s id r) = IsLiveReply r → ¬ Owns p s id → ¬ Retires h id
+FindsUnretired p h (events.publish s id c r) = Unit {0}
+FindsUnretired p h (events.retire s id r) = Unit {0}
+
+-- where a stream found an identity that isn't its own, live or retired, the history doesn't retire it
+abbrev pub MeetsUnretired : LayoutValue → History → Event → Type 0
+MeetsUnretired p h (events.fetch s id r) = IsFound r → ¬ Owns p s id → ¬ Retires h id
+MeetsUnretired p h (events.publish s id c r) = Unit {0}
+MeetsUnretired p h (events.retire s id r) = Unit {0}
+
+-- No stream of the set but its owner found an identity, live or retired, that the history retires.
+abbrev pub OwnersAloneMeetRetired : LayoutValue → (ℕ → Bool) → History → Type 0
+OwnersAloneMeetRetired p set h = (s : ℕ) → IsStream p s → IsTrue (set s) → AllByRecursion (MeetsUnretired p h) (own h s)
+
+-- By texts
+
+-- one of the lines cites the identity
+abbrev pub cites : List StreamLine → ℕ → Bool
+cites lines id = list_any (λ line. is_among (cited_by line) id) lines
+
+-- one of the lines deletes the identity
+abbrev pub deletes : List StreamLine → ℕ → Bool
+deletes lines id = list_any (λ line. is_among (deleted_by line) id) lines
+
+-- a line that the bytes are cut into cites the identity
+abbrev pub Cites : List ℕ → ℕ → Type 0
+Cites bytes id = (lines : List StreamLine) × (rest : List ℕ) × Cut bytes lines rest × IsTrue (cites lines id)
+
+-- a line that the bytes are cut into deletes the identity
+abbrev pub Deletes : List ℕ → ℕ → Type 0
+Deletes bytes id = (lines : List StreamLine) × (rest : List ℕ) × Cut bytes lines rest × IsTrue (deletes lines id)
+
+-- No stream of the set deletes an identity of its own that a line of another stream of the set cites.
+abbrev pub KeepShared : LayoutValue → (ℕ → Bool) → List Stream → Type 0
+KeepShared p set streams = (s t id : ℕ) (citing deleting : Stream) → s ≢ t → IsTrue (set s) → IsTrue (set t)
+    → IsAt streams s citing → IsAt streams t deleting → Owns p t id
+    → Cites citing.bytes id → ¬ Deletes deleting.bytes id
+
+-- So it is in all bytes that the readers of the set's streams have left at first, which are known.
+abbrev pub ReadersKeepShared : LayoutValue → (ℕ → Bool) → List (Option (List ℕ)) → Type 0
+ReadersKeepShared p set entries = (s t id : ℕ) (citing deleting : Option (List ℕ)) → s ≢ t → IsTrue (set s) → IsTrue (set t)
+    → IsAt entries s citing → IsAt entries t deleting → Owns p t id
+    → (bytes : List ℕ) × (others : List ℕ) × (citing ≡ Some bytes) × (deleting ≡ Some others) × (Cites bytes id → ¬ Deletes others id)
