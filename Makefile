@@ -19,11 +19,12 @@ run: build
 	echo "status $$status"; \
 	case $$status in 0|3) ;; *) exit $$status ;; esac
 
-# Proves the program and all that it stands on, and leaves it at crates/lrupd/out/lrupd.
+# Proves the program and all that it stands on, and leaves it at crates/lrupd/out/lrupd. A line a crate as it is proved.
+build: SHELL := /bin/bash
 build: toolchain
 	@mkdir -p $(dir $(LOG))
-	@cd crates/lrupd && $(RT) run -- "$(abspath examples/four-clause.cnf)" "$(abspath examples/four-clause.lrup)" \
-	> $(abspath $(LOG)) 2>&1 || { cat $(abspath $(LOG)); exit 1; }
+	@set -o pipefail; cd crates/lrupd && $(RT) run -- "$(abspath examples/four-clause.cnf)" "$(abspath examples/four-clause.lrup)" \
+	2>&1 | sh $(abspath gate/progress.sh) $(abspath $(LOG)) || { cat $(abspath $(LOG)); exit 1; }
 
 # The program and its manual page, below PREFIX.
 install: build

@@ -1,0 +1,96 @@
+/* Refuses one call of the program that the loader puts it before (LD_PRELOAD), and leaves the file MARK where it did.
+   REFUSE is KIND:N or KIND:N:HOW, with N from 1: the N-th call of that kind.
+     allocate:N     malloc, calloc, realloc and their like give nothing
+     thread:N       pthread_create says EAGAIN
+     read:N:HOW     read; HOW is EIO, EINTR, or short or half: one byte, or half of those asked for
+     write:N:HOW    write; HOW is EIO, ENOSPC, EPIPE, or short or half
+   A test's tool, and no part of the program. */
+#define _GNU_SOURCE
+#include <dlfcn.h>
+#include <errno.h>
+#include <fcntl.h>
+#include <pthread.h>
+#include <stdatomic.h>
+#include <stdlib.h>
+#include <string.h>
+#include <unistd.h>
+
+extern void *__libc_malloc(size_t), *__libc_calloc(size_t, size_t), *__libc_realloc(void *, size_t), *__libc_memalign(size_t, size_t);
+extern ssize_t __read(int, void *, size_t), __write(int, const void *, size_t);
+
+enum kind { NONE, ALLOCATE, THREAD, READ, WRITE };
+static enum kind refused = NONE;
+static long number;
+static const char *how = "", *mark = "";
+static atomic_long calls;
+
+__attribute__((constructor)) static void begin(void) {
+    static const char *const names[] = {"", "allocate", "thread", "read", "write"};
+    const char *refuse = getenv("REFUSE");
+    mark = getenv("MARK");
+    if (refuse == NULL || mark == NULL) return;
+    for (int kind = ALLOCATE; kind <= WRITE; kind++) {
+        size_t length = strlen(names[kind]);
+        if (strncmp(refuse, names[kind], length) == 0 && refuse[length] == ':') {
+            char *rest;
+            number = strtol(refuse + length + 1, &rest, 10);
+            how = *rest == ':' ? rest + 1 : "";
+            refused = kind;
+        }
+    }
+}
+
+/* Whether this call is the one to be refused. */
+static int is_refused(enum kind kind) {
+    if (kind != refused || atomic_fetch_add(&calls, 1) + 1 != number) return 0;
+    close(open(mark, O_CREAT | O_WRONLY | O_CLOEXEC, 0600));
+    return 1;
+}
+
+static void *no_memory(void) {
+    errno = ENOMEM;
+    return NULL;
+}
+
+void *malloc(size_t size) { return is_refused(ALLOCATE) ? no_memory() : __libc_malloc(size); }
+void *calloc(size_t count, size_t size) { return is_refused(ALLOCATE) ? no_memory() : __libc_calloc(count, size); }
+void *realloc(void *block, size_t size) { return is_refused(ALLOCATE) ? no_memory() : __libc_realloc(block, size); }
+void *memalign(size_t align, size_t size) { return is_refused(ALLOCATE) ? no_memory() : __libc_memalign(align, size); }
+void *aligned_alloc(size_t align, size_t size) { return memalign(align, size); }
+
+int posix_memalign(void **block, size_t align, size_t size) {
+    void *made = memalign(align, size);
+    if (made == NULL) return ENOMEM;
+    *block = made;
+    return 0;
+}
+
+int pthread_create(pthread_t *thread, const pthread_attr_t *attributes, void *(*run)(void *), void *argument) {
+    static int (*create)(pthread_t *, const pthread_attr_t *, void *(*)(void *), void *);
+    if (is_refused(THREAD)) return EAGAIN;
+    if (create == NULL) *(void **)&create = dlsym(RTLD_NEXT, "pthread_create");
+    return create(thread, attributes, run, argument);
+}
+
+/* How many bytes the call may move, or -1 with errno. */
+static ssize_t allowed(size_t size) {
+    static const struct { const char *name; int error; } errors[] = {
+        {"EIO", EIO}, {"EINTR", EINTR}, {"ENOSPC", ENOSPC}, {"EPIPE", EPIPE}};
+    for (size_t i = 0; i < sizeof errors / sizeof errors[0]; i++)
+        if (strcmp(how, errors[i].name) == 0) {
+            errno = errors[i].error;
+            return -1;
+        }
+    if (strcmp(how, "half") == 0) return size / 2 > 0 ? size / 2 : size;
+    return size > 0 ? 1 : 0;
+}
+
+ssize_t read(int file, void *bytes, size_t size) {
+    ssize_t most = is_refused(READ) ? allowed(size) : (ssize_t)size;
+    return most < 0 ? -1 : __read(file, bytes, most);
+}
+
+ssize_t write(int file, const void *bytes, size_t size) {
+    ssize_t most = is_refused(WRITE) ? allowed(size) : (ssize_t)size;
+    return most < 0 ? -1 : __write(file, bytes, most);
+}
