@@ -283,9 +283,12 @@ told_from : (entries lefts : List (Option (List ℕ))) (faileds : List Bool) (st
 unfolding TellsBeginning
 told_from [] [] [] [] told k stream at = absurd (cc)
 told_from (entry ∷ entries) (left ∷ lefts) (has_failed ∷ faileds) (told_stream ∷ streams) told zero stream at =
-    let same : told_stream ≡ stream = cc in
-    (entry, refl, λ whole is. subst (λ (x : Stream). (tail : List ℕ) × (whole ≡ x.bytes ++ tail)) same
-    (consumed whole told_stream.bytes told.0.more entry left is told.0.consumes))
+    let same : told_stream ≡ stream = cc in (
+      entry,
+      refl,
+      λ whole is. subst (λ (x : Stream). (tail : List ℕ) × (whole ≡ x.bytes ++ tail)) same
+          (consumed whole told_stream.bytes told.0.more entry left is told.0.consumes),
+    )
 told_from (entry ∷ entries) (left ∷ lefts) (has_failed ∷ faileds) (told_stream ∷ streams) told (suc k) stream at =
     told_from entries lefts faileds streams told.1 k stream at
 told_from [] [] [] (told_stream ∷ streams) told k stream at = absurd told
