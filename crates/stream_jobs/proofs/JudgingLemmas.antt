@@ -1,0 +1,101 @@
+-- What a checker took, piece by piece, and what both ends know together.
+use Rattle.std.proofs.Common.{◌≡◌, ◌++◌, ◌∙◌, ◌⊎◌, inl, inr, ℕ, Bool, true, false, List, [], ◌∷◌, length, Option, Some, None, IsSome, IfSome, refl, sym, ap, subst, append_assoc, append-nil}
+use Rattle.std.proofs.lemmas.Grind.{flat_map-append}
+use Rattle.std.specs.Io.KnownBytes.{Consumes}
+use Rattle.lrup_model.specs.Event.{History}
+use Rattle.runs.specs.Streams.{Stream, at_end, at_failure, IsTold, JudgesStream}
+use Rattle.stream_check.specs.declared.report.Ending.{Ending}
+use Rattle.stream_check.specs.declared.report.Report.{Report}
+use Rattle.stream_check.specs.declared.progress.Turn.{Turn}
+use Rattle.stream_check.specs.declared.progress.Turn.TheVariants as turns
+use Rattle.stream_check.specs.Checker.{state_by, state_of, report_at, LeavesOn, Turns, EndsBy, Ends, ReportsEnd}
+use Rattle.stream_check.specs.CheckerValue.{CheckerValue}
+use Rattle.stream_check.specs.Judging.{StreamEnd, joined, JudgesBlocks}
+use Rattle.stream_check.specs.Laws.{OverStays}
+use Rattle.stream_check.specs.Leaving.{CheckerState, Over, Leaves}
+use Rattle.stream_check.specs.Setting.{Setting}
+use Rattle.stream_ring.specs.Items.{CameThrough}
+use Rattle.stream_jobs.specs.Judged.{end_of}
+
+pub joined-append : (front back : List History) → joined front ++ joined back ≡ joined (front ++ back)
+joined-append front back = sym (flat_map-append (λ (block : History). block) front back)
+
+pub leaves_none : (c : Setting) (now : CheckerState) → LeavesOn c now [] [] now
+leaves_none c now bytes before left =
+    subst (λ (t : List ℕ). Leaves c t (before ++ []) now) (sym (append-nil bytes))
+    (subst (λ (bs : List History). Leaves c bytes bs now) (sym (append-nil before)) left)
+
+pub leaves_append : (c : Setting) (one two three : CheckerState) (xs ys : List ℕ) (front back : List History)
+    → LeavesOn c one xs front two → LeavesOn c two ys back three → LeavesOn c one (xs ++ ys) (front ++ back) three
+leaves_append c one two three xs ys front back first second bytes before left =
+    subst (λ (t : List ℕ). Leaves c t (before ++ (front ++ back)) three) (append_assoc bytes xs ys)
+    (subst (λ (bs : List History). Leaves c ((bytes ++ xs) ++ ys) bs three) (append_assoc before front back)
+    (second (bytes ++ xs) (before ++ front) (first bytes before left)))
+
+-- a checker that is over takes the rest too
+over_takes : OverStays → (c : Setting) (old : CheckerState) (used rest : List ℕ) (blocks : List History) (v : CheckerValue) (free : ℕ) (ending : Ending)
+    → v.ending ≡ Some ending → LeavesOn c old used blocks (state_of v free) → LeavesOn c old (used ++ rest) blocks (state_of v free)
+over_takes stays c old used rest blocks v free ending is leaves bytes before left =
+    let over : state_of v free ≡ Over (report_at v.tally ending) = ap (state_by v free) is in
+    let taken = subst (Leaves c (bytes ++ used) (before ++ blocks)) over (leaves bytes before left) in
+    let all = subst (λ (t : List ℕ). Leaves c t (before ++ blocks) (Over (report_at v.tally ending))) (append_assoc bytes used rest)
+    (stays c (bytes ++ used) rest (before ++ blocks) (report_at v.tally ending) taken) in
+    subst (Leaves c (bytes ++ (used ++ rest)) (before ++ blocks)) (sym over) all
+
+-- a call that ends no line has come to the piece's end, or to the checker's
+pub stopped_takes : OverStays → (turn : Turn) (old new : CheckerValue) (piece used rest : List ℕ) (c : Setting) (state : CheckerState) (blocks : List History) (free : ℕ)
+    → (turn ≡ turns.Line → ⊥) → Turns turn old new piece used → piece ≡ used ++ rest
+    → LeavesOn c state used blocks (state_of new free) → LeavesOn c state piece blocks (state_of new free)
+stopped_takes stays turns.Line old new piece used rest c state blocks free other turn split leaves = absurd (other refl)
+stopped_takes stays turns.More old new piece used rest c state blocks free other turn split leaves =
+    subst (λ (t : List ℕ). LeavesOn c state t blocks (state_of new free)) turn.1 leaves
+stopped_takes stays turns.Over old new piece used rest c state blocks free other turn split leaves =
+    subst (λ (t : List ℕ). LeavesOn c state t blocks (state_of new free)) (sym split)
+    (over_takes stays c state used rest blocks new free turn.0 turn.1 leaves)
+
+-- a call that came to the piece's end, or to the checker's, ended no line
+pub no_line : (turn : Turn) → (turn ≡ turns.More) ⊎ (turn ≡ turns.Over) → turn ≡ turns.Line → ⊥
+no_line turn (inl more) line = cc
+no_line turn (inr over) line = cc
+
+ends_by : (ending : Option Ending) (end : StreamEnd) (old new : CheckerValue) → old.ending ≡ ending → EndsBy ending end old new → IsSome new.ending
+ends_by None end old new is ends = subst (λ (e : Option Ending). IsSome e) (sym ends.2) refl
+ends_by (Some ending) end old new is ends = subst (λ (e : Option Ending). IsSome e) (sym (ap (λ (v : CheckerValue). v.ending) ends ∙ is)) refl
+
+-- the end, or a failed read, leaves a checker over
+pub ends_over : (end : StreamEnd) (old new : CheckerValue) → Ends end old new → IsSome new.ending
+ends_over end old new ends = ends_by old.ending end old new refl ends
+
+-- what came through is the stream that was judged
+pub told_and_judged : (entry after : Option (List ℕ)) (has_failed failed : Bool) (bytes : List ℕ) (c : Setting) (blocks : List History) (report : Report)
+    → CameThrough entry after has_failed failed bytes → JudgesBlocks c bytes (end_of failed) blocks report
+    → (stream : Stream) × IsTold entry after has_failed stream × JudgesStream c stream blocks report
+told_and_judged entry after has_failed true bytes c blocks report came judged = (
+  record { bytes = bytes; stop = at_failure },
+  record { more = []; consumes = subst (Consumes entry after) (sym (append-nil bytes)) came.told; stops = (refl, sym came.failed_is) },
+  judged,
+)
+told_and_judged entry after has_failed false bytes c blocks report came judged = (
+  record { bytes = bytes; stop = at_end },
+  record { more = []; consumes = subst (Consumes entry after) (sym (append-nil bytes)) came.told; stops = (refl, came.all refl, sym came.failed_is) },
+  judged,
+)
+
+-- what was taken so far, and then more, with the same setting
+pub leaves_more : (c d : Setting) (one two three : CheckerState) (xs ys all : List ℕ) (front back : List History) → d ≡ c → all ≡ xs ++ ys
+    → LeavesOn c one xs front two → LeavesOn d two ys back three → LeavesOn c one all (front ++ back) three
+leaves_more c d one two three xs ys all front back same split first second =
+    subst (λ (t : List ℕ). LeavesOn c one t (front ++ back) three) (sym split)
+    (leaves_append c one two three xs ys front back first (subst (λ (e : Setting). LeavesOn e two ys back three) same second))
+
+pub no_items : {A : Type 0} (xs : List A) → length xs ≡ 0 → xs ≡ []
+no_items [] none = refl
+no_items (x ∷ xs) none = cc
+
+-- the report of a checker that was ended
+pub closes : (end : StreamEnd) (v u : CheckerValue) (report : Report) → ReportsEnd end v u → IfSome u.ending (λ ending. report ≡ report_at u.tally ending)
+    → (bytes : List ℕ) (blocks : List History) (free : ℕ) → Leaves v.setting bytes blocks (state_of v free) → JudgesBlocks v.setting bytes end blocks report
+closes end v u report reports told bytes blocks free leaves =
+    let judged = reports bytes blocks free leaves in
+    let same : report ≡ report_at u.tally judged.0 = subst (λ (e : Option Ending). IfSome e (λ ending. report ≡ report_at u.tally ending)) judged.1 told in
+    subst (JudgesBlocks v.setting bytes end blocks) (sym same) judged.2

@@ -1,0 +1,77 @@
+use Rattle.std.proofs.Common.{◌++◌, ◌∙◌, ℕ, List, [], refl, sym, subst, take, map, rules}
+use Rattle.std.proofs.lemmas.List.{length-take-le}
+use Rattle.rtrb.specs.Ring.{received}
+use Rattle.stream_check.specs.Checker.{LeavesOn, state_of}
+use Rattle.stream_ring.specs.Items.{byte_of}
+use Rattle.stream_jobs.proofs.JudgingLemmas.{joined-append, leaves_none, leaves_more}
+use Rattle.stream_jobs.proofs.checking.check_received.Goals as goal
+
+pub loop-init : goal.loop-init
+loop-init g c =
+    let state = state_of c.args.checker.now (g.M.ClauseMap.place c.args.map.now).room in
+    record {
+      next = (tt, tt);
+      ring = search rules;
+      some = c.requires.some;
+      room = c.requires.room;
+      ready = c.requires.ready;
+      setting = refl;
+      took = (
+        [],
+        g.met.M.ClauseMap.moves_none c.args.map.now,
+        subst (λ (items : List ℕ). LeavesOn c.args.checker.now.setting state (map byte_of items) [] state) (sym c.requires.nothing)
+            (leaves_none c.args.checker.now.setting state),
+      );
+    }
+
+pub slice_bounds-take_all-end : goal.slice_bounds-take_all-end
+slice_bounds-take_all-end g c = (c.receive.ensures.bytes c.in-Bytes.count c.in-Bytes.is).0
+
+pub loop-preserved : goal.loop-preserved
+loop-preserved g c =
+    let start = c.args.map.now in
+    let mid = c.loop.map in
+    let end = c.take_all.new.map in
+    let old = c.loop.invariant.took in
+    let fed = c.take_all.ensures.took in
+    let came = c.receive.ensures.bytes c.in-Bytes.count c.in-Bytes.is in
+    record {
+      next = (tt, tt);
+      ring = search rules;
+      some = search rules;
+      room = search rules;
+      ready = c.take_all.ensures.ready;
+      setting = c.take_all.ensures.setting ∙ c.loop.invariant.setting;
+      took = (
+        old.0 ++ fed.0,
+        subst (g.M.ClauseMap.moves start end) (joined-append old.0 fed.0) (g.met.M.ClauseMap.moves_append start mid end _ _ old.1 fed.1),
+        leaves_more c.args.checker.now.setting c.loop.checker.setting _ _ (state_of c.take_all.new.checker (g.M.ClauseMap.place end).room)
+            (map byte_of (received c.loop.receiver.consumer)) _ (map byte_of (received c.receive.new.self.consumer)) old.0 fed.0
+            c.loop.invariant.setting came.1 old.2 fed.2,
+      );
+    }
+
+pub slice_bounds-take_all-end-in-Mark : goal.slice_bounds-take_all-end-in-Mark
+slice_bounds-take_all-end-in-Mark g c = (c.receive.ensures.mark c.in-Mark.count c.in-Mark.failed c.in-Mark.is).0
+
+pub slice_bounds-take_all-end-in-Mark-2 : goal.slice_bounds-take_all-end-in-Mark-2
+slice_bounds-take_all-end-in-Mark-2 g c =
+    sym (length-take-le c.in-Mark.count c.receive.new.bytes (c.receive.ensures.mark c.in-Mark.count c.in-Mark.failed c.in-Mark.is).0)
+
+pub returns-in-Mark-clause-took : goal.returns-in-Mark-clause-took
+returns-in-Mark-clause-took g c =
+    let start = c.args.map.now in
+    let mid = c.loop.map in
+    let end = c.take_all-in-Mark.new.map in
+    let old = c.loop.invariant.took in
+    let fed = c.take_all-in-Mark.ensures.took in
+    let came = c.receive.ensures.mark c.in-Mark.count c.in-Mark.failed c.in-Mark.is in
+    let bytes = map byte_of (received c.loop.receiver.consumer) ++ take c.in-Mark.count c.receive.new.bytes in (
+      bytes,
+      old.0 ++ fed.0,
+      subst (g.M.ClauseMap.moves start end) (joined-append old.0 fed.0) (g.met.M.ClauseMap.moves_append start mid end _ _ old.1 fed.1),
+      came.1,
+      leaves_more c.args.checker.now.setting c.loop.checker.setting _ _ (state_of c.take_all-in-Mark.new.checker (g.M.ClauseMap.place end).room)
+          (map byte_of (received c.loop.receiver.consumer)) (take c.in-Mark.count c.receive.new.bytes) bytes old.0 fed.0
+          c.loop.invariant.setting refl old.2 fed.2,
+    )

@@ -1,0 +1,22 @@
+use Rattle.std.proofs.Common.{◌≡◌, ◌<◌, List, length, map}
+use Rattle.lrup_model.specs.Event.{History}
+use Rattle.rtrb.specs.Ring.{received, SameConsumer}
+use Rattle.stream_check.specs.Checker.{IsReadyAt, LeavesOn, state_of}
+use Rattle.stream_check.specs.Judging.{joined}
+use Rattle.stream_ring.specs.Items.{byte_of}
+use Rattle.stream_jobs.proofs.checking.check_received.Given as goal
+
+abbrev pub invariant-loop : goal.invariant-loop
+invariant-loop g l =
+    let p = g.M.ClauseMap.place l.fn.map in
+    let q = g.M.ClauseMap.place l.map in
+    record {
+      next : (goal.iterator-loop g).can_next l.iterator' × (goal.iterator-loop g).is_finite l.iterator';
+      ring : SameConsumer l.fn.receiver.consumer l.receiver.consumer;
+      some : 0 < length l.items;
+      room : length l.items ≡ length l.bytes;
+      ready : IsReadyAt l.checker q;
+      setting : l.checker.setting ≡ l.fn.checker.setting;
+      took : (blocks : List History) × g.M.ClauseMap.moves l.fn.map l.map (joined blocks)
+          × LeavesOn l.fn.checker.setting (state_of l.fn.checker p.room) (map byte_of (received l.receiver.consumer)) blocks (state_of l.checker q.room);
+    }

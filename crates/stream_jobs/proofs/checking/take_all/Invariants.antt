@@ -1,0 +1,17 @@
+use Rattle.std.proofs.Common.{◌≡◌, ◌+◌, ◌≤◌, ◌++◌, ℕ, List, length}
+use Rattle.lrup_model.specs.Event.{History}
+use Rattle.stream_check.specs.Checker.{IsReadyAt, LeavesOn, state_of}
+use Rattle.stream_check.specs.Judging.{joined}
+use Rattle.stream_jobs.proofs.checking.take_all.Given as goal
+
+abbrev pub invariant-loop : goal.invariant-loop
+invariant-loop g l =
+    let p = g.M.ClauseMap.place l.fn.map in
+    let q = g.M.ClauseMap.place l.map in
+    record {
+      within : l.counter + length l.rest ≤ length l.fn.piece;
+      ready : IsReadyAt l.checker q;
+      setting : l.checker.setting ≡ l.fn.checker.setting;
+      took : (front : List ℕ) × (blocks : List History) × (l.fn.piece ≡ front ++ l.rest) × g.M.ClauseMap.moves l.fn.map l.map (joined blocks)
+          × LeavesOn l.fn.checker.setting (state_of l.fn.checker p.room) front blocks (state_of l.checker q.room);
+    }

@@ -1,0 +1,68 @@
+//! The two jobs of a stream before their threads start, and what came of them after both have ended.
+ghost use Rattle.std.specs.Prelude.{◌≡◌, ◌≤◌, ℕ, List, [], Option, false, IfOk};
+ghost use Rattle.lrup_model.specs.Event.{History};
+ghost use Rattle.lrup_model.specs.Layout.{IsStream};
+ghost use Rattle.rtrb.specs.Ring.{sent, received, IsPair};
+ghost use Rattle.runs.specs.Streams.{Stream, IsTold, JudgesStream};
+ghost use Rattle.stream_check.specs.declared.report.Report.{Report};
+ghost use Rattle.stream_check.specs.Checker.{IsNew, state_of};
+ghost use Rattle.stream_check.specs.CheckerValue.{CheckerValue};
+ghost use Rattle.stream_check.specs.Leaving.{Leaves};
+ghost use Rattle.stream_check.specs.Setting.{max_tries};
+ghost use Rattle.stream_jobs.specs.Judged.{JudgesAtMark};
+ghost use Rattle.stream_ring.specs.Items.{SendsAll};
+
+use crate::checking::{Checked, CheckingJob};
+use crate::reading::{ReadingJob, Sent};
+use lrup_model::Layout;
+use lrup_text::Source;
+use std::alloc::{AllocError, Global};
+use stream_check::Gate;
+use stream_ring::{came_through, ring};
+
+/// The items of a ring: two bytes each.
+const CAPACITY: usize = 65_536;
+
+/// The two jobs of stream `stream`, from 1 on, at the two ends of one ring. All memory is taken here, but for the identities that
+/// the stream drops. A hint of another stream is fetched again while it is vacant, up to `tries` times, at most 1,000,000.
+pub fn jobs<R: Source + Drop, G: Gate + Drop>(
+    alloc: Global,
+    reader: R,
+    gate: G,
+    stream: u64,
+    layout: &Layout,
+    tries: u64,
+) -> Result<(ReadingJob<R>, CheckingJob<G>), AllocError>
+    requires running { R.has_failed reader ≡ false }
+    requires stream { IsStream layout.now stream }
+    requires tries { tries ≤ max_tries }
+    ensures pair { IfOk result (λ both.
+        IsPair both.0.sender.producer both.1.receiver.consumer) }
+    ensures reader { IfOk result (λ both. both.0.reader ≡ reader) }
+    ensures gate { IfOk result (λ both. both.1.gate ≡ gate) }
+    ensures checker { IfOk result (λ both. IsNew layout.now stream tries both.1.checker) }
+{
+    let (sender, receiver) = ring(alloc, CAPACITY)?;
+    let reading = ReadingJob::new(alloc, reader, sender)?;
+    let checking = CheckingJob::new(alloc, receiver, gate, stream, layout, tries)?;
+    Ok((reading, checking))
+}
+
+/// What both threads gave back, in one thread again: the stream that was judged is what its reader told, to its end or to the read
+/// that failed.
+pub fn meet<R: Source + Drop>(sent: &mut Sent<R>, checked: &mut Checked)
+    requires { IsPair sent.old.producer checked.old.consumer }
+    ensures reader { sent.new.reader ≡ sent.old.reader }
+    ensures report { checked.new.report ≡ checked.old.report }
+    ensures judged { (entry : Option (List ℕ)) (v : CheckerValue) (room : ℕ)
+        (blocks : List History) (report : Report)
+        → SendsAll entry (R.left sent.old.reader) (R.has_failed sent.old.reader)
+        (Rattle.rtrb.specs.Ring.sent sent.old.producer)
+        → JudgesAtMark v room (received checked.old.consumer) blocks report
+        → Leaves v.setting [] [] (state_of v room)
+        → (stream : Stream)
+        × IsTold entry (R.left sent.old.reader) (R.has_failed sent.old.reader) stream
+        × JudgesStream v.setting stream blocks report }
+{
+    came_through(&mut sent.producer, &mut checked.consumer);
+}

@@ -1,0 +1,209 @@
+//! The job of the thread that checks a stream.
+ghost use Rattle.std.specs.Prelude.{◌≡◌, ◌<◌, ◌≤◌, ℕ, List, [], false, length, vec_len, IfOk, IfErr, IfSome, IsSome};
+ghost use Rattle.lrup_model.specs.Event.{History};
+ghost use Rattle.lrup_model.specs.Layout.{IsStream};
+ghost use Rattle.rtrb.specs.Ring.{received, SameConsumer};
+ghost use Rattle.stream_check.specs.Checker.{IsNew, IsReadyAt, LeavesOn, state_of};
+ghost use Rattle.stream_check.specs.Judging.{joined, JudgesBlocks};
+ghost use Rattle.stream_check.specs.Leaving.{Leaves};
+ghost use Rattle.stream_check.specs.Setting.{max_tries};
+ghost use Rattle.stream_jobs.specs.Judged.{JudgesAtMark, end_of};
+ghost use Rattle.stream_ring.specs.Items.{EndsAtMark};
+
+use lrup_model::{ClauseMap, Layout};
+use rtrb::Consumer;
+use std::alloc::{AllocError, Global};
+use std::sync::{OnceLock, OnceToken, Wait};
+use stream_check::laws::over_stays;
+use stream_check::{Checker, Gate, Report, Turn};
+use stream_ring::{Received, Receiver, told};
+
+/// The most items that are popped, and the most bytes that are fed, at once.
+const POPPED: usize = 65_536;
+
+/// What a checking thread is given: a stream's checker and its gate, and its end of the ring, of which nothing was received yet.
+#[derive(Drop)]
+pub struct CheckingJob<G: Gate + Drop> {
+    pub checker: Checker,
+    pub gate: G,
+    pub receiver: Receiver,
+    items: Vec<u16>,
+    bytes: Vec<u8>,
+    ghost room: { (0 < vec_len items) × (vec_len items ≡ vec_len bytes) },
+    ghost nothing: { received receiver.consumer ≡ [] },
+}
+
+/// What a checking thread gives back: what is said of the stream, or nothing where no mark came, and its end of the ring.
+#[derive(Drop)]
+pub struct Checked {
+    pub report: Option<Report>,
+    pub consumer: Consumer<u16>,
+}
+
+impl<G: Gate + Drop> CheckingJob<G> {
+    /// The job of stream `stream`, from 1 on, with the memory that it will need, but for the identities that the stream drops. A
+    /// hint of another stream is fetched again while it is vacant, up to `tries` times, at most 1,000,000.
+    pub(crate) fn new(
+        alloc: Global,
+        receiver: Receiver,
+        gate: G,
+        stream: u64,
+        layout: &Layout,
+        tries: u64,
+    ) -> Result<CheckingJob<G>, AllocError>
+        requires stream { IsStream layout.now stream }
+        requires tries { tries ≤ max_tries }
+        requires nothing { received receiver.consumer ≡ [] }
+        ensures checker { IfOk result (λ job. IsNew layout.now stream tries job.checker) }
+        ensures gate { IfOk result (λ job. job.gate ≡ gate) }
+        ensures receiver { IfOk result (λ job. job.receiver ≡ receiver) }
+    {
+        let checker = Checker::new(alloc, stream, layout, tries)?;
+        let items = vec![in alloc; 0u16; POPPED]?;
+        let bytes = vec![in alloc; 0u8; POPPED]?;
+        Ok(CheckingJob {
+            checker,
+            gate,
+            receiver,
+            items,
+            bytes,
+        })
+    }
+}
+
+/// Waits for the word, and then checks what is received, up to the mark; after a bad line the rest is received and nothing more is
+/// said of it. Where the word is to leave, nothing is received, and the word's token is the answer. It blocks while the ring is
+/// empty.
+pub fn check_when_told<'a, W: Wait, G: Gate + Drop, M: ClauseMap>(
+    wait: &W,
+    word: &'a OnceLock<bool>,
+    job: CheckingJob<G>,
+    map: &mut M,
+) -> Result<Checked, OnceToken<'a, bool>>
+    requires { IsReadyAt job.checker (M.place map.old) }
+    ensures leaves { IfErr result (λ token. (token.of ≡ word.now.id) × (token.value ≡ false)) }
+    ensures ring { IfOk result (λ checked. SameConsumer job.receiver.consumer checked.consumer) }
+    ensures judged { IfOk result (λ checked. IfSome checked.report (λ report.
+        (blocks : List History) × M.moves map.old map.new (joined blocks)
+        × JudgesAtMark job.checker (M.place map.old).room (received checked.consumer)
+        blocks report)) }
+{
+    let token = told(wait, word);
+    if !*word.value(&token) {
+        return Err(token);
+    }
+    let CheckingJob {
+        mut checker,
+        mut gate,
+        mut receiver,
+        mut items,
+        mut bytes,
+    } = job;
+    let report = judge(
+        wait,
+        &mut checker,
+        &mut gate,
+        &mut receiver,
+        items.as_mut_slice(),
+        bytes.as_mut_slice(),
+        map,
+    );
+    Ok(Checked {
+        report,
+        consumer: receiver.into_consumer(),
+    })
+}
+
+/// Checks what is received, up to the mark, and says how the stream is judged. None where no mark came.
+fn judge<W: Wait, G: Gate, M: ClauseMap>(
+    wait: &W,
+    checker: &mut Checker,
+    gate: &mut G,
+    receiver: &mut Receiver,
+    items: &mut [u16],
+    bytes: &mut [u8],
+    map: &mut M,
+) -> Option<Report>
+    requires ready { IsReadyAt checker.old (M.place map.old) }
+    requires some { 0 < length items.old }
+    requires room { length items.old ≡ length bytes.old }
+    requires nothing { received receiver.old.consumer ≡ [] }
+    ensures ring { SameConsumer receiver.old.consumer receiver.new.consumer }
+    ensures judged { IfSome result (λ report.
+        (blocks : List History) × M.moves map.old map.new (joined blocks)
+        × JudgesAtMark checker.old (M.place map.old).room (received receiver.new.consumer)
+        blocks report) }
+{
+    let has_failed = check_received(wait, checker, gate, receiver, items, bytes, map)?;
+    Some(close(checker, has_failed))
+}
+
+/// Takes the end of the stream, or a read that failed, and says how the stream is judged.
+fn close(checker: &mut Checker, has_failed: bool) -> Report
+    ensures { (bytes : List ℕ) (blocks : List History) (free : ℕ)
+        → Leaves checker.old.setting bytes blocks (state_of checker.old free)
+        → JudgesBlocks checker.old.setting bytes (end_of has_failed) blocks result }
+{
+    if has_failed {
+        checker.read_failed();
+        return checker.report();
+    }
+    checker.end();
+    checker.report()
+}
+
+/// Checks what is received, up to the mark. Did the read fail? None where no mark came.
+fn check_received<W: Wait, G: Gate, M: ClauseMap>(
+    wait: &W,
+    checker: &mut Checker,
+    gate: &mut G,
+    receiver: &mut Receiver,
+    items: &mut [u16],
+    bytes: &mut [u8],
+    map: &mut M,
+) -> Option<bool>
+    requires ready { IsReadyAt checker.old (M.place map.old) }
+    requires some { 0 < length items.old }
+    requires room { length items.old ≡ length bytes.old }
+    requires nothing { received receiver.old.consumer ≡ [] }
+    ensures ring { SameConsumer receiver.old.consumer receiver.new.consumer }
+    ensures setting { checker.new.setting ≡ checker.old.setting }
+    ensures took { let old = state_of checker.old (M.place map.old).room in
+        let new = state_of checker.new (M.place map.new).room in
+        IfSome result (λ failed. (fed : List ℕ) × (blocks : List History)
+        × M.moves map.old map.new (joined blocks) × EndsAtMark fed failed (received receiver.new.consumer)
+        × LeavesOn checker.old.setting old fed blocks new) }
+{
+    for _ in wait.forever() {
+        match receiver.receive(wait, items, bytes) {
+            Received::Bytes(count) => take_all(checker, gate, map, &bytes[..count]),
+            Received::Mark(count, failed) => {
+                take_all(checker, gate, map, &bytes[..count]);
+                return Some(failed);
+            }
+            Received::Gone => return None,
+        }
+    }
+    unreachable!()
+}
+
+/// Lets the checker take all of a piece. One that is over takes nothing of it, and stays as it is.
+fn take_all<G: Gate, M: ClauseMap>(checker: &mut Checker, gate: &mut G, map: &mut M, piece: &[u8])
+    requires { IsReadyAt checker.old (M.place map.old) }
+    ensures took { let old = state_of checker.old (M.place map.old).room in
+        let new = state_of checker.new (M.place map.new).room in
+        (blocks : List History) × M.moves map.old map.new (joined blocks)
+        × LeavesOn checker.old.setting old piece.now blocks new }
+    ensures ready { IsReadyAt checker.new (M.place map.new) }
+    ensures setting { checker.new.setting ≡ checker.old.setting }
+{
+    over_stays();
+    let mut rest = piece;
+    for _ in 0..piece.len() {
+        let progress = checker.feed(map, gate, rest);
+        match progress.turn {
+            Turn::Line => rest = rest.split_at(progress.used).1,
+            Turn::More | Turn::Over => return,
+        }
+    }
+}

@@ -1,0 +1,88 @@
+//! The job of the thread that reads a stream.
+ghost use Rattle.std.specs.Prelude.{◌≡◌, ◌<◌, [], false, vec_len, IfOk, IfErr};
+ghost use Rattle.rtrb.specs.Ring.{sent, SameProducer};
+ghost use Rattle.stream_ring.specs.Items.{SendsAll};
+
+use lrup_text::Source;
+use rtrb::Producer;
+use std::alloc::{AllocError, Global};
+use std::sync::{OnceLock, OnceToken, Wait};
+use stream_ring::{Sender, told};
+
+/// The most bytes that one read asks for.
+const PIECE: usize = 65_536;
+
+/// The most items that are pushed at once.
+const PUSHED: usize = 4_096;
+
+/// What a reading thread is given: a reader that hasn't failed, and its end of the ring, into which nothing was sent yet.
+#[derive(Drop)]
+pub struct ReadingJob<R: Source + Drop> {
+    pub reader: R,
+    pub sender: Sender,
+    piece: Vec<u8>,
+    items: Vec<u16>,
+    ghost room: { (0 < vec_len piece) × (0 < vec_len items) },
+    ghost running: { R.has_failed reader ≡ false },
+    ghost nothing: { sent sender.producer ≡ [] },
+}
+
+/// What a reading thread gives back: the reader, and its end of the ring.
+#[derive(Drop)]
+pub struct Sent<R: Source + Drop> {
+    pub reader: R,
+    pub producer: Producer<u16>,
+}
+
+impl<R: Source + Drop> ReadingJob<R> {
+    /// The job of a reader, with the memory that it will need.
+    pub(crate) fn new(alloc: Global, reader: R, sender: Sender) -> Result<ReadingJob<R>, AllocError>
+        requires running { R.has_failed reader ≡ false }
+        requires nothing { sent sender.producer ≡ [] }
+        ensures reader { IfOk result (λ job. job.reader ≡ reader) }
+        ensures sender { IfOk result (λ job. job.sender ≡ sender) }
+    {
+        let piece = vec![in alloc; 0u8; PIECE]?;
+        let items = vec![in alloc; 0u16; PUSHED]?;
+        Ok(ReadingJob {
+            reader,
+            sender,
+            piece,
+            items,
+        })
+    }
+}
+
+/// Waits for the word, and then reads all and sends it, and one mark. Where the word is to leave, nothing is read, and the word's
+/// token is the answer. It blocks while the reader does, or while the ring is full.
+pub fn read_when_told<'a, W: Wait, R: Source + Drop>(
+    wait: &W,
+    word: &'a OnceLock<bool>,
+    job: ReadingJob<R>,
+) -> Result<Sent<R>, OnceToken<'a, bool>>
+    ensures leaves { IfErr result (λ token. (token.of ≡ word.now.id) × (token.value ≡ false)) }
+    ensures ring { IfOk result (λ sent. SameProducer job.sender.producer sent.producer) }
+    ensures sent { IfOk result (λ s. SendsAll (R.left job.reader) (R.left s.reader)
+        (R.has_failed s.reader) (sent s.producer)) }
+{
+    let token = told(wait, word);
+    if !*word.value(&token) {
+        return Err(token);
+    }
+    let ReadingJob {
+        mut reader,
+        mut sender,
+        mut piece,
+        mut items,
+    } = job;
+    sender.send_all(
+        wait,
+        &mut reader,
+        piece.as_mut_slice(),
+        items.as_mut_slice(),
+    );
+    Ok(Sent {
+        reader,
+        producer: sender.into_producer(),
+    })
+}
