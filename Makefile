@@ -33,10 +33,11 @@ install: build
 	install -m 644 docs/lrupd.1 "$(DESTDIR)$(PREFIX)/share/man/man1/lrupd.1"
 
 # What the program writes on standard output and standard error, and its status, on the examples and on some seventy small runs;
-# and two groups of streams, checked apart.
+# two groups of streams, checked apart; and whether README, USING, the manual page and --help say the same.
 examples: build
 	@sh examples/compare.sh $(PROGRAM)
 	@sh examples/groups.sh $(PROGRAM)
+	@sh examples/words.sh $(PROGRAM)
 
 # Four recorded solvers, line by line through pipes, checked while they run.
 live: build
@@ -69,7 +70,7 @@ test: SHELL := /bin/bash
 test: toolchain solver
 	@set -o pipefail; log=$$(mktemp); trap 'rm -f "$$log"' EXIT; \
 	$(RT) ci | tee "$$log" && sh examples/compare.sh $(PROGRAM) && sh examples/groups.sh $(PROGRAM) && \
-	sh examples/live.sh $(PROGRAM) && python3 examples/solver/test.py $(PROGRAM) $(SOLVER) && \
+	sh examples/words.sh $(PROGRAM) && sh examples/live.sh $(PROGRAM) && python3 examples/solver/test.py $(PROGRAM) $(SOLVER) && \
 	python3 tools/test.py $(PROGRAM) && sh gate/allocations.sh $(RT) && tail -n 1 "$$log"
 
 toolchain:
