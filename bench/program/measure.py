@@ -47,4 +47,5 @@ def main():
         print(f"{name:10} {one:10.3f} {other:10.3f}   ratio {one / other:.2f}")
 
 
-main()
+if __name__ == "__main__":
+    main()
