@@ -65,3 +65,14 @@ fn the_last_allocation_comes_after_all_calls(rt: HostRuntime) -> Result<(), Fail
     let _last: Vec<u8> = Vec::with_capacity(rt.alloc(), 1)?;
     Ok(())
 }
+
+/// A store of 16 million words is opened and dropped, four times. The gate gives this test memory for one and a half, so that
+/// what an opening took and nobody gives back would be missing at the next.
+#[test]
+fn a_large_store_is_given_back(rt: HostRuntime) -> Result<(), Fail> {
+    for _ in 0..4 {
+        let (store, passes) = open_race(rt.alloc(), 1, 1, 16_000_000)?;
+        holds(&rt, store.covers(2) && passes.len() == 1);
+    }
+    Ok(())
+}
