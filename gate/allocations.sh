@@ -10,6 +10,10 @@
 # propagate: a formula, its map, new marks and a list of literals take eight allocations. A thousand clauses that are taken up,
 # hinted and compared take none: the ninth is the test's own, after them all, and there is no tenth.
 #
+# clause_store: a formula, its store and the passes take six allocations. A thousand calls of each kind take none: the seventh is
+# the test's own, after them all, and there is no eighth. A store of 16 million words is opened and dropped four times, with
+# memory for one and a half: what an opening took has to be given back.
+#
 # stream_check: eleven allocations come before the first line of a stream that drops some twenty identities, none is made for
 # that line, an addition with literals, and twelve come later, all for the set of these. Where one of the twelve is refused
 # the stream is over, and its report counts what came before.
@@ -107,6 +111,26 @@ for n in 8 9; do
     want propagate $n $after_all FAILED
 done
 want propagate 10 $after_all ok
+
+for n in 6 7 8; do tests clause_store $n & done
+wait
+after_all=memory::the_last_allocation_comes_after_all_calls
+for n in 6 7; do
+    want clause_store $n $after_all FAILED
+done
+want clause_store 8 $after_all ok
+
+# An opening takes 128,000,000 bytes for the row, and as much again until it returns: here are 307,200,000, and a second list that
+# is still there would want 384,000,000. rt test leaves the tests' program behind.
+large=memory::a_large_store_is_given_back
+if (cd "$root/crates/clause_store_tests" && "$rt" test) > "$work/large" 2>&1 &&
+    (ulimit -v 300000 && "$root/crates/clause_store_tests/out/clause_store_tests_tests" tests::$large) >> "$work/large" 2>&1; then
+    echo "clause_store, 300,000 KiB: $large: ok"
+else
+    failed=1
+    echo "clause_store, 300,000 KiB: $large: not ok"
+    cat "$work/large"
+fi
 
 for n in 1 40; do
     seen $n 3 '^case=[a-z]+ run=ended status=6 '

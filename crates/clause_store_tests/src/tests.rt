@@ -22,6 +22,9 @@ use std::test::Fail;
 use std::thread::{Threads, for_each_mut, join, yield_now};
 use test_support::{four_clauses, lit};
 
+mod interleavings;
+mod memory;
+
 /// Stops the test where two values differ: an assertion that is proved once for all tests.
 fn same<T: PartialEq + fmt::Debug + Drop>(rt: &impl Abort, value: T, wanted: T) {
     assert_eq!(rt; value, wanted);
@@ -59,8 +62,9 @@ enum Found {
 
 /// What the store has under an identity.
 fn look(store: &Store, pass: &mut Pass, id: Id) -> Option<Found>
-    requires { IsAt four store.now pass.old }
-    ensures { IsAt four store.now pass.new }
+    requires { store_of pass.old ≡ store.now }
+    ensures store { store_of pass.new ≡ store.now }
+    ensures caller { pass.new.view.caller ≡ pass.old.view.caller }
 {
     if !store.covers(id) {
         return None;
@@ -254,7 +258,7 @@ fn a_pass_spends_its_room(rt: HostRuntime) -> Result<(), Fail> {
 
 /// Are these the literals of a clip's clause, in this order?
 fn reads_back(store: &Store, pass: &mut Pass, clip: &Clip, clause: &[Lit]) -> bool
-    requires at { IsAt four store.now pass.old }
+    requires store { store_of pass.old ≡ store.now }
     requires known { IsKnown (pass_place pass.old.view) clip.now }
     ensures { pass.new ≡ pass.old }
 {
@@ -478,12 +482,17 @@ fn refuted(alloc: Global) -> Result<Formula, AllocError>
     Ok(formula)
 }
 
-/// The store of the race, for four streams of 10,000 identities, and its passes.
-fn open_race(alloc: Global) -> Result<(Store, Vec<Pass>), Fail>
+/// The store of a race, for so many streams with so many identities and so much room each, and its passes.
+fn open_race(
+    alloc: Global,
+    streams: u64,
+    identities: u64,
+    room: u64,
+) -> Result<(Store, Vec<Pass>), Fail>
     ensures { IfOk result (λ opened. AreAt raced opened.0 opened.1.items) }
 {
     let formula = refuted(alloc)?;
-    let layout = Layout::new(40_001, 1, 0, 4, 10_000, 20_000)?;
+    let layout = Layout::new(40_001, 1, 0, streams, identities, room)?;
     if !layout.fits(&formula) {
         return Err("no layout".into());
     }
@@ -514,6 +523,17 @@ fn publish_raced(store: &Store, pass: &mut Pass, id: Id) -> Option<Published>
         1 => store.publish(pass, id, &[first]),
         _ => store.publish(pass, id, &[first, second]),
     })
+}
+
+/// Retires the clause of an identity of the race.
+fn retire_raced(store: &Store, pass: &mut Pass, id: Id) -> Option<Retired>
+    requires { IsAt raced store.now pass.old }
+    ensures { IsAt raced store.now pass.new }
+{
+    if !store.owns(pass, id) {
+        return None;
+    }
+    Some(store.retire(pass, id))
 }
 
 /// Is this the clause of the race, in whichever order it lies?
@@ -554,11 +574,10 @@ fn finds_raced(store: &Store, pass: &mut Pass, id: Id) -> Option<bool>
     }
 }
 
-/// Waits for the other threads, some time.
-fn all_started(started: &AtomicU64) -> bool {
-    started.fetch_add(1, Ordering::SeqCst);
+/// Waits until the threads have counted so far, and says whether they did in time.
+fn waits_for(counter: &AtomicU64, wanted: u64) -> bool {
     for _turn in 0..TURNS {
-        if started.load(Ordering::SeqCst) == 4 {
+        if wanted <= counter.load(Ordering::SeqCst) {
             return true;
         }
         yield_now();
@@ -566,12 +585,18 @@ fn all_started(started: &AtomicU64) -> bool {
     false
 }
 
+/// Counts this thread, and waits until all of them were.
+fn arrives(there: &AtomicU64, wanted: u64) -> bool {
+    there.fetch_add(1, Ordering::SeqCst);
+    waits_for(there, wanted)
+}
+
 /// Publishes the clauses of a stream of the race, one after the other, and at each looks at the same one of all streams.
 fn race<R: Abort>(rt: &R, store: &Store, started: &AtomicU64, pass: &mut Pass)
     requires { IsAt raced store.now pass.old }
     ensures { IsAt raced store.now pass.new }
 {
-    assert!(rt; all_started(started), "one thread only");
+    assert!(rt; arrives(started, 4), "one thread only");
     let own = pass.stream();
     for line in 0..10_000u64 {
         let answer = publish_raced(store, pass, 4 * line + own + 1);
@@ -610,7 +635,7 @@ fn finds_all<R: Abort>(rt: &R, store: &Store, pass: &mut Pass)
 /// Four streams publish 10,000 clauses each at the same time, and look at each other's. Once all have met, a pass has them all.
 #[test]
 fn four_threads_race(rt: HostRuntime) -> Result<(), Fail> {
-    let (store, mut passes) = open_race(rt.alloc())?;
+    let (store, mut passes) = open_race(rt.alloc(), 4, 10_000, 20_000)?;
     holds(&rt, passes.len() == 4);
     race_all(&rt, &store, passes.as_mut_slice());
     store.meet_all(passes.as_mut_slice());

@@ -1,0 +1,374 @@
+//! Interleavings that counters force: a thread goes on once the others have come as far, so each run meets them.
+ghost use Rattle.std.specs.Prelude.{◌≡◌, ◌<◌, ◌≤◌};
+ghost use Rattle.lrup_model.specs.History.{IsPublishable};
+ghost use Rattle.lrup_model.specs.Pass.{pass_place};
+ghost use Rattle.lrup_model.specs.Place.{IsKnown};
+ghost use Rattle.test_support.specs.Worked.{four};
+ghost use Rattle.clause_store.specs.Passes.{store_of};
+ghost use Rattle.clause_store_tests.specs.Worked.{IsAt, raced};
+
+use super::{
+    Found, TURNS, arrives, finds_raced, holds, is_kept, is_raced, live, look, open_race, open_two,
+    publish, publish_raced, published, reads_back, retire, retire_raced, same, waits_for,
+};
+use clause_store::{Pass, Store};
+use lrup_model::{Clip, Fetched, Id, Lit, Published, Retired};
+use std::alloc::Global;
+use std::process::Abort;
+use std::sync::atomic::{AtomicU64, Ordering};
+use std::test::Fail;
+use std::thread::{Threads, for_each_mut, join, yield_now};
+use test_support::lit;
+
+/// Retires 6 and publishes 8, and then stays until the other thread has read its clip. Was that in time?
+fn replace_six(
+    store: &Store,
+    mut pass: Pass,
+    replaced: &AtomicU64,
+    read: &AtomicU64,
+) -> (Pass, (Option<Retired>, Option<Published>, bool))
+    requires { IsAt four store.now pass }
+    ensures { IsAt four store.now result.0 }
+{
+    let retired = retire(store, &mut pass, 6);
+    let published = publish(store, &mut pass, 8, &[lit(1)]);
+    replaced.fetch_add(1, Ordering::SeqCst);
+    let in_time = waits_for(read, 1);
+    (pass, (retired, published, in_time))
+}
+
+/// Reads the clip of 6 once it was replaced. Was that in time, and is it what it was?
+fn read_replaced(
+    store: &Store,
+    mut pass: Pass,
+    clip: &Clip,
+    replaced: &AtomicU64,
+    read: &AtomicU64,
+) -> (Pass, (bool, bool))
+    requires at { IsAt four store.now pass }
+    requires known { IsKnown (pass_place pass.view) clip.now }
+    ensures { IsAt four store.now result.0 }
+{
+    let in_time = waits_for(replaced, 1);
+    let stays = reads_back(store, &mut pass, clip, &[lit(-2)]);
+    read.fetch_add(1, Ordering::SeqCst);
+    (pass, (in_time, stays))
+}
+
+/// The first pass reads its clip while the second, in a thread of its own, has replaced the clause and is still there.
+fn replace_and_read<R: Threads + Abort>(
+    rt: &R,
+    store: &Store,
+    a: Pass,
+    b: Pass,
+    clip: &Clip,
+) -> (Pass, Pass)
+    requires first { IsAt four store.now a }
+    requires second { IsAt four store.now b }
+    requires known { IsKnown (pass_place a.view) clip.now }
+    ensures first { IsAt four store.now result.0 }
+    ensures second { IsAt four store.now result.1 }
+{
+    let (replaced, read) = (AtomicU64::new(0), AtomicU64::new(0));
+    let (replaced, read) = (&replaced, &read);
+    let ((b, answers), (a, found)) = join(
+        rt,
+        || -> (Pass, (Option<Retired>, Option<Published>, bool))
+            requires { IsAt four store.now b }
+            ensures { IsAt four store.entry.now result.0 }
+        { replace_six(store, b, replaced, read) },
+        || -> (Pass, (bool, bool))
+            requires { IsAt four store.now a × IsKnown (pass_place a.view) clip.now }
+            ensures { IsAt four store.entry.now result.0 }
+        { read_replaced(store, a, clip, replaced, read) },
+    );
+    same(
+        rt,
+        answers,
+        (Some(Retired::Done), Some(Published::Done), true),
+    );
+    same(rt, found, (true, true));
+    (a, b)
+}
+
+/// A clip that the first pass holds reads as before once the second has retired its clause and published the next.
+fn outlive<R: Threads + Abort>(rt: &R, alloc: Global) -> Result<(), Fail> {
+    let (store, mut a, b) = open_two(alloc, 2, 2)?;
+    let (mut b, answer) = published(&store, b, 6, &[lit(-2)]);
+    same(rt, answer, Some(Published::Done));
+    store.meet(&mut a, &mut b);
+    let clip = live(&store, &mut a, 6).ok_or("6 isn't live")?;
+    let (mut a, mut b) = replace_and_read(rt, &store, a, b, &clip);
+    store.meet(&mut a, &mut b);
+    same(rt, look(&store, &mut a, 6), Some(Found::Retired));
+    holds(rt, is_kept(&store, &mut a, 8, &[lit(1)]));
+    Ok(())
+}
+
+#[test]
+fn a_clip_outlives_its_clause(rt: HostRuntime) -> Result<(), Fail> {
+    for _ in 0..100 {
+        outlive(&rt, rt.alloc())?;
+    }
+    Ok(())
+}
+
+/// How many lines each stream has here.
+const LINES: u64 = 1_000;
+
+/// Publishes the clause of each line once the other stream is there too.
+fn publish_together<R: Abort>(
+    rt: &R,
+    store: &Store,
+    pass: &mut Pass,
+    there: &AtomicU64,
+    published: &AtomicU64,
+)
+    requires { IsAt raced store.now pass.old }
+    ensures { store_of pass.new ≡ store.now }
+{
+    let own = pass.stream();
+    for line in 0..LINES {
+        assert!(rt; arrives(there, 2 * line + 2), "line {line} of {own}");
+        let answer = publish_raced(store, pass, 4 * line + own + 1);
+        published.fetch_add(1, Ordering::SeqCst);
+        assert_eq!(rt; answer, Some(Published::Done), "line {line} of {own}");
+    }
+}
+
+/// Reads the clauses of each line back, once both are published.
+fn read_both<R: Abort>(rt: &R, store: &Store, pass: &mut Pass, published: &AtomicU64)
+    requires { store_of pass.old ≡ store.now }
+    ensures { store_of pass.new ≡ store.now }
+{
+    for line in 0..LINES {
+        assert!(rt; waits_for(published, 2 * line + 2), "line {line}");
+        for stream in 1..3u64 {
+            let found = finds_raced(store, pass, 4 * line + stream + 1);
+            assert_eq!(rt; found, Some(true), "line {line} of {stream}");
+        }
+    }
+}
+
+/// The first two streams publish, and the others read back.
+fn publish_or_read<R: Abort>(
+    rt: &R,
+    store: &Store,
+    pass: &mut Pass,
+    there: &AtomicU64,
+    published: &AtomicU64,
+)
+    requires { IsAt raced store.now pass.old }
+    ensures { store_of pass.new ≡ store.now }
+{
+    if pass.stream() < 3 {
+        publish_together(rt, store, pass, there, published);
+    } else {
+        read_both(rt, store, pass, published);
+    }
+}
+
+/// Two streams publish at the same moment at neighbouring identities, a thousand times; two others read both clauses.
+#[test]
+fn neighbours_are_published_at_once(rt: HostRuntime) -> Result<(), Fail> {
+    let (store, mut passes) = open_race(rt.alloc(), 4, LINES, 2 * LINES)?;
+    holds(&rt, passes.len() == 4);
+    let (there, published) = (AtomicU64::new(0), AtomicU64::new(0));
+    for_each_mut(
+        &rt,
+        passes.as_mut_slice(),
+        4,
+        &|_, pass: &mut Pass| publish_or_read(&rt, &store, pass, &there, &published),
+    );
+    same(&rt, published.load(Ordering::SeqCst), 2 * LINES);
+    Ok(())
+}
+
+/// Publishes the clause of each line, and retires it once all others are there to fetch it.
+fn retire_together<R: Abort>(rt: &R, store: &Store, pass: &mut Pass, there: &AtomicU64)
+    requires { IsAt raced store.now pass.old }
+    ensures { store_of pass.new ≡ store.now }
+{
+    for line in 0..LINES {
+        let id = 4 * line + 2;
+        let answer = publish_raced(store, pass, id);
+        assert_eq!(rt; answer, Some(Published::Done), "line {line}");
+        assert!(rt; arrives(there, 4 * line + 4), "line {line}");
+        let answer = retire_raced(store, pass, id);
+        assert_eq!(rt; answer, Some(Retired::Done), "line {line}");
+    }
+    there.fetch_add(1, Ordering::SeqCst);
+}
+
+/// Is the clause live and whole, or retired?
+fn finds_whole_or_retired(store: &Store, pass: &mut Pass, id: Id) -> bool
+    requires { store_of pass.old ≡ store.now }
+    ensures { store_of pass.new ≡ store.now }
+{
+    if !store.covers(id) {
+        return false;
+    }
+    match store.fetch(pass, id) {
+        Fetched::Vacant => false,
+        Fetched::Live(clip) => clip.id() == id && is_raced(store, pass, &clip),
+        Fetched::Retired => true,
+    }
+}
+
+/// Finds the clause of each line retired.
+fn finds_all_retired<R: Abort>(rt: &R, store: &Store, pass: &mut Pass)
+    requires { store_of pass.old ≡ store.now }
+    ensures { store_of pass.new ≡ store.now }
+{
+    for line in 0..LINES {
+        let found = look(store, pass, 4 * line + 2);
+        assert_eq!(rt; found, Some(Found::Retired), "line {line}");
+    }
+}
+
+/// Fetches the clause of each line when it is about to be retired, and once more when all are.
+fn fetch_together<R: Abort>(rt: &R, store: &Store, pass: &mut Pass, there: &AtomicU64)
+    requires { store_of pass.old ≡ store.now }
+    ensures { store_of pass.new ≡ store.now }
+{
+    for line in 0..LINES {
+        assert!(rt; arrives(there, 4 * line + 4), "line {line}");
+        assert!(rt;
+            finds_whole_or_retired(store, pass, 4 * line + 2),
+            "line {line}"
+        );
+    }
+    assert!(rt; waits_for(there, 4 * LINES + 1), "all are retired");
+    finds_all_retired(rt, store, pass);
+}
+
+/// The first stream retires, and the others fetch.
+fn retire_or_fetch<R: Abort>(rt: &R, store: &Store, pass: &mut Pass, there: &AtomicU64)
+    requires { IsAt raced store.now pass.old }
+    ensures { store_of pass.new ≡ store.now }
+{
+    if pass.stream() == 1 {
+        retire_together(rt, store, pass, there);
+    } else {
+        fetch_together(rt, store, pass, there);
+    }
+}
+
+/// A stream retires an identity and three others fetch it, at the same moment, a thousand times. What they find is live and
+/// whole, or retired. Later all is retired.
+#[test]
+fn a_retire_and_a_fetch_at_once(rt: HostRuntime) -> Result<(), Fail> {
+    let (store, mut passes) = open_race(rt.alloc(), 4, LINES, 2 * LINES)?;
+    holds(&rt, passes.len() == 4);
+    let there = AtomicU64::new(0);
+    for_each_mut(
+        &rt,
+        passes.as_mut_slice(),
+        4,
+        &|_, pass: &mut Pass| retire_or_fetch(&rt, &store, pass, &there),
+    );
+    same(&rt, there.load(Ordering::SeqCst), 4 * LINES + 1);
+    Ok(())
+}
+
+/// The clause of an identity that the others hammer, one of two by turns: its literals lie in three words.
+fn six_literals(id: Id) -> [Lit; 6]
+    ensures { IsPublishable raced result }
+{
+    if id % 2 == 0 {
+        [lit(1), lit(-2), lit(3), lit(-4), lit(5), lit(-6)]
+    } else {
+        [lit(-12), lit(11), lit(-10), lit(9), lit(-8), lit(7)]
+    }
+}
+
+/// Publishes that clause.
+fn publish_six(store: &Store, pass: &mut Pass, id: Id) -> Option<Published>
+    requires { IsAt raced store.now pass.old }
+    ensures { IsAt raced store.now pass.new }
+{
+    if !store.owns(pass, id) || store.room(pass) < 6 {
+        return None;
+    }
+    Some(store.publish(pass, id, &six_literals(id)))
+}
+
+/// Fetches until the clause is live, and pauses once in many turns. Is it whole then? None where it never was live.
+fn hammers(store: &Store, pass: &mut Pass, id: Id) -> Option<bool>
+    requires { store_of pass.old ≡ store.now }
+    ensures { store_of pass.new ≡ store.now }
+{
+    if !store.covers(id) {
+        return None;
+    }
+    for turn in 0..TURNS {
+        match store.fetch(pass, id) {
+            Fetched::Live(clip) => return Some(reads_back(store, pass, &clip, &six_literals(id))),
+            Fetched::Retired => return Some(false),
+            Fetched::Vacant => {}
+        }
+        if turn % 64 == 63 {
+            yield_now();
+        }
+    }
+    None
+}
+
+/// How many clauses are hammered: it takes about a second.
+const HAMMERED: u64 = 3_000;
+
+/// Publishes the clause of each line once eight others hammer at it.
+fn publish_hammered<R: Abort>(rt: &R, store: &Store, pass: &mut Pass, there: &AtomicU64)
+    requires { IsAt raced store.now pass.old }
+    ensures { store_of pass.new ≡ store.now }
+{
+    for line in 0..HAMMERED {
+        assert!(rt; waits_for(there, 8 * line + 8), "line {line}");
+        let answer = publish_six(store, pass, 9 * line + 2);
+        assert_eq!(rt; answer, Some(Published::Done), "line {line}");
+    }
+}
+
+/// Hammers at the clause of each line.
+fn hammer_all<R: Abort>(rt: &R, store: &Store, pass: &mut Pass, there: &AtomicU64)
+    requires { store_of pass.old ≡ store.now }
+    ensures { store_of pass.new ≡ store.now }
+{
+    for line in 0..HAMMERED {
+        there.fetch_add(1, Ordering::SeqCst);
+        assert_eq!(rt;
+            hammers(store, pass, 9 * line + 2),
+            Some(true),
+            "line {line}"
+        );
+    }
+}
+
+/// The first stream publishes, and the others hammer.
+fn publish_or_hammer<R: Abort>(rt: &R, store: &Store, pass: &mut Pass, there: &AtomicU64)
+    requires { IsAt raced store.now pass.old }
+    ensures { store_of pass.new ≡ store.now }
+{
+    if pass.stream() == 1 {
+        publish_hammered(rt, store, pass, there);
+    } else {
+        hammer_all(rt, store, pass, there);
+    }
+}
+
+/// Eight threads fetch as fast as they can while one publishes. No gate can stand between the stores of a clause's literals and
+/// the exchange that makes it live; whoever finds it live reads the whole clause.
+#[test]
+fn eight_threads_hammer(rt: HostRuntime) -> Result<(), Fail> {
+    let (store, mut passes) = open_race(rt.alloc(), 9, HAMMERED, 6 * HAMMERED)?;
+    holds(&rt, passes.len() == 9);
+    let there = AtomicU64::new(0);
+    for_each_mut(
+        &rt,
+        passes.as_mut_slice(),
+        9,
+        &|_, pass: &mut Pass| publish_or_hammer(&rt, &store, pass, &there),
+    );
+    same(&rt, there.load(Ordering::SeqCst), 8 * HAMMERED);
+    Ok(())
+}

@@ -1,0 +1,78 @@
+//! What the calls of a store take of memory, which is nothing.
+ghost use Rattle.std.specs.Prelude.{◌≡◌};
+ghost use Rattle.clause_store.specs.Passes.{store_of};
+ghost use Rattle.clause_store_tests.specs.Worked.{IsAt, raced};
+
+use super::{Found, finds_raced, holds, look, open_race, publish_raced, retire_raced, same};
+use clause_store::{Pass, Store};
+use lrup_model::{Fetched, Id, Published, Retired};
+use std::process::Abort;
+use std::test::Fail;
+
+/// Reads the first pair of a live clause, where it has literals.
+fn has_pair(store: &Store, pass: &mut Pass, id: Id) -> bool
+    requires { IsAt raced store.now pass.old }
+    ensures { IsAt raced store.now pass.new }
+{
+    if !store.covers(id) {
+        return false;
+    }
+    match store.fetch(pass, id) {
+        Fetched::Live(clip) => {
+            clip.len() == 0 || store.pair(pass, &clip, 0).1.is_some() == (clip.len() == 2)
+        }
+        _ => false,
+    }
+}
+
+/// Each call of two passes once: the first publishes and retires, and the second finds and reads.
+fn call_each<R: Abort>(rt: &R, store: &Store, first: &mut Pass, second: &mut Pass, id: Id)
+    requires first { IsAt raced store.now first.old }
+    requires second { IsAt raced store.now second.old }
+    ensures first { IsAt raced store.now first.new }
+    ensures second { IsAt raced store.now second.new }
+{
+    same(rt, look(store, second, id), Some(Found::Vacant));
+    same(rt, publish_raced(store, first, id), Some(Published::Done));
+    store.meet(first, second);
+    same(rt, finds_raced(store, second, id), Some(true));
+    holds(rt, has_pair(store, second, id));
+    same(rt, retire_raced(store, first, id), Some(Retired::Done));
+    same(rt, publish_raced(store, first, id), Some(Published::Taken));
+    same(rt, retire_raced(store, first, id), Some(Retired::NotLive));
+    store.meet(first, second);
+    same(rt, look(store, second, id), Some(Found::Retired));
+}
+
+/// The same, a thousand times.
+fn call_often<R: Abort>(rt: &R, store: &Store, first: &mut Pass, second: &mut Pass)
+    requires first { IsAt raced store.now first.old }
+    requires second { IsAt raced store.now second.old }
+{
+    for line in 0..1_000 {
+        call_each(rt, store, first, second, 2 * line + 2);
+    }
+}
+
+/// No call of a pass takes memory: some allocations make the formula, the store and the passes, and the next one is the test's
+/// own, after the last call. The gate refuses that one, and this test has to fail then.
+#[test]
+fn the_last_allocation_comes_after_all_calls(rt: HostRuntime) -> Result<(), Fail> {
+    let (store, mut passes) = open_race(rt.alloc(), 2, 1_000, 2_000)?;
+    let mut second = passes.pop().ok_or("no pass")?;
+    let mut first = passes.pop().ok_or("one pass")?;
+    call_often(&rt, &store, &mut first, &mut second);
+    let _last: Vec<u8> = Vec::with_capacity(rt.alloc(), 1)?;
+    Ok(())
+}
+
+/// A store of 16 million words is opened and dropped, four times. The gate gives this test memory for one and a half, so that
+/// what an opening took and nobody gives back would be missing at the next.
+#[test]
+fn a_large_store_is_given_back(rt: HostRuntime) -> Result<(), Fail> {
+    for _ in 0..4 {
+        let (store, passes) = open_race(rt.alloc(), 1, 1, 16_000_000)?;
+        holds(&rt, store.covers(2) && passes.len() == 1);
+    }
+    Ok(())
+}
