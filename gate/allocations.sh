@@ -121,10 +121,11 @@ done
 want clause_store 8 $after_all ok
 
 # An opening takes 128,000,000 bytes for the row, and as much again until it returns: here are 307,200,000, and a second list that
-# is still there would want 384,000,000. rt test leaves the tests' program behind.
+# is still there would want 384,000,000. The tests' program is the one that rt ci built; where there is none, rt test makes it.
 large=memory::a_large_store_is_given_back
-if (cd "$root/crates/clause_store_tests" && "$rt" test) > "$work/large" 2>&1 &&
-    (ulimit -v 300000 && "$root/crates/clause_store_tests/out/clause_store_tests_tests" tests::$large) >> "$work/large" 2>&1; then
+built=$root/crates/clause_store_tests/out/clause_store_tests_tests
+if { [ -x "$built" ] || (cd "$root/crates/clause_store_tests" && "$rt" test); } > "$work/large" 2>&1 &&
+    (ulimit -v 300000 && "$built" tests::$large) >> "$work/large" 2>&1; then
     echo "clause_store, 300,000 KiB: $large: ok"
 else
     failed=1
