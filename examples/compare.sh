@@ -49,6 +49,14 @@ run() {
     judge "$name" "$status" $?
 }
 
+# inside NAME STATUS WORDS..: the same, in the folder of these files, with two good lines on standard input.
+inside() {
+    name=$1 status=$2
+    shift 2
+    (cd "$work" && exec "$program" "$@") > "$work/out" 2> "$work/err" < "$work/two"
+    judge "$name" "$status" $?
+}
+
 # example NAME OPTIONS WORDS..: a run of this folder's files, with the report in NAME.out.
 example() {
     name=$1 options=$2
@@ -100,7 +108,7 @@ formula() {
     refused "formula refused: $1" 4 "$work/refused" "$work/stream1"
 }
 
-# usage NAME WORDS..: no report, and help or a usage fault, in words that are not compared.
+# usage NAME WORDS..: no report, and help or a usage fault, in words that are not compared, but for a first line that comes once.
 usage() {
     name=$1
     shift
@@ -108,6 +116,7 @@ usage() {
     "$program" "$@" > "$work/out" 2> "$work/err"
     status=$?
     grep -v '^lrupd: ' "$work/err" > "$work/wanted-err" || echo 'some words of usage' > "$work/wanted-err"
+    [ "$(grep -cxF "$(head -n 1 "$work/err")" "$work/err")" = 1 ] || echo 'words of usage, once' > "$work/wanted-err"
     judge "$name" 2 "$status"
 }
 
@@ -210,6 +219,24 @@ run 'a stream named twice' 3 "$work/formula" "$work/one" "$work/one"
 want 'c stream 1: 0 added, 0 deleted, read failed at line 1\ns UNKNOWN\n' ''
 run 'a folder as the stream' 3 "$work/formula" "$work"
 
+# A path is a file's name as it stands: a hyphen isn't standard input, and spaces are kept.
+
+printf '%b' "$two" > "$work/two"
+want '' 'lrupd: cannot read formula\n'
+inside 'a formula at a hyphen that is not there' 5 - one
+want '' 'lrupd: cannot open stream 1\n'
+inside 'a stream at a hyphen that is not there' 5 formula -
+cp "$work/one" "$work/-"
+want 'c stream 1: 1 added, 0 deleted, ended\ns UNKNOWN\n' ''
+inside 'a stream at a hyphen' 3 formula -
+cp "$work/formula" "$work/-"
+inside 'a formula at a hyphen' 3 - one
+mkdir "$work/a  folder"
+cp "$work/formula" "$work/a  folder/ a formula "
+cp "$work/one" "$work/a  folder/ a stream "
+run 'paths with spaces' 3 "$work/a  folder/ a formula " "$work/a  folder/ a stream "
+inside 'paths with spaces, from here' 3 'a  folder/ a formula ' 'a  folder/ a stream '
+
 # Formulas that are refused.
 
 formula 'no header' ''
@@ -252,7 +279,8 @@ usage 'no number' --room x "$absent" "$absent"
 usage 'no such option' --fast "$absent" "$absent"
 usage 'a word that is no UTF-8' "$(printf '\377')" "$absent"
 
-# Runs that take much memory, and have it: the marks of 16,000,000 variables, and a set of 1,100,000 dropped identities.
+# Runs that take much memory, and have it: the marks of 16,000,000 variables, a set of 1,100,000 dropped identities, and a row with
+# the room of 16,000,000 literals.
 
 given 'p cnf 16000000 1\n16000000 0\n'
 streams '16,000,000 variables' '' 3 '1 added, 0 deleted, ended' '2 16000000 0 1 0\n'
@@ -260,6 +288,9 @@ given "$four"
 awk 'BEGIN { for (i = 6; i <= 2200004; i += 2) print "5 d " i " 0" }' > "$work/drops"
 want 'c stream 1: 0 added, 1100000 deleted, ended\nc stream 2: 0 added, 0 deleted, ended\ns UNKNOWN\n' ''
 run '1,100,000 identities dropped' 3 --lines 1100000 "$work/formula" "$work/drops" /dev/null
+for options in '' '--serial'; do
+    streams "a room of 16,000,000 literals $options" "--room 16000000 $options" 0 '2 added, 0 deleted, ended' "$two"
+done
 
 limited 'out of memory' 1000000 --room 268000000 "$work/formula" "$work/one"
 limited 'worker 1 not started' 9000 --lines 1 --room 1 "$work/formula" "$work/one"

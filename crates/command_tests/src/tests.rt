@@ -12,7 +12,9 @@ use std::thread::Threads;
 use std::time::Clock;
 use test_support::{Paper, Pieces};
 
+mod devices;
 mod faults;
+mod readings;
 mod rows;
 mod told;
 
@@ -24,7 +26,7 @@ fn same<T: PartialEq + fmt::Debug + Drop>(rt: &impl Abort, value: T, wanted: T) 
 /// 1 2 0 / -1 2 0 / 1 -2 0 / -1 -2 0
 const FOUR: &str = "p cnf 2 4\n1 2 0\n-1 2 0\n1 -2 0\n-1 -2 0\n";
 
-/// An open file, which comes three bytes a read. As one of the machine it doesn't tell its bytes.
+/// An open file. As one of the machine it doesn't tell its bytes.
 #[derive(Drop)]
 struct OpenFile<'a>(Pieces<'a>);
 
@@ -56,6 +58,8 @@ struct Entry<'a> {
 struct Shelf<'a> {
     entries: Vec<Entry<'a>>,
     opened: String,
+    /// How many bytes come a read, at most.
+    most: usize,
     /// Whether memory is out at each opening.
     is_full: bool,
 }
@@ -83,7 +87,7 @@ impl<'a> Files for Shelf<'a> {
             return Err(OpenFault::Memory);
         }
         match self.entries.iter().find(|entry| entry.path == path) {
-            Some(entry) => Ok(OpenFile(Pieces::new(entry.text, 3, entry.fails_at))),
+            Some(entry) => Ok(OpenFile(Pieces::new(entry.text, self.most, entry.fails_at))),
             None => Err(OpenFault::NotOpened),
         }
     }
@@ -91,7 +95,7 @@ impl<'a> Files for Shelf<'a> {
 
 const PATHS: &[&str] = &["1", "2", "3", "4", "5", "6", "7", "8", "9"];
 
-/// The formula at `f`, and the streams at `1`, `2` and so on up to 9.
+/// The formula at `f`, and the streams at `1`, `2` and so on up to 9. They come three bytes a read.
 fn shelf_of<'a>(alloc: Global, formula: &'a str, streams: &[&'a str]) -> Result<Shelf<'a>, Fail> {
     let mut entries = Vec::new(alloc);
     entries.push(Entry {
@@ -109,6 +113,7 @@ fn shelf_of<'a>(alloc: Global, formula: &'a str, streams: &[&'a str]) -> Result<
     Ok(Shelf {
         entries,
         opened: String::new(alloc),
+        most: 3,
         is_full: false,
     })
 }

@@ -135,7 +135,7 @@ fn memory_is_out_at_an_opening(rt: HostRuntime) -> Result<(), Fail> {
     assert_fault(&rt, rt.alloc(), &["f", "1"], &mut files, "out of memory", 6)
 }
 
-/// What `clap` says of these words, this part in it, goes out as it stands, and no file is opened.
+/// What `clap` says of these words, this part in it, goes out as it stands and once, and no file is opened.
 fn assert_usage<T: Threads + Wait + Sync + Clock + Abort>(
     rt: &T,
     alloc: Global,
@@ -149,6 +149,8 @@ fn assert_usage<T: Threads + Wait + Sync + Clock + Abort>(
     let err = String::from_utf8(ran.err).map_err(|_| Fail::from("no text"))?;
     let is_usage = err.contains(part) && !err.starts_with("lrupd: ");
     assert!(rt; is_usage, "{words:?}: {err}");
+    let (first, _) = err.split_once('\n').unwrap_or(("", ""));
+    same(rt, (words, err.matches(first).count()), (words, 1));
     Ok(())
 }
 

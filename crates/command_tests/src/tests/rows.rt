@@ -157,6 +157,20 @@ fn one_stream(rt: HostRuntime) -> Result<(), Fail> {
     Ok(())
 }
 
+/// The files come in pieces of one byte, of two, and whole.
+#[test]
+fn two_additions_in_pieces(rt: HostRuntime) -> Result<(), Fail> {
+    let out = "c stream 1: 2 added, 0 deleted, ended\ns UNSATISFIABLE\n";
+    for most in [1, 2, usize::MAX] {
+        for words in [["f", "1", "--serial"], ["f", "1", "--tries=0"]] {
+            let mut files = shelf_of(rt.alloc(), FOUR, &["5 2 0 1 2 0\n6 0 5 3 4 0\n"])?;
+            files.most = most;
+            assert_ends(&rt, rt.alloc(), &words, &mut files, (out, "", 0));
+        }
+    }
+    Ok(())
+}
+
 #[test]
 fn other_formulas(rt: HostRuntime) -> Result<(), Fail> {
     for row in [
@@ -241,6 +255,48 @@ s UNKNOWN
             status: 3,
         },
     )
+}
+
+/// The run over two empty streams has a report, and opens the file at this path so often.
+fn assert_opened<T: Threads + Wait + Sync + Clock + Abort>(
+    rt: &T,
+    alloc: Global,
+    words: &[&str],
+    path: &str,
+    times: usize,
+) -> Result<(), Fail> {
+    let mut files = shelf_of(alloc, FOUR, &["", ""])?;
+    let ran = run_on(rt, alloc, words, &mut files, 0, 0);
+    let found = files.opened.matches(path).count();
+    same(
+        rt,
+        (words, path, ran.status, found),
+        (words, path, 3, times),
+    );
+    Ok(())
+}
+
+#[test]
+fn a_formula_opened_twice(rt: HostRuntime) -> Result<(), Fail> {
+    for words in [["f", "1", "2", "--serial"], ["f", "1", "2", "--tries=0"]] {
+        assert_opened(&rt, rt.alloc(), &words, "f ", 1)?;
+    }
+    Ok(())
+}
+
+/// Each stream opens its file, so one that two words name is opened for each.
+#[test]
+fn a_stream_opened_twice(rt: HostRuntime) -> Result<(), Fail> {
+    for (words, path, times) in [
+        (["f", "1", "2", "--serial"], "1 ", 1),
+        (["f", "1", "2", "--serial"], "2 ", 1),
+        (["f", "1", "2", "--tries=0"], "1 ", 1),
+        (["f", "1", "2", "--tries=0"], "2 ", 1),
+        (["f", "1", "1", "--tries=0"], "1 ", 2),
+    ] {
+        assert_opened(&rt, rt.alloc(), &words, path, times)?;
+    }
+    Ok(())
 }
 
 /// Stream 1 cites two clauses of stream 2. With a thread for each it waits for them; on one thread its first line comes before them.
