@@ -5,14 +5,22 @@ ghost use Rattle.portfolio.specs.Outcomes.{max_tries};
 
 use lrup_model::{Id, LayoutFault};
 use lrup_text::{LineFault, Sink, WriteFault};
-use portfolio::{Options, RunFault, Verdict, write_report};
+use portfolio::{
+    Options, Outcome, RunFault, SerialOutcome, Verdict, run, run_serial, write_report,
+};
 use std::alloc::{AllocError, Global};
 use std::fmt;
 use std::process::Abort;
+use std::sync::Wait;
+use std::sync::atomic::{AtomicU64, Ordering};
 use std::test::Fail;
+use std::thread::Threads;
 use stream_check::{Ending, Fault, Gate, Report};
-use test_support::{Paper, Pieces};
+use test_support::{Paper, Pieces, four_clauses};
 
+mod isolation;
+mod line_orders;
+mod rows;
 mod serial;
 mod threads;
 
@@ -36,6 +44,92 @@ impl Gate for Open {
     fn before_fetch(&mut self, _stream: u64, _id: Id, _attempt: u64) {}
 
     fn after_publish(&mut self, _stream: u64, _id: Id) {}
+}
+
+/// What gates were told, in order: a call is the gate's own number, and the stream, the identity and the attempt that it was
+/// told, where 0 stands for a publish.
+#[derive(Drop)]
+struct Calls {
+    count: AtomicU64,
+    told: Vec<[AtomicU64; 4]>,
+}
+
+impl Calls {
+    /// A list with room for so many calls.
+    fn new(alloc: Global, most: usize) -> Result<Calls, AllocError> {
+        let mut told = Vec::new(alloc);
+        for _ in 0..most {
+            told.push([
+                AtomicU64::new(0),
+                AtomicU64::new(0),
+                AtomicU64::new(0),
+                AtomicU64::new(0),
+            ])?;
+        }
+        Ok(Calls {
+            count: AtomicU64::new(0),
+            told,
+        })
+    }
+
+    fn note(&self, call: [u64; 4]) {
+        let place = self.count.fetch_add(1, Ordering::SeqCst);
+        if let Some(cells) = self.told.get(place as usize) {
+            for (cell, value) in cells.iter().zip(call) {
+                cell.store(value, Ordering::SeqCst);
+            }
+        }
+    }
+
+    /// The calls of one gate.
+    fn of(&self, alloc: Global, gate: u64) -> Result<Vec<[u64; 4]>, AllocError> {
+        let mut calls = Vec::new(alloc);
+        for call in &self.all(alloc)? {
+            if call[0] == gate {
+                calls.push(*call)?;
+            }
+        }
+        Ok(calls)
+    }
+
+    /// All calls.
+    fn all(&self, alloc: Global) -> Result<Vec<[u64; 4]>, AllocError> {
+        let mut calls = Vec::new(alloc);
+        for (_, cells) in (0..self.count.load(Ordering::SeqCst)).zip(&self.told) {
+            let mut call = [0; 4];
+            for (cell, value) in cells.iter().zip(&mut call) {
+                *value = cell.load(Ordering::SeqCst);
+            }
+            calls.push(call)?;
+        }
+        Ok(calls)
+    }
+}
+
+/// A gate that writes down its calls.
+#[derive(Clone, Copy)]
+struct Notes<'a> {
+    gate: u64,
+    calls: &'a Calls,
+}
+
+impl Gate for Notes<'_> {
+    fn before_fetch(&mut self, stream: u64, id: Id, attempt: u64) {
+        self.calls.note([self.gate, stream, id, attempt]);
+    }
+
+    fn after_publish(&mut self, stream: u64, id: Id) {
+        self.calls.note([self.gate, stream, id, 0]);
+    }
+}
+
+/// Gates of streams 1 to `count`, in order.
+fn notes_of(alloc: Global, calls: &Calls, count: usize) -> Result<Vec<Notes<'_>>, AllocError> {
+    let mut gates = Vec::new(alloc);
+    for gate in 1..=count as u64 {
+        gates.push(Notes { gate, calls })?;
+    }
+    Ok(gates)
 }
 
 /// Two streams over the four clauses; the first cites the clause that the second derives.
@@ -75,9 +169,51 @@ fn report(added: u64, deleted: u64, ending: Ending) -> Report {
     }
 }
 
+fn ended(added: u64, empty: bool) -> Report {
+    Report {
+        empty,
+        ..report(added, 0, Ending::Ended)
+    }
+}
+
 /// The report of a stream that had added and deleted nothing before its bad line.
 fn bad_line(line: u64, fault: Fault) -> Report {
     report(0, 0, Ending::Bad(line, fault))
+}
+
+/// With a thread for each stream, or on one.
+#[derive(Clone, Copy, Debug, PartialEq, Eq)]
+enum By {
+    Threads,
+    Turns,
+}
+
+const BOTH: [By; 2] = [By::Threads, By::Turns];
+
+/// The reports of a run over the four clauses.
+fn reports_of<'a, T: Threads + Wait + Sync>(
+    rt: &T,
+    alloc: Global,
+    by: By,
+    options: Options,
+    readers: Vec<Pieces<'a>>,
+) -> Result<Vec<Report>, Fail>
+    requires { AllByRecursion (λ r. r.failed ≡ false) readers.items }
+{
+    let formula = four_clauses(alloc)?;
+    let gates = vec![in alloc; Open; readers.len()]?;
+    match by {
+        By::Threads => {
+            let outcome = run(rt, alloc, &formula, options, readers, gates)?;
+            let Outcome { reports, .. } = outcome;
+            Ok(reports)
+        }
+        By::Turns => {
+            let outcome = run_serial(rt, alloc, &formula, options, readers, gates)?;
+            let SerialOutcome { reports, .. } = outcome;
+            Ok(reports)
+        }
+    }
 }
 
 /// The wanted text goes to paper that takes all of it at once, and byte by byte.

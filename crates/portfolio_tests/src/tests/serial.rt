@@ -2,8 +2,8 @@
 ghost use Rattle.std.specs.Prelude.{◌≡◌, Some, None, false};
 ghost use Rattle.std.specs.List.{AllByRecursion};
 
-use super::{CITING, Open, defaults, holds, options, readers_of, same};
-use lrup_model::{Formula, Id, LayoutFault};
+use super::{CITING, Calls, Open, defaults, holds, notes_of, options, readers_of, same};
+use lrup_model::{Formula, LayoutFault};
 use lrup_text::{ReadFault, Source};
 use portfolio::{Options, RunFault, SerialOutcome, run_serial, write_report};
 use std::alloc::Global;
@@ -11,7 +11,6 @@ use std::cell::Cell;
 use std::process::Abort;
 use std::sync::Wait;
 use std::test::Fail;
-use stream_check::Gate;
 use test_support::{Paper, Pieces, four_clauses};
 
 /// A run over the four clauses.
@@ -248,45 +247,79 @@ fn always_out_of_memory(rt: HostRuntime) -> Result<(), Fail> {
     row_of_four(&rt, rt.alloc(), defaults(), &[USES_DROPPED], SAYS_DROPPED)
 }
 
-/// A gate that writes down whose publishes were answered.
-#[derive(Drop)]
-struct Order<'a> {
-    publishes: &'a Cell<u64>,
-}
-
-impl Gate for Order<'_> {
-    fn before_fetch(&mut self, _stream: u64, _id: Id, _attempt: u64) {}
-
-    fn after_publish(&mut self, stream: u64, _id: Id) {
-        let digits = self.publishes.get().saturating_mul(10);
-        self.publishes.set(digits.saturating_add(stream));
-    }
-}
-
-/// The streams whose publishes are answered, in order, as digits, in a run of CITING.
-fn publishes_of<R: Abort + Wait>(rt: &R, alloc: Global, most: usize) -> Result<u64, Fail> {
+/// What the gates are told in a run of CITING.
+fn calls_of<R: Abort + Wait>(rt: &R, alloc: Global, most: usize) -> Result<Vec<[u64; 4]>, Fail> {
     let formula = four_clauses(alloc)?;
-    let publishes = Cell::new(0);
+    let calls = Calls::new(alloc, 20)?;
     let readers = readers_of(alloc, &CITING, most)?;
-    let mut gates = Vec::new(alloc);
-    for _ in 0..readers.len() {
-        gates.push(Order {
-            publishes: &publishes,
-        })?;
-    }
+    let gates = notes_of(alloc, &calls, readers.len())?;
     holds(rt, gates.len() == readers.len());
     let outcome = run_serial(rt, alloc, &formula, defaults(), readers, gates)?;
     says(rt, alloc, &outcome, SAYS_CITING)?;
-    Ok(publishes.get())
+    Ok(calls.all(alloc)?)
 }
 
-/// CITING, whose line 7 cites the other stream's line: turns go round, stream 1 first, and take one line each.
+/// CITING, whose line 7 cites the other stream's line. Each stream has its own gate, and turns go round, stream 1 first, and take
+/// one line each.
 #[test]
-fn serial_takes_streams_whole(rt: HostRuntime) -> Result<(), Fail> {
+fn serial_takes_lines_by_turns(rt: HostRuntime) -> Result<(), Fail> {
+    let wanted = [
+        [1, 1, 1, 1],
+        [1, 1, 2, 1],
+        [1, 1, 5, 0],
+        [2, 2, 3, 1],
+        [2, 2, 4, 1],
+        [2, 2, 6, 0],
+        [1, 1, 5, 1],
+        [1, 1, 6, 1],
+        [1, 1, 7, 0],
+    ];
     for most in [1, 2, usize::MAX] {
-        same(&rt, publishes_of(&rt, rt.alloc(), most)?, 121);
+        let calls = calls_of(&rt, rt.alloc(), most)?;
+        same(&rt, calls.as_slice(), wanted.as_slice());
     }
     Ok(())
+}
+
+/// Line 7 of the first stream would miss 6.
+#[test]
+fn serial_takes_two_lines_a_turn(rt: HostRuntime) -> Result<(), Fail> {
+    let options = options(0, 65_536, 1_048_576);
+    row_of_four(&rt, rt.alloc(), options, &CITING, SAYS_CITING)
+}
+
+/// Each stream but the first cites the one before it, whose line it would miss.
+#[test]
+fn serial_takes_turns_in_reverse(rt: HostRuntime) -> Result<(), Fail> {
+    row_of_four(
+        &rt,
+        rt.alloc(),
+        options(0, 65_536, 1_048_576),
+        &["5 2 0 1 2 0\n", "6 2 0 5 0\n", "7 2 0 6 0\n"],
+        "c stream 1: 1 added, 0 deleted, ended
+c stream 2: 1 added, 0 deleted, ended
+c stream 3: 1 added, 0 deleted, ended
+s UNKNOWN
+",
+    )
+}
+
+/// Each line cites the line before it, of the other stream.
+#[test]
+fn serial_takes_streams_whole(rt: HostRuntime) -> Result<(), Fail> {
+    row_of_four(
+        &rt,
+        rt.alloc(),
+        options(0, 65_536, 1_048_576),
+        &[
+            "5 2 0 1 2 0\n7 2 0 6 0\n9 2 0 8 0\n",
+            "6 2 0 5 0\n8 2 0 7 0\n",
+        ],
+        "c stream 1: 3 added, 0 deleted, ended
+c stream 2: 2 added, 0 deleted, ended
+s UNKNOWN
+",
+    )
 }
 
 /// A run of two streams, whose second reader fails at this read: the first stream is read to its end.

@@ -3,17 +3,20 @@
 ghost use Rattle.std.specs.Prelude.{◌≡◌, false, IfOk, vec_len};
 ghost use Rattle.std.specs.List.{AllByRecursion};
 
-use super::{CITING, Open, bad_line, defaults, holds, options, readers_of, report, same};
+use super::{
+    CITING, Calls, Open, bad_line, defaults, ended, holds, notes_of, options, readers_of, report,
+    same,
+};
 use lrup_model::{Id, LayoutFault};
 use lrup_text::Source;
 use portfolio::{Options, Outcome, Pause, RunFault, Verdict, run};
 use std::alloc::{AllocError, Global};
 use std::process::Abort;
 use std::sync::Wait;
-use std::sync::atomic::{AtomicBool, AtomicU64, Ordering};
+use std::sync::atomic::{AtomicBool, Ordering};
 use std::test::Fail;
 use std::thread::{self, Threads};
-use stream_check::{Ending, Fault, Gate, Report};
+use stream_check::{Ending, Fault, Gate};
 use test_support::{Pieces, Sleeps, four_clauses};
 
 /// A gate for each stream.
@@ -23,18 +26,11 @@ fn gates_of<G: Copy>(alloc: Global, gate: G, count: usize) -> Result<Vec<G>, All
     vec![in alloc; gate; count]
 }
 
-fn ended(added: u64, empty: bool) -> Report {
-    Report {
-        empty,
-        ..report(added, 0, Ending::Ended)
-    }
-}
-
 /// How often a gate looks before it gives up.
 const TURNS: u64 = 10_000_000;
 
 /// Waits until the flag is set, and says whether it was in time.
-fn waits_for(flag: &AtomicBool) -> bool {
+pub(super) fn waits_for(flag: &AtomicBool) -> bool {
     for _ in 0..TURNS {
         if flag.load(Ordering::SeqCst) {
             return true;
@@ -254,29 +250,6 @@ fn one_reader_fails(rt: HostRuntime) -> Result<(), Fail> {
     Ok(())
 }
 
-/// Writes down the attempts to fetch 6 for stream 1, as digits, and counts all other calls.
-#[derive(Clone, Copy)]
-struct Notes<'a> {
-    attempts: &'a AtomicU64,
-    others: &'a AtomicU64,
-}
-
-impl Gate for Notes<'_> {
-    fn before_fetch(&mut self, stream: u64, id: Id, attempt: u64) {
-        if stream == 1 && id == 6 {
-            let before = self.attempts.load(Ordering::SeqCst);
-            let after = before.wrapping_mul(10).wrapping_add(attempt);
-            self.attempts.store(after, Ordering::SeqCst);
-        } else {
-            self.others.fetch_add(1, Ordering::SeqCst);
-        }
-    }
-
-    fn after_publish(&mut self, _stream: u64, _id: Id) {
-        self.others.fetch_add(1, Ordering::SeqCst);
-    }
-}
-
 /// The first stream wants a clause that nobody derives.
 const MISSING: [&str; 2] = ["5 0 6 0\n", ""];
 
@@ -311,15 +284,50 @@ fn run_missing<T: Threads + Wait + Sync + Abort, G: Gate + Send + Drop>(
 
 #[test]
 fn a_vacant_hint_is_tried_again(rt: HostRuntime) -> Result<(), Fail> {
-    let (attempts, others) = (AtomicU64::new(0), AtomicU64::new(0));
-    let gate = Notes {
-        attempts: &attempts,
-        others: &others,
-    };
-    let gates = vec![in rt.alloc(); gate; 2]?;
-    run_missing(&rt, rt.alloc(), gates)?;
-    same(&rt, attempts.load(Ordering::SeqCst), 1_234);
-    same(&rt, others.load(Ordering::SeqCst), 0);
+    let calls = Calls::new(rt.alloc(), 20)?;
+    run_missing(&rt, rt.alloc(), notes_of(rt.alloc(), &calls, 2)?)?;
+    let wanted = [[1, 1, 6, 1], [1, 1, 6, 2], [1, 1, 6, 3], [1, 1, 6, 4]];
+    same(&rt, calls.all(rt.alloc())?.as_slice(), wanted.as_slice());
+    Ok(())
+}
+
+/// Two streams, of which neither cites the other.
+const APART: [&str; 2] = ["5 2 0 1 2 0\n7 0 5 3 4 0\n", "6 -2 0 3 4 0\n"];
+
+/// What their gates are told, in a run with threads.
+fn calls_apart<T: Threads + Wait + Sync + Abort>(
+    rt: &T,
+    alloc: Global,
+    calls: &Calls,
+) -> Result<(), Fail> {
+    let formula = four_clauses(alloc)?;
+    let readers = readers_of(alloc, &APART, 5)?;
+    let gates = notes_of(alloc, calls, readers.len())?;
+    holds(rt, gates.len() == readers.len());
+    let outcome = run(rt, alloc, &formula, defaults(), readers, gates)?;
+    let wanted = [ended(2, true), ended(1, false)];
+    same(rt, outcome.reports.as_slice(), wanted.as_slice());
+    Ok(())
+}
+
+/// Each stream has its own gate, which is told of each fetch and each publish of that stream, in order.
+#[test]
+fn gates_are_told_of_their_streams(rt: HostRuntime) -> Result<(), Fail> {
+    let calls = Calls::new(rt.alloc(), 20)?;
+    calls_apart(&rt, rt.alloc(), &calls)?;
+    let first = [
+        [1, 1, 1, 1],
+        [1, 1, 2, 1],
+        [1, 1, 5, 0],
+        [1, 1, 5, 1],
+        [1, 1, 3, 1],
+        [1, 1, 4, 1],
+        [1, 1, 7, 0],
+    ];
+    let second = [[2, 2, 3, 1], [2, 2, 4, 1], [2, 2, 6, 0]];
+    same(&rt, calls.all(rt.alloc())?.len(), 10);
+    same(&rt, calls.of(rt.alloc(), 1)?.as_slice(), first.as_slice());
+    same(&rt, calls.of(rt.alloc(), 2)?.as_slice(), second.as_slice());
     Ok(())
 }
 

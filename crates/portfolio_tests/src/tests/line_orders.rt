@@ -1,0 +1,283 @@
+//! What runs with threads say is what a checker of one thread says in some order of the lines; and where a clause is deleted
+//! that another stream has cited, it need not be.
+ghost use Rattle.std.specs.Prelude.{◌≡◌, ◌≤◌, IfOk, length};
+ghost use Rattle.lrup_model.specs.Event.{History};
+ghost use Rattle.lrup_model.specs.Layout.{IsStream};
+ghost use Rattle.lrup_model.specs.Plain.{PlainMoves, formula_of, plain_place};
+ghost use Rattle.stream_check.specs.Checker.{IsReadyAt};
+ghost use Rattle.test_support.specs.Worked.{four};
+ghost use Rattle.portfolio_tests.specs.Opened.{IsOpened};
+
+use super::threads::waits_for;
+use super::{By, CITING, Open, bad_line, ended, options, readers_of, report, reports_of, same};
+use lrup_model::{ClauseMap, Id, Layout, PlainMap};
+use portfolio::{Outcome, Verdict, run};
+use std::alloc::Global;
+use std::sync::Wait;
+use std::sync::atomic::{AtomicBool, Ordering};
+use std::test::Fail;
+use std::thread::Threads;
+use stream_check::laws::{ready_beside, ready_new};
+use stream_check::{Checker, Ending, Fault, Gate, Report};
+use test_support::four_clauses;
+
+/// The map of the four clauses, with so many identities for each of two streams and room for 16 literals.
+fn open_map(alloc: Global, lines: u64) -> Result<PlainMap, Fail>
+    ensures opened { IfOk result IsOpened }
+    ensures formula { IfOk result (λ map. formula_of map ≡ four) }
+    ensures streams { IfOk result (λ map. map.layout.streams ≡ 2) }
+{
+    let formula = four_clauses(alloc)?;
+    let layout = Layout::new(2, 4, 8, 2, lines, 16)?;
+    if !layout.fits(&formula) {
+        return Err("no layout".into());
+    }
+    let map = PlainMap::open(alloc, &formula, &layout)?;
+    Ok(map)
+}
+
+/// A checker of this stream, before its first byte.
+fn checker_at(alloc: Global, map: &PlainMap, stream: u64, tries: u64) -> Result<Checker, Fail>
+    requires { IsOpened map.now }
+    ensures stream { IfOk result (λ _. IsStream map.now.layout stream) }
+    ensures ready { IfOk result (λ checker. IsReadyAt checker (plain_place map.now stream)) }
+{
+    ready_new();
+    let layout = map.layout();
+    if stream == 0 || stream > layout.streams() || tries > Checker::MAX_TRIES {
+        return Err("no such stream".into());
+    }
+    let checker = Checker::new(alloc, stream, layout, tries)?;
+    Ok(checker)
+}
+
+/// Feeds bytes through the end of a line, or all of them, and says how many.
+fn take_line<M: ClauseMap>(checker: &mut Checker, map: &mut M, bytes: &[u8]) -> usize
+    requires { IsReadyAt checker.old (M.place map.old) }
+    ensures ready { IsReadyAt checker.new (M.place map.new) }
+    ensures moves { (es : History) × M.moves map.old map.new es }
+    ensures setting { checker.new.setting ≡ checker.old.setting }
+    ensures used { result ≤ length bytes.now }
+{
+    checker.feed(map, &mut Open, bytes).used
+}
+
+/// The same of stream `s`, at its desk.
+fn take_at(map: &mut PlainMap, s: u64, checker: &mut Checker, bytes: &[u8]) -> usize
+    requires stream { IsStream map.old.layout s }
+    requires ready { IsReadyAt checker.old (plain_place map.old s) }
+    ensures moves { (es : History) × PlainMoves map.old map.new s es }
+    ensures ready { IsReadyAt checker.new (plain_place map.new s) }
+    ensures setting { checker.new.setting ≡ checker.old.setting }
+    ensures used { result ≤ length bytes.now }
+{
+    take_line(checker, &mut map.desk(s), bytes)
+}
+
+/// The checkers of streams 1 and 2, and their map.
+#[derive(Drop)]
+struct Two {
+    map: PlainMap,
+    first: Checker,
+    second: Checker,
+    ghost streams: { 2 ≤ map.layout.streams },
+    ghost first_ready: { IsReadyAt first (plain_place map 1) },
+    ghost second_ready: { IsReadyAt second (plain_place map 2) },
+}
+
+impl Two {
+    fn open(alloc: Global, lines: u64, tries: u64) -> Result<Two, Fail> {
+        let map = open_map(alloc, lines)?;
+        let first = checker_at(alloc, &map, 1, tries)?;
+        let second = checker_at(alloc, &map, 2, tries)?;
+        Ok(Two { map, first, second })
+    }
+
+    fn take_first(&mut self, bytes: &[u8]) -> usize
+        ensures { result ≤ length bytes.now }
+    {
+        ready_beside();
+        take_at(&mut self.map, 1, &mut self.first, bytes)
+    }
+
+    fn take_second(&mut self, bytes: &[u8]) -> usize
+        ensures { result ≤ length bytes.now }
+    {
+        ready_beside();
+        take_at(&mut self.map, 2, &mut self.second, bytes)
+    }
+
+    /// What is said of both, where each was read whole or is over.
+    fn end(&mut self, first_whole: bool, second_whole: bool) -> Option<[Report; 2]> {
+        if !first_whole && !self.first.is_over() || !second_whole && !self.second.is_over() {
+            return None;
+        }
+        self.first.end();
+        self.second.end();
+        if !self.first.is_over() || !self.second.is_over() {
+            return None;
+        }
+        Some([self.first.report(), self.second.report()])
+    }
+}
+
+/// What is said of the streams where their lines come in this order, which lists whose line is next. None where a line is left.
+fn said_in(
+    alloc: Global,
+    lines: u64,
+    tries: u64,
+    streams: [&str; 2],
+    order: &[u64],
+) -> Result<Option<[Report; 2]>, Fail> {
+    let mut two = Two::open(alloc, lines, tries)?;
+    let (mut first, mut second) = (streams[0].as_bytes(), streams[1].as_bytes());
+    for stream in order {
+        if *stream == 1 {
+            let used = two.take_first(first);
+            first = &first[used..];
+        } else {
+            let used = two.take_second(second);
+            second = &second[used..];
+        }
+    }
+    Ok(two.end(first.is_empty(), second.is_empty()))
+}
+
+/// What is said of CITING where the second stream's line comes in time, and where it comes too late.
+fn said_of_citing() -> [[Report; 2]; 2] {
+    let missing = report(1, 0, Ending::Bad(2, Fault::Missing(6)));
+    [
+        [ended(2, true), ended(1, false)],
+        [missing, ended(1, false)],
+    ]
+}
+
+/// The reports of the three orders of its lines.
+#[test]
+fn orders_of_citing(rt: HostRuntime) -> Result<(), Fail> {
+    let [in_time, late] = said_of_citing();
+    for (order, wanted) in [
+        ([2, 1, 1], in_time),
+        ([1, 2, 1], in_time),
+        ([1, 1, 2], late),
+    ] {
+        let said = said_in(rt.alloc(), 2, 0, CITING, &order)?;
+        same(&rt, (order, said), (order, Some(wanted)));
+    }
+    Ok(())
+}
+
+/// Whether the reports are one of these lists.
+fn is_among(reports: &[Report], lists: &[[Report; 2]]) -> bool {
+    for list in lists {
+        if list.as_slice() == reports {
+            return true;
+        }
+    }
+    false
+}
+
+#[test]
+fn runs_of_citing_have_an_order(rt: HostRuntime) -> Result<(), Fail> {
+    let lists = said_of_citing();
+    for _ in 0..100 {
+        let readers = readers_of(rt.alloc(), &CITING, 5)?;
+        let reports = reports_of(&rt, rt.alloc(), By::Threads, options(0, 2, 16), readers)?;
+        same(&rt, is_among(&reports, &lists), true);
+    }
+    Ok(())
+}
+
+/// The first deletes a clause that the second has found by then.
+const DELETING: [&str; 2] = ["5 2 0 1 2 0\n5 d 5 0\n7 -2 0 3 4 0\n", "6 0 5 7 0\n"];
+
+/// Holds stream 2 before its first fetch of 5 until it is published, stream 1 then until stream 2 wants 7, having found 5, and
+/// stream 2 until 7 is published.
+#[derive(Clone, Copy)]
+struct FindsBefore<'a> {
+    five: &'a AtomicBool,
+    wanted: &'a AtomicBool,
+    seven: &'a AtomicBool,
+    late: &'a AtomicBool,
+}
+
+impl FindsBefore<'_> {
+    fn hold(&self, flag: &AtomicBool) {
+        if !waits_for(flag) {
+            self.late.store(true, Ordering::SeqCst);
+        }
+    }
+}
+
+impl Gate for FindsBefore<'_> {
+    fn before_fetch(&mut self, stream: u64, id: Id, attempt: u64) {
+        if stream != 2 || attempt != 1 {
+            return;
+        }
+        if id == 5 {
+            self.hold(self.five);
+        }
+        if id == 7 {
+            self.wanted.store(true, Ordering::SeqCst);
+            self.hold(self.seven);
+        }
+    }
+
+    fn after_publish(&mut self, stream: u64, id: Id) {
+        if stream == 1 && id == 5 {
+            self.five.store(true, Ordering::SeqCst);
+            self.hold(self.wanted);
+        }
+        if stream == 1 && id == 7 {
+            self.seven.store(true, Ordering::SeqCst);
+        }
+    }
+}
+
+/// What is said of DELETING with such gates, the verdict, and whether one waited in vain.
+fn run_deleting<T: Threads + Wait + Sync>(
+    rt: &T,
+    alloc: Global,
+) -> Result<(Vec<Report>, Verdict, bool), Fail> {
+    let (five, wanted) = (AtomicBool::new(false), AtomicBool::new(false));
+    let (seven, late) = (AtomicBool::new(false), AtomicBool::new(false));
+    let gate = FindsBefore {
+        five: &five,
+        wanted: &wanted,
+        seven: &seven,
+        late: &late,
+    };
+    let formula = four_clauses(alloc)?;
+    let readers = readers_of(alloc, &DELETING, 5)?;
+    let gates = vec![in alloc; gate; readers.len()]?;
+    let outcome = run(rt, alloc, &formula, options(0, 2, 16), readers, gates)?;
+    let Outcome {
+        reports,
+        verdict,
+        ..
+    } = outcome;
+    Ok((reports, verdict, late.load(Ordering::SeqCst)))
+}
+
+/// The second stream finds 5 before it is deleted, and 7 after it, as in no order of whole lines.
+#[test]
+fn a_deleted_clause_that_was_found(rt: HostRuntime) -> Result<(), Fail> {
+    let wanted = [report(2, 1, Ending::Ended), ended(1, true)];
+    let (reports, verdict, late) = run_deleting(&rt, rt.alloc())?;
+    same(
+        &rt,
+        (reports.as_slice(), verdict, late),
+        (wanted.as_slice(), Verdict::Unsatisfiable, false),
+    );
+    for (order, fault) in [
+        ([2, 1, 1, 1], Fault::Missing(5)),
+        ([1, 2, 1, 1], Fault::Missing(7)),
+        ([1, 1, 2, 1], Fault::Retired(5)),
+        ([1, 1, 1, 2], Fault::Retired(5)),
+    ] {
+        let said = said_in(rt.alloc(), 2, 0, DELETING, &order)?;
+        let other = [report(2, 1, Ending::Ended), bad_line(1, fault)];
+        same(&rt, (order, said), (order, Some(other)));
+    }
+    Ok(())
+}
