@@ -13,6 +13,7 @@ use super::{By, CITING, Open, bad_line, ended, options, readers_of, report, repo
 use lrup_model::{ClauseMap, Id, Layout, PlainMap};
 use portfolio::{Outcome, Verdict, run};
 use std::alloc::Global;
+use std::process::Abort;
 use std::sync::Wait;
 use std::sync::atomic::{AtomicBool, Ordering};
 use std::test::Fail;
@@ -278,6 +279,138 @@ fn a_deleted_clause_that_was_found(rt: HostRuntime) -> Result<(), Fail> {
         let said = said_in(rt.alloc(), 2, 0, DELETING, &order)?;
         let other = [report(2, 1, Ending::Ended), bad_line(1, fault)];
         same(&rt, (order, said), (order, Some(other)));
+    }
+    Ok(())
+}
+
+/// Numbers that look random, and are the same each time.
+#[derive(Drop)]
+struct Dice {
+    state: u64,
+}
+
+impl Dice {
+    fn roll(&mut self, sides: u64) -> u64 {
+        self.state ^= self.state << 13;
+        self.state ^= self.state >> 7;
+        self.state ^= self.state << 17;
+        self.state.checked_rem(sides).unwrap_or(0)
+    }
+
+    /// One of these.
+    fn pick(&mut self, ids: &[u64]) -> u64 {
+        let place = self.roll(ids.len() as u64);
+        ids.get(place as usize).copied().unwrap_or(1)
+    }
+}
+
+/// Each stream's identities.
+const OWN: [[u64; 3]; 2] = [[5, 7, 9], [6, 8, 10]];
+
+/// An addition, or a deletion of a clause of the formula or of another stream, under this identity. It may be bad.
+fn put_line(dice: &mut Dice, text: &mut String, id: u64, others: &[u64]) -> Result<(), Fail> {
+    let hint = dice.pick(&[5, 6, 7, 8, 9, 10]);
+    let more = dice.pick(&[3, 4, 5, 6, 7, 8, 9, 10]);
+    match dice.roll(7) {
+        0 => write!(text, "{id} 2 0 1 2 0\n")?,
+        1 => write!(text, "{id} -2 0 3 4 0\n")?,
+        2 => write!(text, "{id} 2 0 {hint} 0\n")?,
+        3 => write!(text, "{id} -2 0 {hint} 0\n")?,
+        4 => write!(text, "{id} 0 {hint} {more} 0\n")?,
+        5 => write!(text, "{id} d {} 0\n", dice.pick(others))?,
+        _ => write!(text, "{id} d {} 0\n", dice.pick(&[1, 2, 3, 4]))?,
+    }
+    Ok(())
+}
+
+/// A stream of three lines.
+fn small_stream(
+    alloc: Global,
+    dice: &mut Dice,
+    own: [u64; 3],
+    others: &[u64],
+) -> Result<String, Fail> {
+    let mut text = String::new(alloc);
+    for id in own {
+        put_line(dice, &mut text, id, others)?;
+    }
+    Ok(text)
+}
+
+/// Whose line is next, by the binary digits of a number.
+fn order_of(digits: u64) -> [u64; 6] {
+    let mut order = [1; 6];
+    let mut left = digits;
+    for stream in &mut order {
+        if left % 2 == 1 {
+            *stream = 2;
+        }
+        left /= 2;
+    }
+    order
+}
+
+/// Whether each of the two streams has three of the six turns.
+fn has_three_turns_each(order: [u64; 6]) -> bool {
+    let mut turns = 0u64;
+    for stream in order {
+        if stream == 2 {
+            turns = turns.saturating_add(1);
+        }
+    }
+    turns == 3
+}
+
+fn has_reports(said: Option<[Report; 2]>, reports: &[Report]) -> bool {
+    match said {
+        Some(said) => said.as_slice() == reports,
+        None => false,
+    }
+}
+
+/// Whether some order of the lines of two streams with three lines each has these reports.
+fn has_order(
+    alloc: Global,
+    tries: u64,
+    streams: [&str; 2],
+    reports: &[Report],
+) -> Result<bool, Fail> {
+    for digits in 0..64 {
+        let order = order_of(digits);
+        if has_three_turns_each(order)
+            && has_reports(said_in(alloc, 3, tries, streams, &order)?, reports)
+        {
+            return Ok(true);
+        }
+    }
+    Ok(false)
+}
+
+/// Runs of two streams with threads have an order of lines.
+fn runs_have_order<T: Threads + Wait + Sync + Abort>(
+    rt: &T,
+    alloc: Global,
+    streams: [&str; 2],
+) -> Result<(), Fail> {
+    for tries in [0, 3] {
+        let readers = readers_of(alloc, &streams, 5)?;
+        let reports = reports_of(rt, alloc, By::Threads, options(tries, 3, 16), readers)?;
+        let found = has_order(alloc, tries, streams, &reports)?;
+        same(rt, (streams, tries, found), (streams, tries, true));
+    }
+    Ok(())
+}
+
+#[test]
+fn runs_of_small_streams_have_an_order(rt: HostRuntime) -> Result<(), Fail> {
+    let mut dice = Dice {
+        state: 0x9e37_79b9_7f4a_7c15,
+    };
+    let [first_own, second_own] = OWN;
+    for _ in 0..36 {
+        let first = small_stream(rt.alloc(), &mut dice, first_own, &second_own)?;
+        let second = small_stream(rt.alloc(), &mut dice, second_own, &first_own)?;
+        runs_have_order(&rt, rt.alloc(), [first.as_str(), second.as_str()])?;
     }
     Ok(())
 }
