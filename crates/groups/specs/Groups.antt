@@ -27,12 +27,12 @@ AreClosedReaders p set entries = (s : ℕ) (entry : Option (List ℕ)) → IsTru
 
 -- Groups
 
--- no report of the set tells of want of memory
+-- no report of the set tells that memory ran out
 abbrev pub WantNoMemory : (ℕ → Bool) → List Report → Type 0
 WantNoMemory set reports = (s : ℕ) (report : Report) → IsTrue (set s) → IsAt reports s report → ¬ IsOfMemory report
 
 -- The reports of a set of streams are those of the set alone: a legal history, with events of its streams and of no others,
--- judges each of them so, and none tells of want of memory.
+-- judges each of them so, and none tells that memory ran out.
 pub record IsGroup (f : Cnf) (terms : Terms) (set : ℕ → Bool) (streams : List Stream) (reports : List Report) : Type 0 where
   pub history : History
   pub members : AllByRecursion (λ e. IsTrue (set (stream_of e))) history
@@ -45,7 +45,7 @@ abbrev pub IsAlone : Cnf → Terms → ℕ → List Stream → List Report → T
 IsAlone f terms s streams reports = IsGroup f terms (one s) streams reports
 
 -- The reports are isolated: for every list of streams that the readers told and by which they are judged, and for every
--- closed set of these streams none of whose reports tells of want of memory, the set's reports are those of the set alone.
+-- closed set of these streams none of whose reports tells that memory ran out, the set's reports are those of the set alone.
 abbrev pub AreIsolated : Cnf → Terms → List (Option (List ℕ)) → List (Option (List ℕ)) → List Bool → (List Stream → Type 0) → List Report → Type 0
 AreIsolated f terms entries lefts faileds Judged reports = (streams : List Stream) → AreTold entries lefts faileds streams → Judged streams
     → (set : ℕ → Bool) → IsClosed terms.layout set streams → WantNoMemory set reports → IsGroup f terms set streams reports

@@ -102,7 +102,7 @@ FailedIsReading = (entries lefts : List (Option (List ℕ))) (faileds : List Boo
     → IsReadingOf whole failed stream
 
 -- In two runs of one formula, by the same terms, a stream that cites within itself has one report where the readers told the
--- same bytes and end of it, but for want of memory: whatever the other streams are, and whichever runs have threads.
+-- same bytes and end of it, unless memory ran out: whatever the other streams are, and whichever runs have threads.
 abbrev pub SameReadingAgrees : Type 0
 SameReadingAgrees = (f : Cnf) (terms : Terms) (s : ℕ) (whole : List ℕ) (end : StreamEnd)
     (entries lefts other_entries other_lefts : List (Option (List ℕ))) (faileds other_faileds : List Bool)
@@ -113,7 +113,7 @@ SameReadingAgrees = (f : Cnf) (terms : Terms) (s : ℕ) (whole : List ℕ) (end 
     → IsAt reports s report → IsAt other_reports s other_report
     → ¬ IsOfMemory report → ¬ IsOfMemory other_report → report ≡ other_report
 
--- So it has where both readers have the same bytes left at first, but for want of memory and failed reads.
+-- So it has where both readers have the same bytes left at first, unless memory ran out or a read failed.
 abbrev pub SameBytesAgree : Type 0
 SameBytesAgree = (f : Cnf) (terms : Terms) (s : ℕ) (whole : List ℕ)
     (entries lefts other_entries other_lefts : List (Option (List ℕ))) (faileds other_faileds : List Bool)

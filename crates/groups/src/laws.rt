@@ -92,7 +92,7 @@ pub fn failed_is_reading()
     ensures { FailedIsReading }
 {}
 
-/// A stream that cites within itself has one report where the readers told the same bytes and end, but for want of memory.
+/// A stream that cites within itself has one report where the readers told the same bytes and end, unless memory ran out.
 pub fn same_reading_agrees()
     ensures { SameReadingAgrees }
 {
@@ -101,8 +101,8 @@ pub fn same_reading_agrees()
     alone_has_one_report();
 }
 
-/// A stream that cites within itself has one report where the readers have the same bytes left at first, but for want of memory
-/// and failed reads.
+/// A stream that cites within itself has one report where the readers have the same bytes left at first, unless memory ran out
+/// or a read failed.
 pub fn same_bytes_agree()
     ensures { SameBytesAgree }
 {

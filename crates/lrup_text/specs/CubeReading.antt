@@ -38,7 +38,7 @@ pub record ReadsLiteral (text : List ℕ) (literal : ℤ) (rest : List ℕ) : Ty
   pub fits : IsStreamLiteral literal
   pub is : text ≡ signed_decimal literal ++ space ∷ rest
 
--- literals that are kept; and why they aren't: one is out of range, or else memory was wanting
+-- literals that are kept; and why they aren't: one is out of range, or else memory ran out
 abbrev pub AreKept : ℕ → List ℤ → List ℤ → Type 0
 AreKept vars literals kept = (kept ≡ literals) × IsOver vars literals
 

@@ -168,7 +168,7 @@ fn read_digits(first: u8, after: &[u8]) -> Result<(u64, &[u8]), CubeFault>
     Err(CubeFault::Spelling)
 }
 
-/// The literals that are kept with one more, unless it is out of range, or memory is wanting.
+/// The literals that are kept with one more, unless it is out of range, or memory ran out.
 fn with_literal(
     kept: Result<Vec<Lit>, CubeFault>,
     literal: i64,

@@ -35,7 +35,7 @@ pub record IsTold (entry left : Option (List ℕ)) (has_failed : Bool) (stream :
   pub consumes : Consumes entry left (stream.bytes ++ more)
   pub stops : StopsSo stream.stop more left has_failed
 
--- only a bad line or want of memory stops a stream early
+-- only a bad line, or that memory ran out, stops a stream early
 abbrev pub StopsReading : Ending → Type 0
 StopsReading endings.Ended = ⊥
 StopsReading (endings.Bad line fault) = Unit {0}

@@ -24,8 +24,11 @@ const POPPED: usize = 65_536;
 /// What a checking thread is given: a stream's checker and its gate, and its end of the ring, of which nothing was received yet.
 #[derive(Drop)]
 pub struct CheckingJob<G: Gate + Drop> {
+    /// The stream's checker, before its first byte.
     pub checker: Checker,
+    /// What is told of its fetches and publishes.
     pub gate: G,
+    /// The end of the ring from which its bytes come.
     pub receiver: Receiver,
     items: Vec<u16>,
     bytes: Vec<u8>,
@@ -36,7 +39,9 @@ pub struct CheckingJob<G: Gate + Drop> {
 /// What a checking thread gives back: what is said of the stream, or nothing where no mark came, and its end of the ring.
 #[derive(Drop)]
 pub struct Checked {
+    /// How the stream is judged. None where the other end was gone before a mark came.
     pub report: Option<Report>,
+    /// Where all was received, up to the mark.
     pub consumer: Consumer<u16>,
 }
 

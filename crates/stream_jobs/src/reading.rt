@@ -18,7 +18,9 @@ const PUSHED: usize = 4_096;
 /// What a reading thread is given: a reader that hasn't failed, and its end of the ring, into which nothing was sent yet.
 #[derive(Drop)]
 pub struct ReadingJob<R: Source + Drop> {
+    /// What tells the stream's bytes.
     pub reader: R,
+    /// The end of the ring into which they go.
     pub sender: Sender,
     piece: Vec<u8>,
     items: Vec<u16>,
@@ -30,7 +32,9 @@ pub struct ReadingJob<R: Source + Drop> {
 /// What a reading thread gives back: the reader, and its end of the ring.
 #[derive(Drop)]
 pub struct Sent<R: Source + Drop> {
+    /// The reader, at its end or after a read that failed.
     pub reader: R,
+    /// Where all that it told was sent, and one mark.
     pub producer: Producer<u16>,
 }
 
