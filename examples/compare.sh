@@ -67,6 +67,20 @@ example() {
     judge "$name $options" 0 $?
 }
 
+# assumed NAME STATUS TEXT [OPTION]: a stream that derives 2 of two clauses, under the assumed literals of this text.
+assumed() {
+    printf '%b' "$3" > "$work/cube"
+    case $2 in 8) verdict='s UNSATISFIABLE UNDER ASSUMPTIONS\n' ;; *) verdict='s UNKNOWN\n' ;; esac
+    want "c stream 1: 1 added, 0 deleted, ended\n$verdict" ''
+    run "$1 $4" "$2" --assume "$work/cube" $4 "$here/assumed.cnf" "$here/assumed.lrup"
+}
+
+# unassumed FAULT TEXT: assumed literals with this fault.
+unassumed() {
+    printf '%b' "$2" > "$work/cube"
+    refused "assumptions refused: $1" 4 --assume "$work/cube" "$here/assumed.cnf" "$here/assumed.lrup"
+}
+
 # given TEXT: the formula of the rows that follow.
 given() {
     printf '%b' "$1" > "$work/formula"
@@ -278,6 +292,40 @@ usage 'too many lines' --lines 268435457 "$absent" "$absent"
 usage 'no number' --room x "$absent" "$absent"
 usage 'no such option' --fast "$absent" "$absent"
 usage 'a word that is no UTF-8' "$(printf '\377')" "$absent"
+
+# Assumptions.
+
+for options in '' '--serial'; do
+    assumed 'a clause within the cube' 8 '-2 0\n' "$options"
+    assumed 'a cube with a literal twice' 8 '-2 1 -2 0\n' "$options"
+    assumed 'the clause itself assumed' 3 '2 0\n' "$options"
+    assumed 'nothing assumed' 3 '0\n' "$options"
+    assumed 'another literal and its complement' 3 '1 -1 0\n' "$options"
+done
+cp "$here/assumed.cube" "$work/cube"
+want '' ''
+cp "$here/assumed.out" "$work/wanted-out"
+(cd "$here" && "$program" --assume assumed.cube assumed.cnf assumed.lrup) > "$work/out" 2> "$work/err"
+judge 'assumed' 8 $?
+want 'c stream 1: 2 added, 0 deleted, ended\ns UNSATISFIABLE\n' ''
+run 'the empty clause under assumptions' 0 --assume "$work/cube" "$work/formula" "$work/two"
+{ printf '%s' '-2'; sleep 0.1; printf ' 0\n'; } > "$work/pipe1" & writers="$writers $!"
+want 'c stream 1: 1 added, 0 deleted, ended\ns UNSATISFIABLE UNDER ASSUMPTIONS\n' ''
+run 'a pipe of assumptions' 8 --assume "$work/pipe1" "$here/assumed.cnf" "$here/assumed.lrup"
+unassumed 'variable out of range' '3 0\n'
+unassumed 'variable out of range' '999999999999999999 0\n'
+unassumed 'too long' '1000000000000000000 0\n'
+unassumed 'spelling' '-2 0'
+unassumed 'spelling' '+2 0\n'
+unassumed 'spelling' ''
+unassumed 'spelling' '-2 0\n1 0\n'
+unassumed 'spelling' '-2 0\r\n'
+unassumed 'spelling' '-2  0\n'
+refused 'cannot read assumptions' 5 --assume "$absent" "$work/formula" "$absent"
+refused 'cannot read assumptions' 5 --assume "$work" "$work/formula" "$work/one"
+refused 'formula refused: bad header' 4 --assume "$absent" "$work/refused" "$work/one"
+refused 'cannot open stream 1' 5 --assume "$here/assumed.cube" "$work/formula" "$absent"
+usage 'assumptions twice' --assume "$work/cube" --assume "$work/cube" "$work/formula" "$work/one"
 
 # Runs that take much memory, and have it: the marks of 16,000,000 variables, a set of 1,100,000 dropped identities, and a row with
 # the room of 16,000,000 literals.

@@ -41,7 +41,7 @@ items() {
     tr -d "'" < "$top/docs/lrupd.1" | awk -v from="$1" '
         $0 == from { on = 1; next }
         on && $1 == ".El" { exit }
-        on && $1 == ".It" { sub(/^\.It /, ""); sub(/^Fl -/, "--"); sub(/^Fl /, "-"); sub(/ Ar N$/, ""); text[++count] = $0; next }
+        on && $1 == ".It" { sub(/^\.It /, ""); sub(/^Fl -/, "--"); sub(/^Fl /, "-"); sub(/ Ar [A-Za-z]+$/, ""); text[++count] = $0; next }
         !on || count == 0 { next }
         /^\.Fl / { sub(/^\.Fl /, "-") }
         /^\.Ql / { sub(/^\.Ql /, "") }

@@ -1,7 +1,7 @@
 #!/bin/sh
 # Keeps what a build prints on standard input in the file LOG, and says of each crate, once it is proved, how long it took:
 #   progress.sh LOG
-crates=$(grep -cv '_tests:\|^test_support:' "$(dirname "$0")/../crates.txt")
+crates=$(grep -cv '_tests:\|_support:' "$(dirname "$0")/../crates.txt")
 done=0
 began=$(date +%s)
 exec 3> "$1"

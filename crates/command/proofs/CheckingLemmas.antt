@@ -1,7 +1,8 @@
 -- From what is read and run to what the words and the files come to.
-use Rattle.std.proofs.Common.{◌≡◌, ◌∙◌, ℕ, Bool, false, List, map, length, Option, Some, IfSome, Result, Ok, Err, IfOk, IfErr, inl, inr, sym, ap, subst, rules}
+use Rattle.std.proofs.Common.{◌≡◌, ◌∙◌, ℕ, Bool, false, List, map, length, Option, None, Some, IfSome, Result, Ok, Err, IfOk, IfErr, inl, inr, sym, ap, subst, rules}
 use Rattle.std.proofs.lemmas.List.{length-map}
 use Rattle.std.specs.Prelude.{IsErrAnd}
+use Rattle.lrup_model.specs.Cube.{CubeValue, IsUnsatisfiableUnder}
 use Rattle.lrup_model.specs.Entailment.{IsUnsatisfiable}
 use Rattle.lrup_model.specs.Formula.{Cnf}
 use Rattle.lrup_model.specs.Layout.{LayoutValue, IsFault, IsStream}
@@ -13,6 +14,7 @@ use Rattle.portfolio.specs.declared.outcome.Verdict.{Verdict}
 use Rattle.stream_check.specs.declared.report.Report.{Report}
 use Rattle.command_line.specs.CommandLine.{IsCommandLineOf}
 use Rattle.command_line.specs.declared.words.CommandLine.{CommandLine}
+use Rattle.command.specs.Commands.{AreAssumed, IsAssumeCause, NameUnsatisfiableUnder, assumed_at}
 use Rattle.command.specs.Commands.{AreChecked, IsCause, IsFormulaAt, IsOpenCause, IsOutcome, IsReadCause}
 use Rattle.command.specs.Commands.{FilesView, IsRunCause, NameUnsatisfiable, Text, layout_at, terms_given, options_of}
 use Rattle.command.specs.Faults.{of_run}
@@ -39,15 +41,22 @@ some_given P is known = subst (λ o. IfSome o P) is known
 not_both : {T : Type 0} (stream : ℕ) (fault : LayoutFault) → Path (Result T RunFault) (Err (runs.Spawn stream)) (Err (runs.Layout fault)) → ⊥
 not_both stream fault both = search (both, rules)
 
+no_ring : {T : Type 0} (stream : ℕ) (fault : LayoutFault) → Path (Result T RunFault) (Err (runs.Ring stream)) (Err (runs.Layout fault)) → ⊥
+no_ring stream fault both = search (both, rules)
+
 -- the cause of a run's fault
 pub run_cause : {T : Type 0} (serial : Bool) (p : LayoutValue) (result : Result T RunFault) (fault : RunFault) → result ≡ Err fault
     → IsLayoutFault result p → ((stream : ℕ) → result ≡ Err (runs.Spawn stream) → (serial ≡ false) × IsStream p stream)
+    → ((stream : ℕ) → result ≡ Err (runs.Ring stream) → (serial ≡ false) × IsStream p stream)
     → IsRunCause serial p (of_run fault)
-run_cause serial p result (runs.Layout fault) is layout spawn = (layout fault).0 is
-run_cause serial p result runs.Memory is layout spawn = tt
-run_cause serial p result (runs.Spawn stream) is layout spawn =
+run_cause serial p result (runs.Layout fault) is layout spawn ring = (layout fault).0 is
+run_cause serial p result runs.Memory is layout spawn ring = tt
+run_cause serial p result (runs.Spawn stream) is layout spawn ring =
     let started = spawn stream is in
     (started.0, started.1, λ fault refused. not_both stream fault (sym is ∙ (layout fault).1 refused))
+run_cause serial p result (runs.Ring stream) is layout spawn ring =
+    let started = ring stream is in
+    (started.0, started.1, λ fault refused. no_ring stream fault (sym is ∙ (layout fault).1 refused))
 
 -- a run with an outcome has a layout
 pub has_layout : {T : Type 0} (p : LayoutValue) (result : Result T RunFault) (outcome : T) → result ≡ Ok outcome → IsLayoutFault result p
@@ -70,21 +79,26 @@ pub names_unsatisfiable : (R : Type 0) (files : FilesView R) (words : List Text)
     → IsFormulaAt R files given.formula.now f → IsUnsatisfiable f → NameUnsatisfiable R files words
 names_unsatisfiable R files words given f line at refuted = (given, at.0, line, at.1, (f, at.2, refuted))
 
+-- so with the assumed literals
+pub names_unsatisfiable_under : (R : Type 0) (files : FilesView R) (words : List Text) (given : CommandLine) (f : Cnf) (cube : CubeValue) → IsCommandLineOf words given
+    → IsFormulaAt R files given.formula.now f → AreAssumed R files f.vars (assumed_at given) cube → IsUnsatisfiableUnder f cube → NameUnsatisfiableUnder R files words
+names_unsatisfiable_under R files words given f cube line at assumed refuted = (given, f, cube, line, at, assumed, refuted)
+
 -- what is checked is the outcome of the words and the files
-pub is_outcome : (R : Type 0) (files : FilesView R) (words : List Text) (given : CommandLine) (f : Cnf) (options : OptionsValue) (readers : List R)
-    → IsCommandLineOf words given → IsFormulaAt R files given.formula.now f
+pub is_outcome : (R : Type 0) (files : FilesView R) (words : List Text) (given : CommandLine) (f : Cnf) (cube : CubeValue) (options : OptionsValue) (readers : List R)
+    → IsCommandLineOf words given → IsFormulaAt R files given.formula.now f → AreAssumed R files f.vars (assumed_at given) cube
     → options ≡ options_of given → map files.reading.left readers ≡ map files.tells given.streams
     → (reports : List Report) (verdict : Verdict)
-    → AreChecked R files.reading given.serial f (terms_of options f (length readers)) (map files.reading.left readers) reports verdict
+    → AreChecked R files.reading given.serial f (terms_of options cube f (length readers)) (map files.reading.left readers) reports verdict
     → IsOutcome R files words reports verdict
-is_outcome R files words given f options readers line at options_are entries_are reports verdict checked =
+is_outcome R files words given f cube options readers line at assumed options_are entries_are reports verdict checked =
     let reading = files.reading in
     let entries = map reading.left readers in
-    let one = subst (λ (o : OptionsValue). AreChecked R reading given.serial f (terms_of o f (length readers)) entries reports verdict) options_are checked in
-    let two = subst (λ (n : ℕ). AreChecked R reading given.serial f (terms_of (options_of given) f n) entries reports verdict)
+    let one = subst (λ (o : OptionsValue). AreChecked R reading given.serial f (terms_of o cube f (length readers)) entries reports verdict) options_are checked in
+    let two = subst (λ (n : ℕ). AreChecked R reading given.serial f (terms_of (options_of given) cube f n) entries reports verdict)
     (same_count _ _ readers given.streams entries_are) one in
-    let three = subst (λ (es : List (Option (List ℕ))). AreChecked R reading given.serial f (terms_given given f) es reports verdict) entries_are two in
-    record { given = given; command_line = line; formula = f; is_formula = at; checked = three }
+    let three = subst (λ (es : List (Option (List ℕ))). AreChecked R reading given.serial f (terms_given given cube f) es reports verdict) entries_are two in
+    record { given = given; command_line = line; formula = f; is_formula = at; cube = cube; assumed = assumed; checked = three }
 
 -- The causes are those of the words and the files.
 pub read_cause : (R : Type 0) (files : FilesView R) (words : List Text) (given : CommandLine) → IsCommandLineOf words given
@@ -92,43 +106,71 @@ pub read_cause : (R : Type 0) (files : FilesView R) (words : List Text) (given :
 read_cause R files words given line (faults.Usage text) cause = absurd cause
 read_cause R files words given line faults.Unread cause = (given, line, inl cause)
 read_cause R files words given line (faults.Refused fault) cause = (given, line, inl cause)
+read_cause R files words given line faults.CubeUnread cause = absurd cause
+read_cause R files words given line (faults.CubeRefused fault) cause = absurd cause
 read_cause R files words given line (faults.NotOpened stream) cause = absurd cause
 read_cause R files words given line (faults.Layout fault) cause = absurd cause
 read_cause R files words given line (faults.NotStarted stream) cause = absurd cause
+read_cause R files words given line (faults.Ring stream) cause = absurd cause
 read_cause R files words given line faults.Memory cause = tt
 read_cause R files words given line faults.Unwritten cause = absurd cause
 
-pub open_cause : (R : Type 0) (files : FilesView R) (words : List Text) (given : CommandLine) (f : Cnf) → IsCommandLineOf words given
-    → IsFormulaAt R files given.formula.now f → (fault : CommandFault) → IsOpenCause files.may_refuse given.streams fault → IsCause R files words fault
-open_cause R files words given f line at (faults.Usage text) cause = absurd cause
-open_cause R files words given f line at faults.Unread cause = absurd cause
-open_cause R files words given f line at (faults.Refused fault) cause = absurd cause
-open_cause R files words given f line at (faults.NotOpened stream) cause = (given, line, inr (f, at, inl cause))
-open_cause R files words given f line at (faults.Layout fault) cause = absurd cause
-open_cause R files words given f line at (faults.NotStarted stream) cause = absurd cause
-open_cause R files words given f line at faults.Memory cause = tt
-open_cause R files words given f line at faults.Unwritten cause = absurd cause
+assume_cause : (R : Type 0) (files : FilesView R) (words : List Text) (given : CommandLine) (f : Cnf) → IsCommandLineOf words given
+    → IsFormulaAt R files given.formula.now f → (path : Text) → assumed_at given ≡ Some path → (fault : CommandFault) → IsAssumeCause R files f.vars (Some path) fault → IsCause R files words fault
+assume_cause R files words given f line at path same (faults.Usage text) cause = absurd cause
+assume_cause R files words given f line at path same faults.Unread cause = absurd cause
+assume_cause R files words given f line at path same (faults.Refused fault) cause = absurd cause
+assume_cause R files words given f line at path same faults.CubeUnread cause = (given, line, inr (f, at, inl (subst (λ (o : Option Text). IsAssumeCause R files f.vars o faults.CubeUnread) (sym same) cause)))
+assume_cause R files words given f line at path same (faults.CubeRefused fault) cause = (given, line, inr (f, at, inl (subst (λ (o : Option Text). IsAssumeCause R files f.vars o (faults.CubeRefused fault)) (sym same) cause)))
+assume_cause R files words given f line at path same (faults.NotOpened stream) cause = absurd cause
+assume_cause R files words given f line at path same (faults.Layout fault) cause = absurd cause
+assume_cause R files words given f line at path same (faults.NotStarted stream) cause = absurd cause
+assume_cause R files words given f line at path same (faults.Ring stream) cause = absurd cause
+assume_cause R files words given f line at path same faults.Memory cause = tt
+assume_cause R files words given f line at path same faults.Unwritten cause = absurd cause
 
-line_cause : (R : Type 0) (files : FilesView R) (words : List Text) (given : CommandLine) (f : Cnf) → IsCommandLineOf words given
-    → IsFormulaAt R files given.formula.now f → (fault : CommandFault) → IsRunCause given.serial (layout_at given f) fault → IsCause R files words fault
-line_cause R files words given f line at (faults.Usage text) cause = absurd cause
-line_cause R files words given f line at faults.Unread cause = absurd cause
-line_cause R files words given f line at (faults.Refused fault) cause = absurd cause
-line_cause R files words given f line at (faults.NotOpened stream) cause = absurd cause
-line_cause R files words given f line at (faults.Layout fault) cause = (given, line, inr (f, at, inr cause))
-line_cause R files words given f line at (faults.NotStarted stream) cause = (given, line, inr (f, at, inr cause))
-line_cause R files words given f line at faults.Memory cause = tt
-line_cause R files words given f line at faults.Unwritten cause = absurd cause
+pub assumed_cause : (R : Type 0) (files : FilesView R) (words : List Text) (given : CommandLine) (f : Cnf) → IsCommandLineOf words given
+    → IsFormulaAt R files given.formula.now f → (path : Option Text) → assumed_at given ≡ path → (fault : CommandFault) → IsAssumeCause R files f.vars path fault → IsCause R files words fault
+assumed_cause R files words given f line at None same fault cause = absurd cause
+assumed_cause R files words given f line at (Some path) same fault cause = assume_cause R files words given f line at path same fault cause
+
+pub open_cause : (R : Type 0) (files : FilesView R) (words : List Text) (given : CommandLine) (f : Cnf) (cube : CubeValue) → IsCommandLineOf words given
+    → IsFormulaAt R files given.formula.now f → AreAssumed R files f.vars (assumed_at given) cube → (fault : CommandFault) → IsOpenCause files.may_refuse given.streams fault → IsCause R files words fault
+open_cause R files words given f cube line at assumed (faults.Usage text) cause = absurd cause
+open_cause R files words given f cube line at assumed faults.Unread cause = absurd cause
+open_cause R files words given f cube line at assumed (faults.Refused fault) cause = absurd cause
+open_cause R files words given f cube line at assumed faults.CubeUnread cause = absurd cause
+open_cause R files words given f cube line at assumed (faults.CubeRefused fault) cause = absurd cause
+open_cause R files words given f cube line at assumed (faults.NotOpened stream) cause = (given, line, inr (f, at, inr (cube, assumed, inl cause)))
+open_cause R files words given f cube line at assumed (faults.Layout fault) cause = absurd cause
+open_cause R files words given f cube line at assumed (faults.NotStarted stream) cause = absurd cause
+open_cause R files words given f cube line at assumed (faults.Ring stream) cause = absurd cause
+open_cause R files words given f cube line at assumed faults.Memory cause = tt
+open_cause R files words given f cube line at assumed faults.Unwritten cause = absurd cause
+
+line_cause : (R : Type 0) (files : FilesView R) (words : List Text) (given : CommandLine) (f : Cnf) (cube : CubeValue) → IsCommandLineOf words given
+    → IsFormulaAt R files given.formula.now f → AreAssumed R files f.vars (assumed_at given) cube → (fault : CommandFault) → IsRunCause given.serial (layout_at given f) fault → IsCause R files words fault
+line_cause R files words given f cube line at assumed (faults.Usage text) cause = absurd cause
+line_cause R files words given f cube line at assumed faults.Unread cause = absurd cause
+line_cause R files words given f cube line at assumed (faults.Refused fault) cause = absurd cause
+line_cause R files words given f cube line at assumed faults.CubeUnread cause = absurd cause
+line_cause R files words given f cube line at assumed (faults.CubeRefused fault) cause = absurd cause
+line_cause R files words given f cube line at assumed (faults.NotOpened stream) cause = absurd cause
+line_cause R files words given f cube line at assumed (faults.Layout fault) cause = (given, line, inr (f, at, inr (cube, assumed, inr cause)))
+line_cause R files words given f cube line at assumed (faults.NotStarted stream) cause = (given, line, inr (f, at, inr (cube, assumed, inr cause)))
+line_cause R files words given f cube line at assumed (faults.Ring stream) cause = (given, line, inr (f, at, inr (cube, assumed, inr cause)))
+line_cause R files words given f cube line at assumed faults.Memory cause = tt
+line_cause R files words given f cube line at assumed faults.Unwritten cause = absurd cause
 
 -- so a run's cause, by the layout that the run has
-pub run_cause_of : (R : Type 0) (files : FilesView R) (words : List Text) (given : CommandLine) (f : Cnf) (options : OptionsValue) (readers : List R)
-    → IsCommandLineOf words given → IsFormulaAt R files given.formula.now f
+pub run_cause_of : (R : Type 0) (files : FilesView R) (words : List Text) (given : CommandLine) (f : Cnf) (cube : CubeValue) (options : OptionsValue) (readers : List R)
+    → IsCommandLineOf words given → IsFormulaAt R files given.formula.now f → AreAssumed R files f.vars (assumed_at given) cube
     → options ≡ options_of given → map files.reading.left readers ≡ map files.tells given.streams
     → (fault : CommandFault) → IsRunCause given.serial (layout_of options f (length readers)) fault → IsCause R files words fault
-run_cause_of R files words given f options readers line at options_are entries_are fault cause =
+run_cause_of R files words given f cube options readers line at assumed options_are entries_are fault cause =
     let count = same_count _ _ readers given.streams entries_are in
     let moved = subst (λ (p : LayoutValue). IsRunCause given.serial p fault) (same_layout options f given (length readers) options_are count) cause in
-    line_cause R files words given f line at fault moved
+    line_cause R files words given f cube line at assumed fault moved
 
 -- the files refuse the same before and after the formula was read
 pub open_moved : (may later_may : Text → Bool) (paths later_paths : List Text) → later_may ≡ may → later_paths ≡ paths → (fault : CommandFault)

@@ -2,3 +2,6 @@ mod CheckingLemmas
 mod OpeningLemmas
 mod WritingLemmas
 mod ReadingLemmas
+mod WordLemmas
+mod ArgumentLemmas
+mod FileLemmas

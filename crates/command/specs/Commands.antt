@@ -1,7 +1,9 @@
 -- What a whole run of the program comes to (this project's own).
-use Rattle.std.specs.Prelude.{◌≡◌, ◌≢◌, ◌+◌, ◌++◌, ◌⊎◌, ℕ, Bool, true, false, IsTrue, List, map, length, slice_get, Option, Some}
+use Rattle.std.specs.Prelude.{◌≡◌, ◌≢◌, ◌+◌, ◌++◌, ◌⊎◌, ℕ, Bool, true, false, IsTrue, List, [], map, length, slice_get, Option, None, Some, option_map}
 use Rattle.std.specs.Io.KnownBytes.{Appends, Keeps}
+use Rattle.std.specs.Borrow.{Bor}
 use Rattle.std.specs.Option.{ForSome}
+use Rattle.lrup_model.specs.Cube.{CubeValue, IsUnsatisfiableUnder}
 use Rattle.lrup_model.specs.Entailment.{IsUnsatisfiable}
 use Rattle.lrup_model.specs.Event.{History}
 use Rattle.lrup_model.specs.Formula.{Cnf}
@@ -12,13 +14,15 @@ use Rattle.dimacs.specs.FormulaFault.{IsFaultOf as IsFormulaFault}
 use Rattle.dimacs.specs.FormulaText.{IsTextOf}
 use Rattle.dimacs.specs.declared.fault.DimacsFault.TheVariants as formulas
 use Rattle.lrup_text.specs.Reads.{BrokeOff, GaveAll, ReadsOf}
+use Rattle.lrup_text.specs.Cubes.{IsCubeFault, IsCubeText}
+use Rattle.lrup_text.specs.declared.cube.CubeFault.TheVariants as cubes
 use Rattle.stream_check.specs.declared.report.Report.{Report}
 use Rattle.runs.specs.Headline.{AreJudgedIn}
 use Rattle.portfolio.specs.Outcomes.{OptionsValue, layout_of, terms_of, verdict_of}
 use Rattle.portfolio.specs.ReportText.{report_text}
 use Rattle.runs.specs.Streams.{IsOrdered, StandsOnStreams, Stream, Terms}
 use Rattle.portfolio.specs.declared.outcome.Verdict.{Verdict}
-use Rattle.portfolio.specs.declared.outcome.Verdict.TheVariants.{Unsatisfiable, Unknown}
+use Rattle.portfolio.specs.declared.outcome.Verdict.TheVariants.{Unsatisfiable, UnsatisfiableUnder, Unknown}
 use Rattle.command_line.specs.CommandLine.{HaveFault, IsCommandLineOf}
 use Rattle.command_line.specs.declared.words.CommandLine.{CommandLine}
 use Rattle.command.specs.Faults.{status_of, text_of}
@@ -41,9 +45,9 @@ options_of given = record { tries = given.tries; lines = given.lines; room = giv
 abbrev pub layout_at : CommandLine → Cnf → LayoutValue
 layout_at given f = layout_of (options_of given) f (length given.streams)
 
--- what a run of a command line and a formula is checked by
-abbrev pub terms_given : CommandLine → Cnf → Terms
-terms_given given f = terms_of (options_of given) f (length given.streams)
+-- what a run of a command line and a formula is checked by, under a cube
+abbrev pub terms_given : CommandLine → CubeValue → Cnf → Terms
+terms_given given cube f = terms_of (options_of given) cube f (length given.streams)
 
 -- what the reports say of the streams: on one thread they have an order of lines; with a thread for each stream they are judged
 -- by their events of one legal history
@@ -67,6 +71,7 @@ pub record AreChecked (R : Type 0) (reading : ReaderView R) (serial : Bool) (f :
       (AreReported serial f terms reports)
   pub is_verdict : verdict ≡ verdict_of reports
   pub sound : verdict ≡ Unsatisfiable → IsUnsatisfiable f
+  pub sound_under : verdict ≡ UnsatisfiableUnder → IsUnsatisfiableUnder f terms.cube
 
 -- What is known of files: what the file at each path tells, where the device tells it, whether a path may be refused, the readers
 -- that they are opened as, and what an opening and a read do.
@@ -77,6 +82,7 @@ pub record FilesView (R : Type 0) : Type 1 where
   pub opens : Text → R → Type 0
   pub reads : ReadsOf R
 
+-- the record of these
 abbrev pub files_view : {R : Type 0} → (Text → Option (List ℕ)) → (Text → Bool)
     → (R → Option (List ℕ)) → (R → Bool) → (Text → R → Type 0) → ReadsOf R → FilesView R
 files_view tells may_refuse left has_failed opens reads = record {
@@ -103,13 +109,34 @@ NameUnsatisfiable R files words = (given : CommandLine) × (bytes : List ℕ) ×
 abbrev pub IsFormulaAt : (R : Type 0) → FilesView R → Text → Cnf → Type 0
 IsFormulaAt R files path f = (bytes : List ℕ) × WasRead R files path bytes × IsTextOf bytes f
 
+-- the assumed literals of the file at a path, over the variables 1 to vars; without a path there are none
+abbrev pub AreAssumed : (R : Type 0) → FilesView R → ℕ → Option Text → CubeValue → Type 0
+AreAssumed R files vars None cube = cube ≡ []
+AreAssumed R files vars (Some path) cube = (bytes : List ℕ) × WasRead R files path bytes × IsCubeText vars bytes cube
+
+-- the path that is lent, if any
+abbrev pub path_of : Option (Bor Text) → Option Text
+path_of path = option_map (λ p. p.now) path
+
+-- the path of the assumed literals that the words have, if any
+abbrev pub assumed_at : CommandLine → Option Text
+assumed_at given = path_of given.assume
+
+-- What was read of the file at the path of the words' formula is a text of a formula, and what was read of that of the assumed
+-- literals a text of a cube, under which no assignment satisfies the formula.
+abbrev pub NameUnsatisfiableUnder : (R : Type 0) → FilesView R → List Text → Type 0
+NameUnsatisfiableUnder R files words = (given : CommandLine) × (f : Cnf) × (cube : CubeValue) × IsCommandLineOf words given
+    × IsFormulaAt R files given.formula.now f × AreAssumed R files f.vars (assumed_at given) cube × IsUnsatisfiableUnder f cube
+
 -- The reports and the verdict that the words and the files come to.
 pub record IsOutcome (R : Type 0) (files : FilesView R) (words : List Text) (reports : List Report) (verdict : Verdict) : Type 0 where
   pub given : CommandLine
   pub command_line : IsCommandLineOf words given
   pub formula : Cnf
   pub is_formula : IsFormulaAt R files given.formula.now formula
-  pub checked : AreChecked R files.reading given.serial formula (terms_given given formula) (map files.tells given.streams) reports verdict
+  pub cube : CubeValue
+  pub assumed : AreAssumed R files formula.vars (assumed_at given) cube
+  pub checked : AreChecked R files.reading given.serial formula (terms_given given cube formula) (map files.tells given.streams) reports verdict
 
 -- Causes. Nothing shows afterwards that memory ran out or that a thread wasn't started, so these are taken as causes whatever the
 -- files hold.
@@ -133,6 +160,12 @@ pub record WasUnread (R : Type 0) (files : FilesView R) (path : Text) : Type 0 w
   pub left : files.reading.left reader ≡ files.tells path
   pub broken : HasBrokenOff R files.reading files.reads reader
 
+-- why the file at a path wasn't read: it was refused, or its reading failed
+abbrev pub IsFileCause : (R : Type 0) → FilesView R → Text → CommandFault → Type 0
+IsFileCause R files path faults.Unread = IsTrue (files.may_refuse path) ⊎ WasUnread R files path
+IsFileCause R files path faults.Memory = Unit {0}
+IsFileCause R files path fault = ⊥
+
 -- why the formula at a path wasn't read: its file was refused, or its reading failed, or it holds no formula
 abbrev pub IsReadCause : (R : Type 0) → FilesView R → Text → CommandFault → Type 0
 IsReadCause R files path faults.Unread = IsTrue (files.may_refuse path) ⊎ WasUnread R files path
@@ -141,6 +174,16 @@ IsReadCause R files path (faults.Refused fault) =
 IsReadCause R files path faults.Memory = Unit {0}
 IsReadCause R files path fault = ⊥
 
+-- why the assumed literals at a path, over the variables 1 to vars, weren't read: their file was refused, or its reading failed, or
+-- it holds no text of them; without a path there is no cause
+abbrev pub IsAssumeCause : (R : Type 0) → FilesView R → ℕ → Option Text → CommandFault → Type 0
+IsAssumeCause R files vars None fault = ⊥
+IsAssumeCause R files vars (Some path) faults.CubeUnread = IsTrue (files.may_refuse path) ⊎ WasUnread R files path
+IsAssumeCause R files vars (Some path) (faults.CubeRefused fault) =
+    (fault ≢ cubes.Memory) × ((bytes : List ℕ) × WasRead R files path bytes × IsCubeFault vars bytes fault)
+IsAssumeCause R files vars (Some path) faults.Memory = Unit {0}
+IsAssumeCause R files vars (Some path) fault = ⊥
+
 -- why not all of the streams at these paths were opened: the file of one was refused, counted from 1
 abbrev pub IsOpenCause : (Text → Bool) → List Text → CommandFault → Type 0
 IsOpenCause may_refuse paths (faults.NotOpened stream) =
@@ -148,20 +191,25 @@ IsOpenCause may_refuse paths (faults.NotOpened stream) =
 IsOpenCause may_refuse paths faults.Memory = Unit {0}
 IsOpenCause may_refuse paths fault = ⊥
 
--- why streams weren't checked: there is no layout; or there is one, and a thread wasn't started
+-- why streams weren't checked: there is no layout; or there is one, and a thread wasn't started, or what it sent had no end
 abbrev pub IsRunCause : Bool → LayoutValue → CommandFault → Type 0
 IsRunCause serial p (faults.Layout fault) = IsFault p fault
 IsRunCause serial p (faults.NotStarted stream) =
     (serial ≡ false) × IsStream p stream × ((fault : LayoutFault) → IsFault p fault → ⊥)
+IsRunCause serial p (faults.Ring stream) =
+    (serial ≡ false) × IsStream p stream × ((fault : LayoutFault) → IsFault p fault → ⊥)
 IsRunCause serial p faults.Memory = Unit {0}
 IsRunCause serial p fault = ⊥
 
--- the cause of a fault of the formula; or, of a formula that was read, of a fault of the opening of the streams or of the run
+-- the cause of a fault of the formula; or, of a formula that was read, of a fault of the assumed literals; or, of both that were read,
+-- of a fault of the opening of the streams or of the run
 abbrev pub IsCauseAt : (R : Type 0) → FilesView R → CommandLine → CommandFault → Type 0
 IsCauseAt R files given fault =
     IsReadCause R files given.formula.now fault
     ⊎ ((f : Cnf) × IsFormulaAt R files given.formula.now f
-    × (IsOpenCause files.may_refuse given.streams fault ⊎ IsRunCause given.serial (layout_at given f) fault))
+    × (IsAssumeCause R files f.vars (assumed_at given) fault
+    ⊎ ((cube : CubeValue) × AreAssumed R files f.vars (assumed_at given) cube
+    × (IsOpenCause files.may_refuse given.streams fault ⊎ IsRunCause given.serial (layout_at given f) fault))))
 
 -- Why there is no outcome, by the words and the files.
 abbrev pub IsCause : (R : Type 0) → FilesView R → List Text → CommandFault → Type 0
@@ -196,6 +244,7 @@ pub record IsUntouched (sink : SinkChange) : Type 0 where
 
 abbrev pub verdict_status : Verdict → ℕ
 verdict_status Unsatisfiable = 0
+verdict_status UnsatisfiableUnder = 8
 verdict_status Unknown = 3
 
 -- the status where the writing of the report failed, and where it didn't

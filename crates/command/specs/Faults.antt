@@ -8,6 +8,8 @@ use Rattle.dimacs.specs.declared.fault.DimacsFault.TheVariants as formulas
 use Rattle.lrup_model.specs.Layout.{fault_text}
 use Rattle.lrup_model.specs.declared.layout.LayoutFault.{LayoutFault}
 use Rattle.lrup_model.specs.declared.layout.LayoutFault.TheVariants as layouts
+use Rattle.lrup_text.specs.declared.cube.CubeFault.{CubeFault}
+use Rattle.lrup_text.specs.declared.cube.CubeFault.TheVariants as cubes
 use Rattle.portfolio.specs.declared.outcome.RunFault.{RunFault}
 use Rattle.portfolio.specs.declared.outcome.RunFault.TheVariants as runs
 use Rattle.stream_check.specs.Faults.{number_text}
@@ -16,7 +18,7 @@ use Rattle.command.specs.declared.files.OpenFault.TheVariants as opens
 use Rattle.command.specs.declared.fault.CommandFault.{CommandFault}
 use Rattle.command.specs.declared.fault.CommandFault.TheVariants as faults
 
--- want of memory is one fault, wherever it comes
+-- out of memory is one fault, wherever it comes
 abbrev pub of_words : WordsFault → CommandFault
 of_words (words.Usage text) = faults.Usage text
 of_words words.Memory = faults.Memory
@@ -25,14 +27,24 @@ abbrev pub of_formula : DimacsFault → CommandFault
 of_formula formulas.Memory = faults.Memory
 of_formula fault = faults.Refused fault
 
+abbrev pub of_cube : CubeFault → CommandFault
+of_cube cubes.Memory = faults.Memory
+of_cube fault = faults.CubeRefused fault
+
 abbrev pub of_open : OpenFault → CommandFault
 of_open opens.NotOpened = faults.Unread
 of_open opens.Memory = faults.Memory
+
+-- the fault of a cube's file that wasn't read, by the one that the formula's file would have
+abbrev pub of_cube_file : CommandFault → CommandFault
+of_cube_file faults.Unread = faults.CubeUnread
+of_cube_file fault = fault
 
 abbrev pub of_run : RunFault → CommandFault
 of_run (runs.Layout fault) = faults.Layout fault
 of_run runs.Memory = faults.Memory
 of_run (runs.Spawn stream) = faults.NotStarted stream
+of_run (runs.Ring stream) = faults.Ring stream
 
 -- The status.
 abbrev pub layout_status : LayoutFault → ℕ
@@ -45,9 +57,12 @@ abbrev pub status_of : CommandFault → ℕ
 status_of (faults.Usage text) = 2
 status_of faults.Unread = 5
 status_of (faults.Refused fault) = 4
+status_of faults.CubeUnread = 5
+status_of (faults.CubeRefused fault) = 4
 status_of (faults.NotOpened stream) = 5
 status_of (faults.Layout fault) = layout_status fault
 status_of (faults.NotStarted stream) = 6
+status_of (faults.Ring stream) = 6
 status_of faults.Memory = 6
 status_of faults.Unwritten = 7
 
@@ -63,13 +78,22 @@ formula_fault_text (formulas.TooMany line) = codes "formula refused: too many cl
 formula_fault_text formulas.Limit = codes "formula refused: limit"
 formula_fault_text formulas.Memory = codes "out of memory"
 
+abbrev pub cube_fault_text : CubeFault → List ℕ
+cube_fault_text cubes.Spelling = codes "assumptions refused: spelling"
+cube_fault_text cubes.TooLong = codes "assumptions refused: too long"
+cube_fault_text cubes.Range = codes "assumptions refused: variable out of range"
+cube_fault_text cubes.Memory = codes "out of memory"
+
 abbrev pub cause_text : CommandFault → List ℕ
 cause_text (faults.Usage text) = text
 cause_text faults.Unread = codes "cannot read formula"
 cause_text (faults.Refused fault) = formula_fault_text fault
+cause_text faults.CubeUnread = codes "cannot read assumptions"
+cause_text (faults.CubeRefused fault) = cube_fault_text fault
 cause_text (faults.NotOpened stream) = codes "cannot open stream " ++ decimal stream
 cause_text (faults.Layout fault) = fault_text fault
 cause_text (faults.NotStarted stream) = codes "worker " ++ decimal stream ++ codes " not started"
+cause_text (faults.Ring stream) = codes "ring of stream " ++ decimal stream
 cause_text faults.Memory = codes "out of memory"
 cause_text faults.Unwritten = codes "cannot write report"
 

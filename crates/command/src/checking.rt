@@ -1,5 +1,5 @@
 //! From the words to the reports.
-ghost use Rattle.std.specs.Prelude.{◌≡◌, ◌<◌, true, false, IfErr, IfOk, length, map, vec_len};
+ghost use Rattle.std.specs.Prelude.{◌≡◌, ◌<◌, ℕ, List, true, false, IfErr, IfOk, Some, length, map, vec_len};
 ghost use Rattle.std.specs.List.{AllByRecursion};
 ghost use Rattle.std.specs.Option.{ForSome};
 ghost use Rattle.clap.specs.Walk.{texts};
@@ -7,13 +7,15 @@ ghost use Rattle.portfolio.specs.Outcomes.{layout_of, terms_of};
 ghost use Rattle.lrup_text.specs.Reads.{GaveAll};
 ghost use Rattle.command.specs.Commands.{AreChecked, IsCause, IsFailedRead, IsFormulaAt};
 ghost use Rattle.command.specs.Commands.{IsOpenCause, IsOutcome, IsReadCause, IsRunCause};
-ghost use Rattle.command.specs.Commands.{NameUnsatisfiable, files_view};
+ghost use Rattle.command.specs.Commands.{AreAssumed, IsAssumeCause, IsFileCause, NameUnsatisfiable};
+ghost use Rattle.command.specs.Commands.{NameUnsatisfiableUnder, WasRead, files_view, path_of};
+ghost use Rattle.command.specs.Faults.{of_cube_file};
 
 use crate::fault::CommandFault;
 use crate::files::{Files, OpenFault};
 use command_line::read_words;
-use lrup_model::{Formula, Id};
-use lrup_text::Source;
+use lrup_model::{Cube, Formula, Id};
+use lrup_text::{Source, read_cube};
 use portfolio::{Options, Outcome, Pause, SerialOutcome, Verdict, run, run_serial};
 use std::alloc::{AllocError, Global};
 use std::sync::Wait;
@@ -21,7 +23,7 @@ use std::thread::Threads;
 use std::time::Clock;
 use stream_check::{Gate, Report};
 
-/// How many bytes of a formula's file are read at a time, at most.
+/// How many bytes of a file are read at a time, at most.
 const PIECE: usize = 1 << 16;
 
 /// What a run found.
@@ -33,7 +35,7 @@ pub struct Found {
     pub verdict: Verdict,
 }
 
-/// Reads the words, the formula and the streams that they name, and checks the streams. It blocks while a file does.
+/// Reads the words, the formula, the assumed literals and the streams that they name, and checks the streams. It blocks while a file does.
 pub fn check_words<T: Threads + Wait + Sync, C: Clock + Sync, F: Files>(
     threads: &T,
     clock: &C,
@@ -49,12 +51,17 @@ pub fn check_words<T: Threads + Wait + Sync, C: Clock + Sync, F: Files>(
         F.Input.Source.left F.Input.Source.has_failed (F.opens files.old) F.Input.Source.reads in
         IfOk result (λ found. found.verdict ≡ Verdict.Unsatisfiable
         → NameUnsatisfiable _ view (texts words.now)) }
+    ensures sound_under { let view = files_view (F.tells files.old) (F.may_refuse files.old)
+        F.Input.Source.left F.Input.Source.has_failed (F.opens files.old) F.Input.Source.reads in
+        IfOk result (λ found. found.verdict ≡ Verdict.UnsatisfiableUnder
+        → NameUnsatisfiableUnder _ view (texts words.now)) }
     ensures cause { let view = files_view (F.tells files.old) (F.may_refuse files.old)
         F.Input.Source.left F.Input.Source.has_failed (F.opens files.old) F.Input.Source.reads in
         IfErr result (IsCause _ view (texts words.now)) }
 {
     let line = read_words(alloc, words)?;
     let formula = read_formula(threads, alloc, files, line.formula)?;
+    let cube = read_assumed(threads, alloc, files, line.assume, &formula)?;
     let options = Options::new(line.tries, line.lines, line.room).unwrap();
     let readers = open_streams(alloc, files, line.streams.as_slice())?;
     check_streams(
@@ -62,6 +69,7 @@ pub fn check_words<T: Threads + Wait + Sync, C: Clock + Sync, F: Files>(
         clock,
         alloc,
         &formula,
+        &cube,
         options,
         line.serial,
         readers,
@@ -83,10 +91,93 @@ fn read_formula<W: Wait, F: Files>(
         IfErr result (IsReadCause _ view path.now) }
     ensures stays { F.tells files.new ≡ F.tells files.old }
     ensures stays_refused { F.may_refuse files.new ≡ F.may_refuse files.old }
+    ensures stays_opens { (path : List ℕ) (input : F.Input) → F.opens files.new path input
+        → F.opens files.old path input }
+{
+    let bytes = read_file(wait, alloc, files, path)?;
+    Ok(dimacs::parse(alloc, &bytes)?)
+}
+
+/// Opens, reads and parses the file of the assumed literals, over the formula's variables. Without a path there are none.
+fn read_assumed<W: Wait, F: Files>(
+    wait: &W,
+    alloc: Global,
+    files: &mut F,
+    path: Option<&str>,
+    formula: &Formula,
+) -> Result<Cube, CommandFault>
+    ensures cube { let view = files_view (F.tells files.old) (F.may_refuse files.old)
+        F.Input.Source.left F.Input.Source.has_failed (F.opens files.old) F.Input.Source.reads in
+        IfOk result (AreAssumed _ view formula.now.vars (path_of path.entry)) }
+    ensures cause { let view = files_view (F.tells files.old) (F.may_refuse files.old)
+        F.Input.Source.left F.Input.Source.has_failed (F.opens files.old) F.Input.Source.reads in
+        IfErr result (IsAssumeCause _ view formula.now.vars (path_of path.entry)) }
+    ensures stays { F.tells files.new ≡ F.tells files.old }
+    ensures stays_refused { F.may_refuse files.new ≡ F.may_refuse files.old }
+    ensures stays_opens { (path : List ℕ) (input : F.Input) → F.opens files.new path input
+        → F.opens files.old path input }
+{
+    match path {
+        None => Ok(Cube::empty(alloc)),
+        Some(path) => read_cube_at(wait, alloc, files, path, formula),
+    }
+}
+
+/// Opens, reads and parses a cube's file.
+fn read_cube_at<W: Wait, F: Files>(
+    wait: &W,
+    alloc: Global,
+    files: &mut F,
+    path: &str,
+    formula: &Formula,
+) -> Result<Cube, CommandFault>
+    ensures cube { let view = files_view (F.tells files.old) (F.may_refuse files.old)
+        F.Input.Source.left F.Input.Source.has_failed (F.opens files.old) F.Input.Source.reads in
+        IfOk result (AreAssumed _ view formula.now.vars (Some path.now)) }
+    ensures cause { let view = files_view (F.tells files.old) (F.may_refuse files.old)
+        F.Input.Source.left F.Input.Source.has_failed (F.opens files.old) F.Input.Source.reads in
+        IfErr result (IsAssumeCause _ view formula.now.vars (Some path.now)) }
+    ensures stays { F.tells files.new ≡ F.tells files.old }
+    ensures stays_refused { F.may_refuse files.new ≡ F.may_refuse files.old }
+    ensures stays_opens { (path : List ℕ) (input : F.Input) → F.opens files.new path input
+        → F.opens files.old path input }
+{
+    match read_file(wait, alloc, files, path) {
+        Ok(bytes) => Ok(read_cube(alloc, &bytes, formula.vars())?),
+        Err(fault) => Err(of_cube_file(fault)),
+    }
+}
+
+/// The fault of a cube's file, by the one that the formula's file would have.
+fn of_cube_file(fault: CommandFault) -> CommandFault
+    ensures { result ≡ of_cube_file fault }
+{
+    match fault {
+        CommandFault::Unread => CommandFault::CubeUnread,
+        other => other,
+    }
+}
+
+/// Opens a file and reads it to its end.
+fn read_file<W: Wait, F: Files>(
+    wait: &W,
+    alloc: Global,
+    files: &mut F,
+    path: &str,
+) -> Result<Vec<u8>, CommandFault>
+    ensures bytes { let view = files_view (F.tells files.old) (F.may_refuse files.old)
+        F.Input.Source.left F.Input.Source.has_failed (F.opens files.old) F.Input.Source.reads in
+        IfOk result (λ bytes. WasRead _ view path.now bytes.items) }
+    ensures cause { let view = files_view (F.tells files.old) (F.may_refuse files.old)
+        F.Input.Source.left F.Input.Source.has_failed (F.opens files.old) F.Input.Source.reads in
+        IfErr result (IsFileCause _ view path.now) }
+    ensures stays { F.tells files.new ≡ F.tells files.old }
+    ensures stays_refused { F.may_refuse files.new ≡ F.may_refuse files.old }
+    ensures stays_opens { (path : List ℕ) (input : F.Input) → F.opens files.new path input
+        → F.opens files.old path input }
 {
     let mut source = files.open(path)?;
-    let bytes = read_all(wait, alloc, &mut source, PIECE)?;
-    Ok(dimacs::parse(alloc, &bytes)?)
+    read_all(wait, alloc, &mut source, PIECE)
 }
 
 /// Reads a source to its end, at most so many bytes at a time.
@@ -147,21 +238,22 @@ fn check_streams<T: Threads + Wait + Sync, C: Clock + Sync, R: Source + Send + D
     clock: &C,
     alloc: Global,
     formula: &Formula,
+    cube: &Cube,
     options: Options,
     serial: bool,
     readers: Vec<R>,
 ) -> Result<Found, CommandFault>
     requires running { AllByRecursion (λ r. R.has_failed r ≡ false) readers.items }
-    ensures checked { let terms = terms_of options formula.now (length readers.items) in
+    ensures checked { let terms = terms_of options cube.now formula.now (length readers.items) in
         IfOk result (λ found. AreChecked _ (record { left = R.left; has_failed = R.has_failed })
         serial formula.now terms (map R.left readers.items) found.reports.items found.verdict) }
     ensures cause { IfErr result
         (IsRunCause serial (layout_of options formula.now (length readers.items))) }
 {
     if serial {
-        check_serially(threads, alloc, formula, options, readers)
+        check_serially(threads, alloc, formula, cube, options, readers)
     } else {
-        check_in_threads(threads, clock, alloc, formula, options, readers)
+        check_in_threads(threads, clock, alloc, formula, cube, options, readers)
     }
 }
 
@@ -170,18 +262,19 @@ fn check_serially<W: Wait, R: Source + Drop>(
     wait: &W,
     alloc: Global,
     formula: &Formula,
+    cube: &Cube,
     options: Options,
     readers: Vec<R>,
 ) -> Result<Found, CommandFault>
     requires running { AllByRecursion (λ r. R.has_failed r ≡ false) readers.items }
-    ensures checked { let terms = terms_of options formula.now (length readers.items) in
+    ensures checked { let terms = terms_of options cube.now formula.now (length readers.items) in
         IfOk result (λ found. AreChecked _ (record { left = R.left; has_failed = R.has_failed })
         true formula.now terms (map R.left readers.items) found.reports.items found.verdict) }
     ensures cause { IfErr result
         (IsRunCause true (layout_of options formula.now (length readers.items))) }
 {
     let gates = vec![in alloc; NoPause; readers.len()]?;
-    let outcome = run_serial(wait, alloc, formula, options, readers, gates)?;
+    let outcome = run_serial(wait, alloc, formula, cube, options, readers, gates)?;
     let SerialOutcome {
         reports,
         verdict,
@@ -196,18 +289,19 @@ fn check_in_threads<T: Threads + Wait + Sync, C: Clock + Sync, R: Source + Send 
     clock: &C,
     alloc: Global,
     formula: &Formula,
+    cube: &Cube,
     options: Options,
     readers: Vec<R>,
 ) -> Result<Found, CommandFault>
     requires running { AllByRecursion (λ r. R.has_failed r ≡ false) readers.items }
-    ensures checked { let terms = terms_of options formula.now (length readers.items) in
+    ensures checked { let terms = terms_of options cube.now formula.now (length readers.items) in
         IfOk result (λ found. AreChecked _ (record { left = R.left; has_failed = R.has_failed })
         false formula.now terms (map R.left readers.items) found.reports.items found.verdict) }
     ensures cause { IfErr result
         (IsRunCause false (layout_of options formula.now (length readers.items))) }
 {
     let gates = pauses(alloc, clock, readers.len())?;
-    let outcome = run(threads, alloc, formula, options, readers, gates)?;
+    let outcome = run(threads, alloc, formula, cube, options, readers, gates)?;
     let Outcome {
         reports,
         verdict,

@@ -2,7 +2,7 @@
 ghost use Rattle.std.specs.Prelude.{◌≡◌, [], Some, false, is_err};
 ghost use Rattle.lrup_text.specs.Writing.{PutsAll, WritesText};
 ghost use Rattle.lrup_model.specs.Layout.{fault_text as layout_text};
-ghost use Rattle.command.specs.Faults.{cause_bytes, cause_text, formula_fault_text, line_of};
+ghost use Rattle.command.specs.Faults.{cause_bytes, cause_text, cube_fault_text, formula_fault_text, line_of};
 ghost use Rattle.command.specs.Faults.{status_of, text_of};
 ghost use Rattle.stream_check.specs.Faults.{number_text};
 
@@ -10,7 +10,7 @@ use crate::files::OpenFault;
 use command_line::{UsageText, WordsFault};
 use dimacs::DimacsFault;
 use lrup_model::LayoutFault;
-use lrup_text::{ReadFault, Sink, WriteBuffer, WriteFault, write_all};
+use lrup_text::{CubeFault, ReadFault, Sink, WriteBuffer, WriteFault, write_all};
 use portfolio::RunFault;
 use std::alloc::AllocError;
 
@@ -23,12 +23,18 @@ pub enum CommandFault {
     Unread,
     /// The formula's file is no formula; never `DimacsFault::Memory`.
     Refused(DimacsFault),
+    /// The file of the assumed literals wasn't opened, or not read to its end.
+    CubeUnread,
+    /// The file of the assumed literals is no text of them; never `CubeFault::Memory`.
+    CubeRefused(CubeFault),
     /// The file of this stream, from 1 on, wasn't opened.
     NotOpened(u64),
     /// There is no layout for this formula, the options and so many streams.
     Layout(LayoutFault),
-    /// The worker of this stream, from 1 on, couldn't be started.
+    /// A thread of this stream, from 1 on, couldn't be started.
     NotStarted(u64),
+    /// The thread that checks this stream, from 1 on, met no end of what its reading thread sent.
+    Ring(u64),
     /// Out of memory.
     Memory,
     /// The report wasn't written to its end.
@@ -63,7 +69,7 @@ impl From<OpenFault> for CommandFault {
 
     ghost from_gives = { λ opening fault. fault ≡ of_open opening };
 
-    /// Of the formula's file.
+    /// Of the formula's file; `of_cube_file` makes the cube's of it.
     fn from(fault: OpenFault) -> CommandFault {
         match fault {
             OpenFault::NotOpened => CommandFault::Unread,
@@ -77,7 +83,7 @@ impl From<ReadFault> for CommandFault {
 
     ghost from_gives = { λ _ fault. fault ≡ Unread };
 
-    /// Of the formula's file.
+    /// Of the formula's file; `of_cube_file` makes the cube's of it.
     fn from(_fault: ReadFault) -> CommandFault {
         CommandFault::Unread
     }
@@ -96,6 +102,19 @@ impl From<DimacsFault> for CommandFault {
     }
 }
 
+impl From<CubeFault> for CommandFault {
+    ghost use Rattle.command.specs.Faults.{of_cube};
+
+    ghost from_gives = { λ refused fault. fault ≡ of_cube refused };
+
+    fn from(fault: CubeFault) -> CommandFault {
+        match fault {
+            CubeFault::Memory => CommandFault::Memory,
+            _ => CommandFault::CubeRefused(fault),
+        }
+    }
+}
+
 impl From<RunFault> for CommandFault {
     ghost use Rattle.command.specs.Faults.{of_run};
 
@@ -106,6 +125,7 @@ impl From<RunFault> for CommandFault {
             RunFault::Layout(fault) => CommandFault::Layout(fault),
             RunFault::Memory => CommandFault::Memory,
             RunFault::Spawn(stream) => CommandFault::NotStarted(stream),
+            RunFault::Ring(stream) => CommandFault::Ring(stream),
         }
     }
 }
@@ -118,9 +138,9 @@ impl CommandFault {
         match self {
             CommandFault::Usage(_)
             | CommandFault::Layout(LayoutFault::BadStreamCount | LayoutFault::RowTooLong) => 2,
-            CommandFault::Refused(_) | CommandFault::Layout(_) => 4,
-            CommandFault::Unread | CommandFault::NotOpened(_) => 5,
-            CommandFault::NotStarted(_) | CommandFault::Memory => 6,
+            CommandFault::Refused(_) | CommandFault::CubeRefused(_) | CommandFault::Layout(_) => 4,
+            CommandFault::Unread | CommandFault::CubeUnread | CommandFault::NotOpened(_) => 5,
+            CommandFault::NotStarted(_) | CommandFault::Ring(_) | CommandFault::Memory => 6,
             CommandFault::Unwritten => 7,
         }
     }
@@ -147,12 +167,15 @@ impl CommandFault {
             CommandFault::Usage(text) => Cause::plain(text.as_str().as_bytes()),
             CommandFault::Unread => Cause::plain(b"cannot read formula"),
             CommandFault::Refused(fault) => formula_cause(*fault),
+            CommandFault::CubeUnread => Cause::plain(b"cannot read assumptions"),
+            CommandFault::CubeRefused(fault) => cube_cause(*fault),
             CommandFault::NotOpened(stream) => Cause::numbered(b"cannot open stream ", *stream),
             CommandFault::Layout(fault) => layout_cause(*fault),
             CommandFault::NotStarted(stream) => Cause {
                 rest: b" not started",
                 ..Cause::numbered(b"worker ", *stream)
             },
+            CommandFault::Ring(stream) => Cause::numbered(b"ring of stream ", *stream),
             CommandFault::Memory => Cause::plain(b"out of memory"),
             CommandFault::Unwritten => Cause::plain(b"cannot write report"),
         }
@@ -211,6 +234,18 @@ fn formula_cause(fault: DimacsFault) -> Cause<'static>
         }
         DimacsFault::Limit => Cause::plain(b"formula refused: limit"),
         DimacsFault::Memory => Cause::plain(b"out of memory"),
+    }
+}
+
+/// Why the assumed literals were refused.
+fn cube_cause(fault: CubeFault) -> Cause<'static>
+    ensures { cause_bytes result.text.now result.number result.rest.now ≡ cube_fault_text fault }
+{
+    match fault {
+        CubeFault::Spelling => Cause::plain(b"assumptions refused: spelling"),
+        CubeFault::TooLong => Cause::plain(b"assumptions refused: too long"),
+        CubeFault::Range => Cause::plain(b"assumptions refused: variable out of range"),
+        CubeFault::Memory => Cause::plain(b"out of memory"),
     }
 }
 

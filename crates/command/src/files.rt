@@ -1,7 +1,8 @@
-//! Where a formula and its streams come from.
+//! Where a formula, the assumed literals and the streams come from.
 ghost use Rattle.std.specs.Prelude.{◌≡◌, ℕ, Bool, List, Option, Err, IfOk, IsTrue, false};
 
 use lrup_text::Source;
+use std::io;
 use thiserror::Error;
 
 /// Why a file wasn't opened.
@@ -13,6 +14,21 @@ pub enum OpenFault {
     /// Out of memory.
     #[error("out of memory")]
     Memory,
+}
+
+impl From<io::Error> for OpenFault {
+    ghost use Rattle.std.specs.IoError.{error_kind};
+    ghost use Rattle.command.specs.Arguments.{of_kind};
+
+    ghost from_gives = { λ error fault. fault ≡ of_kind (error_kind error) };
+
+    /// Out of memory where the system says so, and not opened for any other error.
+    fn from(error: io::Error) -> OpenFault {
+        match error.kind() {
+            io::ErrorKind::OutOfMemory => OpenFault::Memory,
+            _ => OpenFault::NotOpened,
+        }
+    }
 }
 
 /// Files that paths name.
@@ -27,7 +43,8 @@ pub trait Files {
     /// Whether the opening of a path may fail for another cause than memory.
     ghost may_refuse: { Self → List ℕ → Bool };
 
-    /// What an opening does: the files before it, the path, and the file that is open then.
+    /// What an opening does: the files before it, the path, and the file that is open then. What a later opening does, one before it
+    /// could do.
     ghost opens: { Self → List ℕ → Self.Input → Type 0 } = { λ _ _ _. Unit {0} };
 
     /// Opens the file at a path, which is read from its beginning.
@@ -38,5 +55,7 @@ pub trait Files {
         ensures opens { IfOk result (opens self.old path.now) }
         ensures refused { result ≡ Err OpenFault.NotOpened → IsTrue (may_refuse self.old path.now) }
         ensures stays { tells self.new ≡ tells self.old }
-        ensures stays_refused { may_refuse self.new ≡ may_refuse self.old };
+        ensures stays_refused { may_refuse self.new ≡ may_refuse self.old }
+        ensures stays_opens { (path : List ℕ) (input : Self.Input) → opens self.new path input
+            → opens self.old path input };
 }

@@ -1,10 +1,12 @@
 //! The whole run of `lrupd` over the files, sinks, clock and threads that a program hands in.
 #![tactic(auto)]
 
+mod arguments;
 mod checking;
 mod fault;
 mod files;
 mod program;
 
+pub use arguments::command_with_arguments;
 pub use files::{Files, OpenFault};
 pub use program::command;

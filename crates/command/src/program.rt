@@ -3,7 +3,7 @@ ghost use Rattle.std.specs.Prelude.{◌≡◌, ◌↔◌, ◌⊎◌, IsTrue, fal
 ghost use Rattle.clap.specs.Walk.{texts};
 ghost use Rattle.portfolio.specs.ReportText.{report_text};
 ghost use Rattle.command_line.specs.CommandLine.{HaveFault};
-ghost use Rattle.command.specs.Commands.{EndsWithFault, EndsWithReport, NameUnsatisfiable, SaysOfReport, files_view};
+ghost use Rattle.command.specs.Commands.{EndsWithFault, EndsWithReport, NameUnsatisfiable, NameUnsatisfiableUnder, SaysOfReport, files_view};
 ghost use Rattle.command.specs.Commands.{Takes, change, report_status};
 ghost use Rattle.command.specs.Faults.{status_of, text_of};
 
@@ -18,7 +18,8 @@ use std::thread::Threads;
 use std::time::Clock;
 
 /// Runs `lrupd` with the words after the program's name, and gives the status that it ends with. In this order: the words are
-/// read, the formula's file is read and parsed, the streams are opened and checked, and the report goes to `out`. Where there is no
+/// read, the formula's file is read and parsed, and so is that of the assumed literals, the streams are opened and checked, and the
+/// report goes to `out`. Where there is no
 /// report, `out` gets nothing, and `err` the cause. Where the report can't be written, `out` has a beginning of it, and `err` says so.
 /// It blocks while a file does.
 ///
@@ -27,10 +28,11 @@ use std::time::Clock;
 /// | 0 | the report says `s UNSATISFIABLE` |
 /// | 2 | the words have a mistake or ask for help; too many streams; the row would be too long |
 /// | 3 | the report says `s UNKNOWN` |
-/// | 4 | the formula was refused for another cause than memory |
-/// | 5 | the formula's file wasn't opened or read; a stream's file wasn't opened |
+/// | 4 | the formula or the assumptions were refused for another cause than memory |
+/// | 5 | the file of the formula or of the assumptions wasn't opened or read; a stream's file wasn't opened |
 /// | 6 | out of memory, outside a report; a worker couldn't be started |
 /// | 7 | the report couldn't be written |
+/// | 8 | the report says `s UNSATISFIABLE UNDER ASSUMPTIONS` |
 pub fn command<T: Threads + Wait + Sync, C: Clock + Sync, F: Files, O: Sink, E: Sink>(
     threads: &T,
     clock: &C,
@@ -46,6 +48,10 @@ pub fn command<T: Threads + Wait + Sync, C: Clock + Sync, F: Files, O: Sink, E: 
     ensures sound { let view = files_view (F.tells files.old) (F.may_refuse files.old)
         F.Input.Source.left F.Input.Source.has_failed (F.opens files.old) F.Input.Source.reads in
         result ≡ 0 → NameUnsatisfiable _ view (texts words.now) }
+    // With status 8 no assignment makes it and every literal of the assumed ones' file true.
+    ensures sound_under { let view = files_view (F.tells files.old) (F.may_refuse files.old)
+        F.Input.Source.left F.Input.Source.has_failed (F.opens files.old) F.Input.Source.reads in
+        result ≡ 8 → NameUnsatisfiableUnder _ view (texts words.now) }
     // A report of what the words and the files come to, or none and the cause; what goes out; and the status.
     ensures ends { let view = files_view (F.tells files.old) (F.may_refuse files.old)
         F.Input.Source.left F.Input.Source.has_failed (F.opens files.old) F.Input.Source.reads in
@@ -77,6 +83,7 @@ fn report<O: Sink, E: Sink>(found: &Found, out: &mut O, err: &mut E) -> u8
     match write_report(&found.reports, found.verdict, out) {
         Ok(()) => match found.verdict {
             Verdict::Unsatisfiable => 0,
+            Verdict::UnsatisfiableUnder => 8,
             Verdict::Unknown => 3,
         },
         Err(WriteFault) => say(&CommandFault::Unwritten, err),
@@ -84,7 +91,7 @@ fn report<O: Sink, E: Sink>(found: &Found, out: &mut O, err: &mut E) -> u8
 }
 
 /// Says why there is no report, or not all of it, and gives the status, whether that could be written or not.
-fn say<E: Sink>(fault: &CommandFault, err: &mut E) -> u8
+pub fn say<E: Sink>(fault: &CommandFault, err: &mut E) -> u8
     requires err { E.has_failed err.old ≡ false }
     ensures said { Takes (change (E.written err.old) (E.written err.new) (E.has_failed err.new))
         (text_of fault.now) }

@@ -1,7 +1,7 @@
 -- The walk over words of which none begins with a hyphen.
-use Rattle.std.proofs.Common.{◌≡◌, ◌∙◌, ◌<◌, ◌^◌, ap, sym, refl, arith, ℕ, Bool, true, false, not, cond, List, [], ◌∷◌, ◌++◌, length, Some, None, codes, is_some}
+use Rattle.std.proofs.Common.{◌≡◌, ◌∙◌, ◌<◌, ◌^◌, ap, sym, refl, arith, ℕ, Bool, true, false, not, cond, List, [], ◌∷◌, ◌++◌, length, Option, Some, None, codes, is_some}
 use Rattle.std.specs.Option.{option_map_or}
-use Rattle.std.specs.Prelude.{◌==◌, unwrap_or}
+use Rattle.std.specs.Prelude.{◌==◌, option_map, unwrap_or}
 use Rattle.std.specs.List.{fold, list_all}
 use Rattle.std.proofs.Common.{append-nil, append_assoc, le-ltb, nat_lt}
 use Rattle.std.proofs.lemmas.Bool.{ne_eqb}
@@ -241,6 +241,10 @@ plain_good formula first rest plain all few =
 value_of : {A : Type 0} (a b : A) → Some a ≡ Some b → a ≡ b
 value_of a b e = ap (λ o. unwrap_or o a) e
 
+no_path : {A B : Type 0} (f : A → B) (o : Option A) → option_map f o ≡ None → o ≡ None
+no_path f None none = refl
+no_path f (Some x) none = absurd (let no : Some (f x) ≡ None = none in cc)
+
 defaults : (formula first : Text) (rest : List Text) (rows : List Row) → rows ≡ formula_row formula ∷ stream_row (first ∷ rest) ∷ serial_row ∷ []
     → (given : CommandLine) → IsSaidBy rows given → HasDefaults formula (first ∷ rest) given
 defaults formula first rest rows are given said = record {
@@ -249,6 +253,7 @@ defaults formula first rest rows are given said = record {
   tries = said.tries ∙ ap (number_of (codes "tries") 1000) are;
   lines = said.lines ∙ ap (number_of (codes "lines") 65536) are;
   room = said.room ∙ ap (number_of (codes "room") 1048576) are;
+  assume = no_path (λ path. path.now) given.assume (said.assume ∙ ap (first_of (codes "assume")) are);
   serial = said.serial ∙ ap (is_set (codes "serial")) are;
 }
 

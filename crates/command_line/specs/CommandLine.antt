@@ -1,5 +1,5 @@
 -- The command line of `lrupd`: what `clap` is told of it, and what it finds in the words.
-use Rattle.std.specs.Prelude.{◌≡◌, ◌≢◌, ◌<◌, ◌≤◌, ⊤, ℕ, Bool, true, false, List, [], ◌∷◌, Some, codes, length}
+use Rattle.std.specs.Prelude.{◌≡◌, ◌≢◌, ◌<◌, ◌≤◌, ⊤, ℕ, Bool, true, false, List, [], ◌∷◌, Some, codes, length, option_map}
 use Rattle.std.specs.Option.{option_map_or}
 use Rattle.std.specs.Str.{bytes_eq}
 use Rattle.std.specs.Str.Parse.{digits_value, without_leading_plus}
@@ -31,6 +31,13 @@ number_rule name most = record (new_rule name) {
   parser = Some (parser.Unsigned 0 most);
 }
 
+-- the option `--assume FILE`
+abbrev pub assume_rule : Rule
+assume_rule = record (new_rule (codes "assume")) {
+  long = Some (codes "assume");
+  value_names = 1;
+}
+
 -- the flag `--serial`
 abbrev pub serial_rule : Rule
 serial_rule = record (new_rule (codes "serial")) {
@@ -55,7 +62,7 @@ abbrev pub rules : List Rule
 rules = number_rule (codes "tries") max_tries
     ∷ number_rule (codes "lines") max_lines
     ∷ number_rule (codes "room") max_room
-    ∷ serial_rule ∷ formula_rule ∷ stream_rule ∷ []
+    ∷ assume_rule ∷ serial_rule ∷ formula_rule ∷ stream_rule ∷ []
 
 -- the command, with no argument and no subcommand; its words don't begin with the program's name
 abbrev pub without_arguments : App
@@ -89,6 +96,7 @@ pub record IsSaidBy (rows : List Row) (given : CommandLine) : Type 0 where
   pub few_lines : given.lines ≤ max_lines
   pub room : given.room ≡ number_of (codes "room") 1048576 rows
   pub small_room : given.room ≤ max_room
+  pub assume : option_map (λ path. path.now) given.assume ≡ first_of (codes "assume") rows
   pub serial : given.serial ≡ is_set (codes "serial") rows
   pub formula : first_of (codes "FORMULA") rows ≡ Some given.formula.now
   pub streams : all_of (codes "STREAM") rows ≡ Some given.streams

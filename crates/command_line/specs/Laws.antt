@@ -1,5 +1,5 @@
 -- What the words say in the plainest case, as a law over all texts.
-use Rattle.std.specs.Prelude.{◌≡◌, ◌==◌, ◌<◌, ◌^◌, Bool, true, false, not, List, [], ◌∷◌, length}
+use Rattle.std.specs.Prelude.{◌≡◌, ◌==◌, ◌<◌, ◌^◌, Bool, true, false, not, List, [], ◌∷◌, None, length}
 use Rattle.std.specs.List.{list_all}
 use Rattle.clap.specs.Words.{Text, fault_of}
 use Rattle.command_line.specs.CommandLine.{IsCommandLineOf, lrupd}
@@ -17,6 +17,7 @@ pub record HasDefaults (first : Text) (rest : List Text) (given : CommandLine) :
   pub tries : given.tries ≡ 1000
   pub lines : given.lines ≡ 65536
   pub room : given.room ≡ 1048576
+  pub assume : given.assume ≡ None
   pub serial : given.serial ≡ false
 
 -- Words of which none begins with a hyphen are a formula and its streams in order, whatever they

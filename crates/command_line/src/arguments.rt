@@ -1,7 +1,7 @@
 //! What `clap` is told of the command line.
 ghost use Rattle.std.specs.Prelude.{◌≡◌, IfOk, false};
 ghost use Rattle.clap.specs.Words.{app_of, rule_of};
-ghost use Rattle.command_line.specs.CommandLine.{formula_rule, lrupd, number_rule, serial_rule};
+ghost use Rattle.command_line.specs.CommandLine.{assume_rule, formula_rule, lrupd, number_rule, serial_rule};
 ghost use Rattle.command_line.specs.CommandLine.{stream_rule, without_arguments};
 ghost use Rattle.command_line.specs.Matches.{with_numbers};
 
@@ -24,6 +24,7 @@ pub fn program<'a>(alloc: Global) -> Result<Command<'a>, AllocError>
     ensures { IfOk result (λ program. app_of program ≡ lrupd) }
 {
     let command = with_numbers(alloc)?;
+    let command = command.arg(assume(alloc))?;
     let command = command.arg(serial(alloc))?;
     let command = command.arg(formula(alloc))?;
     command.arg(stream(alloc))
@@ -60,6 +61,17 @@ fn number<'a>(alloc: Global, name: &'a str, most: u64, help: &'a str) -> Arg<'a>
         .value_name("N")
         .value_parser(ValueParser::Unsigned(0, most))
         .help(help)
+}
+
+/// The option `--assume FILE`.
+fn assume<'a>(alloc: Global) -> Arg<'a>
+    ensures rule { rule_of result ≡ assume_rule }
+    ensures local { result.global ≡ false }
+{
+    Arg::new(alloc, "assume")
+        .long("assume")
+        .value_name("FILE")
+        .help(help::ASSUME)
 }
 
 /// The flag `--serial`.

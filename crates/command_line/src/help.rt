@@ -13,9 +13,11 @@ pub const FORMULA: &str = "The formula, a file in DIMACS CNF.";
 pub const STREAM: &str = "\
 The proofs, 1 to 64 files or pipes, one from each solver, in LRAT text
 without RAT steps: a line 'id literals 0 hints 0' derives a clause, a
-line 'lead d ids 0' deletes clauses. With M clauses in the formula and N
-streams, the first stream derives the clauses M+1, M+1+N, M+1+2N and
-so on, the second M+2, M+2+N and so on, each in rising order.";
+line 'lead d ids 0' deletes clauses, and a line 'id i literals 0' says
+that a clause of another stream or of the formula was taken over.
+With M clauses in the formula and N streams, the first stream derives
+the clauses M+1, M+1+N, M+1+2N and so on, the second M+2, M+2+N and
+so on, each in rising order.";
 
 /// Of `--tries`.
 pub const TRIES: &str = "\
@@ -37,10 +39,16 @@ deleted ones too. Each takes 8 bytes in each stream, 4 with --serial.
 0 to 268,435,456, default 1,048,576. Raise it for streams with more or
 longer clauses, or where a report says 'no room'.";
 
+/// Of `--assume`.
+pub const ASSUME: &str = "\
+A file of assumed literals, in one line that ends with 0: '-2 5 0'. Where a
+checked line derived a clause whose literals are all false under them, and
+none the empty clause, the answer is 's UNSATISFIABLE UNDER ASSUMPTIONS'.";
+
 /// Of `--serial`.
 pub const SERIAL: &str = "\
 Check all streams on one thread, a line of each by turns, so that runs
-over the same files are alike. Without it each stream has its thread.";
+over the same files are alike. Without it each stream has its threads.";
 
 /// What follows the options.
 pub const EXAMPLE: &str = "\

@@ -1,5 +1,5 @@
 //! The words of the command line.
-ghost use Rattle.std.specs.Prelude.{◌≡◌, IfErr, IfOk, IsSome, Some, codes};
+ghost use Rattle.std.specs.Prelude.{◌≡◌, IfErr, IfOk, IsSome, Some, codes, option_map};
 ghost use Rattle.clap.specs.Walk.{rows_of, texts};
 ghost use Rattle.clap.specs.Words.{FailsBy, all_of, fault_of, first_of, found_of};
 ghost use Rattle.command_line.specs.CommandLine.{IsCommandLineOf, IsFaultOf, IsSaidBy, is_set, lrupd, number_of};
@@ -22,6 +22,8 @@ pub struct CommandLine<'a> {
     pub lines: u64,
     /// The literals of each stream's own clauses, at most 268,435,456.
     pub room: u64,
+    /// The path of the assumed literals, if any.
+    pub assume: Option<&'a str>,
     /// Whether one thread checks all streams by turns.
     pub serial: bool,
     /// The path of the formula.
@@ -143,6 +145,7 @@ fn command_line<'a>(alloc: Global, matches: &ArgMatches<'a>) -> Result<CommandLi
         tries: number_of(matches, "tries", 1_000),
         lines: number_of(matches, "lines", 65_536),
         room: number_of(matches, "room", 1_048_576),
+        assume: assume_of(matches),
         serial: is_set(matches, "serial"),
         formula: formula_of(matches),
         streams: streams_of(alloc, matches)?,
@@ -155,6 +158,14 @@ fn is_set(matches: &ArgMatches<'_>, name: &str) -> bool
     ensures { result ≡ is_set name.now (rows_of (found_of matches.now)) }
 {
     matches.get_flag(name)
+}
+
+/// The word of `--assume`, if it is there.
+fn assume_of<'a>(matches: &ArgMatches<'a>) -> Option<&'a str>
+    ensures { option_map (λ path. path.now) result
+        ≡ first_of (codes "assume") (rows_of (found_of matches.now)) }
+{
+    matches.get_str("assume")
 }
 
 /// The word FORMULA.

@@ -52,6 +52,19 @@ fn assert_paths(
     Ok(())
 }
 
+/// The words give `f`, `s`, each option's default, and this file of assumed literals.
+fn assert_assumed(
+    rt: &impl Abort,
+    alloc: Global,
+    words: &[&str],
+    want: Option<&str>,
+) -> Result<(), Fail> {
+    assert_options(rt, alloc, words, DEFAULTS)?;
+    let given = read_words(alloc, &*words)?;
+    assert!(rt; given.assume == want, "{words:?}: {given:?}");
+    Ok(())
+}
+
 /// The words have a usage fault, whose text has this part.
 fn assert_usage(rt: &impl Abort, alloc: Global, words: &[&str], part: &str) -> Result<(), Fail> {
     match read_words(alloc, &*words) {
@@ -221,6 +234,29 @@ fn an_option_stands_once(rt: HostRuntime) -> Result<(), Fail> {
 }
 
 #[test]
+fn a_file_of_assumed_literals_may_be_named(rt: HostRuntime) -> Result<(), Fail> {
+    let alloc = rt.alloc();
+    assert_assumed(&rt, alloc, &["f", "s"], None)?;
+    assert_assumed(&rt, alloc, &["--assume", "a", "f", "s"], Some("a"))?;
+    assert_assumed(&rt, alloc, &["--assume=a", "f", "s"], Some("a"))?;
+    assert_assumed(&rt, alloc, &["f", "--assume", "f", "s"], Some("f"))?;
+    assert_assumed(&rt, alloc, &["f", "s", "--assume", "s"], Some("s"))?;
+    assert_usage(
+        &rt,
+        alloc,
+        &["--assume", "a", "f", "s", "--assume", "a"],
+        "cannot be used multiple times",
+    )?;
+    assert_usage(
+        &rt,
+        alloc,
+        &["f", "s", "--assume"],
+        "a value is required for '--assume <FILE>'",
+    )?;
+    assert_usage(&rt, alloc, &["--assume", "a", "f"], "<STREAM>")
+}
+
+#[test]
 fn options_stand_anywhere_before_two_hyphens(rt: HostRuntime) -> Result<(), Fail> {
     let alloc = rt.alloc();
     let serial = Options {
@@ -281,6 +317,8 @@ fn help_says_what_each_option_is(rt: HostRuntime) -> Result<(), Fail> {
         "0 to 268,435,456, default 65,536.",
         "--room <N>\n",
         "0 to 268,435,456, default 1,048,576.",
+        "--assume <FILE>\n",
+        "'s UNSATISFIABLE UNDER ASSUMPTIONS'.",
         "--serial\n",
         "\n  lrupd --tries 1000000 big.cnf solver1.lrup solver2.lrup\n",
     ];

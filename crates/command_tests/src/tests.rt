@@ -12,6 +12,8 @@ use std::thread::Threads;
 use std::time::Clock;
 use test_support::{Paper, Pieces};
 
+mod arguments;
+mod assumptions;
 mod devices;
 mod faults;
 mod readings;

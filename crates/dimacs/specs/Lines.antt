@@ -10,6 +10,7 @@ ends_line b = b == 10
 abbrev pub is_separator : ℕ → Bool
 is_separator b = b == 32 || b == 9 || b == 13 || b == 10
 
+-- a list without an element
 abbrev pub is_empty : {X : Type 0} → List X → Bool
 is_empty [] = true
 is_empty (x ∷ xs) = false
@@ -43,6 +44,7 @@ pub record Token : Type 0 where
   pub line : ℕ
   pub text : List ℕ
 
+-- the tokens of a line, each with the line's number
 abbrev pub tokens_of : Line → List Token
 tokens_of l = map (λ text. record { line = l.number; text = text }) l.tokens
 

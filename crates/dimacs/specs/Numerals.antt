@@ -1,9 +1,11 @@
 -- Numbers as DIMACS CNF writes them (the exact spelling is this project's own: no plus sign, no leading zero).
 use Rattle.std.specs.Prelude.{ℕ, ◌+◌, ◌-◌, ◌*◌, Bool, true, false, ◌&&◌, ◌||◌, ◌==◌, nat_le, List, [], ◌∷◌, ℤ, pos, neg_ℤ, Option, Some, None, if◌then◌else◌}
 
+-- a byte `0` to `9`
 abbrev pub is_digit : ℕ → Bool
 is_digit b = nat_le 48 b && nat_le b 57
 
+-- digits alone, or nothing
 abbrev pub all_digits : List ℕ → Bool
 all_digits [] = true
 all_digits (b ∷ bs) = is_digit b && all_digits bs
@@ -13,6 +15,7 @@ abbrev pub value_after : ℕ → List ℕ → ℕ
 value_after n [] = n
 value_after n (b ∷ bs) = value_after (10 * n + (b - 48)) bs
 
+-- the number that digits spell, in decimal
 abbrev pub value : List ℕ → ℕ
 value text = value_after 0 text
 

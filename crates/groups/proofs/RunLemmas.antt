@@ -15,7 +15,7 @@ use Rattle.stream_check.specs.Laws.{AloneDecides, DecidedBeforeFailure, IsOfMemo
 use Rattle.runs.specs.Streams.{Stop, at_end, at_failure, early, Stream, StopsSo, IsTold, AreTold, JudgesTo, Terms, setting_of}
 use Rattle.runs.specs.Headline.{AreJudgedIn}
 use Rattle.runs.specs.Closed.{IsAt, CiteWithin, IsClosed}
-use Rattle.groups.specs.Groups.{one, WantNoMemory, IsAlone, IsRun, IsReadingTo, IsReadingOf}
+use Rattle.groups.specs.Groups.{one, NoneOutOfMemory, IsAlone, IsRun, IsReadingTo, IsReadingOf}
 use Rattle.groups.specs.Laws.{BeginningsWithin, ReadersClosed, ClosedIsGroup, OrderedIsGroup, AloneHasOneReport, RunIsolated, SerialIsolated, ThreadsRun, SerialRun, ToldIsReading, FailedIsReading, SameReadingAgrees, SameBytesAgree}
 use Rattle.groups.proofs.Places.{same_at, has_place, judged_count, judged_at, judged_fewer}
 use Rattle.groups.proofs.OrderLemmas.{ordered_judged}

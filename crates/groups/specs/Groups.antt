@@ -28,8 +28,8 @@ AreClosedReaders p set entries = (s : ℕ) (entry : Option (List ℕ)) → IsTru
 -- Groups
 
 -- no report of the set tells that memory ran out
-abbrev pub WantNoMemory : (ℕ → Bool) → List Report → Type 0
-WantNoMemory set reports = (s : ℕ) (report : Report) → IsTrue (set s) → IsAt reports s report → ¬ IsOfMemory report
+abbrev pub NoneOutOfMemory : (ℕ → Bool) → List Report → Type 0
+NoneOutOfMemory set reports = (s : ℕ) (report : Report) → IsTrue (set s) → IsAt reports s report → ¬ IsOfMemory report
 
 -- The reports of a set of streams are those of the set alone: a legal history, with events of its streams and of no others,
 -- judges each of them so, and none tells that memory ran out.
@@ -38,7 +38,7 @@ pub record IsGroup (f : Cnf) (terms : Terms) (set : ℕ → Bool) (streams : Lis
   pub members : AllByRecursion (λ e. IsTrue (set (stream_of e))) history
   pub legal : IsLegal f terms.layout history
   pub judged : AreJudgedIn terms set history 1 streams reports
-  pub memory : WantNoMemory set reports
+  pub memory : NoneOutOfMemory set reports
 
 -- the report of stream s is that of a group of this stream alone
 abbrev pub IsAlone : Cnf → Terms → ℕ → List Stream → List Report → Type 0
@@ -48,7 +48,7 @@ IsAlone f terms s streams reports = IsGroup f terms (one s) streams reports
 -- closed set of these streams none of whose reports tells that memory ran out, the set's reports are those of the set alone.
 abbrev pub AreIsolated : Cnf → Terms → List (Option (List ℕ)) → List (Option (List ℕ)) → List Bool → (List Stream → Type 0) → List Report → Type 0
 AreIsolated f terms entries lefts faileds Judged reports = (streams : List Stream) → AreTold entries lefts faileds streams → Judged streams
-    → (set : ℕ → Bool) → IsClosed terms.layout set streams → WantNoMemory set reports → IsGroup f terms set streams reports
+    → (set : ℕ → Bool) → IsClosed terms.layout set streams → NoneOutOfMemory set reports → IsGroup f terms set streams reports
 
 -- A run in which the other streams are empty
 
@@ -58,7 +58,7 @@ empty_stream = record { bytes = []; stop = at_end }
 
 -- what is said of them
 abbrev pub empty_report : Report
-empty_report = record { added = 0; deleted = 0; empty = false; ending = endings.Ended }
+empty_report = record { added = 0; deleted = 0; empty = false; within = false; ending = endings.Ended }
 
 -- the list, of the streams counted on from s, with this one in place of each that is of a stream outside the set
 abbrev pub with_others : {X : Type 0} → (ℕ → Bool) → X → ℕ → List X → List X

@@ -11,7 +11,7 @@ use Rattle.stream_check.specs.Laws.{IsOfMemory, IsOfFailure}
 use Rattle.runs.specs.Streams.{Stream, Terms, AreTold, StandsOnStreams, IsOrdered}
 use Rattle.runs.specs.Headline.{HaveOneHistory, AreJudgedIn}
 use Rattle.runs.specs.Closed.{IsAt, CiteWithin, IsClosed}
-use Rattle.groups.specs.Groups.{one, AreClosedReaders, WantNoMemory, IsGroup, IsAlone, AreIsolated, empty_stream, empty_report, with_others, IsRun, IsReadingOf}
+use Rattle.groups.specs.Groups.{one, AreClosedReaders, NoneOutOfMemory, IsGroup, IsAlone, AreIsolated, empty_stream, empty_report, with_others, IsRun, IsReadingOf}
 
 -- Closed sets
 
@@ -31,14 +31,14 @@ abbrev pub ClosedIsGroup : Type 0
 ClosedIsGroup = (f : Cnf) (terms : Terms) (set : ℕ → Bool) (h : History) (streams : List Stream) (reports : List Report)
     → Fits terms.layout f → length streams ≡ terms.layout.streams
     → IsLegal f terms.layout h → AreJudgedIn terms set h 1 streams reports
-    → IsClosed terms.layout set streams → WantNoMemory set reports → IsGroup f terms set streams reports
+    → IsClosed terms.layout set streams → NoneOutOfMemory set reports → IsGroup f terms set streams reports
 
 -- so is a closed set of streams whose lines have an order, with others or not
 abbrev pub OrderedIsGroup : Type 0
 OrderedIsGroup = (f : Cnf) (terms : Terms) (all set : ℕ → Bool) (streams : List Stream) (reports : List Report)
     → Fits terms.layout f → length streams ≡ terms.layout.streams
     → ((s : ℕ) → IsTrue (set s) → IsTrue (all s)) → IsOrdered f terms all streams reports
-    → IsClosed terms.layout set streams → WantNoMemory set reports → IsGroup f terms set streams reports
+    → IsClosed terms.layout set streams → NoneOutOfMemory set reports → IsGroup f terms set streams reports
 
 -- and the lines of the set have an order by themselves
 abbrev pub OrderedRestricts : Type 0

@@ -13,15 +13,17 @@ pub data Reply : Type 0 where
   live : Clause → Reply
   retired : Reply
 
--- each with the stream that calls and the identity
+-- a call of fetch, publish or retire: the stream that calls, the identity, the clause of a publish, and the reply
 pub data Event : Type 0 where
   fetch : ℕ → ℕ → Reply → Event
   publish : ℕ → ℕ → Clause → Published → Event
   retire : ℕ → ℕ → Retired → Event
 
+-- events, in the order in which they came
 abbrev pub History : Type 0
 History = List Event
 
+-- the stream that calls
 abbrev pub stream_of : Event → ℕ
 stream_of (fetch s id r) = s
 stream_of (publish s id c r) = s

@@ -28,6 +28,8 @@ abbrev pub LegalFrom : Cnf → LayoutValue → State → History → Type 0
 LegalFrom f p m [] = Unit {0}
 LegalFrom f p m (e ∷ es) = Answers m e × IsAllowed f p e × LegalFrom f p (after m e) es
 
+-- A legal history: from the formula's clauses on each event may be asked for, and answers as the map of one thread does; and each
+-- stream's clauses are within its room.
 pub record IsLegal (f : Cnf) (p : LayoutValue) (h : History) : Type 0 where
   pub events : LegalFrom f p (opening f) h
   pub room : (s : ℕ) → spent s h ≤ p.room

@@ -16,12 +16,15 @@ pub record LayoutValue : Type 0 where
   pub lines : ℕ
   pub room : ℕ
 
+-- the record of these numbers
 abbrev pub layout_value : ℕ → ℕ → ℕ → ℕ → ℕ → ℕ → LayoutValue
 layout_value vars clauses literals streams lines room = record { vars = vars; clauses = clauses; literals = literals; streams = streams; lines = lines; room = room }
 
+-- the most streams
 abbrev pub max_streams : ℕ
 max_streams = 64
 
+-- the most words of the shared row
 abbrev pub max_row_words : ℕ
 max_row_words = 268435456
 
@@ -33,6 +36,7 @@ last_identity p = p.clauses + p.streams * p.lines
 abbrev pub row_words : LayoutValue → ℕ
 row_words p = 1 + last_identity p + p.literals + p.streams * p.room
 
+-- the numbers are within the limits
 pub record IsLayout (p : LayoutValue) : Type 0 where
   pub vars : p.vars ≤ max_variable
   pub clauses : p.clauses ≤ max_clauses
@@ -46,6 +50,7 @@ pub record Fits (p : LayoutValue) (f : Cnf) : Type 0 where
   pub clauses : p.clauses ≡ length f.clauses
   pub literals : p.literals ≡ literals_of f
 
+-- one of 1 to the last
 abbrev pub IsIdentity : LayoutValue → ℕ → Type 0
 IsIdentity p id = (0 < id) × (id ≤ last_identity p)
 

@@ -14,14 +14,17 @@ pub data Slot : Type 0 where
   live : Clause → Slot
   retired : Clause → Slot
 
+-- what the map has at each identity
 abbrev pub State : Type 0
 State = ℕ → Slot
 
+-- a clause stands there, and can be used
 abbrev pub IsLive : Slot → Type 0
 IsLive absent = ⊥
 IsLive (live c) = Unit {0}
 IsLive (retired c) = ⊥
 
+-- a clause stood there, and can't be used any more
 abbrev pub IsRetired : Slot → Type 0
 IsRetired absent = ⊥
 IsRetired (live c) = ⊥

@@ -48,6 +48,15 @@ impl Cube {
         }
     }
 
+    /// The same cube once more, in memory of its own.
+    pub fn try_clone(&self) -> Result<Cube, AllocError>
+        ensures { IfOk result (λ cube. cube ≡ self.now) }
+    {
+        Ok(Cube {
+            codes: self.codes.clone()?,
+        })
+    }
+
     /// Whether the literal is in the cube. The time is that of a binary search.
     pub fn has(&self, literal: Lit) -> bool
         ensures { IsTrue result ↔ Has self.now literal }

@@ -49,7 +49,7 @@ impl Formula {
     }
 
     /// Adds the next clause: at most 1,048,575 literals, each once, over the formula's variables. There are at most 16,777,215
-    /// clauses. Want of memory changes nothing.
+    /// clauses. Where memory runs out, nothing changes.
     pub fn push(&mut self, clause: &[Lit]) -> Result<(), AllocError>
         requires count { length self.old.clauses < max_clauses }
         requires clause { IsFormulaClause self.old.vars clause.now }

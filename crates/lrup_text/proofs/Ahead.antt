@@ -13,6 +13,7 @@ use Rattle.lrup_text.specs.Lines.{IsStreamNumber, IsStreamLiteral}
 use Rattle.lrup_text.specs.Reading.{Reads, ReadsAhead, pending, pending_at, spot_at, IsRoomy, literals_text, items_text, clause_front, list_front, literals_of, identities_of}
 use Rattle.lrup_text.specs.Rests.{Spot, BeforeLiteral, AfterMinus, InLiteral, BeforeItem, InItem, Tracks}
 use Rattle.lrup_text.proofs.Steps.{tracks_more, item_digit, number_digit, number_space, body_minus, body_digit, minus_digit, literal_digit, literal_space}
+use Rattle.lrup_text.proofs.Bytes.{clause_more}
 use Rattle.lrup_text.proofs.TextLaws.{signed_word, decimal_word}
 use Rattle.lrup_text.proofs.WholeLines.{spaces_move}
 
@@ -41,33 +42,33 @@ tracks_numbers p deletes j (n ∷ ns) h t =
     tracks_as (tracks_numbers (p ++ (decimal n ++ space ∷ [])) deletes (j + 1) ns h.1 (tracks_number p deletes j (decimal n) (decimal_word n h.0) t))
     (append_assoc p (decimal n ++ space ∷ []) (numbers_text ns)) (ap (BeforeItem deletes) (omega arith))
 
-literal_digits : (p : List ℕ) (k n : ℕ) (cs : List ℕ) → AllByRecursion IsDigit cs → Tracks p (InLiteral k n) → Tracks (p ++ cs) (InLiteral (k + length cs) n)
-literal_digits p k n [] h t = tracks_as t (sym (append-nil p)) (ap (λ x. InLiteral x n) (omega arith))
-literal_digits p k n (c ∷ cs) h t =
-    tracks_as (literal_digits (p ++ c ∷ []) (k + 1) n cs h.1 (tracks_more p _ _ c t (literal_digit k n c h.0)))
-    (append_assoc p (c ∷ []) cs) (ap (λ x. InLiteral x n) (omega arith))
+literal_digits : (p : List ℕ) (imports : Bool) (k n : ℕ) (cs : List ℕ) → AllByRecursion IsDigit cs → Tracks p (InLiteral imports k n) → Tracks (p ++ cs) (InLiteral imports (k + length cs) n)
+literal_digits p imports k n [] h t = tracks_as t (sym (append-nil p)) (ap (λ x. InLiteral imports x n) (omega arith))
+literal_digits p imports k n (c ∷ cs) h t =
+    tracks_as (literal_digits (p ++ c ∷ []) imports (k + 1) n cs h.1 (tracks_more p _ _ c t (literal_digit imports k n c h.0)))
+    (append_assoc p (c ∷ []) cs) (ap (λ x. InLiteral imports x n) (omega arith))
 
 -- a literal's digits after the first, and the space
-tracks_rest : (p : List ℕ) (n c : ℕ) (cs : List ℕ) → AllByRecursion IsDigit cs → length cs < 18 → Tracks (p ++ c ∷ []) (InLiteral 1 n) → Tracks (p ++ ((c ∷ cs) ++ space ∷ [])) (BeforeLiteral (n + 1))
-tracks_rest p n c cs h few t =
-    tracks_as (tracks_more ((p ++ c ∷ []) ++ cs) _ _ space (literal_digits (p ++ c ∷ []) 1 n cs h t) (literal_space (1 + length cs) n (omega arith)))
+tracks_rest : (p : List ℕ) (imports : Bool) (n c : ℕ) (cs : List ℕ) → AllByRecursion IsDigit cs → length cs < 18 → Tracks (p ++ c ∷ []) (InLiteral imports 1 n) → Tracks (p ++ ((c ∷ cs) ++ space ∷ [])) (BeforeLiteral imports (n + 1))
+tracks_rest p imports n c cs h few t =
+    tracks_as (tracks_more ((p ++ c ∷ []) ++ cs) _ _ space (literal_digits (p ++ c ∷ []) imports 1 n cs h t) (literal_space imports (1 + length cs) n (omega arith)))
     (ap (λ t. t ++ space ∷ []) (append_assoc p (c ∷ []) cs) ∙ append_assoc p (c ∷ cs) (space ∷ [])) refl
 
-tracks_literal : (p : List ℕ) (n : ℕ) (word : List ℕ) → SpellsLiteral 18 word → Tracks p (BeforeLiteral n) → Tracks (p ++ (word ++ space ∷ [])) (BeforeLiteral (n + 1))
-tracks_literal p n [] h t = absurd h
-tracks_literal p n (c ∷ cs) (inl h) t = tracks_rest p n c cs h.2 h.3 (tracks_more p _ _ c t (body_digit n c h.0 h.1))
-tracks_literal p n (c ∷ []) (inr h) t = absurd h.1
-tracks_literal p n (c ∷ d ∷ ds) (inr h) t =
-    let signed : Tracks (p ++ minus ∷ []) (AfterMinus n) = tracks_more p _ _ minus t (body_minus n) in
-    let digits = tracks_rest (p ++ minus ∷ []) n d ds h.1.2 h.1.3 (tracks_more (p ++ minus ∷ []) _ _ d signed (minus_digit n d h.1.0 h.1.1)) in
+tracks_literal : (p : List ℕ) (imports : Bool) (n : ℕ) (word : List ℕ) → SpellsLiteral 18 word → Tracks p (BeforeLiteral imports n) → Tracks (p ++ (word ++ space ∷ [])) (BeforeLiteral imports (n + 1))
+tracks_literal p imports n [] h t = absurd h
+tracks_literal p imports n (c ∷ cs) (inl h) t = tracks_rest p imports n c cs h.2 h.3 (tracks_more p _ _ c t (body_digit imports n c h.0 h.1))
+tracks_literal p imports n (c ∷ []) (inr h) t = absurd h.1
+tracks_literal p imports n (c ∷ d ∷ ds) (inr h) t =
+    let signed : Tracks (p ++ minus ∷ []) (AfterMinus imports n) = tracks_more p _ _ minus t (body_minus imports n) in
+    let digits = tracks_rest (p ++ minus ∷ []) imports n d ds h.1.2 h.1.3 (tracks_more (p ++ minus ∷ []) _ _ d signed (minus_digit imports n d h.1.0 h.1.1)) in
     tracks_as digits (append_assoc p (minus ∷ []) ((d ∷ ds) ++ space ∷ []) ∙ ap (λ x. p ++ (x ∷ ((d ∷ ds) ++ space ∷ []))) (sym h.0)) refl
 
-tracks_literals : (p : List ℕ) (n : ℕ) (zs : List ℤ) → AllByRecursion IsStreamLiteral zs → Tracks p (BeforeLiteral n) → Tracks (p ++ literals_text zs) (BeforeLiteral (n + length zs))
+tracks_literals : (p : List ℕ) (imports : Bool) (n : ℕ) (zs : List ℤ) → AllByRecursion IsStreamLiteral zs → Tracks p (BeforeLiteral imports n) → Tracks (p ++ literals_text zs) (BeforeLiteral imports (n + length zs))
 unfolding literals_text
-tracks_literals p n [] h t = tracks_as t (sym (append-nil p)) (ap BeforeLiteral (omega arith))
-tracks_literals p n (z ∷ zs) h t =
-    tracks_as (tracks_literals (p ++ (signed_decimal z ++ space ∷ [])) (n + 1) zs h.1 (tracks_literal p n (signed_decimal z) (signed_word z h.0) t))
-    (append_assoc p (signed_decimal z ++ space ∷ []) (literals_text zs)) (ap BeforeLiteral (omega arith))
+tracks_literals p imports n [] h t = tracks_as t (sym (append-nil p)) (ap (BeforeLiteral imports) (omega arith))
+tracks_literals p imports n (z ∷ zs) h t =
+    tracks_as (tracks_literals (p ++ (signed_decimal z ++ space ∷ [])) imports (n + 1) zs h.1 (tracks_literal p imports n (signed_decimal z) (signed_word z h.0) t))
+    (append_assoc p (signed_decimal z ++ space ∷ []) (literals_text zs)) (ap (BeforeLiteral imports) (omega arith))
 
 -- the texts of two lists
 texts_append : {X : Type 0} (f : X → List ℕ) (xs ys : List X) → flat_map f (xs ++ ys) ≡ flat_map f xs ++ flat_map f ys
@@ -115,7 +116,7 @@ items_ahead m v count used last ids piece h at items size inside found =
           identities = subst (AllByRecursion IsStreamNumber) (sym lists) (all_append IsStreamNumber (identities_of m) found.more h.kept.identities found.each);
         };
         number = h.number;
-        roomy = tt;
+        roomy = subst (λ p. IsRoomy p m) at h.roomy;
         tracks = tracks_as (tracks_numbers here m.deletes m.identity_count found.more found.each tracks) (sym grown) (ap (BeforeItem m.deletes) (sym counted));
       };
       is = grown ∙ ap (λ p. pending_at p m ++ numbers_text found.more) (sym at) ∙ ap (λ t. pending m ++ t) (sym bytes);
@@ -132,10 +133,10 @@ literals_ahead m v count used last lits piece h at items size inside found =
     let counted : count ≡ m.literal_count + length found.more = count_is m.literals.items lits found.more m.literal_count count few found.few found.lits in
     let texts : literals_text (literals_of next) ≡ literals_text (literals_of m) ++ literals_text found.more =
     ap literals_text lists ∙ texts_append (λ z. signed_decimal z ++ space ∷ []) (literals_of m) found.more in
-    let here = clause_front m.lead (literals_of m) in
+    let here = clause_front m.imports m.lead (literals_of m) in
     let grown : pending next ≡ here ++ literals_text found.more =
-    ap (λ t. decimal m.lead ++ space ∷ t) texts ∙ sym (append_assoc (decimal m.lead) (space ∷ literals_text (literals_of m)) (literals_text found.more)) in
-    let tracks : Tracks here (BeforeLiteral m.literal_count) = subst (λ p. Tracks (pending_at p m) (spot_at p m)) at h.tracks in
+    clause_more m.imports m.lead (literals_of m) (literals_of next) (literals_text found.more) texts in
+    let tracks : Tracks here (BeforeLiteral m.imports m.literal_count) = subst (λ p. Tracks (pending_at p m) (spot_at p m)) at h.tracks in
     let bytes : take used piece ≡ literals_text found.more = sym (take-take used last piece (omega (arith, found.inside, length-take-le last piece inside))) ∙ found.is in
     let result : ReadsAhead m piece used next = record {
       bound = omega (arith, found.inside, length-take-le last piece inside);
@@ -150,7 +151,7 @@ literals_ahead m v count used last lits piece h at items size inside found =
         };
         number = h.number;
         roomy = subst (λ p. IsRoomy p m) at h.roomy;
-        tracks = tracks_as (tracks_literals here m.literal_count found.more found.each tracks) (sym grown) (ap BeforeLiteral (sym counted));
+        tracks = tracks_as (tracks_literals here m.imports m.literal_count found.more found.each tracks) (sym grown) (ap (BeforeLiteral m.imports) (sym counted));
       };
       is = grown ∙ ap (λ p. pending_at p m ++ literals_text found.more) (sym at) ∙ ap (λ t. pending m ++ t) (sym bytes);
     } in

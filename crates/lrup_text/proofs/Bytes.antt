@@ -10,12 +10,13 @@ use Rattle.lrup_text.specs.declared.LineFault.TheVariants.{Spelling, TooLong, Ra
 use Rattle.lrup_text.specs.declared.machine.Place.{Place}
 use Rattle.lrup_text.specs.declared.machine.Place.TheVariants as places
 use Rattle.lrup_text.specs.declared.machine.PartialLine.{PartialLine}
-use Rattle.lrup_text.specs.Grammar.{space, minus, zero_digit, letter_d, line_feed, IsDigit, list_text, clause_text}
+use Rattle.lrup_text.specs.Grammar.{space, minus, zero_digit, letter_d, letter_i, line_feed, IsDigit, list_text, clause_text}
 use Rattle.lrup_text.specs.Faults.{Decides}
 use Rattle.lrup_text.specs.Lines.{IsWithinLimits, IsStreamNumber, IsStreamLiteral, LineText, line_text}
-use Rattle.lrup_text.specs.Rests.{InLead, BeforeLiteral, AfterMinus, InLiteral, BeforeList, BeforeItem, InItem, AtEnd, Tracks, Moves, Blocks, Allows}
-use Rattle.lrup_text.specs.Reading.{FitsDigits, IsKept, Reads, pending_at, spot_at, pending, IsRoomy, clause_front, list_front, item_front, literal_front, literals_of, identities_of, literals_text, items_text, line_so_far, line_of_parts}
+use Rattle.lrup_text.specs.Rests.{Spot, InLead, AfterImport, BeforeLiteral, AfterMinus, InLiteral, BeforeList, BeforeItem, InItem, AtEnd, Tracks, Moves, Blocks, Allows}
+use Rattle.lrup_text.specs.Reading.{FitsDigits, IsKept, Reads, pending_at, spot_at, pending, IsRoomy, clause_front, list_front, item_front, end_front, literal_front, literals_of, identities_of, literals_text, items_text, line_so_far, line_of_parts}
 use Rattle.lrup_text.proofs.Decisions.{decides_spelling, decides_long, decides_rat}
+use Rattle.lrup_text.proofs.Rests.{list_is_clause}
 use Rattle.lrup_text.proofs.Numerals.{decimal_one, decimal_byte, power_more, power_below}
 use Rattle.lrup_text.proofs.Steps.{
   NoFirst,
@@ -30,8 +31,12 @@ use Rattle.lrup_text.proofs.Steps.{
   lead_space,
   lead_blocks,
   lead_exceeds,
-  body_zero,
+  body_hints,
+  body_end,
   body_deletion,
+  body_import,
+  import_space,
+  import_blocks,
   body_minus,
   body_digit,
   body_blocks,
@@ -65,12 +70,13 @@ bounded_at : (m : PartialLine) (place : Place) → Reads m → IsRoomy place m �
 unfolding spot_at IsRoomy
 bounded_at m places.Start h roomy = tt
 bounded_at m places.Lead h roomy = h.number.few
+bounded_at m places.Import h roomy = tt
 bounded_at m places.Body h roomy = h.kept.few_literals
 bounded_at m places.Minus h roomy = roomy.1
 bounded_at m places.Literal h roomy = (h.number.few, roomy.1)
 bounded_at m places.List h roomy = tt
 bounded_at m places.Item h roomy = h.kept.few_identities
-bounded_at m places.Number h roomy = (h.number.few, roomy)
+bounded_at m places.Number h roomy = (h.number.few, roomy.0)
 bounded_at m places.LineEnd h roomy = tt
 
 -- the counts are within the limits
@@ -135,30 +141,45 @@ literals_end (z ∷ zs) after =
     ∙ ap (λ t. signed_decimal z ++ space ∷ t) (literals_end zs after)
 
 -- the whole text of a line, from its front
-pub line_end : (deletes : Bool) (lead : ℕ) (lits : List ℤ) (ids : List ℕ)
-    → ((list_front deletes lead lits ++ items_text ids) ++ space ∷ zero_digit ∷ []) ++ line_feed ∷ [] ≡ line_text (line_of_parts deletes lead lits ids)
-line_end deletes lead lits ids =
+list_end : (deletes : Bool) (lead : ℕ) (lits : List ℤ) (ids : List ℕ)
+    → ((list_front deletes lead lits ++ items_text ids) ++ space ∷ zero_digit ∷ []) ++ line_feed ∷ [] ≡ line_text (line_of_parts false deletes lead lits ids)
+list_end deletes lead lits ids =
     append_assoc (list_front deletes lead lits ++ items_text ids) (space ∷ zero_digit ∷ []) (line_feed ∷ [])
     ∙ append_assoc (list_front deletes lead lits) (items_text ids) (space ∷ zero_digit ∷ line_feed ∷ [])
     ∙ ap (λ t. list_front deletes lead lits ++ t) (items_end ids)
     ∙ front deletes
   where
-    front : (deletes : Bool) → list_front deletes lead lits ++ list_text (map decimal ids) ≡ line_text (line_of_parts deletes lead lits ids)
+    front : (deletes : Bool) → list_front deletes lead lits ++ list_text (map decimal ids) ≡ line_text (line_of_parts false deletes lead lits ids)
     front true = append_assoc (decimal lead) (space ∷ letter_d ∷ []) (list_text (map decimal ids))
     front false =
-        append_assoc (clause_front lead lits) (zero_digit ∷ []) (list_text (map decimal ids))
+        append_assoc (clause_front false lead lits) (zero_digit ∷ []) (list_text (map decimal ids))
         ∙ append_assoc (decimal lead) (space ∷ literals_text lits) (zero_digit ∷ list_text (map decimal ids))
         ∙ ap (λ t. decimal lead ++ space ∷ t) (literals_end lits (list_text (map decimal ids)))
 
-pub line_fits : (deletes : Bool) (lead : ℕ) (lits : List ℤ) (n : ℕ) (ids : List ℕ) (j : ℕ) → IsKept lead lits n ids j → n ≤ length lits → j ≤ length ids
-    → IsWithinLimits (line_of_parts deletes lead (take n lits) (take j ids))
-line_fits true lead lits n ids j h n_in j_in =
+pub line_end : (imports deletes : Bool) (lead : ℕ) (lits : List ℤ) (ids : List ℕ)
+    → end_front imports deletes lead lits ids ++ line_feed ∷ [] ≡ line_text (line_of_parts imports deletes lead lits ids)
+line_end true deletes lead lits ids =
+    append_assoc (clause_front true lead lits) (zero_digit ∷ []) (line_feed ∷ [])
+    ∙ append_assoc (decimal lead) (space ∷ letter_i ∷ space ∷ literals_text lits) (zero_digit ∷ line_feed ∷ [])
+    ∙ ap (λ t. decimal lead ++ space ∷ letter_i ∷ t) (ap (λ t. space ∷ t) (literals_end lits (line_feed ∷ [])) ∙ sym (list_is_clause (map signed_decimal lits)))
+line_end false deletes lead lits ids = list_end deletes lead lits ids
+
+pub line_fits : (imports deletes : Bool) (lead : ℕ) (lits : List ℤ) (n : ℕ) (ids : List ℕ) (j : ℕ) → IsKept lead lits n ids j → n ≤ length lits → j ≤ length ids
+    → IsWithinLimits (line_of_parts imports deletes lead (take n lits) (take j ids))
+line_fits true deletes lead lits n ids j h n_in j_in =
+    (h.lead, record { count = omega (arith, length-take-le n lits n_in, h.few_literals); each = h.literals })
+line_fits false true lead lits n ids j h n_in j_in =
     (h.lead, record { count = omega (arith, length-take-le j ids j_in, h.few_identities); each = h.identities })
-line_fits false lead lits n ids j h n_in j_in = (
+line_fits false false lead lits n ids j h n_in j_in = (
   h.lead,
   record { count = omega (arith, length-take-le n lits n_in, h.few_literals); each = h.literals },
   record { count = omega (arith, length-take-le j ids j_in, h.few_identities); each = h.identities },
 )
+
+-- a clause that grows at its end
+pub clause_more : (imports : Bool) (lead : ℕ) (lits longer : List ℤ) (x : List ℕ) → literals_text longer ≡ literals_text lits ++ x → clause_front imports lead longer ≡ clause_front imports lead lits ++ x
+clause_more true lead lits longer x is = ap (λ t. decimal lead ++ space ∷ letter_i ∷ space ∷ t) is ∙ sym (append_assoc (decimal lead) (space ∷ letter_i ∷ space ∷ literals_text lits) x)
+clause_more false lead lits longer x is = ap (λ t. decimal lead ++ space ∷ t) is ∙ sym (append_assoc (decimal lead) (space ∷ literals_text lits) x)
 
 -- After the byte the line goes on.
 abbrev pub GoesOn : PartialLine → ℕ → PartialLine → Type 0
@@ -193,17 +214,17 @@ module _ (m : PartialLine) (b : ℕ) (h : Reads m) where
       ) in
       subst (λ p. GoesOn m b (record next { place = p })) (sym at) goes
 
-  pub lead_space_goes_on : m.place ≡ places.Lead → b ≡ space → GoesOn m b (record m { lead = m.number; literal_count = 0; identity_count = 0; place = places.Body })
+  pub lead_space_goes_on : m.place ≡ places.Lead → b ≡ space → GoesOn m b (record m { lead = m.number; imports = false; literal_count = 0; identity_count = 0; place = places.Body })
   unfolding pending_at spot_at IsRoomy literals_text
   lead_space_goes_on at e =
-      let next : PartialLine = record m { lead = m.number; literal_count = 0; identity_count = 0; place = places.Body } in
+      let next : PartialLine = record m { lead = m.number; imports = false; literal_count = 0; identity_count = 0; place = places.Body } in
       let is : pending next ≡ decimal m.number ++ b ∷ [] = ap (λ x. decimal m.number ++ x ∷ []) (sym e) in (
         record {
           room = h.room;
           kept = record { lead = positive m.number m.digits h.number; few_literals = omega arith; few_identities = omega arith; literals = tt; identities = tt };
           number = h.number;
           roomy = refl;
-          tracks = tracks_next m next places.Lead at h b is (subst (λ x. Moves (InLead m.digits) x (BeforeLiteral 0)) (sym e) (lead_space m.digits h.number.few));
+          tracks = tracks_next m next places.Lead at h b is (subst (λ x. Moves (InLead m.digits) x (BeforeLiteral false 0)) (sym e) (lead_space m.digits h.number.few));
         },
         pending_next m next places.Lead at h b is,
       )
@@ -218,38 +239,109 @@ module _ (m : PartialLine) (b : ℕ) (h : Reads m) where
   unfolding spot_at
   lead_spelling at never ne = spelling_at m places.Lead at h b (λ signed. lead_blocks signed m.digits b never ne)
 
-  -- Body
+  -- Import
 
-  pub body_zero_goes_on : m.place ≡ places.Body → b ≡ zero_digit → GoesOn m b (record m { deletes = false; place = places.List })
-  unfolding pending_at spot_at IsRoomy
-  body_zero_goes_on at e =
-      let next : PartialLine = record m { deletes = false; place = places.List } in
-      let is : pending next ≡ clause_front m.lead (literals_of m) ++ b ∷ [] = ap (λ x. clause_front m.lead (literals_of m) ++ x ∷ []) (sym e) in (
+  pub import_space_goes_on : m.place ≡ places.Import → b ≡ space → GoesOn m b (record m { place = places.Body })
+  unfolding pending_at spot_at IsRoomy literals_text
+  import_space_goes_on at e =
+      let next : PartialLine = record m { place = places.Body } in
+      let roomy : (m.identity_count ≡ 0) × (m.literal_count ≡ 0) × (m.imports ≡ true) = subst (λ p. IsRoomy p m) at h.roomy in
+      let empty : literals_of m ≡ [] = ap (λ n. take n m.literals.items) roomy.1 in
+      let front : pending next ≡ decimal m.lead ++ space ∷ letter_i ∷ space ∷ [] = ap (λ i. clause_front i m.lead (literals_of m)) roomy.2 ∙ ap (clause_front true m.lead) empty in
+      let is : pending next ≡ (decimal m.lead ++ space ∷ letter_i ∷ []) ++ b ∷ [] =
+      front ∙ ap (λ x. decimal m.lead ++ space ∷ letter_i ∷ x ∷ []) (sym e) ∙ sym (append_assoc (decimal m.lead) (space ∷ letter_i ∷ []) (b ∷ [])) in (
         record {
           room = h.room;
           kept = h.kept;
           number = h.number;
-          roomy = subst (λ p. IsRoomy p m) at h.roomy;
-          tracks = tracks_next m next places.Body at h b is (subst (λ x. Moves (BeforeLiteral m.literal_count) x (BeforeList false)) (sym e) (body_zero m.literal_count h.kept.few_literals));
+          roomy = roomy.0;
+          tracks = tracks_next m next places.Import at h b is
+              (subst (λ i. Moves AfterImport b (BeforeLiteral i m.literal_count)) (sym roomy.2)
+              (subst (λ n. Moves AfterImport b (BeforeLiteral true n)) (sym roomy.1) (subst (λ x. Moves AfterImport x (BeforeLiteral true 0)) (sym e) import_space)));
+        },
+        pending_next m next places.Import at h b is,
+      )
+
+  pub import_spelling : m.place ≡ places.Import → b ≢ space → Decides (pending m) b Spelling
+  unfolding spot_at
+  import_spelling at ne = spelling_at m places.Import at h b (λ signed. import_blocks signed b ne)
+
+  -- Body
+
+  pub body_hints_goes_on : m.place ≡ places.Body → b ≡ zero_digit → m.imports ≡ false → GoesOn m b (record m { deletes = false; place = places.List })
+  unfolding pending_at spot_at IsRoomy
+  body_hints_goes_on at e adds =
+      let next : PartialLine = record m { deletes = false; place = places.List } in
+      let is : pending next ≡ clause_front m.imports m.lead (literals_of m) ++ b ∷ [] =
+      ap (λ i. clause_front i m.lead (literals_of m) ++ zero_digit ∷ []) (sym adds) ∙ ap (λ x. clause_front m.imports m.lead (literals_of m) ++ x ∷ []) (sym e) in (
+        record {
+          room = h.room;
+          kept = h.kept;
+          number = h.number;
+          roomy = (subst (λ p. IsRoomy p m) at h.roomy, adds);
+          tracks = tracks_next m next places.Body at h b is
+              (subst (λ i. Moves (BeforeLiteral i m.literal_count) b (BeforeList false)) (sym adds)
+              (subst (λ x. Moves (BeforeLiteral false m.literal_count) x (BeforeList false)) (sym e) (body_hints m.literal_count h.kept.few_literals)));
         },
         pending_next m next places.Body at h b is,
       )
 
-  pub body_deletion_goes_on : m.place ≡ places.Body → b ≡ letter_d → m.literal_count ≡ 0 → GoesOn m b (record m { deletes = true; place = places.List })
-  unfolding pending_at spot_at IsRoomy literals_text
-  body_deletion_goes_on at e few =
-      let next : PartialLine = record m { deletes = true; place = places.List } in
-      let empty : literals_of m ≡ [] = ap (λ n. take n m.literals.items) few in
-      let front : clause_front m.lead (literals_of m) ≡ decimal m.lead ++ space ∷ [] = ap (clause_front m.lead) empty in
-      let is : pending next ≡ clause_front m.lead (literals_of m) ++ b ∷ [] =
-      sym (ap (λ t. t ++ b ∷ []) front ∙ append_assoc (decimal m.lead) (space ∷ []) (b ∷ []) ∙ ap (λ x. decimal m.lead ++ space ∷ x ∷ []) e) in (
+  pub body_end_goes_on : m.place ≡ places.Body → b ≡ zero_digit → m.imports ≡ true → GoesOn m b (record m { place = places.LineEnd })
+  unfolding pending_at spot_at IsRoomy
+  body_end_goes_on at e imports =
+      let next : PartialLine = record m { place = places.LineEnd } in
+      let is : pending next ≡ clause_front m.imports m.lead (literals_of m) ++ b ∷ [] =
+      ap (λ i. end_front i m.deletes m.lead (literals_of m) (identities_of m)) imports
+      ∙ ap (λ i. clause_front i m.lead (literals_of m) ++ zero_digit ∷ []) (sym imports) ∙ ap (λ x. clause_front m.imports m.lead (literals_of m) ++ x ∷ []) (sym e) in (
         record {
           room = h.room;
           kept = h.kept;
           number = h.number;
-          roomy = subst (λ p. IsRoomy p m) at h.roomy;
+          roomy = tt;
           tracks = tracks_next m next places.Body at h b is
-              (subst (λ n. Moves (BeforeLiteral n) b (BeforeList true)) (sym few) (subst (λ x. Moves (BeforeLiteral 0) x (BeforeList true)) (sym e) body_deletion));
+              (subst (λ i. Moves (BeforeLiteral i m.literal_count) b AtEnd) (sym imports)
+              (subst (λ x. Moves (BeforeLiteral true m.literal_count) x AtEnd) (sym e) (body_end m.literal_count h.kept.few_literals)));
+        },
+        pending_next m next places.Body at h b is,
+      )
+
+  -- what was read of a line that has no literals and is no import yet
+  lead_front : m.imports ≡ false → m.literal_count ≡ 0 → clause_front m.imports m.lead (literals_of m) ≡ decimal m.lead ++ space ∷ []
+  unfolding literals_text
+  lead_front adds few = ap (λ i. clause_front i m.lead (literals_of m)) adds ∙ ap (λ n. clause_front false m.lead (take n m.literals.items)) few
+
+  letter_moves : (next : Spot) (letter : ℕ) → b ≡ letter → m.imports ≡ false → m.literal_count ≡ 0 → Moves (BeforeLiteral false 0) letter next → Moves (BeforeLiteral m.imports m.literal_count) b next
+  letter_moves next letter e adds few moves =
+      subst (λ i. Moves (BeforeLiteral i m.literal_count) b next) (sym adds) (subst (λ n. Moves (BeforeLiteral false n) b next) (sym few) (subst (λ x. Moves (BeforeLiteral false 0) x next) (sym e) moves))
+
+  pub body_deletion_goes_on : m.place ≡ places.Body → b ≡ letter_d → m.imports ≡ false → m.literal_count ≡ 0 → GoesOn m b (record m { deletes = true; place = places.List })
+  unfolding pending_at spot_at IsRoomy
+  body_deletion_goes_on at e adds few =
+      let next : PartialLine = record m { deletes = true; place = places.List } in
+      let is : pending next ≡ clause_front m.imports m.lead (literals_of m) ++ b ∷ [] =
+      sym (ap (λ t. t ++ b ∷ []) (lead_front adds few) ∙ append_assoc (decimal m.lead) (space ∷ []) (b ∷ []) ∙ ap (λ x. decimal m.lead ++ space ∷ x ∷ []) e) in (
+        record {
+          room = h.room;
+          kept = h.kept;
+          number = h.number;
+          roomy = (subst (λ p. IsRoomy p m) at h.roomy, adds);
+          tracks = tracks_next m next places.Body at h b is (letter_moves (BeforeList true) letter_d e adds few body_deletion);
+        },
+        pending_next m next places.Body at h b is,
+      )
+
+  pub body_import_goes_on : m.place ≡ places.Body → b ≡ letter_i → m.imports ≡ false → m.literal_count ≡ 0 → GoesOn m b (record m { imports = true; place = places.Import })
+  unfolding pending_at spot_at IsRoomy
+  body_import_goes_on at e adds few =
+      let next : PartialLine = record m { imports = true; place = places.Import } in
+      let is : pending next ≡ clause_front m.imports m.lead (literals_of m) ++ b ∷ [] =
+      sym (ap (λ t. t ++ b ∷ []) (lead_front adds few) ∙ append_assoc (decimal m.lead) (space ∷ []) (b ∷ []) ∙ ap (λ x. decimal m.lead ++ space ∷ x ∷ []) e) in (
+        record {
+          room = h.room;
+          kept = h.kept;
+          number = h.number;
+          roomy = (subst (λ p. IsRoomy p m) at h.roomy, few, refl);
+          tracks = tracks_next m next places.Body at h b is (letter_moves AfterImport letter_i e adds few body_import);
         },
         pending_next m next places.Body at h b is,
       )
@@ -258,13 +350,13 @@ module _ (m : PartialLine) (b : ℕ) (h : Reads m) where
   unfolding pending_at spot_at IsRoomy
   body_minus_goes_on at e few =
       let next : PartialLine = record m { place = places.Minus } in
-      let is : pending next ≡ clause_front m.lead (literals_of m) ++ b ∷ [] = ap (λ x. clause_front m.lead (literals_of m) ++ x ∷ []) (sym e) in (
+      let is : pending next ≡ clause_front m.imports m.lead (literals_of m) ++ b ∷ [] = ap (λ x. clause_front m.imports m.lead (literals_of m) ++ x ∷ []) (sym e) in (
         record {
           room = h.room;
           kept = h.kept;
           number = h.number;
           roomy = (subst (λ p. IsRoomy p m) at h.roomy, few);
-          tracks = tracks_next m next places.Body at h b is (subst (λ x. Moves (BeforeLiteral m.literal_count) x (AfterMinus m.literal_count)) (sym e) (body_minus m.literal_count));
+          tracks = tracks_next m next places.Body at h b is (subst (λ x. Moves (BeforeLiteral m.imports m.literal_count) x (AfterMinus m.imports m.literal_count)) (sym e) (body_minus m.imports m.literal_count));
         },
         pending_next m next places.Body at h b is,
       )
@@ -273,27 +365,27 @@ module _ (m : PartialLine) (b : ℕ) (h : Reads m) where
   unfolding pending_at spot_at IsRoomy
   body_digit_goes_on at low high few =
       let next : PartialLine = record m { negative = false; number = b - 48; digits = 1; place = places.Literal } in
-      let is : pending next ≡ clause_front m.lead (literals_of m) ++ b ∷ [] = ap (λ t. clause_front m.lead (literals_of m) ++ t) (decimal_one b (omega arith, high)) in (
+      let is : pending next ≡ clause_front m.imports m.lead (literals_of m) ++ b ∷ [] = ap (λ t. clause_front m.imports m.lead (literals_of m) ++ t) (decimal_one b (omega arith, high)) in (
         record {
           room = h.room;
           kept = h.kept;
           number = first_digit b low high;
           roomy = (subst (λ p. IsRoomy p m) at h.roomy, few);
-          tracks = tracks_next m next places.Body at h b is (body_digit m.literal_count b low high);
+          tracks = tracks_next m next places.Body at h b is (body_digit m.imports m.literal_count b low high);
         },
         pending_next m next places.Body at h b is,
       )
 
   pub body_too_long : m.place ≡ places.Body → m.literal_count ≡ 65535 → (b ≢ minus → (49 ≤ b) × (b ≤ 57)) → Decides (pending m) b TooLong
   unfolding spot_at
-  body_too_long at many kind = long_at m places.Body at h b (subst (λ n. Exceeds (BeforeLiteral n) b) (sym many) (exceeds b kind))
+  body_too_long at many kind = long_at m places.Body at h b (subst (λ n. Exceeds (BeforeLiteral m.imports n) b) (sym many) (exceeds b kind))
     where
-      exceeds : (x : ℕ) → (x ≢ minus → (49 ≤ x) × (x ≤ 57)) → Exceeds (BeforeLiteral 65535) x
-      exceeds x kind = elim (cases_eq x minus) [ inl e ↦ subst (Exceeds (BeforeLiteral 65535)) (sym e) body_exceeds_minus | inr ne ↦ body_exceeds_digit x (kind ne).0 (kind ne).1 ]
+      exceeds : (x : ℕ) → (x ≢ minus → (49 ≤ x) × (x ≤ 57)) → Exceeds (BeforeLiteral m.imports 65535) x
+      exceeds x kind = elim (cases_eq x minus) [ inl e ↦ subst (Exceeds (BeforeLiteral m.imports 65535)) (sym e) (body_exceeds_minus m.imports) | inr ne ↦ body_exceeds_digit m.imports x (kind ne).0 (kind ne).1 ]
 
-  pub body_spelling : m.place ≡ places.Body → b ≢ zero_digit → b ≢ minus → NoFirst b → (m.literal_count ≡ 0 → b ≢ letter_d) → Decides (pending m) b Spelling
+  pub body_spelling : m.place ≡ places.Body → b ≢ zero_digit → b ≢ minus → NoFirst b → (m.literal_count ≡ 0 → m.imports ≡ false → (b ≢ letter_d) × (b ≢ letter_i)) → Decides (pending m) b Spelling
   unfolding spot_at
-  body_spelling at not_zero not_minus never not_d = spelling_at m places.Body at h b (λ signed. body_blocks signed m.literal_count b not_zero not_minus never not_d)
+  body_spelling at not_zero not_minus never no_letter = spelling_at m places.Body at h b (λ signed. body_blocks signed m.imports m.literal_count b not_zero not_minus never no_letter)
 
   -- Minus
 
@@ -301,7 +393,7 @@ module _ (m : PartialLine) (b : ℕ) (h : Reads m) where
   unfolding pending_at spot_at IsRoomy
   minus_goes_on at low high =
       let next : PartialLine = record m { negative = true; number = b - 48; digits = 1; place = places.Literal } in
-      let front = clause_front m.lead (literals_of m) in
+      let front = clause_front m.imports m.lead (literals_of m) in
       let is : pending next ≡ (front ++ minus ∷ []) ++ b ∷ [] =
       ap (λ t. front ++ minus ∷ t) (decimal_one b (omega arith, high)) ∙ sym (append_assoc front (minus ∷ []) (b ∷ [])) in (
         record {
@@ -309,14 +401,14 @@ module _ (m : PartialLine) (b : ℕ) (h : Reads m) where
           kept = h.kept;
           number = first_digit b low high;
           roomy = subst (λ p. IsRoomy p m) at h.roomy;
-          tracks = tracks_next m next places.Minus at h b is (minus_digit m.literal_count b low high);
+          tracks = tracks_next m next places.Minus at h b is (minus_digit m.imports m.literal_count b low high);
         },
         pending_next m next places.Minus at h b is,
       )
 
   pub minus_spelling : m.place ≡ places.Minus → NoFirst b → Decides (pending m) b Spelling
   unfolding spot_at
-  minus_spelling at never = spelling_at m places.Minus at h b (λ signed. minus_blocks signed m.literal_count b never)
+  minus_spelling at never = spelling_at m places.Minus at h b (λ signed. minus_blocks signed m.imports m.literal_count b never)
 
   -- Literal
 
@@ -329,7 +421,7 @@ module _ (m : PartialLine) (b : ℕ) (h : Reads m) where
   unfolding pending_at spot_at IsRoomy
   literal_digit_goes_on at digit few =
       let next : PartialLine = record m { number = m.number * 10 + (b - 48); digits = m.digits + 1; place = places.Literal } in
-      let front = clause_front m.lead (literals_of m) in
+      let front = clause_front m.imports m.lead (literals_of m) in
       let is : pending next ≡ (front ++ literal_front m.negative m.number) ++ b ∷ [] =
       ap (λ t. front ++ t) (literal_more m.negative m.number m.digits h.number few digit) ∙ sym (append_assoc front (literal_front m.negative m.number) (b ∷ [])) in
       let goes : GoesOn m b next = (
@@ -338,7 +430,7 @@ module _ (m : PartialLine) (b : ℕ) (h : Reads m) where
           kept = h.kept;
           number = more_digits m.number m.digits b h.number few digit;
           roomy = subst (λ p. IsRoomy p m) at h.roomy;
-          tracks = tracks_next m next places.Literal at h b is (literal_digit m.digits m.literal_count b digit);
+          tracks = tracks_next m next places.Literal at h b is (literal_digit m.imports m.digits m.literal_count b digit);
         },
         pending_next m next places.Literal at h b is,
       ) in
@@ -360,13 +452,12 @@ module _ (m : PartialLine) (b : ℕ) (h : Reads m) where
       let count : length m.literals.items ≡ 65535 = h.room.literals in
       let more : literals_of next ≡ literals_of m ++ z ∷ [] =
       ap (take (m.literal_count + 1)) items ∙ take_more_set m.literals.items m.literal_count z (omega arith) in
-      let front = clause_front m.lead (literals_of m) in
+      let front = clause_front m.imports m.lead (literals_of m) in
       let word = literal_front m.negative m.number in
       let texts : literals_text (literals_of next) ≡ literals_text (literals_of m) ++ (word ++ space ∷ []) =
       ap literals_text more ∙ text_more (λ x. signed_decimal x ++ space ∷ []) (literals_of m) z ∙ ap (λ t. literals_text (literals_of m) ++ (t ++ space ∷ [])) value in
       let is : pending next ≡ (front ++ word) ++ b ∷ [] =
-      ap (λ t. decimal m.lead ++ space ∷ t) texts
-      ∙ sym (append_assoc (decimal m.lead) (space ∷ literals_text (literals_of m)) (word ++ space ∷ []))
+      clause_more m.imports m.lead (literals_of m) (literals_of next) (word ++ space ∷ []) texts
       ∙ sym (append_assoc front word (space ∷ []))
       ∙ ap (λ x. (front ++ word) ++ x ∷ []) (sym e) in
       let literal : IsStreamLiteral z = subst IsStreamNumber (sym magnitude) (positive m.number m.digits h.number) in (
@@ -382,7 +473,7 @@ module _ (m : PartialLine) (b : ℕ) (h : Reads m) where
           number = h.number;
           roomy = roomy.0;
           tracks = tracks_next m next places.Literal at h b is
-              (subst (λ x. Moves (InLiteral m.digits m.literal_count) x (BeforeLiteral (m.literal_count + 1))) (sym e) (literal_space m.digits m.literal_count h.number.few));
+              (subst (λ x. Moves (InLiteral m.imports m.digits m.literal_count) x (BeforeLiteral m.imports (m.literal_count + 1))) (sym e) (literal_space m.imports m.digits m.literal_count h.number.few));
         },
         pending_next m next places.Literal at h b is,
       )
@@ -392,11 +483,11 @@ module _ (m : PartialLine) (b : ℕ) (h : Reads m) where
   literal_too_long at digit many =
       let e : m.digits ≡ 18 = omega (arith, h.number.few) in
       let roomy : (m.identity_count ≡ 0) × (m.literal_count < 65535) = subst (λ p. IsRoomy p m) at h.roomy in
-      long_at m places.Literal at h b (subst (λ k. Exceeds (InLiteral k m.literal_count) b) (sym e) (literal_exceeds m.literal_count b roomy.1 digit))
+      long_at m places.Literal at h b (subst (λ k. Exceeds (InLiteral m.imports k m.literal_count) b) (sym e) (literal_exceeds m.imports m.literal_count b roomy.1 digit))
 
   pub literal_spelling : m.place ≡ places.Literal → NoDigit b → b ≢ space → Decides (pending m) b Spelling
   unfolding spot_at
-  literal_spelling at never ne = spelling_at m places.Literal at h b (λ signed. literal_blocks signed m.digits m.literal_count b never ne)
+  literal_spelling at never ne = spelling_at m places.Literal at h b (λ signed. literal_blocks signed m.imports m.digits m.literal_count b never ne)
 
   -- List
 
@@ -405,14 +496,15 @@ module _ (m : PartialLine) (b : ℕ) (h : Reads m) where
   list_goes_on at e =
       let next : PartialLine = record m { place = places.Item } in
       let front = list_front m.deletes m.lead (literals_of m) in
-      let none : m.identity_count ≡ 0 = subst (λ p. IsRoomy p m) at h.roomy in
+      let roomy : (m.identity_count ≡ 0) × (m.imports ≡ false) = subst (λ p. IsRoomy p m) at h.roomy in
+      let none : m.identity_count ≡ 0 = roomy.0 in
       let empty : item_front m ≡ front = ap (λ n. front ++ items_text (take n m.identities.items)) none ∙ append-nil front in
       let is : pending next ≡ front ++ b ∷ [] = ap (λ t. t ++ space ∷ []) empty ∙ ap (λ x. front ++ x ∷ []) (sym e) in (
         record {
           room = h.room;
           kept = h.kept;
           number = h.number;
-          roomy = tt;
+          roomy = roomy.1;
           tracks = tracks_next m next places.List at h b is
               (subst (λ n. Moves (BeforeList m.deletes) b (BeforeItem m.deletes n)) (sym none) (subst (λ x. Moves (BeforeList m.deletes) x (BeforeItem m.deletes 0)) (sym e) (list_space m.deletes)));
         },
@@ -433,7 +525,9 @@ module _ (m : PartialLine) (b : ℕ) (h : Reads m) where
   unfolding pending_at spot_at IsRoomy
   item_zero_goes_on at e =
       let next : PartialLine = record m { place = places.LineEnd } in
-      let is : pending next ≡ (item_front m ++ space ∷ []) ++ b ∷ [] = after_space zero_digit (sym e) in (
+      let lists : m.imports ≡ false = subst (λ p. IsRoomy p m) at h.roomy in
+      let is : pending next ≡ (item_front m ++ space ∷ []) ++ b ∷ [] =
+      ap (λ i. end_front i m.deletes m.lead (literals_of m) (identities_of m)) lists ∙ after_space zero_digit (sym e) in (
         record {
           room = h.room;
           kept = h.kept;
@@ -453,7 +547,7 @@ module _ (m : PartialLine) (b : ℕ) (h : Reads m) where
           room = h.room;
           kept = h.kept;
           number = first_digit b low high;
-          roomy = few;
+          roomy = (few, subst (λ p. IsRoomy p m) at h.roomy);
           tracks = tracks_next m next places.Item at h b is (item_digit m.deletes m.identity_count b low high);
         },
         pending_next m next places.Item at h b is,
@@ -499,7 +593,7 @@ module _ (m : PartialLine) (b : ℕ) (h : Reads m) where
   pub number_room : m.place ≡ places.Number → m.identity_count < vec_len m.identities
   unfolding IsRoomy
   number_room at =
-      let roomy : m.identity_count < 65536 = subst (λ p. IsRoomy p m) at h.roomy in
+      let roomy : (m.identity_count < 65536) × (m.imports ≡ false) = subst (λ p. IsRoomy p m) at h.roomy in
       omega (arith, h.room.identities, m.identities.ok.0)
 
   pub number_space_goes_on : (v : Vec ℕ Global) → v.items ≡ slice_set m.identities.items m.identity_count m.number
@@ -507,7 +601,7 @@ module _ (m : PartialLine) (b : ℕ) (h : Reads m) where
   unfolding pending_at spot_at IsRoomy items_text
   number_space_goes_on v items at e =
       let next : PartialLine = record m { identities = v; identity_count = m.identity_count + 1; place = places.Item } in
-      let roomy : m.identity_count < 65536 = subst (λ p. IsRoomy p m) at h.roomy in
+      let roomy : (m.identity_count < 65536) × (m.imports ≡ false) = subst (λ p. IsRoomy p m) at h.roomy in
       let count : length m.identities.items ≡ 65536 = h.room.identities in
       let more : identities_of next ≡ identities_of m ++ m.number ∷ [] =
       ap (take (m.identity_count + 1)) items ∙ take_more_set m.identities.items m.identity_count m.number (omega arith) in
@@ -530,7 +624,7 @@ module _ (m : PartialLine) (b : ℕ) (h : Reads m) where
                 (all_more IsStreamNumber (identities_of m) m.number h.kept.identities (positive m.number m.digits h.number));
           };
           number = h.number;
-          roomy = tt;
+          roomy = roomy.1;
           tracks = tracks_next m next places.Number at h b is
               (subst (λ x. Moves (InItem m.deletes m.digits m.identity_count) x (BeforeItem m.deletes (m.identity_count + 1))) (sym e) (number_space m.deletes m.digits m.identity_count h.number.few));
         },
@@ -541,8 +635,8 @@ module _ (m : PartialLine) (b : ℕ) (h : Reads m) where
   unfolding spot_at IsRoomy
   number_too_long at digit many =
       let e : m.digits ≡ 18 = omega (arith, h.number.few) in
-      let roomy : m.identity_count < 65536 = subst (λ p. IsRoomy p m) at h.roomy in
-      long_at m places.Number at h b (subst (λ k. Exceeds (InItem m.deletes k m.identity_count) b) (sym e) (number_exceeds m.deletes m.identity_count b roomy digit))
+      let roomy : (m.identity_count < 65536) × (m.imports ≡ false) = subst (λ p. IsRoomy p m) at h.roomy in
+      long_at m places.Number at h b (subst (λ k. Exceeds (InItem m.deletes k m.identity_count) b) (sym e) (number_exceeds m.deletes m.identity_count b roomy.0 digit))
 
   pub number_spelling : m.place ≡ places.Number → NoDigit b → b ≢ space → Decides (pending m) b Spelling
   unfolding spot_at
@@ -562,9 +656,9 @@ module _ (m : PartialLine) (b : ℕ) (h : Reads m) where
     record { room = h.room; kept = h.kept; number = h.number; roomy = tt; tracks = at_start },
     refl,
     (
-      line_fits m.deletes m.lead m.literals.items m.literal_count m.identities.items m.identity_count h.kept
+      line_fits m.imports m.deletes m.lead m.literals.items m.literal_count m.identities.items m.identity_count h.kept
           (omega (arith, h.room.literals, h.kept.few_literals)) (omega (arith, h.room.identities, h.kept.few_identities)),
-      ap (λ p. pending_at p m ++ b ∷ []) at ∙ ap (λ x. (item_front m ++ space ∷ zero_digit ∷ []) ++ x ∷ []) e
-          ∙ line_end m.deletes m.lead (literals_of m) (identities_of m),
+      ap (λ p. pending_at p m ++ b ∷ []) at ∙ ap (λ x. end_front m.imports m.deletes m.lead (literals_of m) (identities_of m) ++ x ∷ []) e
+          ∙ line_end m.imports m.deletes m.lead (literals_of m) (identities_of m),
     ),
   )

@@ -7,12 +7,12 @@ use Rattle.std.proofs.lemmas.List.{append_assoc, append-nil, length-append, nil_
 use Rattle.lrup_text.specs.declared.LineFault.{LineFault}
 use Rattle.lrup_text.specs.declared.LineFault.TheVariants.{Spelling, TooLong, RatHint}
 use Rattle.lrup_text.specs.Faults.{Decides, HasTextFault}
-use Rattle.lrup_text.specs.Grammar.{IsDigit, IsLine, standard, line_feed, space, minus, zero_digit, letter_d}
+use Rattle.lrup_text.specs.Grammar.{IsDigit, IsLine, standard, line_feed, space, minus, zero_digit, letter_d, letter_i}
 use Rattle.lrup_text.specs.Laws.{BeginningCut, CutGoesOn, EveryCut, PendingOrFaulty}
 use Rattle.lrup_text.specs.Lines.{StreamLine, IsWithinLimits, line_text, HasNoLine, Cut, IsPending}
-use Rattle.lrup_text.specs.Rests.{Spot, AtStart, InLead, BeforeLiteral, AfterMinus, InLiteral, BeforeList, BeforeItem, InItem, AtEnd, MayComplete, Tracks, Moves, Blocks, Allows}
+use Rattle.lrup_text.specs.Rests.{Spot, AtStart, InLead, AfterImport, BeforeLiteral, AfterMinus, InLiteral, BeforeList, BeforeItem, InItem, AtEnd, MayComplete, Tracks, Moves, Blocks, Allows}
 use Rattle.lrup_text.proofs.Decisions.{decides_spelling, decides_long, decides_rat}
-use Rattle.lrup_text.proofs.Steps.{IsBounded, Exceeds, NoFirst, NoDigit, at_start, start_digit, lead_digit, lead_space, body_zero, body_deletion, body_minus, body_digit, minus_digit, literal_digit, literal_space, list_space, item_zero, item_digit, number_digit, number_space, start_blocks, lead_blocks, body_blocks, minus_blocks, literal_blocks, list_blocks, item_blocks, number_blocks, end_blocks, lead_exceeds, literal_exceeds, number_exceeds, body_exceeds_digit, body_exceeds_minus, item_exceeds, hint_allows, standard_lifted, one_more, tracks_more}
+use Rattle.lrup_text.proofs.Steps.{IsBounded, Exceeds, NoFirst, NoDigit, at_start, start_digit, lead_digit, lead_space, body_hints, body_end, body_deletion, body_import, import_space, import_blocks, body_minus, body_digit, minus_digit, literal_digit, literal_space, list_space, item_zero, item_digit, number_digit, number_space, start_blocks, lead_blocks, body_blocks, minus_blocks, literal_blocks, list_blocks, item_blocks, number_blocks, end_blocks, lead_exceeds, literal_exceeds, number_exceeds, body_exceeds_digit, body_exceeds_minus, item_exceeds, hint_allows, standard_lifted, one_more, tracks_more}
 use Rattle.lrup_text.proofs.Streams.{one_cut, texts_are_lines, refused_stays}
 use Rattle.lrup_text.proofs.TextLaws.{empty_pending, tracks_pending}
 
@@ -48,31 +48,41 @@ number_byte spot k b few digit digit_more closes none = elim (digit_or_not b) [
   | inr never ↦ elim (cases_eq b space) [ inl is ↦ subst (ByteAt spot) (sym is) closes | inr ne ↦ none never ne ]
 ]
 
-body_byte : (n b : ℕ) → n ≤ 65535 → ByteAt (BeforeLiteral n) b
-body_byte n b few = elim (cases_eq b zero_digit) [
-  | inl is ↦ subst (ByteAt (BeforeLiteral n)) (sym is) (moves (BeforeList false) (body_zero n few) tt)
-  | inr not_zero ↦ elim (cases_eq b letter_d) [
-    | inl is ↦ elim (cases_eq n 0) [
-      | inl none ↦ subst (λ k. ByteAt (BeforeLiteral k) b) (sym none) (subst (ByteAt (BeforeLiteral 0)) (sym is) (moves (BeforeList true) body_deletion tt))
-      | inr some ↦ blocked (λ signed. body_blocks signed n b not_zero (λ e. omega (arith, e, is)) (λ low high. omega (arith, is)) (λ none. absurd (some none)))
-    ]
-    | inr not_d ↦ elim (cases_eq b minus) [
-      | inl is ↦ subst (ByteAt (BeforeLiteral n)) (sym is) (sign (less_or_same n 65535 few))
-      | inr not_minus ↦ elim (first_or_not b) [
-        | inl first ↦ digit first (less_or_same n 65535 few)
-        | inr never ↦ blocked (λ signed. body_blocks signed n b not_zero not_minus never (λ none. not_d))
-      ]
+-- among literals: a 0, a sign, a digit, a letter where nothing says yet what the line is, or another byte
+body_byte : (imports : Bool) (n b : ℕ) → n ≤ 65535 → ByteAt (BeforeLiteral imports n) b
+body_byte imports n b few = elim (cases_eq b zero_digit) [
+  | inl is ↦ subst (ByteAt (BeforeLiteral imports n)) (sym is) (closes imports)
+  | inr not_zero ↦ elim (cases_eq b minus) [
+    | inl is ↦ subst (ByteAt (BeforeLiteral imports n)) (sym is) (sign (less_or_same n 65535 few))
+    | inr not_minus ↦ elim (first_or_not b) [
+      | inl first ↦ digit first (less_or_same n 65535 few)
+      | inr never ↦ letter imports not_zero not_minus never (cases_eq n 0)
     ]
   ]
 ]
   where
-    sign : (n < 65535) ⊎ (n ≡ 65535) → ByteAt (BeforeLiteral n) minus
-    sign (inl less) = moves (AfterMinus n) (body_minus n) less
-    sign (inr same) = subst (λ k. ByteAt (BeforeLiteral k) minus) (sym same) (exceeds body_exceeds_minus)
+    closes : (kind : Bool) → ByteAt (BeforeLiteral kind n) zero_digit
+    closes true = moves AtEnd (body_end n few) tt
+    closes false = moves (BeforeList false) (body_hints n few) tt
 
-    digit : (49 ≤ b) × (b ≤ 57) → (n < 65535) ⊎ (n ≡ 65535) → ByteAt (BeforeLiteral n) b
-    digit first (inl less) = moves (InLiteral 1 n) (body_digit n b first.0 first.1) (omega arith, less)
-    digit first (inr same) = subst (λ k. ByteAt (BeforeLiteral k) b) (sym same) (exceeds (body_exceeds_digit b first.0 first.1))
+    sign : (n < 65535) ⊎ (n ≡ 65535) → ByteAt (BeforeLiteral imports n) minus
+    sign (inl less) = moves (AfterMinus imports n) (body_minus imports n) less
+    sign (inr same) = subst (λ k. ByteAt (BeforeLiteral imports k) minus) (sym same) (exceeds (body_exceeds_minus imports))
+
+    digit : (49 ≤ b) × (b ≤ 57) → (n < 65535) ⊎ (n ≡ 65535) → ByteAt (BeforeLiteral imports n) b
+    digit first (inl less) = moves (InLiteral imports 1 n) (body_digit imports n b first.0 first.1) (omega arith, less)
+    digit first (inr same) = subst (λ k. ByteAt (BeforeLiteral imports k) b) (sym same) (exceeds (body_exceeds_digit imports b first.0 first.1))
+
+    letter : (kind : Bool) → b ≢ zero_digit → b ≢ minus → NoFirst b → (n ≡ 0) ⊎ (n ≢ 0) → ByteAt (BeforeLiteral kind n) b
+    letter true not_zero not_minus never any = blocked (λ signed. body_blocks signed true n b not_zero not_minus never (λ none adds. let e : true ≡ false = adds in cc))
+    letter false not_zero not_minus never (inr some) = blocked (λ signed. body_blocks signed false n b not_zero not_minus never (λ none adds. absurd (some none)))
+    letter false not_zero not_minus never (inl none) = subst (λ k. ByteAt (BeforeLiteral false k) b) (sym none) (elim (cases_eq b letter_d) [
+      | inl is ↦ subst (ByteAt (BeforeLiteral false 0)) (sym is) (moves (BeforeList true) body_deletion tt)
+      | inr not_d ↦ elim (cases_eq b letter_i) [
+        | inl is ↦ subst (ByteAt (BeforeLiteral false 0)) (sym is) (moves AfterImport body_import tt)
+        | inr not_i ↦ blocked (λ signed. body_blocks signed false 0 b not_zero not_minus never (λ _ _. (not_d, not_i)))
+      ]
+    ])
 
 item_byte : (deletes : Bool) (j b : ℕ) → j ≤ 65536 → ByteAt (BeforeItem deletes j) b
 item_byte deletes j b few = elim (cases_eq b zero_digit) [
@@ -105,19 +115,23 @@ byte_at (InLead k) b bounded =
     number_byte (InLead k) k b bounded
     (λ d less. moves (InLead (k + 1)) (lead_digit k b d) (omega arith))
     (λ d same. subst (λ n. ByteAt (InLead n) b) (sym same) (exceeds (lead_exceeds b d)))
-    (moves (BeforeLiteral 0) (lead_space k bounded) (omega arith))
+    (moves (BeforeLiteral false 0) (lead_space k bounded) (omega arith))
     (λ never ne. blocked (λ signed. lead_blocks signed k b never ne))
-byte_at (BeforeLiteral n) b bounded = body_byte n b bounded
-byte_at (AfterMinus n) b bounded = elim (first_or_not b) [
-  | inl first ↦ moves (InLiteral 1 n) (minus_digit n b first.0 first.1) (omega arith, bounded)
-  | inr never ↦ blocked (λ signed. minus_blocks signed n b never)
+byte_at AfterImport b bounded = elim (cases_eq b space) [
+  | inl is ↦ subst (ByteAt AfterImport) (sym is) (moves (BeforeLiteral true 0) import_space (omega arith))
+  | inr ne ↦ blocked (λ signed. import_blocks signed b ne)
 ]
-byte_at (InLiteral k n) b bounded =
-    number_byte (InLiteral k n) k b bounded.0
-    (λ d less. moves (InLiteral (k + 1) n) (literal_digit k n b d) (omega arith, bounded.1))
-    (λ d same. subst (λ x. ByteAt (InLiteral x n) b) (sym same) (exceeds (literal_exceeds n b bounded.1 d)))
-    (moves (BeforeLiteral (n + 1)) (literal_space k n bounded.0) (omega (arith, bounded.1)))
-    (λ never ne. blocked (λ signed. literal_blocks signed k n b never ne))
+byte_at (BeforeLiteral imports n) b bounded = body_byte imports n b bounded
+byte_at (AfterMinus imports n) b bounded = elim (first_or_not b) [
+  | inl first ↦ moves (InLiteral imports 1 n) (minus_digit imports n b first.0 first.1) (omega arith, bounded)
+  | inr never ↦ blocked (λ signed. minus_blocks signed imports n b never)
+]
+byte_at (InLiteral imports k n) b bounded =
+    number_byte (InLiteral imports k n) k b bounded.0
+    (λ d less. moves (InLiteral imports (k + 1) n) (literal_digit imports k n b d) (omega arith, bounded.1))
+    (λ d same. subst (λ x. ByteAt (InLiteral imports x n) b) (sym same) (exceeds (literal_exceeds imports n b bounded.1 d)))
+    (moves (BeforeLiteral imports (n + 1)) (literal_space imports k n bounded.0) (omega (arith, bounded.1)))
+    (λ never ne. blocked (λ signed. literal_blocks signed imports k n b never ne))
 byte_at (BeforeList deletes) b bounded = elim (cases_eq b space) [
   | inl is ↦ subst (ByteAt (BeforeList deletes)) (sym is) (moves (BeforeItem deletes 0) (list_space deletes) (omega arith))
   | inr ne ↦ blocked (λ signed. list_blocks signed deletes b ne)

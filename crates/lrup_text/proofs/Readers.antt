@@ -1,7 +1,7 @@
 -- A line that is read in part, as a whole: at its beginning, between pieces, and over a piece.
 use Rattle.std.proofs.Common.{◌≡◌, ◌≢◌, ℕ, ℤ, ◌+◌, ◌<◌, ◌≤◌, Bool, true, false, List, [], ◌∷◌, ◌++◌, length, take, drop, get_or, refl, sym, ◌∙◌, ap, subst, arith}
 use Rattle.std.specs.Fmt.{decimal}
-use Rattle.std.proofs.lemmas.List.{append_assoc, length-drop, take_more, take_all}
+use Rattle.std.proofs.lemmas.List.{append_assoc, append-nil, length-drop, take_more, take_all}
 use Rattle.std.proofs.Math.Seq.{take-add}
 use Rattle.lrup_text.specs.declared.machine.Place.{Place}
 use Rattle.lrup_text.specs.declared.machine.Place.TheVariants as places
@@ -9,9 +9,9 @@ use Rattle.lrup_text.specs.declared.machine.Step.{Step}
 use Rattle.lrup_text.specs.declared.machine.Step.TheVariants.{More, Done, Refused}
 use Rattle.lrup_text.specs.Faults.{IsRefused}
 use Rattle.lrup_text.specs.declared.machine.PartialLine.{PartialLine}
-use Rattle.lrup_text.specs.Grammar.{space, minus, zero_digit, SpellsNumber}
+use Rattle.lrup_text.specs.Grammar.{space, minus, zero_digit, letter_i, SpellsNumber}
 use Rattle.lrup_text.specs.Lines.{IsPending, IsStreamNumber, LineText}
-use Rattle.lrup_text.specs.Reading.{HasRoom, FitsDigits, IsKept, Reads, ReadsAhead, Steps, StepsThrough, pending_at, spot_at, pending, IsRoomy, line_so_far, clause_front, list_front, item_front, literal_front, literals_text, literals_of}
+use Rattle.lrup_text.specs.Reading.{HasRoom, FitsDigits, IsKept, Reads, ReadsAhead, Steps, StepsThrough, pending_at, spot_at, pending, IsRoomy, line_so_far, clause_front, list_front, item_front, end_front, literal_front, literals_text, items_text, literals_of, identities_of}
 use Rattle.lrup_text.proofs.Bytes.{bounded, below_limit}
 use Rattle.lrup_text.proofs.TextLaws.{tracks_pending}
 use Rattle.lrup_text.proofs.Numerals.{number_word}
@@ -46,7 +46,15 @@ some_byte_before xs y ys zs e = some_byte xs y (ys ++ zs) (sym (append_assoc xs 
 
 list_started : (deletes : Bool) (lead : ℕ) (lits : List ℤ) → list_front deletes lead lits ≡ [] → ⊥
 list_started true lead lits e = some_byte (decimal lead) space _ e
-list_started false lead lits e = some_byte (clause_front lead lits) zero_digit _ e
+list_started false lead lits e = some_byte (clause_front false lead lits) zero_digit _ e
+
+clause_started : (imports : Bool) (lead : ℕ) (lits : List ℤ) (more : List ℕ) → clause_front imports lead lits ++ more ≡ [] → ⊥
+clause_started true lead lits more e = some_byte_before (decimal lead) space (letter_i ∷ space ∷ literals_text lits) more e
+clause_started false lead lits more e = some_byte_before (decimal lead) space (literals_text lits) more e
+
+end_started : (imports deletes : Bool) (lead : ℕ) (lits : List ℤ) (ids : List ℕ) → end_front imports deletes lead lits ids ≡ [] → ⊥
+end_started true deletes lead lits ids e = some_byte (clause_front true lead lits) zero_digit _ e
+end_started false deletes lead lits ids e = some_byte (list_front deletes lead lits ++ items_text ids) space _ e
 
 word_some : (w : List ℕ) → SpellsNumber 18 w → w ≡ [] → ⊥
 word_some [] h e = h
@@ -56,13 +64,14 @@ started : (m : PartialLine) (place : Place) → place ≢ places.Start → FitsD
 unfolding pending_at
 started m places.Start ne h e = ne refl
 started m places.Lead ne h e = word_some (decimal m.number) (number_word m.number h.low (below_limit m.number m.digits h)) e
-started m places.Body ne h e = some_byte (decimal m.lead) space _ e
-started m places.Minus ne h e = some_byte (clause_front m.lead (literals_of m)) minus _ e
-started m places.Literal ne h e = some_byte_before (decimal m.lead) space (literals_text (literals_of m)) (literal_front m.negative m.number) e
+started m places.Import ne h e = some_byte (decimal m.lead) space _ e
+started m places.Body ne h e = clause_started m.imports m.lead (literals_of m) [] (append-nil (clause_front m.imports m.lead (literals_of m)) ∙ e)
+started m places.Minus ne h e = clause_started m.imports m.lead (literals_of m) (minus ∷ []) e
+started m places.Literal ne h e = clause_started m.imports m.lead (literals_of m) (literal_front m.negative m.number) e
 started m places.List ne h e = list_started m.deletes m.lead (literals_of m) e
 started m places.Item ne h e = some_byte (item_front m) space _ e
 started m places.Number ne h e = some_byte (item_front m) space _ e
-started m places.LineEnd ne h e = some_byte (item_front m) space _ e
+started m places.LineEnd ne h e = end_started m.imports m.deletes m.lead (literals_of m) (identities_of m) e
 
 pub is_started : (m : PartialLine) → Reads m → m.place ≢ places.Start → pending m ≡ [] → ⊥
 is_started m h ne e = started m m.place ne h.number e

@@ -2,8 +2,8 @@
 use Rattle.std.proofs.Common.{◌≡◌, ℕ, ◌+◌, ◌<◌, ◌≤◌, ◌⊎◌, inl, inr, Bool, true, false, List, [], ◌∷◌, ◌++◌, length, refl, sym, ◌∙◌, ap, subst, arith}
 use Rattle.std.specs.Prelude.{MatchBool}
 use Rattle.std.specs.List.{AllByRecursion}
-use Rattle.lrup_text.specs.Grammar.{Limits, AreWords, IsDigit, SpellsNumber, SpellsLiteral, IsLine, Words, Adds, Deletes, IsWithin, text, list_text, clause_text, line_feed, space, letter_d, minus, zero_digit}
-use Rattle.lrup_text.specs.Rests.{SpellsItem, ListFollows, ClauseFollows, BodyFollows, DigitsFollow, NumberFollows}
+use Rattle.lrup_text.specs.Grammar.{Limits, AreWords, IsDigit, SpellsNumber, SpellsLiteral, IsLine, Words, Adds, Deletes, Imports, IsWithin, text, list_text, clause_text, line_feed, space, letter_d, letter_i, minus, zero_digit}
+use Rattle.lrup_text.specs.Rests.{SpellsItem, ListFollows, ClauseEnds, ClauseFollows, LiteralsFollow, BodyFollows, DigitsFollow, NumberFollows}
 
 pub same_head : {a b : ℕ} {xs ys : List ℕ} → a ∷ xs ≡ b ∷ ys → a ≡ b
 same_head e = cc
@@ -133,38 +133,38 @@ item_from_digit limits deletes j b rest low high f =
 -- Clauses.
 
 -- after so many literals: the closing 0, a sign, or a number
-pub data ClauseTo (limits : Limits) (n b : ℕ) (rest : List ℕ) : Type 0 where
-  closes : b ≡ zero_digit → ListFollows limits false 0 rest → ClauseTo limits n b rest
-  numbers : 49 ≤ b → b ≤ 57 → n < limits.literals → DigitsFollow limits 1 (ClauseFollows limits (n + 1)) rest → ClauseTo limits n b rest
-  signs : b ≡ minus → n < limits.literals → NumberFollows limits (ClauseFollows limits (n + 1)) rest → ClauseTo limits n b rest
+pub data ClauseTo (limits : Limits) (imports : Bool) (n b : ℕ) (rest : List ℕ) : Type 0 where
+  closes : b ≡ zero_digit → ClauseEnds limits imports rest → ClauseTo limits imports n b rest
+  numbers : 49 ≤ b → b ≤ 57 → n < limits.literals → DigitsFollow limits 1 (ClauseFollows limits imports (n + 1)) rest → ClauseTo limits imports n b rest
+  signs : b ≡ minus → n < limits.literals → NumberFollows limits (ClauseFollows limits imports (n + 1)) rest → ClauseTo limits imports n b rest
 
-module _ (limits : Limits) (n b : ℕ) (rest after : List ℕ) (hints : ListFollows limits false 0 after) where
+module _ (limits : Limits) (imports : Bool) (n b : ℕ) (rest after : List ℕ) (end : ClauseEnds limits imports after) where
   literal_word : (word : List ℕ) (ws : List (List ℕ)) → SpellsLiteral limits.digits word → AllByRecursion (SpellsLiteral limits.digits) ws
-      → (n + 1) + length ws ≤ limits.literals → b ∷ rest ≡ word ++ space ∷ clause_text ws after → ClauseTo limits n b rest
+      → (n + 1) + length ws ≤ limits.literals → b ∷ rest ≡ word ++ space ∷ clause_text ws after → ClauseTo limits imports n b rest
   literal_word [] ws h each count is = absurd h
   literal_word (c ∷ cs) ws (inl h) each count is =
       let same : b ≡ c = same_head is in
-      let next : ClauseFollows limits (n + 1) (clause_text ws after) = record { words = ws; count = count; each = each; after = after; is = refl; hints = hints } in
+      let next : ClauseFollows limits imports (n + 1) (clause_text ws after) = record { words = ws; count = count; each = each; after = after; is = refl; end = end } in
       numbers (subst (λ x. 49 ≤ x) (sym same) h.0) (subst (λ x. x ≤ 57) (sym same) h.1) (omega arith) (number_word limits _ c cs (clause_text ws after) rest h (same_tail is) next)
   literal_word (c ∷ []) ws (inr h) each count is = absurd h.1
   literal_word (c ∷ d ∷ ds) ws (inr h) each count is =
-      let next : ClauseFollows limits (n + 1) (clause_text ws after) = record { words = ws; count = count; each = each; after = after; is = refl; hints = hints } in
-      let number : NumberFollows limits (ClauseFollows limits (n + 1)) (d ∷ (ds ++ space ∷ clause_text ws after)) =
+      let next : ClauseFollows limits imports (n + 1) (clause_text ws after) = record { words = ws; count = count; each = each; after = after; is = refl; end = end } in
+      let number : NumberFollows limits (ClauseFollows limits imports (n + 1)) (d ∷ (ds ++ space ∷ clause_text ws after)) =
       number_from limits _ d _ h.1.0 h.1.1 (number_word limits _ d ds (clause_text ws after) _ h.1 refl next) in
-      signs (same_head is ∙ h.0) (omega arith) (subst (NumberFollows limits (ClauseFollows limits (n + 1))) (sym (same_tail is)) number)
+      signs (same_head is ∙ h.0) (omega arith) (subst (NumberFollows limits (ClauseFollows limits imports (n + 1))) (sym (same_tail is)) number)
 
-  clause_words : (ws : List (List ℕ)) → AllByRecursion (SpellsLiteral limits.digits) ws → n + length ws ≤ limits.literals → b ∷ rest ≡ clause_text ws after → ClauseTo limits n b rest
-  clause_words [] each count is = closes (same_head is) (subst (ListFollows limits false 0) (sym (same_tail is)) hints)
+  clause_words : (ws : List (List ℕ)) → AllByRecursion (SpellsLiteral limits.digits) ws → n + length ws ≤ limits.literals → b ∷ rest ≡ clause_text ws after → ClauseTo limits imports n b rest
+  clause_words [] each count is = closes (same_head is) (subst (ClauseEnds limits imports) (sym (same_tail is)) end)
   clause_words (w ∷ ws) each count is = literal_word w ws each.0 each.1 (omega arith) is
 
-pub clause_to : (limits : Limits) (n b : ℕ) (rest : List ℕ) → ClauseFollows limits n (b ∷ rest) → ClauseTo limits n b rest
-clause_to limits n b rest f = clause_words limits n b rest f.after f.hints f.words f.each f.count f.is
+pub clause_to : (limits : Limits) (imports : Bool) (n b : ℕ) (rest : List ℕ) → ClauseFollows limits imports n (b ∷ rest) → ClauseTo limits imports n b rest
+clause_to limits imports n b rest f = clause_words limits imports n b rest f.after f.end f.words f.each f.count f.is
 
-pub clause_from_zero : (limits : Limits) (n : ℕ) (rest : List ℕ) → n ≤ limits.literals → ListFollows limits false 0 rest → ClauseFollows limits n (zero_digit ∷ rest)
-clause_from_zero limits n rest few hints = record { words = []; count = omega arith; each = tt; after = rest; is = refl; hints = hints }
+pub clause_from_zero : (limits : Limits) (imports : Bool) (n : ℕ) (rest : List ℕ) → n ≤ limits.literals → ClauseEnds limits imports rest → ClauseFollows limits imports n (zero_digit ∷ rest)
+clause_from_zero limits imports n rest few end = record { words = []; count = omega arith; each = tt; after = rest; is = refl; end = end }
 
-pub clause_from_digit : (limits : Limits) (n b : ℕ) (rest : List ℕ) → 49 ≤ b → b ≤ 57 → DigitsFollow limits 1 (ClauseFollows limits (n + 1)) rest → ClauseFollows limits n (b ∷ rest)
-clause_from_digit limits n b rest low high f =
+pub clause_from_digit : (limits : Limits) (imports : Bool) (n b : ℕ) (rest : List ℕ) → 49 ≤ b → b ≤ 57 → DigitsFollow limits 1 (ClauseFollows limits imports (n + 1)) rest → ClauseFollows limits imports n (b ∷ rest)
+clause_from_digit limits imports n b rest low high f =
     let few : (n + 1) + length f.next.words ≤ limits.literals = f.next.count in
     let word : SpellsNumber limits.digits (b ∷ f.more) = word_of_number limits _ b rest low high f in
     record {
@@ -173,11 +173,11 @@ clause_from_digit limits n b rest low high f =
       each = (inl word, f.next.each);
       after = f.next.after;
       is = ap (λ t. b ∷ t) (f.is ∙ ap (λ t. f.more ++ space ∷ t) f.next.is);
-      hints = f.next.hints;
+      end = f.next.end;
     }
 
-pub clause_from_minus : (limits : Limits) (n : ℕ) (rest : List ℕ) → NumberFollows limits (ClauseFollows limits (n + 1)) rest → ClauseFollows limits n (minus ∷ rest)
-clause_from_minus limits n rest f =
+pub clause_from_minus : (limits : Limits) (imports : Bool) (n : ℕ) (rest : List ℕ) → NumberFollows limits (ClauseFollows limits imports (n + 1)) rest → ClauseFollows limits imports n (minus ∷ rest)
+clause_from_minus limits imports n rest f =
     let few : (n + 1) + length f.digits.next.words ≤ limits.literals = f.digits.next.count in
     let word : SpellsNumber limits.digits (f.first ∷ f.digits.more) = word_of_number limits _ f.first f.after f.low f.high f.digits in
     record {
@@ -186,7 +186,7 @@ clause_from_minus limits n rest f =
       each = (inr (refl, word), f.digits.next.each);
       after = f.digits.next.after;
       is = ap (λ t. minus ∷ t) (f.is ∙ ap (λ t. f.first ∷ t) (f.digits.is ∙ ap (λ t. f.digits.more ++ space ∷ t) f.digits.next.is));
-      hints = f.digits.next.hints;
+      end = f.digits.next.end;
     }
 
 -- Lines.
@@ -201,23 +201,47 @@ words_of_list limits deletes rest f =
     let few : 0 + length f.words ≤ limits.identities = f.count in
     record { count = omega arith; each = f.each }
 
-pub line_to : (limits : Limits) (bytes : List ℕ) → IsLine limits bytes → NumberFollows limits (BodyFollows limits 0) bytes
+-- the literals of an import, each after a space, are a space and then the literals, each before one
+pub list_is_clause : (ws : List (List ℕ)) → list_text ws ≡ space ∷ clause_text ws (line_feed ∷ [])
+list_is_clause [] = refl
+list_is_clause (w ∷ ws) = ap (λ t. space ∷ (w ++ t)) (list_is_clause ws)
+
+literals_of_words : (limits : Limits) (ws : List (List ℕ)) → AreWords limits.literals (SpellsLiteral limits.digits) ws → LiteralsFollow limits (list_text ws)
+literals_of_words limits ws h =
+    let few : length ws ≤ limits.literals = h.count in
+    record {
+      after = clause_text ws (line_feed ∷ []);
+      is = list_is_clause ws;
+      clause = record { words = ws; count = omega arith; each = h.each; after = line_feed ∷ []; is = refl; end = refl };
+    }
+
+words_of_literals : (limits : Limits) (rest : List ℕ) (f : LiteralsFollow limits rest) → AreWords limits.literals (SpellsLiteral limits.digits) f.clause.words
+words_of_literals limits rest f =
+    let few : 0 + length f.clause.words ≤ limits.literals = f.clause.count in
+    record { count = omega arith; each = f.clause.each }
+
+literals_are : (limits : Limits) (rest : List ℕ) (f : LiteralsFollow limits rest) → rest ≡ list_text f.clause.words
+literals_are limits rest f = f.is ∙ ap (λ t. space ∷ t) (f.clause.is ∙ ap (clause_text f.clause.words) f.clause.end) ∙ sym (list_is_clause f.clause.words)
+
+pub line_to : (limits : Limits) (bytes : List ℕ) → IsLine limits bytes → NumberFollows limits (BodyFollows limits false 0) bytes
 line_to limits bytes line = cases line.0 line.1 line.2
   where
-    start : (word after : List ℕ) → SpellsNumber limits.digits word → bytes ≡ word ++ space ∷ after → BodyFollows limits 0 after → NumberFollows limits (BodyFollows limits 0) bytes
+    start : (word after : List ℕ) → SpellsNumber limits.digits word → bytes ≡ word ++ space ∷ after → BodyFollows limits false 0 after → NumberFollows limits (BodyFollows limits false 0) bytes
     start [] after h is body = absurd h
     start (c ∷ cs) after h is body =
-        subst (NumberFollows limits (BodyFollows limits 0)) (sym is) (number_from limits _ c _ h.0 h.1 (number_word limits _ c cs after _ h refl body))
+        subst (NumberFollows limits (BodyFollows limits false 0)) (sym is) (number_from limits _ c _ h.0 h.1 (number_word limits _ c cs after _ h refl body))
 
-    cases : (words : Words) → IsWithin limits words → bytes ≡ text words → NumberFollows limits (BodyFollows limits 0) bytes
+    cases : (words : Words) → IsWithin limits words → bytes ≡ text words → NumberFollows limits (BodyFollows limits false 0) bytes
     cases (Adds id lits hints) h is =
         let few : length lits ≤ limits.literals = h.1.count in
         start id (clause_text lits (list_text hints)) h.0 is
-        (inl (record { words = lits; count = omega arith; each = h.1.each; after = list_text hints; is = refl; hints = list_of_words limits false hints h.2 }))
+        (inl (record { words = lits; count = omega arith; each = h.1.each; after = list_text hints; is = refl; end = list_of_words limits false hints h.2 }))
     cases (Deletes lead ids) h is =
-        start lead (letter_d ∷ list_text ids) h.0 is (inr (refl, record { after = list_text ids; is = refl; ids = list_of_words limits true ids h.1 }))
+        start lead (letter_d ∷ list_text ids) h.0 is (inr (refl, refl, inl (record { after = list_text ids; is = refl; ids = list_of_words limits true ids h.1 })))
+    cases (Imports id lits) h is =
+        start id (letter_i ∷ list_text lits) h.0 is (inr (refl, refl, inr (record { after = list_text lits; is = refl; lits = literals_of_words limits lits h.1 })))
 
-pub line_from : (limits : Limits) (bytes : List ℕ) → NumberFollows limits (BodyFollows limits 0) bytes → IsLine limits bytes
+pub line_from : (limits : Limits) (bytes : List ℕ) → NumberFollows limits (BodyFollows limits false 0) bytes → IsLine limits bytes
 line_from limits bytes f = cases f.digits.next
   where
     word : SpellsNumber limits.digits (f.first ∷ f.digits.more)
@@ -226,16 +250,21 @@ line_from limits bytes f = cases f.digits.next
     is : (after : List ℕ) → f.digits.after ≡ after → bytes ≡ (f.first ∷ f.digits.more) ++ space ∷ after
     is after e = f.is ∙ ap (λ t. f.first ∷ t) (f.digits.is ∙ ap (λ t. f.digits.more ++ space ∷ t) e)
 
-    cases : BodyFollows limits 0 f.digits.after → IsLine limits bytes
+    cases : BodyFollows limits false 0 f.digits.after → IsLine limits bytes
     cases (inl c) =
         let few : 0 + length c.words ≤ limits.literals = c.count in
         let lits : AreWords limits.literals (SpellsLiteral limits.digits) c.words = record { count = omega arith; each = c.each } in (
-          Adds (f.first ∷ f.digits.more) c.words c.hints.words,
-          (word, lits, words_of_list limits false c.after c.hints),
-          is _ (c.is ∙ ap (clause_text c.words) c.hints.is),
+          Adds (f.first ∷ f.digits.more) c.words c.end.words,
+          (word, lits, words_of_list limits false c.after c.end),
+          is _ (c.is ∙ ap (clause_text c.words) c.end.is),
         )
-    cases (inr d) = (
-      Deletes (f.first ∷ f.digits.more) d.1.ids.words,
-      (word, words_of_list limits true d.1.after d.1.ids),
-      is _ (d.1.is ∙ ap (λ t. letter_d ∷ t) d.1.ids.is),
+    cases (inr (_, _, inl d)) = (
+      Deletes (f.first ∷ f.digits.more) d.ids.words,
+      (word, words_of_list limits true d.after d.ids),
+      is _ (d.is ∙ ap (λ t. letter_d ∷ t) d.ids.is),
+    )
+    cases (inr (_, _, inr i)) = (
+      Imports (f.first ∷ f.digits.more) i.lits.clause.words,
+      (word, words_of_literals limits i.after i.lits),
+      is _ (i.is ∙ ap (λ t. letter_i ∷ t) (literals_are limits i.after i.lits)),
     )

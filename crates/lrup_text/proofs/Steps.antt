@@ -1,8 +1,8 @@
 -- One byte at each spot: where it leads, that nothing may follow it, and why.
-use Rattle.std.proofs.Common.{◌≡◌, ℕ, ◌+◌, ◌<◌, ◌≤◌, ◌≢◌, inl, inr, Bool, true, false, List, [], ◌∷◌, ◌++◌, refl, sym, ◌∙◌, subst, arith}
+use Rattle.std.proofs.Common.{◌≡◌, ℕ, ◌+◌, ◌<◌, ◌≤◌, ◌≢◌, ◌⊎◌, ◌↔◌, inl, inr, Bool, true, false, List, [], ◌∷◌, ◌++◌, refl, sym, ◌∙◌, subst, arith}
 use Rattle.std.proofs.lemmas.List.{append_assoc}
-use Rattle.lrup_text.specs.Grammar.{Limits, AreLifted, IsDigit, IsLine, standard, line_feed, space, letter_d, minus, zero_digit, Begins}
-use Rattle.lrup_text.specs.Rests.{Spot, AtStart, InLead, BeforeLiteral, AfterMinus, InLiteral, BeforeList, BeforeItem, InItem, AtEnd, ListFollows, ClauseFollows, DeletionFollows, BodyFollows, DigitsFollow, NumberFollows, MayComplete, Tracks, Moves, Blocks, Allows}
+use Rattle.lrup_text.specs.Grammar.{Limits, AreLifted, IsDigit, IsLine, standard, line_feed, space, letter_d, letter_i, minus, zero_digit, Begins}
+use Rattle.lrup_text.specs.Rests.{Spot, AtStart, InLead, AfterImport, BeforeLiteral, AfterMinus, InLiteral, BeforeList, BeforeItem, InItem, AtEnd, ListFollows, ClauseEnds, ClauseFollows, LiteralsFollow, DeletionFollows, ImportFollows, BodyFollows, DigitsFollow, NumberFollows, MayComplete, Tracks, Moves, Blocks, Allows}
 use Rattle.lrup_text.proofs.Rests as rests
 use Rattle.lrup_text.proofs.Rests.{digits_to, digits_from_digit, digits_from_space, number_to, number_from, list_to_space, item_to, item_from_zero, item_from_digit, clause_to, clause_from_zero, clause_from_digit, clause_from_minus, line_to, line_from}
 
@@ -34,7 +34,7 @@ lead_digit k b digit = record {
   from = λ signed limits lifted rest h. digits_from_digit limits k _ b rest digit h;
 }
 
-pub lead_space : (k : ℕ) → k ≤ 18 → Moves (InLead k) space (BeforeLiteral 0)
+pub lead_space : (k : ℕ) → k ≤ 18 → Moves (InLead k) space (BeforeLiteral false 0)
 lead_space k few = record {
   to = λ signed limits lifted rest h. end_digits limits k _ rest h;
   from = λ signed limits lifted rest h. digits_from_space limits k _ rest (omega (arith, lifted.digits)) h;
@@ -44,73 +44,112 @@ lead_space k few = record {
 deletion_to : (limits : Limits) (b : ℕ) (rest : List ℕ) → DeletionFollows limits (b ∷ rest) → (b ≡ letter_d) × ListFollows limits true 0 rest
 deletion_to limits b rest h = (rests.same_head h.is, subst (ListFollows limits true 0) (sym (rests.same_tail h.is)) h.ids)
 
-pub body_zero : (n : ℕ) → n ≤ 65535 → Moves (BeforeLiteral n) zero_digit (BeforeList false)
-body_zero n few = record { to = to; from = λ signed limits lifted rest h. inl (clause_from_zero limits n rest (omega (arith, lifted.literals)) h) }
+import_to : (limits : Limits) (b : ℕ) (rest : List ℕ) → ImportFollows limits (b ∷ rest) → (b ≡ letter_i) × LiteralsFollow limits rest
+import_to limits b rest h = (rests.same_head h.is, subst (LiteralsFollow limits) (sym (rests.same_tail h.is)) h.lits)
+
+-- a byte that is no letter goes on with the clause
+no_letter : (limits : Limits) (imports : Bool) (n b : ℕ) (rest : List ℕ) → b ≢ letter_d → b ≢ letter_i → BodyFollows limits imports n (b ∷ rest) → rests.ClauseTo limits imports n b rest
+no_letter limits imports n b rest not_d not_i (inl h) = clause_to limits imports n b rest h
+no_letter limits imports n b rest not_d not_i (inr (_, _, inl h)) = absurd (not_d (deletion_to limits b rest h).0)
+no_letter limits imports n b rest not_d not_i (inr (_, _, inr h)) = absurd (not_i (import_to limits b rest h).0)
+
+-- a letter doesn't
+letter_to : (limits : Limits) (imports : Bool) (n b : ℕ) (rest : List ℕ) → 57 < b → BodyFollows limits imports n (b ∷ rest) → DeletionFollows limits (b ∷ rest) ⊎ ImportFollows limits (b ∷ rest)
+letter_to limits imports n b rest high (inr h) = h.2
+letter_to limits imports n b rest high (inl h) = elim (clause_to limits imports n b rest h) [
+  | rests.closes e h ↦ let e' : b ≡ zero_digit = e in absurd (omega arith)
+  | rests.numbers low top m h ↦ absurd (omega arith)
+  | rests.signs e m h ↦ let e' : b ≡ minus = e in absurd (omega arith)
+]
+
+pub body_zero : (imports : Bool) (n : ℕ) → n ≤ 65535 → (next : Spot) → ((limits : Limits) (rest : List ℕ) → ClauseEnds limits imports rest ↔ MayComplete limits next rest) → Moves (BeforeLiteral imports n) zero_digit next
+body_zero imports n few next same = record {
+  to = λ signed limits lifted rest h. (same limits rest).0 (clause limits rest (no_letter limits imports n zero_digit rest (λ e. let e' : zero_digit ≡ letter_d = e in omega arith) (λ e. let e' : zero_digit ≡ letter_i = e in omega arith) h));
+  from = λ signed limits lifted rest h. inl (clause_from_zero limits imports n rest (omega (arith, lifted.literals)) ((same limits rest).1 h));
+}
   where
-    clause : (limits : Limits) (rest : List ℕ) → rests.ClauseTo limits n 48 rest → ListFollows limits false 0 rest
+    clause : (limits : Limits) (rest : List ℕ) → rests.ClauseTo limits imports n 48 rest → ClauseEnds limits imports rest
     clause limits rest (rests.closes e h) = h
     clause limits rest (rests.numbers low high m h) = absurd (omega arith)
     clause limits rest (rests.signs e m h) = let e' : zero_digit ≡ minus = e in absurd (omega arith)
 
-    to : (signed : Bool) (limits : Limits) → AreLifted signed limits → (rest : List ℕ) → BodyFollows limits n (zero_digit ∷ rest) → ListFollows limits false 0 rest
-    to signed limits lifted rest (inl h) = clause limits rest (clause_to limits n 48 rest h)
-    to signed limits lifted rest (inr h) = let e : zero_digit ≡ letter_d = (deletion_to limits 48 rest h.1).0 in absurd (omega arith)
+pub body_hints : (n : ℕ) → n ≤ 65535 → Moves (BeforeLiteral false n) zero_digit (BeforeList false)
+body_hints n few = body_zero false n few (BeforeList false) (λ limits rest. ((λ h. h), (λ h. h)))
 
-pub body_deletion : Moves (BeforeLiteral 0) letter_d (BeforeList true)
-body_deletion = record { to = to; from = λ signed limits lifted rest h. inr (refl, record { after = rest; is = refl; ids = h }) }
+pub body_end : (n : ℕ) → n ≤ 65535 → Moves (BeforeLiteral true n) zero_digit AtEnd
+body_end n few = body_zero true n few AtEnd (λ limits rest. ((λ h. h), (λ h. h)))
+
+pub body_deletion : Moves (BeforeLiteral false 0) letter_d (BeforeList true)
+body_deletion = record {
+  to = λ signed limits lifted rest h. deletion limits rest (letter_to limits false 0 letter_d rest (omega arith) h);
+  from = λ signed limits lifted rest h. inr (refl, refl, inl (record { after = rest; is = refl; ids = h }));
+}
   where
-    clause : (limits : Limits) (rest : List ℕ) → rests.ClauseTo limits 0 100 rest → ListFollows limits true 0 rest
-    clause limits rest (rests.closes e h) = let e' : letter_d ≡ zero_digit = e in absurd (omega arith)
-    clause limits rest (rests.numbers low high m h) = absurd (omega arith)
-    clause limits rest (rests.signs e m h) = let e' : letter_d ≡ minus = e in absurd (omega arith)
+    deletion : (limits : Limits) (rest : List ℕ) → DeletionFollows limits (letter_d ∷ rest) ⊎ ImportFollows limits (letter_d ∷ rest) → ListFollows limits true 0 rest
+    deletion limits rest (inl h) = (deletion_to limits letter_d rest h).1
+    deletion limits rest (inr h) = let e : letter_d ≡ letter_i = (import_to limits letter_d rest h).0 in absurd (omega arith)
 
-    to : (signed : Bool) (limits : Limits) → AreLifted signed limits → (rest : List ℕ) → BodyFollows limits 0 (letter_d ∷ rest) → ListFollows limits true 0 rest
-    to signed limits lifted rest (inl h) = clause limits rest (clause_to limits 0 100 rest h)
-    to signed limits lifted rest (inr h) = (deletion_to limits 100 rest h.1).1
-
-pub body_minus : (n : ℕ) → Moves (BeforeLiteral n) minus (AfterMinus n)
-body_minus n = record { to = to; from = λ signed limits lifted rest h. inl (clause_from_minus limits n rest h) }
+pub body_import : Moves (BeforeLiteral false 0) letter_i AfterImport
+body_import = record {
+  to = λ signed limits lifted rest h. lits limits rest (letter_to limits false 0 letter_i rest (omega arith) h);
+  from = λ signed limits lifted rest h. inr (refl, refl, inr (record { after = rest; is = refl; lits = h }));
+}
   where
-    clause : (limits : Limits) (rest : List ℕ) → rests.ClauseTo limits n 45 rest → NumberFollows limits (ClauseFollows limits (n + 1)) rest
+    lits : (limits : Limits) (rest : List ℕ) → DeletionFollows limits (letter_i ∷ rest) ⊎ ImportFollows limits (letter_i ∷ rest) → LiteralsFollow limits rest
+    lits limits rest (inl h) = let e : letter_i ≡ letter_d = (deletion_to limits letter_i rest h).0 in absurd (omega arith)
+    lits limits rest (inr h) = (import_to limits letter_i rest h).1
+
+pub import_space : Moves AfterImport space (BeforeLiteral true 0)
+import_space = record {
+  to = λ signed limits lifted rest h. inl (subst (ClauseFollows limits true 0) (sym (rests.same_tail h.is)) h.clause);
+  from = λ signed limits lifted rest h. record { after = rest; is = refl; clause = clause limits rest h };
+}
+  where
+    clause : (limits : Limits) (rest : List ℕ) → BodyFollows limits true 0 rest → ClauseFollows limits true 0 rest
+    clause limits rest (inl h) = h
+    clause limits rest (inr h) = let e : true ≡ false = h.1 in cc
+
+pub body_minus : (imports : Bool) (n : ℕ) → Moves (BeforeLiteral imports n) minus (AfterMinus imports n)
+body_minus imports n = record {
+  to = λ signed limits lifted rest h. clause limits rest (no_letter limits imports n minus rest (λ e. let e' : minus ≡ letter_d = e in omega arith) (λ e. let e' : minus ≡ letter_i = e in omega arith) h);
+  from = λ signed limits lifted rest h. inl (clause_from_minus limits imports n rest h);
+}
+  where
+    clause : (limits : Limits) (rest : List ℕ) → rests.ClauseTo limits imports n 45 rest → NumberFollows limits (ClauseFollows limits imports (n + 1)) rest
     clause limits rest (rests.closes e h) = let e' : minus ≡ zero_digit = e in absurd (omega arith)
     clause limits rest (rests.numbers low high m h) = absurd (omega arith)
     clause limits rest (rests.signs e m h) = h
 
-    to : (signed : Bool) (limits : Limits) → AreLifted signed limits → (rest : List ℕ) → BodyFollows limits n (minus ∷ rest) → NumberFollows limits (ClauseFollows limits (n + 1)) rest
-    to signed limits lifted rest (inl h) = clause limits rest (clause_to limits n 45 rest h)
-    to signed limits lifted rest (inr h) = let e : minus ≡ letter_d = (deletion_to limits 45 rest h.1).0 in absurd (omega arith)
-
-pub body_digit : (n b : ℕ) → 49 ≤ b → b ≤ 57 → Moves (BeforeLiteral n) b (InLiteral 1 n)
-body_digit n b low high = record { to = to; from = λ signed limits lifted rest h. inl (clause_from_digit limits n b rest low high h) }
+pub body_digit : (imports : Bool) (n b : ℕ) → 49 ≤ b → b ≤ 57 → Moves (BeforeLiteral imports n) b (InLiteral imports 1 n)
+body_digit imports n b low high = record {
+  to = λ signed limits lifted rest h. clause limits rest (no_letter limits imports n b rest (λ e. let e' : b ≡ letter_d = e in omega arith) (λ e. let e' : b ≡ letter_i = e in omega arith) h);
+  from = λ signed limits lifted rest h. inl (clause_from_digit limits imports n b rest low high h);
+}
   where
-    clause : (limits : Limits) (rest : List ℕ) → rests.ClauseTo limits n b rest → DigitsFollow limits 1 (ClauseFollows limits (n + 1)) rest
+    clause : (limits : Limits) (rest : List ℕ) → rests.ClauseTo limits imports n b rest → DigitsFollow limits 1 (ClauseFollows limits imports (n + 1)) rest
     clause limits rest (rests.closes e h) = let e' : b ≡ 48 = e in absurd (omega arith)
     clause limits rest (rests.numbers low' high' m h) = h
     clause limits rest (rests.signs e m h) = let e' : b ≡ 45 = e in absurd (omega arith)
 
-    to : (signed : Bool) (limits : Limits) → AreLifted signed limits → (rest : List ℕ) → BodyFollows limits n (b ∷ rest) → DigitsFollow limits 1 (ClauseFollows limits (n + 1)) rest
-    to signed limits lifted rest (inl h) = clause limits rest (clause_to limits n b rest h)
-    to signed limits lifted rest (inr h) = let e : b ≡ 100 = (deletion_to limits b rest h.1).0 in absurd (omega arith)
-
-pub minus_digit : (n b : ℕ) → 49 ≤ b → b ≤ 57 → Moves (AfterMinus n) b (InLiteral 1 n)
-minus_digit n b low high = record {
+pub minus_digit : (imports : Bool) (n b : ℕ) → 49 ≤ b → b ≤ 57 → Moves (AfterMinus imports n) b (InLiteral imports 1 n)
+minus_digit imports n b low high = record {
   to = λ signed limits lifted rest h. (number_to limits _ b rest h).2;
   from = λ signed limits lifted rest h. number_from limits _ b rest low high h;
 }
 
-pub literal_digit : (k n b : ℕ) → IsDigit b → Moves (InLiteral k n) b (InLiteral (k + 1) n)
-literal_digit k n b digit = record {
+pub literal_digit : (imports : Bool) (k n b : ℕ) → IsDigit b → Moves (InLiteral imports k n) b (InLiteral imports (k + 1) n)
+literal_digit imports k n b digit = record {
   to = λ signed limits lifted rest h. more_digit limits k _ b rest digit h;
   from = λ signed limits lifted rest h. digits_from_digit limits k _ b rest digit h;
 }
 
-pub literal_space : (k n : ℕ) → k ≤ 18 → Moves (InLiteral k n) space (BeforeLiteral (n + 1))
-literal_space k n few = record {
+pub literal_space : (imports : Bool) (k n : ℕ) → k ≤ 18 → Moves (InLiteral imports k n) space (BeforeLiteral imports (n + 1))
+literal_space imports k n few = record {
   to = λ signed limits lifted rest h. inl (end_digits limits k _ rest h);
   from = λ signed limits lifted rest h. digits_from_space limits k _ rest (omega (arith, lifted.digits)) (body limits rest h);
 }
   where
-    body : (limits : Limits) (rest : List ℕ) → BodyFollows limits (n + 1) rest → ClauseFollows limits (n + 1) rest
+    body : (limits : Limits) (rest : List ℕ) → BodyFollows limits imports (n + 1) rest → ClauseFollows limits imports (n + 1) rest
     body limits rest (inl h) = h
     body limits rest (inr h) = let e : n + 1 ≡ 0 = h.0 in absurd (omega arith)
 
@@ -169,19 +208,23 @@ start_blocks signed b never limits lifted rest h = let n = number_to limits _ b 
 pub lead_blocks : (signed : Bool) (k b : ℕ) → NoDigit b → b ≢ space → Blocks signed (InLead k) b
 lead_blocks signed k b never ne limits lifted rest h = no_digits limits k _ b rest never ne h
 
-pub body_blocks : (signed : Bool) (n b : ℕ) → b ≢ zero_digit → b ≢ minus → NoFirst b → (n ≡ 0 → b ≢ letter_d) → Blocks signed (BeforeLiteral n) b
-body_blocks signed n b not_zero not_minus never not_d limits lifted rest (inl h) = elim (clause_to limits n b rest h) [
+pub import_blocks : (signed : Bool) (b : ℕ) → b ≢ space → Blocks signed AfterImport b
+import_blocks signed b ne limits lifted rest h = ne (rests.same_head h.is)
+
+pub body_blocks : (signed imports : Bool) (n b : ℕ) → b ≢ zero_digit → b ≢ minus → NoFirst b → (n ≡ 0 → imports ≡ false → (b ≢ letter_d) × (b ≢ letter_i)) → Blocks signed (BeforeLiteral imports n) b
+body_blocks signed imports n b not_zero not_minus never no_letter limits lifted rest (inl h) = elim (clause_to limits imports n b rest h) [
   | rests.closes e h ↦ not_zero e
   | rests.numbers low high m h ↦ never low high
   | rests.signs e m h ↦ not_minus e
 ]
-body_blocks signed n b not_zero not_minus never not_d limits lifted rest (inr h) = not_d h.0 (deletion_to limits b rest h.1).0
+body_blocks signed imports n b not_zero not_minus never no_letter limits lifted rest (inr (none, adds, inl h)) = (no_letter none adds).0 (deletion_to limits b rest h).0
+body_blocks signed imports n b not_zero not_minus never no_letter limits lifted rest (inr (none, adds, inr h)) = (no_letter none adds).1 (import_to limits b rest h).0
 
-pub minus_blocks : (signed : Bool) (n b : ℕ) → NoFirst b → Blocks signed (AfterMinus n) b
-minus_blocks signed n b never limits lifted rest h = let m = number_to limits _ b rest h in never m.0 m.1
+pub minus_blocks : (signed imports : Bool) (n b : ℕ) → NoFirst b → Blocks signed (AfterMinus imports n) b
+minus_blocks signed imports n b never limits lifted rest h = let m = number_to limits _ b rest h in never m.0 m.1
 
-pub literal_blocks : (signed : Bool) (k n b : ℕ) → NoDigit b → b ≢ space → Blocks signed (InLiteral k n) b
-literal_blocks signed k n b never ne limits lifted rest h = no_digits limits k _ b rest never ne h
+pub literal_blocks : (signed imports : Bool) (k n b : ℕ) → NoDigit b → b ≢ space → Blocks signed (InLiteral imports k n) b
+literal_blocks signed imports k n b never ne limits lifted rest h = no_digits limits k _ b rest never ne h
 
 pub list_blocks : (signed deletes : Bool) (b : ℕ) → b ≢ space → Blocks signed (BeforeList deletes) b
 list_blocks signed deletes b ne limits lifted rest h = ne (list_to_space limits deletes 0 b rest h)
@@ -221,9 +264,18 @@ empty_list : (signed deletes : Bool) (j : ℕ) → j ≤ 65537 → ListFollows (
 unfolding wider
 empty_list signed deletes j few = item_from_zero (wider signed) deletes j few
 
-empty_clause : (n : ℕ) → n ≤ 65536 → ClauseFollows (wider false) n (zero_digit ∷ space ∷ zero_digit ∷ line_feed ∷ [])
+-- what may follow the 0 of a clause
+abbrev clause_tail : Bool → List ℕ
+clause_tail true = line_feed ∷ []
+clause_tail false = space ∷ zero_digit ∷ line_feed ∷ []
+
+empty_end : (imports : Bool) → ClauseEnds (wider false) imports (clause_tail imports)
+empty_end true = refl
+empty_end false = empty_list false false 0 (omega arith)
+
+empty_clause : (imports : Bool) (n : ℕ) → n ≤ 65536 → ClauseFollows (wider false) imports n (zero_digit ∷ clause_tail imports)
 unfolding wider
-empty_clause n few = clause_from_zero (wider false) n _ few (empty_list false false 0 (omega arith))
+empty_clause imports n few = clause_from_zero (wider false) imports n _ few (empty_end imports)
 
 last_digit : (Next : List ℕ → Type 0) (b : ℕ) (rest : List ℕ) → IsDigit b → Next rest → DigitsFollow (wider false) 18 Next (b ∷ space ∷ rest)
 unfolding wider
@@ -232,13 +284,13 @@ last_digit Next b rest digit next = digits_from_digit (wider false) 18 Next b (s
 pub lead_exceeds : (b : ℕ) → IsDigit b → Exceeds (InLead 18) b
 lead_exceeds b digit = record {
   stops = λ rest h. many_digits _ b rest digit h;
-  allows = record { limits = wider false; lifted = wider_lifted false; rest = _; completes = last_digit _ b _ digit (inl (empty_clause 0 (omega arith))) };
+  allows = record { limits = wider false; lifted = wider_lifted false; rest = _; completes = last_digit _ b _ digit (inl (empty_clause false 0 (omega arith))) };
 }
 
-pub literal_exceeds : (n b : ℕ) → n < 65535 → IsDigit b → Exceeds (InLiteral 18 n) b
-literal_exceeds n b few digit = record {
+pub literal_exceeds : (imports : Bool) (n b : ℕ) → n < 65535 → IsDigit b → Exceeds (InLiteral imports 18 n) b
+literal_exceeds imports n b few digit = record {
   stops = λ rest h. many_digits _ b rest digit h;
-  allows = record { limits = wider false; lifted = wider_lifted false; rest = _; completes = last_digit _ b _ digit (empty_clause (n + 1) (omega arith)) };
+  allows = record { limits = wider false; lifted = wider_lifted false; rest = _; completes = last_digit _ b _ digit (empty_clause imports (n + 1) (omega arith)) };
 }
 
 pub number_exceeds : (deletes : Bool) (j b : ℕ) → j < 65536 → IsDigit b → Exceeds (InItem deletes 18 j) b
@@ -247,32 +299,32 @@ number_exceeds deletes j b few digit = record {
   allows = record { limits = wider false; lifted = wider_lifted false; rest = _; completes = last_digit _ b _ digit (empty_list false deletes (j + 1) (omega arith)) };
 }
 
-no_more_literals : (b : ℕ) (rest : List ℕ) → b ≢ zero_digit → b ≢ letter_d → ¬ BodyFollows standard 65535 (b ∷ rest)
-no_more_literals b rest not_zero not_d (inl h) = elim (clause_to standard 65535 b rest h) [
-  | rests.closes e h ↦ not_zero e
-  | rests.numbers low high m h ↦ let few : 65535 < 65535 = m in absurd (omega arith)
-  | rests.signs e m h ↦ let few : 65535 < 65535 = m in absurd (omega arith)
-]
-no_more_literals b rest not_zero not_d (inr h) = not_d (deletion_to standard b rest h.1).0
+no_more_literals : (imports : Bool) (b : ℕ) (rest : List ℕ) → b ≢ zero_digit → b ≤ 57 → ¬ BodyFollows standard imports 65535 (b ∷ rest)
+no_more_literals imports b rest not_zero high h =
+    elim (no_letter standard imports 65535 b rest (λ e. let e' : b ≡ letter_d = e in omega arith) (λ e. let e' : b ≡ letter_i = e in omega arith) h) [
+      | rests.closes e h ↦ not_zero e
+      | rests.numbers low top m h ↦ let few : 65535 < 65535 = m in absurd (omega arith)
+      | rests.signs e m h ↦ let few : 65535 < 65535 = m in absurd (omega arith)
+    ]
 
-one_more_literal : (b : ℕ) → 49 ≤ b → b ≤ 57 → DigitsFollow (wider false) 1 (ClauseFollows (wider false) 65536) (space ∷ zero_digit ∷ space ∷ zero_digit ∷ line_feed ∷ [])
+one_more_literal : (imports : Bool) (b : ℕ) → 49 ≤ b → b ≤ 57 → DigitsFollow (wider false) 1 (ClauseFollows (wider false) imports 65536) (space ∷ zero_digit ∷ clause_tail imports)
 unfolding wider
-one_more_literal b low high = digits_from_space (wider false) 1 _ _ (omega arith) (empty_clause 65536 (omega arith))
+one_more_literal imports b low high = digits_from_space (wider false) 1 _ _ (omega arith) (empty_clause imports 65536 (omega arith))
 
-pub body_exceeds_digit : (b : ℕ) → 49 ≤ b → b ≤ 57 → Exceeds (BeforeLiteral 65535) b
-body_exceeds_digit b low high = record {
-  stops = λ rest h. no_more_literals b rest (λ e. let e' : b ≡ zero_digit = e in omega arith) (λ e. let e' : b ≡ letter_d = e in omega arith) h;
-  allows = record { limits = wider false; lifted = wider_lifted false; rest = _; completes = inl (clause_from_digit (wider false) 65535 b _ low high (one_more_literal b low high)) };
+pub body_exceeds_digit : (imports : Bool) (b : ℕ) → 49 ≤ b → b ≤ 57 → Exceeds (BeforeLiteral imports 65535) b
+body_exceeds_digit imports b low high = record {
+  stops = λ rest h. no_more_literals imports b rest (λ e. let e' : b ≡ zero_digit = e in omega arith) high h;
+  allows = record { limits = wider false; lifted = wider_lifted false; rest = _; completes = inl (clause_from_digit (wider false) imports 65535 b _ low high (one_more_literal imports b low high)) };
 }
 
-pub body_exceeds_minus : Exceeds (BeforeLiteral 65535) minus
-body_exceeds_minus = record {
-  stops = λ rest h. no_more_literals minus rest (λ e. let e' : minus ≡ zero_digit = e in omega arith) (λ e. let e' : minus ≡ letter_d = e in omega arith) h;
+pub body_exceeds_minus : (imports : Bool) → Exceeds (BeforeLiteral imports 65535) minus
+body_exceeds_minus imports = record {
+  stops = λ rest h. no_more_literals imports minus rest (λ e. let e' : minus ≡ zero_digit = e in omega arith) (omega arith) h;
   allows = record {
     limits = wider false;
     lifted = wider_lifted false;
     rest = _;
-    completes = inl (clause_from_minus (wider false) 65535 _ (number_from (wider false) _ 49 _ (omega arith) (omega arith) (one_more_literal 49 (omega arith) (omega arith))));
+    completes = inl (clause_from_minus (wider false) imports 65535 _ (number_from (wider false) _ 49 _ (omega arith) (omega arith) (one_more_literal imports 49 (omega arith) (omega arith))));
   };
 }
 
@@ -310,8 +362,12 @@ IsOpen spot = (first : ℕ) × (rest : List ℕ) × MayComplete standard spot (f
 open_list : (deletes : Bool) (j : ℕ) → j ≤ 65536 → ListFollows standard deletes j (space ∷ zero_digit ∷ line_feed ∷ [])
 open_list deletes j few = item_from_zero standard deletes j few
 
-open_clause : (n : ℕ) → n ≤ 65535 → ClauseFollows standard n (zero_digit ∷ space ∷ zero_digit ∷ line_feed ∷ [])
-open_clause n few = clause_from_zero standard n _ few (open_list false 0 (omega arith))
+open_end : (imports : Bool) → ClauseEnds standard imports (clause_tail imports)
+open_end true = refl
+open_end false = open_list false 0 (omega arith)
+
+open_clause : (imports : Bool) (n : ℕ) → n ≤ 65535 → ClauseFollows standard imports n (zero_digit ∷ clause_tail imports)
+open_clause imports n few = clause_from_zero standard imports n _ few (open_end imports)
 
 open_digits : (k : ℕ) (Next : List ℕ → Type 0) (rest : List ℕ) → k ≤ 18 → Next rest → DigitsFollow standard k Next (space ∷ rest)
 open_digits k Next rest few next = digits_from_space standard k Next rest few next
@@ -323,20 +379,22 @@ open_number Next rest next = number_from standard Next 49 _ (omega arith) (omega
 abbrev pub IsBounded : Spot → Type 0
 IsBounded AtStart = Unit {0}
 IsBounded (InLead digits) = digits ≤ 18
-IsBounded (BeforeLiteral literals) = literals ≤ 65535
-IsBounded (AfterMinus literals) = literals < 65535
-IsBounded (InLiteral digits literals) = (digits ≤ 18) × (literals < 65535)
+IsBounded AfterImport = Unit {0}
+IsBounded (BeforeLiteral imports literals) = literals ≤ 65535
+IsBounded (AfterMinus imports literals) = literals < 65535
+IsBounded (InLiteral imports digits literals) = (digits ≤ 18) × (literals < 65535)
 IsBounded (BeforeList deletes) = Unit {0}
 IsBounded (BeforeItem deletes items) = items ≤ 65536
 IsBounded (InItem deletes digits items) = (digits ≤ 18) × (items < 65536)
 IsBounded AtEnd = Unit {0}
 
 pub open_spot : (spot : Spot) → IsBounded spot → IsOpen spot
-open_spot AtStart h = (_, _, open_number _ _ (inl (open_clause 0 (omega arith))))
-open_spot (InLead digits) h = (_, _, open_digits digits _ _ h (inl (open_clause 0 (omega arith))))
-open_spot (BeforeLiteral literals) h = (_, _, inl (open_clause literals h))
-open_spot (AfterMinus literals) h = (_, _, open_number _ _ (open_clause (literals + 1) (omega arith)))
-open_spot (InLiteral digits literals) h = (_, _, open_digits digits _ _ h.0 (open_clause (literals + 1) (omega arith)))
+open_spot AtStart h = (_, _, open_number _ _ (inl (open_clause false 0 (omega arith))))
+open_spot (InLead digits) h = (_, _, open_digits digits _ _ h (inl (open_clause false 0 (omega arith))))
+open_spot AfterImport h = (space, zero_digit ∷ line_feed ∷ [], record { after = zero_digit ∷ line_feed ∷ []; is = refl; clause = open_clause true 0 (omega arith) })
+open_spot (BeforeLiteral imports literals) h = (_, _, inl (open_clause imports literals h))
+open_spot (AfterMinus imports literals) h = (_, _, open_number _ _ (open_clause imports (literals + 1) (omega arith)))
+open_spot (InLiteral imports digits literals) h = (_, _, open_digits digits _ _ h.0 (open_clause imports (literals + 1) (omega arith)))
 open_spot (BeforeList deletes) h = (_, _, open_list deletes 0 (omega arith))
 open_spot (BeforeItem deletes items) h = (_, _, open_list deletes items h)
 open_spot (InItem deletes digits items) h = (_, _, open_digits digits _ _ h.0 (open_list deletes (items + 1) (omega arith)))

@@ -8,8 +8,8 @@ use Rattle.lrup_text.specs.declared.LineFault.{LineFault}
 use Rattle.lrup_text.specs.declared.LineFault.TheVariants.{Spelling, TooLong, Truncated, RatHint}
 use Rattle.lrup_text.specs.declared.reader.Turn.{Turn}
 use Rattle.lrup_text.specs.declared.reader.Turn.TheVariants.{Line, NeedMore, Fault}
-use Rattle.lrup_text.specs.Grammar.{standard, IsDigit, SpellsNumber, SpellsLiteral, AreWords, Words, Adds, Deletes, IsWithin, IsLine, text, minus, Begins}
-use Rattle.lrup_text.specs.Lines.{StreamLine, Addition, Deletion, IsStreamNumber, IsStreamLiteral, AreFew, IsWithinLimits, LineText, words_of, line_text, HasNoLine, Cut, line_of}
+use Rattle.lrup_text.specs.Grammar.{standard, IsDigit, SpellsNumber, SpellsLiteral, AreWords, Words, Adds, Deletes, Imports, IsWithin, IsLine, text, minus, Begins}
+use Rattle.lrup_text.specs.Lines.{StreamLine, Addition, Deletion, Import, IsStreamNumber, IsStreamLiteral, AreFew, IsWithinLimits, LineText, words_of, line_text, HasNoLine, Cut, line_of}
 use Rattle.lrup_text.specs.Faults.{IsFaultOf, Decides, IsRefused}
 use Rattle.lrup_text.specs.Feeding.{ReaderState, Feeds, Leaves}
 use Rattle.lrup_text.specs.Cutting.{used_bytes, line_given, lines_given, IsCut}
@@ -61,7 +61,17 @@ lines_same (Addition i ls hs) (Addition j ms gs) h k e =
     let hints : hs ≡ gs = numbers_same hs gs h.2.each k.2.each third in
     cc
 lines_same (Addition i ls hs) (Deletion j ds) h k e = cc
+lines_same (Addition i ls hs) (Import j ms) h k e = cc
 lines_same (Deletion i ds) (Addition j ms gs) h k e = cc
+lines_same (Deletion i ds) (Import j ms) h k e = cc
+lines_same (Import i ls) (Addition j ms gs) h k e = cc
+lines_same (Import i ls) (Deletion j ds) h k e = cc
+lines_same (Import i ls) (Import j ms) h k e =
+    let first : decimal i ≡ decimal j = cc in
+    let second : map signed_decimal ls ≡ map signed_decimal ms = cc in
+    let id : i ≡ j = decimal_injective i j (omega (arith, h.0)) (omega (arith, k.0)) first in
+    let lits : ls ≡ ms = literals_same ls ms h.1.each k.1.each second in
+    cc
 lines_same (Deletion i ds) (Deletion j es) h k e =
     let first : decimal i ≡ decimal j = cc in
     let second : map decimal ds ≡ map decimal es = cc in
@@ -146,6 +156,10 @@ line_spelled (Deletes lead ids) h =
     let first = spelled lead h.0 in
     let second = few_spelled 65536 decimal IsStreamNumber (SpellsNumber 18) spelled ids h.1 in
     (Deletion first.0 second.0, (first.1, second.1), ap (λ x. Deletes x (map decimal second.0)) first.2 ∙ ap (λ x. Deletes lead x) second.2)
+line_spelled (Imports id lits) h =
+    let first = spelled id h.0 in
+    let second = few_spelled 65535 signed_decimal IsStreamLiteral (SpellsLiteral 18) spelled_signed lits h.1 in
+    (Import first.0 second.0, (first.1, second.1), ap (λ x. Imports x (map signed_decimal second.0)) first.2 ∙ ap (λ x. Imports id x) second.2)
 
 pub texts_are_lines : TextsAreLines
 texts_are_lines bytes = (

@@ -1,14 +1,14 @@
 -- Texts of lines: a text spells one line, and no line's text begins another's.
-use Rattle.std.proofs.Common.{◌≡◌, ◌≢◌, ℕ, suc, ℤ, pos, negsuc, ◌≤◌, inl, inr, false, List, [], ◌∷◌, ◌++◌, length, map, refl, sym, ◌∙◌, ap, arith}
+use Rattle.std.proofs.Common.{◌≡◌, ◌≢◌, ℕ, suc, ℤ, pos, negsuc, ◌<◌, ◌≤◌, inl, inr, false, List, [], ◌∷◌, ◌++◌, length, map, refl, sym, ◌∙◌, ap, arith}
 use Rattle.std.specs.Fmt.{decimal, signed_decimal}
 use Rattle.std.specs.List.{AllByRecursion}
 use Rattle.std.proofs.lemmas.List.{append_assoc, length-append, length-map, append-nil}
-use Rattle.lrup_text.specs.Grammar.{standard, IsDigit, SpellsNumber, SpellsLiteral, AreWords, Words, Adds, Deletes, IsWithin, IsLine, text, list_text, clause_text, space, minus, zero_digit, letter_d}
+use Rattle.lrup_text.specs.Grammar.{standard, IsDigit, SpellsNumber, SpellsLiteral, AreWords, Words, Adds, Deletes, Imports, IsWithin, IsLine, text, list_text, clause_text, space, minus, zero_digit, letter_d, letter_i, line_feed}
 use Rattle.lrup_text.specs.Laws.{EmptyPending}
-use Rattle.lrup_text.specs.Lines.{StreamLine, Addition, Deletion, IsStreamNumber, IsStreamLiteral, AreFew, IsWithinLimits, words_of, line_text, HasNoLine, IsPending}
+use Rattle.lrup_text.specs.Lines.{StreamLine, Addition, Deletion, Import, IsStreamNumber, IsStreamLiteral, AreFew, IsWithinLimits, words_of, line_text, HasNoLine, IsPending}
 use Rattle.lrup_text.specs.Rests.{Spot, AtStart, Tracks}
 use Rattle.lrup_text.proofs.Numerals.{number_word}
-use Rattle.lrup_text.proofs.Rests.{same_head, same_tail, literal_of_number, list_rest, list_text-space}
+use Rattle.lrup_text.proofs.Rests.{same_head, same_tail, literal_of_number, list_rest, list_text-space, list_is_clause}
 use Rattle.lrup_text.proofs.Steps.{IsBounded, IsOpen, open_spot, standard_lifted, tracks_begins, at_start}
 
 -- A word holds no space, so the space after it ends it.
@@ -50,10 +50,10 @@ literal_no_zero [] x y h e = h
 literal_no_zero (c ∷ cs) x y (inl h) e = number_no_zero (c ∷ cs) x y h e
 literal_no_zero (c ∷ cs) x y (inr h) e = let m : c ≡ minus = h.0 in let e' : c ≡ zero_digit = same_head e in absurd (omega arith)
 
-literal_no_d : (w : List ℕ) (x y : List ℕ) → SpellsLiteral 18 w → w ++ x ≡ letter_d ∷ y → ⊥
-literal_no_d [] x y h e = h
-literal_no_d (c ∷ cs) x y (inl h) e = let high : c ≤ 57 = h.1 in let e' : c ≡ letter_d = same_head e in absurd (omega arith)
-literal_no_d (c ∷ cs) x y (inr h) e = let m : c ≡ minus = h.0 in let e' : c ≡ letter_d = same_head e in absurd (omega arith)
+literal_no_letter : (w : List ℕ) (b : ℕ) (x y : List ℕ) → 57 < b → SpellsLiteral 18 w → w ++ x ≡ b ∷ y → ⊥
+literal_no_letter [] b x y letter h e = h
+literal_no_letter (c ∷ cs) b x y letter (inl h) e = let high : c ≤ 57 = h.1 in let e' : c ≡ b = same_head e in absurd (omega arith)
+literal_no_letter (c ∷ cs) b x y letter (inr h) e = let m : c ≡ minus = h.0 in let e' : c ≡ b = same_head e in absurd (omega arith)
 
 -- the text of a list after a word
 after_word : (w : List ℕ) (ws : List (List ℕ)) (x : List ℕ) → (w ++ list_text ws) ++ x ≡ w ++ space ∷ (list_rest ws ++ x)
@@ -84,32 +84,67 @@ clause_append : (ws : List (List ℕ)) (x y : List ℕ) → clause_text ws x ++ 
 clause_append [] x y = refl
 clause_append (w ∷ ws) x y = append_assoc w (space ∷ clause_text ws x) y ∙ ap (λ t. w ++ space ∷ t) (clause_append ws x y)
 
-clause_no_d : (ws : List (List ℕ)) (x y : List ℕ) → AllByRecursion (SpellsLiteral 18) ws → clause_text ws x ≡ letter_d ∷ y → ⊥
-clause_no_d [] x y h e = let e' : zero_digit ≡ letter_d = same_head e in omega arith
-clause_no_d (w ∷ ws) x y h e = literal_no_d w _ _ h.0 e
+clause_no_letter : (ws : List (List ℕ)) (b : ℕ) (x y : List ℕ) → 57 < b → AllByRecursion (SpellsLiteral 18) ws → clause_text ws x ≡ b ∷ y → ⊥
+clause_no_letter [] b x y letter h e = let e' : zero_digit ≡ b = same_head e in omega arith
+clause_no_letter (w ∷ ws) b x y letter h e = literal_no_letter w b _ _ letter h.0 e
+
+-- what follows the first number and a space
+abbrev after_lead : Words → List ℕ
+after_lead (Adds id lits hints) = clause_text lits (list_text hints)
+after_lead (Deletes lead ids) = letter_d ∷ list_text ids
+after_lead (Imports id lits) = letter_i ∷ list_text lits
+
+abbrev lead_word : Words → List ℕ
+lead_word (Adds id lits hints) = id
+lead_word (Deletes lead ids) = lead
+lead_word (Imports id lits) = id
+
+lead_is_number : (w : Words) → IsWithin standard w → SpellsNumber 18 (lead_word w)
+lead_is_number (Adds id lits hints) h = h.0
+lead_is_number (Deletes lead ids) h = h.0
+lead_is_number (Imports id lits) h = h.0
+
+text_parts : (w : Words) (x : List ℕ) → text w ++ x ≡ lead_word w ++ space ∷ (after_lead w ++ x)
+text_parts (Adds id lits hints) x = append_assoc id (space ∷ clause_text lits (list_text hints)) x
+text_parts (Deletes lead ids) x = append_assoc lead (space ∷ letter_d ∷ list_text ids) x
+text_parts (Imports id lits) x = append_assoc id (space ∷ letter_i ∷ list_text lits) x
+
+-- the literals of an import
+lits_apart : (vs ws : List (List ℕ)) (x y : List ℕ) → AllByRecursion (SpellsLiteral 18) vs → AllByRecursion (SpellsLiteral 18) ws → list_text vs ++ x ≡ list_text ws ++ y → (vs ≡ ws) × (x ≡ y)
+lits_apart vs ws x y hv hw e =
+    let one = clause_apart vs ws ((line_feed ∷ []) ++ x) ((line_feed ∷ []) ++ y) hv hw
+    (sym (clause_append vs (line_feed ∷ []) x) ∙ same_tail (ap (λ t. t ++ x) (sym (list_is_clause vs)) ∙ e ∙ ap (λ t. t ++ y) (list_is_clause ws)) ∙ clause_append ws (line_feed ∷ []) y) in
+    (one.0, same_tail one.1)
+
+rests_apart : (v w : Words) (x y : List ℕ) → IsWithin standard v → IsWithin standard w → lead_word v ≡ lead_word w → after_lead v ++ x ≡ after_lead w ++ y → (v ≡ w) × (x ≡ y)
+rests_apart (Adds i ls hs) (Adds j ms gs) x y hv hw lead e =
+    let clause = clause_apart ls ms (list_text hs ++ x) (list_text gs ++ y) hv.1.each hw.1.each
+    (sym (clause_append ls (list_text hs) x) ∙ e ∙ clause_append ms (list_text gs) y) in
+    let list = list_apart hs gs x y hv.2.each hw.2.each clause.1 in
+    (ap (λ z. Adds z ls hs) lead ∙ ap (λ z. Adds j z hs) clause.0 ∙ ap (λ z. Adds j ms z) list.0, list.1)
+rests_apart (Adds i ls hs) (Deletes j ds) x y hv hw lead e =
+    absurd (clause_no_letter ls letter_d (list_text hs ++ x) _ (omega arith) hv.1.each (sym (clause_append ls (list_text hs) x) ∙ e))
+rests_apart (Adds i ls hs) (Imports j ms) x y hv hw lead e =
+    absurd (clause_no_letter ls letter_i (list_text hs ++ x) _ (omega arith) hv.1.each (sym (clause_append ls (list_text hs) x) ∙ e))
+rests_apart (Deletes i ds) (Adds j ms gs) x y hv hw lead e =
+    absurd (clause_no_letter ms letter_d (list_text gs ++ y) _ (omega arith) hw.1.each (sym (clause_append ms (list_text gs) y) ∙ sym e))
+rests_apart (Deletes i ds) (Deletes j es) x y hv hw lead e =
+    let list = list_apart ds es x y hv.1.each hw.1.each (same_tail e) in
+    (ap (λ z. Deletes z ds) lead ∙ ap (λ z. Deletes j z) list.0, list.1)
+rests_apart (Deletes i ds) (Imports j ms) x y hv hw lead e = let e' : letter_d ≡ letter_i = same_head e in absurd (omega arith)
+rests_apart (Imports i ls) (Adds j ms gs) x y hv hw lead e =
+    absurd (clause_no_letter ms letter_i (list_text gs ++ y) _ (omega arith) hw.1.each (sym (clause_append ms (list_text gs) y) ∙ sym e))
+rests_apart (Imports i ls) (Deletes j es) x y hv hw lead e = let e' : letter_i ≡ letter_d = same_head e in absurd (omega arith)
+rests_apart (Imports i ls) (Imports j ms) x y hv hw lead e =
+    let list = lits_apart ls ms x y hv.1.each hw.1.each (same_tail e) in
+    (ap (λ z. Imports z ls) lead ∙ ap (λ z. Imports j z) list.0, list.1)
 
 -- the text of words begins no other
 pub words_apart : (v w : Words) (x y : List ℕ) → IsWithin standard v → IsWithin standard w → text v ++ x ≡ text w ++ y → (v ≡ w) × (x ≡ y)
-words_apart (Adds i ls hs) (Adds j ms gs) x y hv hw e =
-    let one = word_apart i j (clause_text ls (list_text hs) ++ x) (clause_text ms (list_text gs) ++ y) (number_no_space 18 i hv.0) (number_no_space 18 j hw.0)
-    (sym (append_assoc i (space ∷ clause_text ls (list_text hs)) x) ∙ e ∙ append_assoc j (space ∷ clause_text ms (list_text gs)) y) in
-    let clause = clause_apart ls ms (list_text hs ++ x) (list_text gs ++ y) hv.1.each hw.1.each
-    (sym (clause_append ls (list_text hs) x) ∙ one.1 ∙ clause_append ms (list_text gs) y) in
-    let list = list_apart hs gs x y hv.2.each hw.2.each clause.1 in
-    (ap (λ z. Adds z ls hs) one.0 ∙ ap (λ z. Adds j z hs) clause.0 ∙ ap (λ z. Adds j ms z) list.0, list.1)
-words_apart (Adds i ls hs) (Deletes j ds) x y hv hw e =
-    let one = word_apart i j (clause_text ls (list_text hs) ++ x) (letter_d ∷ (list_text ds ++ y)) (number_no_space 18 i hv.0) (number_no_space 18 j hw.0)
-    (sym (append_assoc i (space ∷ clause_text ls (list_text hs)) x) ∙ e ∙ append_assoc j (space ∷ letter_d ∷ list_text ds) y) in
-    absurd (clause_no_d ls (list_text hs ++ x) _ hv.1.each (sym (clause_append ls (list_text hs) x) ∙ one.1))
-words_apart (Deletes i ds) (Adds j ms gs) x y hv hw e =
-    let one = word_apart i j (letter_d ∷ (list_text ds ++ x)) (clause_text ms (list_text gs) ++ y) (number_no_space 18 i hv.0) (number_no_space 18 j hw.0)
-    (sym (append_assoc i (space ∷ letter_d ∷ list_text ds) x) ∙ e ∙ append_assoc j (space ∷ clause_text ms (list_text gs)) y) in
-    absurd (clause_no_d ms (list_text gs ++ y) _ hw.1.each (sym (clause_append ms (list_text gs) y) ∙ sym one.1))
-words_apart (Deletes i ds) (Deletes j es) x y hv hw e =
-    let one = word_apart i j (letter_d ∷ (list_text ds ++ x)) (letter_d ∷ (list_text es ++ y)) (number_no_space 18 i hv.0) (number_no_space 18 j hw.0)
-    (sym (append_assoc i (space ∷ letter_d ∷ list_text ds) x) ∙ e ∙ append_assoc j (space ∷ letter_d ∷ list_text es) y) in
-    let list = list_apart ds es x y hv.1.each hw.1.each (same_tail one.1) in
-    (ap (λ z. Deletes z ds) one.0 ∙ ap (λ z. Deletes j z) list.0, list.1)
+words_apart v w x y hv hw e =
+    let one = word_apart (lead_word v) (lead_word w) (after_lead v ++ x) (after_lead w ++ y) (number_no_space 18 (lead_word v) (lead_is_number v hv)) (number_no_space 18 (lead_word w) (lead_is_number w hw))
+    (sym (text_parts v x) ∙ e ∙ text_parts w y) in
+    rests_apart v w x y hv hw one.0 one.1
 
 -- The words of a line that fits are within the limits.
 
@@ -130,6 +165,7 @@ decimal_word n h = number_word n h.0 h.1
 pub fits_within : (line : StreamLine) → IsWithinLimits line → IsWithin standard (words_of line)
 fits_within (Addition id lits hints) h =
     (decimal_word id h.0, few_map 65535 signed_decimal IsStreamLiteral (SpellsLiteral 18) signed_word lits h.1, few_map 65536 decimal IsStreamNumber (SpellsNumber 18) decimal_word hints h.2)
+fits_within (Import id lits) h = (decimal_word id h.0, few_map 65535 signed_decimal IsStreamLiteral (SpellsLiteral 18) signed_word lits h.1)
 fits_within (Deletion lead ids) h = (decimal_word lead h.0, few_map 65536 decimal IsStreamNumber (SpellsNumber 18) decimal_word ids h.1)
 
 -- What begins a line, and goes on, has no whole line in it.

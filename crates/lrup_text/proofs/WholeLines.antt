@@ -5,10 +5,10 @@ use Rattle.std.specs.List.{AllByRecursion}
 use Rattle.std.proofs.Math.Nat.{mod-eq_of_lt}
 use Rattle.std.proofs.lemmas.Bool.{cases_lt}
 use Rattle.std.proofs.lemmas.List.{append_assoc, take_more, take_more_set, length-set, take_all, append-nil}
-use Rattle.lrup_text.specs.Grammar.{space, minus, zero_digit, letter_d, line_feed}
+use Rattle.lrup_text.specs.Grammar.{space, minus, zero_digit, letter_d, letter_i, line_feed}
 use Rattle.lrup_text.specs.Lines.{IsStreamNumber, IsStreamLiteral}
-use Rattle.lrup_text.specs.Kernel.{EndsLine, EndsWord, ReadsNumber, ReadsLiterals, ReadsItems, ReadsList, IsWhole, numbers_text}
-use Rattle.lrup_text.specs.Reading.{FitsDigits, IsKept, literals_text, items_text, literal_front, list_front}
+use Rattle.lrup_text.specs.Kernel.{EndsLine, EndsWord, ReadsNumber, ReadsLiterals, ReadsItems, ReadsList, ReadsClause, IsWhole, numbers_text}
+use Rattle.lrup_text.specs.Reading.{FitsDigits, IsKept, literals_text, items_text, literal_front, clause_front, list_front}
 use Rattle.lrup_text.proofs.Numerals.{decimal_one}
 use Rattle.lrup_text.proofs.Bytes.{first_digit, more_digits, decimal_next, below_limit, positive, all_more, text_more, line_end, line_fits}
 
@@ -183,10 +183,53 @@ list_read line start old new count close ends inside is items size nought =
           ∙ ap (λ ns. (front ++ items_text ns) ++ space ∷ end) (sym items.ids);
     }
 
+-- the literals of an import, and the end of the line
+pub clause_read : (line : List ℕ) (start : ℕ) (old new : List ℤ) (count close : ℕ) → EndsLine line → start < length line → get_or line start 0 ≡ space → ReadsLiterals line (start + 1) old 0 new count close
+    → close + 2 ≡ length line → get_or line close 0 ≡ zero_digit → ReadsClause line start new count
+clause_read line start old new count close ends inside is lits size nought =
+    let last : length line - 1 ≡ close + 1 = omega arith in
+    let feed : get_or line (close + 1) 0 ≡ line_feed = ap (λ k. get_or line k 0) (sym last) ∙ ends.1 in
+    let front = take start line in
+    let end = zero_digit ∷ line_feed ∷ [] in
+    let one : take (start + 1) line ≡ front ++ space ∷ [] = take_more line start 0 inside ∙ ap (λ x. front ++ x ∷ []) is in
+    let two : take (close + 1) line ≡ take close line ++ zero_digit ∷ [] = take_more line close 0 (omega arith) ∙ ap (λ x. take close line ++ x ∷ []) nought in
+    let three : take ((close + 1) + 1) line ≡ (take close line ++ zero_digit ∷ []) ++ line_feed ∷ [] =
+    take_more line (close + 1) 0 (omega arith) ∙ ap (λ x. take (close + 1) line ++ x ∷ []) feed ∙ ap (λ t. t ++ line_feed ∷ []) two in
+    record {
+      few = lits.few;
+      each = subst (AllByRecursion IsStreamLiteral) (sym lits.lits) lits.each;
+      text =
+          sym (take_all ((close + 1) + 1) line (omega arith)) ∙ three ∙ append_assoc (take close line) (zero_digit ∷ []) (line_feed ∷ [])
+          ∙ ap (λ t. t ++ end) (lits.is ∙ ap (λ t. t ++ literals_text lits.more) one ∙ append_assoc front (space ∷ []) (literals_text lits.more))
+          ∙ ap (λ zs. (front ++ space ∷ literals_text zs) ++ end) (sym lits.lits);
+    }
+
+-- An import: a number, a space, the letter i, literals.
+pub whole_import : (line : List ℕ) (lits : List ℤ) (ids : List ℕ) (lead end count : ℕ) → length lits ≡ 65535 → ReadsNumber line 0 lead end → get_or line end 0 ≡ space → end + 1 < length line
+    → get_or line (end + 1) 0 ≡ letter_i → ReadsClause line ((end + 1) + 1) lits count
+    → IsWhole line lits ids (record { lead = lead; imports = true; deletes = false; literal_count = count; identity_count = 0 })
+whole_import line lits ids lead end count room number is inside letter clause =
+    let kept : IsKept lead lits count ids 0 = record { lead = number.positive; few_literals = omega (arith, clause.few, room); few_identities = omega arith; literals = clause.each; identities = tt } in
+    let mark : take ((end + 1) + 1) line ≡ decimal lead ++ space ∷ letter_i ∷ [] =
+    take_more line (end + 1) 0 inside ∙ ap (λ x. take (end + 1) line ++ x ∷ []) letter
+    ∙ ap (λ t. t ++ letter_i ∷ []) (take_more line end 0 number.inside ∙ ap (λ x. take end line ++ x ∷ []) is ∙ ap (λ t. t ++ space ∷ []) number.is)
+    ∙ append_assoc (decimal lead) (space ∷ []) (letter_i ∷ []) in
+    let front : take ((end + 1) + 1) line ++ space ∷ literals_text (take count lits) ≡ clause_front true lead (take count lits) =
+    ap (λ t. t ++ space ∷ literals_text (take count lits)) mark ∙ append_assoc (decimal lead) (space ∷ letter_i ∷ []) (space ∷ literals_text (take count lits)) in
+    record {
+      kept = kept;
+      text = (
+        line_fits true false lead lits count ids 0 kept clause.few (omega arith),
+        clause.text ∙ ap (λ t. t ++ zero_digit ∷ line_feed ∷ []) front
+            ∙ sym (append_assoc (clause_front true lead (take count lits)) (zero_digit ∷ []) (line_feed ∷ []))
+            ∙ line_end true false lead (take count lits) [],
+      );
+    }
+
 -- A deletion: a number, a space, the letter d, a list.
 pub whole_deletion : (line : List ℕ) (lits : List ℤ) (ids : List ℕ) (lead end count : ℕ) → length ids ≡ 65536 → ReadsNumber line 0 lead end → get_or line end 0 ≡ space → end + 1 < length line
     → get_or line (end + 1) 0 ≡ letter_d → ReadsList line ((end + 1) + 1) ids count
-    → IsWhole line lits ids (record { lead = lead; deletes = true; literal_count = 0; identity_count = count })
+    → IsWhole line lits ids (record { lead = lead; imports = false; deletes = true; literal_count = 0; identity_count = count })
 whole_deletion line lits ids lead end count room number is inside letter list =
     let kept : IsKept lead lits 0 ids count = record { lead = number.positive; few_literals = omega arith; few_identities = omega (arith, list.few, room); literals = tt; identities = list.each } in
     let front : take ((end + 1) + 1) line ≡ list_front true lead [] =
@@ -196,17 +239,17 @@ whole_deletion line lits ids lead end count room number is inside letter list =
     record {
       kept = kept;
       text = (
-        line_fits true lead lits 0 ids count kept (omega arith) list.few,
+        line_fits false true lead lits 0 ids count kept (omega arith) list.few,
         list.text ∙ ap (λ t. (t ++ items_text (take count ids)) ++ space ∷ zero_digit ∷ line_feed ∷ []) front
             ∙ sym (append_assoc (list_front true lead [] ++ items_text (take count ids)) (space ∷ zero_digit ∷ []) (line_feed ∷ []))
-            ∙ line_end true lead [] (take count ids),
+            ∙ line_end false true lead [] (take count ids),
       );
     }
 
 -- An addition: a number, a space, literals, a 0, a list.
 pub whole_addition : (line : List ℕ) (old lits : List ℤ) (ids : List ℕ) (lead end literals close count : ℕ) → length lits ≡ 65535 → length ids ≡ 65536 → ReadsNumber line 0 lead end → get_or line end 0 ≡ space
     → ReadsLiterals line (end + 1) old 0 lits literals close → close < length line → get_or line close 0 ≡ zero_digit → ReadsList line (close + 1) ids count
-    → IsWhole line lits ids (record { lead = lead; deletes = false; literal_count = literals; identity_count = count })
+    → IsWhole line lits ids (record { lead = lead; imports = false; deletes = false; literal_count = literals; identity_count = count })
 whole_addition line old lits ids lead end literals close count room_lits room_ids number is clause inside nought list =
     let kept : IsKept lead lits literals ids count = record {
       lead = number.positive;
@@ -224,9 +267,9 @@ whole_addition line old lits ids lead end literals close count room_lits room_id
     record {
       kept = kept;
       text = (
-        line_fits false lead lits literals ids count kept clause.few list.few,
+        line_fits false false lead lits literals ids count kept clause.few list.few,
         list.text ∙ ap (λ t. (t ++ items_text (take count ids)) ++ space ∷ zero_digit ∷ line_feed ∷ []) front
             ∙ sym (append_assoc (list_front false lead (take literals lits) ++ items_text (take count ids)) (space ∷ zero_digit ∷ []) (line_feed ∷ []))
-            ∙ line_end false lead (take literals lits) (take count ids),
+            ∙ line_end false false lead (take literals lits) (take count ids),
       );
     }

@@ -1,14 +1,15 @@
 -- The texts of the lines of a stream: the RUP part of LRAT text (Cruz-Filipe et al., CADE 2017), in this project's spelling.
---     line = ( add / del ) LF
+--     line = ( add / del / imp ) LF
 --     add  = num SP *( lit SP ) "0" *( SP num ) SP "0"
 --     del  = num SP "d" *( SP num ) SP "0"
+--     imp  = num SP "i" *( SP lit ) SP "0"
 --     lit  = [ "-" ] num
 --     num  = one digit 1 to 9, then digits 0 to 9
 -- SP is one space. A line is spelled by words, which are lists of bytes. How many there may be, and how long, limits say.
 use Rattle.std.specs.Prelude.{◌≡◌, ℕ, ◌<◌, ◌≤◌, ◌⊎◌, Bool, false, List, [], ◌∷◌, ◌++◌, length, MatchBool}
 use Rattle.std.specs.List.{AllByRecursion}
 
--- the bytes LF, SP, `-`, `0` and `d`
+-- the bytes LF, SP, `-`, `0`, `d` and `i`
 abbrev pub line_feed : ℕ
 line_feed = 10
 
@@ -24,7 +25,10 @@ zero_digit = 48
 abbrev pub letter_d : ℕ
 letter_d = 100
 
--- the most digits of a number, literals of an addition, and hints of an addition or identities of a deletion;
+abbrev pub letter_i : ℕ
+letter_i = 105
+
+-- the most digits of a number, literals of an addition or an import, and hints of an addition or identities of a deletion;
 -- and whether a hint may carry a sign
 pub record Limits : Type 0 where
   pub digits : ℕ
@@ -65,6 +69,7 @@ SpellsHint limits word = MatchBool limits.signed (SpellsLiteral limits.digits wo
 pub data Words : Type 0 where
   Adds : (id : List ℕ) (lits hints : List (List ℕ)) → Words
   Deletes : (lead : List ℕ) (ids : List (List ℕ)) → Words
+  Imports : (id : List ℕ) (lits : List (List ℕ)) → Words
 
 -- at most so many words, each of a kind
 pub record AreWords (most : ℕ) (IsWord : List ℕ → Type 0) (words : List (List ℕ)) : Type 0 where
@@ -76,8 +81,9 @@ abbrev pub IsWithin : Limits → Words → Type 0
 IsWithin limits (Adds id lits hints) =
     SpellsNumber limits.digits id × AreWords limits.literals (SpellsLiteral limits.digits) lits × AreWords limits.identities (SpellsHint limits) hints
 IsWithin limits (Deletes lead ids) = SpellsNumber limits.digits lead × AreWords limits.identities (SpellsNumber limits.digits) ids
+IsWithin limits (Imports id lits) = SpellsNumber limits.digits id × AreWords limits.literals (SpellsLiteral limits.digits) lits
 
--- *( SP num ) SP "0" LF
+-- *( SP num ) SP "0" LF, and *( SP lit ) SP "0" LF
 abbrev pub list_text : List (List ℕ) → List ℕ
 list_text [] = space ∷ zero_digit ∷ line_feed ∷ []
 list_text (w ∷ ws) = space ∷ (w ++ list_text ws)
@@ -91,6 +97,7 @@ clause_text (w ∷ ws) rest = w ++ space ∷ clause_text ws rest
 abbrev pub text : Words → List ℕ
 text (Adds id lits hints) = id ++ space ∷ clause_text lits (list_text hints)
 text (Deletes lead ids) = lead ++ space ∷ letter_d ∷ list_text ids
+text (Imports id lits) = id ++ space ∷ letter_i ∷ list_text lits
 
 -- the bytes are a line within the limits
 abbrev pub IsLine : Limits → List ℕ → Type 0

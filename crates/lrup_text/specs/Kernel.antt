@@ -50,7 +50,13 @@ pub record ReadsList (line : List ℕ) (start : ℕ) (ids : List ℕ) (count : �
   pub each : AllByRecursion IsStreamNumber (take count ids)
   pub text : line ≡ (take start line ++ items_text (take count ids)) ++ space ∷ zero_digit ∷ line_feed ∷ []
 
+-- so many literals stand there, and the end of an import
+pub record ReadsClause (line : List ℕ) (start : ℕ) (lits : List ℤ) (count : ℕ) : Type 0 where
+  pub few : count ≤ length lits
+  pub each : AllByRecursion IsStreamLiteral (take count lits)
+  pub text : line ≡ (take start line ++ space ∷ literals_text (take count lits)) ++ zero_digit ∷ line_feed ∷ []
+
 -- it is the text of the line with this first number, and these lists in front of the buffers
 pub record IsWhole (line : List ℕ) (lits : List ℤ) (ids : List ℕ) (whole : Whole) : Type 0 where
   pub kept : IsKept whole.lead lits whole.literal_count ids whole.identity_count
-  pub text : LineText (line_of_parts whole.deletes whole.lead (take whole.literal_count lits) (take whole.identity_count ids)) line
+  pub text : LineText (line_of_parts whole.imports whole.deletes whole.lead (take whole.literal_count lits) (take whole.identity_count ids)) line

@@ -2,24 +2,27 @@
 use Rattle.std.specs.Prelude.{◌≡◌, ℕ, ◌<◌, ◌≤◌, ◌^◌, ℤ, unsigned_abs, List, ◌++◌, length, map}
 use Rattle.std.specs.Fmt.{decimal, signed_decimal}
 use Rattle.std.specs.List.{AllByRecursion, flat_map}
-use Rattle.lrup_text.specs.Grammar.{Words, Adds, Deletes, text, Begins}
+use Rattle.lrup_text.specs.Grammar.{Words, Adds, Deletes, Imports, text, Begins}
 use Rattle.lrup_text.specs.declared.Line.{Line}
-use Rattle.lrup_text.specs.declared.Line.TheVariants.{Add, Delete}
+use Rattle.lrup_text.specs.declared.Line.TheVariants as kinds
 
 -- a line, apart from where its lists lie in memory
 pub data StreamLine : Type 0 where
   Addition : (id : ℕ) (lits : List ℤ) (hints : List ℕ) → StreamLine
   Deletion : (lead : ℕ) (ids : List ℕ) → StreamLine
+  Import : (id : ℕ) (lits : List ℤ) → StreamLine
 
 -- the line that a `Line` is
 abbrev pub line_of : Line → StreamLine
-line_of (Add id lits hints) = Addition id lits.now hints.now
-line_of (Delete lead ids) = Deletion lead ids.now
+line_of (kinds.Add id lits hints) = Addition id lits.now hints.now
+line_of (kinds.Delete lead ids) = Deletion lead ids.now
+line_of (kinds.Import id lits) = Import id lits.now
 
 -- the words that spell a line, each number in decimal
 abbrev pub words_of : StreamLine → Words
 words_of (Addition id lits hints) = Adds (decimal id) (map signed_decimal lits) (map decimal hints)
 words_of (Deletion lead ids) = Deletes (decimal lead) (map decimal ids)
+words_of (Import id lits) = Imports (decimal id) (map signed_decimal lits)
 
 -- a number of 1 to 18 digits that isn't 0
 abbrev pub IsStreamNumber : ℕ → Type 0
@@ -38,6 +41,7 @@ pub record AreFew {X : Type 0} (most : ℕ) (Is : X → Type 0) (xs : List X) : 
 abbrev pub IsWithinLimits : StreamLine → Type 0
 IsWithinLimits (Addition id lits hints) = IsStreamNumber id × AreFew 65535 IsStreamLiteral lits × AreFew 65536 IsStreamNumber hints
 IsWithinLimits (Deletion lead ids) = IsStreamNumber lead × AreFew 65536 IsStreamNumber ids
+IsWithinLimits (Import id lits) = IsStreamNumber id × AreFew 65535 IsStreamLiteral lits
 
 -- the bytes that spell a line, with its LF
 abbrev pub line_text : StreamLine → List ℕ

@@ -1,5 +1,5 @@
 -- A line as far as it was read: what was read, and what a byte does.
-use Rattle.std.specs.Prelude.{◌≡◌, ℕ, ◌<◌, ◌≤◌, ◌^◌, ℤ, Bool, true, false, List, [], ◌∷◌, ◌++◌, length, take, if◌then◌else◌}
+use Rattle.std.specs.Prelude.{◌≡◌, ℕ, ◌<◌, ◌≤◌, ◌^◌, ℤ, Bool, true, false, List, [], ◌∷◌, ◌++◌, length, take}
 use Rattle.std.specs.Fmt.{decimal, signed_decimal}
 use Rattle.std.specs.List.{AllByRecursion, flat_map}
 use Rattle.lrup_text.specs.declared.machine.Place.{Place}
@@ -7,10 +7,10 @@ use Rattle.lrup_text.specs.declared.machine.Place.TheVariants as places
 use Rattle.lrup_text.specs.declared.machine.Step.{Step}
 use Rattle.lrup_text.specs.declared.machine.Step.TheVariants.{More, Done, Refused}
 use Rattle.lrup_text.specs.declared.machine.PartialLine.{PartialLine}
-use Rattle.lrup_text.specs.Grammar.{space, minus, zero_digit, letter_d}
+use Rattle.lrup_text.specs.Grammar.{space, minus, zero_digit, letter_d, letter_i}
 use Rattle.lrup_text.specs.Faults.{IsRefused, Decides}
-use Rattle.lrup_text.specs.Lines.{StreamLine, Addition, Deletion, LineText, IsStreamNumber, IsStreamLiteral}
-use Rattle.lrup_text.specs.Rests.{Spot, AtStart, InLead, BeforeLiteral, AfterMinus, InLiteral, BeforeList, BeforeItem, InItem, AtEnd, Tracks}
+use Rattle.lrup_text.specs.Lines.{StreamLine, Addition, Deletion, Import, LineText, IsStreamNumber, IsStreamLiteral}
+use Rattle.lrup_text.specs.Rests.{Spot, AtStart, InLead, AfterImport, BeforeLiteral, AfterMinus, InLiteral, BeforeList, BeforeItem, InItem, AtEnd, Tracks}
 
 -- the literals, and the hints or identities, read so far
 abbrev pub literals_of : PartialLine → List ℤ
@@ -20,12 +20,14 @@ abbrev pub identities_of : PartialLine → List ℕ
 identities_of m = take m.identity_count m.identities.items
 
 -- a line by its parts
-abbrev pub line_of_parts : Bool → ℕ → List ℤ → List ℕ → StreamLine
-line_of_parts deletes lead lits ids = if deletes then Deletion lead ids else Addition lead lits ids
+abbrev pub line_of_parts : (imports deletes : Bool) → ℕ → List ℤ → List ℕ → StreamLine
+line_of_parts true deletes lead lits ids = Import lead lits
+line_of_parts false true lead lits ids = Deletion lead ids
+line_of_parts false false lead lits ids = Addition lead lits ids
 
 -- the line that was read
 abbrev pub line_so_far : PartialLine → StreamLine
-line_so_far m = line_of_parts m.deletes m.lead (literals_of m) (identities_of m)
+line_so_far m = line_of_parts m.imports m.deletes m.lead (literals_of m) (identities_of m)
 
 -- literals and the space after each; items and the space before each
 unfoldable pub literals_text : List ℤ → List ℕ
@@ -34,16 +36,22 @@ literals_text lits = flat_map (λ z. signed_decimal z ++ space ∷ []) lits
 unfoldable pub items_text : List ℕ → List ℕ
 items_text items = flat_map (λ n. space ∷ decimal n) items
 
--- the text up to the literals; up to the list; up to more of its items
-abbrev pub clause_front : ℕ → List ℤ → List ℕ
-clause_front lead lits = decimal lead ++ space ∷ literals_text lits
+-- the text up to more literals; up to the list; up to more of its items
+abbrev pub clause_front : (imports : Bool) → ℕ → List ℤ → List ℕ
+clause_front true lead lits = decimal lead ++ space ∷ letter_i ∷ space ∷ literals_text lits
+clause_front false lead lits = decimal lead ++ space ∷ literals_text lits
 
 abbrev pub list_front : Bool → ℕ → List ℤ → List ℕ
 list_front true lead lits = decimal lead ++ space ∷ letter_d ∷ []
-list_front false lead lits = clause_front lead lits ++ zero_digit ∷ []
+list_front false lead lits = clause_front false lead lits ++ zero_digit ∷ []
 
 abbrev pub item_front : PartialLine → List ℕ
 item_front m = list_front m.deletes m.lead (literals_of m) ++ items_text (identities_of m)
+
+-- the text up to the end of the line
+abbrev pub end_front : (imports deletes : Bool) → ℕ → List ℤ → List ℕ → List ℕ
+end_front true deletes lead lits ids = clause_front true lead lits ++ zero_digit ∷ []
+end_front false deletes lead lits ids = (list_front deletes lead lits ++ items_text ids) ++ space ∷ zero_digit ∷ []
 
 -- a literal as far as it was read
 abbrev pub literal_front : Bool → ℕ → List ℕ
@@ -54,13 +62,14 @@ literal_front false n = decimal n
 unfoldable pub pending_at : Place → PartialLine → List ℕ
 pending_at places.Start m = []
 pending_at places.Lead m = decimal m.number
-pending_at places.Body m = clause_front m.lead (literals_of m)
-pending_at places.Minus m = clause_front m.lead (literals_of m) ++ minus ∷ []
-pending_at places.Literal m = clause_front m.lead (literals_of m) ++ literal_front m.negative m.number
+pending_at places.Import m = decimal m.lead ++ space ∷ letter_i ∷ []
+pending_at places.Body m = clause_front m.imports m.lead (literals_of m)
+pending_at places.Minus m = clause_front m.imports m.lead (literals_of m) ++ minus ∷ []
+pending_at places.Literal m = clause_front m.imports m.lead (literals_of m) ++ literal_front m.negative m.number
 pending_at places.List m = list_front m.deletes m.lead (literals_of m)
 pending_at places.Item m = item_front m ++ space ∷ []
 pending_at places.Number m = item_front m ++ space ∷ decimal m.number
-pending_at places.LineEnd m = item_front m ++ space ∷ zero_digit ∷ []
+pending_at places.LineEnd m = end_front m.imports m.deletes m.lead (literals_of m) (identities_of m)
 
 abbrev pub pending : PartialLine → List ℕ
 pending m = pending_at m.place m
@@ -69,21 +78,24 @@ pending m = pending_at m.place m
 unfoldable pub spot_at : Place → PartialLine → Spot
 spot_at places.Start m = AtStart
 spot_at places.Lead m = InLead m.digits
-spot_at places.Body m = BeforeLiteral m.literal_count
-spot_at places.Minus m = AfterMinus m.literal_count
-spot_at places.Literal m = InLiteral m.digits m.literal_count
+spot_at places.Import m = AfterImport
+spot_at places.Body m = BeforeLiteral m.imports m.literal_count
+spot_at places.Minus m = AfterMinus m.imports m.literal_count
+spot_at places.Literal m = InLiteral m.imports m.digits m.literal_count
 spot_at places.List m = BeforeList m.deletes
 spot_at places.Item m = BeforeItem m.deletes m.identity_count
 spot_at places.Number m = InItem m.deletes m.digits m.identity_count
 spot_at places.LineEnd m = AtEnd
 
--- the counts that a place needs room for
+-- what a place asks of the counts, and of the line's kind
 unfoldable pub IsRoomy : Place → PartialLine → Type 0
+IsRoomy places.Import m = (m.identity_count ≡ 0) × (m.literal_count ≡ 0) × (m.imports ≡ true)
 IsRoomy places.Body m = m.identity_count ≡ 0
 IsRoomy places.Minus m = (m.identity_count ≡ 0) × (m.literal_count < 65535)
 IsRoomy places.Literal m = (m.identity_count ≡ 0) × (m.literal_count < 65535)
-IsRoomy places.List m = m.identity_count ≡ 0
-IsRoomy places.Number m = m.identity_count < 65536
+IsRoomy places.List m = (m.identity_count ≡ 0) × (m.imports ≡ false)
+IsRoomy places.Item m = m.imports ≡ false
+IsRoomy places.Number m = (m.identity_count < 65536) × (m.imports ≡ false)
 IsRoomy _ m = Unit {0}
 
 -- the buffers have room for all that a line may hold

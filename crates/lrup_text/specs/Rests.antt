@@ -2,14 +2,15 @@
 -- the counts that the limits speak of: how many digits of a number, literals or items of a list stand there.
 use Rattle.std.specs.Prelude.{◌≡◌, ℕ, ◌+◌, ◌≤◌, ◌⊎◌, Bool, true, false, List, [], ◌∷◌, ◌++◌, length, MatchBool}
 use Rattle.std.specs.List.{AllByRecursion}
-use Rattle.lrup_text.specs.Grammar.{Limits, AreLifted, IsDigit, SpellsNumber, SpellsLiteral, SpellsHint, IsLine, list_text, clause_text, line_feed, space, letter_d}
+use Rattle.lrup_text.specs.Grammar.{Limits, AreLifted, IsDigit, SpellsNumber, SpellsLiteral, SpellsHint, IsLine, list_text, clause_text, line_feed, space, letter_d, letter_i}
 
 pub data Spot : Type 0 where
   AtStart : Spot
   InLead : (digits : ℕ) → Spot
-  BeforeLiteral : (literals : ℕ) → Spot
-  AfterMinus : (literals : ℕ) → Spot
-  InLiteral : (digits literals : ℕ) → Spot
+  AfterImport : Spot
+  BeforeLiteral : (imports : Bool) (literals : ℕ) → Spot
+  AfterMinus : (imports : Bool) (literals : ℕ) → Spot
+  InLiteral : (imports : Bool) (digits literals : ℕ) → Spot
   BeforeList : (deletes : Bool) → Spot
   BeforeItem : (deletes : Bool) (items : ℕ) → Spot
   InItem : (deletes : Bool) (digits items : ℕ) → Spot
@@ -26,14 +27,19 @@ pub record ListFollows (limits : Limits) (deletes : Bool) (items : ℕ) (rest : 
   pub each : AllByRecursion (SpellsItem limits deletes) words
   pub is : rest ≡ list_text words
 
--- the literals after so many, and the hints
-pub record ClauseFollows (limits : Limits) (literals : ℕ) (rest : List ℕ) : Type 0 where
+-- what follows the 0 after the literals: the end of an import, or the hints
+abbrev pub ClauseEnds : Limits → Bool → List ℕ → Type 0
+ClauseEnds limits true rest = rest ≡ line_feed ∷ []
+ClauseEnds limits false rest = ListFollows limits false 0 rest
+
+-- the literals after so many, of an import or an addition, and what follows them
+pub record ClauseFollows (limits : Limits) (imports : Bool) (literals : ℕ) (rest : List ℕ) : Type 0 where
   pub words : List (List ℕ)
   pub count : literals + length words ≤ limits.literals
   pub each : AllByRecursion (SpellsLiteral limits.digits) words
   pub after : List ℕ
   pub is : rest ≡ clause_text words after
-  pub hints : ListFollows limits false 0 after
+  pub end : ClauseEnds limits imports after
 
 -- the letter d, and the identities to delete
 pub record DeletionFollows (limits : Limits) (rest : List ℕ) : Type 0 where
@@ -41,9 +47,22 @@ pub record DeletionFollows (limits : Limits) (rest : List ℕ) : Type 0 where
   pub is : rest ≡ letter_d ∷ after
   pub ids : ListFollows limits true 0 after
 
--- after so many literals: more of the clause, or, after none, a deletion
-abbrev pub BodyFollows : Limits → ℕ → List ℕ → Type 0
-BodyFollows limits literals rest = ClauseFollows limits literals rest ⊎ ((literals ≡ 0) × DeletionFollows limits rest)
+-- a space, and the literals of an import
+pub record LiteralsFollow (limits : Limits) (rest : List ℕ) : Type 0 where
+  pub after : List ℕ
+  pub is : rest ≡ space ∷ after
+  pub clause : ClauseFollows limits true 0 after
+
+-- the letter i, and those literals
+pub record ImportFollows (limits : Limits) (rest : List ℕ) : Type 0 where
+  pub after : List ℕ
+  pub is : rest ≡ letter_i ∷ after
+  pub lits : LiteralsFollow limits after
+
+-- after so many literals: more of the clause, or, where nothing says yet what the line is, a deletion or an import
+abbrev pub BodyFollows : Limits → Bool → ℕ → List ℕ → Type 0
+BodyFollows limits imports literals rest =
+    ClauseFollows limits imports literals rest ⊎ ((literals ≡ 0) × (imports ≡ false) × (DeletionFollows limits rest ⊎ ImportFollows limits rest))
 
 -- the digits after so many, a space, and what may follow it
 pub record DigitsFollow (limits : Limits) (digits : ℕ) (Next : List ℕ → Type 0) (rest : List ℕ) : Type 0 where
@@ -65,11 +84,12 @@ pub record NumberFollows (limits : Limits) (Next : List ℕ → Type 0) (rest : 
 
 -- the rests that may complete a line whose beginning ends at the spot
 abbrev pub MayComplete : Limits → Spot → List ℕ → Type 0
-MayComplete limits AtStart rest = NumberFollows limits (BodyFollows limits 0) rest
-MayComplete limits (InLead digits) rest = DigitsFollow limits digits (BodyFollows limits 0) rest
-MayComplete limits (BeforeLiteral literals) rest = BodyFollows limits literals rest
-MayComplete limits (AfterMinus literals) rest = NumberFollows limits (ClauseFollows limits (literals + 1)) rest
-MayComplete limits (InLiteral digits literals) rest = DigitsFollow limits digits (ClauseFollows limits (literals + 1)) rest
+MayComplete limits AtStart rest = NumberFollows limits (BodyFollows limits false 0) rest
+MayComplete limits (InLead digits) rest = DigitsFollow limits digits (BodyFollows limits false 0) rest
+MayComplete limits AfterImport rest = LiteralsFollow limits rest
+MayComplete limits (BeforeLiteral imports literals) rest = BodyFollows limits imports literals rest
+MayComplete limits (AfterMinus imports literals) rest = NumberFollows limits (ClauseFollows limits imports (literals + 1)) rest
+MayComplete limits (InLiteral imports digits literals) rest = DigitsFollow limits digits (ClauseFollows limits imports (literals + 1)) rest
 MayComplete limits (BeforeList deletes) rest = ListFollows limits deletes 0 rest
 MayComplete limits (BeforeItem deletes items) rest = ListFollows limits deletes items (space ∷ rest)
 MayComplete limits (InItem deletes digits items) rest =

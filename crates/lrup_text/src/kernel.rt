@@ -1,6 +1,6 @@
 //! Reads a whole line at once, and long lists.
-ghost use Rattle.std.specs.Prelude.{◌≡◌, ◌<◌, ◌≤◌, length, IfSome};
-ghost use Rattle.lrup_text.specs.Kernel.{EndsLine, EndsWord, ReadsNumber, ReadsLiterals, ReadsItems, ReadsList, IsWhole};
+ghost use Rattle.std.specs.Prelude.{◌≡◌, ◌<◌, ◌≤◌, ◌+◌, get_or, length, IfSome};
+ghost use Rattle.lrup_text.specs.Kernel.{EndsLine, EndsWord, ReadsNumber, ReadsLiterals, ReadsItems, ReadsList, ReadsClause, IsWhole};
 
 use crate::machine::{MOST_DIGITS, literal_of};
 
@@ -16,11 +16,15 @@ const NINE: u8 = b'9';
 
 const LETTER_D: u8 = b'd';
 
+const LETTER_I: u8 = b'i';
+
 /// What a line holds beside its lists.
 #[derive(Clone, Copy)]
 pub struct Whole {
     /// The line's first number.
     pub lead: u64,
+    /// Whether the line is an import.
+    pub imports: bool,
     /// Whether the line is a deletion.
     pub deletes: bool,
     /// How many literals it has.
@@ -42,14 +46,8 @@ pub fn read_line(line: &[u8], literals: &mut [i64], identities: &mut [u64]) -> O
         return None;
     }
     let body = end + 1;
-    if line[body] == LETTER_D {
-        let identity_count = read_list(line, body + 1, identities)?;
-        return Some(Whole {
-            lead,
-            deletes: true,
-            literal_count: 0,
-            identity_count,
-        });
+    if line[body] > NINE {
+        return read_marked(line, lead, end, literals, identities);
     }
     let (literal_count, close) = read_literals(line, body, literals, 0);
     if close >= line.len() || line[close] != ZERO {
@@ -58,10 +56,68 @@ pub fn read_line(line: &[u8], literals: &mut [i64], identities: &mut [u64]) -> O
     let identity_count = read_list(line, close + 1, identities)?;
     Some(Whole {
         lead,
+        imports: false,
         deletes: false,
         literal_count,
         identity_count,
     })
+}
+
+/// Reads the rest of a line that a letter marks, after its first number.
+fn read_marked(
+    line: &[u8],
+    lead: u64,
+    end: usize,
+    literals: &mut [i64],
+    identities: &mut [u64],
+) -> Option<Whole>
+    requires ends { EndsLine line.now }
+    requires number { ReadsNumber line.now 0 lead end }
+    requires space { get_or line.now end 0 ≡ 32 }
+    requires inside { end + 1 < length line.now }
+    requires literals { length literals.old ≡ 65535 }
+    requires identities { length identities.old ≡ 65536 }
+    ensures { IfSome result (IsWhole line.now literals.new identities.new) }
+{
+    let mark = end + 1;
+    if line[mark] == LETTER_D {
+        let identity_count = read_list(line, mark + 1, identities)?;
+        return Some(Whole {
+            lead,
+            imports: false,
+            deletes: true,
+            literal_count: 0,
+            identity_count,
+        });
+    }
+    if line[mark] != LETTER_I {
+        return None;
+    }
+    let literal_count = read_clause(line, mark + 1, literals)?;
+    Some(Whole {
+        lead,
+        imports: true,
+        deletes: false,
+        literal_count,
+        identity_count: 0,
+    })
+}
+
+/// Reads the literals of an import, with the space before each, and the end of the line.
+fn read_clause(line: &[u8], start: usize, out: &mut [i64]) -> Option<usize>
+    requires ends { EndsLine line.now }
+    requires inside { start < length line.now }
+    ensures { IfSome result (ReadsClause line.now start out.new) }
+{
+    if line[start] != SPACE {
+        return None;
+    }
+    let (count, end) = read_literals(line, start + 1, out, 0);
+    if end + 2 == line.len() && line[end] == ZERO {
+        Some(count)
+    } else {
+        None
+    }
 }
 
 /// Reads the items of a list, with the space before each, and the end of the line.

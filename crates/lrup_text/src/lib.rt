@@ -33,6 +33,11 @@ pub enum Line<'a> {
         lead: u64,
         ids: &'a [u64],
     },
+    /// A clause of another stream or of the formula, which the solver took over: its identity and its literals.
+    Import {
+        id: u64,
+        lits: &'a [i64],
+    },
 }
 
 impl Line<'_> {
@@ -46,6 +51,7 @@ impl Line<'_> {
                 is_stream_number(id) && are_few_literals(lits) && are_few_identities(hints)
             }
             Line::Delete { lead, ids } => is_stream_number(lead) && are_few_identities(ids),
+            Line::Import { id, lits } => is_stream_number(id) && are_few_literals(lits),
         }
     }
 }

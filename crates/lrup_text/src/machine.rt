@@ -27,7 +27,9 @@ pub enum Place {
     Start,
     /// More of its first number.
     Lead,
-    /// A literal, the `0` after the literals, or the `d` of a deletion.
+    /// The space after the `i` of an import.
+    Import,
+    /// A literal, the `0` after the literals, the `d` of a deletion, or the `i` of an import.
     Body,
     /// The number of a literal, after its sign.
     Minus,
@@ -59,6 +61,8 @@ pub enum Step {
 pub struct PartialLine {
     /// What may come next.
     pub place: Place,
+    /// Whether the line is an import.
+    pub imports: bool,
     /// Whether the line is a deletion.
     pub deletes: bool,
     /// Whether the literal that is being read has a sign.
@@ -97,6 +101,7 @@ impl PartialLine {
         let identities = zero_identities(alloc, MOST_IDENTITIES)?;
         Ok(PartialLine {
             place: Place::Start,
+            imports: false,
             deletes: false,
             negative: false,
             // Between lines these hold some number, so that it is always one that fits.
@@ -123,8 +128,14 @@ impl PartialLine {
         requires { Reads self.now }
         ensures { line_of result ≡ line_so_far self.now }
     {
+        let literals = &self.literals[..self.literal_count];
         let identities = &self.identities[..self.identity_count];
-        if self.deletes {
+        if self.imports {
+            Line::Import {
+                id: self.lead,
+                lits: literals,
+            }
+        } else if self.deletes {
             Line::Delete {
                 lead: self.lead,
                 ids: identities,
@@ -132,7 +143,7 @@ impl PartialLine {
         } else {
             Line::Add {
                 id: self.lead,
-                lits: &self.literals[..self.literal_count],
+                lits: literals,
                 hints: identities,
             }
         }
@@ -189,6 +200,7 @@ impl PartialLine {
             return false;
         };
         self.lead = whole.lead;
+        self.imports = whole.imports;
         self.deletes = whole.deletes;
         self.literal_count = whole.literal_count;
         self.identity_count = whole.identity_count;
@@ -266,6 +278,7 @@ impl PartialLine {
         match self.place {
             Place::Start => self.step_at_start(byte),
             Place::Lead => self.step_in_lead(byte),
+            Place::Import => self.step_after_import(byte),
             Place::Body => self.step_in_body(byte),
             Place::Minus => self.step_after_minus(byte),
             Place::Literal => self.step_in_literal(byte),
@@ -324,8 +337,23 @@ impl PartialLine {
             b'0'..=b'9' => Step::Refused(LineFault::TooLong),
             b' ' => {
                 self.lead = self.number;
+                self.imports = false;
                 self.literal_count = 0;
                 self.identity_count = 0;
+                self.place = Place::Body;
+                Step::More
+            }
+            _ => Step::Refused(LineFault::Spelling),
+        }
+    }
+
+    fn step_after_import(&mut self, byte: u8) -> Step
+        requires reads { Reads self.old }
+        requires place { self.old.place ≡ Place.Import }
+        ensures { Steps self.old byte result self.new }
+    {
+        match byte {
+            b' ' => {
                 self.place = Place::Body;
                 Step::More
             }
@@ -339,14 +367,23 @@ impl PartialLine {
         ensures { Steps self.old byte result self.new }
     {
         match byte {
+            b'0' if self.imports => {
+                self.place = Place::LineEnd;
+                Step::More
+            }
             b'0' => {
                 self.deletes = false;
                 self.place = Place::List;
                 Step::More
             }
-            b'd' if self.literal_count == 0 => {
+            b'd' if self.literal_count == 0 && !self.imports => {
                 self.deletes = true;
                 self.place = Place::List;
+                Step::More
+            }
+            b'i' if self.literal_count == 0 && !self.imports => {
+                self.imports = true;
+                self.place = Place::Import;
                 Step::More
             }
             b'-' if self.literal_count < MOST_LITERALS => {

@@ -256,6 +256,12 @@ impl WriteBuffer {
                 self.put(b"d", sink)?;
                 self.put_list(ids, sink)
             }
+            Line::Import { id, lits } => {
+                self.put_lead(id, sink)?;
+                self.put(b"i ", sink)?;
+                self.put_literals(lits, sink)?;
+                self.put(b"0\n", sink)
+            }
         }
     }
 }

@@ -13,6 +13,8 @@ use std::test::Fail;
 use std::{fmt, io};
 use test_support::Paper;
 
+mod imports;
+
 /// Stops the test where two values differ: an assertion that is proved once for all tests.
 fn same<T: PartialEq + fmt::Debug + Drop>(rt: &impl Abort, value: T, wanted: T) {
     assert_eq!(rt; value, wanted);

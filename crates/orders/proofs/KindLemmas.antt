@@ -1,11 +1,11 @@
--- What the events of a line are: a deletion only retires, and an addition never does.
+-- What the events of a line are: a deletion only retires, and no other line does.
 use Rattle.std.proofs.Common.{◌≡◌, ℕ, zero, suc, ℤ, neg_ℤ, Bool, List, [], ◌∷◌, ◌++◌, replicate, sym, subst, inl, inr}
 use Rattle.std.specs.Prelude.{IsTrue}
 use Rattle.std.specs.List.{AllByRecursion}
 use Rattle.lrup_model.specs.Event as events
 use Rattle.lrup_model.specs.Event.{Event, History, Reply}
 use Rattle.lrup_model.specs.declared.clause_map.Retired.{Retired}
-use Rattle.lrup_text.specs.Lines.{StreamLine, Addition, Deletion}
+use Rattle.lrup_text.specs.Lines.{StreamLine, Addition, Deletion, Import}
 use Rattle.stream_check.specs.declared.fault.Fault.{Fault}
 use Rattle.stream_check.specs.Setting.{Setting, Side, formula, own, foreign, outside, side_of}
 use Rattle.stream_check.specs.Standing.{Standing, deleted_by}
@@ -13,6 +13,7 @@ use Rattle.stream_check.specs.Verdicts.{Verdict, Good, Test}
 use Rattle.stream_check.specs.Asking.{AsksAt}
 use Rattle.stream_check.specs.Additions.{AtConflict, AtReply, JudgesHints, JudgesAddition, published_by}
 use Rattle.stream_check.specs.Deletions.{DeletesAt, JudgesIdentities}
+use Rattle.stream_check.specs.Imports.{AtImported, JudgesImport}
 use Rattle.stream_check.specs.Judging.{JudgesLine}
 use Rattle.orders.specs.Lines.{IsRetire, RetiresLast}
 use Rattle.orders.specs.Laws.{RetiresOnly}
@@ -100,6 +101,18 @@ module _ (c : Setting) (P : Event → Type 0) (fetches : (id : ℕ) (r : Reply) 
         test_all _ _ es v _ (λ a. test_all _ _ es v _ (λ a. test_all _ _ es v _
         (λ a. test_all _ _ es v _ (λ a. hints_all st.gone _ hints es a) a) a) a) judged
 
+  -- what holds of the fetches of an import holds of its events
+  imported_none : (x : Reply) (id : ℕ) (lits : List ℤ) (es : History) (v : Verdict) → AtImported x id lits es v → AllByRecursion P es
+  imported_none events.vacant id lits es v at = none_all es at.0
+  imported_none events.retired id lits es v at = none_all es at.0
+  imported_none (events.live d) id lits es v at = test_all _ _ es v _ (λ good. none_all es good.0) at
+
+  pub import_all : (st : Standing) (id : ℕ) (lits : List ℤ) (es : History) (v : Verdict) → JudgesImport c st id lits es v → AllByRecursion P es
+  import_all st id lits es v judged =
+      test_all _ _ es v _ (λ a. test_all _ _ es v _ (λ a. test_all _ _ es v _
+      (λ a. subst (AllByRecursion P) (sym a.events) (all_append P a.asked a.rest (asked_all (side_of c id) id a.asked a.reply a.asks)
+      (imported_none a.reply id lits a.rest v a.next))) a) a) judged
+
 -- Retires
 
 all_retire : (s : ℕ) (ids : List ℕ) → AllByRecursion (λ id. (r : Retired) → IsRetire (events.retire s id r)) ids
@@ -118,6 +131,8 @@ never_last (e ∷ es) all = ((λ is. absurd (all.0 is)), never_last es all.1)
 pub line_last : (c : Setting) (st : Standing) (line : StreamLine) (es : History) (v : Verdict) → JudgesLine c st line es v → RetiresLast es
 line_last c st (Addition id lits hints) es v judged =
     never_last es (addition_all c (λ e. ¬ IsRetire e) (λ h r is. is) id lits v (λ good is. is) st hints es judged)
+line_last c st (Import id lits) es v judged =
+    never_last es (import_all c (λ e. ¬ IsRetire e) (λ h r is. is) st id lits es v judged)
 line_last c st (Deletion lead ids) es v judged =
     retires_last es (identities_all c IsRetire st.gone [] ids es v (all_retire c.stream ids) judged)
 
@@ -131,5 +146,7 @@ pub line_retires : (c : Setting) (p : ℕ → Bool) (st : Standing) (line : Stre
     → AllByRecursion (λ id. IsTrue (p id)) (deleted_by line) → JudgesLine c st line es v → AllByRecursion (RetiresOnly p) es
 line_retires c p st (Addition id lits hints) es v all judged =
     addition_all c (RetiresOnly p) (λ h r. tt) id lits v (λ good. tt) st hints es judged
+line_retires c p st (Import id lits) es v all judged =
+    import_all c (RetiresOnly p) (λ h r. tt) st id lits es v judged
 line_retires c p st (Deletion lead ids) es v all judged =
     identities_all c (RetiresOnly p) st.gone [] ids es v (all_pass p c.stream ids all) judged

@@ -8,7 +8,7 @@ use Rattle.lrup_model.specs.Layout.{LayoutValue, IsStream}
 use Rattle.lrup_model.specs.Event as events
 use Rattle.lrup_model.specs.Event.{Event, History, publishes_empty}
 use Rattle.lrup_model.specs.declared.clause_map.Retired.{Retired}
-use Rattle.lrup_text.specs.Lines.{StreamLine, Addition, Deletion}
+use Rattle.lrup_text.specs.Lines.{StreamLine, Addition, Deletion, Import}
 use Rattle.stream_check.specs.declared.fault.Fault.{Fault}
 use Rattle.stream_check.specs.declared.report.Report.{Report}
 use Rattle.stream_check.specs.Setting.{Setting}
@@ -20,7 +20,7 @@ use Rattle.stream_check.specs.Judging.{JudgesLine, AreGood, EndsAfter, StreamEnd
 use Rattle.stream_check.specs.Laws.{GoodExactlyIf}
 use Rattle.runs.specs.Streams.{Stream, JudgesStream, Block, blocks_of, events_in, IsBlockWithin, AreJudged, Terms, setting_of, IsOrdered}
 use Rattle.orders.specs.Laws.{ClosedOrdered, AllClosed, AllOrdered}
-use Rattle.orders.proofs.KindLemmas.{addition_all, identities_all}
+use Rattle.orders.proofs.KindLemmas.{addition_all, import_all, identities_all}
 use Rattle.orders.proofs.JudgedLemmas.{joined-append}
 use Rattle.orders.proofs.BlockLemmas.{blocks-same, blocks-other}
 use Rattle.orders.proofs.StreamLemmas.{some_end}
@@ -75,6 +75,8 @@ good_line law c st (Addition id [] hints) es judged =
     ∙ or_right (list_any publishes_empty good.fetches) (list_any publishes_empty (published_by c id [] ∷ [])) refl
 good_line law c st (Addition id (l ∷ lits) hints) es judged =
     quiet_none es (addition_all c IsQuiet (λ h r. refl) id (l ∷ lits) Good (λ good. some_literal l _) st hints es judged)
+good_line law c st (Import id lits) es judged =
+    quiet_none es (import_all c IsQuiet (λ h r. refl) st id lits es Good judged)
 good_line law c st (Deletion lead ids) es judged =
     quiet_none es (identities_all c IsQuiet st.gone [] ids es Good (quiet_retires c.stream ids) judged)
 
@@ -83,6 +85,8 @@ bad_line : (c : Setting) (st : Standing) (line : StreamLine) (es : History) (del
     → JudgesLine c st line es (Bad deleted fault) → list_any publishes_empty es ≡ false
 bad_line c st (Addition id lits hints) es deleted fault judged =
     quiet_none es (addition_all c IsQuiet (λ h r. refl) id lits (Bad deleted fault) (λ good. absurd (cc)) st hints es judged)
+bad_line c st (Import id lits) es deleted fault judged =
+    quiet_none es (import_all c IsQuiet (λ h r. refl) st id lits es (Bad deleted fault) judged)
 bad_line c st (Deletion lead ids) es deleted fault judged =
     quiet_none es (identities_all c IsQuiet st.gone [] ids es (Bad deleted fault) (quiet_retires c.stream ids) judged)
 

@@ -15,7 +15,7 @@ use Rattle.lrup_model.specs.Event.{Event, Reply, History, own, publishes_empty}
 use Rattle.lrup_model.specs.State.{State, opening, after}
 use Rattle.lrup_model.specs.History.{LegalFrom, IsLegal}
 use Rattle.lrup_model.specs.declared.clause_map.Published.TheVariants as publishing
-use Rattle.lrup_text.specs.Lines.{StreamLine, Addition, Deletion}
+use Rattle.lrup_text.specs.Lines.{StreamLine, Addition, Deletion, Import}
 use Rattle.stream_check.specs.declared.fault.Fault.{Fault}
 use Rattle.stream_check.specs.declared.fault.Fault.TheVariants as faults
 use Rattle.stream_check.specs.declared.report.Report.{Report}
@@ -28,7 +28,7 @@ use Rattle.runs.specs.Streams.{Stop, at_end, at_failure, early, Stream, JudgesTo
 
 -- ---- some element of a list
 
-or_left : (a b : Bool) → a ≡ true → (a || b) ≡ true
+pub or_left : (a b : Bool) → a ≡ true → (a || b) ≡ true
 or_left true b e = refl
 or_left false b e = absurd (let f : false ≡ true = e in cc)
 
@@ -41,10 +41,10 @@ or_more true b c rest e = refl
 or_more false b c rest e = rest e
 
 module _ (p : Event → Bool) where
-  any_front : (es fs : History) → list_any p es ≡ true → list_any p (es ++ fs) ≡ true
+  pub any_front : (es fs : History) → list_any p es ≡ true → list_any p (es ++ fs) ≡ true
   any_front es fs e = list_any-append p es fs ∙ or_left (list_any p es) (list_any p fs) e
 
-  any_back : (es fs : History) → list_any p fs ≡ true → list_any p (es ++ fs) ≡ true
+  pub any_back : (es fs : History) → list_any p fs ≡ true → list_any p (es ++ fs) ≡ true
   any_back es fs e = list_any-append p es fs ∙ or_right (list_any p es) (list_any p fs) e
 
   any_more : (es fs gs : History) → (list_any p fs ≡ true → list_any p gs ≡ true) → list_any p (es ++ fs) ≡ true → list_any p (es ++ gs) ≡ true
@@ -55,7 +55,7 @@ module _ (p : Event → Bool) where
   filtered_step x es fs true rest e = or_more (p x) (list_any p fs) (list_any p es) rest e
   filtered_step x es fs false rest e = or_right (p x) (list_any p es) (rest e)
 
-  any_filtered : (q : Event → Bool) (es : History) → list_any p (filter q es) ≡ true → list_any p es ≡ true
+  pub any_filtered : (q : Event → Bool) (es : History) → list_any p (filter q es) ≡ true → list_any p es ≡ true
   any_filtered q [] e = e
   any_filtered q (x ∷ es) e = filtered_step x es (filter q es) (q x) (any_filtered q es) e
 
@@ -64,13 +64,13 @@ module _ (p : Event → Bool) where
   block_step es all later true rest e = any_more es (joined later) all rest e
   block_step es all later false rest e = any_back es all (rest e)
 
-  any_block : (s : ℕ) (blocks : List Block) → list_any p (joined (blocks_of s blocks)) ≡ true → list_any p (events_in blocks) ≡ true
+  pub any_block : (s : ℕ) (blocks : List Block) → list_any p (joined (blocks_of s blocks)) ≡ true → list_any p (events_in blocks) ≡ true
   any_block s [] e = e
   any_block s (block ∷ blocks) e = block_step block.events (events_in blocks) (blocks_of s blocks) (block.stream == s) (any_block s blocks) e
 
 -- ---- the publish of a good addition
 
-fails_not : (fault : Fault) (es : History) → Fails fault es Good → ⊥
+pub fails_not : (fault : Fault) (es : History) → Fails fault es Good → ⊥
 fails_not fault es f = let e : Good ≡ Bad 0 fault = f.1 in cc
 
 module _ (p : Event → Bool) (c : Setting) (gone : ℕ → Bool) (published : Event) (passes : p published ≡ true) where
@@ -88,7 +88,7 @@ module _ (p : Event → Bool) (c : Setting) (gone : ℕ → Bool) (published : E
   at_reply (events.live d) n h hints es A next (inr (inr neither)) = absurd (fails_not (faults.NotUnit h) es neither.2)
 
   -- hints that show the clause are followed by its publish
-  hints_publish : (n : List ℤ) (hints : List ℕ) (es : History) → JudgesHints c gone published n hints es Good → list_any p es ≡ true
+  pub hints_publish : (n : List ℤ) (hints : List ℕ) (es : History) → JudgesHints c gone published n hints es Good → list_any p es ≡ true
   hints_publish n [] es judged = absurd (fails_not faults.NoConflict es judged)
   hints_publish n (h ∷ hints) es (inl bad) = absurd (fails_not (faults.Dropped h) es bad.1)
   hints_publish n (h ∷ hints) es (inr good) =
@@ -113,6 +113,7 @@ lines_publish c before (line ∷ lines) [] good e = absurd good
 lines_publish c before (Addition id [] hints ∷ lines) (block ∷ blocks) good e = any_front publishes_empty block (joined blocks) (empty_line c _ id hints block good.0)
 lines_publish c before (Addition id (l ∷ lits) hints ∷ lines) (block ∷ blocks) good e = any_back publishes_empty block (joined blocks) (lines_publish c _ lines blocks good.1 e)
 lines_publish c before (Deletion lead ids ∷ lines) (block ∷ blocks) good e = any_back publishes_empty block (joined blocks) (lines_publish c _ lines blocks good.1 e)
+lines_publish c before (Import id lits ∷ lines) (block ∷ blocks) good e = any_back publishes_empty block (joined blocks) (lines_publish c _ lines blocks good.1 e)
 
 -- the report tells of the good lines alone
 said_empty : (c : Setting) (lines : List StreamLine) (rest : List ℕ) (end : StreamEnd) (back : List History) (report : Report) → EndsAfter c lines rest end back report → report.empty ≡ list_any adds_empty lines

@@ -1,4 +1,5 @@
 pub mod EmptyLemmas
+pub mod CubeLemmas
 pub mod HeadlineLemmas
 pub mod JoiningLemmas
 pub mod ReportLines

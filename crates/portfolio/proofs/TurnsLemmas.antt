@@ -6,6 +6,7 @@ use Rattle.std.specs.List.{AllByRecursion, list_any, sum_by}
 use Rattle.std.proofs.lemmas.Bool.{cases_Bool, cases_eq, cases_lt, cond-true, cond-false}
 use Rattle.std.proofs.lemmas.List.{append-nil, append_assoc, map-append, get_or_default, get_or-replicate, take-append-le, take_all}
 use Rattle.std.proofs.lemmas.Grind.{flat_map-append}
+use Rattle.lrup_model.specs.Cube.{CubeValue}
 use Rattle.lrup_model.specs.Entailment.{IsUnsatisfiable}
 use Rattle.lrup_model.specs.Formula.{Cnf}
 use Rattle.lrup_model.specs.Layout.{LayoutValue, Fits, Owns, IsStream}
@@ -328,8 +329,8 @@ module _ (f : Cnf) (p : LayoutValue) (m : Plain) (opened : IsOpened f p m) where
   room_opened : (s : ℕ) → IsStream p s → free_at m s ≡ p.room
   room_opened s stream = ap (λ (rooms : List ℕ). get_or rooms (s - 1) 0) opened.room ∙ get_or-replicate p.streams (s - 1) p.room 0 (omega (arith, stream.0, stream.1))
 
-  ready_opened : (tries s : ℕ) (entry : Option (List ℕ)) (w : WorkerValue) → IsStarted (terms_at p tries) s entry w → IsReadyAt w.checker (plain_place m s)
-  ready_opened tries s entry w started = record {
+  ready_opened : (cube : CubeValue) (tries s : ℕ) (entry : Option (List ℕ)) (w : WorkerValue) → IsStarted (terms_at p cube tries) s entry w → IsReadyAt w.checker (plain_place m s)
+  ready_opened cube tries s entry w started = record {
     at = record {
       layout = opened.layout ∙ sym (ap (λ (c : Setting). c.layout) started.setting);
       stream = sym (ap (λ (c : Setting). c.stream) started.setting);
@@ -338,18 +339,18 @@ module _ (f : Cnf) (p : LayoutValue) (m : Plain) (opened : IsOpened f p m) where
         ap (λ (state : State). state id) opened.state ∙ opening-owned f p s id opened.fits (subst (λ (q : LayoutValue). Owns q s id) opened.layout owns);
   }
 
-  working_started : (tries k : ℕ) (entries : List (Option (List ℕ))) (ws : List WorkerValue) → 0 < k → k + length ws ≤ p.streams + 1 → AreStarted (terms_at p tries) k entries ws → AreWorking (terms_at p tries) [] m k entries ws
-  working_started tries k [] [] positive within started = tt
-  working_started tries k [] (w ∷ ws) positive within started = absurd started
-  working_started tries k (entry ∷ entries) [] positive within started = absurd started
-  working_started tries k (entry ∷ entries) (w ∷ ws) positive within started =
+  working_started : (cube : CubeValue) (tries k : ℕ) (entries : List (Option (List ℕ))) (ws : List WorkerValue) → 0 < k → k + length ws ≤ p.streams + 1 → AreStarted (terms_at p cube tries) k entries ws → AreWorking (terms_at p cube tries) [] m k entries ws
+  working_started cube tries k [] [] positive within started = tt
+  working_started cube tries k [] (w ∷ ws) positive within started = absurd started
+  working_started cube tries k (entry ∷ entries) [] positive within started = absurd started
+  working_started cube tries k (entry ∷ entries) (w ∷ ws) positive within started =
       let room : free_at m k ≡ p.room = room_opened k (positive, omega (arith, within)) in (
         record {
           setting = started.0.setting;
           works = subst (λ free. Works entry w free []) (sym room) started.0.works;
-          ready = ready_opened tries k entry w started.0;
+          ready = ready_opened cube tries k entry w started.0;
         },
-        working_started tries (k + 1) entries ws (omega arith) (omega (arith, within)) started.1,
+        working_started cube tries (k + 1) entries ws (omega arith) (omega (arith, within)) started.1,
       )
 
   run_opened : HasRun f p [] m
@@ -363,14 +364,14 @@ module _ (f : Cnf) (p : LayoutValue) (m : Plain) (opened : IsOpened f p m) where
   }
 
   -- a run before its first turn
-  pub runs_opened : (tries : ℕ) (entries : List (Option (List ℕ))) (ws : List WorkerValue) → length entries ≡ p.streams → AreStarted (terms_at p tries) 1 entries ws → Runs f (terms_at p tries) entries m ws
-  runs_opened tries entries ws count started =
-      let same : length ws ≡ p.streams = omega (arith, count_started (terms_at p tries) 1 entries ws started, count) in
+  pub runs_opened : (cube : CubeValue) (tries : ℕ) (entries : List (Option (List ℕ))) (ws : List WorkerValue) → length entries ≡ p.streams → AreStarted (terms_at p cube tries) 1 entries ws → Runs f (terms_at p cube tries) entries m ws
+  runs_opened cube tries entries ws count started =
+      let same : length ws ≡ p.streams = omega (arith, count_started (terms_at p cube tries) 1 entries ws started, count) in
       record {
         count = same;
         blocks = [];
         map_is = run_opened;
-        workers_are = working_started tries 1 entries ws (omega arith) (omega (arith, same)) started;
+        workers_are = working_started cube tries 1 entries ws (omega arith) (omega (arith, same)) started;
       }
 
 -- ---- when all streams are over
@@ -429,13 +430,13 @@ pub sound_over : (f : Cnf) (terms : Terms) (streams : List Stream) (reports : Li
 sound_over f terms streams reports ordered some = sound_among f terms ordered.blocks 1 streams reports ordered.legal ordered.judged some
 
 -- the whole run: opened, gone on with, and over
-pub run_ordered : (f : Cnf) (p : LayoutValue) (tries : ℕ) (wanted : Terms) (entries lefts : List (Option (List ℕ))) (faileds : List Bool) (m n : Plain) (us vs ws xs : List WorkerValue) (reports : List Report)
-    → IsOpened f p m → terms_at p tries ≡ wanted → length entries ≡ p.streams → AreStarted (terms_at p tries) 1 entries us
+pub run_ordered : (f : Cnf) (p : LayoutValue) (cube : CubeValue) (tries : ℕ) (wanted : Terms) (entries lefts : List (Option (List ℕ))) (faileds : List Bool) (m n : Plain) (us vs ws xs : List WorkerValue) (reports : List Report)
+    → IsOpened f p m → terms_at p cube tries ≡ wanted → length entries ≡ p.streams → AreStarted (terms_at p cube tries) 1 entries us
     → vs ≡ us → GoesOn m vs n ws → xs ≡ ws → HaveReports xs reports → lefts ≡ map (λ w. w.left) xs → faileds ≡ map (λ w. w.has_failed) xs
     → StandsOnStreams entries lefts faileds (λ streams. IsOrdered f wanted (λ s. true) streams reports)
-run_ordered f p tries wanted entries lefts faileds m n us vs ws xs reports opened same count started same_start goes same_end have left failed =
-    let terms = terms_at p tries in
-    let begun : Runs f terms entries m vs = subst (Runs f terms entries m) (sym same_start) (runs_opened f p m opened tries entries us count started) in
+run_ordered f p cube tries wanted entries lefts faileds m n us vs ws xs reports opened same count started same_start goes same_end have left failed =
+    let terms = terms_at p cube tries in
+    let begun : Runs f terms entries m vs = subst (Runs f terms entries m) (sym same_start) (runs_opened f p m opened cube tries entries us count started) in
     let ended : Runs f terms entries n xs = subst (Runs f terms entries n) (sym same_end) (goes f terms entries begun) in
     let ordered = ordered_over f terms entries n xs reports ended have in
     record {

@@ -1,4 +1,3 @@
-pub mod Joining
 pub mod Outcomes
 pub mod ReportText
 pub mod Turns

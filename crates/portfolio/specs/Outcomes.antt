@@ -1,6 +1,7 @@
 -- What a run is asked for, and what it says in the end (this project's own).
 use Rattle.std.specs.Prelude.{◌≡◌, ◌↔◌, ℕ, List, length, Result, Err, if◌then◌else◌}
 use Rattle.std.specs.List.{list_any}
+use Rattle.lrup_model.specs.Cube.{CubeValue}
 use Rattle.lrup_model.specs.Formula.{Cnf, literals_of}
 use Rattle.lrup_model.specs.Layout.{LayoutValue, layout_value, IsFault}
 use Rattle.lrup_model.specs.declared.layout.LayoutFault.{LayoutFault}
@@ -9,7 +10,7 @@ use Rattle.stream_check.specs.Setting as setting
 use Rattle.portfolio.specs.declared.outcome.RunFault.{RunFault}
 use Rattle.portfolio.specs.declared.outcome.RunFault.TheVariants.{Layout}
 use Rattle.portfolio.specs.declared.outcome.Verdict.{Verdict}
-use Rattle.portfolio.specs.declared.outcome.Verdict.TheVariants.{Unsatisfiable, Unknown}
+use Rattle.portfolio.specs.declared.outcome.Verdict.TheVariants.{Unsatisfiable, UnsatisfiableUnder, Unknown}
 use Rattle.runs.specs.Streams.{Terms, terms_at}
 
 -- how often a hint of another stream is fetched again while it is vacant; and for each stream, identities and room in literals
@@ -26,13 +27,15 @@ max_tries = setting.max_tries
 abbrev pub layout_of : OptionsValue → Cnf → ℕ → LayoutValue
 layout_of options f streams = layout_value f.vars (length f.clauses) (literals_of f) streams options.lines options.room
 
--- what a run of a formula and so many streams is checked by
-abbrev pub terms_of : OptionsValue → Cnf → ℕ → Terms
-terms_of options f streams = terms_at (layout_of options f streams) options.tries
+-- what a run of a formula and so many streams is checked by, under a cube
+abbrev pub terms_of : OptionsValue → CubeValue → Cnf → ℕ → Terms
+terms_of options cube f streams = terms_at (layout_of options f streams) cube options.tries
 
--- the verdict: 'unsatisfiable' exactly if some stream added the empty clause
+-- The verdict: 'unsatisfiable' exactly if some stream added the empty clause; else 'unsatisfiable under assumptions' exactly if
+-- some stream added a clause within the cube.
 abbrev pub verdict_of : List Report → Verdict
-verdict_of reports = if list_any (λ report. report.empty) reports then Unsatisfiable else Unknown
+verdict_of reports =
+    if list_any (λ report. report.empty) reports then Unsatisfiable else if list_any (λ report. report.within) reports then UnsatisfiableUnder else Unknown
 
 -- a run answers that there is no layout exactly where these numbers have none, and says why
 abbrev pub IsLayoutFault : {T : Type 0} → Result T RunFault → LayoutValue → Type 0

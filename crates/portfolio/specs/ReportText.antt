@@ -27,6 +27,7 @@ stream_lines s (r ∷ reports) = stream_line s r ++ stream_lines (s + 1) reports
 
 abbrev pub verdict_line : Verdict → List ℕ
 verdict_line verdicts.Unsatisfiable = codes "s UNSATISFIABLE\n"
+verdict_line verdicts.UnsatisfiableUnder = codes "s UNSATISFIABLE UNDER ASSUMPTIONS\n"
 verdict_line verdicts.Unknown = codes "s UNKNOWN\n"
 
 -- a line for each stream in order, and the verdict's line

@@ -13,7 +13,10 @@ use thiserror::Error;
 pub enum Verdict {
     /// No assignment satisfies the formula: a stream added the empty clause.
     Unsatisfiable,
-    /// No stream added the empty clause, which says nothing of the formula.
+    /// No assignment satisfies the formula and makes each literal of the cube true: a stream added a clause within the cube,
+    /// and none added the empty clause.
+    UnsatisfiableUnder,
+    /// No stream added such a clause, which says nothing of the formula.
     Unknown,
 }
 
@@ -24,6 +27,8 @@ impl Verdict {
     {
         if reports.iter().any(|report| report.empty) {
             Verdict::Unsatisfiable
+        } else if reports.iter().any(|report| report.within) {
+            Verdict::UnsatisfiableUnder
         } else {
             Verdict::Unknown
         }
@@ -39,9 +44,12 @@ pub enum RunFault {
     /// Out of memory before the first read.
     #[error("out of memory")]
     Memory,
-    /// The worker of this stream, from 1 on, couldn't be started.
+    /// A thread of this stream, from 1 on, couldn't be started. No stream was read.
     #[error("worker {0} not started")]
     Spawn(u64),
+    /// The thread that checks this stream, the first such one from 1 on, met no end of what its reading thread sent.
+    #[error("ring of stream {0}")]
+    Ring(u64),
 }
 
 impl From<LayoutFault> for RunFault {
@@ -75,7 +83,7 @@ pub struct SerialOutcome<R: Drop> {
     pub readers: Vec<R>,
 }
 
-/// What a run with a thread for each stream found.
+/// What a run with threads found.
 #[derive(Drop)]
 pub struct Outcome<R: Drop> {
     /// What is said of each stream, in order.

@@ -33,6 +33,7 @@ fn verdict_text(verdict: Verdict) -> &'static [u8]
 {
     match verdict {
         Verdict::Unsatisfiable => b"s UNSATISFIABLE\n",
+        Verdict::UnsatisfiableUnder => b"s UNSATISFIABLE UNDER ASSUMPTIONS\n",
         Verdict::Unknown => b"s UNKNOWN\n",
     }
 }

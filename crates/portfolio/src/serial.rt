@@ -1,6 +1,7 @@
 //! A run on one thread.
 ghost use Rattle.std.specs.Prelude.{◌≡◌, ◌≢◌, ◌+◌, ◌<◌, ◌≤◌, true, false, ℕ, List, [], None, IfOk, Err, length, map, vec_len, vec_capacity};
 ghost use Rattle.std.specs.List.{AllByRecursion};
+ghost use Rattle.lrup_model.specs.Cube.{IsUnsatisfiableUnder};
 ghost use Rattle.lrup_model.specs.Entailment.{IsUnsatisfiable};
 ghost use Rattle.lrup_model.specs.Event.{History};
 ghost use Rattle.lrup_model.specs.Layout.{IsStream};
@@ -17,7 +18,7 @@ use crate::options::Options;
 use crate::outcome::{RunFault, SerialOutcome, Verdict};
 use crate::worker::Worker;
 use groups::laws::serial_isolated;
-use lrup_model::{Formula, Layout, PlainMap};
+use lrup_model::{Cube, Formula, Layout, PlainMap};
 use lrup_text::Source;
 use std::alloc::{AllocError, Global};
 use std::sync::Wait;
@@ -25,12 +26,14 @@ use stream_check::laws::ready_beside;
 use stream_check::{Gate, Report};
 
 /// Checks the streams that the readers give, stream 1 first, on this thread and by turns: a turn of a stream reads until one
-/// line was taken, or the stream is over. As many gates are wanted as readers. All memory is taken before the first read, but for
-/// the identities that streams drop. It blocks while a reader does.
+/// line was taken, or the stream is over. It says whether one derived a clause that contradicts the cube. As many gates are
+/// wanted as readers. All memory is taken before the first read, but for the identities that streams drop. It blocks while a
+/// reader does.
 pub fn run_serial<W: Wait, R: Source + Drop, G: Gate + Drop>(
     wait: &W,
     alloc: Global,
     formula: &Formula,
+    cube: &Cube,
     options: Options,
     readers: Vec<R>,
     gates: Vec<G>,
@@ -40,14 +43,15 @@ pub fn run_serial<W: Wait, R: Source + Drop, G: Gate + Drop>(
     // The layout alone decides whether there is one: before anything is taken or read.
     ensures layout { IsLayoutFault result (layout_of options formula.now (length readers.items)) }
     ensures alone { (stream : ℕ) → result ≢ Err (RunFault.Spawn stream) }
+    ensures no_ring { (stream : ℕ) → result ≢ Err (RunFault.Ring stream) }
     // Each stream is what its reader told, and the reports have an order of lines.
-    ensures ordered { let terms = terms_of options formula.now (length readers.items) in
+    ensures ordered { let terms = terms_of options cube.now formula.now (length readers.items) in
         IfOk result (λ outcome. StandsOnStreams (map R.left readers.items)
         (map R.left outcome.readers.items) (map R.has_failed outcome.readers.items)
         (λ streams. IsOrdered formula.now terms (λ s. true) streams outcome.reports.items)) }
     // Groups of streams are isolated: the reports of a closed set of streams are those of the set
     // alone.
-    ensures isolated { let terms = terms_of options formula.now (length readers.items) in
+    ensures isolated { let terms = terms_of options cube.now formula.now (length readers.items) in
         IfOk result (λ outcome. AreIsolated formula.now terms (map R.left readers.items)
         (map R.left outcome.readers.items) (map R.has_failed outcome.readers.items)
         (λ streams. IsOrdered formula.now terms (λ s. true) streams outcome.reports.items)
@@ -57,11 +61,13 @@ pub fn run_serial<W: Wait, R: Source + Drop, G: Gate + Drop>(
     // What a user relies on.
     ensures sound { IfOk result (λ outcome.
         outcome.verdict ≡ Verdict.Unsatisfiable → IsUnsatisfiable formula.now) }
+    ensures sound_under { IfOk result (λ outcome. outcome.verdict ≡ Verdict.UnsatisfiableUnder
+        → IsUnsatisfiableUnder formula.now cube.now) }
 {
     serial_isolated();
     let layout = options.layout(formula, readers.len())?;
     let mut map = PlainMap::open(alloc, formula, &layout)?;
-    let mut workers = workers_of(alloc, &layout, options.tries(), readers, gates)?;
+    let mut workers = workers_of(alloc, &layout, cube, options.tries(), readers, gates)?;
     let reports = Vec::with_capacity(alloc, workers.len())?;
     let readers = Vec::with_capacity(alloc, workers.len())?;
     take_turns(wait, &mut map, &mut workers);
@@ -72,6 +78,7 @@ pub fn run_serial<W: Wait, R: Source + Drop, G: Gate + Drop>(
 pub(crate) fn workers_of<R: Source + Drop, G: Gate + Drop>(
     alloc: Global,
     layout: &Layout,
+    cube: &Cube,
     tries: u64,
     readers: Vec<R>,
     gates: Vec<G>,
@@ -81,12 +88,12 @@ pub(crate) fn workers_of<R: Source + Drop, G: Gate + Drop>(
     requires streams { layout.now.streams ≡ length readers.items }
     requires tries { tries ≤ max_tries }
     ensures { IfOk result (λ workers.
-        AreStarted (terms_at layout.now tries) 1 (map R.left readers.items) workers.items) }
+        AreStarted (terms_at layout.now cube.now tries) 1 (map R.left readers.items) workers.items) }
 {
     let mut workers = Vec::with_capacity(alloc, readers.len())?;
     for (reader, gate) in readers.into_iter().zip(gates) {
         let stream = workers.len() as u64 + 1;
-        workers.push_reserved(Worker::new(alloc, reader, gate, stream, layout, tries)?);
+        workers.push_reserved(Worker::new(alloc, reader, gate, stream, layout, cube, tries)?);
     }
     Ok(workers)
 }

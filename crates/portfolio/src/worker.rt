@@ -9,7 +9,7 @@ ghost use Rattle.portfolio.specs.Outcomes.{max_tries};
 ghost use Rattle.runs.specs.Streams.{terms_at};
 ghost use Rattle.portfolio.specs.Working.{IsStarted, WorksOn};
 
-use lrup_model::{ClauseMap, Layout};
+use lrup_model::{ClauseMap, Cube, Layout};
 use lrup_text::Source;
 use std::alloc::{AllocError, Global};
 use std::marker::Model;
@@ -48,25 +48,26 @@ impl<R: Source + Drop, G: Gate + Drop> Model for Worker<R, G> {
 }
 
 impl<R: Source + Drop, G: Gate + Drop> Worker<R, G> {
-    /// A worker of stream `stream`, from 1 on, before its first byte. It takes all memory that it will need, but for the
-    /// identities that the stream drops.
+    /// A worker of stream `stream`, from 1 on, under this cube, before its first byte. It takes all memory that it will need, but
+    /// for the identities that the stream drops.
     pub fn new(
         alloc: Global,
         reader: R,
         gate: G,
         stream: u64,
         layout: &Layout,
+        cube: &Cube,
         tries: u64,
     ) -> Result<Worker<R, G>, AllocError>
         requires running { R.has_failed reader ≡ false }
         requires stream { IsStream layout.now stream }
         requires tries { tries ≤ max_tries }
-        ensures { IfOk result (IsStarted (terms_at layout.now tries) stream (R.left reader)) }
+        ensures { IfOk result (IsStarted (terms_at layout.now cube.now tries) stream (R.left reader)) }
     {
         Ok(Worker {
             reader,
             gate,
-            checker: Checker::new(alloc, stream, layout, tries)?,
+            checker: Checker::new(alloc, stream, layout, cube, tries)?,
             buffer: vec![in alloc; 0; PIECE]?,
             from: 0,
             to: 0,

@@ -3,7 +3,7 @@ ghost use Rattle.std.specs.Prelude.{◌≡◌, ◌≤◌, false, IfOk, IsTrue};
 ghost use Rattle.std.specs.List.{AllByRecursion};
 ghost use Rattle.portfolio.specs.Outcomes.{max_tries};
 
-use lrup_model::{Id, LayoutFault};
+use lrup_model::{Cube, Id, LayoutFault};
 use lrup_text::{LineFault, Sink, WriteFault};
 use portfolio::{
     Options, Outcome, RunFault, SerialOutcome, Verdict, run, run_serial, write_report,
@@ -18,8 +18,11 @@ use std::thread::Threads;
 use stream_check::{Ending, Fault, Gate, Report};
 use test_support::{Paper, Pieces, four_clauses};
 
+mod assumptions;
+mod interleavings;
 mod isolation;
 mod line_orders;
+mod readings;
 mod rows;
 mod serial;
 mod threads;
@@ -165,6 +168,7 @@ fn report(added: u64, deleted: u64, ending: Ending) -> Report {
         added,
         deleted,
         empty: false,
+        within: false,
         ending,
     }
 }
@@ -172,6 +176,7 @@ fn report(added: u64, deleted: u64, ending: Ending) -> Report {
 fn ended(added: u64, empty: bool) -> Report {
     Report {
         empty,
+        within: empty,
         ..report(added, 0, Ending::Ended)
     }
 }
@@ -190,7 +195,7 @@ enum By {
 
 const BOTH: [By; 2] = [By::Threads, By::Turns];
 
-/// The reports of a run over the four clauses.
+/// The reports of a run over the four clauses, without assumptions.
 fn reports_of<'a, T: Threads + Wait + Sync>(
     rt: &T,
     alloc: Global,
@@ -200,18 +205,41 @@ fn reports_of<'a, T: Threads + Wait + Sync>(
 ) -> Result<Vec<Report>, Fail>
     requires { AllByRecursion (λ r. r.failed ≡ false) readers.items }
 {
+    let (reports, _) = found_under(rt, alloc, by, &Cube::empty(alloc), options, readers)?;
+    Ok(reports)
+}
+
+/// The reports and the verdict of a run over the four clauses, under this cube.
+fn found_under<'a, T: Threads + Wait + Sync>(
+    rt: &T,
+    alloc: Global,
+    by: By,
+    cube: &Cube,
+    options: Options,
+    readers: Vec<Pieces<'a>>,
+) -> Result<(Vec<Report>, Verdict), Fail>
+    requires { AllByRecursion (λ r. r.failed ≡ false) readers.items }
+{
     let formula = four_clauses(alloc)?;
     let gates = vec![in alloc; Open; readers.len()]?;
     match by {
         By::Threads => {
-            let outcome = run(rt, alloc, &formula, options, readers, gates)?;
-            let Outcome { reports, .. } = outcome;
-            Ok(reports)
+            let outcome = run(rt, alloc, &formula, cube, options, readers, gates)?;
+            let Outcome {
+                reports,
+                verdict,
+                ..
+            } = outcome;
+            Ok((reports, verdict))
         }
         By::Turns => {
-            let outcome = run_serial(rt, alloc, &formula, options, readers, gates)?;
-            let SerialOutcome { reports, .. } = outcome;
-            Ok(reports)
+            let outcome = run_serial(rt, alloc, &formula, cube, options, readers, gates)?;
+            let SerialOutcome {
+                reports,
+                verdict,
+                ..
+            } = outcome;
+            Ok((reports, verdict))
         }
     }
 }
@@ -234,8 +262,12 @@ fn writes_text(
     Ok(())
 }
 
-const VERDICTS: [(Verdict, &str); 2] = [
+const VERDICTS: [(Verdict, &str); 3] = [
     (Verdict::Unknown, "UNKNOWN"),
+    (
+        Verdict::UnsatisfiableUnder,
+        "UNSATISFIABLE UNDER ASSUMPTIONS",
+    ),
     (Verdict::Unsatisfiable, "UNSATISFIABLE"),
 ];
 
@@ -313,6 +345,10 @@ fn reports_of_one_stream(rt: HostRuntime) -> Result<(), Fail> {
             report(1, 1, Ending::Bad(2, Fault::NotLive(5))),
             "1 added, 1 deleted, bad line 2 (not live 5)",
         ),
+        (
+            bad_line(1, Fault::Differs(most)),
+            "0 added, 0 deleted, bad line 1 (differs 18446744073709551615)",
+        ),
     ] {
         for (verdict, word) in VERDICTS {
             let text = format!(in rt.alloc(); "c stream 1: {line}\ns {word}\n")?;
@@ -328,6 +364,7 @@ fn two_reports() -> [Report; 2] {
         added: 2,
         deleted: 0,
         empty: true,
+        within: true,
         ending: Ending::Bad(3, Fault::NoConflict),
     };
     [first, bad_line(1, Fault::Missing(6))]
@@ -425,6 +462,7 @@ fn run_fault_texts(rt: HostRuntime) -> Result<(), Fail> {
         (RunFault::Layout(LayoutFault::RowTooLong), "row too long"),
         (RunFault::Memory, "out of memory"),
         (RunFault::Spawn(64), "worker 64 not started"),
+        (RunFault::Ring(64), "ring of stream 64"),
     ] {
         same(&rt, fault.to_string(rt.alloc())?.as_str(), text);
     }

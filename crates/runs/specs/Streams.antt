@@ -3,6 +3,7 @@ use Rattle.std.specs.Prelude.{◌≡◌, ◌+◌, ◌++◌, ◌==◌, ℕ, Bool,
 use Rattle.std.specs.Io.KnownBytes.{Consumes, IsAtEnd}
 use Rattle.std.specs.List.{AllByRecursion, flat_map}
 use Rattle.lrup_model.specs.Formula.{Cnf}
+use Rattle.lrup_model.specs.Cube.{CubeValue}
 use Rattle.lrup_model.specs.Layout.{LayoutValue, IsStream}
 use Rattle.lrup_model.specs.Event.{History, stream_of}
 use Rattle.lrup_model.specs.History.{IsLegal}
@@ -86,16 +87,17 @@ abbrev pub IsBlockWithin : LayoutValue → (ℕ → Bool) → Block → Type 0
 IsBlockWithin p set block =
     IsStream p block.stream × IsTrue (set block.stream) × AllByRecursion (λ e. stream_of e ≡ block.stream) block.events
 
--- What the streams of a run are all checked by: the layout, and how often a hint of another stream is fetched again.
+-- What the streams of a run are all checked by: the layout, the cube, and how often a hint of another stream is fetched again.
 pub record Terms : Type 0 where
   pub layout : LayoutValue
+  pub cube : CubeValue
   pub tries : ℕ
 
-abbrev pub terms_at : LayoutValue → ℕ → Terms
-terms_at p tries = record { layout = p; tries = tries }
+abbrev pub terms_at : LayoutValue → CubeValue → ℕ → Terms
+terms_at p cube tries = record { layout = p; cube = cube; tries = tries }
 
 abbrev pub setting_of : Terms → ℕ → Setting
-setting_of terms s = record { layout = terms.layout; stream = s; tries = terms.tries }
+setting_of terms s = record { layout = terms.layout; cube = terms.cube; stream = s; tries = terms.tries }
 
 -- each stream of the set, counted on from s, is judged by its blocks
 abbrev pub AreJudged : Terms → (ℕ → Bool) → List Block → ℕ → List Stream → List Report → Type 0

@@ -1,5 +1,5 @@
 -- Two judgements of one line, of events that never fork, agree.
-use Rattle.std.proofs.Common.{◌≡◌, ◌<◌, ◌≤◌, ℕ, ℤ, neg_ℤ, nat_abs, Bool, false, List, [], ◌∷◌, ◌++◌, length, inl, inr, refl, sym, ap, subst, ◌∙◌, append_assoc}
+use Rattle.std.proofs.Common.{◌≡◌, ◌<◌, ◌≤◌, ℕ, ℤ, neg_ℤ, nat_abs, Bool, true, false, List, [], ◌∷◌, ◌++◌, length, inl, inr, refl, sym, ap, subst, ◌∙◌, append_assoc}
 use Rattle.std.specs.List.{AllByRecursion}
 use Rattle.lrup_model.specs.Clause.{Clause, IsTautology}
 use Rattle.lrup_model.specs.Layout.{Owns}
@@ -7,16 +7,17 @@ use Rattle.lrup_model.specs.Event as events
 use Rattle.lrup_model.specs.Event.{Event, History, Reply}
 use Rattle.lrup_model.specs.Propagation.{IsConflict, IsUnit}
 use Rattle.lrup_model.specs.declared.clause_map.Retired.TheVariants as retiring
-use Rattle.lrup_text.specs.Lines.{StreamLine, Addition, Deletion}
+use Rattle.lrup_text.specs.Lines.{StreamLine, Addition, Deletion, Import}
 use Rattle.propagate.specs.Distinct.{distinct}
 use Rattle.stream_check.specs.declared.fault.Fault.{Fault}
 use Rattle.stream_check.specs.declared.fault.Fault.TheVariants as faults
-use Rattle.stream_check.specs.Setting.{Setting, Side, formula, own, foreign, outside, side_of}
+use Rattle.stream_check.specs.Setting.{Setting, Side, formula, own, foreign, outside, side_of, is_shared}
 use Rattle.stream_check.specs.Standing.{Standing}
 use Rattle.stream_check.specs.Verdicts.{Verdict, Fails, Test}
 use Rattle.stream_check.specs.Asking.{AsksThen}
 use Rattle.stream_check.specs.Additions.{AtConflict, AtClause, AtReply, JudgesHints, published_by, JudgesAddition}
 use Rattle.stream_check.specs.Deletions.{FailsAt, RetiresThen, DropsThen, DeletesAt, JudgesIdentities}
+use Rattle.stream_check.specs.Imports.{HasSame, AtImported, JudgesImport}
 use Rattle.stream_check.specs.Judging.{JudgesLine}
 use Rattle.stream_check.specs.Forks.{NeverFork}
 use Rattle.stream_check.proofs.ForkLemmas.{same_asked, never_fork_behind}
@@ -166,8 +167,26 @@ identities_agree c gone earlier (id ∷ ids) es fs q r v w a b never =
     (λ rest left behind one two. identities_agree c gone (earlier ++ id ∷ []) ids rest left q r v w one two behind)
     a b never
 
+imported_agree : (x : Reply) (id : ℕ) (lits : List ℤ) (es fs : History) (v w : Verdict) → AtImported x id lits es v → AtImported x id lits fs w → Agree es v fs w
+imported_agree events.vacant id lits es fs v w a b = fails_agree (faults.Missing id) es fs v w a b
+imported_agree (events.live d) id lits es fs v w a b =
+    test_agree (HasSame d lits) (faults.Differs id) es fs v w _ _ (λ a b. record { events = a.0 ∙ sym b.0; verdict = a.1 ∙ sym b.1 }) a b
+imported_agree events.retired id lits es fs v w a b = fails_agree (faults.Retired id) es fs v w a b
+
+import_agrees : (c : Setting) (st : Standing) (id : ℕ) (lits : List ℤ) (es fs q r : History) (v w : Verdict)
+    → JudgesImport c st id lits es v → JudgesImport c st id lits fs w → NeverFork (es ++ q) (fs ++ r) → Agree es v fs w
+import_agrees c st id lits es fs q r v w a b never =
+    test_agree (is_shared (side_of c id) ≡ true) faults.Identity es fs v w _ _
+    (λ a b. test_agree (AllByRecursion (λ l. nat_abs l ≤ c.layout.vars) lits) faults.Literal es fs v w _ _
+    (λ a b. test_agree (st.gone id ≡ false) (faults.Dropped id) es fs v w
+    (AsksThen c id es (λ x rest. AtImported x id lits rest v))
+    (AsksThen c id fs (λ x rest. AtImported x id lits rest w))
+    (λ a b. asks_agree c id es fs q r v w (λ x rest. AtImported x id lits rest v) (λ x rest. AtImported x id lits rest w)
+    (λ x rest left behind s t. imported_agree x id lits rest left v w s t) a b never) a b) a b) a b
+
 -- one line, after the same lines, whatever events come after
 pub line_agrees : (c : Setting) (st : Standing) (line : StreamLine) (es fs q r : History) (v w : Verdict)
     → JudgesLine c st line es v → JudgesLine c st line fs w → NeverFork (es ++ q) (fs ++ r) → Agree es v fs w
 line_agrees c st (Addition id lits hints) es fs q r v w a b never = addition_agrees c st id lits hints es fs q r v w a b never
 line_agrees c st (Deletion lead ids) es fs q r v w a b never = identities_agree c st.gone [] ids es fs q r v w a b never
+line_agrees c st (Import id lits) es fs q r v w a b never = import_agrees c st id lits es fs q r v w a b never

@@ -12,7 +12,7 @@ use Rattle.lrup_model.specs.Event.{Event, History, Reply, stream_of}
 use Rattle.lrup_model.specs.State.{State, Slot, absent, live, retired, IsLive, IsRetired, retire_slot, after, run}
 use Rattle.lrup_model.specs.Running.{run-append}
 use Rattle.lrup_model.specs.declared.clause_map.Retired.TheVariants as retiring
-use Rattle.lrup_text.specs.Lines.{StreamLine, Addition, Deletion}
+use Rattle.lrup_text.specs.Lines.{StreamLine, Addition, Deletion, Import}
 use Rattle.stream_check.specs.declared.fault.Fault.{Fault}
 use Rattle.stream_check.specs.declared.fault.Fault.TheVariants as faults
 use Rattle.stream_check.specs.Setting.{Setting, Side, formula, own, foreign, outside, side_of, is_shared}
@@ -250,6 +250,9 @@ line_took : (c : Setting) (n : State) (before : List StreamLine) (line : StreamL
 line_took c n before (Addition id lits hints) many es rest judged answers are =
     subst (AreTaken c (run n es) (is_gone c (before ++ Addition id lits hints ∷ [])) []) (omega arith)
     (line_taken c n (run n es) before (Addition id lits hints) many (λ y is. run_retired n es rest y answers is) are)
+line_took c n before (Import id lits) many es rest judged answers are =
+    subst (AreTaken c (run n es) (is_gone c (before ++ Import id lits ∷ [])) []) (omega arith)
+    (line_taken c n (run n es) before (Import id lits) many (λ y is. run_retired n es rest y answers is) are)
 line_took c n before (Deletion lead ids) many es rest judged answers are =
     line_taken c (run n es) (run n es) before (Deletion lead ids) (many + length ids) (λ y is. is)
     (identities_took c n (is_gone c before) [] ids many es rest Good judged answers are)

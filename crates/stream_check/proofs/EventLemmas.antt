@@ -1,5 +1,5 @@
 -- The events of a line.
-use Rattle.std.proofs.Common.{◌≡◌, ◌<◌, ◌≤◌, ℕ, zero, suc, ℤ, neg_ℤ, nat_abs, Bool, false, IsTrue, List, [], ◌∷◌, ◌++◌, length, replicate, inl, inr, refl, sym, ap, subst, ◌∙◌, append_assoc}
+use Rattle.std.proofs.Common.{◌≡◌, ◌<◌, ◌≤◌, ℕ, zero, suc, ℤ, neg_ℤ, nat_abs, Bool, true, false, IsTrue, List, [], ◌∷◌, ◌++◌, length, replicate, inl, inr, refl, sym, ap, subst, ◌∙◌, append_assoc}
 use Rattle.std.specs.List.{AllByRecursion}
 use Rattle.lrup_model.specs.Clause.{Clause, IsTautology}
 use Rattle.lrup_model.specs.Layout.{Owns}
@@ -7,16 +7,17 @@ use Rattle.lrup_model.specs.Event as events
 use Rattle.lrup_model.specs.Event.{Event, History, Reply, stream_of}
 use Rattle.lrup_model.specs.declared.clause_map.Published.{Published}
 use Rattle.lrup_model.specs.declared.clause_map.Retired.TheVariants as retiring
-use Rattle.lrup_text.specs.Lines.{StreamLine, Addition, Deletion}
+use Rattle.lrup_text.specs.Lines.{StreamLine, Addition, Deletion, Import}
 use Rattle.propagate.specs.Distinct.{distinct}
 use Rattle.stream_check.specs.declared.fault.Fault.{Fault}
 use Rattle.stream_check.specs.declared.fault.Fault.TheVariants as faults
-use Rattle.stream_check.specs.Setting.{Setting, Side, formula, own, foreign, outside, side_of}
+use Rattle.stream_check.specs.Setting.{Setting, Side, formula, own, foreign, outside, side_of, is_shared}
 use Rattle.stream_check.specs.Standing.{Standing}
 use Rattle.stream_check.specs.Verdicts.{Verdict, Test}
 use Rattle.stream_check.specs.Asking.{AsksAt, Asks, AsksThen}
 use Rattle.stream_check.specs.Additions.{AtConflict, AtReply, JudgesHints, published_by}
 use Rattle.stream_check.specs.Deletions.{DeletesAt, JudgesIdentities}
+use Rattle.stream_check.specs.Imports.{AtImported}
 use Rattle.stream_check.specs.Judging.{JudgesLine}
 use Rattle.stream_check.specs.Reducing.{IsEarly, StartsWithFetchOf, TriesAgain}
 use Rattle.stream_check.specs.Laws.{LineCalls, EarlyEvents, VacantTriesAgain, cited_by, FetchesOnly}
@@ -85,6 +86,13 @@ module _ (c : Setting) (IsHint : ℕ → Type 0) (P : History → Type 0) (holds
       at_holds (side_of c id) gone earlier id es v (λ rest. JudgesIdentities c gone (earlier ++ id ∷ []) ids rest v)
       (λ rest k. identities_hold gone (earlier ++ id ∷ []) ids rest v k) judged
 
+  -- an import has no events behind its fetches
+  imported_holds : (x : Reply) (id : ℕ) (lits : List ℤ) (es : History) (v : Verdict) → AtImported x id lits es v → es ≡ []
+  imported_holds events.vacant id lits es v at = at.0
+  imported_holds events.retired id lits es v at = at.0
+  imported_holds (events.live d) id lits es v (inl bad) = bad.1.0
+  imported_holds (events.live d) id lits es v (inr good) = good.1.0
+
   pub line_holds : (st : Standing) (line : StreamLine) (es : History) (v : Verdict) → AllByRecursion IsHint (cited_by line) → JudgesLine c st line es v → P es
   line_holds st (Addition id lits hints) es v all judged =
       test_holds (Owns c.layout c.stream id × (st.last < id)) faults.Identity es v _
@@ -93,6 +101,13 @@ module _ (c : Setting) (IsHint : ℕ → Type 0) (P : History → Type 0) (holds
       (λ a. test_holds (length (distinct lits) ≤ st.free) faults.NoRoom es v _
       (λ a. hints_hold st.gone id lits (distinct lits) hints es v all a) a) a) a) judged
   line_holds st (Deletion lead ids) es v all judged = identities_hold st.gone [] ids es v judged
+  line_holds st (Import id lits) es v all judged =
+      test_holds (is_shared (side_of c id) ≡ true) faults.Identity es v _
+      (λ a. test_holds (AllByRecursion (λ l. nat_abs l ≤ c.layout.vars) lits) faults.Literal es v _
+      (λ a. test_holds (st.gone id ≡ false) (faults.Dropped id) es v (AsksThen c id es (λ x rest. AtImported x id lits rest v))
+      (λ a.
+      let last = imported_holds a.reply id lits a.rest v a.next in
+      subst P (sym a.events) (holds.asked id a.asked a.rest a.reply all.0 a.asks (λ vacant. last) (none_holds a.rest last))) a) a) judged
 
 -- Any hint
 

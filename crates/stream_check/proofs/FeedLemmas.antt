@@ -4,11 +4,12 @@ use Rattle.std.proofs.Common.{◌≡◌, ◌<◌, ◌^◌, ◌+◌, ℕ, Bool, t
 use Rattle.std.specs.Prelude.{◌&&◌, is_some, map}
 use Rattle.std.specs.List.{flat_map}
 use Rattle.std.proofs.lemmas.List.{take_all}
+use Rattle.lrup_model.specs.Cube.{CubeValue}
 use Rattle.lrup_model.specs.Layout.{LayoutValue}
 use Rattle.lrup_model.specs.Event.{History}
 use Rattle.lrup_model.specs.Place.{Place}
-use Rattle.lrup_text.specs.Grammar.{space, letter_d, clause_text, list_text}
-use Rattle.lrup_text.specs.Lines.{StreamLine, Addition, Deletion, Cut, IsPending, HasNoLine, LineText, line_text}
+use Rattle.lrup_text.specs.Grammar.{space, letter_d, letter_i, clause_text, list_text}
+use Rattle.lrup_text.specs.Lines.{StreamLine, Addition, Deletion, Import, Cut, IsPending, HasNoLine, LineText, line_text}
 use Rattle.lrup_text.specs.Feeding as feeding
 use Rattle.lrup_text.specs.Feeding.{ReaderState}
 use Rattle.lrup_text.specs.declared.reader.End.TheVariants as ends
@@ -82,6 +83,7 @@ ends_later (b ∷ front) back more byte e = absurd (cc)
 -- no line is in no bytes
 no_line : HasNoLine []
 no_line (Addition id lits hints) more fits e = ends_later (decimal id) (clause_text (map signed_decimal lits) (list_text (map decimal hints))) more space e
+no_line (Import id lits) more fits e = ends_later (decimal id) (letter_i ∷ list_text (map signed_decimal lits)) more space e
 no_line (Deletion lead ids) more fits e = ends_later (decimal lead) (letter_d ∷ list_text (map decimal ids)) more space e
 
 -- one line more is cut off
@@ -141,7 +143,7 @@ pub ends_now : (end : StreamEnd) (old new : CheckerValue) → old.ending ≡ Non
 ends_now end old new none setting tally ending last = subst (λ (o : Option Ending). EndsBy o end old new) (sym none) (setting, tally, ending, last)
 
 report_is : (old new : Tally) (said : Ending) → capped (old.deleted + 0) ≡ old.deleted → new ≡ old → report_of old 0 said ≡ report_at new said
-report_is old new said small same = ap (λ (n : ℕ). record { added = old.added; deleted = n; empty = old.empty; ending = said }) small ∙ ap (λ (t : Tally). report_at t said) (sym same)
+report_is old new said small same = ap (λ (n : ℕ). record { added = old.added; deleted = n; empty = old.empty; within = old.within; ending = said }) small ∙ ap (λ (t : Tally). report_at t said) (sym same)
 
 pub reports_now : (end : StreamEnd) (old new : CheckerValue) → old.ending ≡ None → new.tally ≡ old.tally → new.ending ≡ Some (ending_at end old.pending old.line) → ReportsEnd end old new
 reports_now end old new none tally ending bytes blocks free leaves =
@@ -173,13 +175,13 @@ none_gone : (s : Bool) → false ≡ (s && false)
 none_gone true = refl
 none_gone false = refl
 
-pub new_left : FreshLeft → (layout : LayoutValue) (stream tries : ℕ) (h : Held) (r : ReaderState) → h.setting ≡ record { layout = layout; stream = stream; tries = tries } → h.last ≡ layout.clauses → h.dropped.ids ≡ [] → h.retired ≡ 0 → h.added ≡ 0
-    → h.empty ≡ false → h.line ≡ 1 → r ≡ Ok [] → IsNew layout stream tries (value_of h (read_of r) None)
-new_left law layout stream tries h r setting last dropped retired added empty line reads =
+pub new_left : FreshLeft → (layout : LayoutValue) (cube : CubeValue) (stream tries : ℕ) (h : Held) (r : ReaderState) → h.setting ≡ record { layout = layout; cube = cube; stream = stream; tries = tries } → h.last ≡ layout.clauses → h.dropped.ids ≡ [] → h.retired ≡ 0 → h.added ≡ 0
+    → h.empty ≡ false → h.within ≡ false → h.line ≡ 1 → r ≡ Ok [] → IsNew layout cube stream tries (value_of h (read_of r) None)
+new_left law layout cube stream tries h r setting last dropped retired added empty within line reads =
     let c : Setting = h.setting in
     let same : c.layout ≡ layout = ap (λ (s : Setting). s.layout) setting in
     let fresh : IsFresh c (hold h (read_of r) layout.room) = record {
-      tally = tally_is (tally_at h) (tally_of c []) added (omega (arith, retired, ap (λ (ids : List ℕ). length ids) dropped)) empty;
+      tally = tally_is (tally_at h) (tally_of c []) added (omega (arith, retired, ap (λ (ids : List ℕ). length ids) dropped)) empty within;
       standing = record {
         last = last ∙ sym (ap (λ (l : LayoutValue). l.clauses) same);
         free = omega (arith, ap (λ (l : LayoutValue). l.room) same);

@@ -265,7 +265,7 @@ memory_longer c lines rest more back report e = record {
 text_longer : (c : Setting) (lines : List StreamLine) (rest more : List ℕ) (back : List History) (report : Report) → EndsAtText c lines rest back report → EndsAtText c lines (rest ++ more) back report
 text_longer c lines rest more back report e = record { fault = e.fault; text = fault_stays rest more e.fault e.text; no_block = e.no_block; says = e.says }
 
--- what is judged by a line, a text or want of memory is so for either end, whatever follows; what is judged by its end is left
+-- what is judged by a line, a text or memory that ran out is so for either end, whatever follows; what is judged by its end is left
 before_end : (c : Setting) (bytes more : List ℕ) (end other : StreamEnd) (blocks : List History) (report : Report) → (j : JudgesBlocks c bytes end blocks report)
     → (EndsAtEnd c j.lines j.rest end j.back report → JudgesBlocks c (bytes ++ more) other blocks report)
     → JudgesBlocks c (bytes ++ more) other blocks report

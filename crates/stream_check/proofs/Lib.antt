@@ -5,6 +5,7 @@ pub mod AskLemmas
 pub mod AddLemmas
 pub mod DeleteLemmas
 pub mod DroppedLemmas
+pub mod ImportLemmas
 pub mod LineLemmas
 pub mod TakeLemmas
 pub mod FeedLemmas
@@ -20,3 +21,4 @@ pub mod CountLemmas
 pub mod DeletedLemmas
 pub mod WithinLemmas
 pub mod ReadyLemmas
+pub mod CubeReports

@@ -12,16 +12,17 @@ use Rattle.lrup_model.specs.Place.{Caller, Place, Tells, IsVacantAbove}
 use Rattle.lrup_model.specs.Running.{run-append, spent-append}
 use Rattle.lrup_model.specs.HistoryLemmas.{put-same, put-other, spent_one}
 use Rattle.lrup_model.specs.declared.clause_map.Retired.TheVariants as retiring
-use Rattle.lrup_text.specs.Lines.{StreamLine, Addition, Deletion}
+use Rattle.lrup_text.specs.Lines.{StreamLine, Addition, Deletion, Import}
 use Rattle.propagate.specs.Distinct.{distinct}
 use Rattle.stream_check.specs.declared.fault.Fault.{Fault}
 use Rattle.stream_check.specs.declared.held.Held.{Held}
 use Rattle.stream_check.specs.declared.deletion.Stop.{Stop}
 use Rattle.stream_check.specs.declared.deletion.Stop.TheVariants as stops
 use Rattle.stream_check.specs.Setting.{Setting, side_of, is_shared}
-use Rattle.stream_check.specs.Standing.{Standing, Tally, capped, is_among, adds_empty}
+use Rattle.stream_check.specs.Standing.{Standing, Tally, capped, is_among, adds_empty, is_within}
 use Rattle.stream_check.specs.Verdicts.{Good, Bad}
 use Rattle.stream_check.specs.Additions.{published_by, JudgesAddition}
+use Rattle.stream_check.specs.Imports.{JudgesImport}
 use Rattle.stream_check.specs.Leaving.{tally_after}
 use Rattle.stream_check.specs.DroppedValue.{DroppedValue}
 use Rattle.stream_check.specs.Checking.{IsAt, IsFetch, IsRetire, MakesEvents, Deletes}
@@ -107,10 +108,11 @@ room_publish old p q es id lits at tells made =
 
 -- What is held after a good line
 
-pub tally_is : (a b : Tally) → a.added ≡ b.added → a.deleted ≡ b.deleted → a.empty ≡ b.empty → a ≡ b
-tally_is a b added deleted empty =
-    let made : ℕ → ℕ → Bool → Tally = λ x y z. record { added = x; deleted = y; empty = z } in
-    ap (λ x. made x a.deleted a.empty) added ∙ ap (λ y. made b.added y a.empty) deleted ∙ ap (λ z. made b.added b.deleted z) empty
+pub tally_is : (a b : Tally) → a.added ≡ b.added → a.deleted ≡ b.deleted → a.empty ≡ b.empty → a.within ≡ b.within → a ≡ b
+tally_is a b added deleted empty within =
+    let made : ℕ → ℕ → Bool → Bool → Tally = λ x y z w. record { added = x; deleted = y; empty = z; within = w } in
+    ap (λ x. made x a.deleted a.empty a.within) added ∙ ap (λ y. made b.added y a.empty a.within) deleted
+    ∙ ap (λ z. made b.added b.deleted z a.within) empty ∙ ap (λ w. made b.added b.deleted b.empty w) within
 
 none_gone : (a s : Bool) → a ≡ (a || s && false)
 none_gone true s = refl
@@ -127,24 +129,26 @@ empty_is b id [] hints is = is
 empty_is b id (l ∷ lits) hints is = is ∙ eqb-suc-zero (length lits)
 
 -- what a good addition changes
-pub record Adds (old new : Held) (id : ℕ) (is_empty : Bool) : Type 0 where
+pub record Adds (old new : Held) (id : ℕ) (is_empty within_cube : Bool) : Type 0 where
   pub last : new.last ≡ id
   pub added : new.added ≡ old.added + 1
   pub empty : new.empty ≡ (old.empty || is_empty)
+  pub within : new.within ≡ (old.within || within_cube)
   pub line : new.line ≡ min (old.line + 1) (2 ^ 64 - 1)
   pub dropped : new.dropped ≡ old.dropped
   pub retired : new.retired ≡ old.retired
 
-pub takes_addition : (old new : Held) (free left : ℕ) (id : ℕ) (lits : List ℤ) (hints : List ℕ) (es : History) (is_empty : Bool) → Adds old new id is_empty
-    → is_empty ≡ (length lits == 0) → left ≡ free - length (distinct lits)
+pub takes_addition : (old new : Held) (free left : ℕ) (id : ℕ) (lits : List ℤ) (hints : List ℕ) (es : History) (is_empty within_cube : Bool) → Adds old new id is_empty within_cube
+    → is_empty ≡ (length lits == 0) → within_cube ≡ is_within old.setting.cube (distinct lits) → left ≡ free - length (distinct lits)
     → JudgesAddition old.setting (standing_at old free) id lits hints es Good → TakesBy old free new left (Addition id lits hints) es None
-takes_addition old new free left id lits hints es is_empty adds is room judged =
+takes_addition old new free left id lits hints es is_empty within_cube adds is within room judged =
     let line : StreamLine = Addition id lits hints in (
       judged,
       λ read. record {
         tally = tally_is (tally_at new) (tally_after old.setting (tally_at old) line) adds.added
             (omega (arith, adds.retired, ap (λ (d : DroppedValue). length d.ids) adds.dropped))
-            (adds.empty ∙ ap (λ (b : Bool). old.empty || b) (empty_is is_empty id lits hints is));
+            (adds.empty ∙ ap (λ (b : Bool). old.empty || b) (empty_is is_empty id lits hints is))
+            (adds.within ∙ ap (λ (b : Bool). old.within || b) within);
         standing = record {
           last = adds.last;
           free = room;
@@ -155,12 +159,13 @@ takes_addition old new free left id lits hints es is_empty adds is room judged =
       },
     )
 
--- what a good deletion changes
+-- what a good line changes that adds nothing
 pub record Counts (mid new : Held) : Type 0 where
   pub line : new.line ≡ min (mid.line + 1) (2 ^ 64 - 1)
   pub last : new.last ≡ mid.last
   pub added : new.added ≡ mid.added
   pub empty : new.empty ≡ mid.empty
+  pub within : new.within ≡ mid.within
   pub dropped : new.dropped ≡ mid.dropped
   pub retired : new.retired ≡ mid.retired
 
@@ -173,7 +178,8 @@ takes_deletion old mid new free left lead ids es count kept counts more room del
         tally = tally_is (tally_at new) (tally_after old.setting (tally_at old) line)
             (omega (arith, counts.added, kept.added))
             (omega (arith, counts.retired, ap (λ (d : DroppedValue). length d.ids) counts.dropped, more, deletes.1))
-            (counts.empty ∙ kept.empty ∙ or_false old.empty);
+            (counts.empty ∙ kept.empty ∙ or_false old.empty)
+            (counts.within ∙ kept.within ∙ or_false old.within);
         standing = record {
           last = counts.last ∙ kept.last;
           free = omega (arith, room);
@@ -184,10 +190,38 @@ takes_deletion old mid new free left lead ids es count kept counts more room del
       },
     )
 
+pub takes_import : (old new : Held) (free left : ℕ) (id : ℕ) (lits : List ℤ) (es : History) → Counts old new → left ≡ free
+    → JudgesImport old.setting (standing_at old free) id lits es Good → TakesBy old free new left (Import id lits) es None
+takes_import old new free left id lits es counts room judged =
+    let line : StreamLine = Import id lits in (
+      judged,
+      λ read. record {
+        tally = tally_is (tally_at new) (tally_after old.setting (tally_at old) line)
+            (omega (arith, counts.added))
+            (omega (arith, counts.retired, ap (λ (d : DroppedValue). length d.ids) counts.dropped))
+            (counts.empty ∙ or_false old.empty)
+            (counts.within ∙ or_false old.within);
+        standing = record {
+          last = counts.last;
+          free = omega (arith, room);
+          gone = λ j. ap (λ (d : DroppedValue). is_among d.ids j) counts.dropped ∙ none_gone (is_among old.dropped.ids j) (is_shared (side_of old.setting j));
+        };
+        pending = refl;
+        line = counts.line;
+      },
+    )
+
+-- the same place, for what is held with one line more
+pub still_ready : (mid new : Held) (q : Place) → new.setting ≡ mid.setting → new.last ≡ mid.last → IsReady mid q → IsReady new q
+still_ready mid new q setting last ready = record {
+  at = subst (λ (c : Setting). IsAt c q) (sym setting) ready.at;
+  vacant = subst (IsVacantAbove q) (sym last) ready.vacant;
+}
+
 -- What is held after a line that stopped
 
 pub deletes_more : (old mid : Held) (count : ℕ) → KeepsLines old mid → deleted_at mid ≡ capped (deleted_at old + count) → DeletesMore old mid count
-deletes_more old mid count kept more = record { added = kept.added; deleted = more; empty = kept.empty; line = kept.line }
+deletes_more old mid count kept more = record { added = kept.added; deleted = more; empty = kept.empty; within = kept.within; line = kept.line }
 
 pub stops_deletion : (old mid : Held) (free left : ℕ) (lead : ℕ) (ids : List ℕ) (es : History) (count : ℕ) (stop : Stop) → KeepsLines old mid → deleted_at mid ≡ capped (deleted_at old + count)
     → Deletes old.setting old.dropped.ids mid.dropped.ids ids es count (Some stop) → TakesBy old free mid left (Deletion lead ids) es (Some stop)
@@ -197,7 +231,11 @@ stops_deletion old mid free left lead ids es count stops.Memory kept more delete
 
 pub stops_addition : (old : Held) (free left : ℕ) (id : ℕ) (lits : List ℤ) (hints : List ℕ) (es : History) (fault : Fault)
     → JudgesAddition old.setting (standing_at old free) id lits hints es (Bad 0 fault) → TakesBy old free old left (Addition id lits hints) es (Some (stops.Bad fault))
-stops_addition old free left id lits hints es fault judged = (0, judged, record { added = refl; deleted = omega arith; empty = refl; line = refl })
+stops_addition old free left id lits hints es fault judged = (0, judged, record { added = refl; deleted = omega arith; empty = refl; within = refl; line = refl })
+
+pub stops_import : (old : Held) (free left : ℕ) (id : ℕ) (lits : List ℤ) (es : History) (fault : Fault)
+    → JudgesImport old.setting (standing_at old free) id lits es (Bad 0 fault) → TakesBy old free old left (Import id lits) es (Some (stops.Bad fault))
+stops_import old free left id lits es fault judged = (0, judged, record { added = refl; deleted = omega arith; empty = refl; within = refl; line = refl })
 
 -- a good addition's identity is above the last one
 pub above_last : (c : Setting) (st : Standing) (id : ℕ) (lits : List ℤ) (hints : List ℕ) (es : History) → JudgesAddition c st id lits hints es Good → st.last < id

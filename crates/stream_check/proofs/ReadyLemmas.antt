@@ -12,7 +12,7 @@ use Rattle.stream_check.specs.Setting.{Setting}
 use Rattle.stream_check.specs.Laws.{ReadyNew, ReadyStays, ReadyBeside}
 
 pub ready_new : ReadyNew
-ready_new f layout stream tries v p new fits caller own = record {
+ready_new f layout cube stream tries v p new fits caller own = record {
   at = record {
     layout = ap (λ (c : Caller). c.layout) caller ∙ sym (ap (λ (c : Setting). c.layout) new.setting);
     stream = ap (λ (c : Caller). c.stream) caller ∙ sym (ap (λ (c : Setting). c.stream) new.setting);

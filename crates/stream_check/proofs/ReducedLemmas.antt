@@ -6,17 +6,18 @@ use Rattle.lrup_model.specs.Clause.{IsTautology}
 use Rattle.lrup_model.specs.Layout.{Owns}
 use Rattle.lrup_model.specs.Event as events
 use Rattle.lrup_model.specs.Event.{Event, History, Reply, stream_of}
-use Rattle.lrup_text.specs.Lines.{StreamLine, Addition, Deletion}
+use Rattle.lrup_text.specs.Lines.{StreamLine, Addition, Deletion, Import}
 use Rattle.propagate.specs.Distinct.{distinct}
 use Rattle.stream_check.specs.declared.fault.Fault.{Fault}
 use Rattle.stream_check.specs.declared.fault.Fault.TheVariants as faults
 use Rattle.stream_check.specs.declared.report.Report.{Report}
-use Rattle.stream_check.specs.Setting.{Setting, Side, formula, own, foreign, outside, side_of}
+use Rattle.stream_check.specs.Setting.{Setting, Side, formula, own, foreign, outside, side_of, is_shared}
 use Rattle.stream_check.specs.Standing.{Standing, standing_of}
 use Rattle.stream_check.specs.Verdicts.{Verdict, Good, Bad, Fails, Test}
 use Rattle.stream_check.specs.Asking.{AsksAt, Asks, AsksThen}
 use Rattle.stream_check.specs.Additions.{AtConflict, AtReply, JudgesHints, published_by, JudgesAddition}
 use Rattle.stream_check.specs.Deletions.{RetiresThen, DropsThen, DeletesAt, JudgesIdentities}
+use Rattle.stream_check.specs.Imports.{HasSame, AtImported, JudgesImport}
 use Rattle.stream_check.specs.Judging.{AreGood, EndsAfter, StreamEnd}
 use Rattle.stream_check.specs.Reducing.{is_vacant, reduced}
 use Rattle.stream_check.specs.Laws.{ReducedLine, ReducedStream}
@@ -191,9 +192,24 @@ identities_reduced c gone earlier (id ∷ ids) es v judged =
     at_reduced (side_of c id) c gone earlier id es v (λ rest. JudgesIdentities c gone (earlier ++ id ∷ []) ids rest v)
     (λ rest k. identities_reduced c gone (earlier ++ id ∷ []) ids rest v k) judged
 
+imported_reduced : (x : Reply) (id : ℕ) (lits : List ℤ) (es : History) (v : Verdict) → AtImported x id lits es v → AtImported x id lits (reduced es) v
+imported_reduced events.vacant id lits es v at = fails_reduced (faults.Missing id) es v at
+imported_reduced events.retired id lits es v at = fails_reduced (faults.Retired id) es v at
+imported_reduced (events.live d) id lits es v at =
+    test_maps (HasSame d lits) (faults.Differs id) es (reduced es) v _ _ (reduced_none es) (λ good. (reduced_none es good.0, good.1)) at
+
+import_reduced : (c : Setting) (st : Standing) (id : ℕ) (lits : List ℤ) (es : History) (v : Verdict) → JudgesImport c st id lits es v → JudgesImport c st id lits (reduced es) v
+import_reduced c st id lits es v judged =
+    let At : Reply → History → Type 0 = λ x rest. AtImported x id lits rest v in
+    test_maps (is_shared (side_of c id) ≡ true) faults.Identity es (reduced es) v _ _ (reduced_none es)
+    (λ a. test_maps (AllByRecursion (λ l. nat_abs l ≤ c.layout.vars) lits) faults.Literal es (reduced es) v _ _ (reduced_none es)
+    (λ a. test_maps (st.gone id ≡ false) (faults.Dropped id) es (reduced es) v (AsksThen c id es At) (AsksThen c id (reduced es) At) (reduced_none es)
+    (λ a. asks_reduced_at a.reply c id es a.asked a.rest At (λ left at. at.0) (λ x left at. imported_reduced x id lits left v at) a.events a.asks a.next) a) a) judged
+
 pub reduced_line : ReducedLine
 reduced_line c st (Addition id lits hints) es v judged = addition_reduced c st id lits hints es v judged
 reduced_line c st (Deletion lead ids) es v judged = identities_reduced c st.gone [] ids es v judged
+reduced_line c st (Import id lits) es v judged = import_reduced c st id lits es v judged
 
 good_reduced : (c : Setting) (before lines : List StreamLine) (blocks : List History) → AreGood c before lines blocks → AreGood c before lines (map reduced blocks)
 good_reduced c before [] [] good = tt

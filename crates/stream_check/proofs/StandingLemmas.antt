@@ -6,9 +6,9 @@ use Rattle.std.proofs.lemmas.List.Folds.{list_any-append}
 use Rattle.std.proofs.lemmas.List.Sums.{sum_by-append}
 use Rattle.lrup_model.specs.Layout.{LayoutValue}
 use Rattle.lrup_model.specs.Event.{History}
-use Rattle.lrup_text.specs.Lines.{StreamLine, Addition, Deletion}
+use Rattle.lrup_text.specs.Lines.{StreamLine, Addition, Deletion, Import}
 use Rattle.stream_check.specs.Setting.{Setting, side_of, is_shared}
-use Rattle.stream_check.specs.Standing.{Standing, Tally, last_in, size_of, deleted_by, added_by, adds_empty, is_among, standing_of, tally_of}
+use Rattle.stream_check.specs.Standing.{Standing, Tally, last_in, size_of, deleted_by, added_by, adds_empty, adds_within, is_among, standing_of, tally_of}
 use Rattle.stream_check.specs.Verdicts.{Good, Bad}
 use Rattle.stream_check.specs.Judging.{JudgesLine}
 use Rattle.stream_check.specs.Leaving.{SameStanding, standing_after, tally_after, last_after}
@@ -18,11 +18,19 @@ last_in-snoc : (p : LayoutValue) (lines : List StreamLine) (id : ℕ) (lits : Li
 last_in-snoc p [] id lits hints = omega arith
 last_in-snoc p (Addition j ls hs ∷ lines) id lits hints = let e = last_in-snoc p lines id lits hints in omega (arith, e)
 last_in-snoc p (Deletion lead ids ∷ lines) id lits hints = last_in-snoc p lines id lits hints
+last_in-snoc p (Import j ls ∷ lines) id lits hints = last_in-snoc p lines id lits hints
 
 last_in-snoc_deletion : (p : LayoutValue) (lines : List StreamLine) (lead : ℕ) (ids : List ℕ) → last_in p (lines ++ Deletion lead ids ∷ []) ≡ last_in p lines
 last_in-snoc_deletion p [] lead ids = refl
 last_in-snoc_deletion p (Addition j ls hs ∷ lines) lead ids = ap (max j) (last_in-snoc_deletion p lines lead ids)
 last_in-snoc_deletion p (Deletion l is ∷ lines) lead ids = last_in-snoc_deletion p lines lead ids
+last_in-snoc_deletion p (Import j ls ∷ lines) lead ids = last_in-snoc_deletion p lines lead ids
+
+last_in-snoc_import : (p : LayoutValue) (lines : List StreamLine) (id : ℕ) (lits : List ℤ) → last_in p (lines ++ Import id lits ∷ []) ≡ last_in p lines
+last_in-snoc_import p [] id lits = refl
+last_in-snoc_import p (Addition j ls hs ∷ lines) id lits = ap (max j) (last_in-snoc_import p lines id lits)
+last_in-snoc_import p (Deletion l is ∷ lines) id lits = last_in-snoc_import p lines id lits
+last_in-snoc_import p (Import j ls ∷ lines) id lits = last_in-snoc_import p lines id lits
 
 -- a good addition has an identity above those before it
 pub last_below : (c : Setting) (st : Standing) (id : ℕ) (lits : List ℤ) (hints : List ℕ) (es : History) → JudgesLine c st (Addition id lits hints) es Good → st.last < id
@@ -33,6 +41,7 @@ same_last c lines (Addition id lits hints) es j =
     let below = last_below c (standing_of c lines) id lits hints es j in
     omega (arith, last_in-snoc c.layout lines id lits hints, below)
 same_last c lines (Deletion lead ids) es j = last_in-snoc_deletion c.layout lines lead ids
+same_last c lines (Import id lits) es j = last_in-snoc_import c.layout lines id lits
 
 and_or : (s a b : Bool) → (s && (a || (b || false))) ≡ (s && a || s && b)
 and_or true true b = refl
@@ -55,10 +64,11 @@ or_false : (a : Bool) → (a || false) ≡ a
 or_false true = refl
 or_false false = refl
 
-same_tally : (a b : Tally) → a.added ≡ b.added → a.deleted ≡ b.deleted → a.empty ≡ b.empty → a ≡ b
-same_tally a b added deleted empty =
-    let made : ℕ → ℕ → Bool → Tally = λ x y z. record { added = x; deleted = y; empty = z } in
-    ap (λ x. made x a.deleted a.empty) added ∙ ap (λ y. made b.added y a.empty) deleted ∙ ap (λ z. made b.added b.deleted z) empty
+same_tally : (a b : Tally) → a.added ≡ b.added → a.deleted ≡ b.deleted → a.empty ≡ b.empty → a.within ≡ b.within → a ≡ b
+same_tally a b added deleted empty within =
+    let made : ℕ → ℕ → Bool → Bool → Tally = λ x y z w. record { added = x; deleted = y; empty = z; within = w } in
+    ap (λ x. made x a.deleted a.empty a.within) added ∙ ap (λ y. made b.added y a.empty a.within) deleted
+    ∙ ap (λ z. made b.added b.deleted z a.within) empty ∙ ap (λ w. made b.added b.deleted b.empty w) within
 
 -- the counts after one good line more
 pub tally_of-snoc : (c : Setting) (lines : List StreamLine) (line : StreamLine) → tally_after c (tally_of c lines) line ≡ tally_of c (lines ++ line ∷ [])
@@ -66,6 +76,7 @@ tally_of-snoc c lines line = same_tally (tally_after c (tally_of c lines) line) 
     (omega (arith, sum_by-append added_by lines (line ∷ [])))
     (omega (arith, sum_by-append (λ l. length (deleted_by l)) lines (line ∷ [])))
     (sym (list_any-append adds_empty lines (line ∷ []) ∙ ap (λ t. list_any adds_empty lines || t) (or_false (adds_empty line))))
+    (sym (list_any-append (adds_within c.cube) lines (line ∷ []) ∙ ap (λ t. list_any (adds_within c.cube) lines || t) (or_false (adds_within c.cube line))))
 
 -- standings that are the same are equal
 pub same_standing : (a b : Standing) → SameStanding a b → a ≡ b

@@ -115,7 +115,7 @@ rests_agree laws c lines rest end back aft report other (inl a) (inr b) = absurd
 rests_agree laws c lines rest end back aft report other (inr a) (inl b) = absurd ((laws.fault rest b.fault b.fault b.text).1 a.pending.begins)
 rests_agree laws c lines rest end back aft report other (inr a) (inr b) = (a.no_block ∙ sym b.no_block, a.says ∙ sym b.says)
 
--- what ends a stream without want of memory: a bad line, or else
+-- what ends a stream while there is memory: a bad line, or else
 EndsWithout : Setting → List StreamLine → List ℕ → StreamEnd → List History → Report → Type 0
 EndsWithout c lines rest end back report =
     EndsAtLine c lines rest back report ⊎ (EndsAtText c lines rest back report ⊎ EndsAtEnd c lines rest end back report)

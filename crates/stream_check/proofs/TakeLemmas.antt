@@ -23,11 +23,12 @@ use Rattle.stream_check.proofs.LeavingLemmas.{pending_grows, bad_line_taken, bad
 -- the report after a line that stopped: what it deleted is counted already
 report_is : (old new : Held) (count : ℕ) (ending : ℕ → Ending) → DeletesMore old new count → report_of (tally_at old) count (ending old.line) ≡ report_at (tally_at new) (ending new.line)
 report_is old new count ending more =
-    let made : ℕ → ℕ → Bool → Ending → Report = λ a d e x. record { added = a; deleted = d; empty = e; ending = x } in
-    ap (λ a. made a (capped ((tally_at old).deleted + count)) old.empty (ending old.line)) (sym more.added)
-    ∙ ap (λ d. made new.added d old.empty (ending old.line)) (sym more.deleted)
-    ∙ ap (λ e. made new.added (tally_at new).deleted e (ending old.line)) (sym more.empty)
-    ∙ ap (λ n. made new.added (tally_at new).deleted new.empty (ending n)) (sym more.line)
+    let made : ℕ → ℕ → Bool → Bool → Ending → Report = λ a d e w x. record { added = a; deleted = d; empty = e; within = w; ending = x } in
+    ap (λ a. made a (capped ((tally_at old).deleted + count)) old.empty old.within (ending old.line)) (sym more.added)
+    ∙ ap (λ d. made new.added d old.empty old.within (ending old.line)) (sym more.deleted)
+    ∙ ap (λ e. made new.added (tally_at new).deleted e old.within (ending old.line)) (sym more.empty)
+    ∙ ap (λ w. made new.added (tally_at new).deleted new.empty w (ending old.line)) (sym more.within)
+    ∙ ap (λ n. made new.added (tally_at new).deleted new.empty new.within (ending n)) (sym more.line)
 
 -- a line that ends after so many bytes
 pub takes_line : GoodLineTaken → (old new : Held) (free left : ℕ) (read piece : List ℕ) (used : ℕ) (line : StreamLine) (es : History) (stop : Option Stop)
@@ -70,7 +71,7 @@ takes_fault old free left read piece used fault refused = (
   omega arith,
   λ bytes before leaves.
       subst (λ (r : Report). Leaves old.setting (bytes ++ take used piece) (before ++ []) (Over r))
-      (report_is old old 0 (λ n. endings.Bad n (faults.Text fault)) (record { added = refl; deleted = omega arith; empty = refl; line = refl }))
+      (report_is old old 0 (λ n. endings.Bad n (faults.Text fault)) (record { added = refl; deleted = omega arith; empty = refl; within = refl; line = refl }))
       (subst (λ (blocks : List History). Leaves old.setting (bytes ++ take used piece) blocks (Over (report_of (tally_at old) 0 (endings.Bad old.line (faults.Text fault))))) (sym (append-nil before))
       (bad_text_read old.setting bytes (take used piece) before (hold old read free) fault leaves refused)),
   inr (fault, refl, refused),

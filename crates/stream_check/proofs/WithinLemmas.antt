@@ -10,15 +10,17 @@ use Rattle.lrup_model.specs.declared.layout.Owner.TheVariants as owners
 use Rattle.lrup_model.specs.Event as events
 use Rattle.lrup_model.specs.Event.{Event, History, Reply, own}
 use Rattle.lrup_model.specs.State.{State, run, opening}
-use Rattle.lrup_text.specs.Lines.{StreamLine, Addition, Deletion}
+use Rattle.lrup_text.specs.Lines.{StreamLine, Addition, Deletion, Import}
 use Rattle.propagate.specs.Distinct.{distinct}
 use Rattle.stream_check.specs.declared.fault.Fault.{Fault}
 use Rattle.stream_check.specs.declared.fault.Fault.TheVariants as faults
 use Rattle.stream_check.specs.declared.report.Report.{Report}
-use Rattle.stream_check.specs.Setting.{Setting, side_for}
+use Rattle.stream_check.specs.Setting.{Setting, side_for, side_of, is_shared}
 use Rattle.stream_check.specs.Standing.{Standing, standing_of, is_gone, deleted_by, added_by, last_in}
 use Rattle.stream_check.specs.Verdicts.{Verdict, Good, Bad, Fails, Test}
 use Rattle.stream_check.specs.Additions.{AtConflict, AtReply, JudgesHints, published_by, JudgesAddition}
+use Rattle.stream_check.specs.Asking.{AsksThen}
+use Rattle.stream_check.specs.Imports.{AtImported, JudgesImport}
 use Rattle.stream_check.specs.Judging.{JudgesLine, AreGood, joined, EndsAfter, StreamEnd}
 use Rattle.stream_check.specs.Laws.{CountsWithin}
 use Rattle.stream_check.proofs.StandingLemmas.{last_below, same_last}
@@ -102,6 +104,21 @@ addition_none c st id lits hints es v judged =
     (λ a. test_none (length (distinct lits) ≤ st.free) faults.NoRoom es v _
     (λ a. hints_none c st.gone (published_by c id lits) (distinct lits) hints es v a) a) a) a) judged
 
+-- and so does a bad import
+
+imported_none : (x : Reply) (id : ℕ) (lits : List ℤ) (es : History) (v : Verdict) → AtImported x id lits es v → deleted_of v ≡ 0
+unfolding deleted_of
+imported_none events.vacant id lits es v at = failed_none (faults.Missing id) es v at
+imported_none events.retired id lits es v at = failed_none (faults.Retired id) es v at
+imported_none (events.live d) id lits es v at = test_none _ (faults.Differs id) es v _ (λ good. ap deleted_of good.1) at
+
+import_none : (c : Setting) (st : Standing) (id : ℕ) (lits : List ℤ) (es : History) (v : Verdict) → JudgesImport c st id lits es v → deleted_of v ≡ 0
+import_none c st id lits es v judged =
+    test_none (is_shared (side_of c id) ≡ true) faults.Identity es v _
+    (λ a. test_none (AllByRecursion (λ l. nat_abs l ≤ c.layout.vars) lits) faults.Literal es v _
+    (λ a. test_none (st.gone id ≡ false) (faults.Dropped id) es v (AsksThen c id es (λ x rest. AtImported x id lits rest v))
+    (λ a. imported_none a.reply id lits a.rest v a.next) a) a) judged
+
 -- Deleted
 
 line_deletes : (c : Setting) (n : State) (before : List StreamLine) (line : StreamLine) (many deleted : ℕ) (fault : Fault) (es rest : History)
@@ -109,6 +126,9 @@ line_deletes : (c : Setting) (n : State) (before : List StreamLine) (line : Stre
 unfolding deleted_of
 line_deletes c n before (Addition id lits hints) many deleted fault es rest judged answers are =
     let none = addition_none c (standing_of c before) id lits hints es (Bad deleted fault) judged in
+    omega (arith, none, taken_within c n (is_gone c before) [] many are)
+line_deletes c n before (Import id lits) many deleted fault es rest judged answers are =
+    let none = import_none c (standing_of c before) id lits es (Bad deleted fault) judged in
     omega (arith, none, taken_within c n (is_gone c before) [] many are)
 line_deletes c n before (Deletion lead ids) many deleted fault es rest judged answers are =
     let took = identities_took c n (is_gone c before) [] ids many es rest (Bad deleted fault) judged answers are in
@@ -161,6 +181,12 @@ one_added c before (Deletion lead ids) es judged are =
     let last = same_last c before (Deletion lead ids) es judged in
     record {
       few = omega (arith, last, are.few, sum_by-append added_by before (Deletion lead ids ∷ []));
+      below = omega (arith, last, are.below);
+    }
+one_added c before (Import id lits) es judged are =
+    let last = same_last c before (Import id lits) es judged in
+    record {
+      few = omega (arith, last, are.few, sum_by-append added_by before (Import id lits ∷ []));
       below = omega (arith, last, are.below);
     }
 

@@ -1,6 +1,7 @@
 -- What a checker holds, and what it takes of a piece of its stream (this project's own).
 use Rattle.std.specs.Prelude.{◌≡◌, ◌⊎◌, ◌≤◌, ◌<◌, ◌^◌, ◌+◌, ◌++◌, ℕ, ℤ, true, List, [], ◌∷◌, length, Option, Some, None, Ok, Err}
 use Rattle.lrup_model.specs.Clause.{IsClause, IsTautology}
+use Rattle.lrup_model.specs.Cube.{CubeValue}
 use Rattle.lrup_model.specs.Event.{History}
 use Rattle.lrup_model.specs.Layout.{LayoutValue, Owns}
 use Rattle.lrup_model.specs.Place.{Place, IsVacantAbove}
@@ -36,7 +37,7 @@ abbrev pub deleted_at : Held → ℕ
 deleted_at h = capped (h.retired + length h.dropped.ids)
 
 abbrev pub tally_at : Held → Tally
-tally_at h = record { added = h.added; deleted = deleted_at h; empty = h.empty }
+tally_at h = record { added = h.added; deleted = deleted_at h; empty = h.empty; within = h.within }
 
 -- what only a good line changes
 pub record KeepsLines (old new : Held) : Type 0 where
@@ -44,6 +45,7 @@ pub record KeepsLines (old new : Held) : Type 0 where
   pub last : new.last ≡ old.last
   pub added : new.added ≡ old.added
   pub empty : new.empty ≡ old.empty
+  pub within : new.within ≡ old.within
   pub line : new.line ≡ old.line
 
 -- The addition passes the tests before its hints, and its clause is taken up.
@@ -82,7 +84,7 @@ value_of h pending ending = record {
 
 -- the report of these counts, with this ending
 abbrev pub report_at : Tally → Ending → Report
-report_at t ending = record { added = t.added; deleted = t.deleted; empty = t.empty; ending = ending }
+report_at t ending = record { added = t.added; deleted = t.deleted; empty = t.empty; within = t.within; ending = ending }
 
 abbrev pub holding_of : CheckerValue → ℕ → Holding
 holding_of v free = record {
@@ -137,8 +139,8 @@ abbrev pub StaysOver : CheckerValue → CheckerValue → List ℕ → Type 0
 StaysOver old new used = (ending : Ending) → old.ending ≡ Some ending → (new ≡ old) × (used ≡ [])
 
 -- a checker before its first byte
-pub record IsNew (layout : LayoutValue) (stream tries : ℕ) (v : CheckerValue) : Type 0 where
-  pub setting : v.setting ≡ record { layout = layout; stream = stream; tries = tries }
+pub record IsNew (layout : LayoutValue) (cube : CubeValue) (stream tries : ℕ) (v : CheckerValue) : Type 0 where
+  pub setting : v.setting ≡ record { layout = layout; cube = cube; stream = stream; tries = tries }
   pub last : v.last ≡ layout.clauses
   pub retired : v.retired ≡ 0
   pub ending : v.ending ≡ None

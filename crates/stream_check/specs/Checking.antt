@@ -131,7 +131,7 @@ counted deleting.NoMemory = 0
 abbrev pub AreDropped : Setting → List ℕ → List ℕ → List ℕ → Type 0
 AreDropped c old ids new = (id : ℕ) → is_among new id ≡ (is_among old id || is_shared (side_of c id) && is_among ids id)
 
--- What a deletion came to: it is good, or bad, or stopped for want of memory, after so many identities.
+-- What a deletion came to: it is good, or bad, or out of memory, after so many identities.
 abbrev pub Deletes : Setting → List ℕ → List ℕ → List ℕ → History → ℕ → Option Stop → Type 0
 Deletes c old new ids es count None = JudgesDeletion c (is_among old) ids es Good × (count ≡ length ids) × AreDropped c old ids new
 Deletes c old new ids es count (Some (stops.Bad fault)) = JudgesDeletion c (is_among old) ids es (Bad count fault)

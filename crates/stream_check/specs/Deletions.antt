@@ -45,7 +45,7 @@ JudgesIdentities c gone earlier (id ∷ ids) es v =
 abbrev pub JudgesDeletion : Setting → (ℕ → Bool) → List ℕ → History → Verdict → Type 0
 JudgesDeletion c gone ids es v = JudgesIdentities c gone [] ids es v
 
--- Want of memory stops a deletion at an identity that it would drop, after those before it.
+-- A deletion stops out of memory at an identity that it would drop, after those before it.
 pub record StopsDeletion (c : Setting) (gone : ℕ → Bool) (ids : List ℕ) (es : History) (earlier : List ℕ) : Type 0 where
   pub id : ℕ
   pub later : List ℕ

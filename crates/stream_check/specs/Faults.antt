@@ -22,6 +22,7 @@ fault_text (faults.NotUnit hint) = codes "not unit " ++ decimal hint
 fault_text (faults.Excess hint) = codes "excess " ++ decimal hint
 fault_text faults.NoConflict = codes "no conflict"
 fault_text (faults.NotLive id) = codes "not live " ++ decimal id
+fault_text (faults.Differs id) = codes "differs " ++ decimal id
 
 -- a number in decimal, where there is one
 abbrev pub number_text : Option ℕ → List ℕ

@@ -4,7 +4,7 @@ use Rattle.std.specs.List.{AllByRecursion, flat_map}
 use Rattle.lrup_model.specs.Event.{History}
 use Rattle.lrup_text.specs.declared.LineFault.TheVariants as texts
 use Rattle.lrup_text.specs.declared.LineFault.{LineFault}
-use Rattle.lrup_text.specs.Lines.{StreamLine, Addition, Deletion, IsWithinLimits, line_text, IsPending}
+use Rattle.lrup_text.specs.Lines.{StreamLine, Addition, Deletion, Import, IsWithinLimits, line_text, IsPending}
 use Rattle.lrup_text.specs.Faults.{HasTextFault}
 use Rattle.stream_check.specs.declared.fault.Fault.{Fault}
 use Rattle.stream_check.specs.declared.fault.Fault.TheVariants as faults
@@ -16,11 +16,13 @@ use Rattle.stream_check.specs.Standing.{Standing, standing_of, Tally, tally_of, 
 use Rattle.stream_check.specs.Verdicts.{Verdict, Good, Bad}
 use Rattle.stream_check.specs.Additions.{JudgesAddition}
 use Rattle.stream_check.specs.Deletions.{JudgesDeletion, StopsDeletion}
+use Rattle.stream_check.specs.Imports.{JudgesImport}
 
 -- a line's events and its verdict, after the lines that left this standing
 abbrev pub JudgesLine : Setting → Standing → StreamLine → History → Verdict → Type 0
 JudgesLine c st (Addition id lits hints) es v = JudgesAddition c st id lits hints es v
 JudgesLine c st (Deletion lead ids) es v = JudgesDeletion c st.gone ids es v
+JudgesLine c st (Import id lits) es v = JudgesImport c st id lits es v
 
 -- each line is good after the good lines before it, and has one block of events
 abbrev pub AreGood : Setting → List StreamLine → List StreamLine → List History → Type 0
@@ -41,7 +43,7 @@ pub record BeginsGood (c : Setting) (bytes : List ℕ) (lines : List StreamLine)
 
 -- the report after these counts, some more deleted identities, and this ending
 abbrev pub report_of : Tally → ℕ → Ending → Report
-report_of t deleted ending = record { added = t.added; deleted = capped (t.deleted + deleted); empty = t.empty; ending = ending }
+report_of t deleted ending = record { added = t.added; deleted = capped (t.deleted + deleted); empty = t.empty; within = t.within; ending = ending }
 
 -- After good lines: a line that is bad, whatever follows it.
 pub record EndsAtLine (c : Setting) (lines : List StreamLine) (rest : List ℕ) (blocks : List History) (report : Report) : Type 0 where
@@ -63,7 +65,7 @@ pub record EndsAtText (c : Setting) (lines : List StreamLine) (rest : List ℕ) 
   pub no_block : blocks ≡ []
   pub says : report ≡ report_of (tally_of c lines) 0 (endings.Bad (line_number (length lines)) (faults.Text fault))
 
--- After good lines: a deletion that stopped for want of memory, whatever follows it.
+-- After good lines: a deletion that ran out of memory, whatever follows it.
 pub record EndsAtMemory (c : Setting) (lines : List StreamLine) (rest : List ℕ) (blocks : List History) (report : Report) : Type 0 where
   pub lead : ℕ
   pub ids : List ℕ

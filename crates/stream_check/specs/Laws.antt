@@ -1,6 +1,7 @@
 -- Laws of judging. Each is the contract of a function of laws.
 use Rattle.std.specs.Prelude.{◌≡◌, ◌≢◌, ◌↔◌, ◌≤◌, ◌++◌, ℕ, ℤ, Bool, IsTrue, List, [], ◌∷◌, map, length}
-use Rattle.std.specs.List.{AllByRecursion}
+use Rattle.std.specs.List.{AllByRecursion, Any}
+use Rattle.lrup_model.specs.Cube.{CubeValue, Within}
 use Rattle.lrup_model.specs.Formula.{Cnf}
 use Rattle.lrup_model.specs.Entailment.{Follows}
 use Rattle.lrup_model.specs.Layout.{LayoutValue, Fits, Owns, last_identity}
@@ -12,7 +13,7 @@ use Rattle.lrup_model.specs.Place.{Place}
 use Rattle.lrup_model.specs.Plain.{Plain, plain_place, PlainMoves}
 use Rattle.lrup_text.specs.declared.LineFault.{LineFault}
 use Rattle.lrup_text.specs.declared.LineFault.TheVariants as texts
-use Rattle.lrup_text.specs.Lines.{StreamLine, Addition, Deletion, Cut, LineText, IsPending}
+use Rattle.lrup_text.specs.Lines.{StreamLine, Addition, Deletion, Import, Cut, LineText, IsPending}
 use Rattle.lrup_text.specs.Faults.{IsRefused}
 use Rattle.stream_check.specs.declared.fault.Fault.{Fault}
 use Rattle.stream_check.specs.declared.fault.Fault.TheVariants as faults
@@ -65,7 +66,7 @@ BadTextRead = (c : Setting) (bytes piece : List ℕ) (blocks : List History) (ol
     → Leaves c bytes blocks (Going old) → IsRefused (old.pending ++ piece) fault
     → Leaves c (bytes ++ piece) blocks (Over (report_of old.tally 0 (endings.Bad old.line (faults.Text fault))))
 
--- a deletion that stopped for want of memory
+-- a deletion that ran out of memory
 abbrev pub MemoryWanted : Type 0
 MemoryWanted = (c : Setting) (bytes piece : List ℕ) (blocks : List History) (block : History) (old : Holding) (lead : ℕ) (ids earlier : List ℕ)
     → Leaves c bytes blocks (Going old) → LineText (Deletion lead ids) (old.pending ++ piece)
@@ -83,7 +84,7 @@ abbrev pub OverStays : Type 0
 OverStays = (c : Setting) (bytes more : List ℕ) (blocks : List History) (report : Report)
     → Leaves c bytes blocks (Over report) → Leaves c (bytes ++ more) blocks (Over report)
 
--- the ending doesn't depend on how the stream ended, nor on what followed: a bad line or text, or want of memory
+-- the ending doesn't depend on how the stream ended, nor on what followed: a bad line or text, or memory that ran out
 abbrev pub IsDecided : Ending → Type 0
 IsDecided endings.Ended = ⊥
 IsDecided (endings.Bad line fault) = ¬ (fault ≡ faults.Text texts.Truncated)
@@ -108,8 +109,8 @@ DecidedBeforeFailure = (c : Setting) (bytes more : List ℕ) (end : StreamEnd) (
 
 -- a new checker, at a place of its stream at the opening of a run
 abbrev pub ReadyNew : Type 0
-ReadyNew = (f : Cnf) (layout : LayoutValue) (stream tries : ℕ) (v : CheckerValue) (p : Place)
-    → IsNew layout stream tries v → Fits layout f
+ReadyNew = (f : Cnf) (layout : LayoutValue) (cube : CubeValue) (stream tries : ℕ) (v : CheckerValue) (p : Place)
+    → IsNew layout cube stream tries v → Fits layout f
     → p.caller ≡ record { formula = f; layout = layout; stream = stream }
     → ((id : ℕ) → Owns layout stream id → p.own id ≡ opening f id)
     → IsReadyAt v p
@@ -131,11 +132,11 @@ ReadyBeside = (v : CheckerValue) (old new : Plain) (t : ℕ) (es : History)
 
 -- One report
 
--- the report tells of want of memory
+-- the report tells that memory ran out
 abbrev pub IsOfMemory : Report → Type 0
 IsOfMemory report = (line : ℕ) × (report.ending ≡ endings.Memory line)
 
--- a stream's bytes, end and events have one report at most, and one list of blocks, but for want of memory
+-- a stream's bytes, end and events have one report at most, and one list of blocks, unless memory ran out
 abbrev pub OneReport : Type 0
 OneReport = (c : Setting) (bytes : List ℕ) (end : StreamEnd) (blocks others : List History) (report other : Report)
     → joined blocks ≡ joined others
@@ -202,10 +203,11 @@ ReducedStream = (c : Setting) (bytes : List ℕ) (end : StreamEnd) (blocks : Lis
 
 -- What lines cite
 
--- each identity that the judgement of a line may fetch, also own ones and the formula's: the hints of an addition; a deletion fetches none
+-- each identity that the judgement of a line may fetch, also own ones and the formula's: the hints of an addition, and the identity of an import; a deletion fetches none
 abbrev pub cited_by : StreamLine → List ℕ
 cited_by (Addition id lits hints) = hints
 cited_by (Deletion lead ids) = []
+cited_by (Import id lits) = id ∷ []
 
 -- a fetch is of an identity that passes the test
 abbrev pub FetchesOnly : (ℕ → Bool) → Event → Type 0
@@ -224,6 +226,24 @@ CitedFetched = (c : Setting) (bytes : List ℕ) (end : StreamEnd) (blocks : List
     → JudgesBlocks c bytes end blocks report → Cut bytes all rest
     → AllByRecursion (λ line. AllByRecursion (λ h. IsTrue (p h)) (cited_by line)) all
     → AllByRecursion (FetchesOnly p) (joined blocks)
+
+-- Cubes
+
+-- the line adds a clause within the cube
+abbrev pub AddsWithin : CubeValue → StreamLine → Type 0
+AddsWithin cube (Addition id lits hints) = Within (distinct lits) cube
+AddsWithin cube (Deletion lead ids) = ⊥
+AddsWithin cube (Import id lits) = ⊥
+
+-- the report says 'within' exactly if a good addition's clause is within the cube
+abbrev pub WithinReported : Type 0
+WithinReported = (c : Setting) (bytes : List ℕ) (end : StreamEnd) (blocks : List History) (report : Report)
+    → (j : JudgesBlocks c bytes end blocks report) → IsTrue report.within ↔ Any (AddsWithin c.cube) j.lines
+
+-- with the empty cube it says 'within' exactly if it says 'empty'
+abbrev pub EmptyCubeReported : Type 0
+EmptyCubeReported = (c : Setting) (bytes : List ℕ) (end : StreamEnd) (blocks : List History) (report : Report)
+    → c.cube ≡ [] → JudgesBlocks c bytes end blocks report → report.within ≡ report.empty
 
 -- Counts
 

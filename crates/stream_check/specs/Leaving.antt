@@ -1,10 +1,10 @@
 -- What a checker is, and what it is left as by the bytes so far and the blocks of events of their lines (this project's own).
 use Rattle.std.specs.Prelude.{◌≡◌, ◌+◌, ◌-◌, ◌&&◌, ◌||◌, ℕ, List, [], length}
 use Rattle.lrup_model.specs.Event.{History}
-use Rattle.lrup_text.specs.Lines.{StreamLine, Addition, Deletion, Cut, IsPending}
+use Rattle.lrup_text.specs.Lines.{StreamLine, Addition, Deletion, Import, Cut, IsPending}
 use Rattle.stream_check.specs.declared.report.Report.{Report}
 use Rattle.stream_check.specs.Setting.{Setting, side_of, is_shared}
-use Rattle.stream_check.specs.Standing.{Standing, standing_of, is_among, size_of, deleted_by, added_by, adds_empty, Tally, tally_of, capped, line_number}
+use Rattle.stream_check.specs.Standing.{Standing, standing_of, is_among, size_of, deleted_by, added_by, adds_empty, adds_within, Tally, tally_of, capped, line_number}
 use Rattle.stream_check.specs.Judging.{AreGood, ended, failed, JudgesBlocks}
 
 -- what a checker holds that isn't over: its counts, what good lines left, the text read of the next line, and that line's number
@@ -44,6 +44,7 @@ Leaves c bytes blocks (Over report) = JudgesBlocks c bytes ended blocks report �
 abbrev pub last_after : ℕ → StreamLine → ℕ
 last_after last (Addition id lits hints) = id
 last_after last (Deletion lead ids) = last
+last_after last (Import id lits) = last
 
 abbrev pub standing_after : Setting → Standing → StreamLine → Standing
 standing_after c st line = record {
@@ -57,6 +58,7 @@ tally_after c t line = record {
   added = t.added + added_by line;
   deleted = capped (t.deleted + length (deleted_by line));
   empty = t.empty || adds_empty line;
+  within = t.within || adds_within c.cube line;
 }
 
 -- what a checker holds after one good line more

@@ -5,7 +5,9 @@ pub mod Standing
 pub mod Verdicts
 pub mod Asking
 pub mod Additions
+pub mod CubeLemmas
 pub mod Deletions
+pub mod Imports
 pub mod Judging
 pub mod Leaving
 pub mod Checking

@@ -1,12 +1,14 @@
--- Whose lines are judged, and how this stream sees an identity (this project's own).
+-- Whose lines are judged, under which cube, and how this stream sees an identity (this project's own).
 use Rattle.std.specs.Prelude.{◌==◌, ℕ, Bool, true, false, if◌then◌else◌}
+use Rattle.lrup_model.specs.Cube.{CubeValue}
 use Rattle.lrup_model.specs.Layout.{LayoutValue, owner}
 use Rattle.lrup_model.specs.declared.layout.Owner.{Owner}
 use Rattle.lrup_model.specs.declared.layout.Owner.TheVariants as owners
 
--- the layout, the stream, from 1 on, and how often a hint of another stream is fetched again while it is vacant
+-- the layout, the cube of assumed literals, the stream, from 1 on, and how often a hint of another stream is fetched again while it is vacant
 pub record Setting : Type 0 where
   pub layout : LayoutValue
+  pub cube : CubeValue
   pub stream : ℕ
   pub tries : ℕ
 

@@ -36,6 +36,7 @@ pub record DeletesMore (old new : Held) (count : ℕ) : Type 0 where
   pub added : new.added ≡ old.added
   pub deleted : deleted_at new ≡ capped (deleted_at old + count)
   pub empty : new.empty ≡ old.empty
+  pub within : new.within ≡ old.within
   pub line : new.line ≡ old.line
 
 -- what the events of one line came to

@@ -1,5 +1,5 @@
 //! One addition against a clause map.
-ghost use Rattle.std.specs.Prelude.{◌≡◌, ◌↔◌, ◌≤◌, ◌<◌, ◌^◌, IsTrue, length, IfOk, vec_capacity};
+ghost use Rattle.std.specs.Prelude.{◌≡◌, None, ◌↔◌, ◌≤◌, ◌<◌, ◌^◌, IsTrue, length, IfOk, vec_capacity};
 ghost use Rattle.std.specs.Bool.{OnTrue};
 ghost use Rattle.std.specs.List.{AllByRecursion};
 ghost use Rattle.lrup_model.specs.Literal.{IsLiteral, max_variable};
@@ -7,6 +7,7 @@ ghost use Rattle.lrup_model.specs.Event.{History};
 ghost use Rattle.lrup_model.specs.History.{max_line_literals};
 ghost use Rattle.lrup_model.specs.Place.{IsVacantAbove};
 ghost use Rattle.lrup_text.specs.Lines.{IsStreamLiteral};
+ghost use Rattle.propagate.specs.Distinct.{distinct};
 ghost use Rattle.stream_check.specs.Additions.{JudgesAddition};
 ghost use Rattle.stream_check.specs.Checking.{IsAt, verdict_of, MakesEvents};
 ghost use Rattle.stream_check.specs.Checker.{standing_at, AdmitsBy};
@@ -19,15 +20,15 @@ use lrup_model::{ClauseMap, Id, Lit, Published};
 use propagate::Marks;
 use std::alloc::{AllocError, Global};
 
-/// The most literals that an addition may have.
+/// The most literals that a line may have.
 const MAX_LITERALS: usize = 65_535;
 
-/// The buffers of a stream's additions. They are made once, and no line takes memory.
+/// The buffers of a stream's additions and imports. They are made once, and no line takes memory.
 #[derive(Drop)]
 pub struct Buffers {
-    marks: Marks,
-    literals: Vec<Lit>,
-    vars: u32,
+    pub marks: Marks,
+    pub literals: Vec<Lit>,
+    pub vars: u32,
     ghost same_variables: { vars ≡ marks.vars },
     ghost few_variables: { vars ≤ max_variable },
     ghost reserved: { max_line_literals ≤ vec_capacity literals },
@@ -71,6 +72,13 @@ impl Buffers {
         None
     }
 
+    /// The clause of the last addition, where it was published.
+    pub fn clause(&self) -> &[Lit]
+        ensures { result.now ≡ self.now.marks.clause }
+    {
+        self.marks.clause()
+    }
+
     /// Checks an addition, and publishes its clause where it has no fault.
     pub fn add<M: ClauseMap, G: Gate>(
         &mut self,
@@ -88,6 +96,7 @@ impl Buffers {
         requires count { length lits.now ≤ max_line_literals }
         requires nonzero { AllByRecursion IsStreamLiteral lits.now }
         ensures vars { self.new.vars ≡ self.old.vars }
+        ensures clause { result ≡ None → self.new.marks.clause ≡ distinct lits.now }
         ensures judged { let standing = standing_at held.now (M.place map.old).room in
             (es : History) × M.moves map.old map.new es × MakesEvents held.now.setting id lits.now es result
             × JudgesAddition held.now.setting standing id lits.now hints.now es (verdict_of result) }
@@ -116,7 +125,7 @@ impl Buffers {
 }
 
 /// Makes literals of the numbers of a line. False where one is no literal over the variables 1 to `vars`.
-fn read_literals(literals: &mut Vec<Lit>, numbers: &[i64], vars: u32) -> bool
+pub fn read_literals(literals: &mut Vec<Lit>, numbers: &[i64], vars: u32) -> bool
     requires room { length numbers.now ≤ vec_capacity literals.old }
     requires variables { vars ≤ max_variable }
     ensures literals { OnTrue result (literals.new.items ≡ numbers.now) }

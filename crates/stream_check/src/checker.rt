@@ -14,7 +14,7 @@ use crate::laws::fresh_left;
 use crate::line::{Taken, take_line};
 use crate::progress::{Progress, Turn};
 use crate::report::{Ending, Report};
-use lrup_model::{ClauseMap, Layout};
+use lrup_model::{ClauseMap, Cube, Layout};
 use lrup_text::{End, LineReader};
 use std::alloc::{AllocError, Global};
 use std::marker::Model;
@@ -46,21 +46,23 @@ impl Checker {
     /// The greatest number of tries.
     pub const MAX_TRIES: u64 = 1_000_000;
 
-    /// A checker of stream `stream`, from 1 on, before its first byte. A hint of another stream is fetched again while it is
-    /// vacant, up to `tries` times, at most 1,000,000. All memory is taken here, but for the identities that the stream drops.
+    /// A checker of stream `stream`, from 1 on, before its first byte, which says also whether a clause is within the cube. A
+    /// hint of another stream is fetched again while it is vacant, up to `tries` times, at most 1,000,000. All memory is taken
+    /// here, also for a copy of the cube, but for the identities that the stream drops.
     pub fn new(
         alloc: Global,
         stream: u64,
         layout: &Layout,
+        cube: &Cube,
         tries: u64,
     ) -> Result<Checker, AllocError>
         requires stream { IsStream layout.now stream }
         requires tries { tries ≤ max_tries }
-        ensures { IfOk result (IsNew layout.now stream tries) }
+        ensures { IfOk result (IsNew layout.now cube.now stream tries) }
     {
         fresh_left();
         Ok(Checker {
-            held: Held::new(alloc, layout, stream, tries),
+            held: Held::new(alloc, layout, cube.try_clone()?, stream, tries),
             buffers: Buffers::new(alloc, layout.vars())?,
             reader: LineReader::new(alloc)?,
             ending: None,
@@ -135,7 +137,7 @@ impl Checker {
         });
     }
 
-    /// Takes it that the reader failed.
+    /// Records a read failure.
     pub fn read_failed(&mut self)
         ensures ends { Ends failed self.old self.new }
         ensures reports { ReportsEnd failed self.old self.new }
@@ -162,6 +164,7 @@ impl Checker {
             added: self.held.added,
             deleted: self.held.retired.saturating_add(self.held.dropped.count()),
             empty: self.held.empty,
+            within: self.held.within,
             ending: self.ending.unwrap(),
         }
     }

@@ -12,7 +12,8 @@ use std::fmt;
 pub enum Fault {
     /// The text is no line.
     Text(LineFault),
-    /// The identity of an addition isn't the stream's own, or isn't above each one that the stream published.
+    /// The identity of an addition isn't the stream's own, or isn't above each one that the stream published;
+    /// that of an import is the stream's own, or none.
     Identity,
     /// A literal's variable isn't one of the formula's.
     Literal,
@@ -20,11 +21,11 @@ pub enum Fault {
     Tautology,
     /// The stream has no room left for the clause.
     NoRoom,
-    /// The stream deleted this hint, which isn't its own, in a line before.
+    /// The stream deleted this hint, or identity of an import, which isn't its own, in a line before.
     Dropped(Id),
-    /// Nothing was published under this hint, or it is no identity.
+    /// Nothing was published under this hint or identity of an import, or the hint is no identity.
     Missing(Id),
-    /// The clause of this hint was retired.
+    /// The clause of this hint, or identity of an import, was retired.
     Retired(Id),
     /// The clause of this hint is neither unit nor a conflict.
     NotUnit(Id),
@@ -34,6 +35,8 @@ pub enum Fault {
     NoConflict,
     /// An identity to delete isn't live, or the stream deleted it before, or it is no identity.
     NotLive(Id),
+    /// The literals of an import aren't those of the clause of its identity.
+    Differs(Id),
 }
 
 impl Fault {
@@ -57,6 +60,7 @@ impl Fault {
             Fault::Excess(hint) => ("excess ", Some(hint)),
             Fault::NoConflict => ("no conflict", None),
             Fault::NotLive(id) => ("not live ", Some(id)),
+            Fault::Differs(id) => ("differs ", Some(id)),
         }
     }
 }

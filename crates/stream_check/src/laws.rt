@@ -1,5 +1,5 @@
 //! Laws of judging. Each function does nothing; its contract is the law, which holds of every stream, layout and history.
-ghost use Rattle.stream_check.specs.Laws.{FreshLeft, PendingGrows, GoodLineTaken, BadLineTaken, BadTextRead, MemoryWanted, EndJudged, OverStays, EitherEnd, DecidedBeforeFailure, ReadyNew, ReadyStays, ReadyBeside, OneReport, RepliesDecide, LegalNeverFork, AloneDecides, GoodExactlyIf, GoodFollows, LineCalls, EarlyEvents, VacantTriesAgain, ReducedLine, ReducedStream, JudgedLinesCut, CitedFetched, CountsWithin};
+ghost use Rattle.stream_check.specs.Laws.{FreshLeft, PendingGrows, GoodLineTaken, BadLineTaken, BadTextRead, MemoryWanted, EndJudged, OverStays, EitherEnd, DecidedBeforeFailure, ReadyNew, ReadyStays, ReadyBeside, OneReport, RepliesDecide, LegalNeverFork, AloneDecides, GoodExactlyIf, GoodFollows, LineCalls, EarlyEvents, VacantTriesAgain, ReducedLine, ReducedStream, JudgedLinesCut, CitedFetched, WithinReported, EmptyCubeReported, CountsWithin};
 
 use lrup_model::laws::{propagation_sound, vacant_above_stays};
 use lrup_text::laws::{
@@ -38,7 +38,7 @@ pub fn bad_text_read()
     ensures { BadTextRead }
 {}
 
-/// A deletion that stopped for want of memory leaves a checker over.
+/// A deletion that ran out of memory leaves a checker over.
 pub fn memory_wanted()
     ensures { MemoryWanted }
 {}
@@ -53,7 +53,7 @@ pub fn over_stays()
     ensures { OverStays }
 {}
 
-/// A bad line or text, or want of memory, is judged alike for either end and whatever follows.
+/// A bad line or text, or memory that ran out, is judged alike for either end and whatever follows.
 pub fn either_end()
     ensures { EitherEnd }
 {}
@@ -82,7 +82,7 @@ pub fn ready_beside()
     vacant_above_stays();
 }
 
-/// A stream's bytes, end and events have one report and one list of blocks, but for want of memory.
+/// A stream's bytes, end and events have one report and one list of blocks, unless memory ran out.
 pub fn one_report()
     ensures { OneReport }
 {
@@ -107,7 +107,7 @@ pub fn legal_never_fork()
     ensures { LegalNeverFork }
 {}
 
-/// So a stream that is alone has one report, but for want of memory.
+/// So a stream that is alone has one report, unless memory ran out.
 pub fn alone_decides()
     ensures { AloneDecides }
 {
@@ -173,6 +173,16 @@ pub fn cited_fetched()
     texts_are_lines();
     a_text_has_one_fault();
 }
+
+/// A report says 'within' exactly if a good addition's clause is within the cube.
+pub fn within_reported()
+    ensures { WithinReported }
+{}
+
+/// With the empty cube a report says 'within' exactly if it says 'empty'.
+pub fn empty_cube_reported()
+    ensures { EmptyCubeReported }
+{}
 
 /// In a legal history a stream adds and deletes no more than there are identities.
 pub fn counts_within()

@@ -11,6 +11,7 @@ mod fault;
 mod gate;
 mod held;
 mod hints;
+mod import;
 pub mod laws;
 mod line;
 mod progress;

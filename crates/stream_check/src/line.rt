@@ -1,7 +1,7 @@
 //! The line that stands next in a piece.
 ghost use Rattle.std.specs.Prelude.{◌≡◌, ◌<◌, ◌^◌, ℕ, List, Ok};
 ghost use Rattle.lrup_model.specs.Event.{History};
-ghost use Rattle.lrup_text.specs.Lines.{IsWithinLimits, Addition, Deletion};
+ghost use Rattle.lrup_text.specs.Lines.{IsWithinLimits, Addition, Deletion, Import};
 ghost use Rattle.stream_check.specs.Judging.{joined};
 ghost use Rattle.stream_check.specs.Checker.{read_of};
 ghost use Rattle.stream_check.specs.Taking.{IsReady, TakesBy, Takes, ReadsOn, taken_of, ending_of};
@@ -63,7 +63,8 @@ fn take_addition<M: ClauseMap, G: Gate>(
     if let Some(fault) = buffers.add(held, map, gate, id, lits, hints) {
         return Some(Stop::Bad(fault));
     }
-    held.take_addition(id, lits.is_empty());
+    let within = held.setting.refutes(buffers.clause());
+    held.take_addition(id, lits.is_empty(), within);
     None
 }
 
@@ -79,7 +80,34 @@ fn take_deletion<M: ClauseMap>(held: &mut Held, map: &mut M, ids: &[Id]) -> Opti
     if let Some(stop) = delete(held, map, ids) {
         return Some(stop);
     }
-    held.take_deletion();
+    held.pass_line();
+    None
+}
+
+/// Compares an import, and counts its line where it is good.
+fn take_import<M: ClauseMap, G: Gate>(
+    held: &mut Held,
+    buffers: &mut Buffers,
+    map: &mut M,
+    gate: &mut G,
+    id: Id,
+    lits: &[i64],
+) -> Option<Stop>
+    requires ready { IsReady held.old (M.place map.old) }
+    requires variables { held.old.setting.layout.vars ≡ buffers.old.vars }
+    requires tries { held.old.setting.tries < 2 ^ 63 }
+    requires fits { IsWithinLimits (Import id lits.now) }
+    ensures taken { let free = (M.place map.old).room in let left = (M.place map.new).room in
+        (es : History) × M.moves map.old map.new es
+        × TakesBy held.old free held.new left (Import id lits.now) es result }
+    ensures ready { IsReady held.new (M.place map.new) }
+    ensures setting { held.new.setting ≡ held.old.setting }
+    ensures variables { buffers.new.vars ≡ buffers.old.vars }
+{
+    if let Some(fault) = buffers.import(held, map, gate, id, lits) {
+        return Some(Stop::Bad(fault));
+    }
+    held.pass_line();
     None
 }
 
@@ -123,6 +151,9 @@ pub fn take_line<M: ClauseMap, G: Gate>(
             take_addition(held, buffers, map, gate, id, lits, hints),
         ),
         Turn::Line(Line::Delete { ids, .. }) => line_through(used, take_deletion(held, map, ids)),
+        Turn::Line(Line::Import { id, lits }) => {
+            line_through(used, take_import(held, buffers, map, gate, id, lits))
+        }
         Turn::NeedMore => Taken::More,
         Turn::Fault(fault) => Taken::Stopped(used, Stop::Bad(Fault::Text(fault))),
     }

@@ -23,6 +23,8 @@ pub struct Report {
     pub deleted: u64,
     /// Whether a good addition has the empty clause.
     pub empty: bool,
+    /// Whether a good addition's clause is within the cube: the cube has the complement of each of its literals.
+    pub within: bool,
     /// How the stream ended.
     pub ending: Ending,
 }

@@ -1,16 +1,19 @@
 //! Whose lines are checked.
 ghost use Rattle.std.specs.Prelude.{◌≡◌, ◌↔◌, IsTrue};
 ghost use Rattle.lrup_model.specs.Layout.{IsIdentity};
-ghost use Rattle.stream_check.specs.Setting.{side_of, tries_on};
+ghost use Rattle.stream_check.specs.Setting.{side_of, is_shared, tries_on};
+ghost use Rattle.stream_check.specs.Standing.{is_within};
 ghost use Rattle.stream_check.specs.Checking.{side_is};
 
-use lrup_model::{Id, Layout, Owner};
+use lrup_model::{Cube, Id, Layout, Lit, Owner};
 use std::marker::Model;
 
-/// The layout, the stream, from 1 on, and how often a hint of another stream is fetched again while it is vacant.
-#[derive(Clone, Copy)]
+/// The layout, the cube of assumed literals, the stream, from 1 on, and how often a hint of another stream is fetched again
+/// while it is vacant.
+#[derive(Drop)]
 pub struct Setting {
     layout: Layout,
+    cube: Cube,
     stream: u64,
     tries: u64,
     // The layout's last identity. Each hint is compared with it, and working it out takes a multiplication.
@@ -25,11 +28,11 @@ impl Model for Setting {
 
     ghost Value = { Setting };
 
-    ghost view = { λ s. record { layout = s.layout; stream = s.stream; tries = s.tries } };
+    ghost view = { λ s. record { layout = s.layout; cube = s.cube; stream = s.stream; tries = s.tries } };
 
     ghost invariant = { λ s. s.last ≡ last_identity s.layout };
 
-    ghost inverse = { λ s. record { layout = s.layout; stream = s.stream; tries = s.tries; last = last_identity s.layout } };
+    ghost inverse = { λ s. record { layout = s.layout; cube = s.cube; stream = s.stream; tries = s.tries; last = last_identity s.layout } };
 
     ghost inverse_ok = { λ s h. ap (λ (n : ℕ). record s { last = n }) (sym h) };
 }
@@ -48,11 +51,12 @@ pub enum Side {
 }
 
 impl Setting {
-    pub fn new(layout: &Layout, stream: u64, tries: u64) -> Setting
-        ensures { result ≡ record { layout = layout.now; stream = stream; tries = tries } }
+    pub fn new(layout: &Layout, cube: Cube, stream: u64, tries: u64) -> Setting
+        ensures { result ≡ record { layout = layout.now; cube = cube; stream = stream; tries = tries } }
     {
         Setting {
             layout: *layout,
+            cube,
             stream,
             tries,
             last: layout.last_identity(),
@@ -63,6 +67,13 @@ impl Setting {
         ensures { result ≡ self.now.stream }
     {
         self.stream
+    }
+
+    /// Whether the complement of each literal of the clause is in the cube. With the empty cube it is one test.
+    pub fn refutes(&self, clause: &[Lit]) -> bool
+        ensures { result ≡ is_within self.now.cube clause.now }
+    {
+        self.cube.refutes(clause)
     }
 
     /// How often a hint that was vacant is fetched again: only another stream's, since no call but the stream's own changes
@@ -82,6 +93,16 @@ impl Setting {
         ensures { IsTrue result ↔ IsIdentity self.now.layout id }
     {
         0 < id && id <= self.last
+    }
+
+    /// Is it the formula's or another stream's?
+    pub fn shares(&self, id: Id) -> bool
+        ensures { result ≡ is_shared (side_of self.now id) }
+    {
+        match self.side(id) {
+            Side::Formula | Side::Foreign => true,
+            Side::Own | Side::Outside => false,
+        }
     }
 
     /// Whose the identity is.

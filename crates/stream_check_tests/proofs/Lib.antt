@@ -1,3 +1,2 @@
 pub mod WorkedLemmas
-pub mod OpenedLemmas
 pub mod BesideLemmas

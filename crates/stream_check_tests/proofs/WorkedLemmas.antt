@@ -1,11 +1,13 @@
 -- Lemmas for the worked example.
-use Rattle.std.proofs.Common.{ℕ, ℤ, pos, negsuc, [], ◌∷◌, List, refl, inl, inr, arith}
+use Rattle.std.proofs.Common.{◌≤◌, ℕ, ℤ, pos, negsuc, nat_abs, [], ◌∷◌, List, refl, inl, inr, arith}
+use Rattle.std.specs.List.{AllByRecursion}
 use Rattle.lrup_model.specs.Event.{History, live}
 use Rattle.test_support.specs.Worked.{first, second, unit}
 use Rattle.test_support.specs.WorkedLemmas.{unit_is_proper, first_is_unit, second_is_conflict}
-use Rattle.lrup_text.specs.Lines.{Addition}
+use Rattle.lrup_text.specs.Lines.{Addition, Import}
 use Rattle.stream_check.specs.Verdicts.{Verdict}
 use Rattle.stream_check.specs.Additions.{JudgesHints, AtConflict, published_by}
+use Rattle.stream_check.specs.Imports.{HasSame, AtImported}
 use Rattle.stream_check.specs.Judging.{JudgesLine}
 use Rattle.stream_check_tests.specs.Worked.{first_stream, at_start, first_found, second_found}
 
@@ -24,3 +26,17 @@ second_is_tried hints es v judged = inr (refl, record { asked = second_found ∷
 -- the unit clause under 5 passes the tests before its hints
 pub unit_passes : (hints : List ℕ) (es : History) (v : Verdict) → JudgesFrom unit hints es v → JudgesLine first_stream at_start (Addition 5 unit hints) es v
 unit_passes hints es v judged = inr ((refl, omega arith), inr ((omega arith, tt), inr (unit_is_proper, inr (omega arith, judged))))
+
+-- an import of clause 1 is compared with it
+pub first_is_compared : (lits : List ℤ) (v : Verdict) → AllByRecursion (λ l. nat_abs l ≤ 2) lits → AtImported (live first) 1 lits [] v → JudgesLine first_stream at_start (Import 1 lits) (first_found ∷ []) v
+first_is_compared lits v within compared =
+    inr (refl, inr (within, inr (refl, record { asked = first_found ∷ []; reply = live first; rest = []; events = refl; asks = refl; next = compared })))
+
+pub same_first : HasSame first (pos 2 ∷ pos 1 ∷ pos 2 ∷ [])
+same_first l = (
+  λ h. elim h [ inl one ↦ inr (inl one) | inr more ↦ elim more [ inl two ↦ inl two | inr none ↦ absurd none ] ],
+  λ h. elim h [
+    | inl two ↦ inr (inl two)
+    | inr more ↦ elim more [ inl one ↦ inl one | inr rest ↦ elim rest [ inl two ↦ inr (inl two) | inr none ↦ absurd none ] ]
+  ],
+)

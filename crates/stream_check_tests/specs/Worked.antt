@@ -14,7 +14,7 @@ two_streams = record { vars = 2; clauses = 4; literals = 8; streams = 2; lines =
 
 -- stream 1, which tries a foreign hint once more
 abbrev pub first_stream : Setting
-first_stream = record { layout = two_streams; stream = 1; tries = 1 }
+first_stream = record { layout = two_streams; cube = []; stream = 1; tries = 1 }
 
 -- before the first line, and after the line `5 d 1 0`
 abbrev pub at_start : Standing

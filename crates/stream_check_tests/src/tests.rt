@@ -1,22 +1,19 @@
 //! The worked rows at a plain map, each whole, byte by byte and in pieces of two, with the calls of the gate.
-ghost use Rattle.std.specs.Prelude.{◌≡◌, ◌<◌, IfOk, IsSome, replicate};
+ghost use Rattle.std.specs.Prelude.{◌≡◌, ◌<◌, IsSome};
 ghost use Rattle.lrup_model.specs.Event.{History};
-ghost use Rattle.lrup_model.specs.Layout.{IsStream};
-ghost use Rattle.lrup_model.specs.Plain.{formula_of, plain_place};
-ghost use Rattle.test_support.specs.Worked.{four};
 ghost use Rattle.stream_check.specs.Checker.{IsReadyAt};
-ghost use Rattle.stream_check_tests.specs.Opened.{IsOpened};
 
-use lrup_model::{ClauseMap, Id, Layout, PlainMap};
+use checker_support::{checker_at, open_map};
+use lrup_model::{ClauseMap, Cube, Id, Layout};
 use lrup_text::LineFault;
 use std::alloc::Global;
 use std::fmt;
 use std::process::Abort;
 use std::test::Fail;
-use stream_check::laws::ready_new;
 use stream_check::{Checker, Ending, Fault, Gate, Report, Turn};
-use test_support::four_clauses;
 
+mod assumptions;
+mod imports;
 mod late_map;
 mod memory;
 mod two_streams;
@@ -71,37 +68,6 @@ const DEFAULTS: Options = Options {
     tries: 3,
 };
 
-/// The map of the four clauses, with so many identities and so much room for each stream.
-fn open_map(alloc: Global, streams: u64, lines: u64, room: u64) -> Result<PlainMap, Fail>
-    ensures opened { IfOk result IsOpened }
-    ensures formula { IfOk result (λ map. formula_of map ≡ four) }
-    ensures streams { IfOk result (λ map. map.layout.streams ≡ streams) }
-    ensures room { IfOk result (λ map. map.free ≡ replicate streams room) }
-{
-    let formula = four_clauses(alloc)?;
-    let layout = Layout::new(2, 4, 8, streams, lines, room)?;
-    if !layout.fits(&formula) {
-        return Err("no layout".into());
-    }
-    let map = PlainMap::open(alloc, &formula, &layout)?;
-    Ok(map)
-}
-
-/// A checker of this stream, before its first byte.
-fn checker_at(alloc: Global, map: &PlainMap, stream: u64, tries: u64) -> Result<Checker, Fail>
-    requires { IsOpened map.now }
-    ensures stream { IfOk result (λ _. IsStream map.now.layout stream) }
-    ensures ready { IfOk result (λ checker. IsReadyAt checker (plain_place map.now stream)) }
-{
-    ready_new();
-    let layout = map.layout();
-    if stream == 0 || stream > layout.streams() || tries > Checker::MAX_TRIES {
-        return Err("no such stream".into());
-    }
-    let checker = Checker::new(alloc, stream, layout, tries)?;
-    Ok(checker)
-}
-
 /// Feeds a piece to its end, or until the checker is over.
 fn feed_whole<M: ClauseMap, G: Gate>(checker: &mut Checker, map: &mut M, gate: &mut G, piece: &[u8])
     requires { IsReadyAt checker.old (M.place map.old) }
@@ -150,11 +116,13 @@ fn judged(alloc: Global, options: Options, bytes: &[u8], cut: usize) -> Result<(
     Ok((checker.report(), gate))
 }
 
+/// Under the empty cube, where a clause is within it exactly if it is empty.
 fn said_of(added: u64, deleted: u64, empty: bool, ending: Ending) -> Report {
     Report {
         added,
         deleted,
         empty,
+        within: empty,
         ending,
     }
 }
@@ -535,7 +503,7 @@ fn bad_texts_end_the_reading(rt: HostRuntime) -> Result<(), Fail> {
 #[test]
 fn a_failed_read_is_told(rt: HostRuntime) -> Result<(), Fail> {
     let layout = Layout::new(2, 4, 8, 1, 9, 9)?;
-    let mut checker = Checker::new(rt.alloc(), 1, &layout, 0)?;
+    let mut checker = Checker::new(rt.alloc(), 1, &layout, &Cube::empty(rt.alloc()), 0)?;
     same(&rt, checker.is_over(), false);
     let told = said_of(0, 0, false, Ending::ReadFailed(1));
     checker.read_failed();

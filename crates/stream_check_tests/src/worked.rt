@@ -1,11 +1,20 @@
 //! Lines as they are judged, by the definitions alone.
-ghost use Rattle.std.specs.Prelude.{[], ◌∷◌, pos, negsuc};
-ghost use Rattle.lrup_text.specs.Lines.{Addition, Deletion};
+ghost use Rattle.std.specs.Prelude.{◌≡◌, true, false, [], ◌∷◌, pos, negsuc};
+ghost use Rattle.lrup_text.specs.Lines.{Addition, Deletion, Import};
+ghost use Rattle.stream_check.specs.Standing.{is_within};
 ghost use Rattle.stream_check.specs.Verdicts.{Good, Bad};
 ghost use Rattle.stream_check.specs.Judging.{JudgesLine};
 ghost use Rattle.stream_check_tests.specs.Worked.{first_stream, at_start, after_drop, first_found, second_found, six_vacant, unit_published, five_retired, five_refused};
 
 use stream_check::Fault;
+
+/// A clause is within a cube that has the complements of its literals, and not within one that has these literals.
+fn clauses_within_are_judged()
+    ensures within { is_within (pos 1 ∷ negsuc 1 ∷ []) (pos 2 ∷ []) ≡ true }
+    ensures itself { is_within (pos 2 ∷ []) (pos 2 ∷ []) ≡ false }
+    ensures one_alone { is_within (negsuc 1 ∷ []) (pos 1 ∷ pos 2 ∷ []) ≡ false }
+    ensures nothing { is_within [] [] ≡ true }
+{}
 
 /// An addition that is good, and its last event; and one with a hint after the conflict, which isn't fetched.
 fn additions_are_judged()
@@ -51,4 +60,23 @@ fn deletions_are_judged()
     ensures again { JudgesLine first_stream after_drop (Deletion 5 (2 ∷ 1 ∷ [])) [] (Bad 1 (Fault.NotLive 1)) }
     ensures both { JudgesLine first_stream at_start (Deletion 5 (1 ∷ 5 ∷ 6 ∷ [])) (five_retired ∷ []) Good }
     ensures outside { JudgesLine first_stream at_start (Deletion 5 (9 ∷ [])) [] (Bad 0 (Fault.NotLive 9)) }
+{}
+
+/// Imports: a clause of the formula is compared, one of another stream is fetched once more, and none is added.
+fn imports_are_judged()
+    ensures good { JudgesLine first_stream at_start (Import 1 (pos 2 ∷ pos 1 ∷ pos 2 ∷ []))
+        (first_found ∷ []) Good }
+    ensures differs { JudgesLine first_stream at_start (Import 1 (pos 2 ∷ []))
+        (first_found ∷ []) (Bad 0 (Fault.Differs 1)) }
+    ensures tautology { JudgesLine first_stream at_start (Import 1 (pos 1 ∷ negsuc 0 ∷ []))
+        (first_found ∷ []) (Bad 0 (Fault.Differs 1)) }
+    ensures own { JudgesLine first_stream at_start (Import 5 (pos 3 ∷ [])) [] (Bad 0 Fault.Identity) }
+    ensures outside { JudgesLine first_stream at_start (Import 9 []) [] (Bad 0 Fault.Identity) }
+    ensures literal { JudgesLine first_stream after_drop (Import 1 (pos 3 ∷ [])) [] (Bad 0 Fault.Literal) }
+    ensures dropped { JudgesLine first_stream after_drop (Import 1 (pos 1 ∷ pos 2 ∷ []))
+        [] (Bad 0 (Fault.Dropped 1)) }
+    ensures missing { JudgesLine first_stream at_start (Import 6 (pos 2 ∷ []))
+        (six_vacant ∷ six_vacant ∷ []) (Bad 0 (Fault.Missing 6)) }
+    ensures too_soon { ¬ JudgesLine first_stream at_start (Import 6 (pos 2 ∷ []))
+        (six_vacant ∷ []) (Bad 0 (Fault.Missing 6)) }
 {}

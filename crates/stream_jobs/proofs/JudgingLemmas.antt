@@ -15,7 +15,7 @@ use Rattle.stream_check.specs.Laws.{OverStays}
 use Rattle.stream_check.specs.Leaving.{CheckerState, Over, Leaves}
 use Rattle.stream_check.specs.Setting.{Setting}
 use Rattle.stream_ring.specs.Items.{CameThrough}
-use Rattle.stream_jobs.specs.Judged.{end_of}
+use Rattle.stream_jobs.specs.Judged.{IsReadOut, end_of}
 
 pub joined-append : (front back : List History) → joined front ++ joined back ≡ joined (front ++ back)
 joined-append front back = sym (flat_map-append (λ (block : History). block) front back)
@@ -69,14 +69,16 @@ ends_over end old new ends = ends_by old.ending end old new refl ends
 -- what came through is the stream that was judged
 pub told_and_judged : (entry after : Option (List ℕ)) (has_failed failed : Bool) (bytes : List ℕ) (c : Setting) (blocks : List History) (report : Report)
     → CameThrough entry after has_failed failed bytes → JudgesBlocks c bytes (end_of failed) blocks report
-    → (stream : Stream) × IsTold entry after has_failed stream × JudgesStream c stream blocks report
+    → (stream : Stream) × IsReadOut stream × IsTold entry after has_failed stream × JudgesStream c stream blocks report
 told_and_judged entry after has_failed true bytes c blocks report came judged = (
   record { bytes = bytes; stop = at_failure },
+  inr refl,
   record { more = []; consumes = subst (Consumes entry after) (sym (append-nil bytes)) came.told; stops = (refl, sym came.failed_is) },
   judged,
 )
 told_and_judged entry after has_failed false bytes c blocks report came judged = (
   record { bytes = bytes; stop = at_end },
+  inl refl,
   record { more = []; consumes = subst (Consumes entry after) (sym (append-nil bytes)) came.told; stops = (refl, came.all refl, sym came.failed_is) },
   judged,
 )

@@ -9,12 +9,12 @@ ghost use Rattle.stream_check.specs.Checker.{IsNew, state_of};
 ghost use Rattle.stream_check.specs.CheckerValue.{CheckerValue};
 ghost use Rattle.stream_check.specs.Leaving.{Leaves};
 ghost use Rattle.stream_check.specs.Setting.{max_tries};
-ghost use Rattle.stream_jobs.specs.Judged.{JudgesAtMark};
+ghost use Rattle.stream_jobs.specs.Judged.{IsReadOut, JudgesAtMark};
 ghost use Rattle.stream_ring.specs.Items.{SendsAll};
 
 use crate::checking::{Checked, CheckingJob};
 use crate::reading::{ReadingJob, Sent};
-use lrup_model::Layout;
+use lrup_model::{Cube, Layout};
 use lrup_text::Source;
 use std::alloc::{AllocError, Global};
 use stream_check::Gate;
@@ -23,14 +23,15 @@ use stream_ring::{came_through, ring};
 /// The items of a ring: two bytes each.
 const CAPACITY: usize = 65_536;
 
-/// The two jobs of stream `stream`, from 1 on, at the two ends of one ring. All memory is taken here, but for the identities that
-/// the stream drops. A hint of another stream is fetched again while it is vacant, up to `tries` times, at most 1,000,000.
+/// The two jobs of stream `stream`, from 1 on, under this cube, at the two ends of one ring. All memory is taken here, but for the
+/// identities that the stream drops. A hint of another stream is fetched again while it is vacant, up to `tries` times, at most 1,000,000.
 pub fn jobs<R: Source + Drop, G: Gate + Drop>(
     alloc: Global,
     reader: R,
     gate: G,
     stream: u64,
     layout: &Layout,
+    cube: &Cube,
     tries: u64,
 ) -> Result<(ReadingJob<R>, CheckingJob<G>), AllocError>
     requires running { R.has_failed reader ≡ false }
@@ -40,11 +41,11 @@ pub fn jobs<R: Source + Drop, G: Gate + Drop>(
         IsPair both.0.sender.producer both.1.receiver.consumer) }
     ensures reader { IfOk result (λ both. both.0.reader ≡ reader) }
     ensures gate { IfOk result (λ both. both.1.gate ≡ gate) }
-    ensures checker { IfOk result (λ both. IsNew layout.now stream tries both.1.checker) }
+    ensures checker { IfOk result (λ both. IsNew layout.now cube.now stream tries both.1.checker) }
 {
     let (sender, receiver) = ring(alloc, CAPACITY)?;
     let reading = ReadingJob::new(alloc, reader, sender)?;
-    let checking = CheckingJob::new(alloc, receiver, gate, stream, layout, tries)?;
+    let checking = CheckingJob::new(alloc, receiver, gate, stream, layout, cube, tries)?;
     Ok((reading, checking))
 }
 
@@ -60,7 +61,7 @@ pub fn meet<R: Source + Drop>(sent: &mut Sent<R>, checked: &mut Checked)
         (Rattle.rtrb.specs.Ring.sent sent.old.producer)
         → JudgesAtMark v room (received checked.old.consumer) blocks report
         → Leaves v.setting [] [] (state_of v room)
-        → (stream : Stream)
+        → (stream : Stream) × IsReadOut stream
         × IsTold entry (R.left sent.old.reader) (R.has_failed sent.old.reader) stream
         × JudgesStream v.setting stream blocks report }
 {

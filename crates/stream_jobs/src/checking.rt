@@ -10,7 +10,7 @@ ghost use Rattle.stream_check.specs.Setting.{max_tries};
 ghost use Rattle.stream_jobs.specs.Judged.{JudgesAtMark, end_of};
 ghost use Rattle.stream_ring.specs.Items.{EndsAtMark};
 
-use lrup_model::{ClauseMap, Layout};
+use lrup_model::{ClauseMap, Cube, Layout};
 use rtrb::Consumer;
 use std::alloc::{AllocError, Global};
 use std::sync::{OnceLock, OnceToken, Wait};
@@ -46,7 +46,7 @@ pub struct Checked {
 }
 
 impl<G: Gate + Drop> CheckingJob<G> {
-    /// The job of stream `stream`, from 1 on, with the memory that it will need, but for the identities that the stream drops. A
+    /// The job of stream `stream`, from 1 on, under this cube, with the memory that it will need, but for the identities that the stream drops. A
     /// hint of another stream is fetched again while it is vacant, up to `tries` times, at most 1,000,000.
     pub(crate) fn new(
         alloc: Global,
@@ -54,16 +54,17 @@ impl<G: Gate + Drop> CheckingJob<G> {
         gate: G,
         stream: u64,
         layout: &Layout,
+        cube: &Cube,
         tries: u64,
     ) -> Result<CheckingJob<G>, AllocError>
         requires stream { IsStream layout.now stream }
         requires tries { tries ≤ max_tries }
         requires nothing { received receiver.consumer ≡ [] }
-        ensures checker { IfOk result (λ job. IsNew layout.now stream tries job.checker) }
+        ensures checker { IfOk result (λ job. IsNew layout.now cube.now stream tries job.checker) }
         ensures gate { IfOk result (λ job. job.gate ≡ gate) }
         ensures receiver { IfOk result (λ job. job.receiver ≡ receiver) }
     {
-        let checker = Checker::new(alloc, stream, layout, tries)?;
+        let checker = Checker::new(alloc, stream, layout, cube, tries)?;
         let items = vec![in alloc; 0u16; POPPED]?;
         let bytes = vec![in alloc; 0u8; POPPED]?;
         Ok(CheckingJob {

@@ -92,6 +92,10 @@ fn first_lines_that_are_bad(rt: HostRuntime) -> Result<(), Fail> {
         ("1000000000000000000 2 0 1 2 0\n", "too long"),
         ("999999999999999999 2 0 1 2 0\n", "identity"),
         ("5 2 0 5 0\n", "missing 5"),
+        ("5 i 2 0\n", "identity"),
+        ("1 i 3 0\n", "literal"),
+        ("1 i 2 0\n", "differs 1"),
+        ("1 i 2 1 0 0\n", "spelling"),
     ] {
         assert_bad(&rt, rt.alloc(), &["f", "1"], stream, reason)?;
     }
@@ -227,6 +231,57 @@ s UNKNOWN
             streams: &["6 2 0 1 2 0\n", ""],
             out: "c stream 1: 0 added, 0 deleted, bad line 1 (identity)
 c stream 2: 0 added, 0 deleted, ended
+s UNKNOWN
+",
+            status: 3,
+            ..row
+        },
+    ] {
+        assert_row(&rt, rt.alloc(), &row)?;
+    }
+    Ok(())
+}
+
+#[test]
+fn imports(rt: HostRuntime) -> Result<(), Fail> {
+    let row = one(
+        &["1 i 2 1 0\n"],
+        "c stream 1: 0 added, 0 deleted, ended\ns UNKNOWN\n",
+    );
+    assert_both(&rt, rt.alloc(), &row)?;
+    let two = ["5 2 0 1 2 0\n", "5 i 2 2 0\n6 -2 0 3 4 0\n8 0 5 6 0\n"];
+    let both = "c stream 1: 1 added, 0 deleted, ended
+c stream 2: 2 added, 0 deleted, ended
+s UNSATISFIABLE
+";
+    let row = Row {
+        words: &["--tries", "1000000", "f", "1", "2"],
+        formula: FOUR,
+        streams: &two,
+        out: both,
+        status: 0,
+    };
+    assert_row(&rt, rt.alloc(), &row)?;
+    for row in [
+        Row {
+            words: &["--serial", "f", "1", "2"],
+            ..row
+        },
+        Row {
+            words: &["--serial", "f", "1", "2"],
+            streams: &["5 2 0 1 2 0\n", "5 i -2 0\n6 -2 0 3 4 0\n8 0 5 6 0\n"],
+            out: "c stream 1: 1 added, 0 deleted, ended
+c stream 2: 0 added, 0 deleted, bad line 1 (differs 5)
+s UNKNOWN
+",
+            status: 3,
+            ..row
+        },
+        Row {
+            words: &["--serial", "--tries", "0", "f", "1", "2"],
+            streams: &["6 i -2 0\n", "6 -2 0 3 4 0\n"],
+            out: "c stream 1: 0 added, 0 deleted, bad line 1 (missing 6)
+c stream 2: 1 added, 0 deleted, ended
 s UNKNOWN
 ",
             status: 3,

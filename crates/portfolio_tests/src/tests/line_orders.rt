@@ -1,16 +1,15 @@
 //! What runs with threads say is what a checker of one thread says in some order of the lines; and where a clause is deleted
 //! that another stream has cited, it need not be.
-ghost use Rattle.std.specs.Prelude.{◌≡◌, ◌≤◌, IfOk, length};
+ghost use Rattle.std.specs.Prelude.{◌≡◌, ◌≤◌, length};
 ghost use Rattle.lrup_model.specs.Event.{History};
 ghost use Rattle.lrup_model.specs.Layout.{IsStream};
-ghost use Rattle.lrup_model.specs.Plain.{PlainMoves, formula_of, plain_place};
+ghost use Rattle.lrup_model.specs.Plain.{PlainMoves, plain_place};
 ghost use Rattle.stream_check.specs.Checker.{IsReadyAt};
-ghost use Rattle.test_support.specs.Worked.{four};
-ghost use Rattle.portfolio_tests.specs.Opened.{IsOpened};
 
 use super::threads::waits_for;
 use super::{By, CITING, Open, bad_line, ended, options, readers_of, report, reports_of, same};
-use lrup_model::{ClauseMap, Id, Layout, PlainMap};
+use checker_support::{checker_at, open_map};
+use lrup_model::{ClauseMap, Cube, Id, PlainMap};
 use portfolio::{Outcome, Verdict, run};
 use std::alloc::Global;
 use std::process::Abort;
@@ -18,39 +17,9 @@ use std::sync::Wait;
 use std::sync::atomic::{AtomicBool, Ordering};
 use std::test::Fail;
 use std::thread::Threads;
-use stream_check::laws::{ready_beside, ready_new};
+use stream_check::laws::ready_beside;
 use stream_check::{Checker, Ending, Fault, Gate, Report};
 use test_support::four_clauses;
-
-/// The map of the four clauses, with so many identities for each of two streams and room for 16 literals.
-fn open_map(alloc: Global, lines: u64) -> Result<PlainMap, Fail>
-    ensures opened { IfOk result IsOpened }
-    ensures formula { IfOk result (λ map. formula_of map ≡ four) }
-    ensures streams { IfOk result (λ map. map.layout.streams ≡ 2) }
-{
-    let formula = four_clauses(alloc)?;
-    let layout = Layout::new(2, 4, 8, 2, lines, 16)?;
-    if !layout.fits(&formula) {
-        return Err("no layout".into());
-    }
-    let map = PlainMap::open(alloc, &formula, &layout)?;
-    Ok(map)
-}
-
-/// A checker of this stream, before its first byte.
-fn checker_at(alloc: Global, map: &PlainMap, stream: u64, tries: u64) -> Result<Checker, Fail>
-    requires { IsOpened map.now }
-    ensures stream { IfOk result (λ _. IsStream map.now.layout stream) }
-    ensures ready { IfOk result (λ checker. IsReadyAt checker (plain_place map.now stream)) }
-{
-    ready_new();
-    let layout = map.layout();
-    if stream == 0 || stream > layout.streams() || tries > Checker::MAX_TRIES {
-        return Err("no such stream".into());
-    }
-    let checker = Checker::new(alloc, stream, layout, tries)?;
-    Ok(checker)
-}
 
 /// Feeds bytes through the end of a line, or all of them, and says how many.
 fn take_line<M: ClauseMap>(checker: &mut Checker, map: &mut M, bytes: &[u8]) -> usize
@@ -88,7 +57,7 @@ struct Two {
 
 impl Two {
     fn open(alloc: Global, lines: u64, tries: u64) -> Result<Two, Fail> {
-        let map = open_map(alloc, lines)?;
+        let map = open_map(alloc, 2, lines, 16)?;
         let first = checker_at(alloc, &map, 1, tries)?;
         let second = checker_at(alloc, &map, 2, tries)?;
         Ok(Two { map, first, second })
@@ -251,7 +220,15 @@ fn run_deleting<T: Threads + Wait + Sync>(
     let formula = four_clauses(alloc)?;
     let readers = readers_of(alloc, &DELETING, 5)?;
     let gates = vec![in alloc; gate; readers.len()]?;
-    let outcome = run(rt, alloc, &formula, options(0, 2, 16), readers, gates)?;
+    let outcome = run(
+        rt,
+        alloc,
+        &formula,
+        &Cube::empty(alloc),
+        options(0, 2, 16),
+        readers,
+        gates,
+    )?;
     let Outcome {
         reports,
         verdict,

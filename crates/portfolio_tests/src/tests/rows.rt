@@ -28,7 +28,7 @@ fn one_reader<'a>(
 }
 
 /// Both runs say this of the stream.
-fn both_say<T: Threads + Wait + Sync + Abort>(
+pub(super) fn both_say<T: Threads + Wait + Sync + Abort>(
     rt: &T,
     alloc: Global,
     options: Options,
@@ -72,6 +72,7 @@ fn judged_cut(bytes: usize) -> (Report, Report) {
             ended(2, true),
             Report {
                 empty: true,
+                within: true,
                 ..report(2, 0, Ending::ReadFailed(3))
             },
         ),
@@ -104,7 +105,7 @@ fn fails_anywhere(rt: HostRuntime) -> Result<(), Fail> {
 }
 
 /// A line of a head, a word so many times, and a tail.
-fn repeated(
+pub(super) fn repeated(
     alloc: Global,
     head: &str,
     word: &str,

@@ -3,7 +3,7 @@ ghost use Rattle.std.specs.Prelude.{◌≡◌, Some, None, false};
 ghost use Rattle.std.specs.List.{AllByRecursion};
 
 use super::{CITING, Calls, Open, defaults, holds, notes_of, options, readers_of, same};
-use lrup_model::{Formula, LayoutFault};
+use lrup_model::{Cube, Formula, LayoutFault};
 use lrup_text::{ReadFault, Source};
 use portfolio::{Options, RunFault, SerialOutcome, run_serial, write_report};
 use std::alloc::Global;
@@ -23,7 +23,15 @@ fn run_pieces<'a, W: Wait>(
 {
     let formula = four_clauses(alloc)?;
     let gates = vec![in alloc; Open; readers.len()]?;
-    let outcome = run_serial(wait, alloc, &formula, defaults(), readers, gates)?;
+    let outcome = run_serial(
+        wait,
+        alloc,
+        &formula,
+        &Cube::empty(alloc),
+        defaults(),
+        readers,
+        gates,
+    )?;
     Ok(outcome)
 }
 
@@ -55,7 +63,15 @@ fn row<R: Abort + Wait>(
     for most in [1, 2, usize::MAX] {
         let readers = readers_of(alloc, streams, most)?;
         let gates = vec![in alloc; Open; readers.len()]?;
-        let outcome = run_serial(rt, alloc, formula, options, readers, gates)?;
+        let outcome = run_serial(
+            rt,
+            alloc,
+            formula,
+            &Cube::empty(alloc),
+            options,
+            readers,
+            gates,
+        )?;
         says(rt, alloc, &outcome, text)?;
     }
     Ok(())
@@ -216,6 +232,55 @@ fn rows_of_two_streams(rt: HostRuntime) -> Result<(), Fail> {
     )
 }
 
+/// Imports: of the formula, of an own clause, of one of the other stream, of another clause than that, and of one that never comes.
+#[test]
+fn rows_of_imports(rt: HostRuntime) -> Result<(), Fail> {
+    for (stream, line) in [
+        ("1 i 2 1 0\n", "0 added, 0 deleted, ended"),
+        ("5 i 2 0\n", "0 added, 0 deleted, bad line 1 (identity)"),
+        ("1 i 2 0\n", "0 added, 0 deleted, bad line 1 (differs 1)"),
+        (
+            "1 i 1 2 0\n5 2 0 1 2 0\n2 i 2 0\n",
+            "1 added, 0 deleted, bad line 3 (differs 2)",
+        ),
+    ] {
+        line_of_one(&rt, rt.alloc(), defaults(), stream, line)?;
+    }
+    for (tries, first, second, text) in [
+        (
+            1_000,
+            "5 2 0 1 2 0\n",
+            "5 i 2 2 0\n6 -2 0 3 4 0\n8 0 5 6 0\n",
+            "c stream 1: 1 added, 0 deleted, ended
+c stream 2: 2 added, 0 deleted, ended
+s UNSATISFIABLE
+",
+        ),
+        (
+            1_000,
+            "5 2 0 1 2 0\n",
+            "5 i -2 0\n6 -2 0 3 4 0\n8 0 5 6 0\n",
+            "c stream 1: 1 added, 0 deleted, ended
+c stream 2: 0 added, 0 deleted, bad line 1 (differs 5)
+s UNKNOWN
+",
+        ),
+        (
+            0,
+            "6 i -2 0\n",
+            "6 -2 0 3 4 0\n",
+            "c stream 1: 0 added, 0 deleted, bad line 1 (missing 6)
+c stream 2: 1 added, 0 deleted, ended
+s UNKNOWN
+",
+        ),
+    ] {
+        let options = options(tries, 65_536, 1_048_576);
+        row_of_four(&rt, rt.alloc(), options, &[first, second], text)?;
+    }
+    Ok(())
+}
+
 /// Formulas without variables: with no clause, and with the empty one.
 #[test]
 fn rows_without_variables(rt: HostRuntime) -> Result<(), Fail> {
@@ -236,6 +301,14 @@ fn rows_without_variables(rt: HostRuntime) -> Result<(), Fail> {
         defaults(),
         &["2 0 1 0\n"],
         "c stream 1: 1 added, 0 deleted, ended\ns UNSATISFIABLE\n",
+    )?;
+    row(
+        &rt,
+        rt.alloc(),
+        &formula,
+        defaults(),
+        &["1 i 0\n2 0 1 0\n"],
+        "c stream 1: 1 added, 0 deleted, ended\ns UNSATISFIABLE\n",
     )
 }
 
@@ -254,7 +327,15 @@ fn calls_of<R: Abort + Wait>(rt: &R, alloc: Global, most: usize) -> Result<Vec<[
     let readers = readers_of(alloc, &CITING, most)?;
     let gates = notes_of(alloc, &calls, readers.len())?;
     holds(rt, gates.len() == readers.len());
-    let outcome = run_serial(rt, alloc, &formula, defaults(), readers, gates)?;
+    let outcome = run_serial(
+        rt,
+        alloc,
+        &formula,
+        &Cube::empty(alloc),
+        defaults(),
+        readers,
+        gates,
+    )?;
     says(rt, alloc, &outcome, SAYS_CITING)?;
     Ok(calls.all(alloc)?)
 }
@@ -449,7 +530,15 @@ fn run_watched<W: Wait>(
     readers.push(Watched { read: &read })?;
     let mut gates = Vec::new(alloc);
     gates.push(Open)?;
-    let ran = run_serial(wait, alloc, &formula, options(0, lines, 0), readers, gates);
+    let ran = run_serial(
+        wait,
+        alloc,
+        &formula,
+        &Cube::empty(alloc),
+        options(0, lines, 0),
+        readers,
+        gates,
+    );
     Ok((ran.err(), read.get()))
 }
 
@@ -459,7 +548,15 @@ fn fault_of<W: Wait>(wait: &W, alloc: Global, count: usize) -> Result<Option<Run
     let streams = vec![in alloc; ""; count]?;
     let readers = readers_of(alloc, &streams, 1)?;
     let gates = vec![in alloc; Open; readers.len()]?;
-    let ran = run_serial(wait, alloc, &formula, defaults(), readers, gates);
+    let ran = run_serial(
+        wait,
+        alloc,
+        &formula,
+        &Cube::empty(alloc),
+        defaults(),
+        readers,
+        gates,
+    );
     Ok(ran.err())
 }
 

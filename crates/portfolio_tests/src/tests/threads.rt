@@ -1,13 +1,15 @@
 //! Runs with a thread for each stream, with answers worked out by hand from the rules; gates that hold threads until others
 //! have come as far, so that one thread that takes the streams one after the other never passes them.
-ghost use Rattle.std.specs.Prelude.{◌≡◌, false, IfOk, vec_len};
+ghost use Rattle.std.specs.Prelude.{◌≡◌, [], Some, false, length, map, IfOk, vec_len};
 ghost use Rattle.std.specs.List.{AllByRecursion};
+ghost use Rattle.portfolio.specs.Outcomes.{terms_of};
+ghost use Rattle.test_support.specs.Worked.{four};
 
 use super::{
     CITING, Calls, Open, bad_line, defaults, ended, holds, notes_of, options, readers_of, report,
     same,
 };
-use lrup_model::{Id, LayoutFault};
+use lrup_model::{Cube, Id, LayoutFault};
 use lrup_text::Source;
 use portfolio::{Options, Outcome, Pause, RunFault, Verdict, run};
 use std::alloc::{AllocError, Global};
@@ -62,7 +64,7 @@ impl Gate for Holds<'_> {
 }
 
 /// A run over the four clauses, with this gate for each stream.
-fn run_with<'a, T: Threads + Wait + Sync, G: Gate + Copy + Send + Drop>(
+pub(super) fn run_with<'a, T: Threads + Wait + Sync, G: Gate + Copy + Send + Drop>(
     rt: &T,
     alloc: Global,
     options: Options,
@@ -73,7 +75,15 @@ fn run_with<'a, T: Threads + Wait + Sync, G: Gate + Copy + Send + Drop>(
 {
     let formula = four_clauses(alloc)?;
     let gates = gates_of(alloc, gate, readers.len())?;
-    let outcome = run(rt, alloc, &formula, options, readers, gates)?;
+    let outcome = run(
+        rt,
+        alloc,
+        &formula,
+        &Cube::empty(alloc),
+        options,
+        readers,
+        gates,
+    )?;
     Ok(outcome)
 }
 
@@ -268,6 +278,7 @@ fn run_missing<T: Threads + Wait + Sync + Abort, G: Gate + Send + Drop>(
         rt,
         alloc,
         &formula,
+        &Cube::empty(alloc),
         options(3, 65_536, 1_048_576),
         readers,
         gates,
@@ -304,7 +315,15 @@ fn calls_apart<T: Threads + Wait + Sync + Abort>(
     let readers = readers_of(alloc, &APART, 5)?;
     let gates = notes_of(alloc, calls, readers.len())?;
     holds(rt, gates.len() == readers.len());
-    let outcome = run(rt, alloc, &formula, defaults(), readers, gates)?;
+    let outcome = run(
+        rt,
+        alloc,
+        &formula,
+        &Cube::empty(alloc),
+        defaults(),
+        readers,
+        gates,
+    )?;
     let wanted = [ended(2, true), ended(1, false)];
     same(rt, outcome.reports.as_slice(), wanted.as_slice());
     Ok(())
@@ -352,7 +371,16 @@ fn no_streams_have_no_layout(rt: HostRuntime) -> Result<(), Fail> {
     let formula = four_clauses(rt.alloc())?;
     let readers = readers_of(rt.alloc(), &[], 5)?;
     let gates = gates_of(rt.alloc(), Open, readers.len())?;
-    let fault = run(&rt, rt.alloc(), &formula, defaults(), readers, gates).err();
+    let fault = run(
+        &rt,
+        rt.alloc(),
+        &formula,
+        &Cube::empty(rt.alloc()),
+        defaults(),
+        readers,
+        gates,
+    )
+    .err();
     same(
         &rt,
         fault,

@@ -5,7 +5,8 @@ ghost use Rattle.lrup_model.specs.Place.{Tells};
 ghost use Rattle.lrup_model.specs.Plain.{PlainMoves, formula_of, free_at, plain_place};
 ghost use Rattle.test_support.specs.Worked.{four};
 
-use super::{Told, checker_at, feed_cut, open_map, same, told_of};
+use super::{Told, feed_cut, same, told_of};
+use checker_support::{checker_at, open_map};
 use lrup_model::{ClauseMap, Clip, Fetched, Id, Lit, Owner, PlainMap, Published, Retired};
 use lrup_text::LineFault;
 use std::alloc::Global;

@@ -1,9 +1,10 @@
-//! Want of memory. With ample memory these tests see none. They are also run with one allocation of each refused, by
+//! Where memory runs out. With ample memory it never does. These tests are also run with one allocation of each refused, by
 //! `rt try --test --fail-alloc N`.
 ghost use Rattle.std.specs.Prelude.{IsSome};
 ghost use Rattle.stream_check.specs.Checker.{IsReadyAt};
 
-use super::{checker_at, open_map, said_of, same, told_of};
+use super::{said_of, same, told_of};
+use checker_support::{checker_at, open_map};
 use lrup_model::ClauseMap;
 use std::process::Abort;
 use std::test::Fail;

@@ -5,7 +5,8 @@ ghost use Rattle.lrup_model.specs.Layout.{IsStream};
 ghost use Rattle.lrup_model.specs.Plain.{PlainMoves, plain_place};
 ghost use Rattle.stream_check.specs.Checker.{IsReadyAt};
 
-use super::{Told, checker_at, feed_whole, open_map, said_of, same, told_of};
+use super::{Told, feed_whole, said_of, same, told_of};
+use checker_support::{checker_at, open_map};
 use lrup_model::PlainMap;
 use std::alloc::Global;
 use std::test::Fail;
@@ -87,13 +88,17 @@ impl Two {
 
 /// Which stream comes next, and its piece.
 #[derive(Clone, Copy)]
-enum Turn {
+pub enum Turn {
     First(&'static str),
     Second(&'static str),
 }
 
 /// What is said of both streams after these turns, and what their gates were told.
-fn judged_by_turns(alloc: Global, tries: u64, turns: &[Turn]) -> Result<[(Report, Told); 2], Fail> {
+pub fn judged_by_turns(
+    alloc: Global,
+    tries: u64,
+    turns: &[Turn],
+) -> Result<[(Report, Told); 2], Fail> {
     let mut two = Two::open(alloc, tries)?;
     for turn in turns {
         match turn {
@@ -105,7 +110,7 @@ fn judged_by_turns(alloc: Global, tries: u64, turns: &[Turn]) -> Result<[(Report
 }
 
 /// The piece of the second stream that publishes `-2` under 6.
-const SIX: Turn = Turn::Second("6 -2 0 3 4 0\n");
+pub const SIX: Turn = Turn::Second("6 -2 0 3 4 0\n");
 
 #[test]
 fn a_foreign_hint_is_found_after_its_publish(rt: HostRuntime) -> Result<(), Fail> {

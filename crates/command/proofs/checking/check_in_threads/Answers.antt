@@ -8,7 +8,7 @@ pub returns-in_err-outcome-clause-cause : goal.returns-in_err-outcome-clause-cau
 returns-in_err-outcome-clause-cause g c =
     let p = layout_of c.args.options c.args.formula.now (length c.args.readers.items) in
     let cause = run_cause false p c.run.result c.in_err-outcome.field-0.0 c.in_err-outcome.was c.run.ensures.layout
-    (λ stream is. (refl, c.run.ensures.spawn stream is)) in
+    (λ stream is. (refl, c.run.ensures.spawn stream is)) (λ stream is. (refl, c.run.ensures.ring stream is)) in
     err_given c.from_residual-in_err-outcome.result _ (IsRunCause false p)
     (λ fault is. subst (IsRunCause false p) (sym is) cause) c.from_residual-in_err-outcome.ensures.1
 
@@ -22,8 +22,9 @@ returns-clause-checked g c =
       reported = record {
         streams = reports.streams;
         told = reports.told;
-        judged = (_, c.in_ok-outcome.ensures.history.legal, reports.judged);
+        judged = (_, c.in_ok-outcome.ensures.history.legal, reports.judged.1);
       };
       is_verdict = c.in_ok-outcome.ensures.verdict;
       sound = c.in_ok-outcome.ensures.sound;
+      sound_under = c.in_ok-outcome.ensures.sound_under;
     }

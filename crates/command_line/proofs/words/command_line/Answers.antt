@@ -27,6 +27,7 @@ returns c =
       few_lines = subst (λ (n : ℕ). n ≤ max_lines) (sym c.number_of-2.ensures) lines;
       room = c.number_of-3.ensures;
       small_room = subst (λ (n : ℕ). n ≤ max_room) (sym c.number_of-3.ensures) room;
+      assume = c.assume_of.ensures;
       serial = c.is_set.ensures;
       formula = c.formula_of.ensures;
       streams = streams;

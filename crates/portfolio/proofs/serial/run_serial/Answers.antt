@@ -4,6 +4,7 @@ use Rattle.lrup_model.specs.Layout.{LayoutValue, IsFault, Fits}
 use Rattle.portfolio.specs.Outcomes.{layout_of, terms_of}
 use Rattle.runs.specs.Streams.{terms_at}
 use Rattle.portfolio.specs.Turns.{AreOver, Runs}
+use Rattle.portfolio.proofs.CubeLemmas.{sound_under_order}
 use Rattle.portfolio.proofs.HeadlineLemmas.{is_empty, no_fault}
 use Rattle.portfolio.proofs.TurnsLemmas.{IsOpened, runs_opened, run_ordered, sound_over, streams_asked, written_back}
 use Rattle.portfolio.proofs.serial.run_serial.Goals as goal
@@ -29,7 +30,7 @@ take_turns-requires g c =
     let same : p.streams ≡ c.len.result = streams_asked c.args.options f c.len.result p c.in_ok-layout.ensures.layout.0 in
     let count : length entries ≡ p.streams = omega (arith, length-map c.args.readers.items g.R.Source.left, same, c.len.ensures, c.args.readers.ok.0) in
     record {
-      running = (f, terms_at p c.tries.result, entries, subst (Runs f (terms_at p c.tries.result) entries m) (sym c.deref_mut.ensures.value) (runs_opened f p m opened c.tries.result entries c.in_ok-workers.workers.items count c.in_ok-workers.ensures));
+      running = (f, terms_at p c.args.cube.now c.tries.result, entries, subst (Runs f (terms_at p c.args.cube.now c.tries.result) entries m) (sym c.deref_mut.ensures.value) (runs_opened f p m opened c.args.cube.now c.tries.result entries c.in_ok-workers.workers.items count c.in_ok-workers.ensures));
     }
 
 pub outcome_of-requires-clause-over : goal.outcome_of-requires-clause-over
@@ -71,9 +72,9 @@ returns-clause-ordered g c =
     let each : p.streams ≡ length readers = streams_asked c.args.options f (length readers) p same in
     let count : length entries ≡ p.streams = omega (arith, length-map readers g.R.Source.left, each) in
     let back = written_back started.len worked (drop (length worked) started.items) (c.take_turns.auto.workers ∙ c.deref_mut.ensures.len) in
-    let wanted = terms_of c.args.options f (length readers) in
-    let terms : terms_at p c.tries.result ≡ wanted = ap₂ (λ (l : LayoutValue) (n : ℕ). terms_at l n) same c.tries.ensures.tries in
-    run_ordered f p c.tries.result wanted entries (map g.R.Source.left outcome.readers.items) (map g.R.Source.has_failed outcome.readers.items)
+    let wanted = terms_of c.args.options c.args.cube.now f (length readers) in
+    let terms : terms_at p c.args.cube.now c.tries.result ≡ wanted = ap₂ (λ (l : LayoutValue) (n : ℕ). terms_at l c.args.cube.now n) same c.tries.ensures.tries in
+    run_ordered f p c.args.cube.now c.tries.result wanted entries (map g.R.Source.left outcome.readers.items) (map g.R.Source.has_failed outcome.readers.items)
     m c.take_turns.new.map started.items c.deref_mut.result.now worked _ outcome.reports.items opened terms count c.in_ok-workers.ensures
     c.deref_mut.ensures.value c.take_turns.ensures.runs back c.outcome_of.ensures.reports c.outcome_of.ensures.left c.outcome_of.ensures.failed
 
@@ -83,7 +84,7 @@ returns-clause-isolated g c =
     let f = c.args.formula.now in
     let out = c.outcome_of.result in
     let readers = c.args.readers.items in
-    let terms = terms_of c.args.options f (length readers) in
+    let terms = terms_of c.args.options c.args.cube.now f (length readers) in
     let fits : Fits terms.layout f = record { vars = refl; clauses = refl; literals = refl } in
     c.serial_isolated.ensures f terms (map g.R.Source.left readers) (map g.R.Source.left out.readers.items)
     (map g.R.Source.has_failed out.readers.items) out.reports.items fits (length-map readers g.R.Source.left)
@@ -91,5 +92,11 @@ returns-clause-isolated g c =
 pub returns-clause-sound : goal.returns-clause-sound
 returns-clause-sound g c unsatisfiable =
     let ordered = returns-clause-ordered g c in
-    sound_over c.args.formula.now (terms_of c.args.options c.args.formula.now (length c.args.readers.items)) ordered.streams c.outcome_of.result.reports.items ordered.judged
+    sound_over c.args.formula.now (terms_of c.args.options c.args.cube.now c.args.formula.now (length c.args.readers.items)) ordered.streams c.outcome_of.result.reports.items ordered.judged
     (is_empty c.outcome_of.result.reports.items c.outcome_of.result.verdict c.outcome_of.ensures.verdict unsatisfiable)
+
+pub returns-clause-sound_under : goal.returns-clause-sound_under
+returns-clause-sound_under g c =
+    let ordered = returns-clause-ordered g c in
+    sound_under_order c.args.formula.now (terms_of c.args.options c.args.cube.now c.args.formula.now (length c.args.readers.items)) ordered.streams c.outcome_of.result.reports.items
+    c.outcome_of.result.verdict ordered.judged c.outcome_of.ensures.verdict

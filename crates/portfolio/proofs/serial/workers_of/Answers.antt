@@ -19,7 +19,7 @@ loop-reader-preserved g c =
     let pushed = c.push_reserved.ensures in
     record {
       running = running.1;
-      started = started_pushed (terms_at c.args.layout.now c.args.tries) _ (λ x. left x.0) now.yielded item now.workers.items c.push_reserved.new.self.items c.in_ok-new.field-0 pushed.items
+      started = started_pushed (terms_at c.args.layout.now c.args.cube.now c.args.tries) _ (λ x. left x.0) now.yielded item now.workers.items c.push_reserved.new.self.items c.in_ok-new.field-0 pushed.items
           (omega (arith, now.workers.ok.0, c.len-in-loop-reader.ensures)) now.invariant.started c.in_ok-new.ensures;
       entries = taken_first (λ x. left x.0) left now.yielded item before rest reader _ steps.0.0 refl now.invariant.entries;
       count = omega (arith, pushed.len, steps.0.1, now.invariant.count);

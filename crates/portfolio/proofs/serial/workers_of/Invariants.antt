@@ -11,7 +11,7 @@ invariant-loop-reader g l =
     let rest = zip_first l.reader-iterator in
     record {
       running : AllByRecursion (λ r. g.R.Source.has_failed r ≡ false) (into_iter_items rest);
-      started : AreStarted (terms_at l.layout l.tries) 1 (map (λ x. g.R.Source.left x.0) l.yielded) l.workers.items;
+      started : AreStarted (terms_at l.layout l.cube l.tries) 1 (map (λ x. g.R.Source.left x.0) l.yielded) l.workers.items;
       entries : map (λ x. g.R.Source.left x.0) l.yielded ++ map g.R.Source.left (into_iter_items rest) ≡ map g.R.Source.left l.fn.readers.items;
       count : vec_len l.workers + into_iter_len rest ≡ vec_len l.fn.readers;
       gates : into_iter_len (zip_second l.reader-iterator) ≡ into_iter_len rest;

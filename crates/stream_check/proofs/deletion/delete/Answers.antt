@@ -57,7 +57,7 @@ returns-in-NoMemory-clause-deleted g c =
     )
 
 keeps_on : (a b c : Held) → KeepsLines a b → KeepsLines b c → KeepsLines a c
-keeps_on a b c h k = record { setting = k.setting ∙ h.setting; last = k.last ∙ h.last; added = k.added ∙ h.added; empty = k.empty ∙ h.empty; line = k.line ∙ h.line }
+keeps_on a b c h k = record { setting = k.setting ∙ h.setting; last = k.last ∙ h.last; added = k.added ∙ h.added; empty = k.empty ∙ h.empty; within = k.within ∙ h.within; line = k.line ∙ h.line }
 
 pub loop-id-preserved : goal.loop-id-preserved
 loop-id-preserved g c =

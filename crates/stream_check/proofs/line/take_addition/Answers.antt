@@ -1,3 +1,6 @@
+use Rattle.std.proofs.Common.{◌≡◌, ◌∙◌, ap}
+use Rattle.propagate.specs.Distinct.{distinct}
+use Rattle.stream_check.specs.Standing.{is_within}
 use Rattle.stream_check.specs.Checker.{standing_at}
 use Rattle.stream_check.proofs.LineLemmas.{Adds, ready_fetches, ready_publish, room_publish, takes_addition, stops_addition, above_last}
 use Rattle.stream_check.proofs.line.take_addition.Goals as goal
@@ -24,9 +27,11 @@ returns-clause-taken g c =
     let q = g.M.ClauseMap.place c.add.new.map in
     let judged = c.in_default.ensures.judged in
     let added = c.take_addition.ensures in
-    let adds : Adds old new c.args.id c.is_empty.result = record { last = added.last; added = added.added; empty = added.empty; line = added.line; dropped = added.dropped; retired = added.retired } in
+    let adds : Adds old new c.args.id c.is_empty.result c.refutes-within.result = record { last = added.last; added = added.added; empty = added.empty; within = added.within; line = added.line; dropped = added.dropped; retired = added.retired } in
     let room = room_publish old p q judged.0 c.args.id c.args.lits.now c.requires.ready.at (g.met.M.ClauseMap.moves_tells c.args.map.now c.add.new.map judged.0 judged.1) judged.2 in
-    (judged.0, judged.1, takes_addition old new p.room q.room c.args.id c.args.lits.now c.args.hints.now judged.0 c.is_empty.result adds c.is_empty.ensures room judged.3)
+    let within : c.refutes-within.result ≡ is_within old.setting.cube (distinct c.args.lits.now) =
+    c.refutes-within.ensures ∙ ap (is_within old.setting.cube) (c.clause.ensures ∙ c.add.ensures.clause c.in_default.is) in
+    (judged.0, judged.1, takes_addition old new p.room q.room c.args.id c.args.lits.now c.args.hints.now judged.0 c.is_empty.result c.refutes-within.result adds c.is_empty.ensures within room judged.3)
 
 pub returns-clause-ready : goal.returns-clause-ready
 returns-clause-ready g c =

@@ -1,10 +1,4 @@
-use Rattle.std.proofs.Common.{◌≡◌, sym, subst}
-use Rattle.stream_check.specs.Setting.{Setting}
-use Rattle.stream_check.specs.declared.held.Held.{Held}
-use Rattle.lrup_model.specs.Place.{Place, IsVacantAbove}
-use Rattle.stream_check.specs.Checking.{IsAt}
-use Rattle.stream_check.specs.Taking.{IsReady}
-use Rattle.stream_check.proofs.LineLemmas.{Counts, ready_retires, room_retires, takes_deletion, stops_deletion}
+use Rattle.stream_check.proofs.LineLemmas.{Counts, ready_retires, room_retires, takes_deletion, stops_deletion, still_ready}
 use Rattle.stream_check.proofs.line.take_deletion.Goals as goal
 
 pub returns-in-Some-clause-taken : goal.returns-in-Some-clause-taken
@@ -29,21 +23,14 @@ pub returns-clause-taken : goal.returns-clause-taken
 returns-clause-taken g c =
     let old = c.args.held.now in
     let mid = c.delete.new.held in
-    let new = c.take_deletion.new.self in
+    let new = c.pass_line.new.self in
     let p = g.M.ClauseMap.place c.args.map.now in
     let q = g.M.ClauseMap.place c.delete.new.map in
     let deleted = c.in_default.ensures.deleted in
-    let taken = c.take_deletion.ensures in
-    let counts : Counts mid new = record { line = taken.line; last = taken.last; added = taken.added; empty = taken.empty; dropped = taken.dropped; retired = taken.retired } in
+    let taken = c.pass_line.ensures in
+    let counts : Counts mid new = record { line = taken.line; last = taken.last; added = taken.added; empty = taken.empty; within = taken.within; dropped = taken.dropped; retired = taken.retired } in
     let room = room_retires p q deleted.0 (g.met.M.ClauseMap.moves_tells c.args.map.now c.delete.new.map deleted.0 deleted.1) deleted.2 in
     (deleted.0, deleted.1, λ lead. takes_deletion old mid new p.room q.room lead c.args.ids.now deleted.0 deleted.3.0 c.delete.ensures.kept counts deleted.3.1 room deleted.3.2)
-
--- the same place, for what is held with one line more
-still_ready : (mid new : Held) (q : Place) → new.setting ≡ mid.setting → new.last ≡ mid.last → IsReady mid q → IsReady new q
-still_ready mid new q setting last ready = record {
-  at = subst (λ (c : Setting). IsAt c q) (sym setting) ready.at;
-  vacant = subst (IsVacantAbove q) (sym last) ready.vacant;
-}
 
 pub returns-clause-ready : goal.returns-clause-ready
 returns-clause-ready g c =
@@ -53,4 +40,4 @@ returns-clause-ready g c =
     let q = g.M.ClauseMap.place c.delete.new.map in
     let deleted = c.in_default.ensures.deleted in
     let ready = ready_retires old mid p q deleted.0 (g.met.M.ClauseMap.moves_tells c.args.map.now c.delete.new.map deleted.0 deleted.1) deleted.2 c.delete.ensures.kept.setting c.delete.ensures.kept.last c.requires.ready in
-    still_ready mid c.take_deletion.new.self q c.take_deletion.ensures.setting c.take_deletion.ensures.last ready
+    still_ready mid c.pass_line.new.self q c.pass_line.ensures.setting c.pass_line.ensures.last ready

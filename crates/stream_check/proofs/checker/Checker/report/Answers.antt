@@ -9,7 +9,7 @@ use Rattle.stream_check.proofs.checker.Checker.report.Goals as goal
 pub returns : goal.returns
 returns c =
     let h = c.self.inside.held in
-    let said : ℕ → Report = λ n. record { added = h.added; deleted = n; empty = h.empty; ending = c.unwrap.result } in
+    let said : ℕ → Report = λ n. record { added = h.added; deleted = n; empty = h.empty; within = h.within; ending = c.unwrap.result } in
     let deleted : c.saturating_add.result ≡ deleted_at h = omega arith in
     let inside : IfSome c.self.inside.ending (λ (e : Ending). said c.saturating_add.result ≡ report_at (tally_at h) e) =
     subst (λ (o : Option Ending). IfSome o (λ (e : Ending). said c.saturating_add.result ≡ report_at (tally_at h) e)) (sym c.unwrap.ensures) (ap said deleted) in

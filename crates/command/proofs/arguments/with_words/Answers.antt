@@ -1,0 +1,47 @@
+use Rattle.std.proofs.Common.{◌≡◌, List, inr, map, rules, string_bytes, subst, sym}
+use Rattle.clap.specs.Walk.{texts}
+use Rattle.command_line.specs.CommandLine.{HaveFault}
+use Rattle.command.specs.Arguments.{words_after_name}
+use Rattle.command.specs.Commands.{NameUnsatisfiable, NameUnsatisfiableUnder, Text, files_view}
+use Rattle.command.proofs.WordLemmas.{read_all}
+use Rattle.command.specs.declared.fault.CommandFault.TheVariants as faults
+use Rattle.command.proofs.arguments.with_words.Given
+use Rattle.command.proofs.arguments.with_words.Goals as goal
+
+pub returns-in_default-clause-ends : goal.returns-in_default-clause-ends
+returns-in_default-clause-ends g c = inr (record {
+  fault = faults.Memory;
+  cause = tt;
+  untouched = record { written = search rules; failed = c.requires.out };
+  said = c.say.ensures.said;
+  status_is = c.say.ensures.status;
+})
+
+pub returns-in_default-words_of-clause-ends : goal.returns-in_default-words_of-clause-ends
+returns-in_default-words_of-clause-ends g c = inr (record {
+  fault = faults.Memory;
+  cause = tt;
+  untouched = record { written = search rules; failed = c.requires.out };
+  said = c.say-in_default-words_of.ensures.said;
+  status_is = c.say-in_default-words_of.ensures.status;
+})
+
+-- the words are those of the arguments
+same_words : (g : Given.Over) (c : goal.After-drop-arguments-2 g) → texts c.deref-2.result.now ≡ words_after_name c.args.arguments
+same_words g c = read_all texts (map string_bytes) c.deref-2.result.now c.in-Ok-words_of.words.items c.deref.result.now c.in-Ok.arguments.items _
+    c.deref-2.ensures.value c.in-Ok-words_of.ensures c.deref.ensures.value c.in-Ok.ensures
+
+pub returns-clause-sound : goal.returns-clause-sound
+returns-clause-sound g c zero =
+    let view = files_view (g.F.Files.tells c.args.files.now) (g.F.Files.may_refuse c.args.files.now)
+    g.F.Input.Source.left g.F.Input.Source.has_failed (g.F.Files.opens c.args.files.now) g.F.Input.Source.reads in
+    subst (λ (words : List Text). NameUnsatisfiable g.row.F-Input.Denot view words) (same_words g c) (c.command.ensures.sound zero)
+
+pub returns-clause-sound_under : goal.returns-clause-sound_under
+returns-clause-sound_under g c eight =
+    let view = files_view (g.F.Files.tells c.args.files.now) (g.F.Files.may_refuse c.args.files.now)
+    g.F.Input.Source.left g.F.Input.Source.has_failed (g.F.Files.opens c.args.files.now) g.F.Input.Source.reads in
+    subst (λ (words : List Text). NameUnsatisfiableUnder g.row.F-Input.Denot view words) (same_words g c) (c.command.ensures.sound_under eight)
+
+pub returns-clause-usage : goal.returns-clause-usage
+returns-clause-usage g c fault = c.command.ensures.usage (subst HaveFault (sym (same_words g c)) fault)

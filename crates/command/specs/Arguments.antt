@@ -1,0 +1,42 @@
+-- The arguments that the program is started with (this project's own).
+use Rattle.std.specs.Prelude.{◌≡◌, ℕ, List, codes, drop, map, string_bytes}
+use Rattle.std.specs.Vec.Iter.{into_iter_items}
+use Rattle.std.specs.declared.alloc.Global.{Global}
+use Rattle.std.specs.declared.io.ErrorKind.{ErrorKind}
+use Rattle.std.specs.declared.io.ErrorKind.TheVariants as kinds
+use Rattle.std.specs.declared.string.String.{String}
+use Rattle.std.specs.declared.vec.IntoIter.{IntoIter}
+use Rattle.command.specs.Commands.{IsUntouched, SinkChange, Takes, Text}
+use Rattle.command.specs.Faults.{status_of, text_of}
+use Rattle.command.specs.declared.fault.CommandFault.TheVariants as faults
+use Rattle.command.specs.declared.files.OpenFault.{OpenFault}
+use Rattle.command.specs.declared.files.OpenFault.TheVariants as opens
+
+-- the words: the bytes of each argument after the first, which is the program's name
+abbrev pub words_after_name : IntoIter (String Global) Global → List Text
+words_after_name arguments = map string_bytes (drop 1 (into_iter_items arguments))
+
+-- what is said of an argument that isn't UTF-8, in the words of the command line's reader
+abbrev pub not_utf8 : List ℕ
+not_utf8 = codes "error: invalid UTF-8 was detected in one or more arguments\n"
+
+-- what is said where the system gives no arguments, and the status: memory ran out, or one of
+-- them isn't UTF-8
+abbrev pub refusal_text : ErrorKind → List ℕ
+refusal_text kinds.OutOfMemory = text_of faults.Memory
+refusal_text kind = not_utf8
+
+abbrev pub refusal_status : ErrorKind → ℕ
+refusal_status kinds.OutOfMemory = status_of faults.Memory
+refusal_status kind = 2
+
+-- The program ends without arguments, and says why.
+pub record EndsWithoutArguments (kind : ErrorKind) (out err : SinkChange) (status : ℕ) : Type 0 where
+  pub untouched : IsUntouched out
+  pub said : Takes err (refusal_text kind)
+  pub status_is : status ≡ refusal_status kind
+
+-- why the system didn't open a file
+abbrev pub of_kind : ErrorKind → OpenFault
+of_kind kinds.OutOfMemory = opens.Memory
+of_kind kind = opens.NotOpened

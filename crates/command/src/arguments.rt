@@ -1,0 +1,159 @@
+//! The program, with the arguments that the system gives it.
+ghost use Rattle.std.specs.Prelude.{◌≡◌, ◌↔◌, ◌⊎◌, IfErr, IfOk, IsOkAnd, IsTrue, drop, false, map, string_bytes};
+ghost use Rattle.std.specs.IoError.{error_kind};
+ghost use Rattle.std.specs.Process.{exit_status};
+ghost use Rattle.std.specs.Vec.Iter.{into_iter_items};
+ghost use Rattle.clap.specs.Walk.{texts};
+ghost use Rattle.command_line.specs.CommandLine.{HaveFault};
+ghost use Rattle.command.specs.Arguments.{EndsWithoutArguments, not_utf8, refusal_status, refusal_text};
+ghost use Rattle.command.specs.Arguments.{words_after_name};
+ghost use Rattle.command.specs.Commands.{EndsWithFault, EndsWithReport, NameUnsatisfiable, NameUnsatisfiableUnder};
+ghost use Rattle.command.specs.Commands.{Takes, change, files_view};
+
+use crate::fault::CommandFault;
+use crate::files::Files;
+use crate::program::{command, say};
+use lrup_text::{Sink, write_all};
+use std::alloc::{AllocError, Global};
+use std::env::Args;
+use std::io;
+use std::process::ExitCode;
+use std::sync::Wait;
+use std::thread::Threads;
+use std::time::Clock;
+
+/// Runs `command` with the program's arguments, of which the first is its name, and gives the exit status. Where the system
+/// gives none, `err` gets the cause: out of memory, with status 6, or an argument that isn't UTF-8, with status 2.
+pub fn command_with_arguments<
+    T: Threads + Wait + Sync,
+    C: Clock + Sync,
+    F: Files,
+    O: Sink,
+    E: Sink,
+>(
+    threads: &T,
+    clock: &C,
+    alloc: Global,
+    arguments: io::Result<Args>,
+    files: &mut F,
+    out: &mut O,
+    err: &mut E,
+) -> ExitCode
+    requires out { O.has_failed out.old ≡ false }
+    requires err { E.has_failed err.old ≡ false }
+    // What a user relies on: with status 0 the bytes that were read of FORMULA are a text of a formula that no assignment satisfies.
+    ensures sound { let view = files_view (F.tells files.old) (F.may_refuse files.old)
+        F.Input.Source.left F.Input.Source.has_failed (F.opens files.old) F.Input.Source.reads in
+        exit_status result ≡ 0
+        → IsOkAnd arguments (λ given. NameUnsatisfiable _ view (words_after_name given)) }
+    // With status 8 no assignment makes it and every literal of the assumed ones' file true.
+    ensures sound_under { let view = files_view (F.tells files.old) (F.may_refuse files.old)
+        F.Input.Source.left F.Input.Source.has_failed (F.opens files.old) F.Input.Source.reads in
+        exit_status result ≡ 8
+        → IsOkAnd arguments (λ given. NameUnsatisfiableUnder _ view (words_after_name given)) }
+    // A report of what the words and the files come to, or none and the cause; what goes out; and the status.
+    ensures ends { let view = files_view (F.tells files.old) (F.may_refuse files.old)
+        F.Input.Source.left F.Input.Source.has_failed (F.opens files.old) F.Input.Source.reads in
+        let output = change (O.written out.old) (O.written out.new) (O.has_failed out.new) in
+        let errors = change (E.written err.old) (E.written err.new) (E.has_failed err.new) in
+        IfOk arguments (λ given.
+        EndsWithReport _ view (words_after_name given) output errors (exit_status result)
+        ⊎ EndsWithFault _ view (words_after_name given) output errors (exit_status result)) }
+    // No arguments, and the cause.
+    ensures refused { IfErr arguments (λ error. EndsWithoutArguments (error_kind error)
+        (change (O.written out.old) (O.written out.new) (O.has_failed out.new))
+        (change (E.written err.old) (E.written err.new) (E.has_failed err.new))
+        (exit_status result)) }
+    // Words with a fault have a status of their own, unless memory ran out.
+    ensures usage { IfOk arguments (λ given. HaveFault (words_after_name given)
+        → (exit_status result ≡ 2) ⊎ (exit_status result ≡ 6)) }
+    // So does a report that wasn't written.
+    ensures unwritten { IsTrue (O.has_failed out.new) ↔ (exit_status result ≡ 7) }
+{
+    match arguments {
+        Ok(arguments) => {
+            let status = with_words(threads, clock, alloc, arguments, files, out, err);
+            ExitCode::from(status)
+        }
+        Err(error) => ExitCode::from(refuse(error.kind(), err)),
+    }
+}
+
+/// Runs `command` with the words of the arguments after the first.
+fn with_words<T: Threads + Wait + Sync, C: Clock + Sync, F: Files, O: Sink, E: Sink>(
+    threads: &T,
+    clock: &C,
+    alloc: Global,
+    arguments: Args,
+    files: &mut F,
+    out: &mut O,
+    err: &mut E,
+) -> u8
+    requires out { O.has_failed out.old ≡ false }
+    requires err { E.has_failed err.old ≡ false }
+    ensures sound { let view = files_view (F.tells files.old) (F.may_refuse files.old)
+        F.Input.Source.left F.Input.Source.has_failed (F.opens files.old) F.Input.Source.reads in
+        result ≡ 0 → NameUnsatisfiable _ view (words_after_name arguments) }
+    ensures sound_under { let view = files_view (F.tells files.old) (F.may_refuse files.old)
+        F.Input.Source.left F.Input.Source.has_failed (F.opens files.old) F.Input.Source.reads in
+        result ≡ 8 → NameUnsatisfiableUnder _ view (words_after_name arguments) }
+    ensures ends { let view = files_view (F.tells files.old) (F.may_refuse files.old)
+        F.Input.Source.left F.Input.Source.has_failed (F.opens files.old) F.Input.Source.reads in
+        let output = change (O.written out.old) (O.written out.new) (O.has_failed out.new) in
+        let errors = change (E.written err.old) (E.written err.new) (E.has_failed err.new) in
+        EndsWithReport _ view (words_after_name arguments) output errors result
+        ⊎ EndsWithFault _ view (words_after_name arguments) output errors result }
+    ensures usage { HaveFault (words_after_name arguments) → (result ≡ 2) ⊎ (result ≡ 6) }
+    ensures unwritten { IsTrue (O.has_failed out.new) ↔ (result ≡ 7) }
+{
+    let Ok(arguments) = after_name(alloc, arguments) else {
+        return say(&CommandFault::Memory, err);
+    };
+    let Ok(words) = words_of(alloc, &arguments) else {
+        return say(&CommandFault::Memory, err);
+    };
+    command(threads, clock, alloc, &words, files, out, err)
+}
+
+/// The arguments after the program's name.
+fn after_name(alloc: Global, arguments: Args) -> Result<Vec<String>, AllocError>
+    ensures { IfOk result (λ rest. rest.items ≡ drop 1 (into_iter_items arguments)) }
+{
+    arguments.skip(1).collect(alloc)
+}
+
+/// The arguments, as they are read.
+fn words_of<'a>(alloc: Global, arguments: &'a [String]) -> Result<Vec<&'a str>, AllocError>
+    ensures { IfOk result (λ words. texts words.items ≡ map string_bytes arguments.now) }
+{
+    let mut words = Vec::with_capacity(alloc, arguments.len())?;
+    for argument in arguments {
+        words.push_reserved(argument.as_str());
+    }
+    Ok(words)
+}
+
+/// Says why the system gave no arguments, and gives the status.
+fn refuse<E: Sink>(kind: io::ErrorKind, err: &mut E) -> u8
+    requires err { E.has_failed err.old ≡ false }
+    ensures said { Takes (change (E.written err.old) (E.written err.new) (E.has_failed err.new))
+        (refusal_text kind) }
+    ensures status { result ≡ refusal_status kind }
+{
+    match kind {
+        io::ErrorKind::OutOfMemory => say(&CommandFault::Memory, err),
+        _ => say_not_utf8(err),
+    }
+}
+
+/// Says that an argument isn't UTF-8, and gives the status.
+fn say_not_utf8<E: Sink>(err: &mut E) -> u8
+    requires err { E.has_failed err.old ≡ false }
+    ensures said { Takes (change (E.written err.old) (E.written err.new) (E.has_failed err.new))
+        not_utf8 }
+    ensures status { result ≡ 2 }
+{
+    let text = b"error: invalid UTF-8 was detected in one or more arguments\n";
+    let _ = write_all(text, err);
+    2
+}

@@ -1,0 +1,78 @@
+//! Runs with the arguments that the system gives, the program's name first; and why it opened no file.
+use super::*;
+use command::command_with_arguments;
+use std::env::Args;
+use std::io;
+use std::process::ExitCode;
+
+fn arguments_of(alloc: Global, texts: &[&str]) -> Result<Args, Fail> {
+    let mut arguments = Vec::new(alloc);
+    for text in texts {
+        arguments.push(String::from_str(alloc, text)?)?;
+    }
+    Ok(arguments.into_iter())
+}
+
+/// The run over the worked formula and a proof of it ends so.
+fn assert_exits<T: Threads + Wait + Sync + Clock + Abort>(
+    rt: &T,
+    alloc: Global,
+    arguments: io::Result<Args>,
+    want: (&str, &str, u8),
+) -> Result<(), Fail> {
+    let mut files = shelf_of(alloc, FOUR, &["5 2 0 1 2 0\n6 0 5 3 4 0\n", ""])?;
+    let mut out = Paper::new(alloc, 7, 0);
+    let mut err = Paper::new(alloc, 7, 0);
+    let code = command_with_arguments(rt, rt, alloc, arguments, &mut files, &mut out, &mut err);
+    let (report, cause, status) = want;
+    let wrote = (out.bytes.as_slice(), err.bytes.as_slice(), code);
+    let wanted = (report.as_bytes(), cause.as_bytes(), ExitCode::from(status));
+    same(rt, wrote, wanted);
+    Ok(())
+}
+
+#[test]
+fn a_run_with_arguments(rt: HostRuntime) -> Result<(), Fail> {
+    let refuted = "c stream 1: 2 added, 0 deleted, ended\ns UNSATISFIABLE\n";
+    let unknown = "c stream 1: 0 added, 0 deleted, ended\ns UNKNOWN\n";
+    for (texts, report, status) in [
+        (["lrupd", "f", "1"], refuted, 0),
+        (["lrupd", "f", "2"], unknown, 3),
+        (["--room", "f", "1"], refuted, 0),
+        (["", "f", "1"], refuted, 0),
+    ] {
+        let arguments = Ok(arguments_of(rt.alloc(), &texts)?);
+        assert_exits(&rt, rt.alloc(), arguments, (report, "", status))?;
+    }
+    let arguments = Ok(arguments_of(rt.alloc(), &["lrupd", "g", "1"])?);
+    let cause = "lrupd: cannot read formula\n";
+    assert_exits(&rt, rt.alloc(), arguments, ("", cause, 5))
+}
+
+#[test]
+fn arguments_that_the_system_refuses(rt: HostRuntime) -> Result<(), Fail> {
+    for (kind, cause, status) in [
+        (io::ErrorKind::OutOfMemory, "lrupd: out of memory\n", 6),
+        (
+            io::ErrorKind::InvalidData,
+            "error: invalid UTF-8 was detected in one or more arguments\n",
+            2,
+        ),
+    ] {
+        let arguments = Err(io::Error::from(kind));
+        assert_exits(&rt, rt.alloc(), arguments, ("", cause, status))?;
+    }
+    Ok(())
+}
+
+#[test]
+fn files_that_the_system_does_not_open(rt: HostRuntime) {
+    for (kind, wanted) in [
+        (io::ErrorKind::OutOfMemory, OpenFault::Memory),
+        (io::ErrorKind::NotFound, OpenFault::NotOpened),
+        (io::ErrorKind::PermissionDenied, OpenFault::NotOpened),
+        (io::ErrorKind::IsADirectory, OpenFault::NotOpened),
+    ] {
+        same(&rt, OpenFault::from(io::Error::from(kind)), wanted);
+    }
+}

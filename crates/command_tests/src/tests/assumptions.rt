@@ -1,0 +1,199 @@
+//! Runs under assumed literals: the worked rows, the faults of their file, and when it is read.
+use super::*;
+
+/// 1 2 0 / -1 2 0
+const TWO: &str = "p cnf 2 2\n1 2 0\n-1 2 0\n";
+
+const UNIT: &str = "3 2 0 1 2 0\n";
+
+/// The formula at `f`, the streams at `1` and so on, and the text of the assumed literals at `a`.
+fn shelf_under<'a>(
+    alloc: Global,
+    formula: &'a str,
+    streams: &[&'a str],
+    assumed: &'a str,
+) -> Result<Shelf<'a>, Fail> {
+    let mut files = shelf_of(alloc, formula, streams)?;
+    files.entries.push(Entry {
+        path: "a",
+        text: assumed,
+        fails_at: 0,
+    })?;
+    Ok(files)
+}
+
+/// A run under assumed literals: with a thread for each stream, and on one thread.
+fn ends_under<'a, T: Threads + Wait + Sync + Clock + Abort>(
+    rt: &T,
+    alloc: Global,
+    formula: &'a str,
+    streams: &[&'a str],
+    assumed: &'a str,
+    want: (&str, &str, u8),
+) -> Result<(), Fail> {
+    for option in ["--serial", "--tries=1000"] {
+        let mut words = vec![in alloc; option, "--assume", "a", "f"]?;
+        words.extend_from_slice(&PATHS[..streams.len().min(9)])?;
+        let mut files = shelf_under(alloc, formula, streams, assumed)?;
+        assert_ends(rt, alloc, &words, &mut files, want);
+    }
+    Ok(())
+}
+
+const UNDER: &str = "c stream 1: 1 added, 0 deleted, ended\ns UNSATISFIABLE UNDER ASSUMPTIONS\n";
+
+const UNKNOWN: &str = "c stream 1: 1 added, 0 deleted, ended\ns UNKNOWN\n";
+
+#[test]
+fn worked_rows_under_assumptions(rt: HostRuntime) -> Result<(), Fail> {
+    let range = "lrupd: assumptions refused: variable out of range\n";
+    let spelling = "lrupd: assumptions refused: spelling\n";
+    for (assumed, want) in [
+        ("-2 0\n", (UNDER, "", 8)),
+        ("-2 1 -2 0\n", (UNDER, "", 8)),
+        ("2 0\n", (UNKNOWN, "", 3)),
+        ("0\n", (UNKNOWN, "", 3)),
+        ("1 -1 0\n", (UNKNOWN, "", 3)),
+        ("3 0\n", ("", range, 4)),
+        ("-2 0", ("", spelling, 4)),
+        ("+2 0\n", ("", spelling, 4)),
+    ] {
+        ends_under(&rt, rt.alloc(), TWO, &[UNIT], assumed, want)?;
+    }
+    Ok(())
+}
+
+/// The empty clause decides before a clause within the cube, in whichever stream; and any stream's clause does.
+#[test]
+fn any_stream_decides(rt: HostRuntime) -> Result<(), Fail> {
+    let refuted = "c stream 1: 2 added, 0 deleted, ended\ns UNSATISFIABLE\n";
+    let two = "c stream 1: 1 added, 0 deleted, ended
+c stream 2: 2 added, 0 deleted, ended
+s UNSATISFIABLE
+";
+    let second = "c stream 1: 0 added, 0 deleted, bad line 1 (no conflict)
+c stream 2: 1 added, 0 deleted, ended
+s UNSATISFIABLE UNDER ASSUMPTIONS
+";
+    let later = "c stream 1: 1 added, 0 deleted, bad line 2 (no conflict)
+s UNSATISFIABLE UNDER ASSUMPTIONS
+";
+    let rows: [(&[&str], &str, u8); 4] = [
+        (&["5 2 0 1 2 0\n6 0 5 3 4 0\n"], refuted, 0),
+        (&["5 2 0 1 2 0\n", "6 2 0 1 2 0\n8 0 6 3 4 0\n"], two, 0),
+        (&["5 2 0 1 0\n", "6 2 0 1 2 0\n"], second, 8),
+        (&["5 2 0 1 2 0\n6 1 0 1 0\n"], later, 8),
+    ];
+    for (streams, out, status) in rows {
+        ends_under(&rt, rt.alloc(), FOUR, streams, "-2 0\n", (out, "", status))?;
+    }
+    Ok(())
+}
+
+#[test]
+fn texts_of_assumptions_that_are_refused(rt: HostRuntime) -> Result<(), Fail> {
+    for (assumed, cause) in [
+        ("", "spelling"),
+        ("\n", "spelling"),
+        ("-2 0\n\n", "spelling"),
+        ("-2 0\n1 0\n", "spelling"),
+        ("-2 0\r\n", "spelling"),
+        ("-2  0\n", "spelling"),
+        ("02 0\n", "spelling"),
+        ("-0 0\n", "spelling"),
+        ("3 0", "spelling"),
+        ("3 +2 0\n", "spelling"),
+        ("999999999999999999 0\n", "variable out of range"),
+        ("1000000000000000000 0\n", "too long"),
+    ] {
+        let text = format!(in rt.alloc(); "lrupd: assumptions refused: {cause}\n")?;
+        ends_under(
+            &rt,
+            rt.alloc(),
+            TWO,
+            &[UNIT],
+            assumed,
+            ("", text.as_str(), 4),
+        )?;
+    }
+    Ok(())
+}
+
+/// So many literals `-2`, and the end of the line.
+fn many(alloc: Global, count: usize) -> Result<String, Fail> {
+    let mut text = String::new(alloc);
+    for _ in 0..count {
+        text.push_str("-2 ")?;
+    }
+    text.push_str("0\n")?;
+    Ok(text)
+}
+
+#[test]
+fn the_most_assumed_literals(rt: HostRuntime) -> Result<(), Fail> {
+    let most = many(rt.alloc(), 65_535)?;
+    ends_under(&rt, rt.alloc(), TWO, &[UNIT], most.as_str(), (UNDER, "", 8))?;
+    let more = many(rt.alloc(), 65_536)?;
+    let fault = "lrupd: assumptions refused: too long\n";
+    ends_under(&rt, rt.alloc(), TWO, &[UNIT], more.as_str(), ("", fault, 4))
+}
+
+/// The run ends with this fault, and opened or asked for these files.
+fn assert_opened<T: Threads + Wait + Sync + Clock + Abort>(
+    rt: &T,
+    alloc: Global,
+    words: &[&str],
+    files: &mut Shelf<'_>,
+    want: (&str, u8, &str),
+) -> Result<(), Fail> {
+    let (line, status, opened) = want;
+    let text = format!(in alloc; "lrupd: {line}\n")?;
+    assert_ends(rt, alloc, words, files, ("", text.as_str(), status));
+    same(rt, (words, files.opened.as_str()), (words, opened));
+    Ok(())
+}
+
+/// Their file is read after the formula was parsed, and before a stream is opened: of two faults the earlier is told.
+#[test]
+fn cube_read_after_the_streams(rt: HostRuntime) -> Result<(), Fail> {
+    let words = ["--assume", "a", "f", "no"];
+    let spelling = "assumptions refused: spelling";
+    for (formula, assumed, want) in [
+        (TWO, "2", (spelling, 4, "f a ")),
+        (TWO, "2 0\n", ("cannot open stream 1", 5, "f a no ")),
+        ("p cnf 1\n", "2", ("formula refused: bad header", 4, "f ")),
+    ] {
+        let mut files = shelf_under(rt.alloc(), formula, &[], assumed)?;
+        assert_opened(&rt, rt.alloc(), &words, &mut files, want)?;
+    }
+    Ok(())
+}
+
+#[test]
+fn assumptions_that_are_not_read(rt: HostRuntime) -> Result<(), Fail> {
+    let unread = "cannot read assumptions";
+    let mut files = shelf_of(rt.alloc(), TWO, &[UNIT])?;
+    let words = ["--assume", "no", "f", "1"];
+    assert_opened(&rt, rt.alloc(), &words, &mut files, (unread, 5, "f no "))?;
+    let words = ["--assume", "a", "f", "1"];
+    for read in [1, 2] {
+        let mut files = shelf_under(rt.alloc(), TWO, &[UNIT], "-2 0\n")?;
+        files.fail_at("a", read);
+        assert_opened(&rt, rt.alloc(), &words, &mut files, (unread, 5, "f a "))?;
+    }
+    let mut files = shelf_of(rt.alloc(), "p cnf", &[])?;
+    let words = ["--assume", "no", "f", "1"];
+    let refused = "formula refused: bad header";
+    assert_opened(&rt, rt.alloc(), &words, &mut files, (refused, 4, "f "))
+}
+
+/// The file of the formula, or of a stream, may be that of the assumed literals too: it is opened for each.
+#[test]
+fn each_word_opens_its_file(rt: HostRuntime) -> Result<(), Fail> {
+    let mut files = shelf_of(rt.alloc(), TWO, &["0\n"])?;
+    let said = "c stream 1: 0 added, 0 deleted, bad line 1 (spelling)\ns UNKNOWN\n";
+    let words = ["--assume", "1", "f", "1"];
+    assert_ends(&rt, rt.alloc(), &words, &mut files, (said, "", 3));
+    same(&rt, files.opened.as_str(), "f 1 1 ");
+    Ok(())
+}

@@ -1,0 +1,173 @@
+-- Where a report says 'within', its stream published a clause within the cube, and the formula is unsatisfiable under it.
+use Rattle.std.proofs.Common.{◌≡◌, ℕ, ℤ, Bool, true, false, List, [], ◌∷◌, ◌++◌, ◌+◌, inl, inr, refl, sym, ap, subst, ◌∙◌}
+use Rattle.std.specs.Prelude.{◌||◌, IsTrue, if◌then◌else◌}
+use Rattle.std.specs.List.{list_any}
+use Rattle.std.proofs.lemmas.Bool.{cases_Bool}
+use Rattle.std.proofs.lemmas.Grind.{flat_map-append}
+use Rattle.lrup_model.specs.Clause.{Clause}
+use Rattle.lrup_model.specs.Formula.{Cnf}
+use Rattle.lrup_model.specs.Cube.{CubeValue, IsUnsatisfiableUnder}
+use Rattle.lrup_model.specs.CubeLemmas.{within_refutes}
+use Rattle.lrup_model.specs.Layout.{LayoutValue}
+use Rattle.lrup_model.specs.Event as events
+use Rattle.lrup_model.specs.Event.{Event, History, own}
+use Rattle.lrup_model.specs.State.{State, opening, after}
+use Rattle.lrup_model.specs.History.{LegalFrom, IsLegal, IsPublishable}
+use Rattle.lrup_model.specs.declared.clause_map.Published.TheVariants as publishing
+use Rattle.lrup_text.specs.Lines.{StreamLine, Addition, Deletion, Import}
+use Rattle.stream_check.specs.declared.fault.Fault.TheVariants as faults
+use Rattle.stream_check.specs.declared.report.Report.{Report}
+use Rattle.stream_check.specs.Setting.{Setting}
+use Rattle.stream_check.specs.Standing.{Standing, adds_within, is_within}
+use Rattle.stream_check.specs.CubeLemmas.{is_within-decides}
+use Rattle.stream_check.specs.Verdicts.{Good}
+use Rattle.stream_check.specs.Additions.{published_by}
+use Rattle.stream_check.specs.Judging.{JudgesLine, AreGood, joined, EndsAfter, StreamEnd, ended, failed, JudgesBlocks}
+use Rattle.runs.specs.Streams.{Stop, at_end, at_failure, early, Stream, JudgesTo, JudgesStream, Block, blocks_of, events_in, AreJudged, IsOrdered, Terms, setting_of}
+use Rattle.runs.specs.Headline.{AreJudgedIn}
+use Rattle.portfolio.specs.declared.outcome.Verdict.{Verdict}
+use Rattle.portfolio.specs.declared.outcome.Verdict.TheVariants.{Unsatisfiable, UnsatisfiableUnder, Unknown}
+use Rattle.portfolio.specs.Outcomes.{verdict_of}
+use Rattle.portfolio.proofs.EmptyLemmas.{or_left, any_front, any_back, any_filtered, any_block, fails_not, hints_publish}
+
+-- the event published a clause within the cube
+abbrev publishes_within : CubeValue → Event → Bool
+publishes_within cube (events.fetch s id r) = false
+publishes_within cube (events.publish s id c publishing.Done) = is_within cube c
+publishes_within cube (events.publish s id c publishing.Taken) = false
+publishes_within cube (events.retire s id r) = false
+
+-- ---- the lines of a stream
+
+-- a good addition of a clause within the cube publishes it
+within_line : (c : Setting) (st : Standing) (id : ℕ) (lits : List ℤ) (hints : List ℕ) (es : History)
+    → JudgesLine c st (Addition id lits hints) es Good → adds_within c.cube (Addition id lits hints) ≡ true → list_any (publishes_within c.cube) es ≡ true
+within_line c st id lits hints es (inl bad) is = absurd (fails_not faults.Identity es bad.1)
+within_line c st id lits hints es (inr (a, inl bad)) is = absurd (fails_not faults.Literal es bad.1)
+within_line c st id lits hints es (inr (a, inr (b, inl bad))) is = absurd (fails_not faults.Tautology es bad.1)
+within_line c st id lits hints es (inr (a, inr (b, inr (d, inl bad)))) is = absurd (fails_not faults.NoRoom es bad.1)
+within_line c st id lits hints es (inr (a, inr (b, inr (d, inr (e, judged))))) is =
+    hints_publish (publishes_within c.cube) c st.gone (published_by c id lits) is _ hints es judged
+
+lines_publish : (c : Setting) (before lines : List StreamLine) (blocks : List History) → AreGood c before lines blocks → list_any (adds_within c.cube) lines ≡ true
+    → list_any (publishes_within c.cube) (joined blocks) ≡ true
+lines_publish c before [] [] good e = absurd (let f : false ≡ true = e in cc)
+lines_publish c before [] (block ∷ blocks) good e = absurd good
+lines_publish c before (line ∷ lines) [] good e = absurd good
+lines_publish c before (Deletion lead ids ∷ lines) (block ∷ blocks) good e = any_back (publishes_within c.cube) block (joined blocks) (lines_publish c _ lines blocks good.1 e)
+lines_publish c before (Import id lits ∷ lines) (block ∷ blocks) good e = any_back (publishes_within c.cube) block (joined blocks) (lines_publish c _ lines blocks good.1 e)
+lines_publish c before (Addition id lits hints ∷ lines) (block ∷ blocks) good e =
+    elim (cases_Bool (adds_within c.cube (Addition id lits hints))) [
+      | inl yes' ↦ any_front (publishes_within c.cube) block (joined blocks) (within_line c _ id lits hints block good.0 yes')
+      | inr none ↦ any_back (publishes_within c.cube) block (joined blocks)
+          (lines_publish c _ lines blocks good.1 (ap (λ b. b || list_any (adds_within c.cube) lines) (sym none) ∙ e))
+    ]
+
+-- the report tells of the good lines alone
+said_within : (c : Setting) (lines : List StreamLine) (rest : List ℕ) (end : StreamEnd) (back : List History) (report : Report) → EndsAfter c lines rest end back report
+    → report.within ≡ list_any (adds_within c.cube) lines
+said_within c lines rest end back report (inl line) = ap (λ (r : Report). r.within) line.says
+said_within c lines rest end back report (inr (inl text)) = ap (λ (r : Report). r.within) text.says
+said_within c lines rest end back report (inr (inr (inl memory))) = ap (λ (r : Report). r.within) memory.says
+said_within c lines rest end back report (inr (inr (inr ending))) = ap (λ (r : Report). r.within) ending.says
+
+-- where the report says 'within', one of the events published a clause within the cube
+within_is_published : (c : Setting) (bytes : List ℕ) (end : StreamEnd) (blocks : List History) (report : Report)
+    → JudgesBlocks c bytes end blocks report → IsTrue report.within → IsTrue (list_any (publishes_within c.cube) (joined blocks))
+within_is_published c bytes end blocks report judged is =
+    let said = said_within c judged.lines judged.rest end judged.back report judged.ends in
+    let front = lines_publish c [] judged.lines judged.front judged.begins.good (sym said ∙ is) in
+    ap (λ bs. list_any (publishes_within c.cube) (joined bs)) judged.split
+    ∙ ap (list_any (publishes_within c.cube)) (flat_map-append (λ (block : History). block) judged.front judged.back)
+    ∙ any_front (publishes_within c.cube) (joined judged.front) (joined judged.back) front
+
+stream_publishes : (c : Setting) (stop : Stop) (bytes : List ℕ) (blocks : List History) (report : Report)
+    → JudgesTo stop c bytes blocks report → IsTrue report.within → IsTrue (list_any (publishes_within c.cube) (joined blocks))
+stream_publishes c at_end bytes blocks report judged is = within_is_published c bytes ended blocks report judged is
+stream_publishes c at_failure bytes blocks report judged is = within_is_published c bytes failed blocks report judged is
+stream_publishes c early bytes blocks report judged is = within_is_published c bytes ended blocks report judged.1 is
+
+-- ---- the formula under the cube
+
+-- either the first event published a clause within the cube, or a later one
+refutes_either : (f : Cnf) (cube : CubeValue) (c : Clause) (later : Bool) → IsPublishable f c → (is_within cube c || later) ≡ true
+    → (later ≡ true → IsUnsatisfiableUnder f cube) → IsUnsatisfiableUnder f cube
+refutes_either f cube c later publishable h rest =
+    elim (cases_Bool (is_within cube c)) [
+      | inl yes' ↦ within_refutes f c cube (publishable.clause, publishable.follows) ((is_within-decides cube c).0 yes')
+      | inr none ↦ rest (ap (λ b. b || later) (sym none) ∙ h)
+    ]
+
+refuted_from : (f : Cnf) (p : LayoutValue) (cube : CubeValue) (m : State) (es : History) → LegalFrom f p m es → list_any (publishes_within cube) es ≡ true → IsUnsatisfiableUnder f cube
+refuted_from f p cube m [] legal h = absurd (let e : false ≡ true = h in cc)
+refuted_from f p cube m (events.fetch s id r ∷ es) legal h = refuted_from f p cube m es legal.2 h
+refuted_from f p cube m (events.publish s id c publishing.Taken ∷ es) legal h = refuted_from f p cube m es legal.2 h
+refuted_from f p cube m (events.retire s id r ∷ es) legal h = refuted_from f p cube _ es legal.2 h
+refuted_from f p cube m (events.publish s id c publishing.Done ∷ es) legal h =
+    refutes_either f cube c (list_any (publishes_within cube) es) legal.1.1 h (refuted_from f p cube (after m (events.publish s id c publishing.Done)) es legal.2)
+
+-- So where a stream's events are its own of a legal history, and its report says 'within', the formula is unsatisfiable under the cube.
+sound : (f : Cnf) (p : LayoutValue) (h : History) (c : Setting) (stream : Stream) (blocks : List History) (report : Report)
+    → IsLegal f p h → own h c.stream ≡ joined blocks → JudgesStream c stream blocks report → IsTrue report.within → IsUnsatisfiableUnder f c.cube
+sound f p h c stream blocks report legal mine judged is =
+    let published = stream_publishes c stream.stop stream.bytes blocks report judged is in
+    refuted_from f p c.cube (opening f) h legal.events
+    (any_filtered (publishes_within c.cube) _ h (ap (list_any (publishes_within c.cube)) mine ∙ published))
+
+-- So it is where the stream's blocks stand in an order of lines that is legal.
+sound_in_order : (f : Cnf) (p : LayoutValue) (order : List Block) (s : ℕ) (c : Setting) (stream : Stream) (report : Report)
+    → IsLegal f p (events_in order) → JudgesStream c stream (blocks_of s order) report → IsTrue report.within → IsUnsatisfiableUnder f c.cube
+sound_in_order f p order s c stream report legal judged is =
+    refuted_from f p c.cube (opening f) (events_in order) legal.events
+    (any_block (publishes_within c.cube) s order (stream_publishes c stream.stop stream.bytes (blocks_of s order) report judged is))
+
+-- ---- a run
+
+-- with a thread for each stream
+sound_by : (f : Cnf) (terms : Terms) (h : History) → IsLegal f terms.layout h → (s : ℕ) (streams : List Stream) (reports : List Report)
+    → AreJudgedIn terms (λ t. true) h s streams reports → list_any (λ report. report.within) reports ≡ true → IsUnsatisfiableUnder f terms.cube
+sound_by f terms h legal s [] [] judged is = absurd (let no : false ≡ true = is in cc)
+sound_by f terms h legal s [] (r ∷ rs) judged is = absurd judged
+sound_by f terms h legal s (t ∷ ts) [] judged is = absurd judged
+sound_by f terms h legal s (t ∷ ts) (r ∷ rs) judged is =
+    let this = judged.0 refl in
+    elim (cases_Bool r.within) [
+      | inl here ↦ sound f terms.layout h (setting_of terms s) t this.0 r legal this.1 this.2 here
+      | inr none ↦ sound_by f terms h legal (s + 1) ts rs judged.1 (ap (λ b. b || list_any (λ (report : Report). report.within) rs) (sym none) ∙ is)
+    ]
+
+-- by turns
+sound_among : (f : Cnf) (terms : Terms) (blocks : List Block) (k : ℕ) (streams : List Stream) (reports : List Report) → IsLegal f terms.layout (events_in blocks)
+    → AreJudged terms (λ s. true) blocks k streams reports → list_any (λ report. report.within) reports ≡ true → IsUnsatisfiableUnder f terms.cube
+sound_among f terms blocks k [] [] legal judged some = absurd (let none : false ≡ true = some in cc)
+sound_among f terms blocks k [] (r ∷ reports) legal judged some = absurd judged
+sound_among f terms blocks k (stream ∷ streams) [] legal judged some = absurd judged
+sound_among f terms blocks k (stream ∷ streams) (r ∷ reports) legal judged some =
+    elim (cases_Bool r.within) [
+      | inl yes' ↦ sound_in_order f terms.layout blocks k (setting_of terms k) stream r legal (judged.0 refl) yes'
+      | inr none ↦ sound_among f terms blocks (k + 1) streams reports legal judged.1 (ap (λ b. b || list_any (λ (report : Report). report.within) reports) (sym none) ∙ some)
+    ]
+
+-- ---- the verdict
+
+some_within : (a b : Bool) → (if a then Unsatisfiable else if b then UnsatisfiableUnder else Unknown) ≡ UnsatisfiableUnder → b ≡ true
+some_within true b is = absurd (let no : Unsatisfiable ≡ UnsatisfiableUnder = is in cc)
+some_within false true is = refl
+some_within false false is = absurd (let no : Unknown ≡ UnsatisfiableUnder = is in cc)
+
+-- the verdict 'unsatisfiable under assumptions' is that of a report
+is_within_some : (reports : List Report) (verdict : Verdict) → verdict ≡ verdict_of reports → verdict ≡ UnsatisfiableUnder → list_any (λ report. report.within) reports ≡ true
+is_within_some reports verdict of is =
+    some_within (list_any (λ (report : Report). report.empty) reports) (list_any (λ (report : Report). report.within) reports) (sym of ∙ is)
+
+-- so it is true, with a thread for each stream
+pub sound_under_run : (f : Cnf) (terms : Terms) (h : History) (streams : List Stream) (reports : List Report) (verdict : Verdict)
+    → IsLegal f terms.layout h → AreJudgedIn terms (λ t. true) h 1 streams reports → verdict ≡ verdict_of reports → verdict ≡ UnsatisfiableUnder
+    → IsUnsatisfiableUnder f terms.cube
+sound_under_run f terms h streams reports verdict legal judged of is = sound_by f terms h legal 1 streams reports judged (is_within_some reports verdict of is)
+
+-- and by turns
+pub sound_under_order : (f : Cnf) (terms : Terms) (streams : List Stream) (reports : List Report) (verdict : Verdict)
+    → IsOrdered f terms (λ s. true) streams reports → verdict ≡ verdict_of reports → verdict ≡ UnsatisfiableUnder → IsUnsatisfiableUnder f terms.cube
+sound_under_order f terms streams reports verdict ordered of is =
+    sound_among f terms ordered.blocks 1 streams reports ordered.legal ordered.judged (is_within_some reports verdict of is)

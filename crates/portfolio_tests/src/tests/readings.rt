@@ -1,0 +1,210 @@
+//! Runs whose streams are read in one thread and checked in another.
+ghost use Rattle.std.specs.Prelude.{◌≡◌, false, IfOk, None};
+ghost use Rattle.std.specs.List.{AllByRecursion};
+
+use super::rows::{both_say, repeated};
+use super::threads::waits_for;
+use super::{CITING, Open, bad_line, defaults, ended, holds, options, readers_of, report, same};
+use lrup_model::{Cube, Id};
+use lrup_text::{LineFault, ReadFault, Source};
+use portfolio::{Verdict, run};
+use std::alloc::{AllocError, Global};
+use std::process::Abort;
+use std::sync::Wait;
+use std::sync::atomic::{AtomicBool, Ordering};
+use std::test::Fail;
+use std::thread::Threads;
+use stream_check::{Fault, Gate, Report};
+use test_support::four_clauses;
+
+/// How many bytes a read gives, around the size of a ring.
+const SIZES: [usize; 6] = [1, 2, 65_535, 65_536, 65_537, usize::MAX];
+
+#[test]
+fn long_bytes(rt: HostRuntime) -> Result<(), Fail> {
+    let text = repeated(rt.alloc(), "", "\n", 200_000, "")?;
+    let wanted = bad_line(1, Fault::Text(LineFault::Spelling));
+    for most in SIZES {
+        both_say(&rt, rt.alloc(), defaults(), &text, most, 0, wanted)?;
+        let last = 200_000usize.div_ceil(most.min(65_536));
+        for fails_at in [2, last, last + 1] {
+            both_say(&rt, rt.alloc(), defaults(), &text, most, fails_at, wanted)?;
+        }
+    }
+    Ok(())
+}
+
+#[test]
+fn many_lines(rt: HostRuntime) -> Result<(), Fail> {
+    let mut text = String::new(rt.alloc());
+    for id in 5..20_005u64 {
+        text.push_str(&format!(in rt.alloc(); "{id} 2 0 1 2 0\n")?)?;
+    }
+    for most in SIZES {
+        both_say(
+            &rt,
+            rt.alloc(),
+            defaults(),
+            &text,
+            most,
+            0,
+            ended(20_000, false),
+        )?;
+    }
+    Ok(())
+}
+
+/// A fault of a ring made up where each stream met its end would be the answer here.
+#[test]
+fn always_ring_fault(rt: HostRuntime) -> Result<(), Fail> {
+    let refutes = "5 2 0 1 2 0\n6 0 5 3 4 0\n";
+    both_say(&rt, rt.alloc(), defaults(), refutes, 24, 0, ended(2, true))?;
+    both_say(&rt, rt.alloc(), defaults(), "", 24, 0, ended(0, false))
+}
+
+/// A row's two lines, one a read; the second read sets a flag.
+#[derive(Drop)]
+struct Announces<'a> {
+    reads: u64,
+    second: &'a AtomicBool,
+}
+
+impl Source for Announces<'_> {
+    ghost left = { λ _. None };
+
+    ghost has_failed = { λ _. false };
+
+    fn read(&mut self, buffer: &mut [u8]) -> Result<usize, ReadFault> {
+        self.reads = self.reads.saturating_add(1);
+        let line: &[u8] = match self.reads {
+            1 => b"5 2 0 1 2 0\n",
+            2 => {
+                self.second.store(true, Ordering::SeqCst);
+                b"6 0 5 3 4 0\n"
+            }
+            _ => b"",
+        };
+        let count = line.len().min(buffer.len());
+        buffer[..count].copy_from_slice(&line[..count]);
+        Ok(count)
+    }
+
+    fn failed(&self) -> bool {
+        false
+    }
+}
+
+/// Holds the first fetch of a stream until a flag is set.
+#[derive(Clone, Copy)]
+struct HoldsFirst<'a> {
+    flag: &'a AtomicBool,
+    late: &'a AtomicBool,
+}
+
+impl Gate for HoldsFirst<'_> {
+    fn before_fetch(&mut self, stream: u64, id: Id, attempt: u64) {
+        if stream == 1 && id == 1 && attempt == 1 && !waits_for(self.flag) {
+            self.late.store(true, Ordering::SeqCst);
+        }
+    }
+
+    fn after_publish(&mut self, _stream: u64, _id: Id) {}
+}
+
+/// While a line is checked, the next one is read.
+#[test]
+fn reads_and_checks_on_one_thread(rt: HostRuntime) -> Result<(), Fail> {
+    let (second, late) = (AtomicBool::new(false), AtomicBool::new(false));
+    let reader = Announces {
+        reads: 0,
+        second: &second,
+    };
+    let gate = HoldsFirst {
+        flag: &second,
+        late: &late,
+    };
+    let formula = four_clauses(rt.alloc())?;
+    let mut readers = Vec::new(rt.alloc());
+    readers.push(reader)?;
+    let mut gates = Vec::new(rt.alloc());
+    gates.push(gate)?;
+    let outcome = run(
+        &rt,
+        rt.alloc(),
+        &formula,
+        &Cube::empty(rt.alloc()),
+        defaults(),
+        readers,
+        gates,
+    )?;
+    assert!(rt;
+        !late.load(Ordering::SeqCst),
+        "the second read came while the first line waited"
+    );
+    same(&rt, outcome.reports.as_slice(), [ended(2, true)].as_slice());
+    same(&rt, outcome.verdict, Verdict::Unsatisfiable);
+    Ok(())
+}
+
+/// A line that is none, and then many bytes, at whose end the reader may fail.
+#[derive(Drop)]
+struct Floods {
+    left: u64,
+    fails: bool,
+    failed: bool,
+}
+
+impl Source for Floods {
+    ghost left = { λ _. None };
+
+    ghost has_failed = { λ f. f.failed };
+
+    fn read(&mut self, buffer: &mut [u8]) -> Result<usize, ReadFault> {
+        if self.left == 0 && self.fails {
+            self.failed = true;
+            return Err(ReadFault);
+        }
+        let count = self.left.min(buffer.len() as u64);
+        for byte in &mut buffer[..count as usize] {
+            *byte = b'\n';
+        }
+        self.left -= count;
+        Ok(count as usize)
+    }
+
+    fn failed(&self) -> bool {
+        self.failed
+    }
+}
+
+/// After its bad line a stream is read to its end, or to the read that fails, and nothing more is said of it.
+#[test]
+fn the_rest_is_read_after_a_bad_line(rt: HostRuntime) -> Result<(), Fail> {
+    for fails in [false, true] {
+        let reader = Floods {
+            left: 100_000_000,
+            fails,
+            failed: false,
+        };
+        let formula = four_clauses(rt.alloc())?;
+        let mut readers = Vec::new(rt.alloc());
+        readers.push(reader)?;
+        let mut gates = Vec::new(rt.alloc());
+        gates.push(Open)?;
+        let outcome = run(
+            &rt,
+            rt.alloc(),
+            &formula,
+            &Cube::empty(rt.alloc()),
+            defaults(),
+            readers,
+            gates,
+        )?;
+        let wanted = bad_line(1, Fault::Text(LineFault::Spelling));
+        same(&rt, outcome.reports.as_slice(), [wanted].as_slice());
+        for reader in &outcome.readers {
+            same(&rt, (reader.left, reader.failed), (0, fails));
+        }
+    }
+    Ok(())
+}

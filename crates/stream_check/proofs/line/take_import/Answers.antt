@@ -1,0 +1,38 @@
+use Rattle.stream_check.proofs.AddLemmas.{room_stays}
+use Rattle.stream_check.proofs.LineLemmas.{Counts, ready_fetches, takes_import, stops_import, still_ready}
+use Rattle.stream_check.proofs.line.take_import.Goals as goal
+
+pub returns-in-Some-clause-taken : goal.returns-in-Some-clause-taken
+returns-in-Some-clause-taken g c =
+    let p = g.M.ClauseMap.place c.args.map.now in
+    let q = g.M.ClauseMap.place c.import.new.map in
+    let judged = c.in-Some.ensures.judged in
+    (judged.0, judged.1, stops_import c.args.held.now p.room q.room c.args.id c.args.lits.now judged.0 c.in-Some.fault judged.3)
+
+pub returns-in-Some-clause-ready : goal.returns-in-Some-clause-ready
+returns-in-Some-clause-ready g c =
+    let p = g.M.ClauseMap.place c.args.map.now in
+    let q = g.M.ClauseMap.place c.import.new.map in
+    let judged = c.in-Some.ensures.judged in
+    ready_fetches c.args.held.now p q judged.0 (g.met.M.ClauseMap.moves_tells c.args.map.now c.import.new.map judged.0 judged.1) judged.2 c.requires.ready
+
+pub returns-clause-taken : goal.returns-clause-taken
+returns-clause-taken g c =
+    let old = c.args.held.now in
+    let new = c.pass_line.new.self in
+    let p = g.M.ClauseMap.place c.args.map.now in
+    let q = g.M.ClauseMap.place c.import.new.map in
+    let judged = c.in_default.ensures.judged in
+    let taken = c.pass_line.ensures in
+    let counts : Counts old new = record { line = taken.line; last = taken.last; added = taken.added; empty = taken.empty; within = taken.within; dropped = taken.dropped; retired = taken.retired } in
+    let room = room_stays p q judged.0 (g.met.M.ClauseMap.moves_tells c.args.map.now c.import.new.map judged.0 judged.1) judged.2 in
+    (judged.0, judged.1, takes_import old new p.room q.room c.args.id c.args.lits.now judged.0 counts room judged.3)
+
+pub returns-clause-ready : goal.returns-clause-ready
+returns-clause-ready g c =
+    let old = c.args.held.now in
+    let p = g.M.ClauseMap.place c.args.map.now in
+    let q = g.M.ClauseMap.place c.import.new.map in
+    let judged = c.in_default.ensures.judged in
+    let ready = ready_fetches old p q judged.0 (g.met.M.ClauseMap.moves_tells c.args.map.now c.import.new.map judged.0 judged.1) judged.2 c.requires.ready in
+    still_ready old c.pass_line.new.self q c.pass_line.ensures.setting c.pass_line.ensures.last ready

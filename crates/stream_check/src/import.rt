@@ -1,0 +1,59 @@
+//! One import against a clause map.
+ghost use Rattle.std.specs.Prelude.{◌≡◌, ◌≤◌, ◌<◌, ◌^◌, length};
+ghost use Rattle.std.specs.List.{AllByRecursion};
+ghost use Rattle.lrup_model.specs.Event.{History};
+ghost use Rattle.lrup_model.specs.History.{max_line_literals};
+ghost use Rattle.lrup_text.specs.Lines.{IsStreamLiteral};
+ghost use Rattle.stream_check.specs.Imports.{JudgesImport};
+ghost use Rattle.stream_check.specs.Checking.{IsAt, IsFetch, verdict_of};
+ghost use Rattle.stream_check.specs.Checker.{standing_at};
+
+use crate::addition::{Buffers, read_literals};
+use crate::asking::ask;
+use crate::fault::Fault;
+use crate::gate::Gate;
+use crate::held::Held;
+use lrup_model::{ClauseMap, Fetched, Id};
+
+impl Buffers {
+    /// Compares an import with the clause of its identity, which is fetched as a hint is.
+    pub fn import<M: ClauseMap, G: Gate>(
+        &mut self,
+        held: &Held,
+        map: &mut M,
+        gate: &mut G,
+        id: Id,
+        lits: &[i64],
+    ) -> Option<Fault>
+        requires at { IsAt held.now.setting (M.place map.old) }
+        requires variables { held.now.setting.layout.vars ≡ self.old.vars }
+        requires tries { held.now.setting.tries < 2 ^ 63 }
+        requires count { length lits.now ≤ max_line_literals }
+        requires nonzero { AllByRecursion IsStreamLiteral lits.now }
+        ensures vars { self.new.vars ≡ self.old.vars }
+        ensures judged { let standing = standing_at held.now (M.place map.old).room in
+            (es : History) × M.moves map.old map.new es × AllByRecursion IsFetch es
+            × JudgesImport held.now.setting standing id lits.now es (verdict_of result) }
+    {
+        if !held.setting.shares(id) {
+            return Some(Fault::Identity);
+        }
+        if !read_literals(&mut self.literals, lits, self.vars) {
+            return Some(Fault::Literal);
+        }
+        if held.dropped.has(id) {
+            return Some(Fault::Dropped(id));
+        }
+        match ask(&held.setting, map, gate, id) {
+            Fetched::Vacant => Some(Fault::Missing(id)),
+            Fetched::Retired => Some(Fault::Retired(id)),
+            Fetched::Live(clip) => {
+                if self.marks.same(map, &clip, &self.literals) {
+                    None
+                } else {
+                    Some(Fault::Differs(id))
+                }
+            }
+        }
+    }
+}

@@ -1,0 +1,525 @@
+//! Two threads at the two ends of a ring: what no contract says is that bytes come at all, and that an end which sleeps is woken.
+ghost use Rattle.std.specs.Prelude.{◌≡◌, ◌<◌, ◌≤◌, [], None, false, length, vec_len, IfOk};
+ghost use Rattle.rtrb.specs.Ring.{sent};
+
+use lrup_text::{ReadFault, Source};
+use std::alloc::{AllocError, Global};
+use std::fmt;
+use std::process::Abort;
+use std::sync::atomic::{AtomicU64, Ordering};
+use std::sync::{OnceLock, Wait};
+use std::test::Fail;
+use std::thread::{self, Threads, join, yield_now};
+use std::time::{Clock, Duration};
+use stream_ring::{Received, Receiver, Sender, came_through, ring, told};
+
+/// Stops the test where two values differ: an assertion that is proved once for all tests.
+fn same<T: PartialEq + fmt::Debug + Drop>(rt: &impl Abort, value: T, wanted: T) {
+    assert_eq!(rt; value, wanted);
+}
+
+/// The byte at a place of a stream: any of the 256.
+fn byte_at(place: u64) -> u8 {
+    (place.wrapping_mul(0x9e37_79b9_7f4a_7c15) >> 56) as u8
+}
+
+/// Fills a piece of the stream that begins at this place.
+fn fill(piece: &mut [u8], place: u64) {
+    for i in 0..piece.len() {
+        piece[i] = byte_at(place.wrapping_add(i as u64));
+    }
+}
+
+/// How many bytes of a piece aren't those of the stream from this place on.
+fn wrong_bytes(piece: &[u8], place: u64) -> u64 {
+    let mut wrong = 0u64;
+    for i in 0..piece.len() {
+        if piece[i] != byte_at(place.wrapping_add(i as u64)) {
+            wrong = wrong.saturating_add(1);
+        }
+    }
+    wrong
+}
+
+/// A stream of so many bytes, so many a read, and then its end or a read that fails.
+#[derive(Drop)]
+struct Stream {
+    place: u64,
+    left: usize,
+    most: usize,
+    fails: bool,
+    failed: bool,
+}
+
+impl Stream {
+    fn new(count: usize, most: usize, fails: bool) -> Stream
+        ensures { result.failed ≡ false }
+    {
+        Stream {
+            place: 0,
+            left: count,
+            most,
+            fails,
+            failed: false,
+        }
+    }
+}
+
+impl Source for Stream {
+    ghost left = { λ _. None };
+
+    ghost has_failed = { λ s. s.failed };
+
+    fn read(&mut self, buffer: &mut [u8]) -> Result<usize, ReadFault> {
+        if self.left == 0 && self.fails {
+            self.failed = true;
+            return Err(ReadFault);
+        }
+        let count = buffer.len().min(self.most.max(1)).min(self.left);
+        fill(&mut buffer[..count], self.place);
+        self.place = self.place.wrapping_add(count as u64);
+        self.left -= count;
+        Ok(count)
+    }
+
+    fn failed(&self) -> bool {
+        self.failed
+    }
+}
+
+/// How many items the ring, a push and a pop have room for.
+#[derive(Clone, Copy, Debug, PartialEq, Eq)]
+struct Sizes {
+    ring: usize,
+    pushed: usize,
+    popped: usize,
+}
+
+/// What a sending thread is given.
+#[derive(Drop)]
+struct Sending<R: Source + Drop> {
+    reader: R,
+    sender: Sender,
+    piece: Vec<u8>,
+    items: Vec<u16>,
+    ghost running: { R.has_failed reader ≡ false },
+    ghost fresh: { sent sender.producer ≡ [] },
+    ghost room: { (0 < vec_len piece) × (0 < vec_len items) },
+}
+
+/// What a receiving thread is given.
+#[derive(Drop)]
+struct Hearing {
+    receiver: Receiver,
+    items: Vec<u16>,
+    bytes: Vec<u8>,
+    ghost room: { (0 < vec_len items) × (vec_len items ≡ vec_len bytes) },
+}
+
+/// The most bytes of a read.
+const PIECE: usize = 65_536;
+
+/// A ring, with this reader at one end.
+fn ends_of<R: Source + Drop>(
+    alloc: Global,
+    reader: R,
+    sizes: Sizes,
+) -> Result<(Sending<R>, Hearing), AllocError>
+    requires { R.has_failed reader ≡ false }
+{
+    let (sender, receiver) = ring(alloc, sizes.ring)?;
+    let sending = Sending {
+        reader,
+        sender,
+        piece: vec![in alloc; 0u8; PIECE]?,
+        items: vec![in alloc; 0u16; sizes.pushed.max(1)]?,
+    };
+    let hearing = Hearing {
+        receiver,
+        items: vec![in alloc; 0u16; sizes.popped.max(1)]?,
+        bytes: vec![in alloc; 0u8; sizes.popped.max(1)]?,
+    };
+    Ok((sending, hearing))
+}
+
+impl<R: Source + Drop> Sending<R> {
+    /// Sends all. Did the reader fail?
+    fn send<W: Wait>(self, wait: &W) -> (R, bool) {
+        let Sending {
+            mut reader,
+            mut sender,
+            mut piece,
+            mut items,
+        } = self;
+        let failed = sender.send_all(
+            wait,
+            &mut reader,
+            piece.as_mut_slice(),
+            items.as_mut_slice(),
+        );
+        (reader, failed)
+    }
+}
+
+/// What is told of the bytes that come.
+trait Ear {
+    fn hear(&mut self, bytes: &[u8]);
+}
+
+impl Hearing {
+    /// Receives up to the mark, and says whether the read failed. None where no mark came.
+    fn hear_all<W: Wait, E: Ear>(self, wait: &W, ear: &mut E) -> Option<bool> {
+        let Hearing {
+            mut receiver,
+            mut items,
+            mut bytes,
+        } = self;
+        hear_all(
+            wait,
+            &mut receiver,
+            items.as_mut_slice(),
+            bytes.as_mut_slice(),
+            ear,
+        )
+    }
+}
+
+fn hear_all<W: Wait, E: Ear>(
+    wait: &W,
+    receiver: &mut Receiver,
+    items: &mut [u16],
+    bytes: &mut [u8],
+    ear: &mut E,
+) -> Option<bool>
+    requires some { 0 < length items.old }
+    requires room { length items.old ≡ length bytes.old }
+{
+    for _ in wait.forever() {
+        match receiver.receive(wait, items, bytes) {
+            Received::Bytes(count) => ear.hear(&bytes[..count]),
+            Received::Mark(count, failed) => {
+                ear.hear(&bytes[..count]);
+                return Some(failed);
+            }
+            Received::Gone => return None,
+        }
+    }
+    unreachable!()
+}
+
+/// What came: so many bytes, of which so many were wrong.
+#[derive(Clone, Copy, Debug, PartialEq, Eq)]
+struct Heard {
+    count: u64,
+    wrong: u64,
+}
+
+impl Ear for Heard {
+    fn hear(&mut self, bytes: &[u8]) {
+        self.wrong = self.wrong.saturating_add(wrong_bytes(bytes, self.count));
+        self.count = self.count.saturating_add(bytes.len() as u64);
+    }
+}
+
+/// Receives all, and says what came.
+fn hear<W: Wait>(wait: &W, hearing: Hearing) -> (Heard, Option<bool>) {
+    let mut heard = Heard { count: 0, wrong: 0 };
+    let mark = hearing.hear_all(wait, &mut heard);
+    (heard, mark)
+}
+
+/// Sends a stream in one thread, and receives it in another.
+fn through<T: Threads + Wait + Sync>(
+    rt: &T,
+    sending: Sending<Stream>,
+    hearing: Hearing,
+) -> (bool, (Heard, Option<bool>)) {
+    let ((_, failed), heard) = join(rt, || sending.send(rt), || hear(rt, hearing));
+    (failed, heard)
+}
+
+/// The stream comes whole, with its mark.
+fn comes_through<T: Threads + Wait + Sync + Abort>(
+    rt: &T,
+    alloc: Global,
+    sizes: Sizes,
+    count: usize,
+    most: usize,
+) -> Result<(), Fail> {
+    for fails in [false, true] {
+        let (sending, hearing) = ends_of(alloc, Stream::new(count, most, fails), sizes)?;
+        let heard = Heard {
+            count: count as u64,
+            wrong: 0,
+        };
+        same(
+            rt,
+            (sizes, count, most, through(rt, sending, hearing)),
+            (sizes, count, most, (fails, (heard, Some(fails)))),
+        );
+    }
+    Ok(())
+}
+
+/// The sizes that the program has.
+const STANDARD: Sizes = Sizes {
+    ring: 65_536,
+    pushed: 4_096,
+    popped: 65_536,
+};
+
+/// Of these lengths, with an end or a read that fails after the last byte.
+#[test]
+fn streams_come_through(rt: HostRuntime) -> Result<(), Fail> {
+    for count in [0, 1, 2, 65_535, 65_536, 65_537] {
+        for most in [1, 2, 65_535, 65_536] {
+            comes_through(&rt, rt.alloc(), STANDARD, count, most)?;
+        }
+    }
+    comes_through(&rt, rt.alloc(), STANDARD, 3_000_000, 60_000)
+}
+
+/// Rings that are full at each push.
+#[test]
+fn streams_come_through_small_rings(rt: HostRuntime) -> Result<(), Fail> {
+    for (ring, pushed, popped) in [(1, 1, 1), (1, 4_096, 65_536), (3, 2, 5), (65_536, 1, 1)] {
+        let sizes = Sizes {
+            ring,
+            pushed,
+            popped,
+        };
+        for count in [0, 1, 2, 3, 4, 5, 10_000] {
+            comes_through(&rt, rt.alloc(), sizes, count, 65_536)?;
+        }
+    }
+    Ok(())
+}
+
+/// How often a thread looks for what another does, before it gives up.
+const TURNS: u64 = 10_000_000;
+
+/// Waits until the counter is there, and says whether it was in time.
+fn waits_for(counter: &AtomicU64, wanted: u64) -> bool {
+    for _ in 0..TURNS {
+        if counter.load(Ordering::SeqCst) >= wanted {
+            return true;
+        }
+        yield_now();
+    }
+    false
+}
+
+/// Long enough for the other end to have fallen asleep.
+fn pause(clock: &impl Clock) {
+    thread::sleep(clock, Duration::from_micros(300));
+}
+
+/// Gives a byte once the one before was received. At the first ones it pauses before, so that the receiver sleeps.
+#[derive(Drop)]
+struct Steps<'a, C: Clock> {
+    clock: &'a C,
+    heard: &'a AtomicU64,
+    given: u64,
+    count: u64,
+    pauses: u64,
+    late: bool,
+}
+
+impl<C: Clock> Source for Steps<'_, C> {
+    ghost left = { λ _. None };
+
+    ghost has_failed = { λ _. false };
+
+    fn read(&mut self, buffer: &mut [u8]) -> Result<usize, ReadFault> {
+        if !waits_for(self.heard, self.given) {
+            self.late = true;
+        }
+        if self.late || self.given == self.count {
+            return Ok(0);
+        }
+        if self.given < self.pauses {
+            pause(self.clock);
+        }
+        let count = buffer.len().min(1);
+        fill(&mut buffer[..count], self.given);
+        self.given = self.given.saturating_add(1);
+        Ok(count)
+    }
+
+    fn failed(&self) -> bool {
+        false
+    }
+}
+
+/// Counts what came, for the other thread.
+#[derive(Drop)]
+struct Counts<'a> {
+    heard: Heard,
+    counter: &'a AtomicU64,
+}
+
+impl Ear for Counts<'_> {
+    fn hear(&mut self, bytes: &[u8]) {
+        self.heard.hear(bytes);
+        self.counter.store(self.heard.count, Ordering::SeqCst);
+    }
+}
+
+/// Sends so many bytes, each once the one before was received. Whether one came late, and what came.
+fn step_through<T: Threads + Wait + Clock + Sync>(
+    rt: &T,
+    alloc: Global,
+    ring: usize,
+    count: u64,
+    pauses: u64,
+) -> Result<(bool, (Heard, Option<bool>)), AllocError> {
+    let counter = AtomicU64::new(0);
+    let counter = &counter;
+    let steps = Steps {
+        clock: rt,
+        heard: counter,
+        given: 0,
+        count,
+        pauses,
+        late: false,
+    };
+    let (sending, hearing) = ends_of(alloc, steps, Sizes { ring, ..STANDARD })?;
+    let mut counts = Counts {
+        heard: Heard { count: 0, wrong: 0 },
+        counter,
+    };
+    let (late, mark) = join(
+        rt,
+        || sending.send(rt).0.late,
+        || hearing.hear_all(rt, &mut counts),
+    );
+    Ok((late, (counts.heard, mark)))
+}
+
+/// A wake-up that is lost at an empty ring is mended by the next byte, so the next one comes only when this one was received.
+#[test]
+fn a_receiver_that_sleeps_is_woken(rt: HostRuntime) -> Result<(), Fail> {
+    for (ring, count, pauses) in [(65_536, 300, 300), (1, 300, 300), (65_536, 100_000, 0)] {
+        let came = step_through(&rt, rt.alloc(), ring, count, pauses)?;
+        let heard = Heard { count, wrong: 0 };
+        same(
+            &rt,
+            (ring, count, came),
+            (ring, count, (false, (heard, Some(false)))),
+        );
+    }
+    Ok(())
+}
+
+/// Receives after a pause each time, so that the sender sleeps at a full ring.
+fn hear_late<T: Wait + Clock>(rt: &T, hearing: Hearing) -> (Heard, Option<bool>) {
+    let mut late = Late {
+        clock: rt,
+        heard: Heard { count: 0, wrong: 0 },
+    };
+    pause(rt);
+    let mark = hearing.hear_all(rt, &mut late);
+    (late.heard, mark)
+}
+
+/// Pauses after each piece that came.
+#[derive(Drop)]
+struct Late<'a, C: Clock> {
+    clock: &'a C,
+    heard: Heard,
+}
+
+impl<C: Clock> Ear for Late<'_, C> {
+    fn hear(&mut self, bytes: &[u8]) {
+        self.heard.hear(bytes);
+        pause(self.clock);
+    }
+}
+
+#[test]
+fn a_sender_that_sleeps_is_woken(rt: HostRuntime) -> Result<(), Fail> {
+    for (ring, popped, count) in [(1, 1, 300), (2, 1, 300), (64, 64, 20_000), (64, 1, 300)] {
+        let sizes = Sizes {
+            ring,
+            pushed: 4_096,
+            popped,
+        };
+        let (sending, hearing) = ends_of(rt.alloc(), Stream::new(count, 65_536, true), sizes)?;
+        let ((_, failed), came) = join(&rt, || sending.send(&rt), || hear_late(&rt, hearing));
+        let heard = Heard {
+            count: count as u64,
+            wrong: 0,
+        };
+        same(
+            &rt,
+            (sizes, failed, came),
+            (sizes, true, (heard, Some(true))),
+        );
+    }
+    Ok(())
+}
+
+/// Puts so many bytes into the ring, and goes after a pause, without a mark.
+fn go<C: Clock>(clock: &C, mut sender: Sender, count: u64) {
+    for place in 0..count {
+        if sender.producer.push(u16::from(byte_at(place))).is_err() {
+            return;
+        }
+    }
+    pause(clock);
+}
+
+/// The receiver sleeps, and is woken by a sender that goes.
+#[test]
+fn a_sender_that_goes_wakes_the_receiver(rt: HostRuntime) -> Result<(), Fail> {
+    for round in 0..200u64 {
+        let count = round % 4;
+        let (sender, receiver) = ring(rt.alloc(), 8)?;
+        let hearing = Hearing {
+            receiver,
+            items: vec![in rt.alloc(); 0u16; 8]?,
+            bytes: vec![in rt.alloc(); 0u8; 8]?,
+        };
+        let (_, came) = join(&rt, || go(&rt, sender, count), || hear(&rt, hearing));
+        same(&rt, came, (Heard { count, wrong: 0 }, None));
+    }
+    Ok(())
+}
+
+/// Both wait for the word, which comes after a pause.
+#[test]
+fn all_are_told_the_word(rt: HostRuntime) -> Result<(), Fail> {
+    for round in 0..200u64 {
+        let word = OnceLock::new();
+        let wanted = round % 2 == 0;
+        let (first, second) = join(
+            &rt,
+            || *word.value(&told(&rt, &word)),
+            || {
+                if round % 3 > 0 {
+                    pause(&rt);
+                }
+                let _ = word.set(&rt, wanted);
+                *word.value(&told(&rt, &word))
+            },
+        );
+        same(&rt, (round, first, second), (round, wanted, wanted));
+    }
+    Ok(())
+}
+
+/// The gate runs this test with each of its allocations refused, one after the other; the second attempt then has memory.
+#[test]
+fn a_refused_ring_can_be_made_again(rt: HostRuntime) -> Result<(), Fail> {
+    let (mut sender, mut receiver) = match ring(rt.alloc(), 4) {
+        Ok(ends) => ends,
+        Err(_) => ring(rt.alloc(), 4)?,
+    };
+    came_through(&mut sender.producer, &mut receiver.consumer);
+    same(&rt, sender.producer.slots(), 4);
+    let mut consumer = receiver.into_consumer();
+    same(&rt, consumer.is_abandoned(), false);
+    drop(sender.into_producer());
+    same(&rt, consumer.is_abandoned(), true);
+    Ok(())
+}

@@ -1,0 +1,47 @@
+use Rattle.std.proofs.Common.{◌≡◌, ◌∷◌, inl, inr, false, map, refl, ap, subst, arith}
+use Rattle.std.specs.Iterator.Adapters.{zip_first, zip_second}
+use Rattle.std.specs.List.{AllByRecursion}
+use Rattle.std.specs.Vec.Iter.{into_iter_items, into_iter_len}
+use Rattle.clause_store.specs.declared.pass.Pass.{Pass}
+use Rattle.runs.specs.Streams.{terms_at}
+use Rattle.stream_threads.proofs.ThreadLemmas.{jobs_pushed, jobs_whole, none_to_come, taken_first, taken_next}
+use Rattle.stream_threads.proofs.jobs.jobs_of.Goals as goal
+
+pub loop-reader-preserved : goal.loop-reader-preserved
+loop-reader-preserved g c =
+    let now = c.loop-reader in
+    let left = g.R.Source.left in
+    let reader = c.in-Some.reader in
+    let pass = c.in-Some.pass in
+    let item : (g.row.R.Denot × g.row.G.Denot) × _ = ((reader, c.in-Some.gate), pass) in
+    let before = into_iter_items (zip_first (zip_first now.reader-iterator)) in
+    let rest = into_iter_items (zip_first (zip_first c.next.new.self)) in
+    let others = into_iter_items (zip_second c.next.new.self) in
+    let steps = c.in-Some.ensures.steps in
+    let running : AllByRecursion (λ r. g.R.Source.has_failed r ≡ false) (reader ∷ rest) = subst (AllByRecursion (λ r. g.R.Source.has_failed r ≡ false)) steps.0.0.0 now.invariant.running in
+    let pushed = c.push_reserved.ensures in
+    let new = c.in_ok-new.ensures in
+    record {
+      running = running.1;
+      jobs = jobs_pushed (terms_at c.args.layout.now c.args.cube.now c.args.tries) _ (λ x. left x.0.0) (λ x. x.1) now.yielded item now.all.items c.push_reserved.new.self.items c.in_ok-new.field-0
+          pushed.items (omega (arith, now.all.ok.0, c.len-in-loop-reader.ensures)) now.invariant.jobs (record { left = new.left; checker = new.checker; pass = new.pass });
+      entries = taken_first (λ x. left x.0.0) left now.yielded item before rest reader _ steps.0.0.0 refl now.invariant.entries;
+      passes = taken_next (λ x. x.1) now.yielded item (into_iter_items (zip_second now.reader-iterator)) others pass _ steps.1.0 refl now.invariant.passes;
+      count = omega (arith, pushed.len, steps.0.0.1, now.invariant.count);
+      gates = omega (arith, steps.0.0.1, steps.0.1.1, now.invariant.gates);
+      others = omega (arith, steps.0.0.1, steps.1.1, now.invariant.others);
+      room = omega (arith, pushed.capacity, now.invariant.room);
+    }
+
+pub returns : goal.returns
+returns g c =
+    let now = c.loop-reader in
+    let first = zip_first (zip_first now.reader-iterator) in
+    let third = zip_second now.reader-iterator in
+    let none : into_iter_len first ≡ 0 = elim c.in-None.ensures.steps [
+      | inl e ↦ elim e.1 [ inl d ↦ d.1.0 | inr d ↦ omega (arith, d.1.0, now.invariant.gates) ]
+      | inr e ↦ omega (arith, e.1.0, now.invariant.others)
+    ] in
+    let no_more : into_iter_len third ≡ 0 = omega (arith, none, now.invariant.others) in
+    jobs_whole (terms_at c.args.layout.now c.args.cube.now c.args.tries) _ _ (map g.R.Source.left (into_iter_items first)) _ _ (into_iter_items third) now.all.items
+    now.invariant.jobs now.invariant.entries now.invariant.passes (ap (map g.R.Source.left) (none_to_come first none)) (none_to_come third no_more)

@@ -1,0 +1,152 @@
+//! The jobs of a stream, before its threads start, between their starts, and after both have started.
+ghost use Rattle.std.specs.Prelude.{◌≡◌, ◌≤◌, false, IfOk, length, map, vec_len};
+ghost use Rattle.std.specs.List.{AllByRecursion};
+ghost use Rattle.lrup_model.specs.Layout.{IsStream};
+ghost use Rattle.runs.specs.Streams.{terms_at};
+ghost use Rattle.stream_check.specs.Checker.{IsNew};
+ghost use Rattle.stream_check.specs.Setting.{max_tries};
+ghost use Rattle.stream_threads.specs.Jobs.{AreJobs};
+
+use crate::ends::{CheckTask, CheckedPass, ReadTask};
+use clause_store::Pass;
+use lrup_model::{Cube, Layout};
+use lrup_text::Source;
+use std::alloc::{AllocError, Global};
+use std::marker::Model;
+use std::thread::PromisedHandle;
+use stream_check::Gate;
+use stream_jobs::{CheckingJob, ReadingJob, Sent, jobs};
+
+/// Why threads found nothing.
+#[derive(Clone, Copy, Debug, PartialEq, Eq)]
+pub enum ThreadFault {
+    /// A thread of this stream, from 1 on, couldn't be started. No reader was read.
+    Spawn(u64),
+    /// The threads were started, and this stream, from 1 on, is the first whose checking thread met no mark.
+    Ring(u64),
+}
+
+/// The two jobs of a stream, whose ends are those of one ring, and the stream's pass.
+#[derive(Drop)]
+pub struct StreamJobs<R: Source + Drop, G: Gate + Drop> {
+    pub(crate) reading: ReadingJob<R>,
+    pub(crate) checking: CheckingJob<G>,
+    pub(crate) pass: Pass,
+}
+
+impl<R: Source + Drop, G: Gate + Drop> Model for StreamJobs<R, G> {
+    ghost use Rattle.rtrb.specs.Ring.{IsPair};
+    ghost use Rattle.stream_threads.specs.Jobs.{JobsValue};
+
+    ghost Value = { JobsValue };
+
+    ghost view = { λ j. record {
+      left = R.left j.reading.reader;
+      checker = j.checking.checker;
+      pass = j.pass;
+    } };
+
+    ghost invariant = { λ j. IsPair j.reading.sender.producer j.checking.receiver.consumer };
+}
+
+impl<R: Source + Drop, G: Gate + Drop> StreamJobs<R, G> {
+    /// The jobs of stream `stream`, from 1 on, under this cube, whose calls go through this pass. All memory is taken here, but for the identities
+    /// that the stream drops. A hint of another stream is fetched again while it is vacant, up to `tries` times, at most
+    /// 1,000,000.
+    pub fn new(
+        alloc: Global,
+        reader: R,
+        gate: G,
+        pass: Pass,
+        stream: u64,
+        layout: &Layout,
+        cube: &Cube,
+        tries: u64,
+    ) -> Result<StreamJobs<R, G>, AllocError>
+        requires running { R.has_failed reader ≡ false }
+        requires stream { IsStream layout.now stream }
+        requires tries { tries ≤ max_tries }
+        ensures left { IfOk result (λ jobs. jobs.left ≡ R.left reader) }
+        ensures checker { IfOk result (λ jobs. IsNew layout.now cube.now stream tries jobs.checker) }
+        ensures pass { IfOk result (λ jobs. jobs.pass ≡ pass) }
+    {
+        let (reading, checking) = jobs(alloc, reader, gate, stream, layout, cube, tries)?;
+        Ok(StreamJobs {
+            reading,
+            checking,
+            pass,
+        })
+    }
+}
+
+/// The jobs of all streams, in order: as many gates and passes as readers are wanted.
+pub fn jobs_of<R: Source + Drop, G: Gate + Drop>(
+    alloc: Global,
+    layout: &Layout,
+    cube: &Cube,
+    tries: u64,
+    readers: Vec<R>,
+    gates: Vec<G>,
+    passes: Vec<Pass>,
+) -> Result<Vec<StreamJobs<R, G>>, AllocError>
+    requires gates { vec_len gates ≡ vec_len readers }
+    requires passes { vec_len passes ≡ vec_len readers }
+    requires running { AllByRecursion (λ r. R.has_failed r ≡ false) readers.items }
+    requires streams { layout.now.streams ≡ length readers.items }
+    requires tries { tries ≤ max_tries }
+    ensures { IfOk result (λ all. AreJobs (terms_at layout.now cube.now tries) 1
+        (map R.left readers.items) passes.items all.items) }
+{
+    let mut all = Vec::with_capacity(alloc, readers.len())?;
+    for ((reader, gate), pass) in readers.into_iter().zip(gates).zip(passes) {
+        let stream = all.len() as u64 + 1;
+        all.push_reserved(StreamJobs::new(alloc, reader, gate, pass, stream, layout, cube, tries)?);
+    }
+    Ok(all)
+}
+
+/// The checking thread was started, and the reading thread is still to be.
+#[derive(Drop)]
+pub(crate) struct HalfStarted<R: Source + Drop, G: Gate + Drop> {
+    pub(crate) reading: ReadingJob<R>,
+    pub(crate) checking: PromisedHandle<Option<CheckedPass>, CheckTask<G>>,
+}
+
+impl<R: Source + Drop, G: Gate + Drop> Model for HalfStarted<R, G> {
+    ghost use Rattle.rtrb.specs.Ring.{IsPair};
+    ghost use Rattle.stream_threads.specs.Jobs.{JobsValue};
+
+    ghost Value = { JobsValue };
+
+    ghost view = { λ h. record {
+      left = R.left h.reading.reader;
+      checker = h.checking.promise.job.value.checker;
+      pass = h.checking.promise.pass.value;
+    } };
+
+    ghost invariant = { λ h. IsPair h.reading.sender.producer
+        h.checking.promise.job.value.receiver.consumer };
+}
+
+/// Both threads were started.
+#[derive(Drop)]
+pub(crate) struct Started<R: Source + Drop, G: Gate + Drop> {
+    pub(crate) reading: PromisedHandle<Option<Sent<R>>, ReadTask<R>>,
+    pub(crate) checking: PromisedHandle<Option<CheckedPass>, CheckTask<G>>,
+}
+
+impl<R: Source + Drop, G: Gate + Drop> Model for Started<R, G> {
+    ghost use Rattle.rtrb.specs.Ring.{IsPair};
+    ghost use Rattle.stream_threads.specs.Jobs.{JobsValue};
+
+    ghost Value = { JobsValue };
+
+    ghost view = { λ s. record {
+      left = R.left s.reading.promise.job.value.reader;
+      checker = s.checking.promise.job.value.checker;
+      pass = s.checking.promise.pass.value;
+    } };
+
+    ghost invariant = { λ s. IsPair s.reading.promise.job.value.sender.producer
+        s.checking.promise.job.value.receiver.consumer };
+}

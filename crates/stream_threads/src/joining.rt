@@ -1,0 +1,223 @@
+//! The threads' joins, and what was found of each stream.
+ghost use Rattle.std.specs.Prelude.{◌≡◌, ◌+◌, ◌++◌, ◌⊎◌, ◌↔◌, ◌<◌, ◌≤◌, List, Option, [], ◌∷◌, None, Some, IfErr, IfOk, IfSome, IsNone, OnOk, length, map, vec_capacity, vec_len};
+ghost use Rattle.std.specs.List.{AllByRecursion};
+ghost use Rattle.rtrb.specs.Ring.{received, IsPair};
+ghost use Rattle.stream_ring.specs.Items.{SendsAll};
+ghost use Rattle.stream_threads.specs.Jobs.{AllEnd, AllFinish, CanBegin, Finishes, FoundValue, IsFaultWithin, JobsValue, JudgesAtPass};
+
+use crate::ends::CheckedPass;
+use crate::jobs::{HalfStarted, Started, StreamJobs, ThreadFault};
+use crate::starting::{start_all_checking, start_all_reading};
+use clause_store::{Pass, Store};
+use lrup_text::Source;
+use std::alloc::{AllocError, Global};
+use std::marker::Model;
+use std::sync::{OnceLock, Wait};
+use std::thread;
+use std::thread::{Scope, Threads};
+use stream_check::{Gate, Report};
+use stream_jobs::{Sent, meet};
+
+/// What was found of a stream.
+#[derive(Drop)]
+pub struct Found<R: Source + Drop> {
+    /// How the stream is judged.
+    pub report: Report,
+    /// The reader, at its end or after a read that failed.
+    pub reader: R,
+    /// The stream's pass, with the calls that were made.
+    pub pass: Pass,
+}
+
+impl<R: Source + Drop> Model for Found<R> {
+    ghost use Rattle.stream_threads.specs.Jobs.{FoundValue};
+
+    ghost Value = { FoundValue };
+
+    ghost view = { λ f. record {
+      report = f.report;
+      left = R.left f.reader;
+      has_failed = R.has_failed f.reader;
+      pass = f.pass;
+    } };
+}
+
+/// Room for what is gathered of so many streams.
+#[derive(Drop)]
+pub struct Room<R: Source + Drop, G: Gate + Drop> {
+    halves: Vec<HalfStarted<R, G>>,
+    started: Vec<Started<R, G>>,
+    ends: Vec<Option<Found<R>>>,
+    found: Vec<Found<R>>,
+}
+
+impl<R: Source + Drop, G: Gate + Drop> Model for Room<R, G> {
+    ghost use Rattle.std.specs.Prelude.{◌≡◌, ℕ, [], vec_capacity};
+
+    ghost Value = { ℕ };
+
+    ghost view = { λ r. vec_capacity r.halves };
+
+    ghost invariant = { λ r. (r.halves.items ≡ []) × (r.started.items ≡ []) × (r.ends.items ≡ [])
+        × (r.found.items ≡ []) × (vec_capacity r.started ≡ vec_capacity r.halves)
+        × (vec_capacity r.ends ≡ vec_capacity r.halves)
+        × (vec_capacity r.found ≡ vec_capacity r.halves) };
+}
+
+impl<R: Source + Drop, G: Gate + Drop> Room<R, G> {
+    /// Room for so many streams.
+    pub fn new(alloc: Global, count: usize) -> Result<Room<R, G>, AllocError>
+        ensures { IfOk result (λ room. room ≡ count) }
+    {
+        Ok(Room {
+            halves: Vec::with_capacity(alloc, count)?,
+            started: Vec::with_capacity(alloc, count)?,
+            ends: Vec::with_capacity(alloc, count)?,
+            found: Vec::with_capacity(alloc, count)?,
+        })
+    }
+}
+
+/// What both threads of a stream gave back, as one. None exactly where one of them was told to leave, or no mark was met.
+fn meet_ends<R: Source + Drop>(
+    sent: Option<Sent<R>>,
+    checked: Option<CheckedPass>,
+) -> Option<Found<R>>
+    requires pair { IfSome sent (λ s. IfSome checked (λ e.
+        IsPair s.producer e.checked.consumer)) }
+    ensures none { IsNone result ↔ (IsNone sent ⊎ IfSome checked (λ e. IsNone e.checked.report)) }
+    ensures judged { (jobs : JobsValue)
+        → IfSome sent (λ s. SendsAll jobs.left (R.left s.reader) (R.has_failed s.reader)
+        (Rattle.rtrb.specs.Ring.sent s.producer))
+        → IfSome checked (λ e. IfSome e.checked.report (JudgesAtPass jobs.checker jobs.pass e.pass
+        (received e.checked.consumer)))
+        → IfSome result (Finishes jobs) }
+{
+    let mut sent = sent?;
+    let CheckedPass { mut checked, pass } = checked?;
+    let report = checked.report?;
+    meet(&mut sent, &mut checked);
+    Some(Found {
+        report,
+        reader: sent.reader,
+        pass,
+    })
+}
+
+impl<R: Source + Drop, G: Gate + Drop> Started<R, G> {
+    /// Waits until both threads have ended. None where no mark was met.
+    fn join<T: Threads>(self, threads: &T) -> Option<Found<R>>
+        ensures { IfSome result (Finishes self) }
+    {
+        let Started { reading, checking } = self;
+        let sent = reading.join(threads);
+        let checked = checking.join(threads);
+        meet_ends(sent, checked)
+    }
+}
+
+/// Joins the threads of all streams, in order.
+fn join_all<T: Threads, R: Source + Drop, G: Gate + Drop>(
+    threads: &T,
+    all: Vec<Started<R, G>>,
+    mut ends: Vec<Option<Found<R>>>,
+) -> Vec<Option<Found<R>>>
+    requires none { ends.items ≡ [] }
+    requires room { vec_len all ≤ vec_capacity ends }
+    ensures ends { AllEnd all.items result.items }
+    ensures count { vec_len result ≡ vec_len all }
+{
+    for started in all {
+        ends.push_reserved(started.join(threads));
+    }
+    ends
+}
+
+/// What was found of all streams. The first stream, from 1 on, of which nothing was found is the error.
+fn all_found<R: Source + Drop>(
+    ends: Vec<Option<Found<R>>>,
+    mut found: Vec<Found<R>>,
+) -> Result<Vec<Found<R>>, u64>
+    requires none { found.items ≡ [] }
+    requires room { vec_len ends ≤ vec_capacity found }
+    ensures found { IfOk result (λ all. ends.items ≡ map (λ f. Some f) all.items) }
+    ensures first { IfErr result (λ stream. (before : List FoundValue) × (after : List (Option FoundValue))
+        × (ends.items ≡ map (λ f. Some f) before ++ None ∷ after) × (stream ≡ length before + 1)) }
+{
+    for end in ends {
+        let Some(one) = end else {
+            return Err(found.len() as u64 + 1);
+        };
+        found.push_reserved(one);
+    }
+    Ok(found)
+}
+
+/// Starts all threads, gives the word, and joins them.
+fn start_and_join<
+    's,
+    E,
+    T: Threads + Wait + Sync,
+    R: Source + Send + Drop + 's,
+    G: Gate + Send + Drop + 's,
+>(
+    scope: &Scope<'s, E>,
+    threads: &'s T,
+    store: &'s Store,
+    word: &'s OnceLock<bool>,
+    all: Vec<StreamJobs<R, G>>,
+    room: Room<R, G>,
+) -> Result<Vec<Found<R>>, ThreadFault>
+    requires begin { AllByRecursion (CanBegin store.now) all.items }
+    requires room { vec_len all ≤ room }
+    ensures found { IfOk result (λ found. AllFinish all.items found.items) }
+    ensures fault { IfErr result (IsFaultWithin (vec_len all)) }
+{
+    let Room {
+        mut halves,
+        mut started,
+        ends,
+        found,
+    } = room;
+    if let Err(stream) = start_all_checking(scope, threads, store, word, all, &mut halves) {
+        let _ = word.set(threads, false);
+        return Err(ThreadFault::Spawn(stream));
+    }
+    if let Err(stream) = start_all_reading(scope, threads, word, halves, &mut started) {
+        let _ = word.set(threads, false);
+        return Err(ThreadFault::Spawn(stream));
+    }
+    let _ = word.set(threads, true);
+    let ends = join_all(threads, started, ends);
+    match all_found(ends, found) {
+        Ok(found) => Ok(found),
+        Err(stream) => Err(ThreadFault::Ring(stream)),
+    }
+}
+
+/// Reads and checks all streams, each in two threads of its own, until all have ended. No reader is read before all threads have
+/// been started; where one can't be, those that were leave at once. It blocks while a reader does.
+pub fn check_all<T: Threads + Wait + Sync, R: Source + Send + Drop, G: Gate + Send + Drop>(
+    threads: &T,
+    store: &Store,
+    all: Vec<StreamJobs<R, G>>,
+    room: Room<R, G>,
+) -> Result<Vec<Found<R>>, ThreadFault>
+    requires begin { AllByRecursion (CanBegin store.now) all.items }
+    requires room { vec_len all ≤ room }
+    ensures found { IfOk result (λ found. AllFinish all.items found.items) }
+    ensures fault { IfErr result (IsFaultWithin (vec_len all)) }
+{
+    let start = OnceLock::new();
+    let word = &start;
+    thread::scope(
+        thread::scope_env(),
+        threads,
+        move |scope| -> Result<Vec<Found<R>>, ThreadFault>
+            requires begin { AllByRecursion (CanBegin store.now) all.items }
+            requires room { vec_len all ≤ room }
+            ensures found { IfOk result (λ found. AllFinish all.items found.items) }
+            ensures fault { IfErr result (IsFaultWithin (vec_len all)) }
+        { start_and_join(scope, threads, store, word, all, room) },
+    )
+}

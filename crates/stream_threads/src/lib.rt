@@ -1,0 +1,10 @@
+//! Two threads for each stream of a run, one that reads it and one that checks it, at one store of clauses.
+#![tactic(auto)]
+
+mod ends;
+mod jobs;
+mod joining;
+mod starting;
+
+pub use jobs::{StreamJobs, ThreadFault, jobs_of};
+pub use joining::{Found, Room, check_all};
