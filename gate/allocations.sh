@@ -1,6 +1,6 @@
 #!/bin/sh
-# Runs tests, and the program, with one allocation refused, the first, the second and so on, and looks at how they end. It
-# proves nothing. It ends with status 1 where one ends in another way than is wanted.
+# Runs tests with one allocation refused, the first, the second and so on, and looks at how they end. It proves nothing. It ends
+# with status 1 where one ends in another way than is wanted. The program itself is swept by sweep.py.
 #
 #     sh gate/allocations.sh rt
 #
@@ -18,9 +18,8 @@
 # that line, an addition with literals, and twelve come later, all for the set of these. Where one of the twelve is refused
 # the stream is over, and its report counts what came before.
 #
-# lrupd: where the first allocation or the fortieth is refused, the program says that it is out of memory, and gives no report.
-# One line and 5,000 take the same number of allocations: some more than those before the first line, both have a report. The
-# identities that a stream drops do take memory while it is checked, and a refusal there ends the stream, with a report.
+# stream_ring, stream_jobs: in tests that make a ring the first allocation and the fourth, and in tests that make the two jobs of a
+# stream the eighth and the eighteenth. Where that refuses the ring or the jobs, the next attempt succeeds.
 
 rt=$1
 root=$(cd "$(dirname "$0")/.." && pwd)
@@ -74,34 +73,6 @@ n=24
 want stream_check $n $ends_the_reading ok
 want stream_check $n $has_memory ok
 
-# Streams for bmc.cnf: good lines, with the hints of the first line of bmc.lrup; and clauses of the formula dropped.
-streams=$work/streams
-mkdir "$streams"
-awk 'BEGIN { for (i = 534; i < 5534; i++) print i " 101 -107 -108 -109 0 487 490 0" }' > "$streams/many"
-head -n 1 "$streams/many" > "$streams/one"
-awk 'BEGIN { for (i = 1; i <= 500; i++) print "534 d " i " 0" }' > "$streams/drops"
-
-# program N: a run on each stream, with allocation N refused.
-program() {
-    (cd "$root/crates/lrupd" && "$rt" try --seconds 20 --fail-alloc "$1" --cases "$streams" \
-        --data "formula.cnf=$root/examples/bmc.cnf" -- formula.cnf '{}') > "$work/out.$1" 2> "$work/err.$1"
-    { cat "$work/out.$1" && echo && cat "$work/err.$1"; } > "$work/lrupd.$1"
-}
-
-# seen N COUNT PATTERN: these runs left so many lines of this kind.
-seen() {
-    log=$work/lrupd.$1
-    found=$(grep -cE "$3" "$log")
-    if [ "$found" = "$2" ]; then
-        echo "lrupd, allocation $1 refused: $2 times $3"
-    else
-        failed=1
-        echo "lrupd, allocation $1 refused: $found times, and not $2: $3"
-        cat "$log"
-    fi
-}
-
-for n in 1 40 80; do program $n & done
 for n in 8 9 10; do tests propagate $n & done
 wait
 
@@ -111,6 +82,19 @@ for n in 8 9; do
     want propagate $n $after_all FAILED
 done
 want propagate 10 $after_all ok
+
+for n in 1 4; do tests stream_ring $n & done
+for n in 8 18; do tests stream_jobs $n & done
+wait
+# The second of each makes one attempt alone, so it shows that an allocation was refused.
+for n in 1 4; do
+    want stream_ring $n a_refused_ring_can_be_made_again ok
+    want stream_ring $n streams_come_through FAILED
+done
+for n in 8 18; do
+    want stream_jobs $n refused_jobs_can_be_made_again ok
+    want stream_jobs $n told_to_leave FAILED
+done
 
 for n in 6 7 8; do tests clause_store $n & done
 wait
@@ -132,19 +116,5 @@ else
     echo "clause_store, 300,000 KiB: $large: not ok"
     cat "$work/large"
 fi
-
-for n in 1 40; do
-    seen $n 3 '^case=[a-z]+ run=ended status=6 '
-    seen $n 3 '^lrupd: out of memory$'
-    seen $n 0 '^(c|s) '
-done
-
-# The last one before the first line is the 74th; lists that grow by doubling would take a dozen more for the 5,000 lines.
-n=80
-seen $n 3 '^case=[a-z]+ run=ended status=3 '
-seen $n 3 '^s UNKNOWN$'
-seen $n 1 '^c stream 1: 1 added, 0 deleted, ended$'
-seen $n 1 '^c stream 1: 5000 added, 0 deleted, ended$'
-seen $n 1 '^c stream 1: 0 added, [0-9]+ deleted, out of memory at line [0-9]+$'
 
 exit $failed

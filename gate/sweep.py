@@ -24,6 +24,8 @@ OUT_OF_MEMORY = Answer(6, "", "lrupd: out of memory\n")
 ERRORS_OF_READS = ["EIO", "EINTR"]
 ERRORS_OF_WRITES = ["EIO", "ENOSPC", "EPIPE"]
 SHORT = ["short", "half"]
+MANY = 5_000
+ONE_LINE, MANY_LINES = "one line", f"{MANY} lines"  # as many allocations: lines take none
 SECONDS = 1  # within which a run ends whose thread isn't started
 
 
@@ -131,6 +133,7 @@ def inputs(folder):
     drops_after = stream("drops_after", "5 2 0 1 2 0\n5 d 5 1 0\n")
     bad = stream("bad", "p cnf 2 1\n1 x 0\n")
     row_one = EXAMPLES / "four-clause.lrup"
+    lines = [f"{number} 101 -107 -108 -109 0 487 490 0\n" for number in range(534, 534 + MANY)]
 
     def dropped(text):
         return [Answer(3, f"c stream 1: {text}\ns UNKNOWN\n", "")]
@@ -146,6 +149,9 @@ def inputs(folder):
         yield Input("row 1" + kind, [*serial, FOUR_CLAUSE, row_one], 1)
         yield Input("four solvers" + kind,
                     [*(serial or ["--tries", "1000000"]), EXAMPLES / "bmc.cnf", *FOUR_SOLVERS], 4, alone=False)
+        # The hints are those of the first line of bmc.lrup.
+        yield Input(ONE_LINE + kind, [*serial, EXAMPLES / "bmc.cnf", stream("line", lines[0])], 1)
+        yield Input(MANY_LINES + kind, [*serial, EXAMPLES / "bmc.cnf", stream("lines", "".join(lines))], 1)
     yield Input("help", ["--help"])
     yield Input("a mistake in the words", ["--tries", "x", FOUR_CLAUSE, row_one])
     yield Input("a bad formula", [bad, row_one], 1)
@@ -155,6 +161,8 @@ def inputs(folder):
 
 def kinds(given):
     yield "allocate", ""
+    if given.name.startswith((ONE_LINE, MANY_LINES)):
+        return
     yield "thread", ""
     cascades = given.name == "four solvers"  # a stream that fails keeps the others waiting for a minute
     for how in SHORT + ([] if cascades else ERRORS_OF_READS):
@@ -167,7 +175,7 @@ def main():
     if len(sys.argv) != 2:
         sys.exit(__doc__)
     program = os.path.abspath(sys.argv[1])
-    began, refused, wrong = time.monotonic(), {}, []
+    began, refused, wrong, allocations = time.monotonic(), {}, [], {}
     with tempfile.TemporaryDirectory() as name:
         folder = Path(name)
         shim = folder / "refuse.so"
@@ -178,6 +186,12 @@ def main():
                 count, answers = sweep(program, given, kind, how, shim, folder / "mark")
                 refused[kind] = refused.get(kind, 0) + count
                 wrong += answers
+                if kind == "allocate":
+                    allocations[given.name] = count
+    for kind in ["", " --serial"]:
+        one, many = allocations[ONE_LINE + kind], allocations[MANY_LINES + kind]
+        if one != many:
+            wrong.append(f"one line takes {one} allocations, {MANY} lines {many}{kind}")
     for answer in wrong:
         print(answer)
     print("refused: " + ", ".join(f"{kind} {count}" for kind, count in refused.items())
