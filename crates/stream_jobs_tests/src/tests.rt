@@ -175,8 +175,10 @@ fn a_refutation(rt: HostRuntime) -> Result<(), Fail> {
         (24, 2, 2, true, Ending::ReadFailed(3)),
         (1, 1, 0, false, Ending::ReadFailed(1)),
     ] {
+        // The empty clause, and no other, lies within a cube of no literals.
         let wanted = Report {
             empty,
+            within: empty,
             ..report(added, 0, ending)
         };
         says(&rt, rt.alloc(), REFUTATION, most, fails_at, wanted)?;
