@@ -32,7 +32,7 @@ install: build
 	install -m 755 $(PROGRAM) "$(DESTDIR)$(PREFIX)/bin/lrupd"
 	install -m 644 docs/lrupd.1 "$(DESTDIR)$(PREFIX)/share/man/man1/lrupd.1"
 
-# What the program writes on standard output and standard error, and its status, on the examples and on some eighty small runs;
+# What the program writes on standard output and standard error, and its status, on the examples and on some hundred small runs;
 # two groups of streams, checked apart; and whether README, USING, the manual page and --help say the same.
 examples: build
 	@sh examples/compare.sh $(PROGRAM)
