@@ -75,9 +75,11 @@ sweep: build c-and-python
 audit:
 	@python3 gate/audit.py
 
-# What needs no prover: whether that page is what the sources give, and DEFINITIONS has its counts.
+# What needs no prover: whether that page is what the sources give, and DEFINITIONS has its counts; and whether the names in
+# backticks in the documents exist.
 pages: c-and-python
 	@python3 gate/audit.py --check
+	@python3 gate/style.py
 
 # The whole gate: the pages; every proof from nothing, each edit that must be refused, each test, and the program as two compilers
 # build it; then, with the program that was built there, the examples, the live run, the solver's streams and the filter's, a
