@@ -32,7 +32,7 @@ install: build
 	install -m 755 $(PROGRAM) "$(DESTDIR)$(PREFIX)/bin/lrupd"
 	install -m 644 docs/lrupd.1 "$(DESTDIR)$(PREFIX)/share/man/man1/lrupd.1"
 
-# What the program writes on standard output and standard error, and its status, on the examples and on some eighty small runs;
+# What the program writes on standard output and standard error, and its status, on the examples and on some hundred small runs;
 # two groups of streams, checked apart; and whether README, USING, the manual page and --help say the same.
 examples: build
 	@sh examples/compare.sh $(PROGRAM)
@@ -75,9 +75,11 @@ sweep: build c-and-python
 audit:
 	@python3 gate/audit.py
 
-# What needs no prover: whether that page is what the sources give, and DEFINITIONS has its counts.
+# What needs no prover: whether that page is what the sources give, and DEFINITIONS has its counts; and whether the names in
+# backticks in the documents exist.
 pages: c-and-python
 	@python3 gate/audit.py --check
+	@python3 gate/style.py
 
 # The whole gate: the pages; every proof from nothing, each edit that must be refused, each test, and the program as two compilers
 # build it; then, with the program that was built there, the examples, the live run, the solver's streams and the filter's, a

@@ -169,6 +169,9 @@ streams 'a clause deleted twice' '' 3 '1 added, 1 deleted, bad line 2 (not live 
 streams 'a clause of the formula deleted' '' 3 '0 added, 1 deleted, bad line 2 (dropped 1)' '5 d 1 0\n5 2 0 1 2 0\n'
 streams 'one deleted twice' '' 3 '0 added, 1 deleted, bad line 1 (not live 1)' '5 d 1 1 0\n'
 
+streams 'imports of the formula' '' 0 '2 added, 0 deleted, ended' "1 i 2 1 1 0\n${two}2 i -1 2 0\n"
+streams 'an import of a clause that was dropped' '' 3 '0 added, 1 deleted, bad line 2 (dropped 1)' '5 d 1 0\n1 i 1 2 0\n'
+
 bad 'not unit 3' '' '5 2 0 2 3 0\n'
 bad 'not unit 1' '--room 0' '5 0 1 0\n'
 bad 'excess 3' '' '5 2 0 1 2 3 0\n'
@@ -183,6 +186,11 @@ bad 'spelling' '' '5  2 0 1 2 0\n'
 bad 'truncated' '' '5 2 0 1 2 0'
 bad 'too long' '' '1000000000000000000 2 0 1 2 0\n'
 bad 'identity' '' '999999999999999999 2 0 1 2 0\n'
+bad 'differs 1' '' '1 i 1 0\n'
+bad 'differs 1' '' '1 i 1 2 -2 0\n'
+bad 'identity' '' '5 i 2 0\n'
+bad 'literal' '' '1 i 1 2 3 0\n'
+bad 'spelling' '' '1 i 1 2 0 0\n'
 
 given 'p cnf 0 1\n0\n'
 streams 'an empty clause in the formula' '' 0 '1 added, 0 deleted, ended' '2 0 1 0\n'
@@ -200,6 +208,20 @@ for options in '--serial' '--tries 1000000'; do
         '2 added, 0 deleted, ended' '5 2 0 1 2 0\n7 0 5 6 0\n' \
         '1 added, 0 deleted, ended' '6 -2 0 3 4 0\n'
 done
+for options in '--serial' '--tries 1000000'; do
+    streams "the other stream's clause, imported $options" "$options" 0 \
+        '2 added, 0 deleted, ended' '5 2 0 1 2 0\n6 i -2 0\n7 0 5 6 0\n' \
+        '1 added, 0 deleted, ended' '6 -2 0 3 4 0\n5 i 2 2 0\n'
+    streams "other literals imported than the other stream's $options" "$options" 3 \
+        '1 added, 0 deleted, bad line 2 (differs 6)' '5 2 0 1 2 0\n6 i 2 0\n7 0 5 6 0\n' \
+        '1 added, 0 deleted, ended' '6 -2 0 3 4 0\n'
+done
+streams "an import of the other stream's clause, too early" '--serial' 3 \
+    '0 added, 0 deleted, bad line 1 (missing 6)' '6 i -2 0\n' \
+    '1 added, 0 deleted, ended' '6 -2 0 3 4 0\n'
+streams "an import of the other stream's clause, deleted by it" '--serial' 3 \
+    '2 added, 0 deleted, bad line 3 (retired 6)' '5 2 0 1 2 0\n7 2 0 1 2 0\n6 i -2 0\n' \
+    '1 added, 1 deleted, ended' '6 -2 0 3 4 0\n6 d 6 0\n'
 streams "the other stream's clause, too early" '--serial --tries 0' 3 \
     '0 added, 0 deleted, bad line 1 (missing 6)' '5 0 6 0\n' \
     '1 added, 0 deleted, ended' '6 -2 0 3 4 0\n'

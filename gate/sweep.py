@@ -6,6 +6,8 @@
 It builds refuse.c, which the loader puts before the C library, and runs PROGRAM with the first call of a kind refused, then
 with the second, and so on until a run meets no refusal; that run has to give the ample answer.
 """
+import functools
+import itertools
 import os
 import re
 import subprocess
@@ -21,25 +23,55 @@ EXAMPLES = ROOT / "examples"
 FOUR_CLAUSE = EXAMPLES / "four-clause.cnf"
 FOUR_SOLVERS = [EXAMPLES / f"bmc-four.{number}" for number in range(1, 5)]
 OUT_OF_MEMORY = Answer(6, "", "lrupd: out of memory\n")
+NO_FORMULA = Answer(5, "", "lrupd: cannot read formula\n")
+NO_ASSUMPTIONS = Answer(5, "", "lrupd: cannot read assumptions\n")
 ERRORS_OF_READS = ["EIO", "EINTR"]
 ERRORS_OF_WRITES = ["EIO", "ENOSPC", "EPIPE"]
 SHORT = ["short", "half"]
 MANY = 5_000
-ONE_LINE, MANY_LINES = "one line", f"{MANY} lines"  # as many allocations: lines take none
+ONE_LINE, MANY_LINES = "a line and an import", f"{MANY} lines and imports"  # as many allocations: lines take none
 SECONDS = 1  # within which a run ends whose thread isn't started
 
 
 class Input:
-    """Words, the ample answer, and what else may be said where something is refused."""
+    """Words, which end with the streams, and what else than the ample answer may be said where something is refused."""
 
-    def __init__(self, name, words, streams=0, dropped=(), alone=True, out=None):
+    def __init__(self, name, words, streams=0, dropped=(), waits=False, out=None):
         self.name, self.words, self.streams, self.out = name, [str(word) for word in words], streams, out
         self.dropped = dropped  # reports where the growth for a dropped identity is refused
-        self.alone = alone  # no stream cites another one's clauses
+        self.waits = waits  # for a minute, where a stream that others cite fails
+        self.assumes = "--assume" in self.words
 
 
-def lines_of(answer):
-    return answer.out.splitlines()
+class Machine:
+    """Runs the program, with a call refused."""
+
+    def __init__(self, program, folder):
+        self.program, self.shim, self.mark, self.stump = program, folder / "refuse.so", folder / "mark", folder / "stump"
+        subprocess.run([os.environ.get("CC", "cc"), "-std=gnu11", "-O2", "-shared", "-fPIC", "-o", self.shim,
+                        ROOT / "gate" / "refuse.c"], check=True)
+
+    def run(self, words, refuse="", out=None):
+        """The answer, whether a call was refused, and the seconds that it took."""
+        self.mark.unlink(missing_ok=True)
+        surroundings = {"LD_PRELOAD": str(self.shim), "REFUSE": refuse, "MARK": str(self.mark), "PATH": os.environ["PATH"]}
+        began = time.monotonic()
+        with open(out or os.devnull, "wb") as full:
+            done = subprocess.run([self.program, *words], env=surroundings, stdin=subprocess.DEVNULL, timeout=100,
+                                  stdout=full if out else subprocess.PIPE, stderr=subprocess.PIPE)
+        answer = Answer(done.returncode, (done.stdout or b"").decode(), done.stderr.decode())
+        return answer, self.mark.exists(), time.monotonic() - began
+
+    @functools.cache
+    def answer_without(self, given, number, line):
+        """What has to be said where the reading of a stream fails in a line: what is said where it ends before that line."""
+        words, place = list(given.words), number - 1 - given.streams
+        before = Path(words[place]).read_bytes().splitlines(keepends=True)[:line - 1]
+        self.stump.write_bytes(b"".join(before))
+        words[place] = str(self.stump)
+        answer, _, _ = self.run(words)
+        ended = rf"(c stream {number}: .*), ended\n"
+        return answer._replace(out=re.sub(ended, rf"\1, read failed at line {line}\n", answer.out))
 
 
 def is_cut(answer, ample):
@@ -47,32 +79,26 @@ def is_cut(answer, ample):
     return answer.status == 7 and answer.err == "lrupd: cannot write report\n" and ample.out.startswith(answer.out)
 
 
-def is_unopened(answer, streams):
-    causes = ["cannot read formula"] + [f"cannot open stream {number}" for number in range(1, streams + 1)]
-    return answer.status == 5 and answer.out == "" and answer.err in [f"lrupd: {cause}\n" for cause in causes]
+def is_unopened(answer, given):
+    return answer == NO_FORMULA or answer == NO_ASSUMPTIONS and given.assumes or answer in [
+        Answer(5, "", f"lrupd: cannot open stream {number}\n") for number in range(1, given.streams + 1)]
 
 
-def is_unstarted(answer, streams):
-    return answer.status == 6 and answer.out == "" and answer.err in [
-        f"lrupd: worker {number} not started\n" for number in range(1, streams + 1)]
+def is_unstarted(answer, given):
+    return answer in [Answer(6, "", f"lrupd: worker {number} not started\n") for number in range(1, given.streams + 1)]
 
 
 def is_refused_allocation(answer, ample, given):
-    return (answer == OUT_OF_MEMORY or answer in given.dropped or is_unopened(answer, given.streams)
-            or is_unstarted(answer, given.streams) or is_cut(answer, ample))
+    return (answer == OUT_OF_MEMORY or answer in given.dropped or is_unopened(answer, given)
+            or is_unstarted(answer, given) or is_cut(answer, ample))
 
 
-def is_failed_read(answer, ample, given):
-    """The formula wasn't read, or one stream failed; those that cite it may miss its clauses."""
-    if answer == Answer(5, "", "lrupd: cannot read formula\n"):
+def is_failed_read(answer, given, machine):
+    """The formula or the assumptions weren't read; or one stream fails, and the others are as without the rest of it."""
+    if answer == NO_FORMULA or answer == NO_ASSUMPTIONS and given.assumes:
         return True
-    if answer.err or len(lines_of(answer)) != len(lines_of(ample)):
-        return False
-    others = [(got, was) for got, was in zip(lines_of(answer)[:-1], lines_of(ample)[:-1])
-              if not re.search(r", read failed at line \d+$", got)]
-    verdict = {0: "s UNSATISFIABLE", 3: "s UNKNOWN"}.get(answer.status)
-    return (lines_of(answer)[-1] == verdict and len(others) + 2 == len(lines_of(ample))
-            and all(got == was or not given.alone and "(missing " in got for got, was in others))
+    failed = re.findall(r"^c stream (\d+): .*, read failed at line (\d+)$", answer.out, re.M)
+    return len(failed) == 1 and answer == machine.answer_without(given, *map(int, failed[0]))
 
 
 def is_failed_write(answer, ample):
@@ -82,58 +108,64 @@ def is_failed_write(answer, ample):
         answer.status == ample.status and answer.out == ample.out and ample.err.startswith(answer.err))
 
 
-def run(program, given, refuse, shim, mark):
-    """The answer, whether a call was refused, and the seconds that it took."""
-    mark.unlink(missing_ok=True)
-    surroundings = {"LD_PRELOAD": str(shim), "REFUSE": refuse, "MARK": str(mark), "PATH": os.environ["PATH"]}
-    began = time.monotonic()
-    with open(given.out or os.devnull, "wb") as full:
-        done = subprocess.run([program, *given.words], env=surroundings, stdin=subprocess.DEVNULL, timeout=100,
-                              stdout=full if given.out else subprocess.PIPE, stderr=subprocess.PIPE)
-    answer = Answer(done.returncode, (done.stdout or b"").decode(), done.stderr.decode())
-    return answer, mark.exists(), time.monotonic() - began
-
-
-def is_right(kind, how, answer, ample, given, seconds):
+def is_right(kind, how, answer, ample, given, seconds, machine):
     if kind == "thread":
-        return is_unstarted(answer, given.streams) and seconds < SECONDS
+        return is_unstarted(answer, given) and seconds < SECONDS
     if answer == ample:
         return True
     if kind == "allocate":
         return is_refused_allocation(answer, ample, given)
     if how in SHORT:
         return False
-    return is_failed_read(answer, ample, given) if kind == "read" else is_failed_write(answer, ample)
+    return is_failed_read(answer, given, machine) if kind == "read" else is_failed_write(answer, ample)
 
 
-def sweep(program, given, kind, how, shim, mark):
+def are_in_order(causes, ample, given):
+    """What the first reads are said to be of: the formula, then the assumptions, and then what isn't told on standard error."""
+    wanted = [NO_FORMULA.err] + [NO_ASSUMPTIONS.err] * given.assumes + [ample.err]
+    found = [cause for cause, _ in itertools.groupby(causes)]
+    reads_assumptions = given.assumes and ample != NO_ASSUMPTIONS
+    return found == wanted[:len(found)] and (not found or len(found) > reads_assumptions)
+
+
+def sweep(machine, given, kind, how):
     """How many calls were refused, and the answers that may not be."""
-    ample, _, _ = run(program, given, "", shim, mark)
-    wrong, number = [], 0
-    while True:
-        number += 1
+    ample, _, _ = machine.run(given.words, out=given.out)
+    wrong, causes = [], []
+    for number in itertools.count(1):
         refuse = f"{kind}:{number}" + (f":{how}" if how else "")
-        answer, refused, seconds = run(program, given, refuse, shim, mark)
+        answer, refused, seconds = machine.run(given.words, refuse, given.out)
         if not refused:
-            return number - 1, wrong + ([] if answer == ample else [f"{given.name}, nothing refused: {answer}"])
-        if not is_right(kind, how, answer, ample, given, seconds):
+            break
+        causes.append(answer.err)
+        if not is_right(kind, how, answer, ample, given, seconds, machine):
             wrong.append(f"{given.name}, {refuse}, {seconds:.1f} s: {answer}")
+    if answer != ample:
+        wrong.append(f"{given.name}, nothing refused: {answer}")
+    if how in ERRORS_OF_READS and kind == "read" and not are_in_order(causes, ample, given):
+        wrong.append(f"{given.name}, reads refused with {how}: {causes}")
+    return number - 1, wrong
 
 
 def inputs(folder):
     """What is swept."""
-    def stream(name, text):
+    def file(name, text):
         (folder / name).write_text(text)
         return folder / name
 
-    one = stream("one", "5 2 0 1 2 0\n7 0 5 3 4 0\n")
-    other = stream("other", "6 -2 0 3 4 0\n")
-    dropping = stream("dropping", "5 d 1 0\n5 2 0 1 2 0\n")
-    drops = stream("drops", "5 d 1 0\n")
-    drops_after = stream("drops_after", "5 2 0 1 2 0\n5 d 5 1 0\n")
-    bad = stream("bad", "p cnf 2 1\n1 x 0\n")
+    one = file("one", "5 2 0 1 2 0\n7 0 5 3 4 0\n")
+    other = file("other", "6 -2 0 3 4 0\n")
+    dropping = file("dropping", "5 d 1 0\n5 2 0 1 2 0\n")
+    drops = file("drops", "5 d 1 0\n")
+    drops_after = file("drops_after", "5 2 0 1 2 0\n5 d 5 1 0\n")
+    importing = file("importing", "5 2 0 1 2 0\n2 i 2 -1 0\n6 i -2 0\n7 0 5 6 0\n")
+    other_importing = file("other_importing", "6 -2 0 3 4 0\n5 i 2 2 0\n")
+    bad = file("bad", "p cnf 2 1\n1 x 0\n")
+    bad_cube = file("bad_cube", "-2  0\n")
     row_one = EXAMPLES / "four-clause.lrup"
-    lines = [f"{number} 101 -107 -108 -109 0 487 490 0\n" for number in range(534, 534 + MANY)]
+    assumed = [EXAMPLES / "assumed.cnf", EXAMPLES / "assumed.lrup"]
+    # The hints are those of the first line of bmc.lrup; the import is of the first clause of bmc.cnf.
+    lines = [f"{number} 101 -107 -108 -109 0 487 490 0\n1 i 13 -1 5 0\n" for number in range(534, 534 + MANY)]
 
     def dropped(text):
         return [Answer(3, f"c stream 1: {text}\ns UNKNOWN\n", "")]
@@ -147,14 +179,19 @@ def inputs(folder):
         yield Input("a drop after a deletion" + kind, [*serial, FOUR_CLAUSE, drops_after], 1,
                     dropped("1 added, 1 deleted, out of memory at line 2"))
         yield Input("row 1" + kind, [*serial, FOUR_CLAUSE, row_one], 1)
+        # So many tries take a third of a second, where the other stream fails.
+        few = serial or ["--tries", "5000", "--lines", "100", "--room", "100"]
+        yield Input("imports" + kind, [*few, FOUR_CLAUSE, importing, other_importing], 2)
+        yield Input("assumptions" + kind, [*few, "--assume", EXAMPLES / "assumed.cube", *assumed], 1)
+        yield Input("bad assumptions" + kind, [*few, "--assume", bad_cube, *assumed], 1)
         yield Input("four solvers" + kind,
-                    [*(serial or ["--tries", "1000000"]), EXAMPLES / "bmc.cnf", *FOUR_SOLVERS], 4, alone=False)
-        # The hints are those of the first line of bmc.lrup.
-        yield Input(ONE_LINE + kind, [*serial, EXAMPLES / "bmc.cnf", stream("line", lines[0])], 1)
-        yield Input(MANY_LINES + kind, [*serial, EXAMPLES / "bmc.cnf", stream("lines", "".join(lines))], 1)
+                    [*(serial or ["--tries", "1000000"]), EXAMPLES / "bmc.cnf", *FOUR_SOLVERS], 4, waits=not serial)
+        yield Input(ONE_LINE + kind, [*serial, EXAMPLES / "bmc.cnf", file("line", lines[0])], 1)
+        yield Input(MANY_LINES + kind, [*serial, EXAMPLES / "bmc.cnf", file("lines", "".join(lines))], 1)
     yield Input("help", ["--help"])
     yield Input("a mistake in the words", ["--tries", "x", FOUR_CLAUSE, row_one])
     yield Input("a bad formula", [bad, row_one], 1)
+    yield Input("missing assumptions", ["--assume", folder / "missing", FOUR_CLAUSE, row_one], 1)
     yield Input("a missing stream", [FOUR_CLAUSE, folder / "missing"], 1)
     yield Input("a full device", [FOUR_CLAUSE, row_one], 1, out="/dev/full")
 
@@ -164,8 +201,7 @@ def kinds(given):
     if given.name.startswith((ONE_LINE, MANY_LINES)):
         return
     yield "thread", ""
-    cascades = given.name == "four solvers"  # a stream that fails keeps the others waiting for a minute
-    for how in SHORT + ([] if cascades else ERRORS_OF_READS):
+    for how in SHORT + ([] if given.waits else ERRORS_OF_READS):
         yield "read", how
     for how in SHORT + ERRORS_OF_WRITES:
         yield "write", how
@@ -174,16 +210,13 @@ def kinds(given):
 def main():
     if len(sys.argv) != 2:
         sys.exit(__doc__)
-    program = os.path.abspath(sys.argv[1])
     began, refused, wrong, allocations = time.monotonic(), {}, [], {}
     with tempfile.TemporaryDirectory() as name:
         folder = Path(name)
-        shim = folder / "refuse.so"
-        subprocess.run([os.environ.get("CC", "cc"), "-std=gnu11", "-O2", "-shared", "-fPIC", "-o", shim,
-                        ROOT / "gate" / "refuse.c"], check=True)
+        machine = Machine(os.path.abspath(sys.argv[1]), folder)
         for given in inputs(folder):
             for kind, how in kinds(given):
-                count, answers = sweep(program, given, kind, how, shim, folder / "mark")
+                count, answers = sweep(machine, given, kind, how)
                 refused[kind] = refused.get(kind, 0) + count
                 wrong += answers
                 if kind == "allocate":

@@ -4,8 +4,9 @@
     test.py PROGRAM
 
 The recorded streams of examples/, with their hints shuffled, doubled and missing, with comments and loose spaces, have to come
-out as good streams of as many additions; and CaDiCaL's DRAT text in proofs/ likewise. It shows what is off; the last line is
-'N passed, M failed', and the status is 1 where a run failed.
+out as good streams of as many additions; so have those of several solvers with an import for each clause of another one that
+they cite, and CaDiCaL's DRAT text in proofs/. It shows what is off; the last line is 'N passed, M failed', and the status is 1
+where a run failed.
 """
 import os
 import random
@@ -43,6 +44,28 @@ def additions_of(path):
         return sum(" d " not in line for line in file)
 
 
+def clauses_of(path):
+    """The literals of each clause that a stream derives, by its identity."""
+    with open(path) as file:
+        lines = [line.split() for line in file]
+    return {words[0]: words[1:words.index("0", 1)] for words in lines if words[1] != "d"}
+
+
+def with_imports(path, others, seed, out):
+    """The stream, with an import of each clause of the others before the line that cites it first."""
+    numbers = random.Random(seed)
+    foreign = {identity: literals for other in others for identity, literals in clauses_of(other).items()}
+    with open(path) as stream, open(out, "w") as file:
+        for line in stream:
+            words = line.split()
+            for hint in words[words.index("0", 1):] if words[1] != "d" else []:
+                if hint in foreign:
+                    literals = foreign.pop(hint)
+                    numbers.shuffle(literals)
+                    file.write(" ".join([hint, "i", *literals, "0"]) + "\n")
+            file.write(line)
+
+
 def mangle(path, seed, keep, out):
     """Hints shuffled and some doubled, a third of the lines without one or all of those that needn't be kept; and spaces."""
     numbers = random.Random(seed)
@@ -50,7 +73,7 @@ def mangle(path, seed, keep, out):
         file.write("c a comment\n\n")
         for line in stream:
             words = line.split()
-            if words[1] != "d":
+            if words[1] not in ("d", "i"):
                 end = words.index("0", 1)
                 hints = words[end + 1:-1]
                 chance = numbers.randrange(6)
@@ -77,20 +100,30 @@ def check(program, formula, streams, options=()):
     want((verdict, done.returncode), ("s UNSATISFIABLE", 0), "the verdict")
 
 
-def mangled(program, formula, names, seed, work):
+def imports_in(text):
+    return [line.split() for line in text.splitlines() if " i " in line]
+
+
+def mangled(program, formula, names, seed, imports, work):
+    """With imports the filter sees one stream alone, and without them all."""
     count, formula = len(names), example(formula)
     with open(formula) as file:
         clauses = int(next(line for line in file if line.startswith("p ")).split()[3])
     streams = []
     for number, name in enumerate(names, 1):
-        loose, out = os.path.join(work, f"loose{number}"), os.path.join(work, f"exact{number}")
-        others = [word for other in range(1, count + 1) if other != number
-                  for word in ("--other", f"{other}={example(names[other - 1])}")]
-        # A clause of another stream isn't known where no hint names it.
-        foreign = lambda hint: hint > clauses and (hint - clauses - 1) % count != number - 1
-        mangle(example(name), f"{seed} {number}", foreign, loose)
-        text, said, status = exact(["--stream", str(number), "--streams", str(count)] + others + [formula, loose])
+        source, loose, out = example(name), os.path.join(work, f"loose{number}"), os.path.join(work, f"exact{number}")
+        others = {other: example(names[other - 1]) for other in range(1, count + 1) if other != number}
+        # A clause of another stream isn't known where neither an import nor a hint names it.
+        foreign = lambda hint: not imports and hint > clauses and (hint - clauses - 1) % count != number - 1
+        if imports:
+            source = os.path.join(work, f"imports{number}")
+            with_imports(example(name), others.values(), f"{seed} {number}", source)
+        mangle(source, f"{seed} {number}", foreign, loose)
+        seen = [word for other, path in others.items() for word in ("--other", f"{other}={path}")] if not imports else []
+        text, said, status = exact(["--stream", str(number), "--streams", str(count)] + seen + [formula, loose])
         want((said, status), ("", 0), name)
+        with open(source) as file:
+            want(imports_in(text), imports_in(file.read()), f"the imports of {name}")
         with open(out, "w") as file:
             file.write(text)
         streams.append((out, additions_of(example(name))))
@@ -115,9 +148,9 @@ def written(text, work):
     return path
 
 
-def stops(formula, proof, cause, lines, work):
+def stops(formula, proof, cause, lines, words, work):
     """At the line that has the cause; those before it are out."""
-    text, said, status = exact([written(formula, work)], proof)
+    text, said, status = exact(words + [written(formula, work)], proof)
     want((text, status), (lines, 1), "what came out")
     if cause not in said or said.count("\n") != 1:
         raise Failure(f"wanted a word on '{cause}', and not\n{said}")
@@ -138,6 +171,41 @@ def live(work):
             want((found[0], sorted(found)), (line.split(" ")[0], sorted(line.split(" "))), "a live line")
 
 
+def runs_of_few_lines():
+    first, one_of_two = "5 2 0 1 2 0\n", ["--stream", "1", "--streams", "2"]
+    runs = [
+        ("a RAT step with hints", FOUR, "5 2 0 1 2 0\n6 1 0 -3 4 0\n", "line 2: a RAT step", first, []),
+        ("a RAT step without hints", "p cnf 2 1\n1 2 0\n", "1 2 0\n1 0\n",
+         "line 2: no conflict by unit propagation: a RAT step", "2 1 2 0 1 0\n", []),
+        ("both kinds", FOUR, "5 2 0 1 2 0\n0\n", "line 2: a step of DRUP or DRAT text", first, []),
+        ("not text", FOUR, "a\x02\x04\x00", "line 1: not text", "", []),
+        ("a variable that isn't there", FOUR, "3 0\n", "line 1: a variable", "", []),
+        ("an identity of the formula's", FOUR, "4 2 0 1 2 0\n", "line 1: the identity 4", "", []),
+        ("an import of its own", FOUR, f"{first}5 i 2 0\n", "line 2: an import of 5, which is no clause", first, []),
+        ("an import of nothing", FOUR, "0 i 2 0\n", "line 1: an import of 0, which is no clause", "", []),
+        ("an import of another clause", FOUR, "1 i 1 2 1 0\n1 i 1 0\n",
+         "line 2: the literals of the import aren't those of the clause 1", "1 i 1 2 1 0\n", []),
+        ("two imports that differ", FOUR, "6 i 1 2 0\n6 i 2 0\n",
+         "line 2: the literals of the import aren't those of the clause 6", "6 i 1 2 0\n", one_of_two),
+        ("an import of what was deleted", FOUR, "5 d 1 0\n1 i 1 2 0\n",
+         "line 2: an import of 1, which was deleted", "1 d 1 0\n", []),
+        ("an import of another's that was deleted", FOUR, "6 i 1 2 0\n5 d 6 0\n6 i 1 2 0\n",
+         "line 3: an import of 6, which was deleted", "6 i 1 2 0\n1 d 6 0\n", one_of_two),
+        ("an import with a variable that isn't there", FOUR, "6 i 3 0\n", "line 1: a variable", "", one_of_two),
+        ("an import after other numbers", FOUR, "9 2 0 1 2 0\n6 i -2 0\n", "line 2: an import, and", first, one_of_two),
+        ("an import in DRUP", FOUR, "2 0\n6 i -2 0\n", "line 2: a step of LRAT text", first, one_of_two),
+    ]
+    runs = [(name, stops, *arguments) for name, *arguments in runs]
+    return runs + [
+        ("other numbers", comes_out, "c x\no proof DRUP\n 70  2 0 2 1 2 0\n70 d 1 99 0\n\n71 0 4 3 70 0\n",
+         "6 2 0 2 1 0\n6 d 1 0\n8 0 6 4 3 0\n", ["--stream", "2", "--streams", "2"]),
+        ("imports", comes_out, "1  i 2 1 0\n5 2 0 2 1 1 0\n6 i -2 -2 0\n7 0 6 1 5 0\n11 0 5 6 0\n",
+         "1 i 2 1 0\n5 2 0 2 1 0\n6 i -2 -2 0\n7 0 6 5 0\n11 0 5 6 0\n", one_of_two),
+        ("a tautology, which is of no use", comes_out, "1 -1 0\n2 0\n", first, []),
+        ("a pipe", live),
+    ]
+
+
 def main():
     if len(sys.argv) != 2:
         sys.exit(__doc__)
@@ -149,25 +217,13 @@ def main():
             ("bmc.cnf", "bmc.lrup"),
             ("pigeonhole.cnf", "pigeonhole-two.1", "pigeonhole-two.2"),
             ("bmc.cnf", "bmc-four.1", "bmc-four.2", "bmc-four.3", "bmc-four.4"))):
-        runs.append((names[0], mangled, program, formula, names, seed))
+        for imports in (False, True) if len(names) > 1 else (False,):
+            runs.append((names[0] + ", imports" * imports, mangled, program, formula, names, seed, imports))
     proofs = os.path.join(HERE, "proofs")
     for formula, name in ((example("pigeonhole.cnf"), "pigeonhole.drat"), (os.path.join(proofs, "random.cnf"), "random.drat")):
         for stream, count in ((1, 1), (2, 3)):
             runs.append((name, without_hints, program, formula, os.path.join(proofs, name), stream, count))
-    first = "5 2 0 1 2 0\n"
-    runs += [
-        ("a RAT step with hints", stops, FOUR, "5 2 0 1 2 0\n6 1 0 -3 4 0\n", "line 2: a RAT step", first),
-        ("a RAT step without hints", stops, "p cnf 2 1\n1 2 0\n", "1 2 0\n1 0\n",
-         "line 2: no conflict by unit propagation: a RAT step", "2 1 2 0 1 0\n"),
-        ("both kinds", stops, FOUR, "5 2 0 1 2 0\n0\n", "line 2: a step of DRUP or DRAT text", first),
-        ("not text", stops, FOUR, "a\x02\x04\x00", "line 1: not text", ""),
-        ("a variable that isn't there", stops, FOUR, "3 0\n", "line 1: a variable", ""),
-        ("an identity of the formula's", stops, FOUR, "4 2 0 1 2 0\n", "line 1: the identity 4", ""),
-        ("other numbers", comes_out, "c x\no proof DRUP\n 70  2 0 2 1 2 0\n70 d 1 99 0\n\n71 0 4 3 70 0\n",
-         "6 2 0 2 1 0\n6 d 1 0\n8 0 6 4 3 0\n", ["--stream", "2", "--streams", "2"]),
-        ("a tautology, which is of no use", comes_out, "1 -1 0\n2 0\n", first, []),
-        ("a pipe", live),
-    ]
+    runs += runs_of_few_lines()
     failed = 0
     for name, function, *arguments in runs:
         with tempfile.TemporaryDirectory() as work:

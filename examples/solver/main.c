@@ -1,9 +1,10 @@
 // Unverified: several solvers that share their clauses, and write a stream each for lrupd. An example, and no part of lrupd.
 //
-//     solver [--share LBD] [--seed N] [--first S --streams N] [--progress] FORMULA STREAM...
+//     solver [--share LBD] [--imports] [--seed N] [--first S --streams N] [--progress] FORMULA STREAM...
 //
 // One thread for each STREAM. They are the streams 1, 2, .. of lrupd's command line; or, with --first and --streams, S, S + 1, ..
-// of N, where other processes write the rest. Clauses of at most that LBD are given to the other threads (4; 0: none).
+// of N, where other processes write the rest. Clauses of at most that LBD are given to the other threads (4; 0: none). With
+// --imports a stream has a line for each clause of another thread that its own took over.
 // Standard output: what each stream has, the answer, and where the formula is satisfiable an assignment, which was checked.
 // The status is 20 where the formula is refuted, 10 where it is satisfied, 1 where something failed.
 #include <signal.h>
@@ -102,12 +103,14 @@ static void run_all(Portfolio *portfolio) {
 }
 
 static void tell(const Portfolio *portfolio, double time) {
-    unsigned long bytes = 0;
+    unsigned long bytes = 0, imported = 0;
     for (int k = 0; k < portfolio->solvers; k++) {
         const Proof *proof = &portfolio->solver[k].proof;
         printf("c stream %d: %lu added, %lu deleted\n", portfolio->first + k, proof->added, proof->deleted);
         bytes += proof->bytes;
+        imported += proof->imported;
     }
+    if (portfolio->imports) printf("c %lu imports\n", imported);
     printf("c %lu bytes in %.2f s\n", bytes, time);
     puts(portfolio->answer == SATISFIABLE ? "s SATISFIABLE" : "s UNSATISFIABLE");
     if (portfolio->answer != SATISFIABLE) return;
@@ -124,7 +127,7 @@ int main(int count, char **words) {
     portfolio.solvers = count - (int)(paths - words) - 1;
     if (portfolio.streams == 0) portfolio.streams = portfolio.solvers;
     if (portfolio.solvers < 1 || portfolio.first < 1 || portfolio.first + portfolio.solvers - 1 > portfolio.streams)
-        fail("usage: solver [--share LBD] [--seed N] [--first S --streams N] [--progress]", "FORMULA STREAM...");
+        fail("usage: solver [--share LBD] [--imports] [--seed N] [--first S --streams N] [--progress]", "FORMULA STREAM...");
     if (portfolio.solvers == 1) portfolio.share = 0;
     signal(SIGPIPE, SIG_IGN);       // a reader that went away is told as a write that failed
     formula_read(&portfolio.formula, paths[0]);

@@ -90,7 +90,7 @@ void proof_delete(Proof *proof, const Identities *identities) {
     proof->deleted += identities->length;
 }
 
-// "id i literals 0": this solver took over that clause.
+// "id i literals 0": this solver took over that clause of another one, whose line was flushed before. It takes no identity.
 void proof_import(Proof *proof, uint64_t identity, const Literal *literals, size_t length) {
     put_number(proof, identity);
     put_byte(proof, ' ');
@@ -98,6 +98,7 @@ void proof_import(Proof *proof, uint64_t identity, const Literal *literals, size
     put_byte(proof, ' ');
     put_literals(proof, literals, length);
     put_byte(proof, '\n');
+    proof->imported++;
 }
 
 void proof_close(Proof *proof) {

@@ -52,7 +52,7 @@ typedef struct {
     uint64_t last;                  // the identity of the last line
     size_t used;
     char buffer[1 << 16];
-    atomic_ulong added, deleted, bytes;
+    atomic_ulong added, deleted, imported, bytes;
 } Proof;
 
 void proof_open(Proof *proof, const char *path, uint64_t clauses, int stream, int streams);

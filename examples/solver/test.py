@@ -5,7 +5,8 @@
 
 Each report has to say of each stream that it ended, with the additions and deletions that the solver says it wrote; where the
 formula is unsatisfiable the status has to be 0. Where nothing is shared the streams also go to files, whose report has to be
-the same with --serial. Then solvers are killed in the middle: each stream ended, or is truncated. It shows what is off; the
+the same with --serial. Imports change nothing of that; all of a run's imports also make a stream of their own, to which one is
+added that was garbled. Then solvers are killed in the middle: each stream ended, or is truncated. It shows what is off; the
 last line is 'N passed, M failed', and the status is 1 where a run failed.
 """
 import os
@@ -36,6 +37,15 @@ ROWS = [
     ("random 120 7 3.8", SATISFIABLE, 4, 0),
     ("order 15", UNSATISFIABLE, 1, 4),
     ("random 120 8 5", UNSATISFIABLE, 3, 0),
+]
+
+# Rows with imports, of solvers that run long enough to take clauses over.
+IMPORTS = [
+    ("random 170 4", UNSATISFIABLE, 3, 100),
+    ("random 200 9", SATISFIABLE, 4, 4),
+    ("pigeons 7", UNSATISFIABLE, 2, 100),
+    ("order 15", UNSATISFIABLE, 5, 4),
+    ("random 180 3", UNSATISFIABLE, 8, 2),
 ]
 
 
@@ -101,6 +111,36 @@ def recorded(program, solver, path, answer, streams, work):
     want(run([program, "--serial"] + [path] + files), wanted, "the report with --serial")
 
 
+def garbled(line):
+    """An import without its first literal, or of a unit clause with its complement."""
+    identity, kind, literal, *rest = line.split()
+    if rest == ["0"]:
+        rest = [str(-int(literal)), "0"]
+    return " ".join([identity, kind, *rest]) + "\n"
+
+
+def imported(program, solver, path, answer, streams, work):
+    """Files, beside a stream of all their imports; and of one more, which is garbled."""
+    files = [os.path.join(work, f"stream{number}") for number in range(1, streams + 1)]
+    said, status = run(solver + ["--streams", str(streams + 1), path] + files)
+    ended, status = judge_solver(said, status, answer, path)
+    *reports, verdict = ended.splitlines()
+    imports = []
+    for name in files:
+        with open(name) as stream:
+            imports += [line for line in stream if " i " in line]
+    if not imports or f"c {len(imports)} imports" not in said.splitlines():
+        raise Failure(f"there are {len(imports)} imports, and the solver says\n{said}")
+    bad = imports[len(imports) // 2]
+    differs = f"bad line {len(imports) + 1} (differs {bad.split()[0]})"
+    for lines, ending in ((imports, "ended"), (imports + [garbled(bad)], differs)):
+        others = os.path.join(work, "imports")
+        with open(others, "w") as file:
+            file.writelines(lines)
+        report = [*reports, f"c stream {streams + 1}: 0 added, 0 deleted, {ending}", verdict, ""]
+        want(run([program] + OPTIONS + [path] + files + [others]), ("\n".join(report), status), "the report beside imports")
+
+
 def killed(program, solver, path, streams, seconds, work):
     pipes = make_pipes(work, streams)
     with subprocess.Popen(solver + [path] + pipes, stdout=subprocess.DEVNULL) as solvers, \
@@ -146,10 +186,16 @@ def main():
             outcomes.append(attempt(name, live, program, command, path, answer, streams))
             if streams == 1 or share == 0:
                 outcomes.append(attempt(name + ", files", recorded, program, command, path, answer, streams))
+        for seed, (words, answer, streams, share) in enumerate(IMPORTS, 1):
+            generate(words, path)
+            command = [solver, "--imports", "--seed", str(seed), "--share", str(share)]
+            name = f"{words}, {streams} streams, shared up to {share}, imports"
+            outcomes.append(attempt(name, live, program, command, path, answer, streams))
+            outcomes.append(attempt(name + ", files", imported, program, command, path, answer, streams))
         generate("pigeons 12", path)    # takes much longer than it is let run
         for streams, seconds in ((1, 0.2), (3, 0.4), (8, 0.6)):
             name = f"{streams} streams, killed after {seconds} s"
-            outcomes.append(attempt(name, killed, program, [solver, "--share", "100"], path, streams, seconds))
+            outcomes.append(attempt(name, killed, program, [solver, "--imports", "--share", "100"], path, streams, seconds))
     print(f"{len(outcomes) - sum(outcomes)} passed, {sum(outcomes)} failed")
     return 1 if any(outcomes) else 0
 

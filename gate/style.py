@@ -1,0 +1,257 @@
+#!/usr/bin/env python3
+"""What neither the prover nor the compiler looks at.
+
+    python3 gate/style.py          names in backticks, in the documents, that don't exist
+    python3 gate/style.py --all    also lines of clauses and of definitions beyond 100 columns, and lemmas that are stated twice
+
+It lists what it finds; the last line has the counts, and the status is 1 where one of them isn't 0.
+
+A name in backticks is looked for in the code, the definitions and proofs, the scripts, and the names of files; of `Type::call`
+and `Module.name` the pair. Where several words stand in backticks, a name is one with an underscore, a capital within or `::`, an
+option or a path.
+"""
+import os
+import re
+import sys
+from collections import defaultdict
+from pathlib import Path
+
+ROOT = Path(__file__).resolve().parent.parent
+COLUMNS = 100
+# What stands in backticks and isn't of this repository: the toolchain's, the system's, other programs', and what a text makes up.
+FOREIGN = set("""
+ANTT.md CONTRACTS.md SHORTER_PROOFS.md BUILD.bazel start_lib start_io untested --only
+cadical --plain --no-binary pv socat ssh madvise
+group1 group2 my_lemma run_ serial_ worker_ XValue OPTIONS=--serial
+""".split())
+
+
+def shown(path):
+    return str(path.relative_to(ROOT))
+
+
+def files(pattern):
+    """The files of the repository whose names match, in order; none of those that are built."""
+    found = []
+    for folder, folders, names in os.walk(ROOT):
+        folders[:] = [name for name in folders if name not in ("out", ".git", "__pycache__")]
+        found += [Path(folder, name) for name in names]
+    return sorted(path for path in found if re.fullmatch(pattern, shown(path)))
+
+
+# Lines that are too long.
+
+
+def clause_lines(lines):
+    """The numbered lines of clauses, each from `requires` or `ensures` on to its last brace."""
+    depth = 0
+    for number, line in enumerate(lines, 1):
+        if depth > 0 or re.match(r"\s*(requires|ensures)\b", line):
+            yield number, line
+            depth += line.count("{") - line.count("}")
+
+
+def wide_clauses():
+    for path in files(r"crates/\w+/src/.*\.rt"):
+        for number, line in clause_lines(path.read_text().splitlines()):
+            if len(line) > COLUMNS:
+                yield f"{shown(path)}:{number}: a clause has {len(line)} columns"
+
+
+def wide_definitions():
+    """Of definitions and of the statements of lemmas, and not of their proofs."""
+    for path in files(r"crates/\w+/specs/.*\.antt"):
+        lemmas = {name for name, statement, _ in statements(path) if normal(statement)}
+        skipped = False
+        for number, line in enumerate(path.read_text().splitlines(), 1):
+            if not line.startswith(" "):
+                first, _, rest = line.partition(" ")
+                skipped = first in ("use", "--") or line.startswith("pub use ") or first in lemmas and not rest.startswith(": ")
+            if len(line) > COLUMNS and not skipped:
+                yield f"{shown(path)}:{number}: a line has {len(line)} columns"
+
+
+# Lemmas that are stated twice.
+
+
+def statements(path):
+    """The names and types that a file of definitions or lemmas declares, with the numbers of their lines."""
+    name, text, at = None, [], 0
+    for number, line in enumerate(path.read_text().splitlines() + ["end"], 1):
+        begins = re.match(r"(?:pub )?([^\s:({]+) : (.*)$", line)
+        if name and (begins or not line.startswith(" ")):
+            yield name, " ".join(text), at
+            name = None
+        if begins:
+            name, text, at = begins.group(1), [begins.group(2)], number
+        elif name:
+            text.append(line.split("--")[0].strip())
+
+
+def binders(statement):
+    """The names that a statement binds at its top, with their types, and what follows them."""
+    found, rest = [], statement.strip()
+    while True:
+        match = re.match(r"([({])([^(){}:]+) : ", rest)
+        if not match:
+            return found, rest
+        depth, place = 0, 0
+        for place, char in enumerate(rest):
+            depth += (char in "({") - (char in ")}")
+            if depth == 0:
+                break
+        for name in match[2].split():
+            found.append((name, rest[match.end():place]))
+        rest = re.sub(r"^\s*→\s*", "", rest[place + 1:]).strip()
+
+
+WORD = re.compile(r"[^\s(){}\[\],;.]+")
+
+
+def normal(statement):
+    """A lemma's statement, with numbers for the names it binds; None of a function, whose result type speaks of none of them."""
+    found, rest = binders(" ".join(statement.split()))
+    conclusion = re.split(r" → ", rest)[-1]
+    names = [name for name, _ in found]
+    if not set(names) & set(WORD.findall(conclusion)):
+        return None
+    text = " ".join(f"({name} : {kind})" for name, kind in found) + " ⊢ " + rest
+    bound = dict.fromkeys(names + re.findall(r"λ ([^\s.]+)\.", text))
+    numbers = {name: f"#{number}" for number, name in enumerate(bound)}
+    return WORD.sub(lambda word: numbers.get(word[0], word[0]), text)
+
+
+def repeated_statements():
+    places = defaultdict(list)
+    for path in files(r"crates/\w+/(specs|proofs)/.*\.antt"):
+        for name, statement, number in statements(path):
+            text = normal(statement)
+            if text:
+                places[text].append(f"{shown(path)}:{number} {name}")
+    for found in places.values():
+        if len(found) > 1:
+            yield "stated " + str(len(found)) + " times: " + ", ".join(found)
+
+
+# Names in backticks.
+
+
+def spans(path):
+    """What stands in backticks in a document, with the number of the line where it begins; not in blocks of code."""
+    blank = lambda block: re.sub(r"[^\n]", " ", block[0])
+    text = re.sub(r"^```.*?^```$", blank, path.read_text(), flags=re.M | re.S)
+    text = re.sub(r"(?<=\n\n)(?:    .*\n)+", blank, text)
+    for match in re.finditer(r"`([^`]+)`", text):
+        yield text.count("\n", 0, match.start()) + 1, " ".join(match[1].split())
+
+
+class Sources:
+    """The names that there are: of the code without its comments, and of files; and what is declared in what."""
+
+    def __init__(self):
+        self.names, self.options, self.members, self.paths = set(), set(), defaultdict(set), set()
+        for path in files(".*"):
+            self.read_path(path)
+            if path.suffix in (".rt", ".antt"):
+                code = re.sub(r"(?<!:)//.*" if path.suffix == ".rt" else r"--.*", "", path.read_text())
+                (self.read_rattle if path.suffix == ".rt" else self.read_antt)(path, code)
+            elif path.suffix in (".c", ".h", ".py", ".sh", ".in", ".toml", ".txt", "") and path.name != "HANDLES":
+                code = path.read_text()
+            else:
+                continue
+            self.names.update(re.findall(r"[^\W\d][\w'-]*", code))
+            self.names.update(re.findall(r"[^\W\d]\w*", code))
+            self.options.update(re.findall(r"--[a-z][\w-]*", code))
+            self.options.update("--" + word for word in re.findall(r'"([a-z][a-z-]*)"', code))
+
+    def read_path(self, path):
+        name = shown(path)
+        while name and name != ".":
+            parts = name.split("/")
+            self.paths.update("/".join(parts[first:]) for first in range(len(parts)))
+            self.names.update([parts[-1], parts[-1].split(".")[0]])
+            name = str(Path(name).parent)
+
+    def read_antt(self, path, code):
+        """Of each line the first name: a definition's, a member's, a constructor's."""
+        holder = None
+        for line in code.splitlines():
+            match = re.match(r"(\s*)\|?\s*(?:(?:pub|abbrev|unfoldable|record|data|module) )*([^\s:({]+)", line)
+            if match:
+                holder = holder if match[1] else match[2]
+                self.members[path.stem].add(match[2])
+                self.members[holder].add(match[2])
+
+    def read_rattle(self, path, code):
+        """The items of the file, and of each type and trait its functions and variants."""
+        crate, holder = path.relative_to(ROOT).parts[1], None
+        for line in code.splitlines():
+            block = re.match(r"(?:pub(?:\(crate\))? )?(?:impl(?:<.*?>)? (?:[^{]* for )?|enum |trait |struct |mod )(\w+)", line)
+            holder = block[1] if block else None if line.startswith("}") else holder
+            item = re.search(r"\b(?:fn|struct|enum|trait|type|mod|const|ghost) (\w+)", line)
+            item = item or re.match(r"    (?:pub )?(\w+)", line)
+            if item:
+                for place in (path.stem, crate, holder):
+                    self.members[place].add(item[1])
+
+    def has_pair(self, holder, name):
+        return name in self.members.get(holder, ())
+
+    def has_path(self, path):
+        parts = path.strip("/").split("/")
+        return (path.startswith(("/dev/", "/sys/")) or "out" in parts or "/".join(parts) in self.paths
+                or any(re.fullmatch("[A-Z_]+(_tests)?", part) for part in parts))
+
+    def has(self, word):
+        """Whether there is something of that name."""
+        if word.startswith("--"):
+            return word.split("=")[0] in self.options
+        if "/" in word:
+            return self.has_path(word)
+        if "::" in word or "." in word:
+            parts = re.split(r"::|\.", word)
+            return word in self.names or self.has_pair(*parts[-2:])
+        return word in self.names
+
+
+def names_of(span):
+    """The words of a span that are names: all of one word; of several those that can't be words of a text."""
+    words = [re.sub(r"^[&#!\[(]+|(\(.*\)|[)\],;:?]|\.\.+)+$", "", word) for word in span.split()]
+    made_up = r"\W*[A-Z]+|.*\bNAME\b.*|NAME_.*|\.\w+(\.in)?|\d.*"      # placeholders, ends of files' names, and figures
+    words = [word for word in words if re.search(r"[^\W\d_]", word) and not re.fullmatch(made_up, word)]
+    if len(span.split()) == 1:
+        return words
+    return [word for word in words if re.search(r"[^\W\d]_|[a-z][A-Z]|::|[a-z]/|^--[a-z]", word)]
+
+
+def unknown_names():
+    sources = Sources()
+    targets = re.findall(r"^([a-z-]+):", (ROOT / "Makefile").read_text(), re.M)
+    pages = [path for path in files(r".*\.md") if path.name != "AUDIT.md"]      # which is made of the sources
+    for path, number, span in ((path, *found) for path in pages for found in spans(path)):
+        words = names_of(span) if span not in FOREIGN and not span.startswith("rt ") else []
+        unknown = [word for word in words if word not in FOREIGN and not sources.has(word)]
+        if re.match(r"make [a-z-]+$", span) and span[5:] not in targets:
+            unknown.append(span)
+        for word in unknown:
+            yield f"{shown(path)}:{number}: there is no `{word}`" + (f", of `{span}`" if word != span else "")
+
+
+def main():
+    if sys.argv[1:] not in ([], ["--all"]):
+        sys.exit(__doc__)
+    checks = [("names in backticks that don't exist", unknown_names)]
+    if sys.argv[1:]:
+        checks += [("lines of clauses too wide", wide_clauses), ("lines of definitions too wide", wide_definitions),
+                   ("statements of lemmas more than once", repeated_statements)]
+    counts = []
+    for what, check in checks:
+        found = list(check())
+        counts.append(f"{len(found)} {what}")
+        for line in found:
+            print(line)
+    print("; ".join(counts))
+    sys.exit(0 if all(count.startswith("0 ") for count in counts) else 1)
+
+
+main()
