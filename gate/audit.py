@@ -388,10 +388,12 @@ class Part:
         self.title, self.about = title, about
         self.head, given = source.function(name)
         self.clauses = [given[clause] for clause in clauses or given]
+        self.ensured = {clause: source.used(given[clause]) for clause in clauses or given if "ensures" in given[clause]}
         text = "\n".join(self.clauses)
         roots = source.used(text) + source.types(text) + [rust_type(*thing) for thing in seen]
         self.all = closure(roots, {}).values()
         self.found = {thing.key(): thing for thing in self.all if thing.key() not in known}
+        self.known_files = {thing.file for thing in known.values() if isinstance(thing, Definition)}
         self.definitions = [thing for thing in self.found.values() if isinstance(thing, Definition)]
         self.types = [thing for thing in self.found.values() if isinstance(thing, RustType)]
         self.of_libraries = source.of_libraries(text).union(
@@ -404,6 +406,7 @@ class Part:
         yield self.about + "\n"
         yield code("\n".join([self.head] + self.clauses), "rust")
         yield self.counts()
+        yield self.beginnings()
         yield "### Types and traits of the code\n"
         for thing in sorted(self.types, key=lambda t: (ALL_CRATES.index(t.crate), str(t.file), t.name)):
             seen = f", which contracts see as `{thing.value}`" if thing.value else ""
@@ -414,7 +417,8 @@ class Part:
             if crate_of(file.path) != crate:
                 crate = crate_of(file.path)
                 yield f"### {crate}\n"
-            yield f"#### {crate}: {file.path.stem}\n"
+            rest = ", the rest" if file in self.known_files else ""
+            yield f"#### {crate}: {file.path.stem}{rest}\n"
             texts = ["\n".join(definition.comment + [definition.text]) for definition in definitions]
             yield code("\n\n".join(["\n".join(file.title)] + texts), "agda")
 
@@ -422,6 +426,15 @@ class Part:
         """The crates, each with the count of its definitions."""
         crates = [crate_of(definition.file.path) for definition in self.definitions]
         return [(crate, crates.count(crate)) for crate in ALL_CRATES if crate in crates]
+
+    def beginnings(self):
+        """The names at which each clause begins, and how many definitions it stands on."""
+        rows = ["| Clause | Begins at | Definitions behind it |", "|---|---|---|"]
+        for clause, roots in self.ensured.items():
+            names = dict.fromkeys(thing.name for thing in roots if isinstance(thing, Definition))
+            behind = sum(isinstance(thing, Definition) for thing in closure(roots, {}).values())
+            rows.append(f"| `{clause}` | {', '.join(f'`{name}`' for name in names)} | {behind} |")
+        return "\n".join(rows) + "\n"
 
     def counts(self):
         each = ", ".join(f"{count} of `{crate}`" for crate, count in self.crates())
@@ -442,17 +455,36 @@ in words, with examples.
 How to read it: `A × B` is 'A and B', `A ⊎ B` 'A or B', `A → B` 'if A then B' or a function, `¬ A` 'not A', `⊥` what never holds,
 `Unit {0}` what always holds; `(x : A) × B` is 'there is an x', `(x : A) → B` 'for each x'; `λ x. y` is a function; a record holds
 all of its members; `≡` is equality, `≢` its opposite; `List ℕ` holds bytes or numbers, `++` puts lists together, `x ∷ xs` puts an
-element in front. In a clause `old` and `new` are what a reference had before the call and after it, `now` what it has.
+element in front; on ℕ `m - n` is 0 where n is greater. A whole number is `pos n`, which is n, or `negsuc n`, which is -(n + 1).
+`Type 0` is what a statement is of, `{A : Type 0} →` a type that a reader may pass over, `abbrev` and `unfoldable` tell the prover
+alone how a name is unfolded. `ForSome o P`, and `IfSome o P`, is 'if `o` is `Some x`, then P of x', and says nothing of `None`; so
+`IfOk r P`, `IfErr r P`, `OnOk r Q`; `IsTrue b` is 'b is true'; `AllByRecursion P xs` 'P of each element'. `v.items` is the list of a
+`Vec`. A dot and a name before a constructor tell its type, as a file brings it in: `owners.Stream` is an `Owner`, `endings.Ended`
+an `Ending`, `events.fetch` an `Event`; `faults.` is the `Fault` of what the file speaks of. In a clause `old` and `new` are what a
+reference had before the call and after it, `now` what it has.
+
+All clauses say of what is answered that it is right. None says that something is answered: 'out of memory' may always come.
 """
 
 STATUS = """What a user of the program relies on. The words are those of the command line after the program's name; `out` and
 `err` haven't failed before. Of `files` the clause speaks by the traits `Files` and `Source`, with what their calls `open` and
-`read` promise."""
+`read` promise. It is one clause of `command`; others, which aren't on this page, say the rest of the table (`ends`, `usage`,
+`unwritten`). `main` hands the machine's files, its arguments and its standard output and error to `command_with_arguments`, which
+has these clauses over arguments and exit status, and does nothing else; it has no contract.
+
+What a file tells (`tells`), and what its calls do (`opens`, `reads`), is said by those who write `Files` and `Source`. The machine's
+tell no bytes, and say nothing of their calls, so of them alone this clause says little. But `command` is proved for all files, those
+too that tell their bytes and whose calls do one thing alone, and it can't tell one kind from another, since what is `ghost` isn't
+there when it runs: what it does with the machine's files it would do with those, for which the clause leaves no choice."""
+
+ASSUMED = """What a user of `--assume` relies on, by another clause of the same function; what stands above isn't repeated."""
 
 LIBRARIES = """What these names mean is said in Rattle's library and in `clap`, by module."""
 
-HEADLINE = """What a run of several streams promises, with a thread for each. What stands above isn't repeated: what a formula
-is, and that no assignment satisfies it."""
+HEADLINE = """What a run of several streams promises, with two threads for each. What stands above isn't repeated: what a formula
+is, and that no assignment satisfies it. A gate is told before each fetch and after each publish, and may hold a thread there; the
+program's does nothing. `entries` are what each reader has left at first, `lefts` what it has left in the end, and `faileds` whether
+it has failed. That a `Formula` of the code is seen as that of a text is a clause of `dimacs::parse`, which `sound` above takes in."""
 
 
 def parts():
@@ -464,15 +496,23 @@ def parts():
         ["out", "err", "sound"],
         {},
     )
+    assumed = Part(
+        "Status 8",
+        ASSUMED,
+        ("command", "program.rt", "command"),
+        [],
+        ["sound_under"],
+        status.found,
+    )
     headline = Part(
         "The headline",
         HEADLINE,
         ("portfolio", "threads.rt", "run"),
         [("lrup_model", "Formula"), ("portfolio", "Options"), ("portfolio", "Outcome")],
         None,
-        status.found,
+        status.found | assumed.found,
     )
-    return [status, headline]
+    return [status, assumed, headline]
 
 
 def libraries(made):
@@ -491,9 +531,9 @@ def page(made):
 
 def stale_counts(made):
     """What DEFINITIONS says of the counts, where it isn't so."""
-    status, headline = made
+    status, _, headline = made
     shared = sum(isinstance(thing, Definition) and thing.key() in status.found for thing in headline.all)
-    total = len(headline.definitions) + shared
+    total = sum(isinstance(thing, Definition) for thing in headline.all)
     wanted = [f"These are {len(status.definitions)},"]
     wanted += [f"takes {total} definitions, of which {shared} stand behind status 0 too"]
     wanted += [f"| `{crate}` | {count}: " for crate, count in status.crates()]

@@ -17,9 +17,11 @@ use Rattle.command_line.specs.declared.words.WordsFault.TheVariants.{Usage, Memo
 abbrev pub max_tries : ℕ
 max_tries = 1000000
 
+-- the most identities of a stream
 abbrev pub max_lines : ℕ
 max_lines = 268435456
 
+-- the most literals that the clauses of a stream may have together
 abbrev pub max_room : ℕ
 max_room = 268435456
 
@@ -58,6 +60,7 @@ stream_rule = record (new_rule (codes "STREAM")) {
   range = Some (record { start_inclusive = 1; end_inclusive = usize_max });
 }
 
+-- the rules in the order of the help; those without `long` are found by their places
 abbrev pub rules : List Rule
 rules = number_rule (codes "tries") max_tries
     ∷ number_rule (codes "lines") max_lines

@@ -45,7 +45,7 @@ abbrev pub IsAlone : Cnf → Terms → ℕ → List Stream → List Report → T
 IsAlone f terms s streams reports = IsGroup f terms (one s) streams reports
 
 -- The reports are isolated: for every list of streams that the readers told and by which they are judged, and for every
--- closed set of these streams none of whose reports tells that memory ran out, the set's reports are those of the set alone.
+-- closed set of these streams none of whose reports tells that memory ran out, the set's reports are such as it may have alone.
 abbrev pub AreIsolated : Cnf → Terms → List (Option (List ℕ)) → List (Option (List ℕ)) → List Bool → (List Stream → Type 0) → List Report → Type 0
 AreIsolated f terms entries lefts faileds Judged reports = (streams : List Stream) → AreTold entries lefts faileds streams → Judged streams
     → (set : ℕ → Bool) → IsClosed terms.layout set streams → NoneOutOfMemory set reports → IsGroup f terms set streams reports

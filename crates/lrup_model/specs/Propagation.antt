@@ -3,7 +3,7 @@
 use Rattle.std.specs.Prelude.{◌≡◌, ◌⊎◌, ℤ, neg_ℤ, List, [], ◌∷◌, ◌++◌}
 use Rattle.lrup_model.specs.Clause.{Clause, Has, IsTautology}
 
--- all literals of d are false, those of n
+-- n has the literals that are false: d is a conflict if it has no other
 abbrev pub IsConflict : List ℤ → Clause → Type 0
 IsConflict n d = (l : ℤ) → Has d l → Has n l
 

@@ -40,7 +40,7 @@ retire_slot (retired c) = retired c
 abbrev pub put : State → ℕ → Slot → State
 put m id slot = λ j. if j == id then slot else m j
 
--- identities 1 to m are the formula's clauses, live
+-- identities from 1 on are the formula's clauses, live; all others are absent
 abbrev pub opening : Cnf → State
 opening f = λ id. if nat_lt 0 id && nat_le id (length f.clauses) then live (clause_at f id) else absent
 

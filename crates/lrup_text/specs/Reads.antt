@@ -12,7 +12,7 @@ bytes_given (Err fault) buffer = None
 abbrev pub ReadsOf : Type 0 → Type 1
 ReadsOf S = S → ℕ → Option (List ℕ) → S → Type 0
 
--- Reads, one after another, took a source from first to last, and gave these bytes together.
+-- Reads, one after another, took a source from first to last, and gave these bytes together. Some may have given none.
 pub record Gave (S : Type 0) (reads : ReadsOf S) (first : S) (bytes : List ℕ) (last : S) : Type 0 where
   pub pieces : List (List ℕ)
   pub calls : FoldsTo (λ s piece t. (room : ℕ) × reads s room (Some piece) t) first pieces last

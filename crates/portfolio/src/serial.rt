@@ -49,8 +49,8 @@ pub fn run_serial<W: Wait, R: Source + Drop, G: Gate + Drop>(
         IfOk result (λ outcome. StandsOnStreams (map R.left readers.items)
         (map R.left outcome.readers.items) (map R.has_failed outcome.readers.items)
         (λ streams. IsOrdered formula.now terms (λ s. true) streams outcome.reports.items)) }
-    // Groups of streams are isolated: the reports of a closed set of streams are those of the set
-    // alone.
+    // Groups of streams are isolated: the reports of a closed set of streams, where none tells that
+    // memory ran out, are such as the set alone may have.
     ensures isolated { let terms = terms_of options cube.now formula.now (length readers.items) in
         IfOk result (λ outcome. AreIsolated formula.now terms (map R.left readers.items)
         (map R.left outcome.readers.items) (map R.has_failed outcome.readers.items)

@@ -59,8 +59,8 @@ pub fn run<T: Threads + Wait + Sync, R: Source + Send + Drop, G: Gate + Send + D
         (λ streams. AllByRecursion IsReadOut streams
         × AreJudgedIn terms (λ s. true) (seen_by (views outcome.passes.items)) 1
         streams outcome.reports.items)) }
-    // Groups of streams are isolated: the reports of a closed set of streams are those of the set
-    // alone.
+    // Groups of streams are isolated: the reports of a closed set of streams, where none tells that
+    // memory ran out, are such as the set alone may have.
     ensures isolated { let terms = terms_of options cube.now formula.now (length readers.items) in
         IfOk result (λ outcome. AreIsolated formula.now terms (map R.left readers.items)
         (map R.left outcome.readers.items) (map R.has_failed outcome.readers.items)

@@ -30,7 +30,8 @@ StopsSo at_end more left has_failed = (more ≡ []) × IsAtEnd left × (has_fail
 StopsSo at_failure more left has_failed = (more ≡ []) × (has_failed ≡ true)
 StopsSo early more left has_failed = has_failed ≡ false
 
--- The stream is what a reader told: its bytes are a beginning of those read, which are a beginning of those left at first.
+-- The stream is what a reader told: its bytes are a beginning of those read, which are a beginning of those left at first. Where the
+-- reader doesn't tell what it has left, any bytes will do.
 pub record IsTold (entry left : Option (List ℕ)) (has_failed : Bool) (stream : Stream) : Type 0 where
   pub more : List ℕ
   pub consumes : Consumes entry left (stream.bytes ++ more)
@@ -50,6 +51,7 @@ JudgesTo at_failure c bytes blocks report = JudgesBlocks c bytes failed blocks r
 JudgesTo early c bytes blocks report =
     StopsReading report.ending × JudgesBlocks c bytes ended blocks report × JudgesBlocks c bytes failed blocks report
 
+-- the stream is judged by these blocks of events, as its stop wants
 abbrev pub JudgesStream : Setting → Stream → List History → Report → Type 0
 JudgesStream c stream blocks report = JudgesTo stream.stop c stream.bytes blocks report
 
@@ -93,9 +95,11 @@ pub record Terms : Type 0 where
   pub cube : CubeValue
   pub tries : ℕ
 
+-- the record of these
 abbrev pub terms_at : LayoutValue → CubeValue → ℕ → Terms
 terms_at p cube tries = record { layout = p; cube = cube; tries = tries }
 
+-- the setting of stream s under these terms
 abbrev pub setting_of : Terms → ℕ → Setting
 setting_of terms s = record { layout = terms.layout; cube = terms.cube; stream = s; tries = terms.tries }
 

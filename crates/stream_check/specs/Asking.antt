@@ -3,10 +3,11 @@ use Rattle.std.specs.Prelude.{◌≡◌, ◌≤◌, ◌++◌, ℕ, [], ◌∷◌
 use Rattle.lrup_model.specs.Event.{History, Reply, vacant, fetch}
 use Rattle.stream_check.specs.Setting.{Setting, Side, formula, own, foreign, outside, side_of}
 
--- fetches of one identity until the reply isn't vacant, and so many more than one at most: all but the last are vacant, and all are made if the last is vacant too
+-- k vacant fetches of one identity and one last fetch, k at most `most`; if the last is vacant too, k is `most`
 abbrev pub FetchesUpTo : ℕ → ℕ → ℕ → History → Reply → Type 0
 FetchesUpTo most s id es r = (k : ℕ) × (k ≤ most) × (r ≡ vacant → k ≡ most) × (es ≡ replicate k (fetch s id vacant) ++ fetch s id r ∷ [])
 
+-- own identities and the formula's are fetched once, another stream's until it isn't vacant, and what is no identity never
 abbrev pub AsksAt : Side → Setting → ℕ → History → Reply → Type 0
 AsksAt formula c h es r = es ≡ fetch c.stream h r ∷ []
 AsksAt own c h es r = es ≡ fetch c.stream h r ∷ []

@@ -29,6 +29,8 @@ DropsThen gone earlier id es v Next =
     ((is_dropped gone earlier id ≡ true) × FailsAt earlier id es v)
     ⊎ ((is_dropped gone earlier id ≡ false) × Next es)
 
+-- an own identity is retired at the map, one of the formula or of another stream is dropped by this stream alone, and what is no
+-- identity is a fault
 abbrev pub DeletesAt : Side → Setting → (ℕ → Bool) → List ℕ → ℕ → History → Verdict → (History → Type 0) → Type 0
 DeletesAt formula c gone earlier id es v Next = DropsThen gone earlier id es v Next
 DeletesAt own c gone earlier id es v Next = RetiresThen c earlier id es v Next

@@ -23,11 +23,13 @@ pub data Side : Type 0 where
   foreign : Side
   outside : Side
 
+-- whose an identity of this owner is, as stream s sees it
 abbrev pub side_for : ℕ → Owner → Side
 side_for s owners.Formula = formula
 side_for s (owners.Stream t) = if t == s then own else foreign
 side_for s owners.Outside = outside
 
+-- whose the identity is, as the setting's stream sees it
 abbrev pub side_of : Setting → ℕ → Side
 side_of c id = side_for c.stream (owner c.layout id)
 

@@ -42,6 +42,7 @@ is_among ids id = list_any (λ j. j == id) ids
 abbrev pub is_gone : Setting → List StreamLine → ℕ → Bool
 is_gone c lines id = is_shared (side_of c id) && list_any (λ line. is_among (deleted_by line) id) lines
 
+-- the standing that these lines leave if all are good
 abbrev pub standing_of : Setting → List StreamLine → Standing
 standing_of c lines = record {
   last = last_in c.layout lines;
@@ -60,11 +61,13 @@ pub record Tally : Type 0 where
   pub empty : Bool
   pub within : Bool
 
+-- how many clauses the line adds
 abbrev pub added_by : StreamLine → ℕ
 added_by (Addition id lits hints) = 1
 added_by (Deletion lead ids) = 0
 added_by (Import id lits) = 0
 
+-- the line is an addition of the empty clause, by its text
 abbrev pub adds_empty : StreamLine → Bool
 adds_empty (Addition id [] hints) = true
 adds_empty (Addition id (l ∷ lits) hints) = false
@@ -75,11 +78,13 @@ adds_empty (Import id lits) = false
 abbrev pub is_within : CubeValue → Clause → Bool
 is_within cube c = list_all (λ l. list_any (λ k. int_eq k (neg_ℤ l)) cube) c
 
+-- the line is an addition of a clause within the cube, by its text
 abbrev pub adds_within : CubeValue → StreamLine → Bool
 adds_within cube (Addition id lits hints) = is_within cube (distinct lits)
 adds_within cube (Deletion lead ids) = false
 adds_within cube (Import id lits) = false
 
+-- the counts of these lines if all are good
 abbrev pub tally_of : Setting → List StreamLine → Tally
 tally_of c lines = record {
   added = sum_by added_by lines;

@@ -33,7 +33,7 @@ pub enum Fault {
     Excess(Id),
     /// The hints ended without a conflict.
     NoConflict,
-    /// An identity to delete isn't live, or the stream deleted it before, or it is no identity.
+    /// An own identity to delete isn't live, or the stream dropped a shared one before, or it is no identity.
     NotLive(Id),
     /// The literals of an import aren't those of the clause of its identity.
     Differs(Id),
