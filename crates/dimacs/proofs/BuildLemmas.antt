@@ -7,6 +7,7 @@ use Rattle.lrup_model.specs.Clause.{Clause, Has}
 use Rattle.lrup_model.specs.Formula.{Cnf, IsFormulaClause, max_clause_literals}
 use Rattle.dimacs.specs.Lines.{Token}
 use Rattle.dimacs.specs.Numerals.{number_of}
+use Rattle.lrup_model.specs.DistinctLemmas.{distinct-push_same, distinct-push_other}
 use Rattle.dimacs.specs.FormulaText.{IsWritten, IsRead, IsSetOf, AreSetsOf, AreClauses, ended}
 use Rattle.dimacs.specs.FormulaFault.{StandsAt, HasBadNumber, HasLargeVariable, HasMoreClauses, HasLongClause, EndsOpen, EndsEarly}
 use Rattle.dimacs.specs.Places.{IsBuilt, AddsLiteral, AddsClause, IsFirstToken}
@@ -79,6 +80,10 @@ set_push w old new l set added = record {
     λ h. (added.members m).1 (⊎_elim (λ before. inl ((set.members m).1 before)) (λ e. inr e) ((Has-push w l m).0 h)),
   );
   each_once = added.each_once;
+  order = elim added.order [
+    | inl there ↦ there.1 ∙ set.order ∙ sym (distinct-push_same w l ((set.members l).0 there.0))
+    | inr new ↦ new.1 ∙ ap (λ (c : Clause). c ++ l ∷ []) set.order ∙ sym (distinct-push_other w l (λ h. new.0 ((set.members l).1 h)))
+  ];
 }
 
 -- ## the reader's state
@@ -100,7 +105,7 @@ reads_none vars count all f is = record {
     read = read_none vars count;
     vars_are = ap (λ (x : Cnf). x.vars) is;
     sets = rw is tt;
-    set = record { members = λ l. (λ h. h, λ h. h); each_once = tt };
+    set = record { members = λ l. (λ h. h, λ h. h); each_once = tt; order = refl };
     written_is = refl;
     size = omega arith;
   };
@@ -138,7 +143,7 @@ reads_end vars count all old new t f g clause clause' written written' remaining
         read = read_end vars count h.before t built.closed built.begun built.read is (omega (arith, closed_is, h.remaining_is));
         vars_are = added.0 ∙ built.vars_are;
         sets = rw added.1 (sets_push built.closed f.clauses built.begun clause built.sets built.set);
-        set = rw none (record { members = λ l. (λ x. x, λ x. x); each_once = tt });
+        set = rw none (record { members = λ l. (λ x. x, λ x. x); each_once = tt; order = refl });
         written_is = sym none_written;
         size = omega (arith, ap length none);
       };

@@ -34,32 +34,28 @@ one_writing vars (c ∷ v) (d ∷ w) all too e =
     let cut = first_clause vars c d (flat_map ended v) (flat_map ended w) all.0.within too.0.within (sym (append_assoc c (pos 0 ∷ []) (flat_map ended v)) ∙ e ∙ append_assoc d (pos 0 ∷ []) (flat_map ended w)) in
     ap (λ (x : List ℤ). x ∷ v) cut.0 ∙ ap (λ (x : List (List ℤ)). d ∷ x) (one_writing vars v w all.1 too.1 cut.1)
 
-same_sets : (written : List (List ℤ)) (f g : List Clause) → AreSetsOf written f → AreSetsOf written g → AreSetsOf f g
-same_sets [] [] [] h k = tt
+same_sets : (written : List (List ℤ)) (f g : List Clause) → AreSetsOf written f → AreSetsOf written g → f ≡ g
+same_sets [] [] [] h k = refl
 same_sets [] [] (d ∷ g) h k = absurd k
 same_sets [] (c ∷ f) g h k = absurd h
 same_sets (w ∷ written) [] g h k = absurd h
 same_sets (w ∷ written) (c ∷ f) [] h k = absurd k
-same_sets (w ∷ written) (c ∷ f) (d ∷ g) h k = (
-  record {
-    members = λ l. (λ has. (h.0.members l).1 ((k.0.members l).0 has), λ has. (k.0.members l).1 ((h.0.members l).0 has));
-    each_once = k.0.each_once;
-  },
-  same_sets written f g h.1 k.1,
-)
+same_sets (w ∷ written) (c ∷ f) (d ∷ g) h k = ap (λ (x : Clause). x ∷ f) (h.0.order ∙ sym k.0.order) ∙ ap (λ (x : List Clause). d ∷ x) (same_sets written f g h.1 k.1)
 
-same_clauses : (f g : Cnf) (vars count : ℕ) (all : List Token) → AreClauses f vars count all → AreClauses g vars count all → (f.vars ≡ g.vars) × AreSetsOf f.clauses g.clauses
+same_clauses : (f g : Cnf) (vars count : ℕ) (all : List Token) → AreClauses f vars count all → AreClauses g vars count all → f ≡ g
 same_clauses f g vars count all h k =
     let numbers = somes-injective (flat_map ended h.written ++ []) (flat_map ended k.written ++ []) (sym h.read.numbers ∙ k.read.numbers) in
     let same = one_writing vars h.written k.written h.read.closed_within k.read.closed_within (sym (append-nil (flat_map ended h.written)) ∙ numbers ∙ append-nil (flat_map ended k.written)) in
-    (h.vars_are ∙ sym k.vars_are, same_sets k.written f.clauses g.clauses (subst (λ (w : List (List ℤ)). AreSetsOf w f.clauses) same h.sets) k.sets)
+    let vars : f.vars ≡ g.vars = h.vars_are ∙ sym k.vars_are in
+    let clauses : f.clauses ≡ g.clauses = same_sets k.written f.clauses g.clauses (subst (λ (w : List (List ℤ)). AreSetsOf w f.clauses) same h.sets) k.sets in
+    ap (λ (n : ℕ). record { vars = n; clauses = f.clauses }) vars ∙ ap (λ (cs : List Clause). record { vars = g.vars; clauses = cs }) clauses
 
-in_lines : (lines : List Line) (f g : Cnf) → InBodyOf lines (AreClauses f) → InBodyOf lines (AreClauses g) → (f.vars ≡ g.vars) × AreSetsOf f.clauses g.clauses
+in_lines : (lines : List Line) (f g : Cnf) → InBodyOf lines (AreClauses f) → InBodyOf lines (AreClauses g) → f ≡ g
 in_lines [] f g h k = absurd h
 in_lines (header ∷ lines) f g h k =
     let same = one_header header.tokens h.vars h.count k.vars k.count h.spelled k.spelled in
     let there : AreClauses g h.vars h.count (all_tokens lines) = rw (same.0, same.1) k.later in
     same_clauses f g h.vars h.count (all_tokens lines) h.later there
 
-pub one_formula : (bytes : List ℕ) (f g : Cnf) → IsTextOf bytes f → IsTextOf bytes g → (f.vars ≡ g.vars) × AreSetsOf f.clauses g.clauses
+pub one_formula : (bytes : List ℕ) (f g : Cnf) → IsTextOf bytes f → IsTextOf bytes g → f ≡ g
 one_formula bytes f g h k = in_lines (lines_of bytes) f g h k

@@ -108,6 +108,7 @@ AddsLiteral-push c l each other = record {
   members = Has-push c l;
   each_once = EachOnce-push c l each other;
   size = omega (arith, length-append c (l ∷ []));
+  order = inr (other, refl);
 }
 
 has_along : (c : List ℤ) (l m : ℤ) → l ≡ m → Has c l → Has c m
@@ -118,6 +119,7 @@ AddsLiteral-none c l each has = record {
   members = λ m. (λ h. inl h, λ h. ⊎_elim (λ old. old) (λ e. has_along c l m e has) h);
   each_once = each;
   size = omega arith;
+  order = inl (has, refl);
 }
 
 -- ## taking the marks away

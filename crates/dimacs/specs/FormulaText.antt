@@ -5,6 +5,7 @@ use Rattle.lrup_model.specs.Literal.{IsLiteral, max_variable}
 use Rattle.lrup_model.specs.Clause.{Clause, Has, EachOnce}
 use Rattle.lrup_model.specs.Formula.{Cnf, max_clauses, max_clause_literals}
 use Rattle.dimacs.specs.Lines.{Line, Token, lines_of, all_tokens}
+use Rattle.lrup_model.specs.Distinct.{distinct}
 use Rattle.dimacs.specs.Numerals.{is_count, value, number_of}
 
 -- the token spells this count
@@ -53,10 +54,11 @@ pub record IsRead (vars count : ℕ) (tokens : List Token) (closed : List (List 
   pub closed_count : length closed ≤ count
   pub begun_count : 0 < length begun → length closed < count
 
--- the clause is the set of the literals, and has each of them once
+-- the clause is the set of the literals, and has each of them once, in the order of their first places
 pub record IsSetOf (literals : List ℤ) (clause : Clause) : Type 0 where
   pub members : (l : ℤ) → Has clause l ↔ Has literals l
   pub each_once : EachOnce clause
+  pub order : clause ≡ distinct literals
 
 -- clause by clause, in order
 abbrev pub AreSetsOf : List (List ℤ) → List Clause → Type 0

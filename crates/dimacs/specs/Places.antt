@@ -80,11 +80,12 @@ pub record IsBuilt (vars count : ℕ) (tokens : List Token) (f : Cnf) (clause : 
   pub written_is : length begun ≡ written
   pub size : length clause ≤ written
 
--- The clause with one literal more.
+-- The clause with one literal more: at its end, if it is new.
 pub record AddsLiteral (old new : List ℤ) (l : ℤ) : Type 0 where
   pub members : (m : ℤ) → Has new m ↔ (Has old m ⊎ (l ≡ m))
   pub each_once : EachOnce new
   pub size : length new ≤ length old + 1
+  pub order : (Has old l × (new ≡ old)) ⊎ ((¬ Has old l) × (new ≡ old ++ l ∷ []))
 
 -- The formula with one clause more.
 abbrev pub AddsClause : Cnf → Cnf → List ℤ → Type 0

@@ -2,7 +2,7 @@
 ghost use Rattle.std.specs.Prelude.{◌≡◌, ℕ, List};
 ghost use Rattle.lrup_model.specs.Formula.{Cnf};
 ghost use Rattle.dimacs.specs.declared.fault.DimacsFault.{DimacsFault};
-ghost use Rattle.dimacs.specs.FormulaText.{AreSetsOf, IsTextOf};
+ghost use Rattle.dimacs.specs.FormulaText.{IsTextOf};
 ghost use Rattle.dimacs.specs.FormulaFault.{IsFaultOf};
 
 /// No text of a formula has a fault.
@@ -15,8 +15,7 @@ pub fn one_fault()
     ensures { (bytes : List ℕ) (one other : DimacsFault) → IsFaultOf bytes one → IsFaultOf bytes other → one ≡ other }
 {}
 
-/// A text of two formulas gives them the same number of variables, and clause by clause the same literals.
+/// No text is that of two formulas: the order of the literals is fixed too.
 pub fn one_formula()
-    ensures { (bytes : List ℕ) (one other : Cnf) → IsTextOf bytes one → IsTextOf bytes other →
-        (one.vars ≡ other.vars) × AreSetsOf one.clauses other.clauses }
+    ensures { (bytes : List ℕ) (one other : Cnf) → IsTextOf bytes one → IsTextOf bytes other → one ≡ other }
 {}

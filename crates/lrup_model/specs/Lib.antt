@@ -2,6 +2,8 @@ pub mod Literal
 pub mod LiteralLaws
 pub mod Clause
 pub mod ClauseLemmas
+pub mod Distinct
+pub mod DistinctLemmas
 pub mod Formula
 pub mod Pieces
 pub mod Entailment

@@ -1,8 +1,6 @@
-pub mod Distinct
 pub mod Trail
 pub mod Marks
 pub mod Left
 pub mod Hints
 pub mod Laws
 pub mod HintLemmas
-pub mod DistinctLemmas

@@ -5,7 +5,7 @@ ghost use Rattle.lrup_model.specs.Literal.{IsLiteral, max_variable};
 ghost use Rattle.lrup_model.specs.Clause.{Has, EachOnce, IsClause, IsTautology};
 ghost use Rattle.lrup_model.specs.Place.{IsKnown, AllFollow, text_of};
 ghost use Rattle.lrup_model.specs.Propagation.{IsConflict, IsUnit};
-ghost use Rattle.propagate.specs.Distinct.{distinct};
+ghost use Rattle.lrup_model.specs.Distinct.{distinct};
 ghost use Rattle.propagate.specs.Marks.{Propagation, Steps};
 ghost use Rattle.propagate.specs.Left.{IsLeft};
 

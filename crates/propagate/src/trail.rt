@@ -4,7 +4,7 @@ ghost use Rattle.std.specs.List.{AllByRecursion};
 ghost use Rattle.lrup_model.specs.Literal.{IsLiteral, code_of};
 ghost use Rattle.lrup_model.specs.Clause.{Has, EachOnce, IsTautology};
 ghost use Rattle.lrup_model.specs.Place.{IsKnown, AllFollow, text_of};
-ghost use Rattle.propagate.specs.Distinct.{distinct};
+ghost use Rattle.lrup_model.specs.Distinct.{distinct};
 ghost use Rattle.propagate.specs.Trail.{AreTaken, HaveMarks, IsMarked};
 
 use crate::tautology::Tautology;

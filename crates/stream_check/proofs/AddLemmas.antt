@@ -18,7 +18,7 @@ use Rattle.lrup_model.specs.declared.clause_map.Published.{Published}
 use Rattle.lrup_model.specs.declared.clause_map.Published.TheVariants as publishing
 use Rattle.lrup_model.specs.Laws.{PropagationSound}
 use Rattle.lrup_text.specs.Lines.{IsStreamLiteral}
-use Rattle.propagate.specs.Distinct.{distinct}
+use Rattle.lrup_model.specs.Distinct.{distinct}
 use Rattle.propagate.specs.Marks.{Propagation}
 use Rattle.stream_check.specs.Setting.{Setting}
 use Rattle.stream_check.specs.Standing.{Standing}

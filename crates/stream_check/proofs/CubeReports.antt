@@ -6,7 +6,7 @@ use Rattle.std.proofs.lemmas.List.Folds.{Any-from_list_any, list_any-from_Any}
 use Rattle.lrup_model.specs.Event.{History}
 use Rattle.lrup_model.specs.Cube.{CubeValue}
 use Rattle.lrup_text.specs.Lines.{StreamLine, Addition, Deletion, Import}
-use Rattle.propagate.specs.Distinct.{distinct}
+use Rattle.lrup_model.specs.Distinct.{distinct}
 use Rattle.stream_check.specs.declared.report.Report.{Report}
 use Rattle.stream_check.specs.Setting.{Setting}
 use Rattle.stream_check.specs.Standing.{adds_empty, adds_within}

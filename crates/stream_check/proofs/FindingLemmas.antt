@@ -11,7 +11,7 @@ use Rattle.lrup_model.specs.Event as events
 use Rattle.lrup_model.specs.Event.{Event, History, Reply}
 use Rattle.lrup_model.specs.Propagation.{IsConflict, IsUnit, Refutes}
 use Rattle.lrup_model.specs.Laws.{PropagationSound}
-use Rattle.propagate.specs.Distinct.{distinct}
+use Rattle.lrup_model.specs.Distinct.{distinct}
 use Rattle.stream_check.specs.declared.fault.Fault.{Fault}
 use Rattle.stream_check.specs.declared.fault.Fault.TheVariants as faults
 use Rattle.stream_check.specs.Setting.{Setting, Side, formula, own, foreign, outside, side_of}

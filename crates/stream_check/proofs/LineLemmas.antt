@@ -13,7 +13,7 @@ use Rattle.lrup_model.specs.Running.{run-append, spent-append}
 use Rattle.lrup_model.specs.HistoryLemmas.{put-same, put-other, spent_one}
 use Rattle.lrup_model.specs.declared.clause_map.Retired.TheVariants as retiring
 use Rattle.lrup_text.specs.Lines.{StreamLine, Addition, Deletion, Import}
-use Rattle.propagate.specs.Distinct.{distinct}
+use Rattle.lrup_model.specs.Distinct.{distinct}
 use Rattle.stream_check.specs.declared.fault.Fault.{Fault}
 use Rattle.stream_check.specs.declared.held.Held.{Held}
 use Rattle.stream_check.specs.declared.deletion.Stop.{Stop}

@@ -7,7 +7,7 @@ use Rattle.lrup_model.specs.Event as events
 use Rattle.lrup_model.specs.Event.{Event, History, Reply}
 use Rattle.lrup_model.specs.Propagation.{IsConflict, IsUnit}
 use Rattle.lrup_model.specs.declared.clause_map.Published.TheVariants as publishing
-use Rattle.propagate.specs.Distinct.{distinct}
+use Rattle.lrup_model.specs.Distinct.{distinct}
 use Rattle.stream_check.specs.declared.fault.Fault.TheVariants as faults
 use Rattle.stream_check.specs.Setting.{Setting}
 use Rattle.stream_check.specs.Standing.{Standing}

@@ -9,7 +9,7 @@ use Rattle.lrup_text.specs.Feeding.{ReaderState}
 use Rattle.lrup_text.specs.declared.LineFault.{LineFault}
 use Rattle.lrup_text.specs.Lines.{StreamLine, Cut, LineText}
 use Rattle.lrup_text.specs.Faults.{IsRefused}
-use Rattle.propagate.specs.Distinct.{distinct}
+use Rattle.lrup_model.specs.Distinct.{distinct}
 use Rattle.propagate.specs.Marks.{Propagation}
 use Rattle.stream_check.specs.declared.fault.Fault.{Fault}
 use Rattle.stream_check.specs.declared.fault.Fault.TheVariants as faults

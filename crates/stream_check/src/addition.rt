@@ -7,7 +7,7 @@ ghost use Rattle.lrup_model.specs.Event.{History};
 ghost use Rattle.lrup_model.specs.History.{max_line_literals};
 ghost use Rattle.lrup_model.specs.Place.{IsVacantAbove};
 ghost use Rattle.lrup_text.specs.Lines.{IsStreamLiteral};
-ghost use Rattle.propagate.specs.Distinct.{distinct};
+ghost use Rattle.lrup_model.specs.Distinct.{distinct};
 ghost use Rattle.stream_check.specs.Additions.{JudgesAddition};
 ghost use Rattle.stream_check.specs.Checking.{IsAt, verdict_of, MakesEvents};
 ghost use Rattle.stream_check.specs.Checker.{standing_at, AdmitsBy};

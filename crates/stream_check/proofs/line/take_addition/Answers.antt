@@ -1,5 +1,5 @@
 use Rattle.std.proofs.Common.{◌≡◌, ◌∙◌, ap}
-use Rattle.propagate.specs.Distinct.{distinct}
+use Rattle.lrup_model.specs.Distinct.{distinct}
 use Rattle.stream_check.specs.Standing.{is_within}
 use Rattle.stream_check.specs.Checker.{standing_at}
 use Rattle.stream_check.proofs.LineLemmas.{Adds, ready_fetches, ready_publish, room_publish, takes_addition, stops_addition, above_last}

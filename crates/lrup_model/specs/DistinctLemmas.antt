@@ -10,7 +10,7 @@ use Rattle.std.proofs.lemmas.Option.{slice_get_read}
 use Rattle.std.proofs.Math.IntN.{neg_ℤ-neg_ℤ}
 use Rattle.lrup_model.specs.Clause.{Has, EachOnce, IsClause, IsTautology}
 use Rattle.lrup_model.specs.Literal.{IsLiteral}
-use Rattle.propagate.specs.Distinct.{distinct}
+use Rattle.lrup_model.specs.Distinct.{distinct}
 use Rattle.lrup_model.specs.ClauseLemmas.{int_cases, Has_cases, Has-push_cases, Has-at, Has-take, All-Has, All-from_Has}
 
 -- all but one literal
