@@ -1,0 +1,4 @@
+mod CubeLemmas
+mod RunLemmas
+mod WordLemmas
+mod OutcomeLemmas

@@ -1,0 +1,68 @@
+-- A run under a cube, and without one.
+use Rattle.std.proofs.Common.{◌≡◌, ◌+◌, ◌-◌, ℕ, zero, suc, Bool, true, List, [], ◌∷◌, length, map, Option, Some, refl, sym, ap, subst, ◌∙◌}
+use Rattle.std.specs.Prelude.{IsTrue, option_map, slice_get}
+use Rattle.std.proofs.lemmas.Option.{slice_get-map}
+use Rattle.lrup_model.specs.Event.{History}
+use Rattle.lrup_model.specs.Formula.{Cnf}
+use Rattle.stream_check.specs.declared.report.Report.{Report}
+use Rattle.stream_check.specs.Judging.{ended, failed}
+use Rattle.stream_check.specs.Setting.{Setting}
+use Rattle.runs.specs.Closed.{IsAt}
+use Rattle.runs.specs.Headline.{IsJudgedBy, AreJudgedIn}
+use Rattle.runs.specs.Streams.{Stop, at_end, at_failure, early, Stream, JudgesTo, Terms, setting_of}
+use Rattle.groups.specs.Groups.{IsRun}
+use Rattle.groups.specs.Laws.{SameBytesAgree}
+use Rattle.outcome_laws.specs.Outcomes.{bare_setting, bare_terms, bare_report, SayTheSame}
+use Rattle.outcome_laws.specs.Laws.{NoCubeJudgesAlike, SameBytesSayTheSame}
+
+judges_bare : NoCubeJudgesAlike → (stop : Stop) (c : Setting) (bytes : List ℕ) (blocks : List History) (report : Report)
+    → JudgesTo stop c bytes blocks report → JudgesTo stop (bare_setting c) bytes blocks (bare_report report)
+judges_bare law at_end c bytes blocks report j = law c bytes ended blocks report j
+judges_bare law at_failure c bytes blocks report j = law c bytes failed blocks report j
+judges_bare law early c bytes blocks report j = (j.0, law c bytes ended blocks report j.1, law c bytes failed blocks report j.2)
+
+judged_bare : NoCubeJudgesAlike → (terms : Terms) (set : ℕ → Bool) (h : History) (s : ℕ) (streams : List Stream) (reports : List Report)
+    → AreJudgedIn terms set h s streams reports → AreJudgedIn (bare_terms terms) set h s streams (map bare_report reports)
+judged_bare law terms set h s [] [] judged = tt
+judged_bare law terms set h s [] (r ∷ rs) judged = absurd judged
+judged_bare law terms set h s (t ∷ ts) [] judged = absurd judged
+judged_bare law terms set h s (t ∷ ts) (r ∷ rs) judged = (
+  (λ member. let j = judged.0 member in (j.0, j.1, judges_bare law t.stop (setting_of terms s) t.bytes j.0 r j.2)),
+  judged_bare law terms set h (s + 1) ts rs judged.1,
+)
+
+run_bare : NoCubeJudgesAlike → (f : Cnf) (terms : Terms) (entries lefts : List (Option (List ℕ))) (faileds : List Bool) (reports : List Report)
+    → IsRun f terms entries lefts faileds reports → IsRun f (bare_terms terms) entries lefts faileds (map bare_report reports)
+run_bare law f terms entries lefts faileds reports a = record {
+  streams = a.streams;
+  told = a.told;
+  count = a.count;
+  history = a.history;
+  legal = a.legal;
+  judged = judged_bare law terms (λ s. true) a.history 1 a.streams reports a.judged;
+}
+
+at_bare : (reports : List Report) (s : ℕ) (report : Report) → IsAt reports s report → IsAt (map bare_report reports) s (bare_report report)
+at_bare reports s report at = (at.0, slice_get-map bare_report reports (s - 1) ∙ ap (option_map bare_report) at.1)
+
+same_terms : (terms other : Terms) → other.layout ≡ terms.layout → other.tries ≡ terms.tries → bare_terms other ≡ bare_terms terms
+same_terms terms other layout tries =
+    ap (λ p. record { layout = p; cube = []; tries = other.tries }) layout
+    ∙ ap (λ (n : ℕ). record { layout = terms.layout; cube = []; tries = n }) tries
+
+pub same_bytes_say_the_same : NoCubeJudgesAlike → SameBytesAgree → SameBytesSayTheSame
+same_bytes_say_the_same law agree f terms other_terms s whole entries lefts other_entries other_lefts faileds other_faileds reports other_reports report other
+    fits layout tries cites a b entry there says too memory failure none never =
+    let mine = run_bare law f terms entries lefts faileds reports a in
+    let theirs = subst (λ (t : Terms). IsRun f t other_entries other_lefts other_faileds (map bare_report other_reports))
+    (same_terms terms other_terms layout tries) (run_bare law f other_terms other_entries other_lefts other_faileds other_reports b) in
+    let same : bare_report report ≡ bare_report other =
+    agree f (bare_terms terms) s whole entries lefts other_entries other_lefts faileds other_faileds (map bare_report reports) (map bare_report other_reports)
+    (bare_report report) (bare_report other) fits cites mine theirs entry there (at_bare reports s report says) (at_bare other_reports s other too)
+    memory failure none never in
+    record {
+      added = ap (λ (r : Report). r.added) same;
+      deleted = ap (λ (r : Report). r.deleted) same;
+      empty = ap (λ (r : Report). r.empty) same;
+      ending = ap (λ (r : Report). r.ending) same;
+    }

@@ -1,0 +1,40 @@
+-- What two outcomes of the program have in common (this project's own).
+use Rattle.std.specs.Prelude.{◌≡◌, ℕ, List, [], Some}
+use Rattle.stream_check.specs.declared.report.Report.{Report}
+use Rattle.stream_check.specs.Laws.{IsOfMemory, IsOfFailure}
+use Rattle.stream_check.specs.Setting.{Setting}
+use Rattle.runs.specs.Closed.{IsAt}
+use Rattle.runs.specs.Streams.{Terms}
+use Rattle.command_line.specs.declared.words.CommandLine.{CommandLine}
+use Rattle.command.specs.Commands.{FilesView, Text}
+
+-- Without a cube
+
+-- a setting, with the empty cube
+abbrev pub bare_setting : Setting → Setting
+bare_setting c = record { layout = c.layout; cube = []; stream = c.stream; tries = c.tries }
+
+-- the terms of a run, with the empty cube
+abbrev pub bare_terms : Terms → Terms
+bare_terms terms = record { layout = terms.layout; cube = []; tries = terms.tries }
+
+-- the report, as it is under the empty cube: within that is the empty clause alone
+abbrev pub bare_report : Report → Report
+bare_report r = record { added = r.added; deleted = r.deleted; empty = r.empty; within = r.empty; ending = r.ending }
+
+-- the reports say the same, but of clauses within a cube
+pub record SayTheSame (report other : Report) : Type 0 where
+  pub added : report.added ≡ other.added
+  pub deleted : report.deleted ≡ other.deleted
+  pub empty : report.empty ≡ other.empty
+  pub ending : report.ending ≡ other.ending
+
+-- Of the command line's streams the file of stream s tells these bytes. Its report is this one, and tells neither that memory ran out
+-- nor of a failed read.
+pub record ReportsOn (R : Type 0) (files : FilesView R) (given : CommandLine) (reports : List Report) (s : ℕ) (whole : List ℕ) (report : Report) : Type 0 where
+  pub path : Text
+  pub names : IsAt given.streams s path
+  pub tells : files.tells path ≡ Some whole
+  pub says : IsAt reports s report
+  pub memory : ¬ IsOfMemory report
+  pub failure : ¬ IsOfFailure report

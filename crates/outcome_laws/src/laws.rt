@@ -1,0 +1,43 @@
+//! Laws of outcomes. Each function does nothing; its contract is the law.
+ghost use Rattle.command.specs.Commands.{files_view};
+ghost use Rattle.outcome_laws.specs.Laws.{NoCubeJudgesAlike, SameBytesSayTheSame, SameWordsAskAlike, OutcomesAgree};
+
+use command::Files;
+use dimacs::laws::one_formula;
+use groups::laws::{same_bytes_agree, serial_run};
+
+/// What a stream is judged by under a cube, it is judged by without one, and its report says the same, but of clauses within the
+/// cube.
+pub fn no_cube_judges_alike()
+    ensures { NoCubeJudgesAlike }
+{}
+
+/// In two runs of one formula, by one layout and so many tries, a stream that cites within itself has reports that say the same, but
+/// of clauses within a cube, where the readers have the same bytes left at first: unless memory ran out or a read failed. Whatever
+/// the cubes and the other streams are, and whichever runs have threads.
+pub fn same_bytes_say_the_same()
+    ensures { SameBytesSayTheSame }
+{
+    no_cube_judges_alike();
+    same_bytes_agree();
+}
+
+/// Two command lines of the same words ask for the same.
+pub fn same_words_ask_alike()
+    ensures { SameWordsAskAlike }
+{}
+
+/// In two outcomes of the program, over files that stand before the runs, a stream that cites within itself has the same line: where
+/// the options and the number of streams are the same, and the files of the formula and of the stream tell the same bytes. Unless a
+/// report of the stream is of memory or of a failed read.
+pub fn outcomes_agree<F: Files, G: Files>(files: &F, others: &G)
+    ensures { let view = files_view (F.tells files.now) (F.may_refuse files.now)
+        F.Input.Source.left F.Input.Source.has_failed (F.opens files.now) F.Input.Source.reads in
+        let other = files_view (G.tells others.now) (G.may_refuse others.now)
+        G.Input.Source.left G.Input.Source.has_failed (G.opens others.now) G.Input.Source.reads in
+        OutcomesAgree _ view _ other }
+{
+    one_formula();
+    serial_run();
+    same_bytes_say_the_same();
+}
