@@ -1,12 +1,12 @@
 -- Two outcomes of the program.
-use Rattle.std.proofs.Common.{◌≡◌, ◌++◌, ◌-◌, ℕ, suc, Bool, true, false, List, [], ◌∷◌, length, map, Option, Some, refl, sym, ap, ap₂, subst, ◌∙◌}
+use Rattle.std.proofs.Common.{◌≡◌, ◌++◌, ◌-◌, ℕ, suc, Bool, true, false, List, [], ◌∷◌, length, map, Option, Some, refl, sym, ap, subst, ◌∙◌}
 use Rattle.std.specs.Prelude.{codes, option_map}
 use Rattle.std.specs.Fmt.{decimal}
 use Rattle.std.specs.Option.{ForSome}
 use Rattle.std.proofs.lemmas.List.{length-map}
 use Rattle.std.proofs.lemmas.Option.{slice_get-map}
 use Rattle.lrup_model.specs.Formula.{Cnf}
-use Rattle.lrup_model.specs.Layout.{LayoutValue, Fits}
+use Rattle.lrup_model.specs.Layout.{Fits}
 use Rattle.dimacs.specs.FormulaText.{IsTextOf}
 use Rattle.stream_check.specs.declared.report.Ending.{Ending}
 use Rattle.stream_check.specs.declared.report.Report.{Report}
@@ -16,9 +16,8 @@ use Rattle.groups.specs.Groups.{IsRun}
 use Rattle.groups.specs.Laws.{SerialRun}
 use Rattle.portfolio.specs.Outcomes.{OptionsValue, layout_of}
 use Rattle.portfolio.specs.ReportText.{ending_text, stream_line}
-use Rattle.portfolio.specs.declared.outcome.Verdict.{Verdict}
-use Rattle.command.specs.Commands.{AreReported, FilesView, IsFormulaAt, IsOutcome, Text, layout_at, options_of, terms_given}
-use Rattle.outcome_laws.specs.Outcomes.{SayTheSame, ReportsOn}
+use Rattle.command.specs.Commands.{AreReported, FilesView, IsFormulaAt, Text, layout_at, options_of, terms_given}
+use Rattle.outcome_laws.specs.Outcomes.{SayTheSame}
 use Rattle.outcome_laws.specs.Laws.{SameBytesSayTheSame, OutcomesAgree}
 
 -- a text is that of one formula: the law of `dimacs`

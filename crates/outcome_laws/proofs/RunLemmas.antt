@@ -1,6 +1,6 @@
 -- A run under a cube, and without one.
-use Rattle.std.proofs.Common.{◌≡◌, ◌+◌, ◌-◌, ℕ, zero, suc, Bool, true, List, [], ◌∷◌, length, map, Option, Some, refl, sym, ap, subst, ◌∙◌}
-use Rattle.std.specs.Prelude.{IsTrue, option_map, slice_get}
+use Rattle.std.proofs.Common.{◌≡◌, ◌+◌, ◌-◌, ℕ, Bool, true, List, [], ◌∷◌, map, Option, ap, subst, ◌∙◌}
+use Rattle.std.specs.Prelude.{option_map}
 use Rattle.std.proofs.lemmas.Option.{slice_get-map}
 use Rattle.lrup_model.specs.Event.{History}
 use Rattle.lrup_model.specs.Formula.{Cnf}
@@ -8,11 +8,11 @@ use Rattle.stream_check.specs.declared.report.Report.{Report}
 use Rattle.stream_check.specs.Judging.{ended, failed}
 use Rattle.stream_check.specs.Setting.{Setting}
 use Rattle.runs.specs.Closed.{IsAt}
-use Rattle.runs.specs.Headline.{IsJudgedBy, AreJudgedIn}
+use Rattle.runs.specs.Headline.{AreJudgedIn}
 use Rattle.runs.specs.Streams.{Stop, at_end, at_failure, early, Stream, JudgesTo, Terms, setting_of}
 use Rattle.groups.specs.Groups.{IsRun}
 use Rattle.groups.specs.Laws.{SameBytesAgree}
-use Rattle.outcome_laws.specs.Outcomes.{bare_setting, bare_terms, bare_report, SayTheSame}
+use Rattle.outcome_laws.specs.Outcomes.{bare_setting, bare_terms, bare_report}
 use Rattle.outcome_laws.specs.Laws.{NoCubeJudgesAlike, SameBytesSayTheSame}
 
 judges_bare : NoCubeJudgesAlike → (stop : Stop) (c : Setting) (bytes : List ℕ) (blocks : List History) (report : Report)

@@ -1,8 +1,7 @@
 -- What words ask for.
-use Rattle.std.proofs.Common.{◌≡◌, ◌∙◌, ℕ, List, Some, sym, ap}
+use Rattle.std.proofs.Common.{◌≡◌, ◌∙◌, ℕ, Some, sym, ap}
 use Rattle.portfolio.specs.Outcomes.{OptionsValue}
-use Rattle.command_line.specs.declared.words.CommandLine.{CommandLine}
-use Rattle.command.specs.Commands.{Text, options_of}
+use Rattle.command.specs.Commands.{options_of}
 use Rattle.outcome_laws.specs.Laws.{SameWordsAskAlike}
 
 same_options : (a b : OptionsValue) → a.tries ≡ b.tries → a.lines ≡ b.lines → a.room ≡ b.room → a ≡ b
