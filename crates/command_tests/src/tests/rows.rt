@@ -33,7 +33,7 @@ fn assert_row<T: Threads + Wait + Sync + Clock + Abort>(
     Ok(())
 }
 
-/// The row, with a thread for each stream and on one thread.
+/// The row, with two threads for each stream and on one thread.
 fn assert_both<T: Threads + Wait + Sync + Clock + Abort>(
     rt: &T,
     alloc: Global,
@@ -354,7 +354,7 @@ fn a_stream_opened_twice(rt: HostRuntime) -> Result<(), Fail> {
     Ok(())
 }
 
-/// Stream 1 cites two clauses of stream 2. With a thread for each it waits for them; on one thread its first line comes before them.
+/// Stream 1 cites two clauses of stream 2. With two threads for each it waits for them; on one thread its first line comes before them.
 #[test]
 fn serial_alone_is_on_one_thread(rt: HostRuntime) -> Result<(), Fail> {
     let row = Row {
