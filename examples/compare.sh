@@ -362,6 +362,17 @@ for options in '' '--serial'; do
     streams "a room of 16,000,000 literals $options" "--room 16000000 $options" 0 '2 added, 0 deleted, ended' "$two"
 done
 
+# Streams longer than a ring has items: 200,000 line ends, and 20,000 lines.
+
+head -c 200000 /dev/zero | tr '\0' '\n' > "$work/ends"
+awk 'BEGIN { for (i = 5; i <= 20004; i++) print i " 2 0 1 2 0" }' > "$work/lines"
+for options in '' '--serial'; do
+    want 'c stream 1: 0 added, 0 deleted, bad line 1 (spelling)\ns UNKNOWN\n' ''
+    run "200,000 line ends $options" 3 $options "$work/formula" "$work/ends"
+    want 'c stream 1: 20000 added, 0 deleted, ended\ns UNKNOWN\n' ''
+    run "20,000 lines $options" 3 $options "$work/formula" "$work/lines"
+done
+
 limited 'out of memory' 1000000 --room 268000000 "$work/formula" "$work/one"
 limited 'worker 1 not started' 9000 --lines 1 --room 1 "$work/formula" "$work/one"
 

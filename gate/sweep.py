@@ -84,8 +84,17 @@ def is_unopened(answer, given):
         Answer(5, "", f"lrupd: cannot open stream {number}\n") for number in range(1, given.streams + 1)]
 
 
+def not_started(number):
+    return Answer(6, "", f"lrupd: worker {number} not started\n")
+
+
 def is_unstarted(answer, given):
-    return answer in [Answer(6, "", f"lrupd: worker {number} not started\n") for number in range(1, given.streams + 1)]
+    return answer in [not_started(number) for number in range(1, given.streams + 1)]
+
+
+def started(ample, given):
+    """How many threads a run starts: the checking thread of each stream in turn, and then the reading threads likewise."""
+    return 2 * given.streams if "--serial" not in given.words and ample.status in [0, 3, 7, 8] else 0
 
 
 def is_refused_allocation(answer, ample, given):
@@ -108,9 +117,9 @@ def is_failed_write(answer, ample):
         answer.status == ample.status and answer.out == ample.out and ample.err.startswith(answer.err))
 
 
-def is_right(kind, how, answer, ample, given, seconds, machine):
+def is_right(kind, how, number, answer, ample, given, seconds, machine):
     if kind == "thread":
-        return is_unstarted(answer, given) and seconds < SECONDS
+        return answer == not_started((number - 1) % given.streams + 1) and seconds < SECONDS
     if answer == ample:
         return True
     if kind == "allocate":
@@ -138,10 +147,12 @@ def sweep(machine, given, kind, how):
         if not refused:
             break
         causes.append(answer.err)
-        if not is_right(kind, how, answer, ample, given, seconds, machine):
+        if not is_right(kind, how, number, answer, ample, given, seconds, machine):
             wrong.append(f"{given.name}, {refuse}, {seconds:.1f} s: {answer}")
     if answer != ample:
         wrong.append(f"{given.name}, nothing refused: {answer}")
+    if kind == "thread" and number - 1 != started(ample, given):
+        wrong.append(f"{given.name}, {number - 1} threads refused, not {started(ample, given)}")
     if how in ERRORS_OF_READS and kind == "read" and not are_in_order(causes, ample, given):
         wrong.append(f"{given.name}, reads refused with {how}: {causes}")
     return number - 1, wrong

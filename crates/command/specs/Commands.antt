@@ -49,7 +49,7 @@ layout_at given f = layout_of (options_of given) f (length given.streams)
 abbrev pub terms_given : CommandLine → CubeValue → Cnf → Terms
 terms_given given cube f = terms_of (options_of given) cube f (length given.streams)
 
--- what the reports say of the streams: on one thread they have an order of lines; with a thread for each stream they are judged
+-- what the reports say of the streams: on one thread they have an order of lines; with two threads for each they are judged
 -- by their events of one legal history
 abbrev pub AreReported : Bool → Cnf → Terms → List Report → List Stream → Type 0
 AreReported true f terms reports streams = IsOrdered f terms (λ s. true) streams reports

@@ -232,7 +232,7 @@ fn open_streams<F: Files>(
     Ok(readers)
 }
 
-/// Checks the streams, by turns on this thread or each in a thread of its own.
+/// Checks the streams, by turns on this thread or each in two threads of its own.
 fn check_streams<T: Threads + Wait + Sync, C: Clock + Sync, R: Source + Send + Drop>(
     threads: &T,
     clock: &C,
@@ -283,7 +283,7 @@ fn check_serially<W: Wait, R: Source + Drop>(
     Ok(Found { reports, verdict })
 }
 
-/// Checks the streams, each in a thread of its own.
+/// Checks the streams, each in two threads of its own.
 fn check_in_threads<T: Threads + Wait + Sync, C: Clock + Sync, R: Source + Send + Drop>(
     threads: &T,
     clock: &C,

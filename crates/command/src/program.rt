@@ -30,7 +30,7 @@ use std::time::Clock;
 /// | 3 | the report says `s UNKNOWN` |
 /// | 4 | the formula or the assumptions were refused for another cause than memory |
 /// | 5 | the file of the formula or of the assumptions wasn't opened or read; a stream's file wasn't opened |
-/// | 6 | out of memory, outside a report; a worker couldn't be started |
+/// | 6 | out of memory, outside a report; a worker couldn't be started; a stream's ring gave no mark |
 /// | 7 | the report couldn't be written |
 /// | 8 | the report says `s UNSATISFIABLE UNDER ASSUMPTIONS` |
 pub fn command<T: Threads + Wait + Sync, C: Clock + Sync, F: Files, O: Sink, E: Sink>(

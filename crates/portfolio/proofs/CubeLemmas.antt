@@ -123,7 +123,7 @@ sound_in_order f p order s c stream report legal judged is =
 
 -- ---- a run
 
--- with a thread for each stream
+-- with two threads for each stream
 sound_by : (f : Cnf) (terms : Terms) (h : History) → IsLegal f terms.layout h → (s : ℕ) (streams : List Stream) (reports : List Report)
     → AreJudgedIn terms (λ t. true) h s streams reports → list_any (λ report. report.within) reports ≡ true → IsUnsatisfiableUnder f terms.cube
 sound_by f terms h legal s [] [] judged is = absurd (let no : false ≡ true = is in cc)
@@ -160,7 +160,7 @@ is_within_some : (reports : List Report) (verdict : Verdict) → verdict ≡ ver
 is_within_some reports verdict of is =
     some_within (list_any (λ (report : Report). report.empty) reports) (list_any (λ (report : Report). report.within) reports) (sym of ∙ is)
 
--- so it is true, with a thread for each stream
+-- so it is true, with two threads for each stream
 pub sound_under_run : (f : Cnf) (terms : Terms) (h : History) (streams : List Stream) (reports : List Report) (verdict : Verdict)
     → IsLegal f terms.layout h → AreJudgedIn terms (λ t. true) h 1 streams reports → verdict ≡ verdict_of reports → verdict ≡ UnsatisfiableUnder
     → IsUnsatisfiableUnder f terms.cube

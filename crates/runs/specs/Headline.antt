@@ -1,4 +1,4 @@
--- What a run with a thread for each stream promises (this project's own).
+-- What a run with two threads for each stream promises (this project's own).
 use Rattle.std.specs.Prelude.{◌≡◌, ◌+◌, ℕ, Bool, IsTrue, List, [], ◌∷◌, length}
 use Rattle.lrup_model.specs.Formula.{Cnf}
 use Rattle.lrup_model.specs.Layout.{LayoutValue}

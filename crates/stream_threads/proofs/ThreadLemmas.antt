@@ -1,6 +1,6 @@
 -- What the threads of a stream gave back, and lists of them.
-use Rattle.std.proofs.Common.{◌≡◌, ◌++◌, ◌+◌, ◌∙◌, ◌⊎◌, ℕ, List, [], ◌∷◌, Option, Some, None, IfSome, length, map, refl, sym, ap, subst, arith, append_assoc, append-nil}
-use Rattle.std.proofs.lemmas.List.{map-append}
+use Rattle.std.proofs.Common.{◌≡◌, ◌++◌, ◌+◌, ◌∙◌, ℕ, List, [], ◌∷◌, Option, Some, None, IfSome, Result, Ok, Err, IfOk, IfErr, ◌<◌, ◌≤◌, length, map, refl, sym, ap, subst, arith, append_assoc, append-nil}
+use Rattle.std.proofs.lemmas.List.{length-append, length-map, map-append}
 use Rattle.std.specs.declared.vec.IntoIter.{IntoIter}
 use Rattle.std.specs.Vec.Iter.{into_iter_items, into_iter_len, into_iter_steps}
 use Rattle.lrup_model.specs.Event.{History}
@@ -11,7 +11,9 @@ use Rattle.stream_check.specs.declared.report.Report.{Report}
 use Rattle.stream_check.specs.CheckerValue.{CheckerValue}
 use Rattle.stream_check.specs.Judging.{joined}
 use Rattle.stream_jobs.specs.Judged.{JudgesAtMark}
-use Rattle.stream_threads.specs.Jobs.{AllEnd, AllFinish, AreJobs, Finishes, FoundValue, IsJob, JobsValue, JudgesAtPass}
+use Rattle.stream_threads.specs.Jobs.{AllEnd, AllFinish, AreJobs, Finishes, FoundValue, IsFaultWithin, IsJob, JobsValue, JudgesAtPass}
+use Rattle.stream_threads.specs.declared.jobs.ThreadFault.{ThreadFault}
+use Rattle.stream_threads.specs.declared.jobs.ThreadFault.TheVariants.{Ring}
 use Rattle.runs.specs.Streams.{Terms}
 
 -- what was judged at a desk was judged at its pass
@@ -64,6 +66,29 @@ all_finish (j ∷ jobs) (e ∷ ends) (f ∷ found) all is =
     let here : e ≡ Some f = cc in
     let more : ends ≡ map (λ f. Some f) found = cc in
     (subst (λ (o : Option FoundValue). IfSome o (Finishes j)) here all.0, all_finish jobs ends found all.1 more)
+
+pub finish_if_ok : {A : Type 0} (found_in : A → List FoundValue) (jobs : List JobsValue) (ends : List (Option FoundValue)) (r : Result A ThreadFault) → AllEnd jobs ends
+    → IfOk r (λ a. ends ≡ map (λ f. Some f) (found_in a)) → IfOk r (λ a. AllFinish jobs (found_in a))
+finish_if_ok found_in jobs ends (Ok a) all is = all_finish jobs ends (found_in a) all is
+finish_if_ok found_in jobs ends (Err fault) all is = tt
+
+ends_count : (jobs : List JobsValue) (ends : List (Option FoundValue)) → AllEnd jobs ends → length ends ≡ length jobs
+ends_count [] [] all = refl
+ends_count [] (e ∷ ends) all = absurd all
+ends_count (j ∷ jobs) [] all = absurd all
+ends_count (j ∷ jobs) (e ∷ ends) all = omega (arith, ends_count jobs ends all.1)
+
+-- the first stream of which nothing was found is one of them
+pub first_within : {A : Type 0} (count : ℕ) (jobs : List JobsValue) (ends : List (Option FoundValue)) (r : Result A ThreadFault) → AllEnd jobs ends → count ≡ length jobs
+    → IfErr r (λ fault. (before : List FoundValue) × (after : List (Option FoundValue)) × (ends ≡ map (λ f. Some f) before ++ None ∷ after) × (fault ≡ Ring (length before + 1)))
+    → IfErr r (IsFaultWithin count)
+first_within count jobs ends (Ok a) all same first = tt
+first_within count jobs ends (Err fault) all same first =
+    let whole : length ends ≡ length first.0 + length (None ∷ first.1) =
+    ap length first.2 ∙ length-append (map (λ f. Some f) first.0) (None ∷ first.1) ∙ ap (λ k. k + length (None ∷ first.1)) (length-map first.0 (λ f. Some f)) in
+    let low : 0 < length first.0 + 1 = omega arith in
+    let high : length first.0 + 1 ≤ count = omega (arith, whole, ends_count jobs ends all, same) in
+    subst (IsFaultWithin count) (sym first.3) (low, high)
 
 -- ---- the jobs of all streams
 

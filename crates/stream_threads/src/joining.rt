@@ -4,6 +4,7 @@ ghost use Rattle.std.specs.List.{AllByRecursion};
 ghost use Rattle.rtrb.specs.Ring.{received, IsPair};
 ghost use Rattle.stream_ring.specs.Items.{SendsAll};
 ghost use Rattle.stream_threads.specs.Jobs.{AllEnd, AllFinish, CanBegin, Finishes, FoundValue, IsFaultWithin, JobsValue, JudgesAtPass};
+ghost use Rattle.stream_threads.specs.declared.jobs.ThreadFault.TheVariants.{Ring};
 
 use crate::ends::CheckedPass;
 use crate::jobs::{HalfStarted, Started, StreamJobs, ThreadFault};
@@ -133,20 +134,20 @@ fn join_all<T: Threads, R: Source + Drop, G: Gate + Drop>(
     ends
 }
 
-/// What was found of all streams. The first stream, from 1 on, of which nothing was found is the error.
+/// What was found of all streams. The fault names the first stream, from 1 on, of which nothing was found.
 fn all_found<R: Source + Drop>(
     ends: Vec<Option<Found<R>>>,
     mut found: Vec<Found<R>>,
-) -> Result<Vec<Found<R>>, u64>
+) -> Result<Vec<Found<R>>, ThreadFault>
     requires none { found.items ≡ [] }
     requires room { vec_len ends ≤ vec_capacity found }
     ensures found { IfOk result (λ all. ends.items ≡ map (λ f. Some f) all.items) }
-    ensures first { IfErr result (λ stream. (before : List FoundValue) × (after : List (Option FoundValue))
-        × (ends.items ≡ map (λ f. Some f) before ++ None ∷ after) × (stream ≡ length before + 1)) }
+    ensures first { IfErr result (λ fault. (before : List FoundValue) × (after : List (Option FoundValue))
+        × (ends.items ≡ map (λ f. Some f) before ++ None ∷ after) × (fault ≡ Ring (length before + 1))) }
 {
     for end in ends {
         let Some(one) = end else {
-            return Err(found.len() as u64 + 1);
+            return Err(ThreadFault::Ring(found.len() as u64 + 1));
         };
         found.push_reserved(one);
     }
@@ -189,10 +190,7 @@ fn start_and_join<
     }
     let _ = word.set(threads, true);
     let ends = join_all(threads, started, ends);
-    match all_found(ends, found) {
-        Ok(found) => Ok(found),
-        Err(stream) => Err(ThreadFault::Ring(stream)),
-    }
+    all_found(ends, found)
 }
 
 /// Reads and checks all streams, each in two threads of its own, until all have ended. No reader is read before all threads have

@@ -22,7 +22,7 @@ fn shelf_under<'a>(
     Ok(files)
 }
 
-/// A run under assumed literals: with a thread for each stream, and on one thread.
+/// A run under assumed literals: with two threads for each stream, and on one thread.
 fn ends_under<'a, T: Threads + Wait + Sync + Clock + Abort>(
     rt: &T,
     alloc: Global,

@@ -23,17 +23,43 @@ fn one<'a>(stream: &'a [&'a str], out: &'a str) -> Row<'a> {
     }
 }
 
+/// The row, with files that come in pieces of one byte, of two, and whole. No file of these rows is as long as one read asks for,
+/// so a longer piece would be the whole one.
 fn assert_row<T: Threads + Wait + Sync + Clock + Abort>(
     rt: &T,
     alloc: Global,
     row: &Row<'_>,
 ) -> Result<(), Fail> {
-    let mut files = shelf_of(alloc, row.formula, row.streams)?;
-    assert_ends(rt, alloc, row.words, &mut files, (row.out, "", row.status));
+    for most in [1, 2, usize::MAX] {
+        let mut files = shelf_of(alloc, row.formula, row.streams)?;
+        files.most = most;
+        assert_ends(rt, alloc, row.words, &mut files, (row.out, "", row.status));
+    }
     Ok(())
 }
 
-/// The row, with a thread for each stream and on one thread.
+/// Read number `fails_at` of the one stream fails, where at most so many bytes come a read: with two threads and on one, this is
+/// said of it.
+fn assert_fails<T: Threads + Wait + Sync + Clock + Abort>(
+    rt: &T,
+    alloc: Global,
+    stream: &str,
+    most: usize,
+    fails_at: usize,
+    said: &str,
+    status: u8,
+) -> Result<(), Fail> {
+    let out = format!(in alloc; "c stream 1: {said}")?;
+    for words in [["f", "1", "--tries=0"], ["f", "1", "--serial"]] {
+        let mut files = shelf_of(alloc, FOUR, &[stream])?;
+        files.most = most;
+        files.fail_at("1", fails_at);
+        assert_ends(rt, alloc, &words, &mut files, (out.as_str(), "", status));
+    }
+    Ok(())
+}
+
+/// The row, with two threads for each stream and on one thread.
 fn assert_both<T: Threads + Wait + Sync + Clock + Abort>(
     rt: &T,
     alloc: Global,
@@ -161,16 +187,92 @@ fn one_stream(rt: HostRuntime) -> Result<(), Fail> {
     Ok(())
 }
 
-/// The files come in pieces of one byte, of two, and whole.
+/// A read of the one stream fails, after some of its bytes or all of them: only the lines that came whole count.
 #[test]
-fn two_additions_in_pieces(rt: HostRuntime) -> Result<(), Fail> {
-    let out = "c stream 1: 2 added, 0 deleted, ended\ns UNSATISFIABLE\n";
-    for most in [1, 2, usize::MAX] {
-        for words in [["f", "1", "--serial"], ["f", "1", "--tries=0"]] {
-            let mut files = shelf_of(rt.alloc(), FOUR, &["5 2 0 1 2 0\n6 0 5 3 4 0\n"])?;
-            files.most = most;
-            assert_ends(&rt, rt.alloc(), &words, &mut files, (out, "", 0));
-        }
+fn a_stream_that_fails(rt: HostRuntime) -> Result<(), Fail> {
+    let two = "5 2 0 1 2 0\n6 0 5 3 4 0\n";
+    let deleted = "5 2 0 1 2 0\n5 d 5 0\n6 0 5 3 4 0\n";
+    let bad = "7 2 0 1 2 0\n6 0 7 3 4 0\n";
+    for (stream, most, fails_at, out, status) in [
+        (
+            two,
+            1,
+            1,
+            "0 added, 0 deleted, read failed at line 1\ns UNKNOWN\n",
+            3,
+        ),
+        (
+            two,
+            1,
+            12,
+            "0 added, 0 deleted, read failed at line 1\ns UNKNOWN\n",
+            3,
+        ),
+        (
+            two,
+            1,
+            13,
+            "1 added, 0 deleted, read failed at line 2\ns UNKNOWN\n",
+            3,
+        ),
+        (
+            two,
+            2,
+            7,
+            "1 added, 0 deleted, read failed at line 2\ns UNKNOWN\n",
+            3,
+        ),
+        (
+            two,
+            usize::MAX,
+            2,
+            "2 added, 0 deleted, read failed at line 3\ns UNSATISFIABLE\n",
+            0,
+        ),
+        (
+            deleted,
+            1,
+            21,
+            "1 added, 1 deleted, read failed at line 3\ns UNKNOWN\n",
+            3,
+        ),
+        (
+            deleted,
+            2,
+            11,
+            "1 added, 1 deleted, read failed at line 3\ns UNKNOWN\n",
+            3,
+        ),
+        (
+            deleted,
+            usize::MAX,
+            2,
+            "1 added, 1 deleted, bad line 3 (retired 5)\ns UNKNOWN\n",
+            3,
+        ),
+        (
+            bad,
+            1,
+            24,
+            "1 added, 0 deleted, read failed at line 2\ns UNKNOWN\n",
+            3,
+        ),
+        (
+            bad,
+            2,
+            13,
+            "1 added, 0 deleted, bad line 2 (identity)\ns UNKNOWN\n",
+            3,
+        ),
+        (
+            bad,
+            usize::MAX,
+            1,
+            "0 added, 0 deleted, read failed at line 1\ns UNKNOWN\n",
+            3,
+        ),
+    ] {
+        assert_fails(&rt, rt.alloc(), stream, most, fails_at, out, status)?;
     }
     Ok(())
 }
@@ -354,7 +456,7 @@ fn a_stream_opened_twice(rt: HostRuntime) -> Result<(), Fail> {
     Ok(())
 }
 
-/// Stream 1 cites two clauses of stream 2. With a thread for each it waits for them; on one thread its first line comes before them.
+/// Stream 1 cites two clauses of stream 2. With two threads for each it waits for them; on one thread its first line comes before them.
 #[test]
 fn serial_alone_is_on_one_thread(rt: HostRuntime) -> Result<(), Fail> {
     let row = Row {

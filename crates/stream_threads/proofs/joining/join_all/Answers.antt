@@ -1,4 +1,4 @@
-use Rattle.std.proofs.Common.{rules, arith}
+use Rattle.std.proofs.Common.{arith}
 use Rattle.std.specs.Vec.Iter.{into_iter_items}
 use Rattle.stream_threads.proofs.ThreadLemmas.{all_end-more, moved_more}
 use Rattle.stream_threads.proofs.joining.join_all.Goals as goal

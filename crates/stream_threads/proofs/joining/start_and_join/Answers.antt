@@ -1,9 +1,16 @@
 use Rattle.std.proofs.Common.{List, ◌∙◌, subst}
 use Rattle.stream_threads.specs.Jobs.{AllEnd, JobsValue}
-use Rattle.stream_threads.proofs.ThreadLemmas.{all_finish}
+use Rattle.stream_threads.proofs.ThreadLemmas.{finish_if_ok, first_within}
 use Rattle.stream_threads.proofs.joining.start_and_join.Goals as goal
 
-pub returns-in-Ok-clause-found : goal.returns-in-Ok-clause-found
-returns-in-Ok-clause-found g c =
+pub returns-clause-found : goal.returns-clause-found
+returns-clause-found g c =
     let same = c.in_default-start_all_reading.ensures.started ∙ c.in_default.ensures.started in
-    all_finish c.args.all.items _ c.in-Ok.found.items (subst (λ (jobs : List JobsValue). AllEnd jobs c.join_all-ends.result.items) same c.join_all-ends.ensures.ends) c.in-Ok.ensures.found
+    let ends = subst (λ (jobs : List JobsValue). AllEnd jobs c.join_all-ends.result.items) same c.join_all-ends.ensures.ends in
+    finish_if_ok (λ found. found.items) c.args.all.items c.join_all-ends.result.items c.all_found.result ends c.all_found.ensures.found
+
+pub returns-clause-fault : goal.returns-clause-fault
+returns-clause-fault g c =
+    let same = c.in_default-start_all_reading.ensures.started ∙ c.in_default.ensures.started in
+    let ends = subst (λ (jobs : List JobsValue). AllEnd jobs c.join_all-ends.result.items) same c.join_all-ends.ensures.ends in
+    first_within c.args.all.len c.args.all.items c.join_all-ends.result.items c.all_found.result ends c.args.all.ok.0 c.all_found.ensures.first
