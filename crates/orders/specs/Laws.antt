@@ -17,7 +17,7 @@ use Rattle.stream_check.specs.Judging.{joined, StreamEnd, JudgesBlocks}
 use Rattle.runs.specs.Streams.{Stream, Block, events_in, Terms, AreTold, IsOrdered}
 use Rattle.runs.specs.Headline.{HaveOneHistory, AreJudgedIn}
 use Rattle.runs.specs.Closed.{IsClosed}
-use Rattle.orders.specs.Lines.{IsLineBlock, IsOrder}
+use Rattle.orders.specs.Lines.{IsLineBlock, IsOrder, publishes_within}
 use Rattle.orders.specs.Premises.{FindsKept, FoundStays, FindsUnretired, OwnersAloneMeetRetired, Cites, Deletes, KeepShared, ReadersKeepShared}
 use Rattle.orders.specs.Serializable.{IsSerializable}
 
@@ -68,7 +68,7 @@ abbrev pub AllClosed : Type 0
 AllClosed = (p : LayoutValue) (streams : List Stream) → IsClosed p (λ s. true) streams
 
 -- The reports of all streams have an order of lines, and the verdict that these lines come to is that of the reports: a stream
--- said that it added the empty clause exactly if the order publishes it.
+-- said that it added the empty clause exactly if the order publishes it, and one within the cube exactly if the order publishes one.
 abbrev pub AllOrdered : Type 0
 AllOrdered = (f : Cnf) (terms : Terms) (h : History) (streams : List Stream) (reports : List Report)
     → Fits terms.layout f → length streams ≡ terms.layout.streams
@@ -76,6 +76,7 @@ AllOrdered = (f : Cnf) (terms : Terms) (h : History) (streams : List Stream) (re
     → FoundStays f terms.layout (λ s. true) h
     → (order : IsOrdered f terms (λ s. true) streams reports)
     × (list_any (λ report. report.empty) reports ≡ list_any publishes_empty (events_in order.blocks))
+    × (list_any (λ report. report.within) reports ≡ list_any (publishes_within terms.cube) (events_in order.blocks))
 
 -- The premise
 

@@ -25,17 +25,11 @@ use Rattle.stream_check.specs.Additions.{published_by}
 use Rattle.stream_check.specs.Judging.{JudgesLine, AreGood, joined, EndsAfter, StreamEnd, ended, failed, JudgesBlocks}
 use Rattle.runs.specs.Streams.{Stop, at_end, at_failure, early, Stream, JudgesTo, JudgesStream, Block, blocks_of, events_in, AreJudged, IsOrdered, Terms, setting_of}
 use Rattle.runs.specs.Headline.{AreJudgedIn}
+use Rattle.orders.specs.Lines.{publishes_within}
 use Rattle.portfolio.specs.declared.outcome.Verdict.{Verdict}
 use Rattle.portfolio.specs.declared.outcome.Verdict.TheVariants.{Unsatisfiable, UnsatisfiableUnder, Unknown}
 use Rattle.portfolio.specs.Outcomes.{verdict_of}
 use Rattle.portfolio.proofs.EmptyLemmas.{or_left, any_front, any_back, any_filtered, any_block, fails_not, hints_publish}
-
--- the event published a clause within the cube
-abbrev publishes_within : CubeValue → Event → Bool
-publishes_within cube (events.fetch s id r) = false
-publishes_within cube (events.publish s id c publishing.Done) = is_within cube c
-publishes_within cube (events.publish s id c publishing.Taken) = false
-publishes_within cube (events.retire s id r) = false
 
 -- ---- the lines of a stream
 
