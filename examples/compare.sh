@@ -134,7 +134,7 @@ usage() {
     judge "$name" 2 "$status"
 }
 
-# limited CAUSE KILOBYTES WORDS..: no report for want of memory, in an address space of this size with stacks of 8 MB.
+# limited CAUSE KILOBYTES WORDS..: no report, since memory ran out, in an address space of this size with stacks of 8 MB.
 limited() {
     name=$1 size=$2
     shift 2
@@ -372,6 +372,18 @@ for options in '' '--serial'; do
     want 'c stream 1: 20000 added, 0 deleted, ended\ns UNKNOWN\n' ''
     run "20,000 lines $options" 3 $options "$work/formula" "$work/lines"
 done
+
+# Two that take up to 2 GB: a row with the room of 110,000,000 literals, and a formula of more than 1 GB, which is one long
+# comment before the four clauses.
+
+if awk '$1 == "MemAvailable:" && $2 >= 4000000 { found = 1 } END { exit !found }' /proc/meminfo 2> /dev/null; then
+    streams 'a room of 110,000,000 literals' '--room 110000000' 0 '2 added, 0 deleted, ended' "$two"
+    { printf 'c '; head -c 1100000000 /dev/zero | tr '\0' x; printf '%b' "\n$four"; } > "$work/pipe1" & writers="$writers $!"
+    want 'c stream 1: 2 added, 0 deleted, ended\ns UNSATISFIABLE\n' ''
+    run 'a formula of 1,100,000,000 bytes' 0 "$work/pipe1" "$work/two"
+else
+    echo 'less than 4 GB free: skipped a room of 110,000,000 literals, and a formula of 1,100,000,000 bytes'
+fi
 
 limited 'out of memory' 1000000 --room 268000000 "$work/formula" "$work/one"
 limited 'worker 1 not started' 9000 --lines 1 --room 1 "$work/formula" "$work/one"

@@ -483,8 +483,9 @@ LIBRARIES = """What these names mean is said in Rattle's library and in `clap`, 
 
 HEADLINE = """What a run of several streams promises, with two threads for each. What stands above isn't repeated: what a formula
 is, and that no assignment satisfies it. A gate is told before each fetch and after each publish, and may hold a thread there; the
-program's does nothing. `entries` are what each reader has left at first, `lefts` what it has left in the end, and `faileds` whether
-it has failed. That a `Formula` of the code is seen as that of a text is a clause of `dimacs::parse`, which `sound` above takes in."""
+program's is `Pause`, which sleeps a microsecond before a hint is looked up again. `entries` are what each reader has left at first,
+`lefts` what it has left in the end, and `faileds` whether it has failed. That a `Formula` of the code is seen as that of a text is
+a clause of `dimacs::parse`, which `sound` above takes in."""
 
 
 def parts():

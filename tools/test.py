@@ -216,7 +216,8 @@ def main():
             ("pigeonhole.cnf", "pigeonhole.lrup"),
             ("bmc.cnf", "bmc.lrup"),
             ("pigeonhole.cnf", "pigeonhole-two.1", "pigeonhole-two.2"),
-            ("bmc.cnf", "bmc-four.1", "bmc-four.2", "bmc-four.3", "bmc-four.4"))):
+            ("bmc.cnf", "bmc-four.1", "bmc-four.2", "bmc-four.3", "bmc-four.4"),
+            ("two-groups.cnf", "two-groups.1", "two-groups.2", "two-groups.3", "two-groups.4"))):
         for imports in (False, True) if len(names) > 1 else (False,):
             runs.append((names[0] + ", imports" * imports, mangled, program, formula, names, seed, imports))
     proofs = os.path.join(HERE, "proofs")
