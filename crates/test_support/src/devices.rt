@@ -62,7 +62,7 @@ impl Source for Pieces<'_> {
     }
 }
 
-/// Paper that takes so many bytes a write, at least one, until a write of some number, from 1 on, fails.
+/// A sink that accepts at most so many bytes a write, at least one, until a write of some number, from 1 on, fails.
 #[derive(Drop)]
 pub struct Paper {
     /// What was written.
