@@ -147,19 +147,83 @@ fn is_among(reports: &[Report], lists: &[[Report; 2]]) -> bool {
     false
 }
 
-#[test]
-fn runs_of_citing_have_an_order(rt: HostRuntime) -> Result<(), Fail> {
-    let lists = said_of_citing();
+/// A hundred runs with threads, each of which has one of these lists of reports.
+fn runs_are_among<T: Threads + Wait + Sync + Abort>(
+    rt: &T,
+    alloc: Global,
+    streams: [&str; 2],
+    lists: &[[Report; 2]],
+) -> Result<(), Fail> {
     for _ in 0..100 {
-        let readers = readers_of(rt.alloc(), &CITING, 5)?;
-        let reports = reports_of(&rt, rt.alloc(), By::Threads, options(0, 2, 16), readers)?;
-        same(&rt, is_among(&reports, &lists), true);
+        let readers = readers_of(alloc, &streams, 5)?;
+        let reports = reports_of(rt, alloc, By::Threads, options(0, 2, 16), readers)?;
+        let among = is_among(&reports, lists);
+        same(
+            rt,
+            (streams, reports.as_slice(), among),
+            (streams, reports.as_slice(), true),
+        );
     }
     Ok(())
 }
 
+#[test]
+fn runs_of_citing_have_an_order(rt: HostRuntime) -> Result<(), Fail> {
+    runs_are_among(&rt, rt.alloc(), CITING, &said_of_citing())
+}
+
+/// Each imports what the other derives.
+const IMPORTING: [&str; 2] = [
+    "5 2 0 1 2 0\n6 i -2 0\n7 0 5 6 0\n",
+    "6 -2 0 3 4 0\n5 i 2 0\n",
+];
+
+/// What is said of IMPORTING where both clauses come in time, where 6 comes too late, and where 5 does.
+fn said_of_importing() -> [[Report; 2]; 3] {
+    let missing_six = report(1, 0, Ending::Bad(2, Fault::Missing(6)));
+    let missing_five = report(1, 0, Ending::Bad(2, Fault::Missing(5)));
+    [
+        [ended(2, true), ended(1, false)],
+        [missing_six, ended(1, false)],
+        [ended(2, true), missing_five],
+    ]
+}
+
+/// The reports of the ten orders of its lines.
+#[test]
+fn orders_of_importing(rt: HostRuntime) -> Result<(), Fail> {
+    let [in_time, six_late, five_late] = said_of_importing();
+    for (order, wanted) in [
+        ([1, 1, 1, 2, 2], six_late),
+        ([1, 1, 2, 1, 2], six_late),
+        ([1, 1, 2, 2, 1], six_late),
+        ([1, 2, 1, 1, 2], in_time),
+        ([1, 2, 1, 2, 1], in_time),
+        ([1, 2, 2, 1, 1], in_time),
+        ([2, 1, 1, 1, 2], in_time),
+        ([2, 1, 1, 2, 1], in_time),
+        ([2, 1, 2, 1, 1], in_time),
+        ([2, 2, 1, 1, 1], five_late),
+    ] {
+        let said = said_in(rt.alloc(), 2, 0, IMPORTING, &order)?;
+        same(&rt, (order, said), (order, Some(wanted)));
+    }
+    Ok(())
+}
+
+#[test]
+fn runs_of_importing_have_an_order(rt: HostRuntime) -> Result<(), Fail> {
+    runs_are_among(&rt, rt.alloc(), IMPORTING, &said_of_importing())
+}
+
 /// The first deletes a clause that the second has found by then.
 const DELETING: [&str; 2] = ["5 2 0 1 2 0\n5 d 5 0\n7 -2 0 3 4 0\n", "6 0 5 7 0\n"];
+
+/// The same, where the second has imported it too.
+const DELETING_IMPORTED: [&str; 2] = [
+    "5 2 0 1 2 0\n5 d 5 0\n7 -2 0 3 4 0\n",
+    "5 i 2 0\n6 0 5 7 0\n",
+];
 
 /// Holds stream 2 before its first fetch of 5 until it is published, stream 1 then until stream 2 wants 7, having found 5, and
 /// stream 2 until 7 is published.
@@ -204,10 +268,11 @@ impl Gate for FindsBefore<'_> {
     }
 }
 
-/// What is said of DELETING with such gates, the verdict, and whether one waited in vain.
+/// What is said of these streams with such gates, the verdict, and whether one waited in vain.
 fn run_deleting<T: Threads + Wait + Sync>(
     rt: &T,
     alloc: Global,
+    streams: [&str; 2],
 ) -> Result<(Vec<Report>, Verdict, bool), Fail> {
     let (five, wanted) = (AtomicBool::new(false), AtomicBool::new(false));
     let (seven, late) = (AtomicBool::new(false), AtomicBool::new(false));
@@ -218,7 +283,7 @@ fn run_deleting<T: Threads + Wait + Sync>(
         late: &late,
     };
     let formula = four_clauses(alloc)?;
-    let readers = readers_of(alloc, &DELETING, 5)?;
+    let readers = readers_of(alloc, &streams, 5)?;
     let gates = vec![in alloc; gate; readers.len()]?;
     let outcome = run(
         rt,
@@ -237,16 +302,26 @@ fn run_deleting<T: Threads + Wait + Sync>(
     Ok((reports, verdict, late.load(Ordering::SeqCst)))
 }
 
-/// The second stream finds 5 before it is deleted, and 7 after it, as in no order of whole lines.
+/// The second stream finds 5 before it is deleted, and 7 after it, and is said to add the empty clause.
+fn finds_both<T: Threads + Wait + Sync + Abort>(
+    rt: &T,
+    alloc: Global,
+    streams: [&str; 2],
+) -> Result<(), Fail> {
+    let wanted = [report(2, 1, Ending::Ended), ended(1, true)];
+    let (reports, verdict, late) = run_deleting(rt, alloc, streams)?;
+    same(
+        rt,
+        (streams, reports.as_slice(), verdict, late),
+        (streams, wanted.as_slice(), Verdict::Unsatisfiable, false),
+    );
+    Ok(())
+}
+
+/// No order of whole lines has these reports.
 #[test]
 fn a_deleted_clause_that_was_found(rt: HostRuntime) -> Result<(), Fail> {
-    let wanted = [report(2, 1, Ending::Ended), ended(1, true)];
-    let (reports, verdict, late) = run_deleting(&rt, rt.alloc())?;
-    same(
-        &rt,
-        (reports.as_slice(), verdict, late),
-        (wanted.as_slice(), Verdict::Unsatisfiable, false),
-    );
+    finds_both(&rt, rt.alloc(), DELETING)?;
     for (order, fault) in [
         ([2, 1, 1, 1], Fault::Missing(5)),
         ([1, 2, 1, 1], Fault::Missing(7)),
@@ -255,6 +330,29 @@ fn a_deleted_clause_that_was_found(rt: HostRuntime) -> Result<(), Fail> {
     ] {
         let said = said_in(rt.alloc(), 2, 0, DELETING, &order)?;
         let other = [report(2, 1, Ending::Ended), bad_line(1, fault)];
+        same(&rt, (order, said), (order, Some(other)));
+    }
+    Ok(())
+}
+
+/// The second stream's first fetch of 5 is its import's; no order of whole lines has these reports.
+#[test]
+fn a_deleted_clause_that_was_imported(rt: HostRuntime) -> Result<(), Fail> {
+    finds_both(&rt, rt.alloc(), DELETING_IMPORTED)?;
+    for (order, line, fault) in [
+        ([1, 1, 1, 2, 2], 1, Fault::Retired(5)),
+        ([1, 1, 2, 1, 2], 1, Fault::Retired(5)),
+        ([1, 1, 2, 2, 1], 1, Fault::Retired(5)),
+        ([1, 2, 1, 1, 2], 2, Fault::Retired(5)),
+        ([1, 2, 1, 2, 1], 2, Fault::Retired(5)),
+        ([1, 2, 2, 1, 1], 2, Fault::Missing(7)),
+        ([2, 1, 1, 1, 2], 1, Fault::Missing(5)),
+        ([2, 1, 1, 2, 1], 1, Fault::Missing(5)),
+        ([2, 1, 2, 1, 1], 1, Fault::Missing(5)),
+        ([2, 2, 1, 1, 1], 1, Fault::Missing(5)),
+    ] {
+        let said = said_in(rt.alloc(), 2, 0, DELETING_IMPORTED, &order)?;
+        let other = [report(2, 1, Ending::Ended), bad_line(line, fault)];
         same(&rt, (order, said), (order, Some(other)));
     }
     Ok(())
@@ -284,17 +382,21 @@ impl Dice {
 /// Each stream's identities.
 const OWN: [[u64; 3]; 2] = [[5, 7, 9], [6, 8, 10]];
 
-/// An addition, or a deletion of a clause of the formula or of another stream, under this identity. It may be bad.
+/// An addition or a deletion under this identity, of a clause of the formula or of another stream, or an import of one of another
+/// stream. It may be bad.
 fn put_line(dice: &mut Dice, text: &mut String, id: u64, others: &[u64]) -> Result<(), Fail> {
     let hint = dice.pick(&[5, 6, 7, 8, 9, 10]);
     let more = dice.pick(&[3, 4, 5, 6, 7, 8, 9, 10]);
-    match dice.roll(7) {
+    match dice.roll(10) {
         0 => write!(text, "{id} 2 0 1 2 0\n")?,
         1 => write!(text, "{id} -2 0 3 4 0\n")?,
         2 => write!(text, "{id} 2 0 {hint} 0\n")?,
         3 => write!(text, "{id} -2 0 {hint} 0\n")?,
         4 => write!(text, "{id} 0 {hint} {more} 0\n")?,
         5 => write!(text, "{id} d {} 0\n", dice.pick(others))?,
+        6 => write!(text, "{} i 2 0\n", dice.pick(others))?,
+        7 => write!(text, "{} i -2 0\n", dice.pick(others))?,
+        8 => write!(text, "{} i 0\n", dice.pick(others))?,
         _ => write!(text, "{id} d {} 0\n", dice.pick(&[1, 2, 3, 4]))?,
     }
     Ok(())
@@ -384,7 +486,7 @@ fn runs_of_small_streams_have_an_order(rt: HostRuntime) -> Result<(), Fail> {
         state: 0x9e37_79b9_7f4a_7c15,
     };
     let [first_own, second_own] = OWN;
-    for _ in 0..36 {
+    for _ in 0..200 {
         let first = small_stream(rt.alloc(), &mut dice, first_own, &second_own)?;
         let second = small_stream(rt.alloc(), &mut dice, second_own, &first_own)?;
         runs_have_order(&rt, rt.alloc(), [first.as_str(), second.as_str()])?;

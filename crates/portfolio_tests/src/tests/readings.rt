@@ -23,7 +23,10 @@ const SIZES: [usize; 6] = [1, 2, 65_535, 65_536, 65_537, usize::MAX];
 #[test]
 fn long_bytes(rt: HostRuntime) -> Result<(), Fail> {
     let text = repeated(rt.alloc(), "", "\n", 200_000, "")?;
-    let wanted = bad_line(1, Fault::Text(LineFault::Spelling));
+    let wanted = (
+        bad_line(1, Fault::Text(LineFault::Spelling)),
+        Verdict::Unknown,
+    );
     for most in SIZES {
         both_say(&rt, rt.alloc(), defaults(), &text, most, 0, wanted)?;
         let last = 200_000usize.div_ceil(most.min(65_536));
@@ -48,7 +51,7 @@ fn many_lines(rt: HostRuntime) -> Result<(), Fail> {
             &text,
             most,
             0,
-            ended(20_000, false),
+            (ended(20_000, false), Verdict::Unknown),
         )?;
     }
     Ok(())
@@ -58,8 +61,10 @@ fn many_lines(rt: HostRuntime) -> Result<(), Fail> {
 #[test]
 fn always_ring_fault(rt: HostRuntime) -> Result<(), Fail> {
     let refutes = "5 2 0 1 2 0\n6 0 5 3 4 0\n";
-    both_say(&rt, rt.alloc(), defaults(), refutes, 24, 0, ended(2, true))?;
-    both_say(&rt, rt.alloc(), defaults(), "", 24, 0, ended(0, false))
+    let refuted = (ended(2, true), Verdict::Unsatisfiable);
+    both_say(&rt, rt.alloc(), defaults(), refutes, 24, 0, refuted)?;
+    let nothing = (ended(0, false), Verdict::Unknown);
+    both_say(&rt, rt.alloc(), defaults(), "", 24, 0, nothing)
 }
 
 /// A row's two lines, one a read; the second read sets a flag.

@@ -2,9 +2,10 @@
 ghost use Rattle.std.specs.Prelude.{◌≡◌, false, IfOk};
 ghost use Rattle.std.specs.List.{AllByRecursion};
 
-use super::{BOTH, bad_line, defaults, ended, options, report, reports_of, same};
+use super::{BOTH, bad_line, defaults, ended, found_under, options, report, same};
+use lrup_model::Cube;
 use lrup_text::LineFault;
-use portfolio::Options;
+use portfolio::{Options, Verdict};
 use std::alloc::{AllocError, Global};
 use std::process::Abort;
 use std::sync::Wait;
@@ -27,7 +28,7 @@ fn one_reader<'a>(
     Ok(readers)
 }
 
-/// Both runs say this of the stream.
+/// Both runs say this of the stream, and have this verdict.
 pub(super) fn both_say<T: Threads + Wait + Sync + Abort>(
     rt: &T,
     alloc: Global,
@@ -35,15 +36,17 @@ pub(super) fn both_say<T: Threads + Wait + Sync + Abort>(
     text: &str,
     most: usize,
     fails_at: usize,
-    wanted: Report,
+    wanted: (Report, Verdict),
 ) -> Result<(), Fail> {
+    let cube = Cube::empty(alloc);
+    let (report, said) = wanted;
     for by in BOTH {
         let readers = one_reader(alloc, text, most, fails_at)?;
-        let reports = reports_of(rt, alloc, by, options, readers)?;
+        let (reports, verdict) = found_under(rt, alloc, by, &cube, options, readers)?;
         same(
             rt,
-            (by, text.len(), most, fails_at, reports.as_slice()),
-            (by, text.len(), most, fails_at, [wanted].as_slice()),
+            (by, text.len(), most, fails_at, reports.as_slice(), verdict),
+            (by, text.len(), most, fails_at, [report].as_slice(), said),
         );
     }
     Ok(())
@@ -79,13 +82,23 @@ fn judged_cut(bytes: usize) -> (Report, Report) {
     }
 }
 
+/// The verdict, which is that of the whole refutation alone.
+fn verdict_of_cut(bytes: usize) -> Verdict {
+    if bytes == 24 {
+        Verdict::Unsatisfiable
+    } else {
+        Verdict::Unknown
+    }
+}
+
 #[test]
 fn cut_anywhere(rt: HostRuntime) -> Result<(), Fail> {
     for bytes in 0..=24 {
         let text = REFUTATION.get(..bytes).ok_or("a cut letter")?;
         let (at_end, _) = judged_cut(bytes);
+        let wanted = (at_end, verdict_of_cut(bytes));
         for most in [1, 7, usize::MAX] {
-            both_say(&rt, rt.alloc(), small(), text, most, 0, at_end)?;
+            both_say(&rt, rt.alloc(), small(), text, most, 0, wanted)?;
         }
     }
     Ok(())
@@ -96,9 +109,10 @@ fn fails_anywhere(rt: HostRuntime) -> Result<(), Fail> {
     for bytes in 0..=24usize {
         let text = REFUTATION.get(..bytes).ok_or("a cut letter")?;
         let (_, at_failure) = judged_cut(bytes);
+        let wanted = (at_failure, verdict_of_cut(bytes));
         for most in [1, 7, usize::MAX] {
             let fails_at = bytes.div_ceil(most) + 1;
-            both_say(&rt, rt.alloc(), small(), text, most, fails_at, at_failure)?;
+            both_say(&rt, rt.alloc(), small(), text, most, fails_at, wanted)?;
         }
     }
     Ok(())
@@ -137,7 +151,15 @@ fn longest_lines(rt: HostRuntime) -> Result<(), Fail> {
         (defaults(), hints.as_str(), not_unit),
     ] {
         for most in [1, 7, usize::MAX] {
-            both_say(&rt, rt.alloc(), options, line, most, 0, wanted)?;
+            both_say(
+                &rt,
+                rt.alloc(),
+                options,
+                line,
+                most,
+                0,
+                (wanted, Verdict::Unknown),
+            )?;
         }
     }
     Ok(())
@@ -148,7 +170,15 @@ fn greatest_number(rt: HostRuntime) -> Result<(), Fail> {
     let line = "5 2 0 999999999999999999 0\n";
     let missing = bad_line(1, Fault::Missing(999_999_999_999_999_999));
     for most in [1, 7, usize::MAX] {
-        both_say(&rt, rt.alloc(), defaults(), line, most, 0, missing)?;
+        both_say(
+            &rt,
+            rt.alloc(),
+            defaults(),
+            line,
+            most,
+            0,
+            (missing, Verdict::Unknown),
+        )?;
     }
     Ok(())
 }

@@ -320,11 +320,18 @@ fn always_out_of_memory(rt: HostRuntime) -> Result<(), Fail> {
     row_of_four(&rt, rt.alloc(), defaults(), &[USES_DROPPED], SAYS_DROPPED)
 }
 
-/// What the gates are told in a run of CITING.
-fn calls_of<R: Abort + Wait>(rt: &R, alloc: Global, most: usize) -> Result<Vec<[u64; 4]>, Fail> {
+/// What the gates are told in a run of these streams, which reports so.
+fn calls_of<R: Abort + Wait>(
+    rt: &R,
+    alloc: Global,
+    options: Options,
+    streams: &[&str],
+    most: usize,
+    text: &str,
+) -> Result<Vec<[u64; 4]>, Fail> {
     let formula = four_clauses(alloc)?;
     let calls = Calls::new(alloc, 20)?;
-    let readers = readers_of(alloc, &CITING, most)?;
+    let readers = readers_of(alloc, streams, most)?;
     let gates = notes_of(alloc, &calls, readers.len())?;
     holds(rt, gates.len() == readers.len());
     let outcome = run_serial(
@@ -332,11 +339,11 @@ fn calls_of<R: Abort + Wait>(rt: &R, alloc: Global, most: usize) -> Result<Vec<[
         alloc,
         &formula,
         &Cube::empty(alloc),
-        defaults(),
+        options,
         readers,
         gates,
     )?;
-    says(rt, alloc, &outcome, SAYS_CITING)?;
+    says(rt, alloc, &outcome, text)?;
     Ok(calls.all(alloc)?)
 }
 
@@ -356,9 +363,28 @@ fn serial_takes_lines_by_turns(rt: HostRuntime) -> Result<(), Fail> {
         [1, 1, 7, 0],
     ];
     for most in [1, 2, usize::MAX] {
-        let calls = calls_of(&rt, rt.alloc(), most)?;
+        let calls = calls_of(&rt, rt.alloc(), defaults(), &CITING, most, SAYS_CITING)?;
         same(&rt, calls.as_slice(), wanted.as_slice());
     }
+    Ok(())
+}
+
+/// An import of what nobody derives: with three tries more it is fetched four times, and each attempt has its number.
+#[test]
+fn a_vacant_import_is_fetched_again(rt: HostRuntime) -> Result<(), Fail> {
+    let calls = calls_of(
+        &rt,
+        rt.alloc(),
+        options(3, 65_536, 1_048_576),
+        &["6 i -2 0\n", ""],
+        usize::MAX,
+        "c stream 1: 0 added, 0 deleted, bad line 1 (missing 6)
+c stream 2: 0 added, 0 deleted, ended
+s UNKNOWN
+",
+    )?;
+    let wanted = [[1, 1, 6, 1], [1, 1, 6, 2], [1, 1, 6, 3], [1, 1, 6, 4]];
+    same(&rt, calls.as_slice(), wanted.as_slice());
     Ok(())
 }
 
