@@ -93,14 +93,16 @@ files_view tells may_refuse left has_failed opens reads = record {
   reads = reads;
 }
 
--- The file at the path was opened, and its reads gave these bytes, up to the end. If the device tells the file's bytes, it is these.
+-- The file at the path was opened, and its reads gave these bytes, up to an end. Where the device
+-- tells the file's bytes, they are these.
 pub record WasRead (R : Type 0) (files : FilesView R) (path : Text) (bytes : List ℕ) : Type 0 where
   pub reader : R
   pub opened : files.opens path reader
   pub gave : GaveAll R files.reads reader bytes
   pub told : ForSome (files.tells path) (λ all. all ≡ bytes)
 
--- What was read of the file at the path of the words' formula is a text of a formula that no assignment satisfies.
+-- The words are a command line, and what was read of the file at its FORMULA is a text of a formula
+-- that no assignment satisfies.
 abbrev pub NameUnsatisfiable : (R : Type 0) → FilesView R → List Text → Type 0
 NameUnsatisfiable R files words = (given : CommandLine) × (bytes : List ℕ) × IsCommandLineOf words given
     × WasRead R files given.formula.now bytes × IsUnsatisfiableText bytes

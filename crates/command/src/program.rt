@@ -17,11 +17,11 @@ use std::sync::Wait;
 use std::thread::Threads;
 use std::time::Clock;
 
-/// Runs `lrupd` with the words after the program's name, and gives the status that it ends with. In this order: the words are
-/// read, the formula's file is read and parsed, and so is that of the assumed literals, the streams are opened and checked, and the
-/// report goes to `out`. Where there is no
-/// report, `out` gets nothing, and `err` the cause. Where the report can't be written, `out` has a beginning of it, and `err` says so.
-/// It blocks while a file does.
+/// Runs `lrupd` with the words after the program's name, and gives the status that it ends with. In
+/// this order: the words are read, the formula's file is read and parsed, and so is that of the
+/// assumed literals, the streams are opened and checked, and the report goes to `out`. Where there
+/// is no report, `out` gets nothing, and `err` the cause. Where the report can't be written, `out`
+/// has a beginning of it, and `err` says so. It blocks while a file does.
 ///
 /// | status | where |
 /// |---|---|

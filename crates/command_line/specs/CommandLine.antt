@@ -13,7 +13,7 @@ use Rattle.command_line.specs.declared.words.CommandLine.{CommandLine}
 use Rattle.command_line.specs.declared.words.WordsFault.{WordsFault}
 use Rattle.command_line.specs.declared.words.WordsFault.TheVariants.{Usage, Memory}
 
--- the greatest number of each option
+-- the most times that a vacant hint is looked up again
 abbrev pub max_tries : ℕ
 max_tries = 1000000
 

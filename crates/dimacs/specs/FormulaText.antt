@@ -27,12 +27,13 @@ pub record AfterHeader (header : Line) (lines : List Line) (P : ℕ → ℕ → 
   pub few_clauses : count ≤ max_clauses
   pub later : P vars count (all_tokens lines)
 
--- the header is the first of the lines, which are those that are no comments and hold a token
+-- The first of these lines, which are no comments and hold a token, is a header, and P holds of its
+-- two counts and of the tokens after it.
 abbrev pub InBodyOf : List Line → (ℕ → ℕ → List Token → Type 0) → Type 0
 InBodyOf [] P = ⊥
 InBodyOf (header ∷ lines) P = AfterHeader header lines P
 
--- so for the lines of a whole file
+-- so for the lines of a whole file, as bytes
 abbrev pub InBody : List ℕ → (ℕ → ℕ → List Token → Type 0) → Type 0
 InBody bytes P = InBodyOf (lines_of bytes) P
 
@@ -54,7 +55,8 @@ pub record IsRead (vars count : ℕ) (tokens : List Token) (closed : List (List 
   pub closed_count : length closed ≤ count
   pub begun_count : 0 < length begun → length closed < count
 
--- the clause is the set of the literals, and has each of them once, in the order of their first places
+-- The clause is the set of the literals, and has each of them once, in the order of their first
+-- places. The last member alone gives the other two, which say it as textbooks do.
 pub record IsSetOf (literals : List ℤ) (clause : Clause) : Type 0 where
   pub members : (l : ℤ) → Has clause l ↔ Has literals l
   pub each_once : EachOnce clause

@@ -34,7 +34,7 @@ is_zero (b ∷ c ∷ bs) = false
 abbrev pub is_count : List ℕ → Bool
 is_count text = is_zero text || is_numeral text
 
--- a minus sign before such digits, and the number that they spell together
+-- the number that a minus sign and a numeral spell. None: it isn't spelled so, as `-0` isn't
 abbrev pub negative_of : List ℕ → Option ℤ
 negative_of [] = None
 negative_of (b ∷ digits) = if b == 45 && is_numeral digits then Some (neg_ℤ (pos (value digits))) else None

@@ -22,6 +22,6 @@ pub record Decides (read : List ℕ) (byte : ℕ) (fault : LineFault) : Type 0 w
 abbrev pub IsRefused : List ℕ → LineFault → Type 0
 IsRefused bytes fault = (read : List ℕ) × (byte : ℕ) × (bytes ≡ read ++ byte ∷ []) × Decides read byte fault
 
--- the fault of a rest, which stands in it
+-- the rest has this fault: it begins with a text that is refused for it
 abbrev pub HasTextFault : List ℕ → LineFault → Type 0
 HasTextFault rest fault = (bytes after : List ℕ) × (rest ≡ bytes ++ after) × IsRefused bytes fault

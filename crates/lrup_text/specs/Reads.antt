@@ -12,13 +12,15 @@ bytes_given (Err fault) buffer = None
 abbrev pub ReadsOf : Type 0 → Type 1
 ReadsOf S = S → ℕ → Option (List ℕ) → S → Type 0
 
--- Reads, one after another, took a source from first to last, and gave these bytes together. Some may have given none.
+-- Reads, one after another, took a source from first to last, and gave these bytes together. Some
+-- may have given none, into an empty buffer or at an end: that an end stays one, `reads` may say.
 pub record Gave (S : Type 0) (reads : ReadsOf S) (first : S) (bytes : List ℕ) (last : S) : Type 0 where
   pub pieces : List (List ℕ)
   pub calls : FoldsTo (λ s piece t. (room : ℕ) × reads s room (Some piece) t) first pieces last
   pub whole : bytes ≡ concat pieces
 
--- Reads gave all bytes of a source: after them one gave none, though its buffer had room.
+-- Reads gave these bytes of a source, up to an end: after them one gave none, though its buffer had
+-- room.
 pub record GaveAll (S : Type 0) (reads : ReadsOf S) (first : S) (bytes : List ℕ) : Type 0 where
   pub last : S
   pub given : Gave S reads first bytes last

@@ -40,7 +40,7 @@ pub fn run_serial<W: Wait, R: Source + Drop, G: Gate + Drop>(
 ) -> Result<SerialOutcome<R>, RunFault>
     requires gates { vec_len gates ≡ vec_len readers }
     requires running { AllByRecursion (λ r. R.has_failed r ≡ false) readers.items }
-    // The layout alone decides whether there is one: before anything is taken or read.
+    // `Layout` is answered exactly where these numbers have no layout, whatever is read.
     ensures layout { IsLayoutFault result (layout_of options formula.now (length readers.items)) }
     ensures alone { (stream : ℕ) → result ≢ Err (RunFault.Spawn stream) }
     ensures no_ring { (stream : ℕ) → result ≢ Err (RunFault.Ring stream) }

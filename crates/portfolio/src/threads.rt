@@ -41,7 +41,7 @@ pub fn run<T: Threads + Wait + Sync, R: Source + Send + Drop, G: Gate + Send + D
 ) -> Result<Outcome<R>, RunFault>
     requires gates { vec_len gates ≡ vec_len readers }
     requires running { AllByRecursion (λ r. R.has_failed r ≡ false) readers.items }
-    // The layout alone decides whether there is one: before anything is taken or read.
+    // `Layout` is answered exactly where these numbers have no layout, whatever is read.
     ensures layout { IsLayoutFault result (layout_of options formula.now (length readers.items)) }
     ensures spawn { (stream : ℕ) → result ≡ Err (RunFault.Spawn stream)
         → IsStream (layout_of options formula.now (length readers.items)) stream }

@@ -24,7 +24,8 @@ pub record Stream : Type 0 where
   pub bytes : List ℕ
   pub stop : Stop
 
--- at the end all bytes were needed and none is left; at a failure the reader has failed
+-- at the end all bytes were needed and none is left; at a failure all were needed and the reader
+-- has failed; early, it hasn't failed: of one that has, all bytes that were read count as needed
 abbrev pub StopsSo : Stop → List ℕ → Option (List ℕ) → Bool → Type 0
 StopsSo at_end more left has_failed = (more ≡ []) × IsAtEnd left × (has_failed ≡ false)
 StopsSo at_failure more left has_failed = (more ≡ []) × (has_failed ≡ true)

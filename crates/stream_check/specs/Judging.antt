@@ -95,7 +95,8 @@ pub record EndsAtEnd (c : Setting) (lines : List StreamLine) (rest : List ℕ) (
   pub no_block : blocks ≡ []
   pub says : report ≡ report_of (tally_of c lines) 0 (ending_at end rest (line_number (length lines)))
 
--- after good lines one of four things ends the stream; no two of them fit the same rest, but that memory may run out
+-- After good lines one of four things ends the stream. The rest decides which, but for a deletion:
+-- memory may run out there before a fault is met.
 abbrev pub EndsAfter : Setting → List StreamLine → List ℕ → StreamEnd → List History → Report → Type 0
 EndsAfter c lines rest end blocks report =
     EndsAtLine c lines rest blocks report

@@ -1,4 +1,4 @@
--- Laws of judging. Each is the contract of a function of laws.
+-- Laws of judging, each the contract of a function in `src/laws.rt`, and the words that they need.
 use Rattle.std.specs.Prelude.{◌≡◌, ◌≢◌, ◌↔◌, ◌≤◌, ◌++◌, ℕ, ℤ, Bool, IsTrue, List, [], ◌∷◌, map, length}
 use Rattle.std.specs.List.{AllByRecursion, Any}
 use Rattle.lrup_model.specs.Cube.{CubeValue, Within}

@@ -50,7 +50,8 @@ standing_of c lines = record {
   gone = is_gone c lines;
 }
 
--- what 64 bits show of a count: above 2^64 - 1 it stands as that
+-- what 64 bits show of a count: above 2^64 - 1 it stands as that (additions stay below, as their
+-- identities do)
 abbrev pub capped : ℕ → ℕ
 capped n = min n (2 ^ 64 - 1)
 
