@@ -7,10 +7,12 @@
 
 It begins at a clause of a contract and follows the names, by the files that bring them in, down to the libraries that the
 toolchain comes with. Each definition stands there word for word, with the comment above it, after those that it uses. It
-fails at a name of which it doesn't know what it stands for, so that no definition is left out.
+fails at a name of which it doesn't know what it stands for, so that no definition is left out, and at a name of a library
+that GLOSSES lacks.
 """
 import re
 import sys
+import textwrap
 from pathlib import Path
 
 ROOT = Path(__file__).resolve().parent.parent
@@ -407,7 +409,8 @@ class Part:
         yield code("\n".join([self.head] + self.clauses), "rust")
         yield self.counts()
         yield self.beginnings()
-        yield "### Types and traits of the code\n"
+        if self.types:
+            yield "### Types and traits of the code\n"
         for thing in sorted(self.types, key=lambda t: (ALL_CRATES.index(t.crate), str(t.file), t.name)):
             seen = f", which contracts see as `{thing.value}`" if thing.value else ""
             yield f"`{thing.name}` of `{thing.crate}`{seen}:\n"
@@ -438,7 +441,9 @@ class Part:
 
     def counts(self):
         each = ", ".join(f"{count} of `{crate}`" for crate, count in self.crates())
-        return f"{len(self.definitions)} definitions: {each}. {len(self.types)} types and traits of the code.\n"
+        if not self.types:
+            return f"{len(self.definitions)} definitions: {each}.\n"
+        return f"{len(self.definitions)} definitions, with those that types and traits name: {each}. {len(self.types)} types and traits.\n"
 
 
 ALL_CRATES = crate_order()
@@ -449,28 +454,43 @@ Made from the sources by `make audit`; the gate fails where this page isn't what
 
 The prover shows that the code keeps its contracts. That the contracts say what one wants to rely on is for a reader to judge, and
 this page has all of it: the clauses, and each definition that they stand on, word for word, after those that it uses. At each one
-ask: is this what the words mean? What Rattle's library and `clap` define isn't here. [DEFINITIONS](DEFINITIONS.md) says the same
-in words, with examples.
+ask: is this what the words mean? Of what Rattle's library and `clap` define the last section has a line each.
+[DEFINITIONS](DEFINITIONS.md) says the same in words, with examples.
 
-How to read it: `A × B` is 'A and B', `A ⊎ B` 'A or B', `A → B` 'if A then B' or a function, `¬ A` 'not A', `⊥` what never holds,
-`Unit {0}` what always holds; `(x : A) × B` is 'there is an x', `(x : A) → B` 'for each x'; `λ x. y` is a function; a record holds
-all of its members; `≡` is equality, `≢` its opposite; `List ℕ` holds bytes or numbers, `++` puts lists together, `x ∷ xs` puts an
-element in front; on ℕ `m - n` is 0 where n is greater. A whole number is `pos n`, which is n, or `negsuc n`, which is -(n + 1).
-`Type 0` is what a statement is of, `{A : Type 0} →` a type that a reader may pass over, `abbrev` and `unfoldable` tell the prover
-alone how a name is unfolded. `ForSome o P`, and `IfSome o P`, is 'if `o` is `Some x`, then P of x', and says nothing of `None`; so
-`IfOk r P`, `IfErr r P`, `OnOk r Q`; `IsTrue b` is 'b is true'; `AllByRecursion P xs` 'P of each element'. `v.items` is the list of a
-`Vec`. A dot and a name before a constructor tell its type, as a file brings it in: `owners.Stream` is an `Owner`, `endings.Ended`
-an `Ending`, `events.fetch` an `Event`; `faults.` is the `Fault` of what the file speaks of. In a clause `old` and `new` are what a
-reference had before the call and after it, `now` what it has.
+How to read it:
+
+- **Statements.** `A × B` is 'A and B', `A ⊎ B` 'A or B', `A → B` 'if A then B', `A ↔ B` both ways, `¬ A` 'not A'; `⊥` never
+  holds, `Unit {0}` always does; `(x : A) × B` is 'there is an x', `(x : A) → B` 'for each x', and `(x y : A)` are two; `≡` is
+  equality, `≢` its opposite. `Type 0` is what statements and sets of values are of, `Type 1` what a family of them is of.
+- **Functions.** `f x y` is f of x and y, `f x` then f that waits for y; `A → B` is also what takes an A to a B, and `λ x. y` such
+  a function. Of several equations the first one that fits counts. `_` is anything on the left of a `=`, and elsewhere what the
+  prover finds by itself; `{A : Type 0} →` is such a thing too. `let x = a in b` is b, where x is a.
+- **Values.** ℕ are the numbers from 0 on, on which `m - n` is 0 where n is greater. ℤ are the whole numbers: `pos n`, which is n,
+  and `negsuc n`, which is -(n + 1). `List ℕ` holds bytes or numbers: `[]` is empty, `x ∷ xs` has x in front of xs, `xs ++ ys` is
+  one after the other. `Option A` is `None` or `Some x`. Tests (`==`, `&&`, `||`, `not`) give `true` or `false`, a `Bool`;
+  `IsTrue b` is the statement that b is `true`.
+- **Types.** A `record` has all of its members, a `data` is one of its cases; `r.a` is the member a of r, `record { a = x; }` has
+  just these members, `record r { a = x; }` is r with another a. `pub`, `abbrev` and `unfoldable` tell the prover alone who may
+  name a thing and how it is unfolded.
+- **Contracts.** `requires name { A }` is what a caller must see to, `ensures name { A }` what holds after the call, `result` its
+  answer; `old` and `new` are what a reference had before the call and after it, `now` what it has. `IfOk result P` says P of x
+  where the answer is `Ok x`, and nothing of `Err`; so `ForSome o P` of `Some x` and of `None`. A member of a trait that is `ghost`
+  is for contracts alone; a `=` after it says what it is where who writes the trait doesn't. `F.tells` is that member for the type
+  F, and `F.Input.Source.left` that of the trait `Source` for F's own type `Input`. Contracts see a slice or a `Vec` as a list
+  (`v.items`), a `u64` and an `Id` as ℕ, a `Lit` as ℤ, a text as the list of its bytes.
+{constructors}
+{twins}
 
 All clauses say of what is answered that it is right. None says that something is answered: 'out of memory' may always come.
 """
 
-STATUS = """What a user of the program relies on. The words are those of the command line after the program's name; `out` and
-`err` haven't failed before. Of `files` the clause speaks by the traits `Files` and `Source`, with what their calls `open` and
-`read` promise. It is one clause of `command`; others, which aren't on this page, say the rest of the table (`ends`, `usage`,
-`unwritten`). `main` hands the machine's files, its arguments and its standard output and error to `command_with_arguments`, which
-has these clauses over arguments and exit status, and does nothing else; it has no contract.
+STATUS = """What a user of the program relies on. The words are those of the command line after the program's name; `out` and `err`, which
+take bytes (`Sink`), haven't failed before. `Threads`, `Wait` and `Clock` start threads, wait and tell the time, and promise
+nothing; `Global` is where memory is from. Of `files` the clause speaks by the traits `Files` and `Source`, with what their calls
+`open` and `read` promise. It is one clause of `command`; others, which aren't on this page, say the rest of the table, and what
+the report says where the status is 0 (`ends`, `usage`, `unwritten`). `main` hands the machine's files, its arguments and its
+standard output and error to `command_with_arguments`, which has these clauses over arguments and exit status, and does nothing
+else; it has no contract.
 
 What a file tells (`tells`), and what its calls do (`opens`, `reads`), is said by those who write `Files` and `Source`. The machine's
 tell no bytes, and say nothing of their calls, so of them alone this clause says little. But `command` is proved for all files, those
@@ -479,13 +499,97 @@ there when it runs: what it does with the machine's files it would do with those
 
 ASSUMED = """What a user of `--assume` relies on, by another clause of the same function; what stands above isn't repeated."""
 
-LIBRARIES = """What these names mean is said in Rattle's library and in `clap`, by module."""
+LIBRARIES = """What these names mean, in short. Rattle's library and `clap` say it in full, in the modules named."""
 
-HEADLINE = """What a run of several streams promises, with two threads for each. What stands above isn't repeated: what a formula
-is, and that no assignment satisfies it. A gate is told before each fetch and after each publish, and may hold a thread there; the
-program's is `Pause`, which sleeps a microsecond before a hint is looked up again. `entries` are what each reader has left at first,
-`lefts` what it has left in the end, and `faileds` whether it has failed. That a `Formula` of the code is seen as that of a text is
-a clause of `dimacs::parse`, which `sound` above takes in."""
+GLOSSES = """
+`AllByRecursion P xs` P of each element
+`App` a command of `clap`: what it takes itself, `top`, and its subcommands, `subs`
+`Append` each use of the argument adds to its values
+`Bool` `true` or `false`
+`Bor A` an A that is lent: `p.now` is what it is
+`Consumes old new bs` where the bytes left are known, `old` is bs and then `new`; where they aren't, anything
+`Err e` the answer is a fault
+`FoldsTo R a xs b` steps that R allows, one for each element, lead from a to b: without an element a is b
+`ForSome o P` if o is `Some x`, then P of x
+`IfOk r P` if r is `Ok x`, then P of x
+`IsAtEnd left` where the bytes left are known, there are none
+`IsTrue b` b is `true`
+`List A` lists of As
+`MatchBool b P Q` P where b is `true`, Q where it is `false`
+`None` nothing
+`Option A` `None`, or `Some x`
+`ReadConsumes old new r buffer` where the bytes left are known: if r is `Ok n`, the first n of the buffer are consumed, and 0 of a buffer that isn't empty only at the end; if it is `Err`, nothing is
+`Result A E` `Ok x`, or `Err e`
+`Row` what `clap` found for an argument: its name and its values
+`Rule` what `clap` is told of an argument
+`SetTrue` an argument that takes no value: its use is 'true'
+`Some x` an x is there
+`Text` the bytes of a word
+`all_of name rows` all values of an argument, if it has any
+`bytes_eq a b` the same bytes
+`codes "p"` the text p, as a list of its bytes
+`concat xss` the lists, one after the other
+`decimal n` n in decimal, without leading zeros
+`digits_value 10 bs` the number that digits spell in decimal
+`false` of tests: it fails
+`fault_of app words` the errors that the command finds in the words, asking for help among them: `[]` if there is none
+`filter f xs` the elements that pass the test
+`first_of name rows` the first value of an argument, if it has any, as it was given
+`flat_map f xs` the lists that f gives of the elements, one after the other
+`int_eq a b` a is b, of whole numbers
+`is_err r` r is `Err e`
+`length xs` the count of elements
+`list_all f xs` all elements pass the test
+`list_any f xs` some element passes it
+`map f xs` f of each element
+`matches_of app words` what the command finds in words without error, a row an argument
+`max m n` the greater one
+`min m n` the lesser one
+`nat_abs z` the magnitude
+`nat_eq m n` m is n
+`nat_le m n` m is at most n
+`nat_lt m n` m is less than n
+`neg_ℤ z` -z
+`new_rule name` an argument of which only the name is told: no `--name` (`long`), not `required`, one value, any text
+`new_shape name` a command of which only the name is told
+`not b` the opposite
+`on_top f app` the command with `top` changed by f
+`one_of name rows` the first value of an argument, if it has any, as its `parser` takes it
+`option_map f o` f of x where o is `Some x`, else `None`
+`option_map_or f o d` f of x where o is `Some x`, else d
+`parser` what a value may be: `Unsigned low high` numbers from low to high, `Bool` 'true' or 'false'
+`pos n` n, as a whole number
+`replicate n x` n times x
+`signed_decimal z` z in decimal, with `-` where it is negative
+`slice_get xs i` `Some` of element i, from 0 on, or `None`
+`slice_index_or xs i d` element i, from 0 on, or d if there is none
+`slice_split f xs` the list cut at each element that passes the test, which goes: empty pieces stay, and the last is what is left
+`suc n` n + 1
+`sum_by f xs` what f gives of the elements, added up
+`take n xs` the first n elements, or all if there are fewer
+`texts words` the bytes of each word that is lent
+`true` of tests: it passes
+`unsigned_abs z` the magnitude
+`usize_max` 2^64 - 1
+`vec_len v` the count of elements
+`without_leading_plus bs` without a `+` in front
+`ℕ` the numbers from 0 on
+`ℤ` the whole numbers
+"""
+
+# Operators that everybody knows.
+SYMBOLS = set("if◌then◌else◌ ◌%◌ ◌^◌ ◌+◌ ◌*◌ ◌<◌ ◌≤◌".split())
+
+HEADLINE = """What a run of several streams promises, with two threads for each. What stands above isn't repeated: what a formula is, and that
+no assignment satisfies it. A gate is told before each fetch and after each publish, and may hold a thread there; the program's is
+`Pause`, which sleeps a microsecond before a hint is looked up again. `entries` are what each reader has left at first, `lefts`
+what it has left in the end, and `faileds` whether it has failed. A type that contracts see as something else they know by that
+alone, whatever its members are. That a `Formula` of the code is seen as that of a text is a clause of `dimacs::parse`, which
+`sound` above takes in.
+
+Of readers that don't tell what they have left, as the machine's, `reports` says that some bytes have these reports, and not which.
+As for files above, `run` can't tell them from readers that tell it. That a closed set of one stream has one report, whatever the
+others do, is a law beside `isolated` (`alone_has_one_report` of `groups`), not a part of it."""
 
 
 def parts():
@@ -509,25 +613,99 @@ def parts():
         "The headline",
         HEADLINE,
         ("portfolio", "threads.rt", "run"),
-        [("lrup_model", "Formula"), ("portfolio", "Options"), ("portfolio", "Outcome")],
+        [("lrup_model", "Formula"), ("lrup_model", "Cube"), ("portfolio", "Options"), ("portfolio", "Outcome")],
         None,
         status.found | assumed.found,
     )
     return [status, assumed, headline]
 
 
+def glosses():
+    """The lines of GLOSSES by the names that they begin with."""
+    lines = GLOSSES.strip().split("\n")
+    return {re.match(r"`([^\s`]+)", line).group(1): line for line in lines}
+
+
+def of_libraries(made):
+    """The names that the definitions and the clauses have from the libraries, each with its module."""
+    return set().union(*(part.of_libraries for part in made))
+
+
+def unexplained(made):
+    """The names of libraries that have no line, and the lines that have no name."""
+    names = {name for _, name in of_libraries(made)}
+    signs = {name for name in names if "◌" in name}
+    lacking = [name for name in names - signs if name not in glosses()]
+    lacking += [sign for sign in signs if not is_explained(sign)]
+    return [f"gate/audit.py: what is '{name}' of a library?" for name in sorted(lacking)] + [
+        f"gate/audit.py: '{name}' isn't on the page" for name in sorted(set(glosses()) - names)
+    ]
+
+
+def is_explained(sign):
+    """Whether the page says what an operator means, or everybody knows."""
+    bare = sign.strip("◌")
+    return sign in SYMBOLS or f" {bare} " in ABOUT or f"`{bare}`" in ABOUT
+
+
 def libraries(made):
-    """The names that the definitions and the clauses have from the libraries, by modules."""
-    names = set().union(*(part.of_libraries for part in made))
+    """What the names mean that the definitions and the clauses have from the libraries."""
+    modules = {}
+    for module, name in sorted(of_libraries(made)):
+        modules.setdefault(name, []).append(f"`{module}`")
     yield "## What the libraries define\n"
     yield LIBRARIES + "\n"
-    for module in sorted({module for module, _ in names}):
-        yield f"- `{module}`: " + ", ".join(f"`{name}`" for name in sorted(n for m, n in names if m == module))
+    for name in sorted((name for name in modules if "◌" not in name), key=str.lower):
+        head, means = re.match(r"(`[^`]*`) (.*)", glosses()[name]).groups()
+        yield f"- {head} ({', '.join(modules[name])}): {means}"
+
+
+def constructors(made):
+    """The types whose constructors stand after a dot, by the names before it."""
+    types = {}
+    for part in made:
+        for definition in part.definitions:
+            for word, member in words_in(re.sub(r"--.*", "", definition.text)):
+                if member and word in definition.file.names.modules:
+                    for thing in definition.file.resolve(word, member):
+                        types.setdefault(word, set()).add(thing.name)
+    said = [f"`{word}.` of {' or '.join(f'`{name}`' for name in sorted(types[word]))}" for word in sorted(types)]
+    return f"""- **Constructors.** Where a dot stands in front of one, the name before it tells its type, as the file brings it in:
+  {", ".join(said)}."""
+
+
+def place_on_page(thing):
+    return f"`{thing.crate}`" if isinstance(thing, RustType) else f"`{crate_of(thing.file.path)}: {thing.file.path.stem}`"
+
+
+def twins(made):
+    """The names that stand for several things: what each of them is in which crates."""
+    meant = {}
+    for part in made:
+        for thing in part.definitions + part.types:
+            crate = thing.crate if isinstance(thing, RustType) else crate_of(thing.file.path)
+            meant.setdefault(thing.name, {}).setdefault(place_on_page(thing), set()).add(crate)
+        for user in part.definitions:
+            crate, foreign = crate_of(user.file.path), user.file.names.foreign
+            for thing in user.used()[0]:
+                meant.setdefault(thing.name, {}).setdefault(place_on_page(thing), set()).add(crate)
+            for module, name in user.of_libraries():
+                meant.setdefault(name, {}).setdefault(f"`{module.split('.')[0]}`", set()).add(crate)
+    for name in sorted(name for name in meant if len(meant[name]) > 1):
+        which = sorted((place, " and ".join(f"`{crate}`" for crate in sorted(at))) for place, at in meant[name].items())
+        yield f"`{name}`, {', '.join(f'of {place} in {crates}' for place, crates in which)}"
 
 
 def page(made):
     texts = [text for part in made for text in part.page()] + list(libraries(made))
-    return "\n".join([ABOUT] + texts) + "\n"
+    named_twice = f"- **One name for two things.** {'; '.join(twins(made))}."
+    about = ABOUT.replace("{constructors}", wrapped(constructors(made))).replace("{twins}", wrapped(named_twice))
+    return "\n".join([about] + texts) + "\n"
+
+
+def wrapped(item):
+    """An item of a list, in lines of the page's width."""
+    return textwrap.fill(" ".join(item.split()), 128, subsequent_indent="  ", break_long_words=False, break_on_hyphens=False)
 
 
 def stale_counts(made):
@@ -558,8 +736,8 @@ def doubts(made):
 
 def main(words):
     made = parts()
-    if doubts(made):
-        sys.exit("\n".join(doubts(made)))
+    if doubts(made) + unexplained(made):
+        sys.exit("\n".join(doubts(made) + unexplained(made)))
     if words == ["--bare"]:
         print("\n".join(without_comment(made)))
     elif words == ["--check"]:
