@@ -507,23 +507,24 @@ GLOSSES = """
 `Append` each use of the argument adds to its values
 `Bool` `true` or `false`
 `Bor A` an A that is lent: `p.now` is what it is
-`Consumes old new bs` where the bytes left are known, `old` is bs and then `new`; where they aren't, anything
-`Err e` the answer is a fault
-`FoldsTo R a xs b` steps that R allows, one for each element, lead from a to b: without an element a is b
+`Consumes old new bs` if `old` is `Some xs`, `new` is `Some ys`, and xs is `bs ++ ys`; of `None` it says nothing
+`Err e` a result that is the fault e
+`FoldsTo R a xs b` steps that R allows lead from a to b, one for each element: `R a x c`, and so on from c; with none a is b
 `ForSome o P` if o is `Some x`, then P of x
 `IfOk r P` if r is `Ok x`, then P of x
-`IsAtEnd left` where the bytes left are known, there are none
+`IsAtEnd left` if left is `Some xs`, xs is `[]`
 `IsTrue b` b is `true`
 `List A` lists of As
 `MatchBool b P Q` P where b is `true`, Q where it is `false`
-`None` nothing
+`None` nothing is there
 `Option A` `None`, or `Some x`
-`ReadConsumes old new r buffer` where the bytes left are known: if r is `Ok n`, the first n of the buffer are consumed, and 0 of a buffer that isn't empty only at the end; if it is `Err`, nothing is
+`ReadConsumes old new r buffer` if r is `Ok n`, `Consumes` of the first n of the buffer, and `IsAtEnd new` if n is 0 and the \
+buffer isn't empty; if it is `Err`, what is known is as it was
 `Result A E` `Ok x`, or `Err e`
 `Row` what `clap` found for an argument: its name and its values
-`Rule` what `clap` is told of an argument
+`Rule` what `clap` is told of an argument; with `value_names` 0 or 1 an option has one value
 `SetTrue` an argument that takes no value: its use is 'true'
-`Some x` an x is there
+`Some x` x is there
 `Text` the bytes of a word
 `all_of name rows` all values of an argument, if it has any
 `bytes_eq a b` the same bytes
@@ -531,7 +532,7 @@ GLOSSES = """
 `concat xss` the lists, one after the other
 `decimal n` n in decimal, without leading zeros
 `digits_value 10 bs` the number that digits spell in decimal
-`false` of tests: it fails
+`false` a test's outcome
 `fault_of app words` the errors that the command finds in the words, asking for help among them: `[]` if there is none
 `filter f xs` the elements that pass the test
 `first_of name rows` the first value of an argument, if it has any, as it was given
@@ -545,7 +546,7 @@ GLOSSES = """
 `matches_of app words` what the command finds in words without error, a row an argument
 `max m n` the greater one
 `min m n` the lesser one
-`nat_abs z` the magnitude
+`nat_abs z` z without its sign
 `nat_eq m n` m is n
 `nat_le m n` m is at most n
 `nat_lt m n` m is less than n
@@ -563,13 +564,13 @@ GLOSSES = """
 `signed_decimal z` z in decimal, with `-` where it is negative
 `slice_get xs i` `Some` of element i, from 0 on, or `None`
 `slice_index_or xs i d` element i, from 0 on, or d if there is none
-`slice_split f xs` the list cut at each element that passes the test, which goes: empty pieces stay, and the last is what is left
+`slice_split f xs` the list cut at each element that passes the test, which is left out; empty pieces stay
 `suc n` n + 1
 `sum_by f xs` what f gives of the elements, added up
 `take n xs` the first n elements, or all if there are fewer
 `texts words` the bytes of each word that is lent
-`true` of tests: it passes
-`unsigned_abs z` the magnitude
+`true` a test's outcome
+`unsigned_abs z` z without its sign
 `usize_max` 2^64 - 1
 `vec_len v` the count of elements
 `without_leading_plus bs` without a `+` in front
@@ -657,7 +658,7 @@ def libraries(made):
     yield LIBRARIES + "\n"
     for name in sorted((name for name in modules if "◌" not in name), key=str.lower):
         head, means = re.match(r"(`[^`]*`) (.*)", glosses()[name]).groups()
-        yield f"- {head} ({', '.join(modules[name])}): {means}"
+        yield wrapped(f"- {head} ({', '.join(modules[name])}): {means}")
 
 
 def constructors(made):

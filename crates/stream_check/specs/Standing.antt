@@ -50,8 +50,8 @@ standing_of c lines = record {
   gone = is_gone c lines;
 }
 
--- what 64 bits show of a count: above 2^64 - 1 it stands as that (additions stay below, as their
--- identities do)
+-- What 64 bits show of a count: above 2^64 - 1 it stands as that. Counts of additions never come
+-- there, since their identities don't; counts of deletions don't in a legal history.
 abbrev pub capped : ℕ → ℕ
 capped n = min n (2 ^ 64 - 1)
 
