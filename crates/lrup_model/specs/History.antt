@@ -17,8 +17,8 @@ pub record IsPublishable (f : Cnf) (c : Clause) : Type 0 where
   pub length : length c ≤ max_line_literals
   pub follows : Follows f c
 
--- The event may be asked for: a fetch by anyone, a publish and a retire by the identity's owner. An
--- owned identity is one of 1 to the last.
+-- The event may be asked for: a fetch of an identity by any stream, the others by its owner alone.
+-- An owned identity is one of 1 to the last.
 abbrev pub IsAllowed : Cnf → LayoutValue → Event → Type 0
 IsAllowed f p (fetch s id r) = IsIdentity p id
 IsAllowed f p (publish s id c r) = Owns p s id × IsPublishable f c
