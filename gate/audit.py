@@ -638,8 +638,8 @@ def unexplained(made):
     signs = {name for name in names if "◌" in name}
     lacking = [name for name in names - signs if name not in glosses()]
     lacking += [sign for sign in signs if not is_explained(sign)]
-    return [f"gate/audit.py: what is '{name}' of a library?" for name in sorted(lacking)] + [
-        f"gate/audit.py: '{name}' isn't on the page" for name in sorted(set(glosses()) - names)
+    return [f"gate/audit.py: GLOSSES has no line for '{name}' of a library" for name in sorted(lacking)] + [
+        f"gate/audit.py: GLOSSES has '{name}', which isn't on the page" for name in sorted(set(glosses()) - names)
     ]
 
 
@@ -672,7 +672,7 @@ def constructors(made):
                         types.setdefault(word, set()).add(thing.name)
     said = [f"`{word}.` of {' or '.join(f'`{name}`' for name in sorted(types[word]))}" for word in sorted(types)]
     return f"""- **Constructors.** Where a dot stands in front of one, the name before it tells its type, as the file brings it in:
-  {", ".join(said)}."""
+  {", ".join(said)}. Without a dot it is the file's own, if there is one."""
 
 
 def place_on_page(thing):
