@@ -1,9 +1,9 @@
 //! Runs whose streams are read in one thread and checked in another.
-ghost use Rattle.std.specs.Prelude.{◌≡◌, false, IfOk, None};
+ghost use Rattle.std.specs.Prelude.{◌≡◌, false, length, IfOk, None};
 ghost use Rattle.std.specs.List.{AllByRecursion};
 
 use super::rows::{both_say, repeated};
-use super::threads::waits_for;
+use super::threads::{run_citing, waits_for};
 use super::{CITING, Open, bad_line, defaults, ended, holds, options, readers_of, report, same};
 use lrup_model::{Cube, Id};
 use lrup_text::{LineFault, ReadFault, Source};
@@ -14,7 +14,7 @@ use std::sync::Wait;
 use std::sync::atomic::{AtomicBool, Ordering};
 use std::test::Fail;
 use std::thread::Threads;
-use stream_check::{Fault, Gate, Report};
+use stream_check::{Ending, Fault, Gate, Report};
 use test_support::four_clauses;
 
 /// How many bytes a read gives, around the size of a ring.
@@ -37,22 +37,40 @@ fn long_bytes(rt: HostRuntime) -> Result<(), Fail> {
     Ok(())
 }
 
+/// The lines of twenty thousand additions of one clause.
+fn twenty_thousand_lines(alloc: Global) -> Result<String, Fail> {
+    let mut text = String::new(alloc);
+    for id in 5..20_005u64 {
+        text.push_str(&format!(in alloc; "{id} 2 0 1 2 0\n")?)?;
+    }
+    Ok(text)
+}
+
 #[test]
 fn many_lines(rt: HostRuntime) -> Result<(), Fail> {
-    let mut text = String::new(rt.alloc());
-    for id in 5..20_005u64 {
-        text.push_str(&format!(in rt.alloc(); "{id} 2 0 1 2 0\n")?)?;
-    }
+    let text = twenty_thousand_lines(rt.alloc())?;
+    let wanted = (ended(20_000, false), Verdict::Unknown);
     for most in SIZES {
-        both_say(
-            &rt,
-            rt.alloc(),
-            defaults(),
-            &text,
-            most,
-            0,
-            (ended(20_000, false), Verdict::Unknown),
-        )?;
+        both_say(&rt, rt.alloc(), defaults(), &text, most, 0, wanted)?;
+    }
+    Ok(())
+}
+
+/// Of a stream whose read fails, all lines that came whole count, however the bytes came.
+#[test]
+fn many_lines_before_a_failing_read(rt: HostRuntime) -> Result<(), Fail> {
+    let text = twenty_thousand_lines(rt.alloc())?;
+    for most in SIZES {
+        let piece = most.min(65_536);
+        let reads = text.len().div_ceil(piece);
+        for good in [0, 1, reads / 2, reads] {
+            let came = text.as_bytes().iter().take(good.saturating_mul(piece));
+            let lines = came.filter(|byte| **byte == b'\n').count() as u64;
+            let failed = report(lines, 0, Ending::ReadFailed(lines.saturating_add(1)));
+            let wanted = (failed, Verdict::Unknown);
+            let fails_at = good.saturating_add(1);
+            both_say(&rt, rt.alloc(), defaults(), &text, most, fails_at, wanted)?;
+        }
     }
     Ok(())
 }
@@ -64,7 +82,144 @@ fn always_ring_fault(rt: HostRuntime) -> Result<(), Fail> {
     let refuted = (ended(2, true), Verdict::Unsatisfiable);
     both_say(&rt, rt.alloc(), defaults(), refutes, 24, 0, refuted)?;
     let nothing = (ended(0, false), Verdict::Unknown);
-    both_say(&rt, rt.alloc(), defaults(), "", 24, 0, nothing)
+    both_say(&rt, rt.alloc(), defaults(), "", 24, 0, nothing)?;
+    let (outcome, late) = run_citing(&rt, rt.alloc())?;
+    let wanted = [ended(2, true), ended(1, false)];
+    same(&rt, outcome.reports.as_slice(), wanted.as_slice());
+    same(
+        &rt,
+        (outcome.verdict, late),
+        (Verdict::Unsatisfiable, false),
+    );
+    Ok(())
+}
+
+/// Two lines, one a read; where the reader is one that waits, the second read waits until all flags are set.
+#[derive(Drop)]
+struct Blocks<'a> {
+    lines: [&'static str; 2],
+    reads: u64,
+    waits: bool,
+    flags: &'a [AtomicBool],
+    late: &'a AtomicBool,
+}
+
+impl Source for Blocks<'_> {
+    ghost left = { λ _. None };
+
+    ghost has_failed = { λ _. false };
+
+    fn read(&mut self, buffer: &mut [u8]) -> Result<usize, ReadFault> {
+        self.reads = self.reads.saturating_add(1);
+        let line: &[u8] = match self.reads {
+            1 => self.lines[0].as_bytes(),
+            2 => {
+                if self.waits && !self.flags.iter().all(waits_for) {
+                    self.late.store(true, Ordering::SeqCst);
+                }
+                self.lines[1].as_bytes()
+            }
+            _ => b"",
+        };
+        let count = line.len().min(buffer.len());
+        buffer[..count].copy_from_slice(&line[..count]);
+        Ok(count)
+    }
+
+    fn failed(&self) -> bool {
+        false
+    }
+}
+
+/// Sets the flag of its stream as the stream's last clause is published.
+#[derive(Clone, Copy)]
+struct Tells<'a> {
+    last: Id,
+    flag: &'a AtomicBool,
+}
+
+impl Gate for Tells<'_> {
+    fn before_fetch(&mut self, _stream: u64, _id: Id, _attempt: u64) {}
+
+    fn after_publish(&mut self, _stream: u64, id: Id) {
+        if id == self.last {
+            self.flag.store(true, Ordering::SeqCst);
+        }
+    }
+}
+
+/// Three streams of two lines each; the first one's second line waits for all flags.
+fn one_waits<'a>(
+    alloc: Global,
+    flags: &'a [AtomicBool],
+    late: &'a AtomicBool,
+) -> Result<Vec<Blocks<'a>>, AllocError>
+    ensures count { IfOk result (λ readers. length readers.items ≡ 3) }
+    ensures running { IfOk result (λ readers. AllByRecursion (λ _. false ≡ false) readers.items) }
+{
+    let first = Blocks {
+        lines: ["5 2 0 1 2 0\n", "8 0 5 6 0\n"],
+        reads: 0,
+        waits: true,
+        flags,
+        late,
+    };
+    let second = Blocks {
+        lines: ["6 -2 0 3 4 0\n", "9 2 0 1 2 0\n"],
+        waits: false,
+        ..first
+    };
+    let third = Blocks {
+        lines: ["7 2 0 1 2 0\n", "10 -2 0 3 4 0\n"],
+        waits: false,
+        ..first
+    };
+    let mut readers = Vec::new(alloc);
+    readers.push(first)?;
+    readers.push(second)?;
+    readers.push(third)?;
+    Ok(readers)
+}
+
+/// Gates that set the flags at the last clauses of streams 2 and 3.
+fn telling<'a>(
+    alloc: Global,
+    first: &'a AtomicBool,
+    second: &'a AtomicBool,
+) -> Result<Vec<Tells<'a>>, AllocError>
+    ensures { IfOk result (λ gates. length gates.items ≡ 3) }
+{
+    let mut gates = Vec::new(alloc);
+    gates.push(Tells {
+        last: 0,
+        flag: first,
+    })?;
+    gates.push(Tells {
+        last: 9,
+        flag: first,
+    })?;
+    gates.push(Tells {
+        last: 10,
+        flag: second,
+    })?;
+    Ok(gates)
+}
+
+/// Stream 1 says nothing more until the last lines of streams 2 and 3 were checked: a reader that blocks holds up none.
+#[test]
+fn a_blocked_reader_holds_up_no_other(rt: HostRuntime) -> Result<(), Fail> {
+    let flags = [AtomicBool::new(false), AtomicBool::new(false)];
+    let late = AtomicBool::new(false);
+    let readers = one_waits(rt.alloc(), &flags, &late)?;
+    let gates = telling(rt.alloc(), &flags[0], &flags[1])?;
+    let formula = four_clauses(rt.alloc())?;
+    let none = Cube::empty(rt.alloc());
+    let outcome = run(&rt, rt.alloc(), &formula, &none, defaults(), readers, gates)?;
+    same(&rt, late.load(Ordering::SeqCst), false);
+    let wanted = [ended(2, true), ended(2, false), ended(2, false)];
+    same(&rt, outcome.reports.as_slice(), wanted.as_slice());
+    same(&rt, outcome.verdict, Verdict::Unsatisfiable);
+    Ok(())
 }
 
 /// A row's two lines, one a read; the second read sets a flag.

@@ -87,16 +87,25 @@ pub(super) fn run_with<'a, T: Threads + Wait + Sync, G: Gate + Copy + Send + Dro
     Ok(outcome)
 }
 
-#[test]
-fn a_held_stream_finds_the_others_clause(rt: HostRuntime) -> Result<(), Fail> {
+/// The citing streams' run, in which stream 2 publishes before stream 1 asks; and whether a gate waited in vain.
+pub(super) fn run_citing<T: Threads + Wait + Sync>(
+    rt: &T,
+    alloc: Global,
+) -> Result<(Outcome<Pieces<'static>>, bool), Fail> {
     let (published, late) = (AtomicBool::new(false), AtomicBool::new(false));
     let gate = Holds {
         published: &published,
         late: &late,
     };
-    let readers = readers_of(rt.alloc(), &CITING, 5)?;
-    let outcome = run_with(&rt, rt.alloc(), defaults(), gate, readers)?;
-    assert!(rt; !late.load(Ordering::SeqCst), "stream 2 published in time");
+    let readers = readers_of(alloc, &CITING, 5)?;
+    let outcome = run_with(rt, alloc, defaults(), gate, readers)?;
+    Ok((outcome, late.load(Ordering::SeqCst)))
+}
+
+#[test]
+fn a_held_stream_finds_the_others_clause(rt: HostRuntime) -> Result<(), Fail> {
+    let (outcome, late) = run_citing(&rt, rt.alloc())?;
+    assert!(rt; !late, "stream 2 published in time");
     same(
         &rt,
         outcome.reports.as_slice(),
