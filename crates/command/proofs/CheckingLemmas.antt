@@ -15,7 +15,7 @@ use Rattle.stream_check.specs.declared.report.Report.{Report}
 use Rattle.command_line.specs.CommandLine.{IsCommandLineOf}
 use Rattle.command_line.specs.declared.words.CommandLine.{CommandLine}
 use Rattle.command.specs.Commands.{AreAssumed, IsAssumeCause, NameUnsatisfiableUnder, assumed_at}
-use Rattle.command.specs.Commands.{AreChecked, IsCause, IsFormulaAt, IsOpenCause, IsOutcome, IsReadCause}
+use Rattle.command.specs.Commands.{AreChecked, AreOpened, IsCause, IsFormulaAt, IsOpenCause, IsOutcome, IsReadCause}
 use Rattle.command.specs.Commands.{FilesView, IsRunCause, NameUnsatisfiable, Text, layout_at, terms_given, options_of}
 use Rattle.command.specs.Faults.{of_run}
 use Rattle.command.specs.declared.fault.CommandFault.{CommandFault}
@@ -87,18 +87,18 @@ names_unsatisfiable_under R files words given f cube line at assumed refuted = (
 -- what is checked is the outcome of the words and the files
 pub is_outcome : (R : Type 0) (files : FilesView R) (words : List Text) (given : CommandLine) (f : Cnf) (cube : CubeValue) (options : OptionsValue) (readers : List R)
     → IsCommandLineOf words given → IsFormulaAt R files given.formula.now f → AreAssumed R files f.vars (assumed_at given) cube
-    → options ≡ options_of given → map files.reading.left readers ≡ map files.tells given.streams
+    → options ≡ options_of given → AreOpened files.opens given.streams readers → map files.reading.left readers ≡ map files.tells given.streams
     → (reports : List Report) (verdict : Verdict)
     → AreChecked R files.reading given.serial f (terms_of options cube f (length readers)) (map files.reading.left readers) reports verdict
     → IsOutcome R files words reports verdict
-is_outcome R files words given f cube options readers line at assumed options_are entries_are reports verdict checked =
+is_outcome R files words given f cube options readers line at assumed options_are opened entries_are reports verdict checked =
     let reading = files.reading in
     let entries = map reading.left readers in
     let one = subst (λ (o : OptionsValue). AreChecked R reading given.serial f (terms_of o cube f (length readers)) entries reports verdict) options_are checked in
     let two = subst (λ (n : ℕ). AreChecked R reading given.serial f (terms_of (options_of given) cube f n) entries reports verdict)
     (same_count _ _ readers given.streams entries_are) one in
     let three = subst (λ (es : List (Option (List ℕ))). AreChecked R reading given.serial f (terms_given given cube f) es reports verdict) entries_are two in
-    record { given = given; command_line = line; formula = f; is_formula = at; cube = cube; assumed = assumed; checked = three }
+    record { given = given; command_line = line; formula = f; is_formula = at; cube = cube; assumed = assumed; readers = readers; opened = opened; left = entries_are; checked = three }
 
 -- The causes are those of the words and the files.
 pub read_cause : (R : Type 0) (files : FilesView R) (words : List Text) (given : CommandLine) → IsCommandLineOf words given

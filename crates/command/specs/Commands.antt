@@ -1,5 +1,5 @@
 -- What a whole run of the program comes to (this project's own).
-use Rattle.std.specs.Prelude.{◌≡◌, ◌≢◌, ◌+◌, ◌++◌, ◌⊎◌, ℕ, Bool, true, false, IsTrue, List, [], map, length, slice_get, Option, None, Some, option_map}
+use Rattle.std.specs.Prelude.{◌≡◌, ◌≢◌, ◌+◌, ◌++◌, ◌⊎◌, ℕ, Bool, true, false, IsTrue, List, [], ◌∷◌, map, length, slice_get, Option, None, Some, option_map}
 use Rattle.std.specs.Io.KnownBytes.{Appends, Keeps}
 use Rattle.std.specs.Borrow.{Bor}
 use Rattle.std.specs.Option.{ForSome}
@@ -62,7 +62,7 @@ pub record ReaderView (R : Type 0) : Type 0 where
   pub has_failed : R → Bool
 
 -- The reports and the verdict of a formula's streams. `entries` is what each stream's file told when it was opened; the readers
--- are those of the streams in the end.
+-- are those of the streams in the end: one that has failed has left what its stream's file told after the bytes judged.
 pub record AreChecked (R : Type 0) (reading : ReaderView R) (serial : Bool) (f : Cnf) (terms : Terms)
     (entries : List (Option (List ℕ))) (reports : List Report) (verdict : Verdict) : Type 0 where
   pub layout : (fault : LayoutFault) → IsFault terms.layout fault → ⊥
@@ -130,7 +130,13 @@ abbrev pub NameUnsatisfiableUnder : (R : Type 0) → FilesView R → List Text �
 NameUnsatisfiableUnder R files words = (given : CommandLine) × (f : Cnf) × (cube : CubeValue) × IsCommandLineOf words given
     × IsFormulaAt R files given.formula.now f × AreAssumed R files f.vars (assumed_at given) cube × IsUnsatisfiableUnder f cube
 
--- The reports and the verdict that the words and the files come to.
+-- The files at the paths were opened, in order, as these readers.
+abbrev pub AreOpened : {R : Type 0} → (Text → R → Type 0) → List Text → List R → Type 0
+AreOpened opens [] [] = Unit {0}
+AreOpened opens (path ∷ paths) (reader ∷ readers) = opens path reader × AreOpened opens paths readers
+AreOpened opens _ _ = ⊥
+
+-- The reports and the verdict that the words and the files come to. `readers` are the streams' files as they were opened.
 pub record IsOutcome (R : Type 0) (files : FilesView R) (words : List Text) (reports : List Report) (verdict : Verdict) : Type 0 where
   pub given : CommandLine
   pub command_line : IsCommandLineOf words given
@@ -138,6 +144,9 @@ pub record IsOutcome (R : Type 0) (files : FilesView R) (words : List Text) (rep
   pub is_formula : IsFormulaAt R files given.formula.now formula
   pub cube : CubeValue
   pub assumed : AreAssumed R files formula.vars (assumed_at given) cube
+  pub readers : List R
+  pub opened : AreOpened files.opens given.streams readers
+  pub left : map files.reading.left readers ≡ map files.tells given.streams
   pub checked : AreChecked R files.reading given.serial formula (terms_given given cube formula) (map files.tells given.streams) reports verdict
 
 -- Causes. Nothing shows afterwards that memory ran out or that a thread wasn't started, so these are taken as causes whatever the

@@ -5,7 +5,7 @@ ghost use Rattle.std.specs.Option.{ForSome};
 ghost use Rattle.clap.specs.Walk.{texts};
 ghost use Rattle.portfolio.specs.Outcomes.{layout_of, terms_of};
 ghost use Rattle.lrup_text.specs.Reads.{GaveAll};
-ghost use Rattle.command.specs.Commands.{AreChecked, IsCause, IsFailedRead, IsFormulaAt};
+ghost use Rattle.command.specs.Commands.{AreChecked, AreOpened, IsCause, IsFailedRead, IsFormulaAt};
 ghost use Rattle.command.specs.Commands.{IsOpenCause, IsOutcome, IsReadCause, IsRunCause};
 ghost use Rattle.command.specs.Commands.{AreAssumed, IsAssumeCause, IsFileCause, NameUnsatisfiable};
 ghost use Rattle.command.specs.Commands.{NameUnsatisfiableUnder, WasRead, files_view, path_of};
@@ -215,6 +215,8 @@ fn open_streams<F: Files>(
 ) -> Result<Vec<F::Input>, CommandFault>
     ensures left { IfOk result (λ readers.
         map F.Input.Source.left readers.items ≡ map (F.tells files.old) (texts paths.now)) }
+    ensures opened { IfOk result (λ readers.
+        AreOpened (F.opens files.old) (texts paths.now) readers.items) }
     ensures running { IfOk result (λ readers.
         AllByRecursion (λ r. F.Input.Source.has_failed r ≡ false) readers.items) }
     ensures cause { IfErr result (IsOpenCause (F.may_refuse files.old) (texts paths.now)) }

@@ -1,8 +1,9 @@
-use Rattle.std.proofs.Common.{◌≡◌, ◌∙◌, map, refl, sym, ap, subst}
+use Rattle.std.proofs.Common.{◌≡◌, ◌∙◌, List, map, refl, sym, ap, subst}
 use Rattle.clap.specs.Walk.{texts}
-use Rattle.command.specs.Commands.{AreAssumed, IsCause, IsOutcome, assumed_at, files_view, options_of}
+use Rattle.command.specs.Commands.{AreAssumed, AreOpened, IsCause, IsOutcome, Text, assumed_at, files_view, options_of}
 use Rattle.command.proofs.CheckingLemmas.{assumed_cause, err_given, if_err, if_ok, is_outcome, names_unsatisfiable, names_unsatisfiable_under, open_cause, open_moved, run_cause_of, some_given}
 use Rattle.command.proofs.FileLemmas.{moved_assumed, moved_cause}
+use Rattle.command.proofs.OpeningLemmas.{opened_before}
 use Rattle.command.proofs.checking.check_words.Goals as goal
 
 pub returns-in_err-cube-clause-cause : goal.returns-in_err-cube-clause-cause
@@ -40,9 +41,13 @@ returns g c =
     let options : c.unwrap-options.result ≡ options_of line = some_given _ c.unwrap-options.ensures c.new.ensures.some in
     let entries : map left readers ≡ map files.tells line.streams =
     c.in_ok-readers.ensures.left ∙ ap (λ t. map t (texts c.as_slice.result.now)) (c.in_ok-cube.ensures.stays ∙ read.stays) ∙ ap (map files.tells) c.as_slice.ensures in
+    let opened : AreOpened files.opens line.streams readers =
+    subst (λ (paths : List Text). AreOpened files.opens paths readers) c.as_slice.ensures
+    (opened_before files.opens (g.F.Files.opens c.read_assumed.new.files) (texts c.as_slice.result.now) readers
+    (λ path reader is. read.stays_opens path reader (c.in_ok-cube.ensures.stays_opens path reader is)) c.in_ok-readers.ensures.opened) in
     record {
       outcome = if_ok c.check_streams.result _ (λ found. IsOutcome R files words found.reports.items found.verdict)
-          (λ found. is_outcome R files words line formula cube c.unwrap-options.result readers c.in_ok-line.ensures.ok at assumed options entries found.reports.items found.verdict)
+          (λ found. is_outcome R files words line formula cube c.unwrap-options.result readers c.in_ok-line.ensures.ok at assumed options opened entries found.reports.items found.verdict)
           c.check_streams.ensures.checked;
       sound = if_ok c.check_streams.result _ _
           (λ found checked unsatisfiable. names_unsatisfiable R files words line formula c.in_ok-line.ensures.ok at (checked.sound unsatisfiable))
