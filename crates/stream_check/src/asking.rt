@@ -34,6 +34,7 @@ fn fetch_again<M: ClauseMap, G: Gate>(most: u64, map: &mut M, gate: &mut G, id: 
 
 /// What the map has under a hint. One of another stream is fetched again while it is vacant, up to the setting's tries.
 /// Whose it is matters only where it was vacant: so a hint that is found at once costs one fetch and no division.
+#[inline(always)]
 pub fn ask<M: ClauseMap, G: Gate>(setting: &Setting, map: &mut M, gate: &mut G, hint: Id) -> Fetched
     requires at { IsAt setting.now (M.place map.old) }
     requires tries { setting.now.tries < 2 ^ 63 }
