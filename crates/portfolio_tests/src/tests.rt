@@ -18,6 +18,7 @@ use std::thread::Threads;
 use stream_check::{Ending, Fault, Gate, Report};
 use test_support::{Paper, Pieces, four_clauses};
 
+mod alone;
 mod assumptions;
 mod interleavings;
 mod isolation;

@@ -1,0 +1,139 @@
+-- One stream of a run, by the contract of the run alone.
+use Rattle.std.proofs.Common.{◌≡◌, ◌≤◌, ◌<◌, ◌^◌, ℕ, ℤ, zero, suc, ◌+◌, ◌-◌, Bool, true, false, Option, List, [], ◌∷◌, ◌++◌, length, Some, None, pos, negsuc, refl, sym, ap, subst, ◌∙◌, inl, inr, arith}
+use Rattle.std.specs.Fmt.{digits}
+use Rattle.std.proofs.lemmas.Bool.Decides.{eqb_tells}
+use Rattle.std.specs.Prelude.{IsTrue, slice_get, codes, ◌==◌, Result, Ok, Err, IfOk}
+use Rattle.lrup_model.specs.Layout.{LayoutValue, Owns, owner}
+use Rattle.lrup_model.specs.declared.layout.Owner.{Owner}
+use Rattle.lrup_model.specs.declared.layout.Owner.TheVariants as owners
+use Rattle.lrup_text.specs.Grammar.{space}
+use Rattle.lrup_text.specs.Lines.{StreamLine, Addition, Deletion, Import, Cut, HasNoLine, line_text}
+use Rattle.lrup_text.specs.Laws.{OneCut}
+use Rattle.stream_check.specs.declared.report.Report.{Report}
+use Rattle.stream_check.specs.Judging.{ended}
+use Rattle.std.specs.List.{AllByRecursion}
+use Rattle.stream_check.specs.Laws.{IsOfMemory, cited_by}
+use Rattle.lrup_model.specs.Cube.{CubeValue}
+use Rattle.lrup_model.specs.Formula.{Cnf}
+use Rattle.portfolio.specs.Outcomes.{OptionsValue, terms_of}
+use Rattle.runs.specs.Streams.{Stream, AreTold}
+use Rattle.runs.specs.Closed.{IsAt, IsWithin, CiteWithin}
+use Rattle.groups.specs.Groups.{one, AreIsolated}
+use Rattle.groups.specs.Laws.{ReadersClosed, ToldIsReading, AloneHasOneReport}
+use Rattle.test_support.specs.Worked.{four}
+use Rattle.portfolio_tests.specs.Alone.{first_bytes, usual, two_streams, two_terms, IsReportAlone}
+
+-- Places
+
+only_one : (s : ℕ) → IsTrue (one 1 s) → s ≡ 1
+only_one s member = elim (eqb_tells s 1) [ inl same ↦ same.1 | inr other ↦ absurd (let no : true ≡ false = sym member ∙ other.0 in cc) ]
+
+same_at : {X : Type 0} (xs : List X) (s : ℕ) (x y : X) → IsAt xs s x → IsAt xs s y → x ≡ y
+same_at xs s x y a b = let e : Some x ≡ Some y = sym a.1 ∙ b.1 in cc
+
+-- where a reader comes first, so does a stream
+first_told : (entries lefts : List (Option (List ℕ))) (faileds : List Bool) (streams : List Stream) (entry : Option (List ℕ))
+    → AreTold entries lefts faileds streams → IsAt entries 1 entry → (stream : Stream) × IsAt streams 1 stream
+first_told [] [] [] [] entry told at = absurd (let none : None ≡ Some entry = at.1 in cc)
+first_told (e ∷ es) (l ∷ ls) (x ∷ xs) (t ∷ ts) entry told at = (t, (omega arith, refl))
+first_told _ _ _ _ entry told at = absurd told
+
+-- the terms of such a run are those of two streams over the four clauses
+pub of_two : (options : OptionsValue) (cube : CubeValue) (f : Cnf) (count : ℕ) (entries lefts : List (Option (List ℕ))) (faileds : List Bool)
+    (Judged : List Stream → Type 0) (reports : List Report)
+    → options ≡ usual → cube ≡ [] → f ≡ four → count ≡ 2
+    → AreIsolated f (terms_of options cube f count) entries lefts faileds Judged reports → AreIsolated four two_terms entries lefts faileds Judged reports
+of_two options cube f count entries lefts faileds Judged reports same none formula two isolated =
+    subst (λ n. AreIsolated four (terms_of usual [] four n) entries lefts faileds Judged reports) two
+    (subst (λ g. AreIsolated g (terms_of usual [] g count) entries lefts faileds Judged reports) formula
+    (subst (λ k. AreIsolated f (terms_of usual k f count) entries lefts faileds Judged reports) none
+    (subst (λ o. AreIsolated f (terms_of o cube f count) entries lefts faileds Judged reports) same isolated)))
+
+-- A report of stream 1 is one that it may have alone, where the reports of the run are isolated.
+pub report_alone : ReadersClosed → ToldIsReading → (bytes : List ℕ) (entries lefts : List (Option (List ℕ))) (faileds : List Bool)
+    (Judged : List Stream → Type 0) (reports : List Report) (report : Report) (streams : List Stream)
+    → AreIsolated four two_terms entries lefts faileds Judged reports → AreTold entries lefts faileds streams → Judged streams
+    → CiteWithin two_streams (one 1) bytes
+    → IsAt entries 1 (Some bytes) → IsAt faileds 1 false → IsAt reports 1 report → ¬ IsOfMemory report → IsReportAlone bytes report
+report_alone closes reads bytes entries lefts faileds Judged reports report streams isolated told judged cites entry fine says memory =
+    let stream = first_told entries lefts faileds streams (Some bytes) told entry in
+    record {
+      streams = streams;
+      reports = reports;
+      stream = stream.0;
+      alone = isolated streams told judged (one 1)
+          (closes two_streams (one 1) entries lefts faileds streams told
+          (λ s other member at. (bytes, same_at entries 1 other (Some bytes) (subst (λ n. IsAt entries n other) (only_one s member) at) entry, cites)))
+          (λ s other member at. subst (λ r. ¬ IsOfMemory r)
+          (same_at reports 1 report other says (subst (λ n. IsAt reports n other) (only_one s member) at)) memory);
+      at = stream.1;
+      reads = reads entries lefts faileds streams 1 bytes stream.0 told entry fine stream.1;
+      says = says;
+    }
+
+-- two facts of a value that is there give a third
+pub if_both : {T E : Type 0} {A B C : T → Type 0} (result : Result T E) → IfOk result A → IfOk result B → ((x : T) → A x → B x → C x) → IfOk result C
+if_both (Ok x) a b gives = gives x a b
+if_both (Err e) a b gives = tt
+
+-- Two such reports are equal.
+pub reports_alike : AloneHasOneReport → (bytes : List ℕ) (report other : Report) → IsReportAlone bytes report → IsReportAlone bytes other → report ≡ other
+reports_alike law bytes report other a b =
+    law four two_terms 1 bytes ended a.streams b.streams a.reports b.reports a.stream b.stream report other a.alone b.alone a.at b.at a.reads b.reads a.says b.says
+
+-- The lines of the first stream, and of one that imports alone
+
+-- a line has a byte
+longer : (xs ys : List ℕ) (y : ℕ) (more : List ℕ) → ([] ≡ (xs ++ y ∷ ys) ++ more) → ⊥
+longer [] ys y more e = cc
+longer (x ∷ xs) ys y more e = cc
+
+pub none_in_nothing : HasNoLine []
+none_in_nothing (Addition id lits hints) more within e = longer _ _ space more e
+none_in_nothing (Deletion lead ids) more within e = longer _ _ space more e
+none_in_nothing (Import id lits) more within e = longer _ _ space more e
+
+pub first_is_cut : Cut first_bytes (Addition 5 (pos 2 ∷ []) (1 ∷ 2 ∷ []) ∷ Addition 7 [] (5 ∷ 3 ∷ 4 ∷ []) ∷ []) []
+unfolding digits
+first_is_cut = record {
+  bytes = refl;
+  each = (
+    ((omega arith, omega arith), record { count = omega arith; each = ((omega arith, omega arith), tt) }, record { count = omega arith; each = ((omega arith, omega arith), ((omega arith, omega arith), tt)) }),
+    (
+      ((omega arith, omega arith), record { count = omega arith; each = tt }, record { count = omega arith; each = ((omega arith, omega arith), ((omega arith, omega arith), ((omega arith, omega arith), tt))) }),
+      tt,
+    ),
+  );
+  last = none_in_nothing;
+}
+
+-- of the identities that the lines cite, 5 alone is a stream's
+formulas : (id : ℕ) → owner two_streams id ≡ owners.Formula → IsWithin two_streams (one 1) id
+formulas id is t owns = absurd (let no : owners.Formula ≡ owners.Stream t = sym is ∙ owns in cc)
+
+fifth : IsWithin two_streams (one 1) 5
+fifth t owns = let same : 1 ≡ t = let e : owners.Stream 1 ≡ owners.Stream t = owns in cc in subst (λ n. IsTrue (one 1 n)) same refl
+
+pub first_within : CiteWithin two_streams (one 1) first_bytes
+first_within = record {
+  lines = Addition 5 (pos 2 ∷ []) (1 ∷ 2 ∷ []) ∷ Addition 7 [] (5 ∷ 3 ∷ 4 ∷ []) ∷ [];
+  rest = [];
+  cut = first_is_cut;
+  within = ((formulas 1 refl, (formulas 2 refl, tt)), ((fifth, (formulas 3 refl, (formulas 4 refl, tt))), tt));
+}
+
+pub import_is_cut : Cut (codes "5 i 2 0\n") (Import 5 (pos 2 ∷ []) ∷ []) []
+unfolding digits
+import_is_cut = record {
+  bytes = refl;
+  each = (((omega arith, omega arith), record { count = omega arith; each = ((omega arith, omega arith), tt) }), tt);
+  last = none_in_nothing;
+}
+
+-- stream 2 doesn't own 5, so it isn't closed where it imports it
+pub import_is_open : OneCut → ¬ CiteWithin two_streams (one 2) (codes "5 i 2 0\n")
+import_is_open law cites =
+    let same = law (codes "5 i 2 0\n") cites.lines (Import 5 (pos 2 ∷ []) ∷ []) cites.rest [] cites.cut import_is_cut in
+    let within = subst (λ lines. AllByRecursion (λ line. AllByRecursion (IsWithin two_streams (one 2)) (cited_by line)) lines) same.0 cites.within in
+    let no : false ≡ true = within.0.0 1 refl in
+    cc

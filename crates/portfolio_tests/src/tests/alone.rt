@@ -1,0 +1,186 @@
+//! What the contracts of runs say of a stream that cites within itself: one report, whatever its neighbour is.
+ghost use Rattle.std.specs.Prelude.{◌≡◌, [], Some, false, codes, length, map, IfOk};
+ghost use Rattle.std.specs.List.{AllByRecursion};
+ghost use Rattle.stream_check.specs.Laws.{IsOfMemory};
+ghost use Rattle.runs.specs.Closed.{CiteWithin, IsAt};
+ghost use Rattle.groups.specs.Groups.{one};
+ghost use Rattle.portfolio_tests.specs.Alone.{first_bytes, two_streams, usual, IsReportAlone};
+
+use super::{BOTH, By, Open, bad_line, ended, options, readers_of, reports_of, same};
+use groups::laws::{alone_has_one_report, readers_closed, told_is_reading};
+use lrup_model::Cube;
+use lrup_text::Source;
+use lrup_text::laws::a_stream_is_cut_in_one_way;
+use portfolio::{Options, run, run_serial};
+use std::alloc::Global;
+use std::process::Abort;
+use std::sync::Wait;
+use std::test::Fail;
+use std::thread::Threads;
+use stream_check::{Fault, Report};
+use test_support::{Pieces, four_clauses};
+
+/// The row's first stream.
+const FIRST: &str = "5 2 0 1 2 0\n7 0 5 3 4 0\n";
+
+/// The program's options where none is given.
+fn usual_options() -> Options
+    ensures { result ≡ usual }
+{
+    Options::new(1_000, 65_536, 1_048_576).unwrap()
+}
+
+/// Readers of the two streams, which never fail.
+fn two_readers<'a>(
+    alloc: Global,
+    first: &'a str,
+    neighbour: &'a str,
+) -> Result<Vec<Pieces<'a>>, Fail>
+    ensures two { IfOk result (λ readers. length readers.items ≡ 2) }
+    ensures running { IfOk result (λ readers. AllByRecursion (λ r. r.failed ≡ false) readers.items) }
+    ensures first { IfOk result (λ readers.
+        IsAt (map (λ r. Some r.left.now) readers.items) 1 (Some first.now)) }
+{
+    let readers = vec![in alloc; Pieces::new(first, 7, 0), Pieces::new(neighbour, 7, 0)]?;
+    Ok(readers)
+}
+
+/// The first report, where no read of the first reader failed.
+fn first_report(reports: &[Report], readers: &[Pieces<'_>]) -> Result<Report, Fail>
+    ensures report { IfOk result (λ report. IsAt reports.now 1 report) }
+    ensures failed { IfOk result (λ _. IsAt (map (λ r. r.failed) readers.now) 1 false) }
+{
+    match (reports.first(), readers.first()) {
+        (Some(report), Some(reader)) if !reader.failed() => Ok(*report),
+        _ => Err("no report, or a read that failed".into()),
+    }
+}
+
+/// What a run with threads says of the first stream beside this neighbour.
+fn said_by_threads<T: Threads + Wait + Sync>(
+    rt: &T,
+    alloc: Global,
+    first: &str,
+    neighbour: &str,
+) -> Result<Report, Fail>
+    requires { CiteWithin two_streams (one 1) first.now }
+    ensures { IfOk result (λ report. ¬ IsOfMemory report → IsReportAlone first.now report) }
+{
+    readers_closed();
+    told_is_reading();
+    let formula = four_clauses(alloc)?;
+    let readers = two_readers(alloc, first, neighbour)?;
+    let gates = vec![in alloc; Open; readers.len()]?;
+    let outcome = run(
+        rt,
+        alloc,
+        &formula,
+        &Cube::empty(alloc),
+        usual_options(),
+        readers,
+        gates,
+    )?;
+    first_report(&outcome.reports, &outcome.readers)
+}
+
+/// What a run on one thread says of the first stream beside this neighbour.
+fn said_by_turns<W: Wait>(
+    wait: &W,
+    alloc: Global,
+    first: &str,
+    neighbour: &str,
+) -> Result<Report, Fail>
+    requires { CiteWithin two_streams (one 1) first.now }
+    ensures { IfOk result (λ report. ¬ IsOfMemory report → IsReportAlone first.now report) }
+{
+    readers_closed();
+    told_is_reading();
+    let formula = four_clauses(alloc)?;
+    let readers = two_readers(alloc, first, neighbour)?;
+    let gates = vec![in alloc; Open; readers.len()]?;
+    let outcome = run_serial(
+        wait,
+        alloc,
+        &formula,
+        &Cube::empty(alloc),
+        usual_options(),
+        readers,
+        gates,
+    )?;
+    first_report(&outcome.reports, &outcome.readers)
+}
+
+/// What is said of the row's first stream beside this neighbour: a report that it may have alone.
+fn said_beside<T: Threads + Wait + Sync>(
+    rt: &T,
+    alloc: Global,
+    by: By,
+    neighbour: &str,
+) -> Result<Report, Fail>
+    ensures { IfOk result (λ report. ¬ IsOfMemory report → IsReportAlone first_bytes report) }
+{
+    match by {
+        By::Threads => said_by_threads(rt, alloc, FIRST, neighbour),
+        By::Turns => said_by_turns(rt, alloc, FIRST, neighbour),
+    }
+}
+
+/// What two runs say of it. That this is one report follows from the contracts of runs alone.
+fn said_in_two_runs<T: Threads + Wait + Sync>(
+    rt: &T,
+    alloc: Global,
+    one_run: (By, &str),
+    other_run: (By, &str),
+) -> Result<(Report, Report), Fail>
+    ensures { IfOk result (λ said.
+        ¬ IsOfMemory said.0 → ¬ IsOfMemory said.1 → said.0 ≡ said.1) }
+{
+    alone_has_one_report();
+    let first = said_beside(rt, alloc, one_run.0, one_run.1)?;
+    let second = said_beside(rt, alloc, other_run.0, other_run.1)?;
+    Ok((first, second))
+}
+
+/// A stream that only imports a neighbour's clause isn't closed.
+fn an_import_is_open()
+    ensures { ¬ CiteWithin two_streams (one 2) (codes "5 i 2 0\n") }
+{
+    a_stream_is_cut_in_one_way();
+}
+
+/// The last neighbour deletes a clause of stream 1, twice.
+#[test]
+fn one_report_beside_each_neighbour(rt: HostRuntime) -> Result<(), Fail> {
+    let wanted = ended(2, true);
+    for by in BOTH {
+        for neighbour in ["", "\n", "6 0 5 3 4 0\n", "6 d 5 5 0\n"] {
+            let said = said_in_two_runs(&rt, rt.alloc(), (By::Turns, ""), (by, neighbour))?;
+            same(
+                &rt,
+                (by, neighbour, said),
+                (by, neighbour, (wanted, wanted)),
+            );
+        }
+    }
+    Ok(())
+}
+
+/// What is said of a stream that imports a neighbour's clause changes with the neighbour.
+#[test]
+fn reports_of_an_import(rt: HostRuntime) -> Result<(), Fail> {
+    an_import_is_open();
+    for (neighbour, wanted) in [
+        ("5 2 0 1 2 0\n", ended(0, false)),
+        ("5 1 0 1 3 0\n", bad_line(1, Fault::Differs(5))),
+        ("", bad_line(1, Fault::Missing(5))),
+    ] {
+        for by in BOTH {
+            let readers = readers_of(rt.alloc(), &[neighbour, "5 i 2 0\n"], 7)?;
+            let often = options(10_000, 65_536, 1_048_576);
+            let reports = reports_of(&rt, rt.alloc(), by, often, readers)?;
+            let said = reports.get(1).copied();
+            same(&rt, (by, neighbour, said), (by, neighbour, Some(wanted)));
+        }
+    }
+    Ok(())
+}
