@@ -1,4 +1,4 @@
--- Lemmas on the literals of a clause, and on lists.
+-- Lemmas on the literals of a clause.
 use Rattle.std.proofs.Common.{◌≡◌, ◌≢◌, ◌⊎◌, inl, inr, ℕ, zero, suc, ◌+◌, ◌<◌, ℤ, List, [], ◌∷◌, ◌++◌, length, get_or, take, Some, refl, sym, ap, subst, ◌∙◌, add-one}
 use Rattle.std.specs.Prelude.{slice_get}
 use Rattle.std.specs.List.{AllByRecursion}
@@ -76,10 +76,6 @@ All-Has P (x ∷ xs) l all (inr h) = All-Has P xs l all.1 h
 pub All-from_Has : (P : ℤ → Type 0) (xs : List ℤ) → ((l : ℤ) → Has xs l → P l) → AllByRecursion P xs
 All-from_Has P [] f = tt
 All-from_Has P (x ∷ xs) f = (f x (inl refl), All-from_Has P xs (λ l h. f l (inr h)))
-
-pub All-push : {X : Type 0} (P : X → Type 0) (xs : List X) (x : X) → AllByRecursion P xs → P x → AllByRecursion P (xs ++ x ∷ [])
-All-push P [] x all p = (p, tt)
-All-push P (y ∷ xs) x all p = (all.0, All-push P xs x all.1 p)
 
 -- a list read by index, as a loop reads it
 pub All-read : (P : ℤ → Type 0) (xs : List ℤ) (k : ℕ) (x : ℤ) → AllByRecursion P xs → k < length xs → x ≡ get_or xs k x → P x

@@ -7,7 +7,7 @@ use Rattle.lrup_model.specs.Formula.{Cnf}
 use Rattle.lrup_model.specs.Layout.{LayoutValue}
 use Rattle.lrup_model.specs.Event as events
 use Rattle.lrup_model.specs.Event.{Event, History, published}
-use Rattle.lrup_model.specs.State.{State, Slot, absent, live, retired, put, retire_slot, after, run, Answers}
+use Rattle.lrup_model.specs.State.{State, Slot, absent, live, retired, IsLive, IsRetired, put, retire_slot, after, run, Answers}
 use Rattle.lrup_model.specs.History.{IsAllowed, LegalFrom}
 use Rattle.lrup_model.specs.Laws.{Advances, HasClause, IsByOwner}
 use Rattle.lrup_model.specs.declared.clause_map.Published.TheVariants as publishing
@@ -46,6 +46,11 @@ Advances-then (retired x) (live y) c ab bc = absurd ab
 Advances-then (retired x) (retired y) absent ab bc = bc
 Advances-then (retired x) (retired y) (live z) ab bc = bc
 Advances-then (retired x) (retired y) (retired z) ab bc = bc ∙ ab
+
+pub retired_now : (x : Slot) → IsLive x → IsRetired (retire_slot x)
+retired_now absent alive = absurd alive
+retired_now (live c) alive = tt
+retired_now (retired c) alive = tt
 
 Advances-retired : (slot : Slot) → Advances slot (retire_slot slot)
 Advances-retired absent = tt

@@ -1,5 +1,5 @@
 -- Lemmas on events, histories and the states that they leave.
-use Rattle.std.proofs.Common.{◌≡◌, ℕ, ◌+◌, ◌-◌, ◌%◌, ◌<◌, ◌≤◌, cond, eqb, ltb, leb, ◌&&◌, List, [], ◌∷◌, ◌++◌, length, refl, sym, ap, subst, ◌∙◌, inl, inr, arith, ne_eqb, eq-eqb, le-leb, lt-ltb, le-ltb}
+use Rattle.std.proofs.Common.{◌≡◌, ℕ, ◌+◌, ◌-◌, ◌%◌, ◌<◌, ◌≤◌, cond, eqb, ltb, leb, ◌&&◌, List, [], ◌∷◌, ◌++◌, length, get_or, refl, sym, ap, subst, ◌∙◌, inl, inr, arith, ne_eqb, eq-eqb, le-leb, lt-ltb, le-ltb}
 use Rattle.std.specs.Prelude.{if◌then◌else◌}
 use Rattle.std.specs.List.{sum_by, AllByRecursion}
 use Rattle.std.proofs.lemmas.Bool.{cases_eq, cases_lt, cond-true, cond-false, and_from, and_left, and_right, lt-leb}
@@ -105,6 +105,12 @@ pub opening-formula : (f : Cnf) (id : ℕ) → 0 < id → id ≤ length f.clause
 opening-formula f id positive within =
     cond-true (ltb 0 id && leb id (length f.clauses)) (live (clause_at f id)) absent (and_from (ltb 0 id) (leb id (length f.clauses)) (lt-ltb 0 id positive) (le-leb id (length f.clauses) within))
 
+-- a formula's clause by its place
+pub clause_at-suc : (f : Cnf) (i : ℕ) → clause_at f (i + 1) ≡ get_or f.clauses i []
+clause_at-suc f i =
+    let place : i + 1 - 1 ≡ i = omega arith in
+    ap (λ n. get_or f.clauses n []) place
+
 pub opening-above : (f : Cnf) (id : ℕ) → length f.clauses < id → opening f id ≡ absent
 opening-above f id above =
     cond-false (ltb 0 id && leb id (length f.clauses)) (live (clause_at f id)) absent (and_right (ltb 0 id) (leb id (length f.clauses)) (lt-leb id (length f.clauses) above))
@@ -124,6 +130,11 @@ formula_stays f p h id fits legal positive within =
 
 pub own-mine : (e : Event) (h : History) (s : ℕ) → stream_of e ≡ s → own (e ∷ h) s ≡ e ∷ own h s
 own-mine e h s mine = cond-true (eqb (stream_of e) s) (e ∷ own h s) (own h s) (eq-eqb (stream_of e) s mine)
+
+-- a history of one stream's events is its own
+pub own-all : (s : ℕ) (es : History) → AllByRecursion (λ e. stream_of e ≡ s) es → own es s ≡ es
+own-all s [] all = refl
+own-all s (e ∷ es) all = own-mine e es s all.0 ∙ ap (λ (g : History). e ∷ g) (own-all s es all.1)
 
 pub own-other : (e : Event) (h : History) (s : ℕ) → (stream_of e ≡ s → ⊥) → own (e ∷ h) s ≡ own h s
 own-other e h s other = cond-false (eqb (stream_of e) s) (e ∷ own h s) (own h s) (ne_eqb (stream_of e) s other)
