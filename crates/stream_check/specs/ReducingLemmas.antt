@@ -6,10 +6,12 @@ use Rattle.lrup_model.specs.Event as events
 use Rattle.lrup_model.specs.Event.{Event, History}
 use Rattle.stream_check.specs.Reducing.{is_vacant, reduced}
 
-pub reduced_kept : (e : Event) (es : History) → (is_vacant e && not (list_all is_vacant es)) ≡ false → reduced (e ∷ es) ≡ e ∷ reduced es
+pub reduced_kept : (e : Event) (es : History) → (is_vacant e && not (list_all is_vacant es)) ≡ false
+    → reduced (e ∷ es) ≡ e ∷ reduced es
 reduced_kept e es test = cond-false (is_vacant e && not (list_all is_vacant es)) (reduced es) (e ∷ reduced es) test
 
-pub reduced_left_out : (e : Event) (es : History) → (is_vacant e && not (list_all is_vacant es)) ≡ true → reduced (e ∷ es) ≡ reduced es
+pub reduced_left_out : (e : Event) (es : History)
+    → (is_vacant e && not (list_all is_vacant es)) ≡ true → reduced (e ∷ es) ≡ reduced es
 reduced_left_out e es test = cond-true (is_vacant e && not (list_all is_vacant es)) (reduced es) (e ∷ reduced es) test
 
 -- vacant fetches alone stay

@@ -15,7 +15,9 @@ use Rattle.stream_check.specs.Checker.{LeavesOn}
 pub joined-append : (a b : List History) → joined (a ++ b) ≡ joined a ++ joined b
 joined-append a b = flat_map-append (λ block. block) a b
 
-pub split_first : (line : StreamLine) (lines : List StreamLine) (rest : List ℕ) → flat_map line_text (line ∷ lines) ++ rest ≡ line_text line ++ (flat_map line_text lines ++ rest)
+pub split_first : (line : StreamLine) (lines : List StreamLine) (rest : List ℕ)
+    → flat_map line_text (line ∷ lines) ++ rest ≡ line_text line
+    ++ (flat_map line_text lines ++ rest)
 split_first line lines rest = append_assoc (line_text line) (flat_map line_text lines) rest
 
 -- nothing is taken
@@ -24,14 +26,16 @@ leaves_still c s bytes before leaves =
     subst (λ (b : List ℕ). Leaves c b (before ++ []) s) (sym (append-nil bytes)) (subst (λ (blocks : List History). Leaves c bytes blocks s) (sym (append-nil before)) leaves)
 
 -- the report tells of the good lines alone
-pub said_within : (c : Setting) (lines : List StreamLine) (rest : List ℕ) (end : StreamEnd) (back : List History) (report : Report) → EndsAfter c lines rest end back report
+pub said_within : (c : Setting) (lines : List StreamLine) (rest : List ℕ) (end : StreamEnd)
+    (back : List History) (report : Report) → EndsAfter c lines rest end back report
     → report.within ≡ list_any (adds_within c.cube) lines
 said_within c lines rest end back report (inl line) = ap (λ (r : Report). r.within) line.says
 said_within c lines rest end back report (inr (inl text)) = ap (λ (r : Report). r.within) text.says
 said_within c lines rest end back report (inr (inr (inl memory))) = ap (λ (r : Report). r.within) memory.says
 said_within c lines rest end back report (inr (inr (inr ending))) = ap (λ (r : Report). r.within) ending.says
 
-pub said_empty : (c : Setting) (lines : List StreamLine) (rest : List ℕ) (end : StreamEnd) (back : List History) (report : Report) → EndsAfter c lines rest end back report
+pub said_empty : (c : Setting) (lines : List StreamLine) (rest : List ℕ) (end : StreamEnd)
+    (back : List History) (report : Report) → EndsAfter c lines rest end back report
     → report.empty ≡ list_any adds_empty lines
 said_empty c lines rest end back report (inl line) = ap (λ (r : Report). r.empty) line.says
 said_empty c lines rest end back report (inr (inl text)) = ap (λ (r : Report). r.empty) text.says
@@ -45,6 +49,7 @@ only_empty (Addition id (l ∷ lits) hints) = refl
 only_empty (Deletion lead ids) = refl
 only_empty (Import id lits) = refl
 
-pub all_only_empty : (lines : List StreamLine) → list_any (adds_within []) lines ≡ list_any adds_empty lines
+pub all_only_empty : (lines : List StreamLine)
+    → list_any (adds_within []) lines ≡ list_any adds_empty lines
 all_only_empty [] = refl
 all_only_empty (line ∷ lines) = ap₂ (λ a b. a || b) (only_empty line) (all_only_empty lines)
