@@ -75,8 +75,8 @@ sweep: build c-and-python
 audit:
 	@python3 gate/audit.py
 
-# What needs no prover: whether that page is what the sources give, and DEFINITIONS has its counts; and whether the names in
-# backticks in the documents exist.
+# What needs no prover: whether that page is what the sources give, and DEFINITIONS has its counts; whether the names in backticks
+# in the documents exist; and whether clauses and definitions are within 100 columns, and each lemma stands once.
 pages: c-and-python
 	@python3 gate/audit.py --check
 	@python3 gate/style.py

@@ -1,10 +1,10 @@
 #!/usr/bin/env python3
 """What neither the prover nor the compiler looks at.
 
-    python3 gate/style.py          names in backticks, in the documents, that don't exist
-    python3 gate/style.py --all    also lines of clauses and of definitions beyond 100 columns, and lemmas that are stated twice
+    python3 gate/style.py
 
-It lists what it finds; the last line has the counts, and the status is 1 where one of them isn't 0.
+It lists names in backticks, in the documents, that don't exist; lines of clauses and of definitions beyond 100 columns; and lemmas
+that are stated twice. The last line has the counts, and the status is 1 where one of them isn't 0.
 
 A name in backticks is looked for in the code, the definitions and proofs, the scripts, and the names of files; of `Type::call`
 and `Module.name` the pair. Where several words stand in backticks, a name is one with an underscore, a capital within or `::`, an
@@ -121,16 +121,26 @@ def normal(statement):
     return WORD.sub(lambda word: numbers.get(word[0], word[0]), text)
 
 
+def crates_below():
+    """Of each crate those of the repository that it stands on, and itself."""
+    listed = dict(line.split(":") for line in (ROOT / "crates.txt").read_text().splitlines() if ":" in line)
+    below = lambda crate: {crate}.union(*(below(name) for name in listed[crate].split() if name in listed))
+    return {crate: below(crate) for crate in listed}
+
+
 def repeated_statements():
-    places = defaultdict(list)
+    """Those in one crate, or in two that have one below both, where the lemma could stand."""
+    places, below = defaultdict(list), crates_below()
     for path in files(r"crates/\w+/(specs|proofs)/.*\.antt"):
         for name, statement, number in statements(path):
             text = normal(statement)
             if text:
-                places[text].append(f"{shown(path)}:{number} {name}")
+                places[text].append((path.relative_to(ROOT).parts[1], f"{shown(path)}:{number} {name}"))
     for found in places.values():
-        if len(found) > 1:
-            yield "stated " + str(len(found)) + " times: " + ", ".join(found)
+        told = [place for at, (crate, place) in enumerate(found)
+                if any(below[crate] & below[other] for by, (other, _) in enumerate(found) if by != at)]
+        if told:
+            yield "stated " + str(len(told)) + " times: " + ", ".join(told)
 
 
 # Names in backticks.
@@ -238,12 +248,10 @@ def unknown_names():
 
 
 def main():
-    if sys.argv[1:] not in ([], ["--all"]):
-        sys.exit(__doc__)
-    checks = [("names in backticks that don't exist", unknown_names)]
     if sys.argv[1:]:
-        checks += [("lines of clauses too wide", wide_clauses), ("lines of definitions too wide", wide_definitions),
-                   ("statements of lemmas more than once", repeated_statements)]
+        sys.exit(__doc__)
+    checks = [("names in backticks that don't exist", unknown_names), ("lines of clauses too wide", wide_clauses),
+              ("lines of definitions too wide", wide_definitions), ("statements of lemmas more than once", repeated_statements)]
     counts = []
     for what, check in checks:
         found = list(check())

@@ -11,13 +11,21 @@ use Rattle.stream_check.specs.Laws.{ReadyNew, ReadyBeside}
 use Rattle.checker_support.specs.Opened.{IsOpened}
 
 -- a new checker at a map that was just opened
-pub ready_opened : ReadyNew → (layout : LayoutValue) (cube : CubeValue) (stream tries : ℕ) (v : CheckerValue) (m : Plain) → IsOpened m → layout ≡ m.layout → IsNew layout cube stream tries v → IsReadyAt v (plain_place m stream)
+pub ready_opened : ReadyNew
+    → (layout : LayoutValue) (cube : CubeValue) (stream tries : ℕ) (v : CheckerValue) (m : Plain)
+    → IsOpened m → layout ≡ m.layout → IsNew layout cube stream tries v
+    → IsReadyAt v (plain_place m stream)
 ready_opened law layout cube stream tries v m opened same new =
-    law (formula_of m) m.layout cube stream tries v (plain_place m stream) (subst (λ (p : LayoutValue). IsNew p cube stream tries v) same new) opened.fits refl (λ id owns. ap (λ (s : State). s id) opened.state)
+    law (formula_of m) m.layout cube stream tries v (plain_place m stream)
+    (subst (λ (p : LayoutValue). IsNew p cube stream tries v) same new) opened.fits refl
+    (λ id owns. ap (λ (s : State). s id) opened.state)
 
 -- another stream's calls leave a checker ready
-pub ready_for : ReadyBeside → (v : CheckerValue) (old new : Plain) (s t : ℕ) (es : History) → IsReadyAt v (plain_place old s) → PlainMoves old new t es → t ≢ s → IsReadyAt v (plain_place new s)
+pub ready_for : ReadyBeside → (v : CheckerValue) (old new : Plain) (s t : ℕ) (es : History)
+    → IsReadyAt v (plain_place old s) → PlainMoves old new t es → t ≢ s
+    → IsReadyAt v (plain_place new s)
 ready_for law v old new s t es ready moves other =
     let same : s ≡ v.setting.stream = ready.at.stream in
     subst (λ (k : ℕ). IsReadyAt v (plain_place new k)) (sym same)
-    (law v old new t es (subst (λ (k : ℕ). IsReadyAt v (plain_place old k)) same ready) moves (λ is. other (is ∙ sym same)))
+    (law v old new t es (subst (λ (k : ℕ). IsReadyAt v (plain_place old k)) same ready) moves
+    (λ is. other (is ∙ sym same)))

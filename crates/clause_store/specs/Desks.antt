@@ -20,11 +20,13 @@ pub record DeskMoves (old new : Desk) (es : History) : Type 0 where
 pub desk_none : (d : Desk) → DeskMoves d d []
 desk_none d = record { store = refl; moves = moves_none d.pass.view }
 
-pub desk_append : (a b c : Desk) (es fs : History) → DeskMoves a b es → DeskMoves b c fs → DeskMoves a c (es ++ fs)
+pub desk_append : (a b c : Desk) (es fs : History) → DeskMoves a b es → DeskMoves b c fs
+    → DeskMoves a c (es ++ fs)
 desk_append a b c es fs h k = record {
   store = k.store ∙ h.store;
   moves = moves_append a.pass.view b.pass.view c.pass.view es fs h.moves k.moves;
 }
 
-pub desk_tells : (a b : Desk) (es : History) → DeskMoves a b es → Tells (desk_place a) (desk_place b) es
+pub desk_tells : (a b : Desk) (es : History) → DeskMoves a b es
+    → Tells (desk_place a) (desk_place b) es
 desk_tells a b es h = moves_tells a.pass.view b.pass.view es h.moves

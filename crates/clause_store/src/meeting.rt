@@ -31,7 +31,8 @@ impl Store {
         requires others { AreOf self.now others.old }
         ensures pass { store_of pass.new ≡ self.now }
         ensures others { AreOf self.now others.new }
-        ensures turns { MeetsInTurn pass.old.view (views others.old) pass.new.view (views others.new) }
+        ensures turns { MeetsInTurn pass.old.view (views others.old) pass.new.view
+            (views others.new) }
         ensures fair { IsFair pass.new.view }
     {
         for other in others.iter_mut() {

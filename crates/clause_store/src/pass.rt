@@ -38,7 +38,8 @@ impl Pass {
 
 /// The passes of the streams' seats, which are in the streams' order.
 pub(crate) fn passes_of(alloc: Global, seats: Vec<Seat>) -> Result<Vec<Pass>, AllocError>
-    requires { (k : ℕ) (seat : SeatValue) → slice_get seats.items k ≡ Some seat → IsAtRest seat (k + 1) }
+    requires { (k : ℕ) (seat : SeatValue) → slice_get seats.items k ≡ Some seat
+        → IsAtRest seat (k + 1) }
     ensures { IfOk result (λ passes. passes.items ≡ map pass_value seats.items) }
 {
     let mut passes = Vec::with_capacity(alloc, seats.len())?;

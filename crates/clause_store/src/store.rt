@@ -115,8 +115,10 @@ impl Store {
         requires store { store_of pass.old ≡ self.now }
         requires known { IsKnown (pass_place pass.old.view) clip.now }
         requires within { 2 * i < clip.now.len }
-        ensures first { slice_get (text_of (pass_place pass.old.view) clip.now) (2 * i) ≡ Some result.0 }
-        ensures second { slice_get (text_of (pass_place pass.old.view) clip.now) (2 * i + 1) ≡ result.1 }
+        ensures first { slice_get (text_of (pass_place pass.old.view) clip.now) (2 * i)
+            ≡ Some result.0 }
+        ensures second { slice_get (text_of (pass_place pass.old.view) clip.now) (2 * i + 1)
+            ≡ result.1 }
         ensures same { pass.new ≡ pass.old }
     {
         let len = clip.len();

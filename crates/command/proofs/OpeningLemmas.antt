@@ -3,13 +3,7 @@ use Rattle.std.proofs.Common.{Bool, IsTrue, Some, slice_get, option_map, subst, 
 use Rattle.std.proofs.lemmas.List.{map-append, take-map}
 use Rattle.std.proofs.lemmas.List.{take_more}
 use Rattle.std.proofs.lemmas.Option.{slice_get-get_or, slice_get-map}
-use Rattle.std.specs.List.{AllByRecursion}
 use Rattle.command.specs.Commands.{AreOpened, Text}
-
--- one more of a list holds
-pub all_more : {X : Type 0} (P : X → Type 0) (xs : List X) (x : X) → AllByRecursion P xs → P x → AllByRecursion P (xs ++ x ∷ [])
-all_more P [] x all one = (one, tt)
-all_more P (y ∷ ys) x all one = (all.0, all_more P ys x all.1 one)
 
 -- what is told of the readers is what the files at the paths so far tell, and so with one more
 pub opened_more : {R B T : Type 0} {L : Type 0} (left : R → L) (tells later : T → L) (text : B → T) (before after : List R) (reader : R) (paths : List B) (k : ℕ) (d : B)

@@ -1,17 +1,18 @@
 -- What was made of the tokens so far, token by token, and the faults that stand at the next one.
-use Rattle.std.proofs.Common.{◌≡◌, ◌⊎◌, ◌+◌, ◌<◌, ◌≤◌, ℕ, ℤ, pos, nat_abs, List, [], ◌∷◌, ◌++◌, map, flat_map, length, Option, Some, None, refl, sym, ap, ◌∙◌, inl, inr, ⊎_elim, subst, zero, suc, arith, length-append}
-use Rattle.std.specs.List.{AllByRecursion}
+use Rattle.std.proofs.Common.{◌≡◌, ◌⊎◌, ◌+◌, ◌<◌, ◌≤◌, ℕ, ℤ, pos, nat_abs, List, [], ◌∷◌, ◌++◌, map, flat_map, length, Option, Some, None, refl, sym, ap, ◌∙◌, inl, inr, ⊎_elim, subst, arith, length-append}
 use Rattle.std.proofs.lemmas.List.{append-nil, append_assoc, map-append, flat_map_more, nil_from_length}
+use Rattle.std.proofs.Math.Nat.{eq-zero-or-pos}
 use Rattle.lrup_model.specs.Literal.{IsLiteral}
-use Rattle.lrup_model.specs.Clause.{Clause, Has}
+use Rattle.lrup_model.specs.Clause.{Clause}
 use Rattle.lrup_model.specs.Formula.{Cnf, IsFormulaClause, max_clause_literals}
 use Rattle.dimacs.specs.Lines.{Token}
 use Rattle.dimacs.specs.Numerals.{number_of}
 use Rattle.lrup_model.specs.DistinctLemmas.{distinct-push_same, distinct-push_other}
+use Rattle.lrup_model.specs.ListLemmas.{All-push}
+use Rattle.lrup_model.specs.ClauseLemmas.{All-from_Has, All-Has}
 use Rattle.dimacs.specs.FormulaText.{IsWritten, IsRead, IsSetOf, AreSetsOf, AreClauses, ended}
 use Rattle.dimacs.specs.FormulaFault.{StandsAt, HasBadNumber, HasLargeVariable, HasMoreClauses, HasLongClause, EndsOpen, EndsEarly}
 use Rattle.dimacs.specs.Places.{IsBuilt, AddsLiteral, AddsClause, IsFirstToken}
-use Rattle.lrup_model.specs.ClauseLemmas.{All-push}
 use Rattle.dimacs.proofs.SetLemmas.{Has-push}
 
 abbrev numbers_of : List Token → List (Option ℤ)
@@ -150,19 +151,10 @@ reads_end vars count all old new t f g clause clause' written written' remaining
       remaining_is = omega (arith, h.remaining_is, one_less, ap length added.1, length-append f.clauses (clause ∷ []));
     }
 
--- what a clause that ends has to be
-all_from_members : (P : ℤ → Type 0) (c : List ℤ) → ((l : ℤ) → Has c l → P l) → AllByRecursion P c
-all_from_members P [] h = tt
-all_from_members P (x ∷ c) h = (h x (inl refl), all_from_members P c (λ l has. h l (inr has)))
-
-member_of_all : (P : ℤ → Type 0) (c : List ℤ) (l : ℤ) → AllByRecursion P c → Has c l → P l
-member_of_all P [] l all has = absurd has
-member_of_all P (x ∷ c) l all has = ⊎_elim (λ (e : x ≡ l). subst P e all.0) (λ later. member_of_all P c l all.1 later) has
-
 pub ends_clause : (vars count : ℕ) (all left : List Token) (f : Cnf) (clause : List ℤ) (written remaining : ℕ) → Reads vars count all left f clause written remaining → IsFormulaClause f.vars clause
 ends_clause vars count all left f clause written remaining h =
     let built = h.built in
-    let literals = all_from_members (IsLiteral vars) clause (λ l has. member_of_all (IsLiteral vars) built.begun l built.read.begun_within.within ((built.set.members l).0 has)) in
+    let literals = All-from_Has (IsLiteral vars) clause (λ l has. All-Has (IsLiteral vars) built.begun l built.read.begun_within.within ((built.set.members l).0 has)) in
     rw built.vars_are ((record { literals = literals; each_once = built.set.each_once }, omega (arith, built.size, built.written_is, built.read.begun_within.size)))
 
 -- ## the end, and the faults
@@ -230,15 +222,11 @@ large_variable vars count all left f clause written remaining line text later z 
   fault = large;
 }
 
-none_or_some : (n : ℕ) → (n ≡ 0) ⊎ (0 < n)
-none_or_some zero = inl refl
-none_or_some (suc n) = inr (omega arith)
-
 pub more_clauses : (vars count : ℕ) (all left : List Token) (f : Cnf) (clause : List ℤ) (written remaining line : ℕ) (text : List ℕ) (later : List Token) (z : ℤ) → Reads vars count all left f clause written remaining → IsFirstToken text line left later → number_of text ≡ Some z → nat_abs z ≤ vars → remaining ≡ 0 → HasMoreClauses line vars count all
 more_clauses vars count all left f clause written remaining line text later z h next is within none =
     let built = h.built in
     let full : length built.closed ≡ count = omega (arith, h.remaining_is, length-sets built.closed f.clauses built.sets) in
-    let begun_none : built.begun ≡ [] = nil_from_length built.begun (⊎_elim (λ e. e) (λ some. absurd (omega (arith, built.read.begun_count some, full))) (none_or_some (length built.begun))) in record {
+    let begun_none : built.begun ≡ [] = nil_from_length built.begun (⊎_elim (λ e. e) (λ some. absurd (omega (arith, built.read.begun_count some, full))) (eq-zero-or-pos (length built.begun))) in record {
       text = text;
       number = z;
       closed = built.closed;

@@ -1,11 +1,12 @@
 -- How the lines and the tokens of what is left change, step by step.
-use Rattle.std.proofs.Common.{◌≡◌, ◌≢◌, ◌+◌, ◌<◌, ℕ, Bool, true, false, not, cond, ◌||◌, ◌==◌, List, [], ◌∷◌, ◌++◌, filter, length, take, drop, get_or, Option, Some, None, refl, sym, ap, ◌∙◌, arith, ⊎_elim, ◌⊎◌, inl, inr, zero, suc, add-one, unwrap_or, ◌-◌}
+use Rattle.std.proofs.Common.{◌≡◌, ◌≢◌, ◌+◌, ◌<◌, ℕ, Bool, true, false, not, cond, ◌||◌, ◌==◌, List, [], ◌∷◌, ◌++◌, filter, length, take, drop, get_or, Option, Some, None, refl, sym, ap, ◌∙◌, arith, ⊎_elim, ◌⊎◌, zero, suc, add-one, unwrap_or, ◌-◌}
 use Rattle.std.specs.List.{slice_split, onto_first, All}
 use Rattle.std.proofs.lemmas.List.{append-nil, length-take, get_or-take, get_or_default, drop_more, drop_all, take_all}
 use Rattle.std.proofs.Math.Seq.{split_at}
 use Rattle.memchr.specs.Find.{NoneBefore, Nowhere, Passes, IsFirstByte, is_byte}
 use Rattle.std.proofs.lemmas.List.Splits.{slice_split_at, slice_split_none}
 use Rattle.std.proofs.lemmas.Bool.{or_parts, cases_Bool, ne_eqb, both_ways}
+use Rattle.std.proofs.Math.Nat.{eq-zero-or-pos}
 use Rattle.dimacs.specs.Lines.{Line, Token, ends_line, is_separator, is_empty, runs, lines_from, tokens_of, all_tokens}
 use Rattle.dimacs.specs.Places.{lines_at_start, lines_inside, lines_at, tokens_at, run, after_run, IsAtToken}
 
@@ -246,10 +247,6 @@ begun_take : (k : ℕ) (b : ℕ) (bs : List ℕ) → 0 < k → take k (b ∷ bs)
 begun_take zero b bs some = absurd (omega arith)
 begun_take (suc k) b bs some = ap (λ (m : ℕ). b ∷ take m bs) (omega arith)
 
-cases_zero : (k : ℕ) → (k ≡ 0) ⊎ (0 < k)
-cases_zero zero = inl refl
-cases_zero (suc k) = inr (omega arith)
-
 pub lines_at-line : (n : ℕ) (rest : List ℕ) (found : Option ℕ) (end : ℕ) → IsAtToken rest → 0 < length rest → IsFirstByte (is_byte 10) rest found → end ≡ unwrap_or found (length rest) → lines_at n rest ≡ record { number = n; tokens = runs (take end rest) } ∷ lines_at n (drop end rest)
 unfolding lines_at
 lines_at-line n [] found end place some first is = absurd (omega arith)
@@ -261,7 +258,7 @@ lines_at-line n (b ∷ bs) None end place some first is =
     ∙ ap (λ (x : List ℕ). record { number = n; tokens = runs x } ∷ []) (sym whole)
     ∙ ap (λ (x : List Line). record { number = n; tokens = runs (take end (b ∷ bs)) } ∷ x) (sym (ap (lines_at n) none ∙ lines_at-nil n))
 lines_at-line n (b ∷ bs) (Some k) end place some first is =
-    let later : 0 < k = ⊎_elim (λ zero_k. let at : ends_line b ≡ true = ap (λ (m : ℕ). ends_line (get_or (b ∷ bs) m 0)) (sym zero_k) ∙ first.1 in absurd (both_ways (ends_line b) (no_line_end b place) at)) (λ h. h) (cases_zero k) in
+    let later : 0 < k = ⊎_elim (λ zero_k. let at : ends_line b ≡ true = ap (λ (m : ℕ). ends_line (get_or (b ∷ bs) m 0)) (sym zero_k) ∙ first.1 in absurd (both_ways (ends_line b) (no_line_end b place) at)) (λ h. h) (eq-zero-or-pos k) in
     let begun = begun_take k b bs later in
     let full : is_empty (runs (take k (b ∷ bs))) ≡ false = ap (λ (x : List ℕ). is_empty (runs x)) begun ∙ is_empty-runs b (take (k - 1) bs) place in
     ap (lines_inside n) (split_at_line_end (b ∷ bs) k first.0 first.1)

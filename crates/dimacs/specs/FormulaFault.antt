@@ -21,7 +21,8 @@ HasNoHeader (header ∷ lines) = ¬ BeginsHeader header.tokens
 
 abbrev pub HasBadHeader : List Line → Type 0
 HasBadHeader [] = ⊥
-HasBadHeader (header ∷ lines) = BeginsHeader header.tokens × ((vars count : ℕ) → ¬ IsHeader header.tokens vars count)
+HasBadHeader (header ∷ lines) =
+    BeginsHeader header.tokens × ((vars count : ℕ) → ¬ IsHeader header.tokens vars count)
 
 -- a header that is spelled right and says too much
 pub record SaysTooMuch (header : List (List ℕ)) : Type 0 where
@@ -35,7 +36,8 @@ HasLargeHeader [] = ⊥
 HasLargeHeader (header ∷ lines) = SaysTooMuch header.tokens
 
 -- The tokens before this one have no fault, and spell the clauses of closed and, without its 0, begun.
-pub record StandsAt (token : Token) (vars count : ℕ) (tokens : List Token) (closed : List (List ℤ)) (begun : List ℤ) : Type 0 where
+pub record StandsAt (token : Token) (vars count : ℕ) (tokens : List Token) (closed : List (List ℤ))
+    (begun : List ℤ) : Type 0 where
   pub before : List Token
   pub after : List Token
   pub whole : tokens ≡ before ++ token ∷ after

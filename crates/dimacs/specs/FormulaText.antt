@@ -19,7 +19,8 @@ IsHeader (p ∷ cnf ∷ variables ∷ clauses ∷ []) vars count =
 IsHeader _ vars count = ⊥
 
 -- what holds after a header that is spelled right and within the limits: of its two counts, and of the later tokens
-pub record AfterHeader (header : Line) (lines : List Line) (P : ℕ → ℕ → List Token → Type 0) : Type 0 where
+pub record AfterHeader (header : Line) (lines : List Line)
+    (P : ℕ → ℕ → List Token → Type 0) : Type 0 where
   pub vars : ℕ
   pub count : ℕ
   pub spelled : IsHeader header.tokens vars count
@@ -48,8 +49,10 @@ ended literals = literals ++ pos 0 ∷ []
 
 -- These tokens have no fault: they spell the clauses of closed, each with its 0, and then the literals of begun, whose
 -- clause has not ended.
-pub record IsRead (vars count : ℕ) (tokens : List Token) (closed : List (List ℤ)) (begun : List ℤ) : Type 0 where
-  pub numbers : map (λ (t : Token). number_of t.text) tokens ≡ map (λ (z : ℤ). Some z) (flat_map ended closed ++ begun)
+pub record IsRead (vars count : ℕ) (tokens : List Token) (closed : List (List ℤ))
+    (begun : List ℤ) : Type 0 where
+  pub numbers : map (λ (t : Token). number_of t.text) tokens
+      ≡ map (λ (z : ℤ). Some z) (flat_map ended closed ++ begun)
   pub closed_within : AllByRecursion (IsWritten vars) closed
   pub begun_within : IsWritten vars begun
   pub closed_count : length closed ≤ count

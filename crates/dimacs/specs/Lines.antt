@@ -33,7 +33,8 @@ pub record Line : Type 0 where
 abbrev pub lines_from : ℕ → List (List ℕ) → List Line
 lines_from n [] = []
 lines_from n (line ∷ lines) =
-    if is_comment line || is_empty (runs line) then lines_from (n + 1) lines else record { number = n; tokens = runs line } ∷ lines_from (n + 1) lines
+    if is_comment line || is_empty (runs line) then lines_from (n + 1) lines
+    else record { number = n; tokens = runs line } ∷ lines_from (n + 1) lines
 
 -- those of a whole file
 abbrev pub lines_of : List ℕ → List Line

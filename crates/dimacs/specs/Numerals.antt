@@ -37,9 +37,11 @@ is_count text = is_zero text || is_numeral text
 -- the number that a minus sign and a numeral spell. None: it isn't spelled so, as `-0` isn't
 abbrev pub negative_of : List ℕ → Option ℤ
 negative_of [] = None
-negative_of (b ∷ digits) = if b == 45 && is_numeral digits then Some (neg_ℤ (pos (value digits))) else None
+negative_of (b ∷ digits) =
+    if b == 45 && is_numeral digits then Some (neg_ℤ (pos (value digits))) else None
 
 -- the number that a token of a clause spells. None: no clause may have this token
 unfoldable pub number_of : List ℕ → Option ℤ
 number_of text =
-    if is_zero text then Some (pos 0) else (if is_numeral text then Some (pos (value text)) else negative_of text)
+    if is_zero text then Some (pos 0)
+    else (if is_numeral text then Some (pos (value text)) else negative_of text)

@@ -20,7 +20,8 @@ lines_at_start n bytes = lines_from n (slice_split ends_line bytes)
 abbrev pub lines_inside : ℕ → List (List ℕ) → List Line
 lines_inside n [] = []
 lines_inside n (line ∷ lines) =
-    if is_empty (runs line) then lines_from (n + 1) lines else record { number = n; tokens = runs line } ∷ lines_from (n + 1) lines
+    if is_empty (runs line) then lines_from (n + 1) lines
+    else record { number = n; tokens = runs line } ∷ lines_from (n + 1) lines
 
 unfoldable pub lines_at : ℕ → List ℕ → List Line
 lines_at n bytes = lines_inside n (slice_split ends_line bytes)
@@ -66,11 +67,13 @@ pub record IsSmallHeader (tokens : List (List ℕ)) (vars count : ℕ) : Type 0 
 
 -- the fault of a line that begins with its first token, whatever comes after it
 abbrev pub IsLineFault : List (List ℕ) → DimacsFault → Type 0
-IsLineFault tokens fault = (n : ℕ) (lines : List Line) → IsHeaderFault fault (record { number = n; tokens = tokens } ∷ lines)
+IsLineFault tokens fault = (n : ℕ) (lines : List Line)
+    → IsHeaderFault fault (record { number = n; tokens = tokens } ∷ lines)
 
 -- What was made of these tokens, which have no fault: the formula's clauses, and the set and the count of the literals of
 -- the clause begun.
-pub record IsBuilt (vars count : ℕ) (tokens : List Token) (f : Cnf) (clause : List ℤ) (written : ℕ) : Type 0 where
+pub record IsBuilt (vars count : ℕ) (tokens : List Token) (f : Cnf) (clause : List ℤ)
+    (written : ℕ) : Type 0 where
   pub closed : List (List ℤ)
   pub begun : List ℤ
   pub read : IsRead vars count tokens closed begun
@@ -103,7 +106,11 @@ IsFirstToken text line old new = old ≡ record { line = line; text = text } ∷
 -- what stands next among the tokens, of a formula of so many variables, and which tokens are left after it
 abbrev pub Finds : ℕ → ℕ → List Token → List Token → Next → Type 0
 Finds vars line old new End = old ≡ []
-Finds vars line old new Bad = (text : List ℕ) × (later : List Token) × IsFirstToken text line old later × (number_of text ≡ None)
-Finds vars line old new Range = (text : List ℕ) × (later : List Token) × IsFirstToken text line old later × (z : ℤ) × (number_of text ≡ Some z) × (vars < nat_abs z)
-Finds vars line old new Zero = (text : List ℕ) × IsFirstToken text line old new × (number_of text ≡ Some (pos 0))
-Finds vars line old new (Literal l) = (text : List ℕ) × IsFirstToken text line old new × (number_of text ≡ Some l) × IsLiteral vars l
+Finds vars line old new Bad = (text : List ℕ) × (later : List Token)
+    × IsFirstToken text line old later × (number_of text ≡ None)
+Finds vars line old new Range = (text : List ℕ) × (later : List Token)
+    × IsFirstToken text line old later × (z : ℤ) × (number_of text ≡ Some z) × (vars < nat_abs z)
+Finds vars line old new Zero =
+    (text : List ℕ) × IsFirstToken text line old new × (number_of text ≡ Some (pos 0))
+Finds vars line old new (Literal l) =
+    (text : List ℕ) × IsFirstToken text line old new × (number_of text ≡ Some l) × IsLiteral vars l

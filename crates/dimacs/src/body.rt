@@ -32,7 +32,8 @@ impl Builder {
         ensures formula { self.new.formula ≡ self.old.formula }
         ensures left { self.new.left ≡ self.old.left }
         ensures ok { OnOk result ((0 < self.old.left) × (self.old.written < max_clause_literals)
-            × AddsLiteral self.old.clause self.new.clause l × (self.new.written ≡ self.old.written + 1)) }
+            × AddsLiteral self.old.clause self.new.clause l
+            × (self.new.written ≡ self.old.written + 1)) }
         ensures err { IfErr result (λ fault. (fault ≡ Memory)
             ⊎ ((fault ≡ TooMany line) × (self.old.left ≡ 0))
             ⊎ ((fault ≡ Limit) × (0 < self.old.left) × (max_clause_literals ≤ self.old.written))) }
@@ -52,9 +53,12 @@ impl Builder {
     fn end_clause(&mut self, line: u64) -> Result<(), DimacsFault>
         requires count { length self.old.formula.clauses + self.old.left ≤ max_clauses }
         requires clause { IsFormulaClause self.old.formula.vars self.old.clause }
-        ensures ok { OnOk result ((0 < self.old.left) × AddsClause self.old.formula self.new.formula self.old.clause
-            × (self.new.clause ≡ []) × (self.new.written ≡ 0) × (self.new.left + 1 ≡ self.old.left)) }
-        ensures err { IfErr result (λ fault. (fault ≡ Memory) ⊎ ((fault ≡ TooMany line) × (self.old.left ≡ 0))) }
+        ensures ok { OnOk result ((0 < self.old.left)
+            × AddsClause self.old.formula self.new.formula self.old.clause
+            × (self.new.clause ≡ []) × (self.new.written ≡ 0)
+            × (self.new.left + 1 ≡ self.old.left)) }
+        ensures err { IfErr result (λ fault. (fault ≡ Memory)
+            ⊎ ((fault ≡ TooMany line) × (self.old.left ≡ 0))) }
     {
         if self.left == 0 {
             return Err(DimacsFault::TooMany(line));
@@ -68,7 +72,8 @@ impl Builder {
 
     /// The formula, once the file ends.
     fn finish(self) -> Result<Formula, DimacsFault>
-        ensures ok { IfOk result (λ formula. (formula ≡ self.formula) × (self.written ≡ 0) × (self.left ≡ 0)) }
+        ensures ok { IfOk result (λ formula. (formula ≡ self.formula) × (self.written ≡ 0)
+            × (self.left ≡ 0)) }
         ensures err { IfErr result (λ fault. ((fault ≡ ends_open) × (0 < self.written))
             ⊎ ((fault ≡ TooFew) × (self.written ≡ 0) × (0 < self.left))) }
     {
@@ -92,9 +97,11 @@ pub fn read_clauses(
     requires vars { header.vars ≤ max_variable }
     requires clauses { header.clauses ≤ max_clauses }
     ensures ok { IfOk result (λ f.
-        AreClauses f header.vars header.clauses (tokens_at after_header.entry.line after_header.entry.rest.now)) }
+        AreClauses f header.vars header.clauses
+        (tokens_at after_header.entry.line after_header.entry.rest.now)) }
     ensures err { IfErr result (λ fault. fault ≢ Memory →
-        IsBodyFault fault header.vars header.clauses (tokens_at after_header.entry.line after_header.entry.rest.now)) }
+        IsBodyFault fault header.vars header.clauses
+        (tokens_at after_header.entry.line after_header.entry.rest.now)) }
 {
     let mut tokens = after_header;
     let mut builder = Builder {

@@ -7,15 +7,18 @@ ghost use Rattle.dimacs.specs.FormulaFault.{IsFaultOf};
 
 /// No text of a formula has a fault.
 pub fn formula_or_fault()
-    ensures { (bytes : List ℕ) (f : Cnf) (fault : DimacsFault) → IsTextOf bytes f → ¬ IsFaultOf bytes fault }
+    ensures { (bytes : List ℕ) (f : Cnf) (fault : DimacsFault) → IsTextOf bytes f
+        → ¬ IsFaultOf bytes fault }
 {}
 
 /// No file has two faults.
 pub fn one_fault()
-    ensures { (bytes : List ℕ) (one other : DimacsFault) → IsFaultOf bytes one → IsFaultOf bytes other → one ≡ other }
+    ensures { (bytes : List ℕ) (one other : DimacsFault) → IsFaultOf bytes one
+        → IsFaultOf bytes other → one ≡ other }
 {}
 
 /// No text is that of two formulas: the order of the literals is fixed too.
 pub fn one_formula()
-    ensures { (bytes : List ℕ) (one other : Cnf) → IsTextOf bytes one → IsTextOf bytes other → one ≡ other }
+    ensures { (bytes : List ℕ) (one other : Cnf) → IsTextOf bytes one → IsTextOf bytes other
+        → one ≡ other }
 {}

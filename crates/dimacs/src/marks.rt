@@ -51,7 +51,8 @@ pub fn has_mark(words: &[u64], l: Lit) -> bool
 /// Marks one literal more.
 pub fn set_mark(words: &mut [u64], l: Lit)
     requires { all_words ≤ length words.old }
-    ensures { (m : ℤ) → IsMarked words.new (code_of m) ↔ (IsMarked words.old (code_of m) ⊎ (m ≡ l)) }
+    ensures { (m : ℤ) → IsMarked words.new (code_of m)
+        ↔ (IsMarked words.old (code_of m) ⊎ (m ≡ l)) }
 {
     mark(words, place(l));
 }
@@ -70,7 +71,8 @@ fn mark_all(words: &mut [u64], literals: &[Lit])
 /// Marks the literals, where none has a mark yet.
 pub fn set_marks(words: &mut Vec<u64>, literals: &[Lit]) -> Result<(), AllocError>
     requires { MarksAre words.old.items [] }
-    ensures ok { OnOk result (MarksAre words.new.items literals.now × (all_words ≤ length words.new.items)) }
+    ensures ok { OnOk result (MarksAre words.new.items literals.now
+        × (all_words ≤ length words.new.items)) }
     ensures err { OnErr result (MarksAre words.new.items []) }
 {
     words.resize(WORDS, 0)?;

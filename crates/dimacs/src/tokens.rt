@@ -85,7 +85,8 @@ fn skip_digits(text: &[u8]) -> Option<&[u8]>
 /// Reads a number that begins with a digit from 1 to 9, up to the end of its token, and gives what is left. A number above
 /// `MAX_VARIABLE` is given as any number above it. None where the token has any other spelling.
 pub(crate) fn numeral(text: &[u8]) -> Option<(u32, &[u8])>
-    ensures { MatchOption result (is_numeral (run text.now) ≡ false) (λ r. ReadsNumeral text.now r.0 r.1.now) }
+    ensures { MatchOption result (is_numeral (run text.now) ≡ false)
+        (λ r. ReadsNumeral text.now r.0 r.1.now) }
 {
     let Some((&first, mut rest)) = text.split_first() else {
         return None;
@@ -157,7 +158,8 @@ impl<'a> Tokens<'a> {
         ensures { MatchOption result
             (lines_at self.old.line self.old.rest.now ≡ [])
             (λ line. lines_at self.old.line self.old.rest.now
-            ≡ record { number = self.new.line; tokens = runs line.now } ∷ lines_at self.new.line self.new.rest.now) }
+            ≡ record { number = self.new.line; tokens = runs line.now }
+            ∷ lines_at self.new.line self.new.rest.now) }
     {
         self.skip();
         if self.rest.is_empty() {
@@ -173,7 +175,8 @@ impl<'a> Tokens<'a> {
     pub fn next(&mut self, vars: u32) -> Next
         requires { vars ≤ max_variable }
         ensures { Finds vars self.new.line
-            (tokens_at self.old.line self.old.rest.now) (tokens_at self.new.line self.new.rest.now) result }
+            (tokens_at self.old.line self.old.rest.now) (tokens_at self.new.line self.new.rest.now)
+            result }
     {
         self.skip();
         let Some((&first, after)) = self.rest.split_first() else {
@@ -200,7 +203,8 @@ impl<'a> Tokens<'a> {
 
     /// Goes past the comments that begin here, at the start of a line.
     fn skip_comments(&mut self)
-        ensures same { lines_at self.new.line self.new.rest.now ≡ lines_at_start self.old.line self.old.rest.now }
+        ensures same { lines_at self.new.line self.new.rest.now
+            ≡ lines_at_start self.old.line self.old.rest.now }
         ensures shorter { length self.new.rest.now ≤ length self.old.rest.now }
     {
         while let Some((&first, after)) = self.rest.split_first() {
@@ -219,7 +223,8 @@ impl<'a> Tokens<'a> {
 
     /// Goes to the next token, or to the end.
     fn skip(&mut self)
-        ensures same { lines_at self.new.line self.new.rest.now ≡ lines_at self.old.line self.old.rest.now }
+        ensures same { lines_at self.new.line self.new.rest.now
+            ≡ lines_at self.old.line self.old.rest.now }
         ensures place { IsAtToken self.new.rest.now }
         ensures shorter { length self.new.rest.now ≤ length self.old.rest.now }
     {

@@ -1,5 +1,5 @@
 -- One stream alone.
-use Rattle.std.proofs.Common.{◌≡◌, ℕ, Bool, true, false, eqb, List, [], ◌∷◌, ◌++◌, refl, sym, ap, subst, ◌∙◌, eq-eqb, inl, inr}
+use Rattle.std.proofs.Common.{◌≡◌, ℕ, Bool, true, false, eqb, List, [], ◌∷◌, refl, sym, ap, subst, ◌∙◌, eq-eqb, inl, inr}
 use Rattle.std.specs.Prelude.{IsTrue}
 use Rattle.std.specs.List.{AllByRecursion}
 use Rattle.std.proofs.lemmas.Bool.Decides.{eqb_tells}
@@ -9,6 +9,7 @@ use Rattle.lrup_model.specs.Event.{History, stream_of, own}
 use Rattle.lrup_text.specs.Laws.{EveryCut, BeginningCut}
 use Rattle.lrup_text.specs.Lines.{StreamLine}
 use Rattle.lrup_model.specs.Layout.{LayoutValue}
+use Rattle.lrup_model.specs.ListLemmas.{All-front}
 use Rattle.stream_check.specs.declared.report.Report.{Report}
 use Rattle.stream_check.specs.Setting.{Setting}
 use Rattle.stream_check.specs.Judging.{StreamEnd, ended, failed, JudgesBlocks, Judges}
@@ -63,10 +64,6 @@ alone_has_one_report stays decides f terms s whole end streams others reports ot
 
 -- Beginnings of bytes
 
-all-front : {X : Type 0} (P : X → Type 0) (xs ys : List X) → AllByRecursion P (xs ++ ys) → AllByRecursion P xs
-all-front P [] ys all = tt
-all-front P (x ∷ xs) ys all = (all.0, all-front P xs ys all.1)
-
 pub beginnings_within : EveryCut → BeginningCut → BeginningsWithin
 beginnings_within every alike p set bytes more cites =
     let front = every bytes in
@@ -75,6 +72,6 @@ beginnings_within every alike p set bytes more cites =
       lines = front.0;
       rest = front.1;
       cut = front.2;
-      within = all-front (λ line. AllByRecursion (IsWithin p set) (cited_by line)) front.0 others.0
+      within = All-front (λ line. AllByRecursion (IsWithin p set) (cited_by line)) front.0 others.0
           (subst (AllByRecursion (λ line. AllByRecursion (IsWithin p set) (cited_by line))) others.1 cites.within);
     }

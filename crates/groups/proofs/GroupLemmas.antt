@@ -2,7 +2,7 @@
 use Rattle.std.proofs.Common.{◌≡◌, ℕ, ◌+◌, ◌<◌, ◌≤◌, Bool, true, false, ◌&&◌, nat_lt, nat_le, List, [], ◌∷◌, length, refl, sym, subst, ◌∙◌, inl, inr, arith, lt-ltb, le-leb, ltb-true, leb-true}
 use Rattle.std.specs.Prelude.{IsTrue}
 use Rattle.std.specs.List.{AllByRecursion}
-use Rattle.std.proofs.lemmas.Bool.{cases_Bool, cases_eq, and_from, true≢false}
+use Rattle.std.proofs.lemmas.Bool.{cases_Bool, cases_eq, and_from, true≢false, and_parts}
 use Rattle.lrup_model.specs.declared.layout.Owner.{Owner}
 use Rattle.lrup_model.specs.declared.layout.Owner.TheVariants as owners
 use Rattle.lrup_model.specs.Layout.{LayoutValue, IsStream, Owns, owner}
@@ -12,6 +12,7 @@ use Rattle.lrup_model.specs.Event.{Event, History, stream_of, own}
 use Rattle.lrup_model.specs.Laws.{among, FindsWithin}
 use Rattle.lrup_model.specs.HistoryLemmas.{own-mine, own-other}
 use Rattle.lrup_model.specs.RestrictionLemmas.{among-members, own-among, restriction_legal}
+use Rattle.lrup_model.specs.ListLemmas.{All-map}
 use Rattle.lrup_text.specs.Lines.{StreamLine}
 use Rattle.stream_check.specs.declared.report.Report.{Report}
 use Rattle.stream_check.specs.Setting.{Setting}
@@ -21,7 +22,7 @@ use Rattle.runs.specs.Streams.{Stop, at_end, at_failure, early, Stream, JudgesTo
 use Rattle.runs.specs.Headline.{IsJudgedBy, AreJudgedIn}
 use Rattle.runs.specs.Closed.{IsWithin, CiteWithin, IsClosed}
 use Rattle.groups.specs.Laws.{ClosedIsGroup}
-use Rattle.groups.proofs.Places.{has_place, all-map, judged_count, judged_at}
+use Rattle.groups.proofs.Places.{has_place, judged_count, judged_at}
 
 -- The set's streams that are streams of the layout
 
@@ -34,15 +35,11 @@ is_inside p set s member is =
     and_from (set s) (nat_lt 0 s && nat_le s p.streams) member
     (and_from (nat_lt 0 s) (nat_le s p.streams) (lt-ltb 0 s is.0) (le-leb s p.streams is.1))
 
-both : (x y : Bool) → (x && y) ≡ true → (x ≡ true) × (y ≡ true)
-both true y e = (refl, e)
-both false y e = absurd (cc)
-
 pub inside_is : (p : LayoutValue) (set : ℕ → Bool) (s : ℕ) → IsTrue (inside p set s) → IsTrue (set s) × IsStream p s
 unfolding inside
 inside_is p set s member =
-    let parts = both (set s) (nat_lt 0 s && nat_le s p.streams) member in
-    let bounds = both (nat_lt 0 s) (nat_le s p.streams) parts.1 in
+    let parts = and_parts (set s) (nat_lt 0 s && nat_le s p.streams) member in
+    let bounds = and_parts (nat_lt 0 s) (nat_le s p.streams) parts.1 in
     (parts.0, (ltb-true 0 s bounds.0, leb-true s p.streams bounds.1))
 
 -- What is fetched
@@ -85,8 +82,8 @@ cites_pass : (p : LayoutValue) (set : ℕ → Bool) (lines : List StreamLine) �
     → AllByRecursion (λ line. AllByRecursion (IsWithin p set) (cited_by line)) lines → CitePass (is_within p (inside p set)) lines
 unfolding CitePass
 cites_pass p set lines some within =
-    all-map (λ line. AllByRecursion (IsWithin p set) (cited_by line)) (λ line. AllByRecursion (λ id. IsTrue (is_within p (inside p set) id)) (cited_by line))
-    (λ line all. all-map (IsWithin p set) (λ id. IsTrue (is_within p (inside p set) id)) (λ id w. passes p set id some w) (cited_by line) all)
+    All-map (λ line. AllByRecursion (IsWithin p set) (cited_by line)) (λ line. AllByRecursion (λ id. IsTrue (is_within p (inside p set) id)) (cited_by line))
+    (λ line all. All-map (IsWithin p set) (λ id. IsTrue (is_within p (inside p set) id)) (λ id w. passes p set id some w) (cited_by line) all)
     lines within
 
 -- what a stream that cites within the set fetches is within it
@@ -158,7 +155,7 @@ closed_is_group law f terms set h streams reports fits count legal judged closed
     let p = terms.layout in
     record {
       history = among (inside p set) h;
-      members = all-map (λ e. IsTrue (inside p set (stream_of e))) (λ e. IsTrue (set (stream_of e))) (λ e member. (inside_is p set (stream_of e) member).0)
+      members = All-map (λ e. IsTrue (inside p set (stream_of e))) (λ e. IsTrue (set (stream_of e))) (λ e member. (inside_is p set (stream_of e) member).0)
           (among (inside p set) h) (among-members (inside p set) h);
       legal = restriction_legal f p (inside p set) h fits legal (closed_finds law terms set h streams reports count judged closed);
       judged = judged_among terms set h 1 streams reports (omega arith) (omega (arith, count)) judged;

@@ -1,5 +1,5 @@
 -- An order of lines as a history, and the lines of a closed set of streams.
-use Rattle.std.proofs.Common.{◌≡◌, ℕ, ◌+◌, Bool, true, false, eqb, List, [], ◌∷◌, ◌++◌, length, refl, sym, ap, subst, ◌∙◌, inl, inr, eq-eqb, ne_eqb}
+use Rattle.std.proofs.Common.{◌≡◌, ℕ, ◌+◌, Bool, true, false, List, [], ◌∷◌, ◌++◌, length, refl, sym, ap, subst, ◌∙◌, inl, inr}
 use Rattle.std.specs.Prelude.{IsTrue}
 use Rattle.std.specs.List.{AllByRecursion, filter}
 use Rattle.std.proofs.lemmas.Bool.{cases_Bool, cases_eq, cond-true, cond-false, true≢false}
@@ -7,7 +7,7 @@ use Rattle.std.proofs.lemmas.List.Elements.{filter-append}
 use Rattle.lrup_model.specs.Layout.{LayoutValue, IsStream}
 use Rattle.lrup_model.specs.Event.{Event, History, stream_of, own}
 use Rattle.lrup_model.specs.History.{IsLegal}
-use Rattle.lrup_model.specs.HistoryLemmas.{own-mine, own-none}
+use Rattle.lrup_model.specs.HistoryLemmas.{own-none, own-all}
 use Rattle.lrup_model.specs.CallerLemmas.{calls_differ}
 use Rattle.lrup_model.specs.Running.{own-append}
 use Rattle.lrup_model.specs.Laws.{among}
@@ -17,19 +17,10 @@ use Rattle.stream_check.specs.Judging.{joined}
 use Rattle.stream_check.specs.Laws.{CitedFetched}
 use Rattle.runs.specs.Streams.{Stream, JudgesStream, Terms, setting_of, Block, blocks_of, events_in, IsBlockWithin, AreJudged}
 use Rattle.runs.specs.Headline.{AreJudgedIn}
+use Rattle.runs.specs.StreamLemmas.{blocks-same, blocks-other}
 use Rattle.groups.specs.Laws.{ClosedIsGroup, OrderedIsGroup, OrderedRestricts}
 use Rattle.groups.proofs.Places.{judged_fewer}
 use Rattle.groups.proofs.GroupLemmas.{inside, is_inside, inside_is, closed_finds}
-
-blocks-mine : (b : Block) (bs : List Block) (s : ℕ) → b.stream ≡ s → blocks_of s (b ∷ bs) ≡ b.events ∷ blocks_of s bs
-blocks-mine b bs s mine = cond-true (eqb b.stream s) (b.events ∷ blocks_of s bs) (blocks_of s bs) (eq-eqb b.stream s mine)
-
-blocks-other : (b : Block) (bs : List Block) (s : ℕ) → (b.stream ≡ s → ⊥) → blocks_of s (b ∷ bs) ≡ blocks_of s bs
-blocks-other b bs s other = cond-false (eqb b.stream s) (b.events ∷ blocks_of s bs) (blocks_of s bs) (ne_eqb b.stream s other)
-
-own-all : (s : ℕ) (h : History) → AllByRecursion (λ e. stream_of e ≡ s) h → own h s ≡ h
-own-all s [] all = refl
-own-all s (e ∷ h) all = own-mine e h s all.0 ∙ ap (λ (k : History). e ∷ k) (own-all s h all.1)
 
 -- a stream's own events are those of its blocks
 own-blocks : (p : LayoutValue) (set : ℕ → Bool) (s : ℕ) (bs : List Block) → AllByRecursion (IsBlockWithin p set) bs → own (events_in bs) s ≡ joined (blocks_of s bs)
@@ -38,7 +29,7 @@ own-blocks p set s (b ∷ bs) all =
     elim (cases_eq b.stream s) [
       | inl mine ↦ own-append b.events (events_in bs) s
           ∙ ap (λ (k : History). k ++ own (events_in bs) s) (own-all s b.events (subst (λ (t : ℕ). AllByRecursion (λ e. stream_of e ≡ t) b.events) mine all.0.2))
-          ∙ ap (λ (k : History). b.events ++ k) (own-blocks p set s bs all.1) ∙ sym (ap joined (blocks-mine b bs s mine))
+          ∙ ap (λ (k : History). b.events ++ k) (own-blocks p set s bs all.1) ∙ sym (ap joined (blocks-same b bs s mine))
       | inr other ↦ own-append b.events (events_in bs) s
           ∙ ap (λ (k : History). k ++ own (events_in bs) s) (own-none b.events s (calls_differ s b.stream b.events other all.0.2))
           ∙ own-blocks p set s bs all.1 ∙ sym (ap joined (blocks-other b bs s other))
@@ -104,7 +95,7 @@ blocks-kept set s [] member = refl
 blocks-kept set s (b ∷ bs) member =
     elim (cases_Bool (set b.stream)) [
       | inl is ↦ ap (blocks_of s) (kept set b bs is) ∙ elim (cases_eq b.stream s) [
-        | inl mine ↦ blocks-mine b (blocks_within set bs) s mine ∙ ap (λ (x : List History). b.events ∷ x) (blocks-kept set s bs member) ∙ sym (blocks-mine b bs s mine)
+        | inl mine ↦ blocks-same b (blocks_within set bs) s mine ∙ ap (λ (x : List History). b.events ∷ x) (blocks-kept set s bs member) ∙ sym (blocks-same b bs s mine)
         | inr not_mine ↦ blocks-other b (blocks_within set bs) s not_mine ∙ blocks-kept set s bs member ∙ sym (blocks-other b bs s not_mine)
       ]
       | inr other ↦ ap (blocks_of s) (left_out set b bs other) ∙ blocks-kept set s bs member

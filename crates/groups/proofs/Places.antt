@@ -1,7 +1,6 @@
 -- The stream at a place, counted on from the first.
-use Rattle.std.proofs.Common.{◌≡◌, ℕ, zero, suc, ◌+◌, ◌-◌, ◌<◌, ◌≤◌, Bool, true, List, [], ◌∷◌, length, Some, refl, sym, ◌∙◌, ap, subst, inl, inr, arith}
+use Rattle.std.proofs.Common.{◌≡◌, ℕ, zero, suc, ◌+◌, ◌-◌, ◌<◌, ◌≤◌, Bool, true, List, [], ◌∷◌, length, Some, refl, sym, ap, subst, inl, inr, arith}
 use Rattle.std.specs.Prelude.{IsTrue, slice_get}
-use Rattle.std.specs.List.{AllByRecursion}
 use Rattle.std.proofs.lemmas.Option.{slice_get_cases}
 use Rattle.lrup_model.specs.Event.{History, own}
 use Rattle.stream_check.specs.declared.report.Report.{Report}
@@ -9,20 +8,12 @@ use Rattle.runs.specs.Streams.{Stream, Terms, setting_of}
 use Rattle.runs.specs.Headline.{IsJudgedBy, AreJudgedIn}
 use Rattle.runs.specs.Closed.{IsAt}
 
-pub same_at : {X : Type 0} (xs : List X) (s : ℕ) (x y : X) → IsAt xs s x → IsAt xs s y → x ≡ y
-same_at xs s x y a b = let e : Some x ≡ Some y = sym a.1 ∙ b.1 in cc
-
 pub has_place : {X : Type 0} (xs : List X) (s : ℕ) → 0 < s → s ≤ length xs → (x : X) × IsAt xs s x
 has_place xs s first last =
     elim (slice_get_cases xs (s - 1)).1 [
       | inl has ↦ (has.0, (first, has.2))
       | inr past ↦ absurd (omega (arith, past.0, first, last))
     ]
-
--- what holds of each element as one property holds as another that it gives
-pub all-map : {X : Type 0} (P Q : X → Type 0) → ((x : X) → P x → Q x) → (xs : List X) → AllByRecursion P xs → AllByRecursion Q xs
-all-map P Q gives [] all = tt
-all-map P Q gives (x ∷ xs) all = (gives x all.0, all-map P Q gives xs all.1)
 
 -- Judged streams
 

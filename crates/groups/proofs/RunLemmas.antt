@@ -1,5 +1,5 @@
 -- What readers told, and two runs of one stream.
-use Rattle.std.proofs.Common.{◌≡◌, ℕ, zero, suc, ◌+◌, ◌-◌, Bool, true, false, Option, List, [], ◌∷◌, ◌++◌, length, Some, None, refl, sym, ap, subst, ◌∙◌, append_assoc, append-nil, arith}
+use Rattle.std.proofs.Common.{◌≡◌, ℕ, zero, suc, ◌+◌, ◌-◌, Bool, true, false, Option, List, [], ◌∷◌, ◌++◌, Some, None, refl, sym, ap, subst, ◌∙◌, append_assoc, append-nil, arith}
 use Rattle.std.specs.Prelude.{IsTrue, slice_get}
 use Rattle.std.specs.Io.KnownBytes.{Consumes}
 use Rattle.std.proofs.lemmas.List.{append_cancel_right}
@@ -15,18 +15,14 @@ use Rattle.stream_check.specs.Laws.{AloneDecides, DecidedBeforeFailure, IsOfMemo
 use Rattle.runs.specs.Streams.{Stop, at_end, at_failure, early, Stream, StopsSo, IsTold, AreTold, JudgesTo, Terms, setting_of}
 use Rattle.runs.specs.Headline.{AreJudgedIn}
 use Rattle.runs.specs.Closed.{IsAt, CiteWithin, IsClosed}
+use Rattle.runs.specs.StreamLemmas.{told_count, same_at}
 use Rattle.groups.specs.Groups.{one, NoneOutOfMemory, IsAlone, IsRun, IsReadingTo, IsReadingOf}
 use Rattle.groups.specs.Laws.{BeginningsWithin, ReadersClosed, ClosedIsGroup, OrderedIsGroup, AloneHasOneReport, RunIsolated, SerialIsolated, ThreadsRun, SerialRun, ToldIsReading, FailedIsReading, SameReadingAgrees, SameBytesAgree}
-use Rattle.groups.proofs.Places.{same_at, has_place, judged_count, judged_at, judged_fewer}
+use Rattle.groups.proofs.Places.{has_place, judged_count, judged_at, judged_fewer}
 use Rattle.groups.proofs.OrderLemmas.{ordered_judged}
 use Rattle.groups.proofs.AloneLemmas.{me, only, own-one}
 
 -- What a reader told
-
-told_count : (entries lefts : List (Option (List ℕ))) (faileds : List Bool) (streams : List Stream) → AreTold entries lefts faileds streams → length streams ≡ length entries
-told_count [] [] [] [] told = refl
-told_count (e ∷ es) (l ∷ ls) (x ∷ xs) (t ∷ ts) told = ap suc (told_count es ls xs ts told.1)
-told_count _ _ _ _ told = absurd told
 
 -- what the reader at this place in the lists told
 record WasTold (entries lefts : List (Option (List ℕ))) (faileds : List Bool) (k : ℕ) (stream : Stream) : Type 0 where

@@ -22,18 +22,21 @@ one s = λ t. t == s
 
 -- each reader of the set's streams has known bytes left at first, and all of them cite within the set
 abbrev pub AreClosedReaders : LayoutValue → (ℕ → Bool) → List (Option (List ℕ)) → Type 0
-AreClosedReaders p set entries = (s : ℕ) (entry : Option (List ℕ)) → IsTrue (set s) → IsAt entries s entry
+AreClosedReaders p set entries =
+    (s : ℕ) (entry : Option (List ℕ)) → IsTrue (set s) → IsAt entries s entry
     → (bytes : List ℕ) × (entry ≡ Some bytes) × CiteWithin p set bytes
 
 -- Groups
 
 -- no report of the set tells that memory ran out
 abbrev pub NoneOutOfMemory : (ℕ → Bool) → List Report → Type 0
-NoneOutOfMemory set reports = (s : ℕ) (report : Report) → IsTrue (set s) → IsAt reports s report → ¬ IsOfMemory report
+NoneOutOfMemory set reports =
+    (s : ℕ) (report : Report) → IsTrue (set s) → IsAt reports s report → ¬ IsOfMemory report
 
 -- The reports of a set of streams are those of the set alone: a legal history, with events of its streams and of no others,
 -- judges each of them so, and none tells that memory ran out.
-pub record IsGroup (f : Cnf) (terms : Terms) (set : ℕ → Bool) (streams : List Stream) (reports : List Report) : Type 0 where
+pub record IsGroup (f : Cnf) (terms : Terms) (set : ℕ → Bool) (streams : List Stream)
+    (reports : List Report) : Type 0 where
   pub history : History
   pub members : AllByRecursion (λ e. IsTrue (set (stream_of e))) history
   pub legal : IsLegal f terms.layout history
@@ -46,9 +49,12 @@ IsAlone f terms s streams reports = IsGroup f terms (one s) streams reports
 
 -- The reports are isolated: for every list of streams that the readers told and by which they are judged, and for every
 -- closed set of these streams none of whose reports tells that memory ran out, the set's reports are such as it may have alone.
-abbrev pub AreIsolated : Cnf → Terms → List (Option (List ℕ)) → List (Option (List ℕ)) → List Bool → (List Stream → Type 0) → List Report → Type 0
-AreIsolated f terms entries lefts faileds Judged reports = (streams : List Stream) → AreTold entries lefts faileds streams → Judged streams
-    → (set : ℕ → Bool) → IsClosed terms.layout set streams → NoneOutOfMemory set reports → IsGroup f terms set streams reports
+abbrev pub AreIsolated : Cnf → Terms → List (Option (List ℕ)) → List (Option (List ℕ)) → List Bool
+    → (List Stream → Type 0) → List Report → Type 0
+AreIsolated f terms entries lefts faileds Judged reports =
+    (streams : List Stream) → AreTold entries lefts faileds streams → Judged streams
+    → (set : ℕ → Bool) → IsClosed terms.layout set streams → NoneOutOfMemory set reports
+    → IsGroup f terms set streams reports
 
 -- A run in which the other streams are empty
 
@@ -58,7 +64,13 @@ empty_stream = record { bytes = []; stop = at_end }
 
 -- what is said of them
 abbrev pub empty_report : Report
-empty_report = record { added = 0; deleted = 0; empty = false; within = false; ending = endings.Ended }
+empty_report = record {
+  added = 0;
+  deleted = 0;
+  empty = false;
+  within = false;
+  ending = endings.Ended;
+}
 
 -- the list, of the streams counted on from s, with this one in place of each that is of a stream outside the set
 abbrev pub with_others : {X : Type 0} → (ℕ → Bool) → X → ℕ → List X → List X
@@ -69,7 +81,8 @@ with_others set x s (y ∷ ys) = (if set s then y else x) ∷ with_others set x 
 
 -- What a run promises of its reports, with threads or on one: the readers told streams, as many as the layout has, and one
 -- legal history judges each by its own events, as its report says.
-pub record IsRun (f : Cnf) (terms : Terms) (entries lefts : List (Option (List ℕ))) (faileds : List Bool) (reports : List Report) : Type 0 where
+pub record IsRun (f : Cnf) (terms : Terms) (entries lefts : List (Option (List ℕ)))
+    (faileds : List Bool) (reports : List Report) : Type 0 where
   pub streams : List Stream
   pub told : AreTold entries lefts faileds streams
   pub count : length streams ≡ terms.layout.streams

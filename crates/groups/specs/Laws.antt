@@ -17,110 +17,141 @@ use Rattle.groups.specs.Groups.{one, AreClosedReaders, NoneOutOfMemory, IsGroup,
 
 -- where the lines of some bytes cite within a set, those of a beginning of them do
 abbrev pub BeginningsWithin : Type 0
-BeginningsWithin = (p : LayoutValue) (set : ℕ → Bool) (bytes more : List ℕ) → CiteWithin p set (bytes ++ more) → CiteWithin p set bytes
+BeginningsWithin = (p : LayoutValue) (set : ℕ → Bool) (bytes more : List ℕ)
+    → CiteWithin p set (bytes ++ more) → CiteWithin p set bytes
 
 -- so a set is closed where all bytes that its readers have left at first cite within it
 abbrev pub ReadersClosed : Type 0
-ReadersClosed = (p : LayoutValue) (set : ℕ → Bool) (entries lefts : List (Option (List ℕ))) (faileds : List Bool) (streams : List Stream)
-    → AreTold entries lefts faileds streams → AreClosedReaders p set entries → IsClosed p set streams
+ReadersClosed = (p : LayoutValue) (set : ℕ → Bool) (entries lefts : List (Option (List ℕ)))
+    (faileds : List Bool) (streams : List Stream)
+    → AreTold entries lefts faileds streams → AreClosedReaders p set entries
+    → IsClosed p set streams
 
 -- Groups
 
 -- a closed set of streams that one legal history judges is a group
 abbrev pub ClosedIsGroup : Type 0
-ClosedIsGroup = (f : Cnf) (terms : Terms) (set : ℕ → Bool) (h : History) (streams : List Stream) (reports : List Report)
+ClosedIsGroup = (f : Cnf) (terms : Terms) (set : ℕ → Bool) (h : History) (streams : List Stream)
+    (reports : List Report)
     → Fits terms.layout f → length streams ≡ terms.layout.streams
     → IsLegal f terms.layout h → AreJudgedIn terms set h 1 streams reports
-    → IsClosed terms.layout set streams → NoneOutOfMemory set reports → IsGroup f terms set streams reports
+    → IsClosed terms.layout set streams → NoneOutOfMemory set reports
+    → IsGroup f terms set streams reports
 
 -- so is a closed set of streams whose lines have an order, with others or not
 abbrev pub OrderedIsGroup : Type 0
-OrderedIsGroup = (f : Cnf) (terms : Terms) (all set : ℕ → Bool) (streams : List Stream) (reports : List Report)
+OrderedIsGroup = (f : Cnf) (terms : Terms) (all set : ℕ → Bool) (streams : List Stream)
+    (reports : List Report)
     → Fits terms.layout f → length streams ≡ terms.layout.streams
     → ((s : ℕ) → IsTrue (set s) → IsTrue (all s)) → IsOrdered f terms all streams reports
-    → IsClosed terms.layout set streams → NoneOutOfMemory set reports → IsGroup f terms set streams reports
+    → IsClosed terms.layout set streams → NoneOutOfMemory set reports
+    → IsGroup f terms set streams reports
 
 -- and the lines of the set have an order by themselves
 abbrev pub OrderedRestricts : Type 0
-OrderedRestricts = (f : Cnf) (terms : Terms) (all set : ℕ → Bool) (streams : List Stream) (reports : List Report)
+OrderedRestricts = (f : Cnf) (terms : Terms) (all set : ℕ → Bool) (streams : List Stream)
+    (reports : List Report)
     → Fits terms.layout f → length streams ≡ terms.layout.streams
     → ((s : ℕ) → IsTrue (set s) → IsTrue (all s)) → IsOrdered f terms all streams reports
     → IsClosed terms.layout set streams → IsOrdered f terms set streams reports
 
 -- A group is judged as in a run in which all other streams are empty.
 abbrev pub OthersEmpty : Type 0
-OthersEmpty = (f : Cnf) (terms : Terms) (set : ℕ → Bool) (streams : List Stream) (reports : List Report)
+OthersEmpty = (f : Cnf) (terms : Terms) (set : ℕ → Bool) (streams : List Stream)
+    (reports : List Report)
     → IsGroup f terms set streams reports
     → (h : History) × IsLegal f terms.layout h
-    × AreJudgedIn terms (λ s. true) h 1 (with_others set empty_stream 1 streams) (with_others set empty_report 1 reports)
+    × AreJudgedIn terms (λ s. true) h 1 (with_others set empty_stream 1 streams)
+    (with_others set empty_report 1 reports)
 
 -- at most one report fits a stream that is alone, however much of it was read
 abbrev pub AloneHasOneReport : Type 0
 AloneHasOneReport = (f : Cnf) (terms : Terms) (s : ℕ) (whole : List ℕ) (end : StreamEnd)
-    (streams others : List Stream) (reports other_reports : List Report) (stream other : Stream) (report other_report : Report)
+    (streams others : List Stream) (reports other_reports : List Report) (stream other : Stream)
+    (report other_report : Report)
     → IsAlone f terms s streams reports → IsAlone f terms s others other_reports
-    → IsAt streams s stream → IsAt others s other → IsReadingOf whole end stream → IsReadingOf whole end other
+    → IsAt streams s stream → IsAt others s other → IsReadingOf whole end stream
+    → IsReadingOf whole end other
     → IsAt reports s report → IsAt other_reports s other_report → report ≡ other_report
 
 -- Runs
 
 -- the reports of a run with threads are isolated
 abbrev pub RunIsolated : Type 0
-RunIsolated = (f : Cnf) (terms : Terms) (h : History) (passes : List View) (entries lefts : List (Option (List ℕ))) (faileds : List Bool) (reports : List Report)
-    → Fits terms.layout f → length entries ≡ terms.layout.streams → HaveOneHistory f terms.layout h passes
-    → AreIsolated f terms entries lefts faileds (λ streams. AreJudgedIn terms (λ s. true) h 1 streams reports) reports
+RunIsolated = (f : Cnf) (terms : Terms) (h : History) (passes : List View)
+    (entries lefts : List (Option (List ℕ))) (faileds : List Bool) (reports : List Report)
+    → Fits terms.layout f → length entries ≡ terms.layout.streams
+    → HaveOneHistory f terms.layout h passes
+    → AreIsolated f terms entries lefts faileds
+    (λ streams. AreJudgedIn terms (λ s. true) h 1 streams reports) reports
 
 -- and so are those of a run on one thread
 abbrev pub SerialIsolated : Type 0
-SerialIsolated = (f : Cnf) (terms : Terms) (entries lefts : List (Option (List ℕ))) (faileds : List Bool) (reports : List Report)
+SerialIsolated = (f : Cnf) (terms : Terms) (entries lefts : List (Option (List ℕ)))
+    (faileds : List Bool) (reports : List Report)
     → Fits terms.layout f → length entries ≡ terms.layout.streams
-    → AreIsolated f terms entries lefts faileds (λ streams. IsOrdered f terms (λ s. true) streams reports) reports
+    → AreIsolated f terms entries lefts faileds
+    (λ streams. IsOrdered f terms (λ s. true) streams reports) reports
 
 -- a run with threads, and one on one thread, is a run
 abbrev pub ThreadsRun : Type 0
-ThreadsRun = (f : Cnf) (terms : Terms) (h : History) (passes : List View) (entries lefts : List (Option (List ℕ))) (faileds : List Bool) (reports : List Report)
+ThreadsRun = (f : Cnf) (terms : Terms) (h : History) (passes : List View)
+    (entries lefts : List (Option (List ℕ))) (faileds : List Bool) (reports : List Report)
     → length entries ≡ terms.layout.streams → HaveOneHistory f terms.layout h passes
-    → StandsOnStreams entries lefts faileds (λ streams. AreJudgedIn terms (λ s. true) h 1 streams reports)
+    → StandsOnStreams entries lefts faileds
+    (λ streams. AreJudgedIn terms (λ s. true) h 1 streams reports)
     → IsRun f terms entries lefts faileds reports
 
 abbrev pub SerialRun : Type 0
-SerialRun = (f : Cnf) (terms : Terms) (entries lefts : List (Option (List ℕ))) (faileds : List Bool) (reports : List Report)
+SerialRun = (f : Cnf) (terms : Terms) (entries lefts : List (Option (List ℕ))) (faileds : List Bool)
+    (reports : List Report)
     → length entries ≡ terms.layout.streams
-    → StandsOnStreams entries lefts faileds (λ streams. IsOrdered f terms (λ s. true) streams reports)
+    → StandsOnStreams entries lefts faileds
+    (λ streams. IsOrdered f terms (λ s. true) streams reports)
     → IsRun f terms entries lefts faileds reports
 
 -- a reader that hasn't failed told a reading of the bytes that it had left at first, which end
 abbrev pub ToldIsReading : Type 0
-ToldIsReading = (entries lefts : List (Option (List ℕ))) (faileds : List Bool) (streams : List Stream) (s : ℕ) (whole : List ℕ) (stream : Stream)
-    → AreTold entries lefts faileds streams → IsAt entries s (Some whole) → IsAt faileds s false → IsAt streams s stream
+ToldIsReading = (entries lefts : List (Option (List ℕ))) (faileds : List Bool)
+    (streams : List Stream) (s : ℕ) (whole : List ℕ) (stream : Stream)
+    → AreTold entries lefts faileds streams → IsAt entries s (Some whole) → IsAt faileds s false
+    → IsAt streams s stream
     → IsReadingOf whole ended stream
 
 -- a reader that failed told all bytes before those that it has left then
 abbrev pub FailedIsReading : Type 0
-FailedIsReading = (entries lefts : List (Option (List ℕ))) (faileds : List Bool) (streams : List Stream) (s : ℕ) (whole left : List ℕ) (stream : Stream)
-    → AreTold entries lefts faileds streams → IsAt entries s (Some (whole ++ left)) → IsAt lefts s (Some left) → IsAt faileds s true → IsAt streams s stream
+FailedIsReading = (entries lefts : List (Option (List ℕ))) (faileds : List Bool)
+    (streams : List Stream) (s : ℕ) (whole left : List ℕ) (stream : Stream)
+    → AreTold entries lefts faileds streams → IsAt entries s (Some (whole ++ left))
+    → IsAt lefts s (Some left) → IsAt faileds s true → IsAt streams s stream
     → IsReadingOf whole failed stream
 
 -- In two runs of one formula, by the same terms, a stream that cites within itself has one report where the readers told the
 -- same bytes and end of it, unless memory ran out: whatever the other streams are, and whichever runs have threads.
 abbrev pub SameReadingAgrees : Type 0
 SameReadingAgrees = (f : Cnf) (terms : Terms) (s : ℕ) (whole : List ℕ) (end : StreamEnd)
-    (entries lefts other_entries other_lefts : List (Option (List ℕ))) (faileds other_faileds : List Bool)
+    (entries lefts other_entries other_lefts : List (Option (List ℕ)))
+    (faileds other_faileds : List Bool)
     (reports other_reports : List Report) (stream other : Stream) (report other_report : Report)
     → Fits terms.layout f → CiteWithin terms.layout (one s) whole
-    → (a : IsRun f terms entries lefts faileds reports) (b : IsRun f terms other_entries other_lefts other_faileds other_reports)
-    → IsAt a.streams s stream → IsAt b.streams s other → IsReadingOf whole end stream → IsReadingOf whole end other
+    → (a : IsRun f terms entries lefts faileds reports)
+    (b : IsRun f terms other_entries other_lefts other_faileds other_reports)
+    → IsAt a.streams s stream → IsAt b.streams s other → IsReadingOf whole end stream
+    → IsReadingOf whole end other
     → IsAt reports s report → IsAt other_reports s other_report
     → ¬ IsOfMemory report → ¬ IsOfMemory other_report → report ≡ other_report
 
 -- So it has where both readers have the same bytes left at first, unless memory ran out or a read failed.
 abbrev pub SameBytesAgree : Type 0
 SameBytesAgree = (f : Cnf) (terms : Terms) (s : ℕ) (whole : List ℕ)
-    (entries lefts other_entries other_lefts : List (Option (List ℕ))) (faileds other_faileds : List Bool)
+    (entries lefts other_entries other_lefts : List (Option (List ℕ)))
+    (faileds other_faileds : List Bool)
     (reports other_reports : List Report) (report other_report : Report)
     → Fits terms.layout f → CiteWithin terms.layout (one s) whole
-    → IsRun f terms entries lefts faileds reports → IsRun f terms other_entries other_lefts other_faileds other_reports
+    → IsRun f terms entries lefts faileds reports
+    → IsRun f terms other_entries other_lefts other_faileds other_reports
     → IsAt entries s (Some whole) → IsAt other_entries s (Some whole)
     → IsAt reports s report → IsAt other_reports s other_report
-    → ¬ IsOfMemory report → ¬ IsOfFailure report → ¬ IsOfMemory other_report → ¬ IsOfFailure other_report
+    → ¬ IsOfMemory report → ¬ IsOfFailure report → ¬ IsOfMemory other_report
+    → ¬ IsOfFailure other_report
     → report ≡ other_report

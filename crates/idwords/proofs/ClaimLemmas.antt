@@ -5,6 +5,7 @@ use lib.ListN.{get_elem?}
 use prog.Atomic.{either}
 use Rattle.std.proofs.lemmas.Bool.{cases_eq, cond-true, cond-false}
 use Rattle.std.proofs.lemmas.List.{set-get_or}
+use Rattle.std.proofs.lemmas.Option.{same_Some}
 use Rattle.atomic_table.proofs.Lists.{exchanged}
 use Rattle.lrup_model.specs.Layout.{Owns}
 use Rattle.lrup_model.specs.Event as events
@@ -25,9 +26,6 @@ use Rattle.idwords.proofs.RuleLemmas.{OwnKeeps, advanced, event_top, stands_at, 
 use Rattle.idwords.proofs.StepLemmas.{OwnStep}
 use Rattle.idwords.proofs.LookLemmas.{IsPlain, plain_step}
 use Rattle.idwords.proofs.OwnLemmas.{absent_word, own_slot, own_identity, count-write, first-write, here-write, slots-write, texts-write, drafts-write}
-
-one_kept : (a b : Kept) → Some a ≡ Some b → a ≡ b
-one_kept a b same = cc
 
 module _ (v : Part) (seat id new : ℕ) (owns : Owns v.view.caller.layout (part_stream v) id) (clause : IsPublishable v.view.caller.formula v.draft)
     (is : new ≡ identity_word 1 (length v.draft) v.top) (more : History) (words : List ℕ) (views : List (List Part))
@@ -75,7 +73,7 @@ module _ (v : Part) (seat id new : ℕ) (owns : Owns v.view.caller.layout (part_
         texts = λ j text there. elim (cases_eq j id) [
           | inl at ↦
               let same : Some x.kept ≡ Some text = sym new_text ∙ ap (λ (k : ℕ). kept_in (xs ++ x ∷ []) k) (sym at) ∙ there in
-              subst (λ (k : Kept). LiesAt ws k.start k.literals) (one_kept x.kept text same) new_lies
+              subst (λ (k : Kept). LiesAt ws k.start k.literals) (same_Some x.kept text same) new_lies
           | inr other ↦ texts-write f p log words views id new kept identity j text (sym (kept_beside xs x j (kept_in xs j) refl other) ∙ there)
         ];
         others = λ q other there. drafts-write f p log words views id new kept identity q there;

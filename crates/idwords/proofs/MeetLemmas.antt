@@ -16,6 +16,7 @@ use Rattle.lrup_model.specs.Laws.{learned}
 use Rattle.lrup_model.specs.Running.{own-append}
 use Rattle.lrup_model.specs.HistoryLemmas.{IsLegal-front}
 use Rattle.lrup_model.specs.PassLemmas.{moves_learn}
+use Rattle.lrup_model.specs.ListLemmas.{All-front}
 use Rattle.idwords.specs.Spelling.{spelling_of, LieWithin}
 use Rattle.idwords.specs.Rule.{Part, part_stream, AllParts, count_in, times, Keeps, IsKept, Stands}
 use Rattle.idwords.specs.Steps.{Met, Joined}
@@ -25,10 +26,6 @@ use Rattle.idwords.proofs.ViewLemmas.{all_at, all-set, all-snoc, times-set, time
 use Rattle.idwords.proofs.RuleLemmas.{own_rest, between, fair_part}
 
 -- Parts change hands
-
-all-front : (P : Part → Type 0) (vs ws : List Part) → AllByRecursion P (vs ++ ws) → AllByRecursion P vs
-all-front P [] ws all = tt
-all-front P (v ∷ vs) ws all = (all.0, all-front P vs ws all.1)
 
 all-back : (P : Part → Type 0) (vs ws : List Part) → AllByRecursion P (vs ++ ws) → AllByRecursion P ws
 all-back P [] ws all = all
@@ -64,7 +61,7 @@ module _ {S : Type 0} where
       let all = all_at P s.views id (front ++ back) here kept.1.parts in (
         kept.0,
         with_views f p kept.0 s.words s.views (set s.views id back ++ front ∷ []) kept.1
-            (all-snoc P (set s.views id back) front (all-set P s.views id back kept.1.parts (all-back P front back all)) (all-front P front back all))
+            (all-snoc P (set s.views id back) front (all-set P s.views id back kept.1.parts (all-back P front back all)) (All-front P front back all))
             (λ t. omega (arith, times-snoc t (set s.views id back) front, times-set t s.views id (front ++ back) back here, count-append t front back)),
       )
 
@@ -75,7 +72,7 @@ module _ {S : Type 0} where
       let all = all_at P s.views id (front ++ back) here kept.1.parts in (
         kept.0,
         with_views f p kept.0 s.words s.views (set s.views id front ++ back ∷ []) kept.1
-            (all-snoc P (set s.views id front) back (all-set P s.views id front kept.1.parts (all-front P front back all)) (all-back P front back all))
+            (all-snoc P (set s.views id front) back (all-set P s.views id front kept.1.parts (All-front P front back all)) (all-back P front back all))
             (λ t. omega (arith, times-snoc t (set s.views id front) back, times-set t s.views id (front ++ back) front here, count-append t front back)),
       )
 

@@ -72,9 +72,6 @@ literal_words_more i cs c words old within here is =
     (ap (λ (ws : List ℕ). literal_words (take i cs) ++ ws) (sym (append-nil (packed c)))
     ∙ sym (literal_words-append (take i cs) (c ∷ [])) ∙ ap literal_words (sym cut))
 
-pub clause_at-suc : (f : Cnf) (i : ℕ) → clause_at f (i + 1) ≡ get_or f.clauses i []
-clause_at-suc f i = let place : i + 1 - 1 ≡ i = omega arith in ap (λ n. get_or f.clauses n []) place
-
 pub words_more : (cs : List Clause) (i : ℕ) (c : Clause) → i < length cs → c ≡ get_or cs i [] → words_in (take (i + 1) cs) ≡ words_in (take i cs) + words_for (length c)
 words_more cs i c within here =
     let cut : take (i + 1) cs ≡ take i cs ++ c ∷ [] = take_more cs i [] within ∙ ap (λ (d : Clause). take i cs ++ d ∷ []) (sym here) in

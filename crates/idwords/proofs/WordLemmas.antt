@@ -1,5 +1,5 @@
 -- Lemmas on words: the parts of an identity's word, and literals that lie in the row.
-use Rattle.std.proofs.Common.{◌≡◌, ◌≢◌, ℕ, ◌+◌, ◌*◌, ◌/◌, ◌%◌, ◌^◌, bit_and, ◌<◌, ◌≤◌, ◌⊎◌, true, false, ℤ, pos, negsuc, zero, suc, eqb, List, [], ◌∷◌, ◌++◌, length, slice_index, slice_set, slice_get, Option, None, Some, refl, ap, ap₂, ◌∙◌, inl, inr, arith, get_or-set_other, eq-eqb, ne_eqb}
+use Rattle.std.proofs.Common.{◌≡◌, ◌≢◌, ℕ, ◌+◌, ◌*◌, ◌/◌, ◌%◌, ◌^◌, bit_and, ◌<◌, ◌≤◌, ◌⊎◌, true, false, ℤ, zero, suc, eqb, List, [], ◌∷◌, ◌++◌, length, slice_index, slice_set, slice_get, Option, None, Some, refl, ap, ap₂, ◌∙◌, inl, inr, arith, get_or-set_other, eq-eqb, ne_eqb}
 use Rattle.std.specs.Prelude.{IfSome}
 use Rattle.std.specs.Option.{is_some}
 use Rattle.std.specs.List.{AllByRecursion}
@@ -10,7 +10,7 @@ use Rattle.lrup_model.specs.State.{Slot, absent, live, retired}
 use Rattle.lrup_model.specs.Place.{Kept}
 use Rattle.lrup_model.specs.Pass.{Spells}
 use Rattle.lrup_model.specs.Literal.{IsLiteral, IsCode, code_of, max_variable}
-use Rattle.lrup_model.specs.LiteralLaws.{IsCode-code_of}
+use Rattle.lrup_model.specs.LiteralLaws.{IsCode-code_of, code_of-injective}
 use Rattle.idwords.specs.Words.{identity_word, state_of, length_of, start_of, word_of, words_for, pair_of, literal_word, half_of, packed, StandAt, LiesAt, ShowsKept}
 
 -- The parts of a word
@@ -141,20 +141,13 @@ lies_get vars words place (x ∷ y ∷ c) (suc (suc k)) l few all lies here =
 
 -- A word has one literal or two
 
--- a literal has one code
-code_injective : (l k : ℤ) → code_of l ≡ code_of k → l ≡ k
-code_injective (pos v) (pos w) same = ap pos (omega arith)
-code_injective (pos v) (negsuc w) same = absurd (omega arith)
-code_injective (negsuc v) (pos w) same = absurd (omega arith)
-code_injective (negsuc v) (negsuc w) same = ap negsuc (omega arith)
-
 -- each is below 2^25
 abbrev pub HasCode : ℤ → Type 0
 HasCode l = IsCode max_variable (code_of l)
 
 pub word_injective : (l k : ℤ) (m n : Option ℤ) → HasCode l → HasCode k → IfSome m HasCode → IfSome n HasCode → literal_word l m ≡ literal_word k n → pair_of l m ≡ pair_of k n
-word_injective l k None None first first' second second' same = ap (λ (x : ℤ). x ∷ []) (code_injective l k same)
+word_injective l k None None first first' second second' same = ap (λ (x : ℤ). x ∷ []) (code_of-injective l k same)
 word_injective l k None (Some n) first first' second second' same = absurd (omega (arith, first, first', second'))
 word_injective l k (Some m) None first first' second second' same = absurd (omega (arith, first, first', second))
 word_injective l k (Some m) (Some n) first first' second second' same =
-    ap₂ (λ (x y : ℤ). x ∷ y ∷ []) (code_injective l k (omega (arith, first, first', second, second'))) (code_injective m n (omega (arith, first, first', second, second')))
+    ap₂ (λ (x y : ℤ). x ∷ y ∷ []) (code_of-injective l k (omega (arith, first, first', second, second'))) (code_of-injective m n (omega (arith, first, first', second, second')))

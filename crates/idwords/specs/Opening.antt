@@ -8,7 +8,8 @@ use Rattle.idwords.specs.Words.{identity_word, packed, words_for}
 -- the words of live clauses, whose literals lie one clause after the other, from this place on
 abbrev pub clause_words : ℕ → List Clause → List ℕ
 clause_words start [] = []
-clause_words start (c ∷ cs) = identity_word 1 (length c) start ∷ clause_words (start + words_for (length c)) cs
+clause_words start (c ∷ cs) =
+    identity_word 1 (length c) start ∷ clause_words (start + words_for (length c)) cs
 
 abbrev pub literal_words : List Clause → List ℕ
 literal_words [] = []

@@ -25,7 +25,8 @@ part_stream v = v.view.caller.stream
 
 -- the part's plan is the row's, the log begins with what it has seen, its calls are its stream's in both, its clauses are spelt where the log has them,
 -- and its draft lies from its top on, inside its stream's room
-pub record Stands (f : Cnf) (p : LayoutValue) (log : History) (words : List ℕ) (v : Part) : Type 0 where
+pub record Stands (f : Cnf) (p : LayoutValue) (log : History) (words : List ℕ)
+    (v : Part) : Type 0 where
   pub formula : v.view.caller.formula ≡ f
   pub layout : v.view.caller.layout ≡ p
   pub stream : IsStream p (part_stream v)
@@ -56,13 +57,16 @@ pub record IsPlan (f : Cnf) (p : LayoutValue) : Type 0 where
   pub fits : Fits p f
 
 -- with this history, in which each part stands: the words spell its map, and the literals of each clause
-pub record Keeps (f : Cnf) (p : LayoutValue) (log : History) (words : List ℕ) (views : List (List Part)) : Type 0 where
+pub record Keeps (f : Cnf) (p : LayoutValue) (log : History) (words : List ℕ)
+    (views : List (List Part)) : Type 0 where
   pub plan : IsPlan f p
   pub legal : IsLegal f p log
   pub count : length words ≡ row_words p
   pub first : slice_index words 0 ≡ 0
-  pub slots : (id : ℕ) → IsIdentity p id → slice_index words id ≡ word_of (state f log id) (kept_in (spelling_of f p log) id)
-  pub texts : (id : ℕ) (kept : Kept) → kept_in (spelling_of f p log) id ≡ Some kept → LiesAt words kept.start kept.literals
+  pub slots : (id : ℕ) → IsIdentity p id
+      → slice_index words id ≡ word_of (state f log id) (kept_in (spelling_of f p log) id)
+  pub texts : (id : ℕ) (kept : Kept) → kept_in (spelling_of f p log) id ≡ Some kept
+      → LiesAt words kept.start kept.literals
   pub parts : AllParts (Stands f p log words) views
   pub once : (s : ℕ) → times s views ≤ 1
 

@@ -59,12 +59,15 @@ abbrev pub opening_seat : TableId → Cnf → LayoutValue → ℕ → SeatValue
 opening_seat table f p s = seat_value table (opening_part f p s)
 
 -- the seat has one part, fair and with a draft inside its room, and keeps the numbers of its top, its draft and the end of its room
-pub record IsSeated {S : Type 0} (table : TableId) (me : Me S (List Part)) (top drafted room : ℕ) : Type 0 where
+pub record IsSeated {S : Type 0} (table : TableId) (me : Me S (List Part))
+    (top drafted room : ℕ) : Type 0 where
   pub one : me ≡ (first_part me.0 ∷ [], [])
   pub fair : IsFair (first_part me.0).view
   pub words : table.words ≡ row_words (first_part me.0).view.caller.layout
-  pub top_is : (first_part me.0).top ≡ top_after (first_part me.0).view.caller.layout (part_stream (first_part me.0)) (first_part me.0).view.mine
+  pub top_is : (first_part me.0).top ≡ top_after (first_part me.0).view.caller.layout
+      (part_stream (first_part me.0)) (first_part me.0).view.mine
   pub draft_is : drafted ≡ length (first_part me.0).draft
   pub top_kept : top ≡ (first_part me.0).top
-  pub room_kept : room + spent (part_stream (first_part me.0)) (first_part me.0).view.mine ≡ (first_part me.0).view.caller.layout.room
+  pub room_kept : room + spent (part_stream (first_part me.0)) (first_part me.0).view.mine
+      ≡ (first_part me.0).view.caller.layout.room
   pub within : drafted ≤ room

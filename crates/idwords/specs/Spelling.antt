@@ -19,7 +19,8 @@ spelling id start c = record { id = id; kept = record { start = start; literals 
 -- clauses under the identities from this one on, and from this place on
 abbrev pub clauses_spelling : ℕ → ℕ → List Clause → List Spelling
 clauses_spelling id start [] = []
-clauses_spelling id start (c ∷ cs) = spelling id start c ∷ clauses_spelling (id + 1) (start + words_for (length c)) cs
+clauses_spelling id start (c ∷ cs) =
+    spelling id start c ∷ clauses_spelling (id + 1) (start + words_for (length c)) cs
 
 -- the first place of a stream's literals
 abbrev pub first_place : LayoutValue → ℕ → ℕ
@@ -40,14 +41,16 @@ top_after p s h = first_place p s + words_spent s h
 -- the clause that the event publishes, if any, lies at its stream's top
 abbrev pub event_spelling : LayoutValue → History → Event → List Spelling
 event_spelling p before (events.fetch s id r) = []
-event_spelling p before (events.publish s id c publishing.Done) = spelling id (top_after p s before) c ∷ []
+event_spelling p before (events.publish s id c publishing.Done) =
+    spelling id (top_after p s before) c ∷ []
 event_spelling p before (events.publish s id c publishing.Taken) = []
 event_spelling p before (events.retire s id r) = []
 
 -- what the events after some others add
 abbrev pub added_spelling : LayoutValue → History → History → List Spelling
 added_spelling p before [] = []
-added_spelling p before (e ∷ es) = event_spelling p before e ++ added_spelling p (before ++ e ∷ []) es
+added_spelling p before (e ∷ es) =
+    event_spelling p before e ++ added_spelling p (before ++ e ∷ []) es
 
 -- all clauses of the formula and of the history
 abbrev pub spelling_of : Cnf → LayoutValue → History → List Spelling
@@ -55,4 +58,5 @@ spelling_of f p h = clauses_spelling 1 (1 + last_identity p) f.clauses ++ added_
 
 -- every clause that is kept lies inside a row of so many words
 abbrev pub LieWithin : ℕ → List Spelling → Type 0
-LieWithin words xs = (id : ℕ) (kept : Kept) → kept_in xs id ≡ Some kept → kept.start + words_for (length kept.literals) ≤ words
+LieWithin words xs = (id : ℕ) (kept : Kept) → kept_in xs id ≡ Some kept
+    → kept.start + words_for (length kept.literals) ≤ words

@@ -30,7 +30,8 @@ pub record Calls (old new : View) (e : Event) : Type 0 where
 -- a fetch: the word found shows the clause that is kept, and spells the reply
 pub record Looks (id : ℕ) (v : Part) (word : ℕ) (w : Part) : Type 0 where
   pub shows : ShowsKept (kept_in w.view.spelt id) word
-  pub calls : Calls v.view w.view (events.fetch (part_stream v) id (reply_in (kept_in w.view.spelt id) word))
+  pub calls : Calls v.view w.view
+      (events.fetch (part_stream v) id (reply_in (kept_in w.view.spelt id) word))
   pub top : w.top ≡ v.top
   pub draft : w.draft ≡ v.draft
 
@@ -38,7 +39,9 @@ pub record Looks (id : ℕ) (v : Part) (word : ℕ) (w : Part) : Type 0 where
 -- literals, 1 for an odd one
 abbrev pub IsText : List Spelling → ℕ → ℕ → Type 0
 IsText xs place word =
-    (id k : ℕ) (kept : Kept) (l : ℤ) → kept_in xs id ≡ Some kept → slice_get kept.literals k ≡ Some l → place ≡ kept.start + k / 2 → half_of (k % 2) word ≡ code_of l
+    (id k : ℕ) (kept : Kept) (l : ℤ) → kept_in xs id ≡ Some kept
+    → slice_get kept.literals k ≡ Some l → place ≡ kept.start + k / 2
+    → half_of (k % 2) word ≡ code_of l
 
 -- a load without an event
 pub record Reads (place : ℕ) (v : Part) (word : ℕ) (w : Part) : Type 0 where
@@ -48,7 +51,9 @@ pub record Reads (place : ℕ) (v : Part) (word : ℕ) (w : Part) : Type 0 where
 -- the literal or two whose word this is are added to the draft
 abbrev pub Writes : ℕ → Part → Part → Type 0
 Writes new v w =
-    (l : ℤ) (m : Option ℤ) → IsCode max_variable (code_of l) → IfSome m (λ k. IsCode max_variable (code_of k)) → new ≡ literal_word l m → w ≡ record v { draft = v.draft ++ pair_of l m }
+    (l : ℤ) (m : Option ℤ) → IsCode max_variable (code_of l)
+    → IfSome m (λ k. IsCode max_variable (code_of k)) → new ≡ literal_word l m
+    → w ≡ record v { draft = v.draft ++ pair_of l m }
 
 -- the reply of a publish that found this word
 abbrev pub published_at : ℕ → Published
@@ -98,15 +103,19 @@ pub record Met (v v' w w' : Part) : Type 0 where
 
 -- a seat of one part has one part afterwards
 module _ {S : Type 0} where
-  abbrev pub Changes : (ℕ → Part → ℕ → Part → Type 0) → Step S → Me S (List Part) → ℕ → Me S (List Part) → Type 0
+  abbrev pub Changes : (ℕ → Part → ℕ → Part → Type 0) → Step S → Me S (List Part) → ℕ
+      → Me S (List Part) → Type 0
   Changes R step before word after =
-      (v : Part) → before.0 ≡ v ∷ [] → (w : Part) × (after.0 ≡ w ∷ []) × (after.1 ≡ before.1) × R step.word v word w
+      (v : Part) → before.0 ≡ v ∷ [] → (w : Part) × (after.0 ≡ w ∷ []) × (after.1 ≡ before.1)
+      × R step.word v word w
 
   -- one that stores
   abbrev pub Stores : Step S → Me S (List Part) → ℕ → Me S (List Part) → Type 0
-  Stores step before word after = (v : Part) → before.0 ≡ v ∷ [] → (w : Part) × (after.0 ≡ w ∷ []) × (after.1 ≡ before.1) × Writes step.first v w
+  Stores step before word after = (v : Part) → before.0 ≡ v ∷ [] → (w : Part) × (after.0 ≡ w ∷ [])
+      × (after.1 ≡ before.1) × Writes step.first v w
 
   -- a seat of two parts
   abbrev pub Joined : Step S → Me S (List Part) → ℕ → Me S (List Part) → Type 0
   Joined step before word after =
-      (v v' : Part) → before.0 ≡ v ∷ v' ∷ [] → (w w' : Part) × (after.0 ≡ w ∷ w' ∷ []) × (after.1 ≡ before.1) × Met v v' w w'
+      (v v' : Part) → before.0 ≡ v ∷ v' ∷ [] → (w w' : Part) × (after.0 ≡ w ∷ w' ∷ [])
+      × (after.1 ≡ before.1) × Met v v' w w'

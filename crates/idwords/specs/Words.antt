@@ -67,7 +67,8 @@ LiesAt words place c = StandAt words place (packed c)
 -- the word shows the clause that is kept for the identity: its length and its start
 abbrev pub ShowsKept : Option Kept → ℕ → Type 0
 ShowsKept None word = state_of word ≡ 0
-ShowsKept (Some kept) word = (0 < state_of word) × (state_of word < 3) × (length_of word ≡ length kept.literals) × (start_of word ≡ kept.start)
+ShowsKept (Some kept) word = (0 < state_of word) × (state_of word < 3)
+    × (length_of word ≡ length kept.literals) × (start_of word ≡ kept.start)
 
 -- the reply that an identity's word spells, where its clause is kept so
 abbrev pub reply_in : Option Kept → ℕ → Reply

@@ -38,7 +38,8 @@ fn deal(
     ensures count { IfOk result (λ seats. vec_len seats ≡ layout.now.streams) }
     ensures seats { let formula = table.now.shared.key.formula.value in
         IfOk result (λ seats. (k : ℕ) → k < layout.now.streams
-        → slice_get seats.items k ≡ Some (opening_seat table.now.shared.table_id formula layout.now (k + 1))) }
+        → slice_get seats.items k
+        ≡ Some (opening_seat table.now.shared.table_id formula layout.now (k + 1))) }
 {
     let mut seats = Vec::with_capacity(alloc, layout.streams() as usize)?;
     let mut top = layout.row_words() - layout.all_room();
@@ -84,7 +85,8 @@ impl Row {
         requires { Fits layout.now formula.now }
         ensures count { IfOk result (λ opened. vec_len opened.1 ≡ layout.now.streams) }
         ensures seats { IfOk result (λ opened. (s : ℕ) → IsStream layout.now s
-            → slice_get opened.1.items (s - 1) ≡ Some (opening_seat opened.0 formula.now layout.now s)) }
+            → slice_get opened.1.items (s - 1)
+            ≡ Some (opening_seat opened.0 formula.now layout.now s)) }
         ensures fair { IfOk result (λ opened. (s : ℕ) → IsStream layout.now s
             → IsFair (opening_seat opened.0 formula.now layout.now s).view) }
         ensures within { IfOk result (λ _.
@@ -209,7 +211,8 @@ impl Row {
         ensures within_too { let words = row_words second.new.view.caller.layout in
             LieWithin words second.new.view.spelt }
         ensures tops { (first.new.top ≡ first.old.top) × (second.new.top ≡ second.old.top) }
-        ensures drafts { (first.new.draft ≡ first.old.draft) × (second.new.draft ≡ second.old.draft) }
+        ensures drafts { (first.new.draft ≡ first.old.draft)
+            × (second.new.draft ≡ second.old.draft) }
     {
         let shared = &self.table.shared;
         let token = shared.split_seat::<Hand>(&mut second.token);

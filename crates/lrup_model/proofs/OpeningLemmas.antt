@@ -25,11 +25,6 @@ use Rattle.lrup_model.specs.HistoryLemmas.{opening-formula, opening-above}
 
 -- The loop that keeps the clauses
 
-pub clause_at-suc : (f : Cnf) (i : ℕ) → clause_at f (i + 1) ≡ get_or f.clauses i []
-clause_at-suc f i =
-    let place : i + 1 - 1 ≡ i = omega arith in
-    ap (λ n. get_or f.clauses n []) place
-
 pub length-flat : (cs : List Clause) → length (flat cs) ≡ sum_by length cs
 length-flat [] = refl
 length-flat (c ∷ cs) = length-append c (flat cs) ∙ ap (λ n. length c + n) (length-flat cs) ∙ sym (sum_by-cons length c cs)

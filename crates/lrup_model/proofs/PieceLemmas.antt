@@ -8,7 +8,7 @@ use Rattle.std.proofs.lemmas.List.Sums.{sum_by-cons}
 use Rattle.lrup_model.specs.Clause.{Clause}
 use Rattle.lrup_model.specs.Formula.{Cnf, IsCnf, IsFormulaClause, max_clauses}
 use Rattle.lrup_model.specs.Pieces.{pieces, AreEnds}
-use Rattle.lrup_model.specs.ClauseLemmas.{All-push}
+use Rattle.lrup_model.specs.ListLemmas.{All-push}
 
 pub length-pieces : (ls : Clause) (from : ℕ) (ends : List ℕ) → length (pieces ls from ends) ≡ length ends
 length-pieces ls from [] = refl
@@ -59,10 +59,6 @@ pub pieces-at : (ls : Clause) (from : ℕ) (ends : List ℕ) (i : ℕ) → i < l
 pieces-at ls from [] i lt = absurd (omega (arith, lt))
 pieces-at ls from (end ∷ ends) zero lt = refl
 pieces-at ls from (end ∷ ends) (suc i) lt = pieces-at ls end ends i (omega (arith, lt))
-
-pub empty_from_length : {X : Type 0} (xs : List X) → length xs ≡ 0 → xs ≡ []
-empty_from_length [] h = refl
-empty_from_length (x ∷ xs) h = absurd (omega (arith, h))
 
 -- a formula with one more clause at its end
 pub grown : (vars : ℕ) (ls xs : Clause) (ends : List ℕ)

@@ -6,7 +6,7 @@ use Rattle.std.proofs.lemmas.List.{map-set, length-set, get_or-take, get_or-drop
 use Rattle.std.proofs.Math.Nat.{min-eq_left}
 use Rattle.std.proofs.lemmas.List.Elements.{All-from_recursion}
 use Rattle.std.proofs.lemmas.List.Sums.{sum_by-set}
-use Rattle.std.proofs.lemmas.Option.{slice_get-get_or}
+use Rattle.std.proofs.lemmas.Option.{slice_get-get_or, same_Some}
 use Rattle.lrup_model.specs.Clause.{Clause, IsClause}
 use Rattle.lrup_model.specs.Formula.{Cnf}
 use Rattle.lrup_model.specs.Entailment.{Follows, IsDerived}
@@ -22,7 +22,8 @@ use Rattle.lrup_model.specs.declared.plain_map.Entry.{Entry}
 use Rattle.lrup_model.specs.declared.plain_map.Entry.TheVariants.{Vacant, Live, Retired}
 use Rattle.lrup_model.proofs.PieceLemmas.{slice_range-append, slice_range-end}
 use Rattle.lrup_model.specs.OwnerLemmas.{owned}
-use Rattle.lrup_model.proofs.PlainLemmas.{formula_of-set, formula_live-set, nothing_kept, some_is}
+use Rattle.lrup_model.specs.ListLemmas.{All-map}
+use Rattle.lrup_model.proofs.PlainLemmas.{formula_of-set, formula_live-set, nothing_kept}
 
 -- Lists
 
@@ -30,10 +31,6 @@ AllByRecursion-set : {X : Type 0} (P : X → Type 0) (xs : List X) (i : ℕ) (v 
 AllByRecursion-set P [] i v h p = tt
 AllByRecursion-set P (x ∷ xs) zero v h p = (p, h.1)
 AllByRecursion-set P (x ∷ xs) (suc i) v h p = (h.0, AllByRecursion-set P xs i v h.1 p)
-
-AllByRecursion-weaker : {X : Type 0} (P Q : X → Type 0) → ((x : X) → P x → Q x) → (xs : List X) → AllByRecursion P xs → AllByRecursion Q xs
-AllByRecursion-weaker P Q f [] h = tt
-AllByRecursion-weaker P Q f (x ∷ xs) h = (f x h.0, AllByRecursion-weaker P Q f xs h.1)
 
 -- Entries over a list of literals that has grown at its end
 
@@ -91,7 +88,7 @@ sound_more p es ls c free capacity more i id sound derived within fits grows cla
       count = length-set es id (Live (length ls) (length c)) ∙ sound.count;
       streams = length-set free i (get_or free i 0 - length c) ∙ sound.streams;
       within = AllByRecursion-set (LiesWithin (length (ls ++ c))) es id (Live (length ls) (length c))
-          (AllByRecursion-weaker (LiesWithin (length ls)) (LiesWithin (length (ls ++ c))) (LiesWithin-weaker (length ls) (length (ls ++ c)) (omega (arith, all))) es sound.within)
+          (All-map (LiesWithin (length ls)) (LiesWithin (length (ls ++ c))) (LiesWithin-weaker (length ls) (length (ls ++ c)) (omega (arith, all))) es sound.within)
           (omega (arith, all));
       reserved = omega (arith, all, left, sound.reserved, grows);
       small = omega (arith, all, left, sound.small);
@@ -151,8 +148,8 @@ entry_text : (ls : List ℤ) (es : List Entry) (id : ℕ) (kept : Kept) → AllB
     → kept_of (get_or (map (stored_in ls) es) id plain.vacant) ≡ Some kept → LiesAt ls kept
 entry_text ls [] id kept h e = absurd (nothing_kept e)
 entry_text ls (Vacant ∷ es) zero kept h e = absurd (nothing_kept e)
-entry_text ls (Live start len ∷ es) zero kept h e = subst (LiesAt ls) (some_is (record { start = start; literals = slice_range ls start (start + len) }) kept e) (len, h.0, refl)
-entry_text ls (Retired start len ∷ es) zero kept h e = subst (LiesAt ls) (some_is (record { start = start; literals = slice_range ls start (start + len) }) kept e) (len, h.0, refl)
+entry_text ls (Live start len ∷ es) zero kept h e = subst (LiesAt ls) (same_Some (record { start = start; literals = slice_range ls start (start + len) }) kept e) (len, h.0, refl)
+entry_text ls (Retired start len ∷ es) zero kept h e = subst (LiesAt ls) (same_Some (record { start = start; literals = slice_range ls start (start + len) }) kept e) (len, h.0, refl)
 entry_text ls (x ∷ es) (suc id) kept h e = entry_text ls es id kept h.1 e
 
 -- one literal of it
@@ -232,8 +229,8 @@ known_literal v p es ls free clip k view within known lt =
 
 kept_follows : (f : Cnf) (x : Stored) (kept : Kept) → StoresClause f x → kept_of x ≡ Some kept → IsDerived f kept.literals
 kept_follows f plain.vacant kept stores there = absurd (nothing_kept there)
-kept_follows f (plain.live k) kept stores there = subst (λ (j : Kept). IsDerived f j.literals) (some_is k kept there) stores
-kept_follows f (plain.retired k) kept stores there = subst (λ (j : Kept). IsDerived f j.literals) (some_is k kept there) stores
+kept_follows f (plain.live k) kept stores there = subst (λ (j : Kept). IsDerived f j.literals) (same_Some k kept there) stores
+kept_follows f (plain.retired k) kept stores there = subst (λ (j : Kept). IsDerived f j.literals) (same_Some k kept there) stores
 
 stores_all : (f : Cnf) (xs : List Stored) (id : ℕ) → AllByRecursion (StoresClause f) xs → StoresClause f (get_or xs id plain.vacant)
 stores_all f [] id all = tt

@@ -9,6 +9,7 @@ use Rattle.std.proofs.Math.ListN.{get_or-map}
 use Rattle.std.proofs.lemmas.Grind.{get_or-set_at}
 use Rattle.std.proofs.lemmas.List.Sums.{sum_by-cons}
 use Rattle.std.proofs.Math.Numerals.{one-add}
+use Rattle.std.proofs.lemmas.Option.{same_Some}
 use Rattle.lrup_model.specs.Clause.{Clause}
 use Rattle.lrup_model.specs.Layout.{Owns}
 use Rattle.lrup_model.specs.Event as events
@@ -68,9 +69,6 @@ pub formula_live-set : (m : Plain) (id : ℕ) (v : Stored) (free : List ℕ) →
 formula_live-set m id v free derived old j positive within =
     let there = old j positive within in
     (there.0, get_or-set_other m.stored id j v vacant (omega arith) ∙ there.1)
-
-pub some_is : (a b : Kept) → Some a ≡ Some b → a ≡ b
-some_is a b h = cc
 
 followed_at : (f : Cnf) (xs : List Stored) (id j : ℕ) (v : Stored) (kept : Kept) (b : Bool) → eqb j id ≡ b → id < length xs
     → (kept_of v ≡ Some kept → IsDerived f kept.literals)
@@ -132,7 +130,7 @@ moves_done m s id start c first last derived within owns clause empty fits =
       room = omega (arith, spent_one s (events.publish s id c publishing.Done) refl, room_left m.free (s - 1) (length c) (omega (arith, first, last)) fits);
       others = λ t positive other. get_or-set_other m.free (s - 1) (t - 1) _ 0 (omega (arith, first, positive, other));
       spelt = keeps-set m id v free within (λ kept old. absurd (nothing_kept (subst (λ w. kept_of w ≡ Some kept) empty old)));
-      follow = follow-set m s id v free derived within (λ kept there all. subst (λ (k : Kept). IsDerived (formula_of m) k.literals) (some_is _ _ there) (clause.clause, clause.follows));
+      follow = follow-set m s id v free derived within (λ kept there all. subst (λ (k : Kept). IsDerived (formula_of m) k.literals) (same_Some _ _ there) (clause.clause, clause.follows));
     }
 
 vacant_from : (s : Stored) → slot_of s ≡ slots.absent → s ≡ vacant

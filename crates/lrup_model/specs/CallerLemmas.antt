@@ -5,6 +5,7 @@ use Rattle.std.proofs.Common.{sym, ◌∙◌}
 use Rattle.lrup_model.specs.Event.{History, stream_of}
 
 -- calls of one stream are none of another
-pub calls_differ : (s t : ℕ) (es : History) → t ≢ s → AllByRecursion (λ e. stream_of e ≡ t) es → AllByRecursion (λ e. stream_of e ≢ s) es
+pub calls_differ : (s t : ℕ) (es : History) → t ≢ s → AllByRecursion (λ e. stream_of e ≡ t) es
+    → AllByRecursion (λ e. stream_of e ≢ s) es
 calls_differ s t [] other all = tt
 calls_differ s t (e ∷ es) other all = (λ is. other (sym all.0 ∙ is), calls_differ s t es other all.1)

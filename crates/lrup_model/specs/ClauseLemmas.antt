@@ -1,4 +1,4 @@
--- Lemmas on the literals of a clause, and on lists.
+-- Lemmas on the literals of a clause.
 use Rattle.std.proofs.Common.{◌≡◌, ◌≢◌, ◌⊎◌, inl, inr, ℕ, zero, suc, ◌+◌, ◌<◌, ℤ, List, [], ◌∷◌, ◌++◌, length, get_or, take, Some, refl, sym, ap, subst, ◌∙◌, add-one}
 use Rattle.std.specs.Prelude.{slice_get}
 use Rattle.std.specs.List.{AllByRecursion}
@@ -53,19 +53,22 @@ Has-at (y ∷ xs) zero x e = inl (cc)
 Has-at (y ∷ xs) (suc k) x e = inr (Has-at xs k x e)
 
 -- it isn't one of those before, where each stands once
-pub Has-before : (xs : List ℤ) (k : ℕ) (x : ℤ) → EachOnce xs → slice_get xs k ≡ Some x → ¬ Has (take k xs) x
+pub Has-before : (xs : List ℤ) (k : ℕ) (x : ℤ) → EachOnce xs → slice_get xs k ≡ Some x
+    → ¬ Has (take k xs) x
 Has-before [] k x once e = cc
 Has-before (y ∷ xs) zero x once e = λ h. h
 Has-before (y ∷ xs) (suc k) x once e =
     λ h. elim h [ inl same ↦ once.0 (subst (Has xs) (sym same) (Has-at xs k x e)) | inr later ↦ Has-before xs k x once.1 e later ]
 
-pub take-next : (xs : List ℤ) (k : ℕ) (x : ℤ) → slice_get xs k ≡ Some x → take (suc k) xs ≡ take k xs ++ x ∷ []
+pub take-next : (xs : List ℤ) (k : ℕ) (x : ℤ) → slice_get xs k ≡ Some x
+    → take (suc k) xs ≡ take k xs ++ x ∷ []
 take-next [] k x e = cc
 take-next (y ∷ xs) zero x e = let same : y ≡ x = cc in ap (λ z. z ∷ []) same
 take-next (y ∷ xs) (suc k) x e = ap (λ zs. y ∷ zs) (take-next xs k x e)
 
 -- the same, as a loop over the list reads it
-pub take-read : (xs : List ℤ) (k : ℕ) (x : ℤ) → k < length xs → x ≡ get_or xs k x → take (k + 1) xs ≡ take k xs ++ x ∷ []
+pub take-read : (xs : List ℤ) (k : ℕ) (x : ℤ) → k < length xs → x ≡ get_or xs k x
+    → take (k + 1) xs ≡ take k xs ++ x ∷ []
 take-read xs k x lt e = ap (λ n. take n xs) (add-one k) ∙ take-next xs k x (slice_get_read xs (length xs) k x refl lt e)
 
 pub All-Has : (P : ℤ → Type 0) (xs : List ℤ) (l : ℤ) → AllByRecursion P xs → Has xs l → P l
@@ -77,10 +80,7 @@ pub All-from_Has : (P : ℤ → Type 0) (xs : List ℤ) → ((l : ℤ) → Has x
 All-from_Has P [] f = tt
 All-from_Has P (x ∷ xs) f = (f x (inl refl), All-from_Has P xs (λ l h. f l (inr h)))
 
-pub All-push : {X : Type 0} (P : X → Type 0) (xs : List X) (x : X) → AllByRecursion P xs → P x → AllByRecursion P (xs ++ x ∷ [])
-All-push P [] x all p = (p, tt)
-All-push P (y ∷ xs) x all p = (all.0, All-push P xs x all.1 p)
-
 -- a list read by index, as a loop reads it
-pub All-read : (P : ℤ → Type 0) (xs : List ℤ) (k : ℕ) (x : ℤ) → AllByRecursion P xs → k < length xs → x ≡ get_or xs k x → P x
+pub All-read : (P : ℤ → Type 0) (xs : List ℤ) (k : ℕ) (x : ℤ) → AllByRecursion P xs → k < length xs
+    → x ≡ get_or xs k x → P x
 All-read P xs k x all lt e = All-Has P xs x all (Has-at xs k x (slice_get_read xs (length xs) k x refl lt e))

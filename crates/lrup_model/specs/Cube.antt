@@ -40,7 +40,8 @@ pub record AreCubeCodes (codes : List ℕ) : Type 0 where
 
 -- what follows from the formula, within the cube, leaves no assignment that makes the formula and the cube true
 abbrev pub WithinRefutes : Type 0
-WithinRefutes = (f : Cnf) (c : Clause) (cube : CubeValue) → IsDerived f c → Within c cube → IsUnsatisfiableUnder f cube
+WithinRefutes = (f : Cnf) (c : Clause) (cube : CubeValue) → IsDerived f c → Within c cube
+    → IsUnsatisfiableUnder f cube
 
 -- within the empty cube is the empty clause alone
 abbrev pub EmptyCubeWithin : Type 0
@@ -61,4 +62,5 @@ pub record SameCube (literals : List ℤ) (cube : CubeValue) : Type 0 where
   pub over : (vars : ℕ) → IsOver vars cube ↔ IsOver vars literals
 
 abbrev pub CubesAreSets : Type 0
-CubesAreSets = (literals : List ℤ) (cube : CubeValue) → IsCubeOf literals cube → SameCube literals cube
+CubesAreSets = (literals : List ℤ) (cube : CubeValue) → IsCubeOf literals cube
+    → SameCube literals cube

@@ -11,7 +11,8 @@ use Rattle.lrup_model.specs.Cube.{Within, WithinRefutes, EmptyCubeWithin, EmptyC
 pub within_refutes : WithinRefutes
 within_refutes f c cube derived within a sat holds =
     let some : Satisfies a c = derived.1.holds a sat in
-    let complement : Has cube (neg_ℤ some.0) = All-Has (λ l. Has cube (neg_ℤ l)) c some.0 within some.1 in
+    let complement : Has cube (neg_ℤ some.0) =
+    All-Has (λ l. Has cube (neg_ℤ l)) c some.0 within some.1 in
     not_both a some.0 (All-Has (IsLiteral f.vars) c some.0 derived.0.literals some.1).0 some.2
     (All-Has (MakesTrue a) cube (neg_ℤ some.0) holds complement)
 
@@ -29,11 +30,13 @@ pub under_every_cube : UnderEveryCube
 under_every_cube f cube refuted a sat holds = refuted a sat
 
 -- what holds of each literal of a list holds of each of another with no others
-same_all : (P : ℤ → Type 0) (xs ys : List ℤ) → ((l : ℤ) → Has ys l → Has xs l) → AllByRecursion P xs → AllByRecursion P ys
+same_all : (P : ℤ → Type 0) (xs ys : List ℤ) → ((l : ℤ) → Has ys l → Has xs l) → AllByRecursion P xs
+    → AllByRecursion P ys
 same_all P xs ys in_xs all = All-from_Has P ys (λ l h. All-Has P xs l all (in_xs l h))
 
 -- a clause within one cube is within another that has all its literals
-wider : (xs ys : List ℤ) → ((l : ℤ) → Has xs l → Has ys l) → (c : Clause) → Within c xs → Within c ys
+wider : (xs ys : List ℤ) → ((l : ℤ) → Has xs l → Has ys l) → (c : Clause) → Within c xs
+    → Within c ys
 wider xs ys in_ys [] within = tt
 wider xs ys in_ys (x ∷ c) within = (in_ys (neg_ℤ x) within.0, wider xs ys in_ys c within.1)
 
@@ -47,5 +50,8 @@ cubes_are_sets literals cube is =
         (λ under a sat holds. under a sat (same_all (MakesTrue a) literals cube to holds)),
         (λ under a sat holds. under a sat (same_all (MakesTrue a) cube literals from holds)),
       );
-      over = λ vars. (same_all (IsLiteral vars) cube literals from, same_all (IsLiteral vars) literals cube to);
+      over = λ vars. (
+        same_all (IsLiteral vars) cube literals from,
+        same_all (IsLiteral vars) literals cube to,
+      );
     }

@@ -35,12 +35,14 @@ pub record DeskMoves (old new : PlainDesk) (es : History) : Type 0 where
 pub desk_none : (d : PlainDesk) → DeskMoves d d []
 desk_none d = record { same = refl; index = refl; moves = moves_none (map_of d) (stream_at d) }
 
-pub desk_append : (a b c : PlainDesk) (es fs : History) → DeskMoves a b es → DeskMoves b c fs → DeskMoves a c (es ++ fs)
+pub desk_append : (a b c : PlainDesk) (es fs : History) → DeskMoves a b es → DeskMoves b c fs
+    → DeskMoves a c (es ++ fs)
 desk_append a b c es fs h k = record {
   same = k.same ∙ h.same;
   index = k.index ∙ h.index;
   moves = moves_append (map_of a) (map_of b) (map_of c) (stream_at a) es fs h.moves (subst (λ i. PlainMoves (map_of b) (map_of c) (i + 1) fs) h.index k.moves);
 }
 
-pub desk_tells : (a b : PlainDesk) (es : History) → DeskMoves a b es → Tells (desk_place a) (desk_place b) es
+pub desk_tells : (a b : PlainDesk) (es : History) → DeskMoves a b es
+    → Tells (desk_place a) (desk_place b) es
 desk_tells a b es h = subst (λ i. Tells (desk_place a) (plain_place (map_of b) (i + 1)) es) (sym h.index) (moves_tells (map_of a) (map_of b) (stream_at a) es h.moves)

@@ -69,7 +69,8 @@ EachOnce-distinct : (ls : List ℤ) → EachOnce (distinct ls)
 EachOnce-distinct [] = tt
 EachOnce-distinct (x ∷ ls) = ((λ h. (Has-without x (distinct ls) x h).1 refl), EachOnce-without x (distinct ls) (EachOnce-distinct ls))
 
-pub IsClause-distinct : (vars : ℕ) (ls : List ℤ) → AllByRecursion (IsLiteral vars) ls → IsClause vars (distinct ls)
+pub IsClause-distinct : (vars : ℕ) (ls : List ℤ) → AllByRecursion (IsLiteral vars) ls
+    → IsClause vars (distinct ls)
 IsClause-distinct vars ls all = record {
   literals = All-from_Has (IsLiteral vars) (distinct ls) (λ l h. All-Has (IsLiteral vars) ls l all (Has-from_distinct ls l h));
   each_once = EachOnce-distinct ls;
@@ -78,7 +79,8 @@ IsClause-distinct vars ls all = record {
 pub IsTautology-distinct : (ls : List ℤ) → IsTautology (distinct ls) → IsTautology ls
 IsTautology-distinct ls t = (t.0, Has-from_distinct ls t.0 t.1, Has-from_distinct ls (neg_ℤ t.0) t.2)
 
-pub distinct-push_other : (ls : List ℤ) (x : ℤ) → (¬ Has ls x) → distinct (ls ++ x ∷ []) ≡ distinct ls ++ x ∷ []
+pub distinct-push_other : (ls : List ℤ) (x : ℤ) → (¬ Has ls x)
+    → distinct (ls ++ x ∷ []) ≡ distinct ls ++ x ∷ []
 distinct-push_other [] x missing = refl
 distinct-push_other (y ∷ ls) x missing =
     let rest = distinct-push_other ls x (λ h. missing (inr h)) in
@@ -116,7 +118,8 @@ Has-taken ls n l t h = subst (λ m. Has m l) (sym t.same) (Has-distinct ls l h)
 pub Has-from_taken : (ls n : List ℤ) (l : ℤ) → IsTaken ls n → Has n l → Has ls l
 Has-from_taken ls n l t h = Has-from_distinct ls l (subst (λ m. Has m l) t.same h)
 
-consistent-push : (ls : List ℤ) (x : ℤ) → (¬ IsTautology ls) → (¬ Has ls (neg_ℤ x)) → (¬ (x ≡ neg_ℤ x)) → ¬ IsTautology (ls ++ x ∷ [])
+consistent-push : (ls : List ℤ) (x : ℤ) → (¬ IsTautology ls) → (¬ Has ls (neg_ℤ x))
+    → (¬ (x ≡ neg_ℤ x)) → ¬ IsTautology (ls ++ x ∷ [])
 consistent-push ls x consistent not_neg not_zero t =
     elim (Has-push_cases ls x t.0 t.1) [
       | inl here ↦ elim (Has-push_cases ls x (neg_ℤ t.0) t.2) [
@@ -130,23 +133,27 @@ consistent-push ls x consistent not_neg not_zero t =
     ]
 
 -- one more literal of the list
-pub IsTaken-push : (ls n : List ℤ) (x : ℤ) → IsTaken ls n → (¬ Has n (neg_ℤ x)) → (¬ Has n x) → (¬ (x ≡ neg_ℤ x)) → IsTaken (ls ++ x ∷ []) (n ++ x ∷ [])
+pub IsTaken-push : (ls n : List ℤ) (x : ℤ) → IsTaken ls n → (¬ Has n (neg_ℤ x)) → (¬ Has n x)
+    → (¬ (x ≡ neg_ℤ x)) → IsTaken (ls ++ x ∷ []) (n ++ x ∷ [])
 IsTaken-push ls n x t not_neg missing not_zero = record {
   same = ap (λ m. m ++ x ∷ []) t.same ∙ sym (distinct-push_other ls x (λ h. missing (Has-taken ls n x t h)));
   consistent = consistent-push ls x t.consistent (λ h. not_neg (Has-taken ls n (neg_ℤ x) t h)) not_zero;
 }
 
-pub IsTaken-push_same : (ls n : List ℤ) (x : ℤ) → IsTaken ls n → (¬ Has n (neg_ℤ x)) → Has n x → (¬ (x ≡ neg_ℤ x)) → IsTaken (ls ++ x ∷ []) n
+pub IsTaken-push_same : (ls n : List ℤ) (x : ℤ) → IsTaken ls n → (¬ Has n (neg_ℤ x)) → Has n x
+    → (¬ (x ≡ neg_ℤ x)) → IsTaken (ls ++ x ∷ []) n
 IsTaken-push_same ls n x t not_neg there not_zero = record {
   same = t.same ∙ sym (distinct-push_same ls x (Has-from_taken ls n x t there));
   consistent = consistent-push ls x t.consistent (λ h. not_neg (Has-taken ls n (neg_ℤ x) t h)) not_zero;
 }
 
 -- the complement of a literal that comes next was taken
-pub IsTautology-next : (ls n : List ℤ) (k : ℕ) (x : ℤ) → IsTaken (take k ls) n → k < length ls → x ≡ get_or ls k x → Has n (neg_ℤ x) → IsTautology ls
+pub IsTautology-next : (ls n : List ℤ) (k : ℕ) (x : ℤ) → IsTaken (take k ls) n → k < length ls
+    → x ≡ get_or ls k x → Has n (neg_ℤ x) → IsTautology ls
 IsTautology-next ls n k x t lt at h =
     (x, Has-at ls k x (slice_get_read ls (length ls) k x refl lt at), Has-take k ls (neg_ℤ x) (Has-from_taken (take k ls) n (neg_ℤ x) t h))
 
 -- all that was taken
-pub all_taken : (ls n : List ℤ) (count : ℕ) → count ≡ length n → n ≡ distinct ls → take count n ≡ distinct ls
+pub all_taken : (ls n : List ℤ) (count : ℕ) → count ≡ length n → n ≡ distinct ls
+    → take count n ≡ distinct ls
 all_taken ls n count len same = let le : length n ≤ count = omega arith in take_all count n le ∙ same

@@ -43,14 +43,16 @@ not_both a (negsuc v) some truth untrue = true≢false (sym untrue ∙ truth)
 abbrev pub MakesNone : Assignment → List ℤ → Type 0
 MakesNone a n = (l : ℤ) → Has n l → MakesTrue a l → ⊥
 
-pub MakesNone-cons : (a : Assignment) (x : ℤ) (n : List ℤ) → (MakesTrue a x → ⊥) → MakesNone a n → MakesNone a (x ∷ n)
+pub MakesNone-cons : (a : Assignment) (x : ℤ) (n : List ℤ) → (MakesTrue a x → ⊥) → MakesNone a n
+    → MakesNone a (x ∷ n)
 MakesNone-cons a x n not_x none l here truth =
     elim here [
       | inl same ↦ not_x (subst (λ (k : ℤ). MakesTrue a k) (sym same) truth)
       | inr there ↦ none l there truth
     ]
 
-pub MakesNone-push : (a : Assignment) (n : List ℤ) (x : ℤ) → MakesNone a n → (MakesTrue a x → ⊥) → MakesNone a (n ++ x ∷ [])
+pub MakesNone-push : (a : Assignment) (n : List ℤ) (x : ℤ) → MakesNone a n → (MakesTrue a x → ⊥)
+    → MakesNone a (n ++ x ∷ [])
 MakesNone-push a [] x none not_x = MakesNone-cons a x [] not_x none
 MakesNone-push a (y ∷ n) x none not_x =
     MakesNone-cons a y (n ++ x ∷ []) (none y (inl refl)) (MakesNone-push a n x (λ l there. none l (inr there)) not_x)
@@ -69,7 +71,8 @@ decide_clause a (x ∷ c) =
 -- Soundness of propagation
 
 -- clauses that refute literals, and hold under an assignment, make one of the literals true
-pub refuted : (vars : ℕ) (a : Assignment) (n : List ℤ) (ds : List Clause) → AllByRecursion (λ d. IsClause vars d × Satisfies a d) ds → Refutes n ds → MakesNone a n → ⊥
+pub refuted : (vars : ℕ) (a : Assignment) (n : List ℤ) (ds : List Clause)
+    → AllByRecursion (λ d. IsClause vars d × Satisfies a d) ds → Refutes n ds → MakesNone a n → ⊥
 refuted vars a n [] hold refutes none = refutes
 refuted vars a n (d ∷ []) hold refutes none =
     let some : Satisfies a d = hold.0.1 in
@@ -78,18 +81,23 @@ refuted vars a n (d ∷ e ∷ ds) hold refutes none =
     let some : Satisfies a d = hold.0.1 in
     let left : ℤ = refutes.0 in
     let unit : IsUnit n d left = refutes.1 in
-    let rest : MakesTrue a left → ⊥ = λ truth. refuted vars a (n ++ neg_ℤ left ∷ []) (e ∷ ds) hold.1 refutes.2
-    (MakesNone-push a n (neg_ℤ left) none (not_both a left (All-Has (IsLiteral vars) d left hold.0.0.literals unit.here).0 truth)) in
+    let rest : MakesTrue a left
+    → ⊥ = λ truth. refuted vars a (n ++ neg_ℤ left ∷ []) (e ∷ ds) hold.1 refutes.2
+    (MakesNone-push a n (neg_ℤ left) none
+    (not_both a left (All-Has (IsLiteral vars) d left hold.0.0.literals unit.here).0 truth)) in
     elim (unit.others some.0 some.1) [
       | inl same ↦ rest (subst (λ (k : ℤ). MakesTrue a k) same some.2)
       | inr false_one ↦ none some.0 false_one some.2
     ]
 
-pub all_hold : (f : Cnf) (a : Assignment) (ds : List Clause) → SatisfiesAll a f → AllByRecursion (λ d. IsClause f.vars d × Follows f d) ds → AllByRecursion (λ d. IsClause f.vars d × Satisfies a d) ds
+pub all_hold : (f : Cnf) (a : Assignment) (ds : List Clause) → SatisfiesAll a f
+    → AllByRecursion (λ d. IsClause f.vars d × Follows f d) ds
+    → AllByRecursion (λ d. IsClause f.vars d × Satisfies a d) ds
 all_hold f a [] sat follow = tt
 all_hold f a (d ∷ ds) sat follow = ((follow.0.0, follow.0.1.holds a sat), all_hold f a ds sat follow.1)
 
-pub accepted_follows : (f : Cnf) (c : Clause) (ds : List Clause) → AllByRecursion (λ d. IsClause f.vars d × Follows f d) ds → Accepts c ds → Follows f c
+pub accepted_follows : (f : Cnf) (c : Clause) (ds : List Clause)
+    → AllByRecursion (λ d. IsClause f.vars d × Follows f d) ds → Accepts c ds → Follows f c
 accepted_follows f c ds follow accepts = record {
   holds = λ a sat. elim (decide_clause a c) [
     | inl some ↦ some
@@ -109,7 +117,8 @@ ClauseFollows f (live c) = IsClause f.vars c × Follows f c
 ClauseFollows f (retired c) = IsClause f.vars c × Follows f c
 
 -- a clause of the formula
-pub formula_sound : (f : Cnf) (id : ℕ) → IsCnf f → 0 < id → id ≤ length f.clauses → IsClause f.vars (clause_at f id) × Follows f (clause_at f id)
+pub formula_sound : (f : Cnf) (id : ℕ) → IsCnf f → 0 < id → id ≤ length f.clauses
+    → IsClause f.vars (clause_at f id) × Follows f (clause_at f id)
 formula_sound f id cnf positive within =
     let inside : id - 1 < length f.clauses = omega arith in (
       (All-from_recursion (IsFormulaClause f.vars) f.clauses cnf.clauses (id - 1) [] inside).0,
@@ -131,29 +140,34 @@ retired_sound f absent sound = sound
 retired_sound f (live c) sound = sound
 retired_sound f (retired c) sound = sound
 
-put_sound : (f : Cnf) (m : State) (j : ℕ) (slot : Slot) (id : ℕ) → ClauseFollows f (m id) → ClauseFollows f slot → ClauseFollows f (put m j slot id)
+put_sound : (f : Cnf) (m : State) (j : ℕ) (slot : Slot) (id : ℕ) → ClauseFollows f (m id)
+    → ClauseFollows f slot → ClauseFollows f (put m j slot id)
 put_sound f m j slot id old new =
     elim (cases_eq id j) [
       | inl same ↦ subst (ClauseFollows f) (sym (put-same m j slot id same)) new
       | inr other ↦ subst (ClauseFollows f) (sym (put-other m j slot id other)) old
     ]
 
-pub after_sound : (f : Cnf) (p : LayoutValue) (m : State) (e : Event) → IsAllowed f p e → ((id : ℕ) → ClauseFollows f (m id)) → (id : ℕ) → ClauseFollows f (after m e id)
+pub after_sound : (f : Cnf) (p : LayoutValue) (m : State) (e : Event) → IsAllowed f p e
+    → ((id : ℕ) → ClauseFollows f (m id)) → (id : ℕ) → ClauseFollows f (after m e id)
 after_sound f p m (events.fetch s j r) allowed sound id = sound id
 after_sound f p m (events.publish s j c publishing.Done) allowed sound id = put_sound f m j (live c) id (sound id) (allowed.1.clause, allowed.1.follows)
 after_sound f p m (events.publish s j c publishing.Taken) allowed sound id = sound id
 after_sound f p m (events.retire s j retiring.Done) allowed sound id = put_sound f m j (retire_slot (m j)) id (sound id) (retired_sound f (m j) (sound j))
 after_sound f p m (events.retire s j retiring.NotLive) allowed sound id = sound id
 
-pub run_sound : (f : Cnf) (p : LayoutValue) (m : State) (h : History) → LegalFrom f p m h → ((id : ℕ) → ClauseFollows f (m id)) → (id : ℕ) → ClauseFollows f (run m h id)
+pub run_sound : (f : Cnf) (p : LayoutValue) (m : State) (h : History) → LegalFrom f p m h
+    → ((id : ℕ) → ClauseFollows f (m id)) → (id : ℕ) → ClauseFollows f (run m h id)
 run_sound f p m [] legal sound id = sound id
 run_sound f p m (e ∷ h) legal sound id = run_sound f p (after m e) h legal.2 (after_sound f p m e legal.1 sound) id
 
-pub clause_of_sound : (f : Cnf) (slot : Slot) (c : Clause) → ClauseFollows f slot → HasClause slot c → IsClause f.vars c × Follows f c
+pub clause_of_sound : (f : Cnf) (slot : Slot) (c : Clause) → ClauseFollows f slot → HasClause slot c
+    → IsClause f.vars c × Follows f c
 clause_of_sound f absent c sound has = absurd has
 clause_of_sound f (live d) c sound has = subst (λ (x : Clause). IsClause f.vars x × Follows f x) has sound
 clause_of_sound f (retired d) c sound has = subst (λ (x : Clause). IsClause f.vars x × Follows f x) has sound
 
-pub clauses_follow : (f : Cnf) (p : LayoutValue) (h : History) (id : ℕ) (c : Clause) → IsCnf f → LegalFrom f p (opening f) h → HasClause (state f h id) c → IsClause f.vars c × Follows f c
+pub clauses_follow : (f : Cnf) (p : LayoutValue) (h : History) (id : ℕ) (c : Clause) → IsCnf f
+    → LegalFrom f p (opening f) h → HasClause (state f h id) c → IsClause f.vars c × Follows f c
 clauses_follow f p h id c cnf legal has =
     clause_of_sound f (state f h id) c (run_sound f p (opening f) h legal (λ j. opening_sound f j cnf) id) has

@@ -7,7 +7,7 @@ use Rattle.lrup_model.specs.Formula.{Cnf}
 use Rattle.lrup_model.specs.Layout.{LayoutValue}
 use Rattle.lrup_model.specs.Event as events
 use Rattle.lrup_model.specs.Event.{Event, History, published}
-use Rattle.lrup_model.specs.State.{State, Slot, absent, live, retired, put, retire_slot, after, run, Answers}
+use Rattle.lrup_model.specs.State.{State, Slot, absent, live, retired, IsLive, IsRetired, put, retire_slot, after, run, Answers}
 use Rattle.lrup_model.specs.History.{IsAllowed, LegalFrom}
 use Rattle.lrup_model.specs.Laws.{Advances, HasClause, IsByOwner}
 use Rattle.lrup_model.specs.declared.clause_map.Published.TheVariants as publishing
@@ -16,12 +16,14 @@ use Rattle.lrup_model.specs.HistoryLemmas.{put-same, put-other}
 
 -- By its owner alone
 
-pub IsByOwner-from_allowed : (f : Cnf) (p : LayoutValue) (e : Event) → IsAllowed f p e → IsByOwner p e
+pub IsByOwner-from_allowed : (f : Cnf) (p : LayoutValue) (e : Event) → IsAllowed f p e
+    → IsByOwner p e
 IsByOwner-from_allowed f p (events.fetch s id r) allowed = tt
 IsByOwner-from_allowed f p (events.publish s id c r) allowed = allowed.0
 IsByOwner-from_allowed f p (events.retire s id r) allowed = allowed
 
-pub owners_act : (f : Cnf) (p : LayoutValue) (m : State) (h : History) → LegalFrom f p m h → AllByRecursion (IsByOwner p) h
+pub owners_act : (f : Cnf) (p : LayoutValue) (m : State) (h : History) → LegalFrom f p m h
+    → AllByRecursion (IsByOwner p) h
 owners_act f p m [] legal = tt
 owners_act f p m (e ∷ h) legal = (IsByOwner-from_allowed f p e legal.1, owners_act f p (after m e) h legal.2)
 
@@ -47,13 +49,19 @@ Advances-then (retired x) (retired y) absent ab bc = bc
 Advances-then (retired x) (retired y) (live z) ab bc = bc
 Advances-then (retired x) (retired y) (retired z) ab bc = bc ∙ ab
 
+pub retired_now : (x : Slot) → IsLive x → IsRetired (retire_slot x)
+retired_now absent alive = absurd alive
+retired_now (live c) alive = tt
+retired_now (retired c) alive = tt
+
 Advances-retired : (slot : Slot) → Advances slot (retire_slot slot)
 Advances-retired absent = tt
 Advances-retired (live c) = refl
 Advances-retired (retired c) = refl
 
 -- another slot at an identity, where the entry advances to it
-put-advances : (m : State) (j : ℕ) (slot : Slot) (id : ℕ) → Advances (m j) slot → Advances (m id) (put m j slot id)
+put-advances : (m : State) (j : ℕ) (slot : Slot) (id : ℕ) → Advances (m j) slot
+    → Advances (m id) (put m j slot id)
 put-advances m j slot id advances =
     elim (cases_eq id j) [
       | inl same ↦ subst (λ (x : Slot). Advances (m id) x) (sym (put-same m j slot id same)) (subst (λ (k : ℕ). Advances (m k) slot) (sym same) advances)
@@ -68,7 +76,8 @@ after-advances m (events.publish s j c publishing.Taken) id answers = Advances-s
 after-advances m (events.retire s j retiring.Done) id answers = put-advances m j (retire_slot (m j)) id (Advances-retired (m j))
 after-advances m (events.retire s j retiring.NotLive) id answers = Advances-same (m id)
 
-pub run-advances : (f : Cnf) (p : LayoutValue) (m : State) (h : History) (id : ℕ) → LegalFrom f p m h → Advances (m id) (run m h id)
+pub run-advances : (f : Cnf) (p : LayoutValue) (m : State) (h : History) (id : ℕ)
+    → LegalFrom f p m h → Advances (m id) (run m h id)
 run-advances f p m [] id legal = Advances-same (m id)
 run-advances f p m (e ∷ h) id legal =
     Advances-then (m id) (after m e id) (run (after m e) h id) (after-advances m e id legal.0) (run-advances f p (after m e) h id legal.2)
@@ -83,7 +92,8 @@ has_stays (retired d) absent c advances has = absurd advances
 has_stays (retired d) (live e) c advances has = absurd advances
 has_stays (retired d) (retired e) c advances has = advances ∙ has
 
-pub published_stay : (f : Cnf) (p : LayoutValue) (m : State) (h : History) → LegalFrom f p m h → AllByRecursion (λ x. HasClause (run m h x.0) x.1) (published h)
+pub published_stay : (f : Cnf) (p : LayoutValue) (m : State) (h : History) → LegalFrom f p m h
+    → AllByRecursion (λ x. HasClause (run m h x.0) x.1) (published h)
 published_stay f p m [] legal = tt
 published_stay f p m (events.fetch s id r ∷ h) legal = published_stay f p m h legal.2
 published_stay f p m (events.publish s id c publishing.Done ∷ h) legal = (

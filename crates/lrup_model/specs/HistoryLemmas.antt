@@ -1,5 +1,5 @@
 -- Lemmas on events, histories and the states that they leave.
-use Rattle.std.proofs.Common.{◌≡◌, ℕ, ◌+◌, ◌-◌, ◌%◌, ◌<◌, ◌≤◌, cond, eqb, ltb, leb, ◌&&◌, List, [], ◌∷◌, ◌++◌, length, refl, sym, ap, subst, ◌∙◌, inl, inr, arith, ne_eqb, eq-eqb, le-leb, lt-ltb, le-ltb}
+use Rattle.std.proofs.Common.{◌≡◌, ℕ, ◌+◌, ◌-◌, ◌%◌, ◌<◌, ◌≤◌, cond, eqb, ltb, leb, ◌&&◌, List, [], ◌∷◌, ◌++◌, length, get_or, refl, sym, ap, subst, ◌∙◌, inl, inr, arith, ne_eqb, eq-eqb, le-leb, lt-ltb, le-ltb}
 use Rattle.std.specs.Prelude.{if◌then◌else◌}
 use Rattle.std.specs.List.{sum_by, AllByRecursion}
 use Rattle.std.proofs.lemmas.Bool.{cases_eq, cases_lt, cond-true, cond-false, and_from, and_left, and_right, lt-leb}
@@ -19,15 +19,18 @@ use Rattle.lrup_model.specs.declared.layout.Owner.TheVariants as owners
 
 -- Both parts of a legal history
 
-pub legal-front : (f : Cnf) (p : LayoutValue) (m : State) (g h : History) → LegalFrom f p m (g ++ h) → LegalFrom f p m g
+pub legal-front : (f : Cnf) (p : LayoutValue) (m : State) (g h : History) → LegalFrom f p m (g ++ h)
+    → LegalFrom f p m g
 legal-front f p m [] h legal = tt
 legal-front f p m (e ∷ g) h legal = (legal.0, legal.1, legal-front f p (after m e) g h legal.2)
 
-pub legal-back : (f : Cnf) (p : LayoutValue) (m : State) (g h : History) → LegalFrom f p m (g ++ h) → LegalFrom f p (run m g) h
+pub legal-back : (f : Cnf) (p : LayoutValue) (m : State) (g h : History) → LegalFrom f p m (g ++ h)
+    → LegalFrom f p (run m g) h
 legal-back f p m [] h legal = legal
 legal-back f p m (e ∷ g) h legal = legal-back f p (after m e) g h legal.2
 
-pub IsLegal-front : (f : Cnf) (p : LayoutValue) (g h : History) → IsLegal f p (g ++ h) → IsLegal f p g
+pub IsLegal-front : (f : Cnf) (p : LayoutValue) (g h : History) → IsLegal f p (g ++ h)
+    → IsLegal f p g
 IsLegal-front f p g h legal = record {
   events = legal-front f p (opening f) g h legal.events;
   room = λ s. omega (arith, spent-append s g h, legal.room s);
@@ -61,12 +64,14 @@ pub one_owner : (p : LayoutValue) (s t id : ℕ) → Owns p s id → Owns p t id
 one_owner p s t id mine yours = cc
 
 abbrev stream_or_above : LayoutValue → ℕ → Owner
-stream_or_above p id = if leb id (last_identity p) then owners.Stream ((id - p.clauses - 1) % p.streams + 1) else owners.Outside
+stream_or_above p id = if leb id (last_identity p)
+    then owners.Stream ((id - p.clauses - 1) % p.streams + 1) else owners.Outside
 
 abbrev formula_or_above : LayoutValue → ℕ → Owner
 formula_or_above p id = if leb id p.clauses then owners.Formula else stream_or_above p id
 
-pub formula_owned : (p : LayoutValue) (id : ℕ) → 0 < id → id ≤ p.clauses → owner p id ≡ owners.Formula
+pub formula_owned : (p : LayoutValue) (id : ℕ) → 0 < id → id ≤ p.clauses
+    → owner p id ≡ owners.Formula
 formula_owned p id positive within =
     cond-false (eqb id 0) owners.Outside (formula_or_above p id) (ne_eqb id 0 (λ nil. omega arith))
     ∙ cond-true (leb id p.clauses) owners.Formula (stream_or_above p id) (le-leb id p.clauses within)
@@ -82,7 +87,8 @@ owned_above p s id owns =
     ]
 
 -- an event that may be asked for changes no identity but those of its own stream
-pub after-foreign : (f : Cnf) (p : LayoutValue) (m : State) (e : Event) (id : ℕ) → IsAllowed f p e → (Owns p (stream_of e) id → ⊥) → after m e id ≡ m id
+pub after-foreign : (f : Cnf) (p : LayoutValue) (m : State) (e : Event) (id : ℕ) → IsAllowed f p e
+    → (Owns p (stream_of e) id → ⊥) → after m e id ≡ m id
 after-foreign f p m (events.fetch s j r) id allowed foreign = refl
 after-foreign f p m (events.publish s j c publishing.Done) id allowed foreign =
     put-other m j (live c) id (λ same. foreign (subst (λ (k : ℕ). Owns p s k) (sym same) allowed.0))
@@ -92,18 +98,27 @@ after-foreign f p m (events.retire s j retiring.Done) id allowed foreign =
 after-foreign f p m (events.retire s j retiring.NotLive) id allowed foreign = refl
 
 -- what no stream owns stays
-pub run-unowned : (f : Cnf) (p : LayoutValue) (m : State) (h : History) (id : ℕ) → LegalFrom f p m h → ((s : ℕ) → Owns p s id → ⊥) → run m h id ≡ m id
+pub run-unowned : (f : Cnf) (p : LayoutValue) (m : State) (h : History) (id : ℕ) → LegalFrom f p m h
+    → ((s : ℕ) → Owns p s id → ⊥) → run m h id ≡ m id
 run-unowned f p m [] id legal unowned = refl
 run-unowned f p m (e ∷ h) id legal unowned =
     run-unowned f p (after m e) h id legal.2 unowned ∙ after-foreign f p m e id legal.1 (unowned (stream_of e))
 
 -- an identity of the formula keeps what it has
-pub run-formula : (f : Cnf) (p : LayoutValue) (m : State) (h : History) (id : ℕ) → LegalFrom f p m h → id ≤ p.clauses → run m h id ≡ m id
+pub run-formula : (f : Cnf) (p : LayoutValue) (m : State) (h : History) (id : ℕ) → LegalFrom f p m h
+    → id ≤ p.clauses → run m h id ≡ m id
 run-formula f p m h id legal within = run-unowned f p m h id legal (λ s owns. omega (arith, owned_above p s id owns))
 
-pub opening-formula : (f : Cnf) (id : ℕ) → 0 < id → id ≤ length f.clauses → opening f id ≡ live (clause_at f id)
+pub opening-formula : (f : Cnf) (id : ℕ) → 0 < id → id ≤ length f.clauses
+    → opening f id ≡ live (clause_at f id)
 opening-formula f id positive within =
     cond-true (ltb 0 id && leb id (length f.clauses)) (live (clause_at f id)) absent (and_from (ltb 0 id) (leb id (length f.clauses)) (lt-ltb 0 id positive) (le-leb id (length f.clauses) within))
+
+-- a formula's clause by its place
+pub clause_at-suc : (f : Cnf) (i : ℕ) → clause_at f (i + 1) ≡ get_or f.clauses i []
+clause_at-suc f i =
+    let place : i + 1 - 1 ≡ i = omega arith in
+    ap (λ n. get_or f.clauses n []) place
 
 pub opening-above : (f : Cnf) (id : ℕ) → length f.clauses < id → opening f id ≡ absent
 opening-above f id above =
@@ -113,10 +128,12 @@ pub opening-none : (f : Cnf) (id : ℕ) → id ≤ 0 → opening f id ≡ absent
 opening-none f id nil =
     cond-false (ltb 0 id && leb id (length f.clauses)) (live (clause_at f id)) absent (and_left (ltb 0 id) (leb id (length f.clauses)) (le-ltb 0 id nil))
 
-pub opening-owned : (f : Cnf) (p : LayoutValue) (s id : ℕ) → Fits p f → Owns p s id → opening f id ≡ absent
+pub opening-owned : (f : Cnf) (p : LayoutValue) (s id : ℕ) → Fits p f → Owns p s id
+    → opening f id ≡ absent
 opening-owned f p s id fits owns = opening-above f id (subst (λ (n : ℕ). n < id) fits.clauses (owned_above p s id owns))
 
-pub formula_stays : (f : Cnf) (p : LayoutValue) (h : History) (id : ℕ) → Fits p f → LegalFrom f p (opening f) h → 0 < id → id ≤ p.clauses → state f h id ≡ live (clause_at f id)
+pub formula_stays : (f : Cnf) (p : LayoutValue) (h : History) (id : ℕ) → Fits p f
+    → LegalFrom f p (opening f) h → 0 < id → id ≤ p.clauses → state f h id ≡ live (clause_at f id)
 formula_stays f p h id fits legal positive within =
     run-formula f p (opening f) h id legal within ∙ opening-formula f id positive (subst (λ (n : ℕ). id ≤ n) fits.clauses within)
 
@@ -124,6 +141,11 @@ formula_stays f p h id fits legal positive within =
 
 pub own-mine : (e : Event) (h : History) (s : ℕ) → stream_of e ≡ s → own (e ∷ h) s ≡ e ∷ own h s
 own-mine e h s mine = cond-true (eqb (stream_of e) s) (e ∷ own h s) (own h s) (eq-eqb (stream_of e) s mine)
+
+-- a history of one stream's events is its own
+pub own-all : (s : ℕ) (es : History) → AllByRecursion (λ e. stream_of e ≡ s) es → own es s ≡ es
+own-all s [] all = refl
+own-all s (e ∷ es) all = own-mine e es s all.0 ∙ ap (λ (g : History). e ∷ g) (own-all s es all.1)
 
 pub own-other : (e : Event) (h : History) (s : ℕ) → (stream_of e ≡ s → ⊥) → own (e ∷ h) s ≡ own h s
 own-other e h s other = cond-false (eqb (stream_of e) s) (e ∷ own h s) (own h s) (ne_eqb (stream_of e) s other)
@@ -145,7 +167,8 @@ own-none [] s others = refl
 own-none (e ∷ h) s others = own-other e h s others.0 ∙ own-none h s others.1
 
 -- states that agree at an own identity agree there after a legal history and its own part
-pub run-own : (f : Cnf) (p : LayoutValue) (m n : State) (h : History) (s id : ℕ) → LegalFrom f p m h → Owns p s id → m id ≡ n id → run m h id ≡ run n (own h s) id
+pub run-own : (f : Cnf) (p : LayoutValue) (m n : State) (h : History) (s id : ℕ) → LegalFrom f p m h
+    → Owns p s id → m id ≡ n id → run m h id ≡ run n (own h s) id
 run-own f p m n [] s id legal owns agree = agree
 run-own f p m n (e ∷ h) s id legal owns agree =
     elim (cases_eq (stream_of e) s) [
@@ -156,12 +179,15 @@ run-own f p m n (e ∷ h) s id legal owns agree =
     ]
 
 -- a stream's own identities stay through the legal events of others
-pub run-others : (f : Cnf) (p : LayoutValue) (m : State) (h : History) (s id : ℕ) → LegalFrom f p m h → AllByRecursion (λ e. stream_of e ≡ s → ⊥) h → Owns p s id → run m h id ≡ m id
+pub run-others : (f : Cnf) (p : LayoutValue) (m : State) (h : History) (s id : ℕ)
+    → LegalFrom f p m h → AllByRecursion (λ e. stream_of e ≡ s → ⊥) h → Owns p s id
+    → run m h id ≡ m id
 run-others f p m h s id legal others owns =
     run-own f p m m h s id legal owns refl ∙ ap (λ (g : History). run m g id) (own-none h s others)
 
 pub vacant_above_stays : (f : Cnf) (p : LayoutValue) (m : State) (h : History) (s last : ℕ)
-    → LegalFrom f p m h → AllByRecursion (λ e. stream_of e ≡ s → ⊥) h → AreVacantAbove p s m last → AreVacantAbove p s (run m h) last
+    → LegalFrom f p m h → AllByRecursion (λ e. stream_of e ≡ s → ⊥) h → AreVacantAbove p s m last
+    → AreVacantAbove p s (run m h) last
 vacant_above_stays f p m h s last legal others vacant id owns above = run-others f p m h s id legal others owns ∙ vacant id owns above
 
 -- What was published
@@ -176,7 +202,8 @@ published-append (events.publish s id c publishing.Done ∷ g) h = ap (λ (ps : 
 published-append (events.publish s id c publishing.Taken ∷ g) h = published-append g h
 published-append (events.retire s id r ∷ g) h = published-append g h
 
-pub published_follow : (f : Cnf) (p : LayoutValue) (m : State) (h : History) → LegalFrom f p m h → AllByRecursion (λ x. IsPublishable f x.1) (published h)
+pub published_follow : (f : Cnf) (p : LayoutValue) (m : State) (h : History) → LegalFrom f p m h
+    → AllByRecursion (λ x. IsPublishable f x.1) (published h)
 published_follow f p m [] legal = tt
 published_follow f p m (events.fetch s id r ∷ h) legal = published_follow f p m h legal.2
 published_follow f p m (events.publish s id c publishing.Done ∷ h) legal = (legal.1.1, published_follow f p (put m id (live c)) h legal.2)

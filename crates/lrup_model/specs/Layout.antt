@@ -18,7 +18,15 @@ pub record LayoutValue : Type 0 where
 
 -- the record of these numbers
 abbrev pub layout_value : ℕ → ℕ → ℕ → ℕ → ℕ → ℕ → LayoutValue
-layout_value vars clauses literals streams lines room = record { vars = vars; clauses = clauses; literals = literals; streams = streams; lines = lines; room = room }
+layout_value vars clauses literals streams lines room =
+    record {
+      vars = vars;
+      clauses = clauses;
+      literals = literals;
+      streams = streams;
+      lines = lines;
+      room = room;
+    }
 
 -- the most streams
 abbrev pub max_streams : ℕ
@@ -74,8 +82,10 @@ IsStream p s = (0 < s) × (s ≤ p.streams)
 abbrev pub IsFault : LayoutValue → LayoutFault → Type 0
 IsFault p faults.TooManyVariables = max_variable < p.vars
 IsFault p faults.TooManyClauses = (p.vars ≤ max_variable) × (max_clauses < p.clauses)
-IsFault p faults.BadStreamCount = (p.vars ≤ max_variable) × (p.clauses ≤ max_clauses) × ((p.streams ≡ 0) ⊎ (max_streams < p.streams))
-IsFault p faults.RowTooLong = (p.vars ≤ max_variable) × (p.clauses ≤ max_clauses) × (0 < p.streams) × (p.streams ≤ max_streams) × (max_row_words < row_words p)
+IsFault p faults.BadStreamCount = (p.vars ≤ max_variable) × (p.clauses ≤ max_clauses)
+    × ((p.streams ≡ 0) ⊎ (max_streams < p.streams))
+IsFault p faults.RowTooLong = (p.vars ≤ max_variable) × (p.clauses ≤ max_clauses) × (0 < p.streams)
+    × (p.streams ≤ max_streams) × (max_row_words < row_words p)
 
 -- the text of a fault
 abbrev pub fault_text : LayoutFault → List ℕ

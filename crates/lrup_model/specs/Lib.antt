@@ -2,6 +2,7 @@ pub mod Literal
 pub mod LiteralLaws
 pub mod Clause
 pub mod ClauseLemmas
+pub mod ListLemmas
 pub mod Distinct
 pub mod DistinctLemmas
 pub mod Formula

@@ -10,7 +10,9 @@ pub record IsOwned (p : LayoutValue) (s id : ℕ) : Type 0 where
   pub first : 0 < s
   pub last : s ≤ p.streams
 
-picked : (a b c : Bool) (s t : ℕ) → cond a owners.Outside (cond b owners.Formula (cond c (owners.Stream t) owners.Outside)) ≡ owners.Stream s
+picked : (a b c : Bool) (s t : ℕ)
+    → cond a owners.Outside (cond b owners.Formula (cond c (owners.Stream t) owners.Outside))
+    ≡ owners.Stream s
     → (b ≡ false) × (c ≡ true) × (t ≡ s)
 picked true b c s t h = absurd (cc)
 picked false true c s t h = absurd (cc)

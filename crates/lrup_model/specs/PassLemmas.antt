@@ -35,11 +35,13 @@ moves_none v = record {
 }
 
 -- the last of two moves that makes a call leaves the pass fair
-fair_append : (a b c : View) (es fs : History) → PassMoves a b es → PassMoves b c fs → es ++ fs ≢ [] → IsFair c
+fair_append : (a b c : View) (es fs : History) → PassMoves a b es → PassMoves b c fs → es ++ fs ≢ []
+    → IsFair c
 fair_append a b c es [] ab bc some = bc.fair (ab.fair_after (λ none. some (append-nil es ∙ none)))
 fair_append a b c es (f ∷ fs) ab bc some = bc.fair_after (λ none. cc)
 
-pub moves_append : (a b c : View) (es fs : History) → PassMoves a b es → PassMoves b c fs → PassMoves a c (es ++ fs)
+pub moves_append : (a b c : View) (es fs : History) → PassMoves a b es → PassMoves b c fs
+    → PassMoves a c (es ++ fs)
 moves_append a b c es fs ab bc =
     let stream : b.caller.stream ≡ a.caller.stream = ap (λ (r : Caller). r.stream) ab.caller in
     record {
@@ -56,7 +58,8 @@ moves_append a b c es fs ab bc =
       follow = λ all. bc.follow (ab.follow all);
     }
 
-pub moves_tells : (a b : View) (es : History) → PassMoves a b es → Tells (pass_place a) (pass_place b) es
+pub moves_tells : (a b : View) (es : History) → PassMoves a b es
+    → Tells (pass_place a) (pass_place b) es
 moves_tells a b es moves = record {
   caller = moves.caller;
   callers = moves.callers;
@@ -71,7 +74,8 @@ abbrev kept_from : ℕ → Clause → Option Kept
 kept_from start c = Some (record { start = start; literals = c })
 
 -- a clip stays known while what is kept for it stays
-pub known_stays : (a b : Place) (es : History) (clip : ClipValue) → Tells a b es → IsKnown a clip → IsKnown b clip × (text_of b clip ≡ text_of a clip)
+pub known_stays : (a b : Place) (es : History) (clip : ClipValue) → Tells a b es → IsKnown a clip
+    → IsKnown b clip × (text_of b clip ≡ text_of a clip)
 known_stays a b es clip tells known =
     let kept : b.spelt clip.id ≡ kept_from clip.start (text_of a clip) = tells.spelt clip.id (record { start = clip.start; literals = text_of a clip }) known.kept in
     let text : text_of b clip ≡ text_of a clip = ap literals_in kept in (
@@ -82,7 +86,8 @@ known_stays a b es clip tells known =
       text,
     )
 
-pub known_follows : (p : Place) (clip : ClipValue) → AllFollow p → IsKnown p clip → IsDerived p.caller.formula (text_of p clip)
+pub known_follows : (p : Place) (clip : ClipValue) → AllFollow p → IsKnown p clip
+    → IsDerived p.caller.formula (text_of p clip)
 known_follows p clip all known = all.each clip.id (record { start = clip.start; literals = text_of p clip }) known.kept
 
 -- What is spelt
@@ -93,7 +98,8 @@ spelt_has (live c) kept spells = sym spells
 spelt_has (retired c) kept spells = sym spells
 
 -- the clause that is kept is the slot's
-pub kept_has : (f : Cnf) (h : History) (xs : List Spelling) (id : ℕ) (kept : Kept) → IsSpelt f h xs → kept_in xs id ≡ Some kept → HasClause (state f h id) kept.literals
+pub kept_has : (f : Cnf) (h : History) (xs : List Spelling) (id : ℕ) (kept : Kept) → IsSpelt f h xs
+    → kept_in xs id ≡ Some kept → HasClause (state f h id) kept.literals
 kept_has f h xs id kept spelt there = spelt_has (state f h id) kept (subst (λ (k : Option Kept). Spells (state f h id) k) there (spelt.slots id))
 
 pub fair_follows : (v : View) → IsFair v → AllFollow (pass_place v)
@@ -104,15 +110,18 @@ fair_follows v fair = record {
 }
 
 -- what is kept for a slot that has a clause
-kept_for : (slot : Slot) (c : Clause) (o : Option Kept) → HasClause slot c → Spells slot o → (kept : Kept) × (o ≡ Some kept) × (kept.literals ≡ c)
+kept_for : (slot : Slot) (c : Clause) (o : Option Kept) → HasClause slot c → Spells slot o
+    → (kept : Kept) × (o ≡ Some kept) × (kept.literals ≡ c)
 kept_for absent c o has spells = absurd has
 kept_for (live d) c None has spells = absurd spells
 kept_for (live d) c (Some kept) has spells = (kept, refl, spells ∙ has)
 kept_for (retired d) c None has spells = absurd spells
 kept_for (retired d) c (Some kept) has spells = (kept, refl, spells ∙ has)
 
-pub spelt_stays : (f : Cnf) (p : LayoutValue) (seen more : History) (xs ys : List Spelling) (id : ℕ) (kept : Kept)
-    → IsLegal f p (seen ++ more) → IsSpelt f seen xs → IsSpelt f (seen ++ more) ys → kept_in xs id ≡ Some kept
+pub spelt_stays : (f : Cnf) (p : LayoutValue) (seen more : History) (xs ys : List Spelling) (id : ℕ)
+    (kept : Kept)
+    → IsLegal f p (seen ++ more) → IsSpelt f seen xs → IsSpelt f (seen ++ more) ys
+    → kept_in xs id ≡ Some kept
     → (later : Kept) × (kept_in ys id ≡ Some later) × (later.literals ≡ kept.literals)
 spelt_stays f p seen more xs ys id kept legal before after there =
     let advances : Advances (state f seen id) (run (state f seen) more id) = run-advances f p (state f seen) more id (legal-back f p (opening f) seen more legal.events) in
@@ -130,7 +139,8 @@ spent_within v fair =
     sym (ap (λ (h : History). spent v.caller.stream h) fair.mine) ∙ spent-own v.caller.stream v.seen in
     omega (arith, all, fair.legal.room v.caller.stream)
 
-room_left : (old new : View) (es : History) → IsFair new → new.caller ≡ old.caller → new.mine ≡ old.mine ++ es
+room_left : (old new : View) (es : History) → IsFair new → new.caller ≡ old.caller
+    → new.mine ≡ old.mine ++ es
     → (pass_place new).room + spent old.caller.stream es ≡ (pass_place old).room
 room_left old new es fair caller mine =
     let stream : new.caller.stream ≡ old.caller.stream = ap (λ (r : Caller). r.stream) caller in
@@ -141,7 +151,8 @@ room_left old new es fair caller mine =
 pub moves_on : (old new : View) (es : History)
     → IsFair old → IsFair new → new.caller ≡ old.caller
     → AllByRecursion (λ e. stream_of e ≡ old.caller.stream) es → new.mine ≡ old.mine ++ es
-    → ((more : History) × (new.seen ≡ old.seen ++ more)) → KeepsSpelt (kept_in old.spelt) (kept_in new.spelt)
+    → ((more : History) × (new.seen ≡ old.seen ++ more))
+    → KeepsSpelt (kept_in old.spelt) (kept_in new.spelt)
     → PassMoves old new es
 moves_on old new es before after caller callers mine seen spelt = record {
   caller = caller;
@@ -157,7 +168,8 @@ moves_on old new es before after caller callers mine seen spelt = record {
 
 -- Events of others
 
-pub own-others : (seen more : History) (s : ℕ) → AllByRecursion (λ d. stream_of d ≢ s) more → own (seen ++ more) s ≡ own seen s
+pub own-others : (seen more : History) (s : ℕ) → AllByRecursion (λ d. stream_of d ≢ s) more
+    → own (seen ++ more) s ≡ own seen s
 own-others seen more s others = own-append seen more s ∙ ap (λ (g : History). own seen s ++ g) (own-none more s others) ∙ append-nil (own seen s)
 
 pub moves_learn : (v : View) (more : History) (xs : List Spelling)
@@ -178,7 +190,8 @@ moves_learn v more xs fair others legal spelt keeps =
 -- One call
 
 -- the stream's own events after it saw others' and then made a call
-pub own_stepped : (v : View) (between : History) (e : Event) → IsFair v → AllByRecursion (λ d. stream_of d ≢ v.caller.stream) between → stream_of e ≡ v.caller.stream
+pub own_stepped : (v : View) (between : History) (e : Event) → IsFair v
+    → AllByRecursion (λ d. stream_of d ≢ v.caller.stream) between → stream_of e ≡ v.caller.stream
     → own (v.seen ++ between ++ e ∷ []) v.caller.stream ≡ v.mine ++ e ∷ []
 own_stepped v between e fair others mine =
     own-append (v.seen ++ between) (e ∷ []) v.caller.stream
@@ -188,7 +201,8 @@ pub moves_step : (v : View) (between : History) (e : Event) (xs : List Spelling)
     → IsFair v
     → AllByRecursion (λ d. stream_of d ≢ v.caller.stream) between → stream_of e ≡ v.caller.stream
     → IsLegal v.caller.formula v.caller.layout (v.seen ++ between ++ e ∷ [])
-    → IsSpelt v.caller.formula (v.seen ++ between ++ e ∷ []) xs → KeepsSpelt (kept_in v.spelt) (kept_in xs)
+    → IsSpelt v.caller.formula (v.seen ++ between ++ e ∷ []) xs
+    → KeepsSpelt (kept_in v.spelt) (kept_in xs)
     → PassMoves v (stepped v between e xs) (e ∷ []) × IsFair (stepped v between e xs)
 moves_step v between e xs fair others mine legal spelt keeps =
     let after : IsFair (stepped v between e xs) = record {
@@ -202,21 +216,26 @@ moves_step v between e xs fair others mine legal spelt keeps =
 -- A fetch answers
 
 -- a fetch at the end of a legal history answers as the state before it
-pub last_answers : (f : Cnf) (p : LayoutValue) (before : History) (e : Event) → IsLegal f p (before ++ e ∷ []) → Answers (state f before) e
+pub last_answers : (f : Cnf) (p : LayoutValue) (before : History) (e : Event)
+    → IsLegal f p (before ++ e ∷ []) → Answers (state f before) e
 last_answers f p before e legal = (legal-back f p (opening f) before (e ∷ []) legal.events).0
 
-fetch_at : (m n : State) (s id : ℕ) (r : Reply) → m id ≡ n id → Answers m (events.fetch s id r) → Answers n (events.fetch s id r)
+fetch_at : (m n : State) (s id : ℕ) (r : Reply) → m id ≡ n id → Answers m (events.fetch s id r)
+    → Answers n (events.fetch s id r)
 fetch_at m n s id events.vacant same answers = sym same ∙ answers
 fetch_at m n s id (events.live c) same answers = sym same ∙ answers
 fetch_at m n s id events.retired same answers = subst (λ (x : Slot). IsRetired x) same answers
 
-fetch_live : (m : State) (s id : ℕ) (c : Clause) (r : Reply) → m id ≡ live c → Answers m (events.fetch s id r) → r ≡ events.live c
+fetch_live : (m : State) (s id : ℕ) (c : Clause) (r : Reply) → m id ≡ live c
+    → Answers m (events.fetch s id r) → r ≡ events.live c
 fetch_live m s id c events.vacant is answers = let no : live c ≡ absent = sym is ∙ answers in absurd (cc)
 fetch_live m s id c (events.live d) is answers = let same : live d ≡ live c = sym answers ∙ is in cc
 fetch_live m s id c events.retired is answers = absurd (subst (λ (x : Slot). IsRetired x) is answers)
 
-own_answers : (f : Cnf) (p : LayoutValue) (before mine : History) (s id : ℕ) (r : Reply) → IsLegal f p (before ++ events.fetch s id r ∷ [])
-    → own (before ++ events.fetch s id r ∷ []) s ≡ mine ++ events.fetch s id r ∷ [] → Owns p s id → Answers (state f mine) (events.fetch s id r)
+own_answers : (f : Cnf) (p : LayoutValue) (before mine : History) (s id : ℕ) (r : Reply)
+    → IsLegal f p (before ++ events.fetch s id r ∷ [])
+    → own (before ++ events.fetch s id r ∷ []) s ≡ mine ++ events.fetch s id r ∷ [] → Owns p s id
+    → Answers (state f mine) (events.fetch s id r)
 own_answers f p before mine s id r legal mine_is owns =
     let e : Event = events.fetch s id r in
     let fronts : own before s ≡ mine = append_cancel_right (own before s) mine (e ∷ []) (ap (λ (h : History). own before s ++ h) (sym (own-mine e [] s refl)) ∙ sym (own-append before (e ∷ []) s) ∙ mine_is) in
@@ -225,7 +244,8 @@ own_answers f p before mine s id r legal mine_is owns =
     fetch_at (state f before) (state f mine) s id r at (last_answers f p before e legal)
 
 pub pass_fetches : (old new : View) (before : History) (id : ℕ) (r : Reply)
-    → PassMoves old new (events.fetch old.caller.stream id r ∷ []) → new.seen ≡ before ++ events.fetch old.caller.stream id r ∷ []
+    → PassMoves old new (events.fetch old.caller.stream id r ∷ [])
+    → new.seen ≡ before ++ events.fetch old.caller.stream id r ∷ []
     → AnswersOwn (pass_place old) id r × AnswersFormula (pass_place old) id r
 pass_fetches old new before id r moves last =
     let s : ℕ = old.caller.stream in
@@ -249,7 +269,8 @@ pass_fetches old new before id r moves last =
 
 -- what a pass has met begins the history that it has seen then
 met_once : (u v : View) (xs ys : List View) → MeetsInTurn u xs v ys
-    → ((more : History) × (v.seen ≡ u.seen ++ more)) × AllByRecursion (λ y. (more : History) × (v.seen ≡ y.seen ++ more)) ys
+    → ((more : History) × (v.seen ≡ u.seen ++ more))
+    × AllByRecursion (λ y. (more : History) × (v.seen ≡ y.seen ++ more)) ys
 met_once u v [] [] meets = (([], ap (λ (w : View). w.seen) meets ∙ sym (append-nil u.seen)), tt)
 met_once u v [] (y ∷ ys) meets = absurd meets
 met_once u v (x ∷ xs) [] meets = absurd meets
@@ -262,7 +283,8 @@ met_once u v (x ∷ xs) (y ∷ ys) meets =
     )
 
 -- a pass that has seen all that each of the others has leaves them at its own history
-met_again : (h : History) (v w : View) (ys zs : List View) → v.seen ≡ h → AllByRecursion (λ y. (more : History) × (h ≡ y.seen ++ more)) ys → MeetsInTurn v ys w zs
+met_again : (h : History) (v w : View) (ys zs : List View) → v.seen ≡ h
+    → AllByRecursion (λ y. (more : History) × (h ≡ y.seen ++ more)) ys → MeetsInTurn v ys w zs
     → (w.seen ≡ h) × AllSaw h zs
 met_again h v w [] [] here behind meets = (ap (λ (x : View). x.seen) meets ∙ here, tt)
 met_again h v w [] (z ∷ zs) here behind meets = absurd meets
@@ -274,7 +296,8 @@ met_again h v w (y ∷ ys) (z ∷ zs) here behind meets =
     (rest.0, (met.one ∙ stays, rest.1))
 
 -- each of these passes went on to the one at its place by no call, and is fair
-pub met_keep : (u v : View) (xs ys : List View) → MeetsInTurn u xs v ys → PassMoves u v [] × AreMet xs ys × (IsFair u → IsFair v)
+pub met_keep : (u v : View) (xs ys : List View) → MeetsInTurn u xs v ys → PassMoves u v []
+    × AreMet xs ys × (IsFair u → IsFair v)
 met_keep u v [] [] meets = (subst (λ (w : View). PassMoves u w []) (sym meets) (moves_none u), tt, λ fair. subst IsFair (sym meets) fair)
 met_keep u v [] (y ∷ ys) meets = absurd meets
 met_keep u v (x ∷ xs) [] meets = absurd meets
@@ -283,7 +306,8 @@ met_keep u v (x ∷ xs) (y ∷ ys) meets =
     (moves_append u meets.0 v [] [] meets.1.first rest.0, (meets.1.second, meets.1.fair', rest.1), λ fair. rest.2 meets.1.fair)
 
 -- the pass of a stream that has seen nothing
-pub opening_fair : (c : Caller) (xs : List Spelling) → IsCaller c → IsSpelt c.formula [] xs → IsFair (opened c xs)
+pub opening_fair : (c : Caller) (xs : List Spelling) → IsCaller c → IsSpelt c.formula [] xs
+    → IsFair (opened c xs)
 opening_fair c xs caller spelt = record {
   caller = caller;
   legal = record { events = tt; room = λ s. omega arith };
@@ -291,7 +315,8 @@ opening_fair c xs caller spelt = record {
   spelt = spelt;
 }
 
-pub meets_twice : (u v w : View) (xs ys zs : List View) → MeetsInTurn u xs v ys → MeetsInTurn v ys w zs → (w.seen ≡ v.seen) × AllSaw w.seen zs
+pub meets_twice : (u v w : View) (xs ys zs : List View) → MeetsInTurn u xs v ys
+    → MeetsInTurn v ys w zs → (w.seen ≡ v.seen) × AllSaw w.seen zs
 meets_twice u v w xs ys zs once again =
     let all = met_again v.seen v w ys zs refl (met_once u v xs ys once).1 again in
     (all.0, subst (λ (h : History). AllSaw h zs) (sym all.0) all.1)

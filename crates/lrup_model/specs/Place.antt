@@ -54,7 +54,8 @@ pub record IsKnown (p : Place) (clip : ClipValue) : Type 0 where
 
 -- every clause that is kept follows from the formula
 pub record AllFollow (p : Place) : Type 0 where
-  pub each : (id : ℕ) (kept : Kept) → p.spelt id ≡ Some kept → IsDerived p.caller.formula kept.literals
+  pub each : (id : ℕ) (kept : Kept) → p.spelt id ≡ Some kept
+      → IsDerived p.caller.formula kept.literals
 
 -- the caller's own identities above the last that it published have nothing
 abbrev pub IsVacantAbove : Place → ℕ → Type 0

@@ -49,7 +49,10 @@ stored_at m id = slice_index_or m.stored id vacant
 
 -- the formula stands under the first identities
 abbrev pub formula_of : Plain → Cnf
-formula_of m = record { vars = m.layout.vars; clauses = map clause_of (take m.layout.clauses (drop 1 m.stored)) }
+formula_of m = record {
+  vars = m.layout.vars;
+  clauses = map clause_of (take m.layout.clauses (drop 1 m.stored));
+}
 
 abbrev pub state_of : Plain → State
 state_of m = λ id. slot_of (stored_at m id)
@@ -60,7 +63,8 @@ free_at m s = slice_index m.free (s - 1)
 
 -- the formula's clauses are live, for good
 abbrev pub IsFormulaLive : Plain → Type 0
-IsFormulaLive m = (id : ℕ) → 0 < id → id ≤ m.layout.clauses → (kept : Kept) × (stored_at m id ≡ live kept)
+IsFormulaLive m =
+    (id : ℕ) → 0 < id → id ≤ m.layout.clauses → (kept : Kept) × (stored_at m id ≡ live kept)
 
 -- what a stream's caller knows at the map
 abbrev pub plain_place : Plain → ℕ → Place
@@ -86,7 +90,8 @@ pub record PlainMoves (old new : Plain) (s : ℕ) (es : History) : Type 0 where
 -- what a fetch of the identity answers where this is stored
 abbrev pub fetched_of : ℕ → Stored → Fetched
 fetched_of id vacant = fetched.Vacant
-fetched_of id (live kept) = fetched.Live (record { id = id; len = length kept.literals; start = kept.start })
+fetched_of id (live kept) =
+    fetched.Live (record { id = id; len = length kept.literals; start = kept.start })
 fetched_of id (retired kept) = fetched.Retired
 
 -- the clause of what is stored follows from the formula
@@ -99,11 +104,20 @@ StoresClause f (retired kept) = IsDerived f kept.literals
 abbrev pub AfterPublish : Plain → Plain → ℕ → ℕ → Clause → Published → Type 0
 AfterPublish old new i id c publishing.Done =
     (i < length old.free) × (id < length old.stored) × (stored_at old id ≡ vacant)
-    × (start : ℕ) × (new ≡ record { layout = old.layout; stored = slice_set old.stored id (live (record { start = start; literals = c })); free = slice_set old.free i (slice_index old.free i - length c) })
+    × (start : ℕ) × (new
+    ≡ record {
+      layout = old.layout;
+      stored = slice_set old.stored id (live (record { start = start; literals = c }));
+      free = slice_set old.free i (slice_index old.free i - length c);
+    })
 AfterPublish old new i id c publishing.Taken = (stored_at old id ≢ vacant) × (new ≡ old)
 
 abbrev pub AfterRetire : Plain → Plain → ℕ → Retired → Type 0
 AfterRetire old new id retiring.Done =
     (id < length old.stored) × (kept : Kept) × (stored_at old id ≡ live kept)
-    × (new ≡ record { layout = old.layout; stored = slice_set old.stored id (retired kept); free = old.free })
+    × (new ≡ record {
+      layout = old.layout;
+      stored = slice_set old.stored id (retired kept);
+      free = old.free;
+    })
 AfterRetire old new id retiring.NotLive = (¬ IsLive (slot_of (stored_at old id))) × (new ≡ old)

@@ -11,8 +11,10 @@ use Rattle.lrup_model.specs.declared.plain_map.Entry.TheVariants as entries
 -- what an entry stands for
 abbrev pub stored_in : List ℤ → Entry → Stored
 stored_in ls entries.Vacant = plain.vacant
-stored_in ls (entries.Live start len) = plain.live (record { start = start; literals = slice_range ls start (start + len) })
-stored_in ls (entries.Retired start len) = plain.retired (record { start = start; literals = slice_range ls start (start + len) })
+stored_in ls (entries.Live start len) =
+    plain.live (record { start = start; literals = slice_range ls start (start + len) })
+stored_in ls (entries.Retired start len) =
+    plain.retired (record { start = start; literals = slice_range ls start (start + len) })
 
 abbrev pub plain_of : LayoutValue → List Entry → List ℤ → List ℕ → Plain
 plain_of p es ls free = record { layout = p; stored = map (stored_in ls) es; free = free }
@@ -24,7 +26,8 @@ LiesWithin n (entries.Live start len) = start + len ≤ n
 LiesWithin n (entries.Retired start len) = start + len ≤ n
 
 -- capacity is what the list of literals has memory for: no publish takes more
-pub record IsSound (p : LayoutValue) (es : List Entry) (ls : List ℤ) (free : List ℕ) (capacity : ℕ) : Type 0 where
+pub record IsSound (p : LayoutValue) (es : List Entry) (ls : List ℤ) (free : List ℕ)
+    (capacity : ℕ) : Type 0 where
   pub limits : IsLayout p
   pub count : length es ≡ last_identity p + 1
   pub streams : length free ≡ p.streams
@@ -32,7 +35,8 @@ pub record IsSound (p : LayoutValue) (es : List Entry) (ls : List ℤ) (free : L
   pub reserved : length ls + sum free ≤ capacity
   pub small : length ls + sum free ≤ max_row_words
   pub formula : IsFormulaLive (plain_of p es ls free)
-  pub clauses : AllByRecursion (StoresClause (formula_of (plain_of p es ls free))) (map (stored_in ls) es)
+  pub clauses : AllByRecursion (StoresClause (formula_of (plain_of p es ls free)))
+      (map (stored_in ls) es)
 
 -- the literals of all clauses, one clause after the other
 abbrev pub flat : List Clause → List ℤ

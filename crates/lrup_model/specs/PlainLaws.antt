@@ -23,7 +23,8 @@ moves_none m s = record {
   follow = λ all. all;
 }
 
-pub moves_append : (a b c : Plain) (s : ℕ) (es fs : History) → PlainMoves a b s es → PlainMoves b c s fs → PlainMoves a c s (es ++ fs)
+pub moves_append : (a b c : Plain) (s : ℕ) (es fs : History) → PlainMoves a b s es
+    → PlainMoves b c s fs → PlainMoves a c s (es ++ fs)
 moves_append a b c s es fs h k = record {
   layout = k.layout ∙ h.layout;
   formula = k.formula ∙ h.formula;
@@ -41,7 +42,8 @@ moves_append a b c s es fs h k = record {
   follow = λ all. k.follow (h.follow all);
 }
 
-pub moves_tells : (a b : Plain) (s : ℕ) (es : History) → PlainMoves a b s es → Tells (plain_place a s) (plain_place b s) es
+pub moves_tells : (a b : Plain) (s : ℕ) (es : History) → PlainMoves a b s es
+    → Tells (plain_place a s) (plain_place b s) es
 moves_tells a b s es h = record {
   caller = ap₂ (λ (f : Cnf) (p : LayoutValue). record { formula = f; layout = p; stream = s }) h.formula h.layout;
   callers = h.callers;

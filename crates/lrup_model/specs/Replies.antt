@@ -22,8 +22,10 @@ IsFetched p id fetched.Retired = (kept : Kept) × (p.spelt id ≡ Some kept)
 
 -- an identity of the caller's own has what the caller's calls left there
 abbrev pub AnswersOwn : Place → ℕ → Reply → Type 0
-AnswersOwn p id reply = Owns p.caller.layout p.caller.stream id → Answers p.own (fetch p.caller.stream id reply)
+AnswersOwn p id reply =
+    Owns p.caller.layout p.caller.stream id → Answers p.own (fetch p.caller.stream id reply)
 
 -- an identity of the formula has its clause, live
 abbrev pub AnswersFormula : Place → ℕ → Reply → Type 0
-AnswersFormula p id reply = 0 < id → id ≤ p.caller.layout.clauses → reply ≡ live (clause_at p.caller.formula id)
+AnswersFormula p id reply =
+    0 < id → id ≤ p.caller.layout.clauses → reply ≡ live (clause_at p.caller.formula id)

@@ -26,14 +26,17 @@ pub record Restricts (p : LayoutValue) (set : ℕ → Bool) (whole part : State)
   pub inside : (id : ℕ) → IsInside p set id → part id ≡ whole id
   pub outside : (id t : ℕ) → Owns p t id → set t ≡ false → part id ≡ absent
 
-Restricts-opening : (f : Cnf) (p : LayoutValue) (set : ℕ → Bool) → Fits p f → Restricts p set (opening f) (opening f)
+Restricts-opening : (f : Cnf) (p : LayoutValue) (set : ℕ → Bool) → Fits p f
+    → Restricts p set (opening f) (opening f)
 Restricts-opening f p set fits = record {
   inside = λ id within. refl;
   outside = λ id t owns out. opening-owned f p t id fits owns;
 }
 
 -- an event of the set's streams changes both states
-Restricts-member : (f : Cnf) (p : LayoutValue) (set : ℕ → Bool) (whole part : State) (e : Event) → IsAllowed f p e → set (stream_of e) ≡ true → Restricts p set whole part → Restricts p set (after whole e) (after part e)
+Restricts-member : (f : Cnf) (p : LayoutValue) (set : ℕ → Bool) (whole part : State) (e : Event)
+    → IsAllowed f p e → set (stream_of e) ≡ true → Restricts p set whole part
+    → Restricts p set (after whole e) (after part e)
 Restricts-member f p set whole part e allowed member rel = record {
   inside = λ id within. after-agrees part whole e id (rel.inside id within);
   outside = λ id t owns out.
@@ -42,7 +45,9 @@ Restricts-member f p set whole part e allowed member rel = record {
 }
 
 -- an event of another stream changes the whole state alone
-Restricts-other : (f : Cnf) (p : LayoutValue) (set : ℕ → Bool) (whole part : State) (e : Event) → IsAllowed f p e → set (stream_of e) ≡ false → Restricts p set whole part → Restricts p set (after whole e) part
+Restricts-other : (f : Cnf) (p : LayoutValue) (set : ℕ → Bool) (whole part : State) (e : Event)
+    → IsAllowed f p e → set (stream_of e) ≡ false → Restricts p set whole part
+    → Restricts p set (after whole e) part
 Restricts-other f p set whole part e allowed other rel = record {
   inside = λ id within.
       let foreign : Owns p (stream_of e) id → ⊥ = λ theirs. true≢false (sym (within (stream_of e) theirs) ∙ other) in
@@ -51,7 +56,8 @@ Restricts-other f p set whole part e allowed other rel = record {
 }
 
 -- an owned identity is inside the set, or else a stream outside it owns it
-inside_or_outside : (p : LayoutValue) (set : ℕ → Bool) (id : ℕ) (o : Owner) → owner p id ≡ o → IsInside p set id ⊎ ((t : ℕ) × Owns p t id × (set t ≡ false))
+inside_or_outside : (p : LayoutValue) (set : ℕ → Bool) (id : ℕ) (o : Owner) → owner p id ≡ o
+    → IsInside p set id ⊎ ((t : ℕ) × Owns p t id × (set t ≡ false))
 inside_or_outside p set id owners.Formula is = inl (λ t owns. absurd (cc))
 inside_or_outside p set id (owners.Stream s) is =
     elim (cases_Bool (set s)) [
@@ -60,19 +66,22 @@ inside_or_outside p set id (owners.Stream s) is =
     ]
 inside_or_outside p set id owners.Outside is = inl (λ t owns. absurd (cc))
 
-restricted_nothing : (p : LayoutValue) (set : ℕ → Bool) (whole part : State) (id : ℕ) → Restricts p set whole part → whole id ≡ absent → part id ≡ absent
+restricted_nothing : (p : LayoutValue) (set : ℕ → Bool) (whole part : State) (id : ℕ)
+    → Restricts p set whole part → whole id ≡ absent → part id ≡ absent
 restricted_nothing p set whole part id rel nothing =
     elim (inside_or_outside p set id (owner p id) refl) [
       | inl within ↦ rel.inside id within ∙ nothing
       | inr out ↦ rel.outside id out.0 out.1 out.2
     ]
 
-own_inside : (p : LayoutValue) (set : ℕ → Bool) (s id : ℕ) → set s ≡ true → Owns p s id → IsInside p set id
+own_inside : (p : LayoutValue) (set : ℕ → Bool) (s id : ℕ) → set s ≡ true → Owns p s id
+    → IsInside p set id
 own_inside p set s id member owns t theirs = ap set (one_owner p t s id theirs owns) ∙ member
 
 -- an event of the set's streams has the same reply from the restricted state
 Restricts-answers : (f : Cnf) (p : LayoutValue) (set : ℕ → Bool) (whole part : State) (e : Event)
-    → IsAllowed f p e → set (stream_of e) ≡ true → FindsWithin p set e → Restricts p set whole part → Answers whole e → Answers part e
+    → IsAllowed f p e → set (stream_of e) ≡ true → FindsWithin p set e → Restricts p set whole part
+    → Answers whole e → Answers part e
 Restricts-answers f p set whole part (events.fetch s id events.vacant) allowed member finds rel answers = restricted_nothing p set whole part id rel answers
 Restricts-answers f p set whole part (events.fetch s id (events.live c)) allowed member finds rel answers = rel.inside id (finds member tt) ∙ answers
 Restricts-answers f p set whole part (events.fetch s id events.retired) allowed member finds rel answers =
@@ -86,13 +95,16 @@ Restricts-answers f p set whole part (events.retire s id retiring.Done) allowed 
 Restricts-answers f p set whole part (events.retire s id retiring.NotLive) allowed member finds rel answers =
     λ is_live. answers (subst (λ (x : Slot). IsLive x) (rel.inside id (own_inside p set s id member allowed)) is_live)
 
-among-member : (set : ℕ → Bool) (e : Event) (h : History) → set (stream_of e) ≡ true → among set (e ∷ h) ≡ e ∷ among set h
+among-member : (set : ℕ → Bool) (e : Event) (h : History) → set (stream_of e) ≡ true
+    → among set (e ∷ h) ≡ e ∷ among set h
 among-member set e h member = cond-true (set (stream_of e)) (e ∷ among set h) (among set h) member
 
-among-other : (set : ℕ → Bool) (e : Event) (h : History) → set (stream_of e) ≡ false → among set (e ∷ h) ≡ among set h
+among-other : (set : ℕ → Bool) (e : Event) (h : History) → set (stream_of e) ≡ false
+    → among set (e ∷ h) ≡ among set h
 among-other set e h other = cond-false (set (stream_of e)) (e ∷ among set h) (among set h) other
 
-pub among-members : (set : ℕ → Bool) (h : History) → AllByRecursion (λ e. IsTrue (set (stream_of e))) (among set h)
+pub among-members : (set : ℕ → Bool) (h : History)
+    → AllByRecursion (λ e. IsTrue (set (stream_of e))) (among set h)
 among-members set [] = tt
 among-members set (e ∷ h) =
     elim (cases_Bool (set (stream_of e))) [
@@ -103,7 +115,8 @@ among-members set (e ∷ h) =
 own-cons : (e : Event) (g h : History) (s : ℕ) → own g s ≡ own h s → own (e ∷ g) s ≡ own (e ∷ h) s
 own-cons e g h s same = ap (λ (k : History). cond (eqb (stream_of e) s) (e ∷ k) k) same
 
-pub own-among : (set : ℕ → Bool) (h : History) (s : ℕ) → IsTrue (set s) → own (among set h) s ≡ own h s
+pub own-among : (set : ℕ → Bool) (h : History) (s : ℕ) → IsTrue (set s)
+    → own (among set h) s ≡ own h s
 own-among set [] s inside = refl
 own-among set (e ∷ h) s inside =
     elim (cases_Bool (set (stream_of e))) [
@@ -113,7 +126,9 @@ own-among set (e ∷ h) s inside =
           ∙ sym (own-other e h s (λ mine. true≢false (sym inside ∙ ap set (sym mine) ∙ other)))
     ]
 
-pub among-legal : (f : Cnf) (p : LayoutValue) (set : ℕ → Bool) (whole part : State) (h : History) → Restricts p set whole part → LegalFrom f p whole h → AllByRecursion (FindsWithin p set) h → LegalFrom f p part (among set h)
+pub among-legal : (f : Cnf) (p : LayoutValue) (set : ℕ → Bool) (whole part : State) (h : History)
+    → Restricts p set whole part → LegalFrom f p whole h → AllByRecursion (FindsWithin p set) h
+    → LegalFrom f p part (among set h)
 among-legal f p set whole part [] rel legal finds = tt
 among-legal f p set whole part (e ∷ h) rel legal finds =
     elim (cases_Bool (set (stream_of e))) [
@@ -128,10 +143,12 @@ among-legal f p set whole part (e ∷ h) rel legal finds =
 
 -- Room
 
-spent-mine : (s : ℕ) (e : Event) (h : History) → stream_of e ≡ s → spent s (e ∷ h) ≡ size_of e + spent s h
+spent-mine : (s : ℕ) (e : Event) (h : History) → stream_of e ≡ s
+    → spent s (e ∷ h) ≡ size_of e + spent s h
 spent-mine s e h mine = ap (sum_by size_of) (own-mine e h s mine) ∙ sum_by-cons size_of e (own h s)
 
-spent-other : (s : ℕ) (e : Event) (h : History) → (stream_of e ≡ s → ⊥) → spent s (e ∷ h) ≡ spent s h
+spent-other : (s : ℕ) (e : Event) (h : History) → (stream_of e ≡ s → ⊥)
+    → spent s (e ∷ h) ≡ spent s h
 spent-other s e h other = ap (sum_by size_of) (own-other e h s other)
 
 spent-rest : (s : ℕ) (e : Event) (h : History) → spent s h ≤ spent s (e ∷ h)
@@ -141,7 +158,8 @@ spent-rest s e h =
       | inr other ↦ omega (arith, spent-other s e h other)
     ]
 
-spent-cons-le : (s : ℕ) (e : Event) (g h : History) → spent s g ≤ spent s h → spent s (e ∷ g) ≤ spent s (e ∷ h)
+spent-cons-le : (s : ℕ) (e : Event) (g h : History) → spent s g ≤ spent s h
+    → spent s (e ∷ g) ≤ spent s (e ∷ h)
 spent-cons-le s e g h less =
     elim (cases_eq (stream_of e) s) [
       | inl mine ↦ omega (arith, less, spent-mine s e g mine, spent-mine s e h mine)
@@ -156,7 +174,8 @@ spent-among s set (e ∷ h) =
       | inr other ↦ subst (λ (g : History). spent s g ≤ spent s (e ∷ h)) (sym (among-other set e h other)) (omega (arith, spent-among s set h, spent-rest s e h))
     ]
 
-pub restriction_legal : (f : Cnf) (p : LayoutValue) (set : ℕ → Bool) (h : History) → Fits p f → IsLegal f p h → AllByRecursion (FindsWithin p set) h → IsLegal f p (among set h)
+pub restriction_legal : (f : Cnf) (p : LayoutValue) (set : ℕ → Bool) (h : History) → Fits p f
+    → IsLegal f p h → AllByRecursion (FindsWithin p set) h → IsLegal f p (among set h)
 restriction_legal f p set h fits legal finds = record {
   events = among-legal f p set (opening f) (opening f) h (Restricts-opening f p set fits) legal.events finds;
   room = λ s. omega (arith, spent-among s set h, legal.room s);

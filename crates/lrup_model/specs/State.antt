@@ -42,7 +42,8 @@ put m id slot = λ j. if j == id then slot else m j
 
 -- identities from 1 on are the formula's clauses, live; all others are absent
 abbrev pub opening : Cnf → State
-opening f = λ id. if nat_lt 0 id && nat_le id (length f.clauses) then live (clause_at f id) else absent
+opening f =
+    λ id. if nat_lt 0 id && nat_le id (length f.clauses) then live (clause_at f id) else absent
 
 -- the state after an event
 abbrev pub after : State → Event → State

@@ -121,7 +121,8 @@ pub trait ClauseMap {
 
     /// Is this identity the caller's own?
     fn owns(&self, id: Id) -> bool
-        ensures { IsTrue result ↔ Owns (place self.now).caller.layout (place self.now).caller.stream id };
+        ensures { IsTrue result
+            ↔ Owns (place self.now).caller.layout (place self.now).caller.stream id };
 
     /// What is left of the caller's room, in literals: a publish with Done takes the clause's length, and nothing gives any back.
     fn room(&self) -> u64
@@ -131,11 +132,13 @@ pub trait ClauseMap {
     /// calls left there. The layout has the formula's variables, and every clause that the caller has seen follows from it.
     fn fetch(&mut self, id: Id) -> Fetched
         requires { IsIdentity (place self.old).caller.layout id }
-        ensures event { moves self.old self.new (fetch (place self.old).caller.stream id (reply_of (place self.new) result) ∷ []) }
+        ensures event { moves self.old self.new
+            (fetch (place self.old).caller.stream id (reply_of (place self.new) result) ∷ []) }
         ensures fetched { IsFetched (place self.new) id result }
         ensures own { AnswersOwn (place self.old) id (reply_of (place self.new) result) }
         ensures formula { AnswersFormula (place self.old) id (reply_of (place self.new) result) }
-        ensures variables { (place self.new).caller.formula.vars ≡ (place self.new).caller.layout.vars }
+        ensures variables { (place self.new).caller.formula.vars
+            ≡ (place self.new).caller.layout.vars }
         ensures follow { AllFollow (place self.new) };
 
     /// Literal `k`, from 0 on, of a clause whose clip is known here. The order isn't promised, and stays.
@@ -172,13 +175,15 @@ pub trait ClauseMap {
         requires owns { Owns (place self.old).caller.layout (place self.old).caller.stream id }
         requires clause { IsPublishable (place self.old).caller.formula clause.now }
         requires room { length clause.now ≤ (place self.old).room }
-        ensures event { moves self.old self.new (publish (place self.old).caller.stream id clause.now result ∷ []) }
+        ensures event { moves self.old self.new
+            (publish (place self.old).caller.stream id clause.now result ∷ []) }
         ensures done { (result ≡ Published.Done) ↔ ((place self.old).own id ≡ absent) };
 
     /// Retires the clause under an identity of the caller's own.
     fn retire(&mut self, id: Id) -> Retired
         requires { Owns (place self.old).caller.layout (place self.old).caller.stream id }
-        ensures event { moves self.old self.new (retire (place self.old).caller.stream id result ∷ []) }
+        ensures event { moves self.old self.new
+            (retire (place self.old).caller.stream id result ∷ []) }
         ensures done { (result ≡ Retired.Done) ↔ IsLive ((place self.old).own id) };
 
     /// No events lie between a moment and itself.

@@ -91,7 +91,8 @@ impl Layout {
         ensures layout { let layout = layout_value vars clauses literals streams lines room in
             IfOk result (λ given. (given ≡ layout) × IsLayout layout) }
         // The first that holds, in the order of the list.
-        ensures fault { IfErr result (IsFault (layout_value vars clauses literals streams lines room)) }
+        ensures fault { IfErr result
+            (IsFault (layout_value vars clauses literals streams lines room)) }
     {
         if vars > u64::from(Lit::MAX_VARIABLE) {
             return Err(LayoutFault::TooManyVariables);
@@ -212,7 +213,8 @@ fn row_fits(clauses: u64, literals: u64, streams: u64, lines: u64, room: u64) ->
     requires clauses { clauses ≤ max_clauses }
     requires some_stream { 0 < streams }
     requires streams { streams ≤ max_streams }
-    ensures { IsTrue result ↔ (1 + (clauses + streams * lines) + literals + streams * room ≤ max_row_words) }
+    ensures { IsTrue result
+        ↔ (1 + (clauses + streams * lines) + literals + streams * room ≤ max_row_words) }
 {
     const MOST: u64 = Layout::MAX_ROW_WORDS;
     if literals > MOST || lines > MOST || room > MOST {

@@ -116,7 +116,8 @@ impl PlainMap {
         ensures layout { IfOk result (λ map. map.layout ≡ layout.now) }
         ensures formula { IfOk result (λ map. formula_of map ≡ formula.now) }
         ensures state { IfOk result (λ map. state_of map ≡ opening formula.now) }
-        ensures room { IfOk result (λ map. map.free ≡ replicate layout.now.streams layout.now.room) }
+        ensures room { IfOk result
+            (λ map. map.free ≡ replicate layout.now.streams layout.now.room) }
     {
         let mut literals = Vec::with_capacity(
             alloc,
@@ -168,7 +169,8 @@ impl PlainMap {
 
 /// The whole room of each stream.
 fn rooms(alloc: Global, layout: &Layout) -> Result<Vec<u64>, AllocError>
-    ensures rooms { IfOk result (λ free. free.items ≡ replicate layout.now.streams layout.now.room) }
+    ensures rooms { IfOk result
+        (λ free. free.items ≡ replicate layout.now.streams layout.now.room) }
     ensures limits { IsLayout layout.now }
 {
     vec![in alloc; layout.room(); layout.streams() as usize]

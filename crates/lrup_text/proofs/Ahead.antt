@@ -5,6 +5,7 @@ use Rattle.std.specs.declared.alloc.Global.{Global}
 use Rattle.std.specs.Fmt.{decimal, signed_decimal}
 use Rattle.std.specs.List.{AllByRecursion, flat_map}
 use Rattle.std.proofs.lemmas.List.{append_assoc, append-nil, length-append, length-take-le, take-take}
+use Rattle.lrup_model.specs.ListLemmas.{All-append}
 use Rattle.lrup_text.specs.declared.machine.Place.TheVariants as places
 use Rattle.lrup_text.specs.declared.machine.PartialLine.{PartialLine}
 use Rattle.lrup_text.specs.Grammar.{IsDigit, SpellsNumber, SpellsLiteral, space, minus}
@@ -75,10 +76,6 @@ texts_append : {X : Type 0} (f : X → List ℕ) (xs ys : List X) → flat_map f
 texts_append f [] ys = refl
 texts_append f (x ∷ xs) ys = ap (λ t. f x ++ t) (texts_append f xs ys) ∙ sym (append_assoc (f x) (flat_map f xs) (flat_map f ys))
 
-all_append : {X : Type 0} (P : X → Type 0) (xs ys : List X) → AllByRecursion P xs → AllByRecursion P ys → AllByRecursion P (xs ++ ys)
-all_append P [] ys h k = k
-all_append P (x ∷ xs) ys h k = (h.0, all_append P xs ys h.1 k)
-
 -- how many there are then
 count_is : {X : Type 0} (old new more : List X) (first count : ℕ) → first ≤ length old → count ≤ length new → take count new ≡ take first old ++ more → count ≡ first + length more
 count_is old new more first count first_in count_in is =
@@ -113,7 +110,7 @@ items_ahead m v count used last ids piece h at items size inside found =
           few_literals = h.kept.few_literals;
           few_identities = omega (arith, found.few, size);
           literals = h.kept.literals;
-          identities = subst (AllByRecursion IsStreamNumber) (sym lists) (all_append IsStreamNumber (identities_of m) found.more h.kept.identities found.each);
+          identities = subst (AllByRecursion IsStreamNumber) (sym lists) (All-append IsStreamNumber (identities_of m) found.more h.kept.identities found.each);
         };
         number = h.number;
         roomy = subst (λ p. IsRoomy p m) at h.roomy;
@@ -147,7 +144,7 @@ literals_ahead m v count used last lits piece h at items size inside found =
           few_literals = omega (arith, found.few, size);
           few_identities = h.kept.few_identities;
           identities = h.kept.identities;
-          literals = subst (AllByRecursion IsStreamLiteral) (sym lists) (all_append IsStreamLiteral (literals_of m) found.more h.kept.literals found.each);
+          literals = subst (AllByRecursion IsStreamLiteral) (sym lists) (All-append IsStreamLiteral (literals_of m) found.more h.kept.literals found.each);
         };
         number = h.number;
         roomy = subst (λ p. IsRoomy p m) at h.roomy;

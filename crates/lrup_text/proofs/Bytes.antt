@@ -6,6 +6,7 @@ use Rattle.std.specs.Prelude.{Vec, vec_len, slice_set}
 use Rattle.std.specs.declared.alloc.Global.{Global}
 use Rattle.std.proofs.lemmas.List.{append_assoc, append-nil, flat_map_more, take_more_set, length-set, length-take-le}
 use Rattle.std.proofs.lemmas.Bool.{cases_eq}
+use Rattle.lrup_model.specs.ListLemmas.{All-push}
 use Rattle.lrup_text.specs.declared.LineFault.TheVariants.{Spelling, TooLong, RatHint}
 use Rattle.lrup_text.specs.declared.machine.Place.{Place}
 use Rattle.lrup_text.specs.declared.machine.Place.TheVariants as places
@@ -121,10 +122,6 @@ positive n k h = (h.low, below_limit n k h)
 -- one more element at the end
 pub text_more : {X : Type 0} (f : X → List ℕ) (xs : List X) (x : X) → flat_map f (xs ++ x ∷ []) ≡ flat_map f xs ++ f x
 text_more f xs x = sym (flat_map_more f [] xs x)
-
-pub all_more : {X : Type 0} (P : X → Type 0) (xs : List X) (x : X) → AllByRecursion P xs → P x → AllByRecursion P (xs ++ x ∷ [])
-all_more P [] x all one = (one, tt)
-all_more P (y ∷ ys) x all one = (all.0, all_more P ys x all.1 one)
 
 -- the end of a list, and of a clause
 pub items_end : (ids : List ℕ) → items_text ids ++ space ∷ zero_digit ∷ line_feed ∷ [] ≡ list_text (map decimal ids)
@@ -468,7 +465,7 @@ module _ (m : PartialLine) (b : ℕ) (h : Reads m) where
             few_literals = omega arith;
             few_identities = h.kept.few_identities;
             identities = h.kept.identities;
-            literals = subst (AllByRecursion IsStreamLiteral) (sym more) (all_more IsStreamLiteral (literals_of m) z h.kept.literals literal);
+            literals = subst (AllByRecursion IsStreamLiteral) (sym more) (All-push IsStreamLiteral (literals_of m) z h.kept.literals literal);
           };
           number = h.number;
           roomy = roomy.0;
@@ -621,7 +618,7 @@ module _ (m : PartialLine) (b : ℕ) (h : Reads m) where
             few_identities = omega arith;
             literals = h.kept.literals;
             identities = subst (AllByRecursion IsStreamNumber) (sym more)
-                (all_more IsStreamNumber (identities_of m) m.number h.kept.identities (positive m.number m.digits h.number));
+                (All-push IsStreamNumber (identities_of m) m.number h.kept.identities (positive m.number m.digits h.number));
           };
           number = h.number;
           roomy = roomy.1;

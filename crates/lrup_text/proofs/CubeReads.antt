@@ -5,6 +5,7 @@ use Rattle.std.specs.Fmt.{decimal, signed_decimal}
 use Rattle.std.specs.List.{AllByRecursion}
 use Rattle.std.proofs.lemmas.List.{append_assoc, length-append}
 use Rattle.lrup_model.specs.Cube.{IsOver}
+use Rattle.lrup_model.specs.ListLemmas.{All-push}
 use Rattle.lrup_text.specs.declared.cube.CubeFault.{CubeFault}
 use Rattle.lrup_text.specs.declared.cube.CubeFault.TheVariants.{Spelling, TooLong, Range, Memory}
 use Rattle.lrup_text.specs.CubeReading.{LiteralsFollow, DigitsFollowIn, IsRestFault, ReadsNumber, ReadsLiteral, AreKept, AreNotKept}
@@ -12,7 +13,7 @@ use Rattle.lrup_text.specs.Cubes.{IsCubeLine, IsTextOf, IsTextFault, IsCubeFault
 use Rattle.lrup_text.specs.Grammar.{IsDigit, line_feed, space, minus, zero_digit}
 use Rattle.lrup_text.specs.Lines.{IsStreamNumber, IsStreamLiteral}
 use Rattle.lrup_text.specs.Reading.{FitsDigits, literals_text, literal_front}
-use Rattle.lrup_text.proofs.Bytes.{first_digit, more_digits, decimal_next, positive, all_more, text_more, literals_end}
+use Rattle.lrup_text.proofs.Bytes.{first_digit, more_digits, decimal_next, positive, text_more, literals_end}
 use Rattle.lrup_text.proofs.CubeFaults.{Continues, continues_then, fault_after}
 use Rattle.lrup_text.proofs.CubeRests.{line_start, digit_continues, word_continues}
 use Rattle.lrup_text.proofs.Numerals.{decimal_one}
@@ -88,7 +89,7 @@ literals_next text literals count rest next z so read few =
     record {
       size = omega (arith, length-append literals (z ∷ []), so.size);
       few = omega (arith, few);
-      each = all_more IsStreamLiteral literals z so.each read.fits;
+      each = All-push IsStreamLiteral literals z so.each read.fits;
       is =
           so.is ∙ ap (λ t. literals_text literals ++ t) (read.is ∙ sym (append_assoc (signed_decimal z) (space ∷ []) next))
           ∙ sym (append_assoc (literals_text literals) word next) ∙ ap (λ t. t ++ next) (sym longer);

@@ -1,9 +1,10 @@
 -- Every list of bytes is cut into lines: bytes are taken one by one, up to the end of a line or the byte that decides.
 use Rattle.std.proofs.Common.{◌≡◌, ◌≢◌, ℕ, suc, zero, ◌+◌, ◌<◌, ◌≤◌, ◌⊎◌, inl, inr, Bool, true, false, List, [], ◌∷◌, ◌++◌, length, refl, sym, ◌∙◌, ap, subst, arith}
-use Rattle.std.specs.List.{AllByRecursion, flat_map}
+use Rattle.std.specs.List.{flat_map}
 use Rattle.std.proofs.lemmas.Bool.{cases_eq, cases_lt}
 use Rattle.std.proofs.lemmas.Grind.{flat_map-append}
 use Rattle.std.proofs.lemmas.List.{append_assoc, append-nil, length-append, nil_from_length}
+use Rattle.lrup_model.specs.ListLemmas.{All-append}
 use Rattle.lrup_text.specs.declared.LineFault.{LineFault}
 use Rattle.lrup_text.specs.declared.LineFault.TheVariants.{Spelling, TooLong, RatHint}
 use Rattle.lrup_text.specs.Faults.{Decides, HasTextFault}
@@ -219,15 +220,11 @@ every_cut stream = cut_up_to (length stream) stream (omega arith)
 
 -- Bytes and what follows them.
 
-all_of_both : {A : Type 0} (P : A → Type 0) (xs ys : List A) → AllByRecursion P xs → AllByRecursion P ys → AllByRecursion P (xs ++ ys)
-all_of_both P [] ys a b = b
-all_of_both P (x ∷ xs) ys a b = (a.0, all_of_both P xs ys a.1 b)
-
 pub cut_goes_on : CutGoesOn
 cut_goes_on bytes more lines others rest left a b = record {
   bytes = ap (λ l. l ++ more) a.bytes ∙ append_assoc (flat_map line_text lines) rest more ∙ ap (λ l. flat_map line_text lines ++ l) b.bytes
       ∙ sym (append_assoc (flat_map line_text lines) (flat_map line_text others) left) ∙ ap (λ l. l ++ left) (sym (flat_map-append line_text lines others));
-  each = all_of_both IsWithinLimits lines others a.each b.each;
+  each = All-append IsWithinLimits lines others a.each b.each;
   last = b.last;
 }
 

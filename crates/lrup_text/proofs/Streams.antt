@@ -4,6 +4,7 @@ use Rattle.std.specs.Fmt.{decimal, signed_decimal}
 use Rattle.std.specs.List.{AllByRecursion, flat_map}
 use Rattle.std.proofs.lemmas.Fmt.{decimal_injective, signed_decimal_injective}
 use Rattle.std.proofs.lemmas.List.{append_assoc, length-append, length-map, append-nil, append_cancel_left, nil_from_length, take_all, flat_map_more}
+use Rattle.lrup_model.specs.ListLemmas.{All-push}
 use Rattle.lrup_text.specs.declared.LineFault.{LineFault}
 use Rattle.lrup_text.specs.declared.LineFault.TheVariants.{Spelling, TooLong, Truncated, RatHint}
 use Rattle.lrup_text.specs.declared.reader.Turn.{Turn}
@@ -254,10 +255,6 @@ refused_stays bytes more fault h =
 refused_no_line : (bytes : List ℕ) (fault : LineFault) → IsRefused bytes fault → HasNoLine bytes
 refused_no_line bytes fault h = subst HasNoLine (append-nil bytes) (refused_stays bytes [] fault h)
 
-all_more : {X : Type 0} (P : X → Type 0) (xs : List X) (x : X) → AllByRecursion P xs → P x → AllByRecursion P (xs ++ x ∷ [])
-all_more P [] x all one = (one, tt)
-all_more P (y ∷ ys) x all one = (all.0, all_more P ys x all.1 one)
-
 -- a longer rest of the same lines
 cut_longer : (stream : List ℕ) (lines : List StreamLine) (read more : List ℕ) → Cut stream lines read → HasNoLine (read ++ more) → Cut (stream ++ more) (lines ++ []) (read ++ more)
 cut_longer stream lines read more cut last =
@@ -270,7 +267,7 @@ cut_line : (stream : List ℕ) (lines : List StreamLine) (read more : List ℕ) 
 cut_line stream lines read more line cut text none = record {
   bytes = ap (λ t. t ++ more) cut.bytes ∙ append_assoc (flat_map line_text lines) read more ∙ ap (λ t. flat_map line_text lines ++ t) text.1
       ∙ flat_map_more line_text [] lines line ∙ sym (append-nil (flat_map line_text (lines ++ line ∷ [])));
-  each = all_more IsWithinLimits lines line cut.each text.0;
+  each = All-push IsWithinLimits lines line cut.each text.0;
   last = none;
 }
 

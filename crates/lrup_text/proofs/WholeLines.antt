@@ -5,12 +5,13 @@ use Rattle.std.specs.List.{AllByRecursion}
 use Rattle.std.proofs.Math.Nat.{mod-eq_of_lt}
 use Rattle.std.proofs.lemmas.Bool.{cases_lt}
 use Rattle.std.proofs.lemmas.List.{append_assoc, take_more, take_more_set, length-set, take_all, append-nil}
+use Rattle.lrup_model.specs.ListLemmas.{All-push}
 use Rattle.lrup_text.specs.Grammar.{space, minus, zero_digit, letter_d, letter_i, line_feed}
 use Rattle.lrup_text.specs.Lines.{IsStreamNumber, IsStreamLiteral}
 use Rattle.lrup_text.specs.Kernel.{EndsLine, EndsWord, ReadsNumber, ReadsLiterals, ReadsItems, ReadsList, ReadsClause, IsWhole, numbers_text}
 use Rattle.lrup_text.specs.Reading.{FitsDigits, IsKept, literals_text, items_text, literal_front, clause_front, list_front}
 use Rattle.lrup_text.proofs.Numerals.{decimal_one}
-use Rattle.lrup_text.proofs.Bytes.{first_digit, more_digits, decimal_next, below_limit, positive, all_more, text_more, line_end, line_fits}
+use Rattle.lrup_text.proofs.Bytes.{first_digit, more_digits, decimal_next, below_limit, positive, text_more, line_end, line_fits}
 
 -- a byte of a word isn't the last
 pub inside_word : (text : List ℕ) (at : ℕ) → EndsWord text → at < length text → space < get_or text at 0 → at + 1 < length text
@@ -113,7 +114,7 @@ literals_next text start old lits first count at negative digits magnitude end z
       more = so.more ++ z ∷ [];
       few = omega (arith, length-set lits count z, room);
       lits = take_more_set lits count z room ∙ ap (λ t. t ++ z ∷ []) so.lits ∙ append_assoc (take first old) so.more (z ∷ []);
-      each = all_more IsStreamLiteral so.more z so.each (subst IsStreamNumber (sym size) number.positive);
+      each = All-push IsStreamLiteral so.more z so.each (subst IsStreamNumber (sym size) number.positive);
       inside = omega (arith, number.inside);
       is =
           take_more text end 0 number.inside
@@ -139,7 +140,7 @@ items_next text start old ids first count at identity end so number is room =
       more = so.more ++ identity ∷ [];
       few = omega (arith, length-set ids count identity, room);
       ids = take_more_set ids count identity room ∙ ap (λ t. t ++ identity ∷ []) so.ids ∙ append_assoc (take first old) so.more (identity ∷ []);
-      each = all_more IsStreamNumber so.more identity so.each number.positive;
+      each = All-push IsStreamNumber so.more identity so.each number.positive;
       inside = omega (arith, number.inside);
       is =
           take_more text end 0 number.inside

@@ -22,11 +22,13 @@ abbrev pub NumberFollowsIn : ℕ → Limits → List ℕ → Type 0
 NumberFollowsIn count limits rest = NumberFollows limits (LiteralsFollow (count + 1) limits) rest
 
 abbrev pub DigitsFollowIn : ℕ → ℕ → Limits → List ℕ → Type 0
-DigitsFollowIn digits count limits rest = DigitsFollow limits digits (LiteralsFollow (count + 1) limits) rest
+DigitsFollowIn digits count limits rest =
+    DigitsFollow limits digits (LiteralsFollow (count + 1) limits) rest
 
 -- the fault of a rest of some kind, where there is room for one more literal
 abbrev pub IsRestFault : (ℕ → Limits → List ℕ → Type 0) → List ℕ → CubeFault → Type 0
-IsRestFault Follows rest fault = (count : ℕ) → count < 65535 → IsTextFault (Follows count) rest fault
+IsRestFault Follows rest fault =
+    (count : ℕ) → count < 65535 → IsTextFault (Follows count) rest fault
 
 -- a number, and the space after it, stand in front of a rest
 pub record ReadsNumber (text : List ℕ) (number : ℕ) (rest : List ℕ) : Type 0 where

@@ -25,7 +25,9 @@ pub record IsCubeText (vars : ℕ) (bytes : List ℕ) (cube : CubeValue) : Type 
 
 -- the bytes are such a line within the limits
 abbrev pub IsCubeLine : Limits → List ℕ → Type 0
-IsCubeLine limits bytes = (words : List (List ℕ)) × AreWords limits.literals (SpellsLiteral limits.digits) words × (bytes ≡ clause_text words (line_feed ∷ []))
+IsCubeLine limits bytes = (words : List (List ℕ))
+    × AreWords limits.literals (SpellsLiteral limits.digits) words
+    × (bytes ≡ clause_text words (line_feed ∷ []))
 
 -- Of texts of some kind, within limits: some rest makes one of the bytes
 abbrev pub BeginsOne : (Limits → List ℕ → Type 0) → Limits → List ℕ → Type 0
@@ -33,14 +35,16 @@ BeginsOne IsOne limits bytes = (rest : List ℕ) × IsOne limits (bytes ++ rest)
 
 -- they begin one if the limits are lifted
 abbrev pub BeginsOneLifted : (Limits → List ℕ → Type 0) → List ℕ → Type 0
-BeginsOneLifted IsOne bytes = (limits : Limits) × AreLifted false limits × BeginsOne IsOne limits bytes
+BeginsOneLifted IsOne bytes =
+    (limits : Limits) × AreLifted false limits × BeginsOne IsOne limits bytes
 
 -- they begin one, and are none
 abbrev pub EndsEarly : (Limits → List ℕ → Type 0) → List ℕ → Type 0
 EndsEarly IsOne bytes = BeginsOne IsOne standard bytes × ¬ IsOne standard bytes
 
 -- they begin none, and what holds of their shortest beginning that begins none
-pub record BeginsNone (IsOne : Limits → List ℕ → Type 0) (bytes : List ℕ) (Shortest : List ℕ → Type 0) : Type 0 where
+pub record BeginsNone (IsOne : Limits → List ℕ → Type 0) (bytes : List ℕ)
+    (Shortest : List ℕ → Type 0) : Type 0 where
   pub read : List ℕ
   pub byte : ℕ
   pub after : List ℕ
@@ -51,7 +55,8 @@ pub record BeginsNone (IsOne : Limits → List ℕ → Type 0) (bytes : List ℕ
 
 -- why they are none
 abbrev pub IsTextFault : (Limits → List ℕ → Type 0) → List ℕ → CubeFault → Type 0
-IsTextFault IsOne bytes Spelling = EndsEarly IsOne bytes ⊎ BeginsNone IsOne bytes (λ shortest. ¬ BeginsOneLifted IsOne shortest)
+IsTextFault IsOne bytes Spelling =
+    EndsEarly IsOne bytes ⊎ BeginsNone IsOne bytes (λ shortest. ¬ BeginsOneLifted IsOne shortest)
 IsTextFault IsOne bytes TooLong = BeginsNone IsOne bytes (BeginsOneLifted IsOne)
 IsTextFault IsOne bytes Range = ⊥
 IsTextFault IsOne bytes Memory = ⊥
@@ -60,11 +65,13 @@ IsTextFault IsOne bytes Memory = ⊥
 abbrev pub IsCubeFault : ℕ → List ℕ → CubeFault → Type 0
 IsCubeFault vars bytes Spelling = IsTextFault IsCubeLine bytes Spelling
 IsCubeFault vars bytes TooLong = IsTextFault IsCubeLine bytes TooLong
-IsCubeFault vars bytes Range = (literals : List ℤ) × IsTextOf literals bytes × ¬ IsOver vars literals
+IsCubeFault vars bytes Range =
+    (literals : List ℤ) × IsTextOf literals bytes × ¬ IsOver vars literals
 IsCubeFault vars bytes Memory = (literals : List ℤ) × IsTextOf literals bytes × IsOver vars literals
 
 -- Laws
 
 -- the text of literals is no misspelled one, and none that is too long
 abbrev pub TextHasNoFault : Type 0
-TextHasNoFault = (literals : List ℤ) (bytes : List ℕ) (fault : CubeFault) → IsTextOf literals bytes → ¬ IsTextFault IsCubeLine bytes fault
+TextHasNoFault = (literals : List ℤ) (bytes : List ℕ) (fault : CubeFault) → IsTextOf literals bytes
+    → ¬ IsTextFault IsCubeLine bytes fault

@@ -16,7 +16,8 @@ pub record Call : Type 0 where
 abbrev pub AreCalls : ReaderState → List Call → ReaderState → Type 0
 AreCalls old [] new = new ≡ old
 AreCalls old (call ∷ calls) new =
-    (state : ReaderState) × Feeds old call.piece call.used call.turn × Leaves old call.piece call.turn state × AreCalls state calls new
+    (state : ReaderState) × Feeds old call.piece call.used call.turn
+    × Leaves old call.piece call.turn state × AreCalls state calls new
 
 -- the bytes that the calls used
 abbrev pub used_bytes : List Call → List ℕ

@@ -20,7 +20,8 @@ pub record Decides (read : List ℕ) (byte : ℕ) (fault : LineFault) : Type 0 w
 
 -- It is the shortest text that begins no line, with this fault, and no line is whole in it.
 abbrev pub IsRefused : List ℕ → LineFault → Type 0
-IsRefused bytes fault = (read : List ℕ) × (byte : ℕ) × (bytes ≡ read ++ byte ∷ []) × Decides read byte fault
+IsRefused bytes fault =
+    (read : List ℕ) × (byte : ℕ) × (bytes ≡ read ++ byte ∷ []) × Decides read byte fault
 
 -- the rest has this fault: it begins with a text that is refused for it
 abbrev pub HasTextFault : List ℕ → LineFault → Type 0

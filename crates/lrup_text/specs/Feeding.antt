@@ -21,14 +21,17 @@ state_of (Some fault) read = Err fault
 -- what a reader gives for a piece, of which it uses so many bytes
 abbrev pub Feeds : ReaderState → List ℕ → ℕ → Turn → Type 0
 Feeds (Err fault) piece used turn = (used ≡ 0) × (turn ≡ Fault fault)
-Feeds (Ok read) piece used (Line line) = (0 < used) × (used ≤ length piece) × LineText (line_of line) (read ++ take used piece)
+Feeds (Ok read) piece used (Line line) =
+    (0 < used) × (used ≤ length piece) × LineText (line_of line) (read ++ take used piece)
 Feeds (Ok read) piece used NeedMore = used ≡ length piece
-Feeds (Ok read) piece used (Fault fault) = (0 < used) × (used ≤ length piece) × IsRefused (read ++ take used piece) fault
+Feeds (Ok read) piece used (Fault fault) =
+    (0 < used) × (used ≤ length piece) × IsRefused (read ++ take used piece) fault
 
 -- what the reader is afterwards
 abbrev pub Leaves : ReaderState → List ℕ → Turn → ReaderState → Type 0
 Leaves old piece (Line line) new = (new ≡ Ok []) × IsPending []
-Leaves old piece NeedMore new = IfOk old (λ read. (new ≡ Ok (read ++ piece)) × IsPending (read ++ piece))
+Leaves old piece NeedMore new =
+    IfOk old (λ read. (new ≡ Ok (read ++ piece)) × IsPending (read ++ piece))
 Leaves old piece (Fault fault) new = new ≡ Err fault
 
 -- what the end of the stream is, and the reader after it

@@ -68,7 +68,8 @@ SpellsLiteral most (c ∷ cs) = SpellsNumber most (c ∷ cs) ⊎ ((c ≡ minus) 
 
 -- a hint: num, or lit where hints are signed
 abbrev pub SpellsHint : Limits → List ℕ → Type 0
-SpellsHint limits word = MatchBool limits.signed (SpellsLiteral limits.digits word) (SpellsNumber limits.digits word)
+SpellsHint limits word =
+    MatchBool limits.signed (SpellsLiteral limits.digits word) (SpellsNumber limits.digits word)
 
 -- the words of a line
 pub data Words : Type 0 where
@@ -84,9 +85,12 @@ pub record AreWords (most : ℕ) (IsWord : List ℕ → Type 0) (words : List (L
 -- words of a line within the limits
 abbrev pub IsWithin : Limits → Words → Type 0
 IsWithin limits (Adds id lits hints) =
-    SpellsNumber limits.digits id × AreWords limits.literals (SpellsLiteral limits.digits) lits × AreWords limits.identities (SpellsHint limits) hints
-IsWithin limits (Deletes lead ids) = SpellsNumber limits.digits lead × AreWords limits.identities (SpellsNumber limits.digits) ids
-IsWithin limits (Imports id lits) = SpellsNumber limits.digits id × AreWords limits.literals (SpellsLiteral limits.digits) lits
+    SpellsNumber limits.digits id × AreWords limits.literals (SpellsLiteral limits.digits) lits
+    × AreWords limits.identities (SpellsHint limits) hints
+IsWithin limits (Deletes lead ids) =
+    SpellsNumber limits.digits lead × AreWords limits.identities (SpellsNumber limits.digits) ids
+IsWithin limits (Imports id lits) =
+    SpellsNumber limits.digits id × AreWords limits.literals (SpellsLiteral limits.digits) lits
 
 -- *( SP num ) SP "0" LF, and *( SP lit ) SP "0" LF
 abbrev pub list_text : List (List ℕ) → List ℕ

@@ -27,7 +27,8 @@ pub record ReadsNumber (text : List ℕ) (start number end : ℕ) : Type 0 where
   pub is : take end text ≡ take start text ++ decimal number
 
 -- Literals stand from one place up to another. They stand in the buffer too, after the first.
-pub record ReadsLiterals (text : List ℕ) (start : ℕ) (old : List ℤ) (first : ℕ) (new : List ℤ) (count end : ℕ) : Type 0 where
+pub record ReadsLiterals (text : List ℕ) (start : ℕ) (old : List ℤ) (first : ℕ) (new : List ℤ)
+    (count end : ℕ) : Type 0 where
   pub more : List ℤ
   pub few : count ≤ length new
   pub lits : take count new ≡ take first old ++ more
@@ -36,7 +37,8 @@ pub record ReadsLiterals (text : List ℕ) (start : ℕ) (old : List ℤ) (first
   pub is : take end text ≡ take start text ++ literals_text more
 
 -- numbers likewise
-pub record ReadsItems (text : List ℕ) (start : ℕ) (old : List ℕ) (first : ℕ) (new : List ℕ) (count end : ℕ) : Type 0 where
+pub record ReadsItems (text : List ℕ) (start : ℕ) (old : List ℕ) (first : ℕ) (new : List ℕ)
+    (count end : ℕ) : Type 0 where
   pub more : List ℕ
   pub few : count ≤ length new
   pub ids : take count new ≡ take first old ++ more
@@ -48,15 +50,18 @@ pub record ReadsItems (text : List ℕ) (start : ℕ) (old : List ℕ) (first : 
 pub record ReadsList (line : List ℕ) (start : ℕ) (ids : List ℕ) (count : ℕ) : Type 0 where
   pub few : count ≤ length ids
   pub each : AllByRecursion IsStreamNumber (take count ids)
-  pub text : line ≡ (take start line ++ items_text (take count ids)) ++ space ∷ zero_digit ∷ line_feed ∷ []
+  pub text : line ≡ (take start line ++ items_text (take count ids))
+      ++ space ∷ zero_digit ∷ line_feed ∷ []
 
 -- so many literals stand there, and the end of an import
 pub record ReadsClause (line : List ℕ) (start : ℕ) (lits : List ℤ) (count : ℕ) : Type 0 where
   pub few : count ≤ length lits
   pub each : AllByRecursion IsStreamLiteral (take count lits)
-  pub text : line ≡ (take start line ++ space ∷ literals_text (take count lits)) ++ zero_digit ∷ line_feed ∷ []
+  pub text : line ≡ (take start line ++ space ∷ literals_text (take count lits))
+      ++ zero_digit ∷ line_feed ∷ []
 
 -- it is the text of the line with this first number, and these lists in front of the buffers
 pub record IsWhole (line : List ℕ) (lits : List ℤ) (ids : List ℕ) (whole : Whole) : Type 0 where
   pub kept : IsKept whole.lead lits whole.literal_count ids whole.identity_count
-  pub text : LineText (line_of_parts whole.imports whole.deletes whole.lead (take whole.literal_count lits) (take whole.identity_count ids)) line
+  pub text : LineText (line_of_parts whole.imports whole.deletes whole.lead
+      (take whole.literal_count lits) (take whole.identity_count ids)) line

@@ -10,28 +10,34 @@ use Rattle.lrup_text.specs.Cutting.{Call, AreCalls, used_bytes, line_given, line
 
 -- a line has one text
 abbrev pub OneText : Type 0
-OneText = (line : StreamLine) (bytes others : List ℕ) → LineText line bytes → LineText line others → bytes ≡ others
+OneText = (line : StreamLine) (bytes others : List ℕ) → LineText line bytes → LineText line others
+    → bytes ≡ others
 
 -- a text spells one line
 abbrev pub OneLine : Type 0
-OneLine = (line other : StreamLine) (bytes : List ℕ) → LineText line bytes → LineText other bytes → line ≡ other
+OneLine = (line other : StreamLine) (bytes : List ℕ) → LineText line bytes → LineText other bytes
+    → line ≡ other
 
 -- no line's text begins another line's
 abbrev pub NoTextBegins : Type 0
-NoTextBegins = (line other : StreamLine) (bytes others more : List ℕ) → LineText line bytes → LineText other others → others ≡ bytes ++ more → more ≡ []
+NoTextBegins = (line other : StreamLine) (bytes others more : List ℕ) → LineText line bytes
+    → LineText other others → others ≡ bytes ++ more → more ≡ []
 
 -- bytes begin with the text of one line at most, and what follows it is the same
 abbrev pub OneFirstLine : Type 0
-OneFirstLine = (line other : StreamLine) (more after : List ℕ) → IsWithinLimits line → IsWithinLimits other
+OneFirstLine = (line other : StreamLine) (more after : List ℕ) → IsWithinLimits line
+    → IsWithinLimits other
     → line_text line ++ more ≡ line_text other ++ after → (line ≡ other) × (more ≡ after)
 
 -- what the grammar takes within the limits of a stream is the text of a line
 abbrev pub TextsAreLines : Type 0
-TextsAreLines = (bytes : List ℕ) → IsLine standard bytes ↔ ((line : StreamLine) × LineText line bytes)
+TextsAreLines = (bytes : List ℕ) → IsLine standard bytes
+    ↔ ((line : StreamLine) × LineText line bytes)
 
 -- a stream is cut in one way
 abbrev pub OneCut : Type 0
-OneCut = (stream : List ℕ) (lines others : List StreamLine) (rest left : List ℕ) → Cut stream lines rest → Cut stream others left → (lines ≡ others) × (rest ≡ left)
+OneCut = (stream : List ℕ) (lines others : List StreamLine) (rest left : List ℕ)
+    → Cut stream lines rest → Cut stream others left → (lines ≡ others) × (rest ≡ left)
 
 -- every list of bytes is cut into lines
 abbrev pub EveryCut : Type 0
@@ -46,19 +52,23 @@ BeginningCut = (bytes more : List ℕ) (lines all : List StreamLine) (rest left 
 -- a cut goes on with that of its rest and what follows
 abbrev pub CutGoesOn : Type 0
 CutGoesOn = (bytes more : List ℕ) (lines others : List StreamLine) (rest left : List ℕ)
-    → Cut bytes lines rest → Cut (rest ++ more) others left → Cut (bytes ++ more) (lines ++ others) left
+    → Cut bytes lines rest → Cut (rest ++ more) others left
+    → Cut (bytes ++ more) (lines ++ others) left
 
 -- a rest in which no line is whole may become one, or has a fault
 abbrev pub PendingOrFaulty : Type 0
-PendingOrFaulty = (rest : List ℕ) → HasNoLine rest → IsPending rest ⊎ ((fault : LineFault) × HasTextFault rest fault)
+PendingOrFaulty = (rest : List ℕ) → HasNoLine rest → IsPending rest
+    ⊎ ((fault : LineFault) × HasTextFault rest fault)
 
 -- a text that begins no line holds none, whatever follows it
 abbrev pub RefusedStays : Type 0
-RefusedStays = (bytes more : List ℕ) (fault : LineFault) → IsRefused bytes fault → HasNoLine (bytes ++ more)
+RefusedStays = (bytes more : List ℕ) (fault : LineFault) → IsRefused bytes fault
+    → HasNoLine (bytes ++ more)
 
 -- a rest has one fault, and what begins a line has none
 abbrev pub OneFault : Type 0
-OneFault = (rest : List ℕ) (fault other : LineFault) → HasTextFault rest fault → (HasTextFault rest other → fault ≡ other) × ¬ Begins rest
+OneFault = (rest : List ℕ) (fault other : LineFault) → HasTextFault rest fault
+    → (HasTextFault rest other → fault ≡ other) × ¬ Begins rest
 
 -- no bytes may become a line
 abbrev pub EmptyPending : Type 0
@@ -70,13 +80,16 @@ EmptyCut = IsCut [] [] (Ok [])
 
 -- a call goes on with the cut, by the line that it gave, if any
 abbrev pub CallCuts : Type 0
-CallCuts = (stream : List ℕ) (lines : List StreamLine) (old new : ReaderState) (piece : List ℕ) (used : ℕ) (turn : Turn)
-    → IsCut stream lines old → Feeds old piece used turn → Leaves old piece turn new → IsCut (stream ++ take used piece) (lines ++ line_given turn) new
+CallCuts = (stream : List ℕ) (lines : List StreamLine) (old new : ReaderState) (piece : List ℕ)
+    (used : ℕ) (turn : Turn)
+    → IsCut stream lines old → Feeds old piece used turn → Leaves old piece turn new
+    → IsCut (stream ++ take used piece) (lines ++ line_given turn) new
 
 -- However a stream comes in pieces, the lines given are those that the bytes used are cut into.
 abbrev pub CallsCut : Type 0
 CallsCut = (stream : List ℕ) (lines : List StreamLine) (old new : ReaderState) (calls : List Call)
-    → IsCut stream lines old → AreCalls old calls new → IsCut (stream ++ used_bytes calls) (lines ++ lines_given calls) new
+    → IsCut stream lines old → AreCalls old calls new
+    → IsCut (stream ++ used_bytes calls) (lines ++ lines_given calls) new
 
 -- The laws that a proof about a whole stream rests on, as one premise.
 pub record CutLaws : Type 0 where

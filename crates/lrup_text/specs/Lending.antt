@@ -8,4 +8,5 @@ use Rattle.lrup_text.specs.contracts.reader.LineReader.{the_row}
 use Rattle.lrup_text.specs.Feeding.{Leaves}
 
 abbrev pub FeedEnds : MutBor LineReader → List ℕ → Turn → Fml
-FeedEnds reader piece turn = follows_so the_row the_row reader.ghost_name maybe.none (λ _ _. ⊤) (λ new. Leaves reader.now piece turn new)
+FeedEnds reader piece turn = follows_so the_row the_row reader.ghost_name maybe.none (λ _ _. ⊤)
+    (λ new. Leaves reader.now piece turn new)

@@ -39,7 +39,8 @@ pub record AreFew {X : Type 0} (most : ℕ) (Is : X → Type 0) (xs : List X) : 
 
 -- it has a text within the limits of a stream
 abbrev pub IsWithinLimits : StreamLine → Type 0
-IsWithinLimits (Addition id lits hints) = IsStreamNumber id × AreFew 65535 IsStreamLiteral lits × AreFew 65536 IsStreamNumber hints
+IsWithinLimits (Addition id lits hints) =
+    IsStreamNumber id × AreFew 65535 IsStreamLiteral lits × AreFew 65536 IsStreamNumber hints
 IsWithinLimits (Deletion lead ids) = IsStreamNumber lead × AreFew 65536 IsStreamNumber ids
 IsWithinLimits (Import id lits) = IsStreamNumber id × AreFew 65535 IsStreamLiteral lits
 
@@ -53,7 +54,8 @@ LineText line bytes = IsWithinLimits line × (bytes ≡ line_text line)
 
 -- no line's text is a beginning of it
 abbrev pub HasNoLine : List ℕ → Type 0
-HasNoLine bytes = (line : StreamLine) (more : List ℕ) → IsWithinLimits line → ¬ (bytes ≡ line_text line ++ more)
+HasNoLine bytes =
+    (line : StreamLine) (more : List ℕ) → IsWithinLimits line → ¬ (bytes ≡ line_text line ++ more)
 
 -- the bytes are the texts of the lines, and then a rest in which no line is whole
 pub record Cut (stream : List ℕ) (lines : List StreamLine) (rest : List ℕ) : Type 0 where

@@ -51,7 +51,8 @@ item_front m = list_front m.deletes m.lead (literals_of m) ++ items_text (identi
 -- the text up to the end of the line
 abbrev pub end_front : (imports deletes : Bool) → ℕ → List ℤ → List ℕ → List ℕ
 end_front true deletes lead lits ids = clause_front true lead lits ++ zero_digit ∷ []
-end_front false deletes lead lits ids = (list_front deletes lead lits ++ items_text ids) ++ space ∷ zero_digit ∷ []
+end_front false deletes lead lits ids =
+    (list_front deletes lead lits ++ items_text ids) ++ space ∷ zero_digit ∷ []
 
 -- a literal as far as it was read
 abbrev pub literal_front : Bool → ℕ → List ℕ
@@ -65,7 +66,8 @@ pending_at places.Lead m = decimal m.number
 pending_at places.Import m = decimal m.lead ++ space ∷ letter_i ∷ []
 pending_at places.Body m = clause_front m.imports m.lead (literals_of m)
 pending_at places.Minus m = clause_front m.imports m.lead (literals_of m) ++ minus ∷ []
-pending_at places.Literal m = clause_front m.imports m.lead (literals_of m) ++ literal_front m.negative m.number
+pending_at places.Literal m =
+    clause_front m.imports m.lead (literals_of m) ++ literal_front m.negative m.number
 pending_at places.List m = list_front m.deletes m.lead (literals_of m)
 pending_at places.Item m = item_front m ++ space ∷ []
 pending_at places.Number m = item_front m ++ space ∷ decimal m.number
@@ -104,7 +106,8 @@ pub record HasRoom (lits : List ℤ) (ids : List ℕ) : Type 0 where
   pub identities : length ids ≡ 65536
 
 -- the first number, and the literals and identities in front of the buffers, can stand in a line
-pub record IsKept (first : ℕ) (lits : List ℤ) (literal_count : ℕ) (ids : List ℕ) (identity_count : ℕ) : Type 0 where
+pub record IsKept (first : ℕ) (lits : List ℤ) (literal_count : ℕ) (ids : List ℕ)
+    (identity_count : ℕ) : Type 0 where
   pub lead : IsStreamNumber first
   pub few_literals : literal_count ≤ 65535
   pub few_identities : identity_count ≤ 65536
@@ -128,18 +131,23 @@ pub record Reads (m : PartialLine) : Type 0 where
 -- What a byte does. The line goes on; or it is whole, and reading stands before the next; or no line begins so.
 abbrev pub Steps : PartialLine → ℕ → Step → PartialLine → Type 0
 Steps old byte More new = Reads new × (pending new ≡ pending old ++ byte ∷ [])
-Steps old byte Done new = Reads new × (pending new ≡ []) × LineText (line_so_far new) (pending old ++ byte ∷ [])
+Steps old byte Done new =
+    Reads new × (pending new ≡ []) × LineText (line_so_far new) (pending old ++ byte ∷ [])
 Steps old byte (Refused fault) new = Decides (pending old) byte fault
 
 -- So many bytes of a piece were read, and the line goes on.
-pub record ReadsAhead (old : PartialLine) (piece : List ℕ) (used : ℕ) (new : PartialLine) : Type 0 where
+pub record ReadsAhead (old : PartialLine) (piece : List ℕ) (used : ℕ)
+    (new : PartialLine) : Type 0 where
   pub bound : used ≤ length piece
   pub reads : Reads new
   pub is : pending new ≡ pending old ++ take used piece
 
 -- What the bytes of a piece do, of which so many were used.
 abbrev pub StepsThrough : PartialLine → List ℕ → ℕ → Step → PartialLine → Type 0
-StepsThrough old piece used More new = (used ≡ length piece) × Reads new × (pending new ≡ pending old ++ piece)
+StepsThrough old piece used More new =
+    (used ≡ length piece) × Reads new × (pending new ≡ pending old ++ piece)
 StepsThrough old piece used Done new =
-    (0 < used) × (used ≤ length piece) × Reads new × (pending new ≡ []) × LineText (line_so_far new) (pending old ++ take used piece)
-StepsThrough old piece used (Refused fault) new = (0 < used) × (used ≤ length piece) × IsRefused (pending old ++ take used piece) fault
+    (0 < used) × (used ≤ length piece) × Reads new × (pending new ≡ [])
+    × LineText (line_so_far new) (pending old ++ take used piece)
+StepsThrough old piece used (Refused fault) new =
+    (0 < used) × (used ≤ length piece) × IsRefused (pending old ++ take used piece) fault

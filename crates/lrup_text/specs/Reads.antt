@@ -14,7 +14,8 @@ ReadsOf S = S → ℕ → Option (List ℕ) → S → Type 0
 
 -- Reads, one after another, took a source from first to last, and gave these bytes together. Some
 -- may have given none, into an empty buffer or at an end: that an end stays one, `reads` may say.
-pub record Gave (S : Type 0) (reads : ReadsOf S) (first : S) (bytes : List ℕ) (last : S) : Type 0 where
+pub record Gave (S : Type 0) (reads : ReadsOf S) (first : S) (bytes : List ℕ)
+    (last : S) : Type 0 where
   pub pieces : List (List ℕ)
   pub calls : FoldsTo (λ s piece t. (room : ℕ) × reads s room (Some piece) t) first pieces last
   pub whole : bytes ≡ concat pieces
@@ -30,7 +31,8 @@ pub record GaveAll (S : Type 0) (reads : ReadsOf S) (first : S) (bytes : List �
   pub end : reads last room (Some []) after
 
 -- Reads gave these bytes of a source, and then one failed.
-pub record BrokeOff (S : Type 0) (reads : ReadsOf S) (has_failed : S → Bool) (first : S) (bytes : List ℕ) : Type 0 where
+pub record BrokeOff (S : Type 0) (reads : ReadsOf S) (has_failed : S → Bool) (first : S)
+    (bytes : List ℕ) : Type 0 where
   pub last : S
   pub given : Gave S reads first bytes last
   pub room : ℕ

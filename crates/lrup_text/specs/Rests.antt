@@ -18,7 +18,8 @@ pub data Spot : Type 0 where
 
 -- an item of a list: an identity to delete, or a hint
 abbrev pub SpellsItem : Limits → Bool → List ℕ → Type 0
-SpellsItem limits deletes word = MatchBool deletes (SpellsNumber limits.digits word) (SpellsHint limits word)
+SpellsItem limits deletes word =
+    MatchBool deletes (SpellsNumber limits.digits word) (SpellsHint limits word)
 
 -- the items after so many, and the end of the line
 pub record ListFollows (limits : Limits) (deletes : Bool) (items : ℕ) (rest : List ℕ) : Type 0 where
@@ -33,7 +34,8 @@ ClauseEnds limits true rest = rest ≡ line_feed ∷ []
 ClauseEnds limits false rest = ListFollows limits false 0 rest
 
 -- the literals after so many, of an import or an addition, and what follows them
-pub record ClauseFollows (limits : Limits) (imports : Bool) (literals : ℕ) (rest : List ℕ) : Type 0 where
+pub record ClauseFollows (limits : Limits) (imports : Bool) (literals : ℕ)
+    (rest : List ℕ) : Type 0 where
   pub words : List (List ℕ)
   pub count : literals + length words ≤ limits.literals
   pub each : AllByRecursion (SpellsLiteral limits.digits) words
@@ -62,10 +64,13 @@ pub record ImportFollows (limits : Limits) (rest : List ℕ) : Type 0 where
 -- after so many literals: more of the clause, or, where nothing says yet what the line is, a deletion or an import
 abbrev pub BodyFollows : Limits → Bool → ℕ → List ℕ → Type 0
 BodyFollows limits imports literals rest =
-    ClauseFollows limits imports literals rest ⊎ ((literals ≡ 0) × (imports ≡ false) × (DeletionFollows limits rest ⊎ ImportFollows limits rest))
+    ClauseFollows limits imports literals rest
+    ⊎ ((literals ≡ 0) × (imports ≡ false)
+    × (DeletionFollows limits rest ⊎ ImportFollows limits rest))
 
 -- the digits after so many, a space, and what may follow it
-pub record DigitsFollow (limits : Limits) (digits : ℕ) (Next : List ℕ → Type 0) (rest : List ℕ) : Type 0 where
+pub record DigitsFollow (limits : Limits) (digits : ℕ) (Next : List ℕ → Type 0)
+    (rest : List ℕ) : Type 0 where
   pub more : List ℕ
   pub each : AllByRecursion IsDigit more
   pub count : digits + length more ≤ limits.digits
@@ -85,30 +90,39 @@ pub record NumberFollows (limits : Limits) (Next : List ℕ → Type 0) (rest : 
 -- the rests that may complete a line whose beginning ends at the spot
 abbrev pub MayComplete : Limits → Spot → List ℕ → Type 0
 MayComplete limits AtStart rest = NumberFollows limits (BodyFollows limits false 0) rest
-MayComplete limits (InLead digits) rest = DigitsFollow limits digits (BodyFollows limits false 0) rest
+MayComplete limits (InLead digits) rest =
+    DigitsFollow limits digits (BodyFollows limits false 0) rest
 MayComplete limits AfterImport rest = LiteralsFollow limits rest
 MayComplete limits (BeforeLiteral imports literals) rest = BodyFollows limits imports literals rest
-MayComplete limits (AfterMinus imports literals) rest = NumberFollows limits (ClauseFollows limits imports (literals + 1)) rest
-MayComplete limits (InLiteral imports digits literals) rest = DigitsFollow limits digits (ClauseFollows limits imports (literals + 1)) rest
+MayComplete limits (AfterMinus imports literals) rest =
+    NumberFollows limits (ClauseFollows limits imports (literals + 1)) rest
+MayComplete limits (InLiteral imports digits literals) rest =
+    DigitsFollow limits digits (ClauseFollows limits imports (literals + 1)) rest
 MayComplete limits (BeforeList deletes) rest = ListFollows limits deletes 0 rest
 MayComplete limits (BeforeItem deletes items) rest = ListFollows limits deletes items (space ∷ rest)
 MayComplete limits (InItem deletes digits items) rest =
-    DigitsFollow limits digits (λ after. ListFollows limits deletes (items + 1) (space ∷ after)) rest
+    DigitsFollow limits digits (λ after. ListFollows limits deletes (items + 1) (space ∷ after))
+    rest
 MayComplete limits AtEnd rest = rest ≡ line_feed ∷ []
 
 -- what was read ends at the spot: the same rests make a line of it, whatever the limits
 pub record Tracks (read : List ℕ) (spot : Spot) : Type 0 where
-  pub completes : (signed : Bool) (limits : Limits) → AreLifted signed limits → (rest : List ℕ) → IsLine limits (read ++ rest) → MayComplete limits spot rest
-  pub line : (signed : Bool) (limits : Limits) → AreLifted signed limits → (rest : List ℕ) → MayComplete limits spot rest → IsLine limits (read ++ rest)
+  pub completes : (signed : Bool) (limits : Limits) → AreLifted signed limits → (rest : List ℕ)
+      → IsLine limits (read ++ rest) → MayComplete limits spot rest
+  pub line : (signed : Bool) (limits : Limits) → AreLifted signed limits → (rest : List ℕ)
+      → MayComplete limits spot rest → IsLine limits (read ++ rest)
 
 -- with the byte a spot becomes another
 pub record Moves (spot : Spot) (byte : ℕ) (next : Spot) : Type 0 where
-  pub to : (signed : Bool) (limits : Limits) → AreLifted signed limits → (rest : List ℕ) → MayComplete limits spot (byte ∷ rest) → MayComplete limits next rest
-  pub from : (signed : Bool) (limits : Limits) → AreLifted signed limits → (rest : List ℕ) → MayComplete limits next rest → MayComplete limits spot (byte ∷ rest)
+  pub to : (signed : Bool) (limits : Limits) → AreLifted signed limits → (rest : List ℕ)
+      → MayComplete limits spot (byte ∷ rest) → MayComplete limits next rest
+  pub from : (signed : Bool) (limits : Limits) → AreLifted signed limits → (rest : List ℕ)
+      → MayComplete limits next rest → MayComplete limits spot (byte ∷ rest)
 
 -- no rest may follow the byte
 abbrev pub Blocks : Bool → Spot → ℕ → Type 0
-Blocks signed spot byte = (limits : Limits) → AreLifted signed limits → (rest : List ℕ) → ¬ MayComplete limits spot (byte ∷ rest)
+Blocks signed spot byte = (limits : Limits) → AreLifted signed limits → (rest : List ℕ)
+    → ¬ MayComplete limits spot (byte ∷ rest)
 
 -- some rest may follow the byte, where the limits are wide enough
 pub record Allows (signed : Bool) (spot : Spot) (byte : ℕ) : Type 0 where

@@ -16,10 +16,15 @@ pub record Breaks (before after : Option (List ℕ)) (held bytes : List ℕ) : T
   pub is : held ++ bytes ≡ went ++ rest
 
 -- what a call put out, that may have failed
-abbrev pub PutsAll : {E : Type 0} → Result (Unit {0}) E → Option (List ℕ) → Option (List ℕ) → List ℕ → List ℕ → List ℕ → Type 0
-PutsAll result before after held holds bytes = MatchResult result (λ _. Puts before after held holds bytes) (λ _. Breaks before after held bytes)
+abbrev pub PutsAll : {E : Type 0} → Result (Unit {0}) E → Option (List ℕ) → Option (List ℕ) → List ℕ
+    → List ℕ → List ℕ → Type 0
+PutsAll result before after held holds bytes =
+    MatchResult result (λ _. Puts before after held holds bytes)
+    (λ _. Breaks before after held bytes)
 
 -- a whole text went out, or, after a fault, a beginning of it
-abbrev pub WritesText : {E : Type 0} → Result (Unit {0}) E → Option (List ℕ) → Option (List ℕ) → List ℕ → Type 0
+abbrev pub WritesText : {E : Type 0} → Result (Unit {0}) E → Option (List ℕ) → Option (List ℕ)
+    → List ℕ → Type 0
 WritesText result before after bytes =
-    MatchResult result (λ _. Appends before after bytes) (λ _. (went rest : List ℕ) × (bytes ≡ went ++ rest) × Appends before after went)
+    MatchResult result (λ _. Appends before after bytes) (λ _. (went rest : List ℕ)
+    × (bytes ≡ went ++ rest) × Appends before after went)

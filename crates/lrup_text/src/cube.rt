@@ -177,7 +177,8 @@ fn with_literal(
     requires { vars ≤ max_variable }
     ensures { (literals : List ℤ) →
         MatchResult kept (λ old. AreKept vars literals old.items) (AreNotKept vars literals) →
-        MatchResult result (λ new. AreKept vars (literals ++ literal ∷ []) new.items) (AreNotKept vars (literals ++ literal ∷ [])) }
+        MatchResult result (λ new. AreKept vars (literals ++ literal ∷ []) new.items)
+        (AreNotKept vars (literals ++ literal ∷ [])) }
 {
     let Some(literal) = literal_within(literal, vars) else {
         return Err(CubeFault::Range);

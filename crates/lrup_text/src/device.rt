@@ -36,7 +36,8 @@ pub trait Source {
         ensures bound { IfOk result (λ count. count ≤ length buffer.new) }
         ensures bytes { ReadConsumes (left self.old) (left self.new) result buffer.new }
         ensures failed { has_failed self.new ≡ is_err result }
-        ensures reads { reads self.old (length buffer.new) (bytes_given result buffer.new) self.new };
+        ensures reads { reads self.old (length buffer.new) (bytes_given result buffer.new)
+            self.new };
 
     /// Whether a read has failed.
     fn failed(&self) -> bool

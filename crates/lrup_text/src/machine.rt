@@ -168,7 +168,8 @@ impl PartialLine {
     /// `None` says nothing of the piece. Nothing was read then.
     fn read_at_once(&mut self, piece: &[u8]) -> Option<usize>
         requires { Reads self.old }
-        ensures whole { IfSome result (λ used. StepsThrough self.old piece.now used Step.Done self.new) }
+        ensures whole { IfSome result
+            (λ used. StepsThrough self.old piece.now used Step.Done self.new) }
         ensures reads { IfNone result (Reads self.new) }
         ensures same { IfNone result (pending self.new ≡ pending self.old) }
     {
@@ -303,7 +304,11 @@ impl PartialLine {
         requires digit { IsDigit byte }
         requires room { self.old.digits < 18 }
         requires fits { self.old.number < 10 ^ self.old.digits }
-        ensures { self.new ≡ record self.old { number = self.old.number * 10 + (byte - 48); digits = self.old.digits + 1 } }
+        ensures { self.new
+            ≡ record self.old {
+              number = self.old.number * 10 + (byte - 48);
+              digits = self.old.digits + 1;
+            } }
     {
         self.number = self.number * 10 + u64::from(byte - b'0');
         self.digits += 1;

@@ -10,8 +10,9 @@ use Rattle.lrup_model.specs.History.{LegalFrom}
 use Rattle.stream_check.specs.Judging.{joined}
 use Rattle.stream_check.specs.Reducing.{reduced}
 use Rattle.runs.specs.Streams.{Block, blocks_of, events_in}
+use Rattle.runs.specs.StreamLemmas.{blocks-same, blocks-other}
 use Rattle.orders.specs.Lines.{IsLineBlock}
-use Rattle.orders.proofs.BlockLemmas.{IsSettled, blocks-same, blocks-other}
+use Rattle.orders.proofs.BlockLemmas.{IsSettled}
 use Rattle.orders.proofs.SwapLemmas.{Settles}
 
 abbrev pub Lines : Type 0

@@ -12,16 +12,11 @@ use Rattle.lrup_model.specs.Running.{legal-append}
 use Rattle.lrup_model.specs.HistoryLemmas.{legal-front, legal-back}
 use Rattle.stream_check.specs.Reducing.{is_vacant}
 use Rattle.runs.specs.Streams.{Block, blocks_of, events_in}
+use Rattle.runs.specs.StreamLemmas.{blocks-same, blocks-other}
 use Rattle.orders.specs.Lines.{IsFetch, IsRetire}
 use Rattle.orders.proofs.SwapLemmas.{Settles, goes-behind, comes-before}
 
--- The blocks of one stream
-
-pub blocks-same : (block : Block) (blocks : List Block) (s : ℕ) → block.stream ≡ s → blocks_of s (block ∷ blocks) ≡ block.events ∷ blocks_of s blocks
-blocks-same block blocks s same = cond-true (eqb block.stream s) (block.events ∷ blocks_of s blocks) (blocks_of s blocks) (eq-eqb block.stream s same)
-
-pub blocks-other : (block : Block) (blocks : List Block) (s : ℕ) → (block.stream ≡ s → ⊥) → blocks_of s (block ∷ blocks) ≡ blocks_of s blocks
-blocks-other block blocks s other = cond-false (eqb block.stream s) (block.events ∷ blocks_of s blocks) (blocks_of s blocks) (ne_eqb block.stream s other)
+-- Blocks
 
 -- what is known of a block in an order: whose its events are, and what they tell of retired identities
 pub record IsSettled (p : LayoutValue) (final : State) (block : Block) : Type 0 where

@@ -1,9 +1,10 @@
 -- The blocks by which a stream is judged, and what it retires.
-use Rattle.std.proofs.Common.{◌≡◌, ℕ, Bool, List, [], ◌∷◌, ◌++◌, refl, sym, ap, subst, ◌∙◌, inl, inr, append-nil, append_assoc}
+use Rattle.std.proofs.Common.{◌≡◌, ℕ, Bool, List, [], ◌∷◌, ◌++◌, refl, sym, ap, subst, ◌∙◌, inl, inr, append-nil}
 use Rattle.std.specs.Prelude.{IsTrue}
 use Rattle.std.specs.List.{AllByRecursion, flat_map}
 use Rattle.std.proofs.lemmas.Grind.{flat_map-append}
 use Rattle.lrup_model.specs.Event.{Event, History}
+use Rattle.lrup_model.specs.ListLemmas.{All-append}
 use Rattle.lrup_text.specs.Lines.{StreamLine, Deletion, IsWithinLimits, line_text, HasNoLine}
 use Rattle.lrup_text.specs.Laws.{OneFirstLine}
 use Rattle.stream_check.specs.declared.report.Report.{Report}
@@ -13,9 +14,10 @@ use Rattle.stream_check.specs.Verdicts.{Verdict, Good, Bad}
 use Rattle.stream_check.specs.Judging.{JudgesLine, AreGood, EndsAfter, StreamEnd, joined}
 use Rattle.stream_check.specs.Reducing.{IsEarly}
 use Rattle.stream_check.specs.Laws.{EarlyEvents, VacantTriesAgain}
+use Rattle.stream_check.specs.ReportLemmas.{split_first, joined-append}
 use Rattle.orders.specs.Lines.{IsEarlyBefore, AreEarly, IsLineBlock}
 use Rattle.orders.specs.Laws.{JudgedBlocks, RetiresOnly, DeletedRetired}
-use Rattle.orders.proofs.KindLemmas.{all_append, line_last, line_retires}
+use Rattle.orders.proofs.KindLemmas.{line_last, line_retires}
 
 -- Early events
 
@@ -74,15 +76,11 @@ module _ (early_events : EarlyEvents) (vacant_tries_again : VacantTriesAgain) (c
 pub judged_blocks : EarlyEvents → VacantTriesAgain → JudgedBlocks
 judged_blocks early_events vacant_tries_again c bytes end blocks report j =
     subst (AllByRecursion IsLineBlock) (sym j.split)
-    (all_append IsLineBlock j.front j.back
+    (All-append IsLineBlock j.front j.back
     (good_blocks early_events vacant_tries_again c [] j.lines j.front j.begins.good)
     (end_blocks early_events vacant_tries_again c j.lines j.rest end j.back report j.ends))
 
 -- Which of the lines that the bytes are cut into are judged
-
-split_first : (line : StreamLine) (lines : List StreamLine) (rest : List ℕ)
-    → flat_map line_text (line ∷ lines) ++ rest ≡ line_text line ++ (flat_map line_text lines ++ rest)
-split_first line lines rest = append_assoc (line_text line) (flat_map line_text lines) rest
 
 -- the lines that were found whole at the front of a cut's bytes are its first
 record AreFirst (lines all : List StreamLine) (left rest : List ℕ) : Type 0 where
@@ -123,10 +121,6 @@ parts : {X : Type 0} (P : X → Type 0) (a b : List X) → AllByRecursion P (a +
 parts P [] b all = (tt, all)
 parts P (x ∷ a) b all = let rest : AllByRecursion P a × AllByRecursion P b = parts P a b all.1 in ((all.0, rest.0), rest.1)
 
-pub joined-append : (a b : List History) → joined (a ++ b) ≡ joined a ++ joined b
-joined-append [] b = refl
-joined-append (x ∷ a) b = ap (λ (g : History). x ++ g) (joined-append a b) ∙ sym (append_assoc x (joined a) (joined b))
-
 module _ (c : Setting) (p : ℕ → Bool) where
   abbrev Passes : StreamLine → Type 0
   Passes line = AllByRecursion (λ id. IsTrue (p id)) (deleted_by line)
@@ -140,7 +134,7 @@ module _ (c : Setting) (p : ℕ → Bool) where
   good_retire before [] (block ∷ blocks) all good = absurd good
   good_retire before (line ∷ lines) [] all good = absurd good
   good_retire before (line ∷ lines) (block ∷ blocks) all good =
-      all_append (RetiresOnly p) block (joined blocks) (line_retires c p (standing_of c before) line block Good all.0 good.0)
+      All-append (RetiresOnly p) block (joined blocks) (line_retires c p (standing_of c before) line block Good all.0 good.0)
       (good_retire (before ++ line ∷ []) lines blocks all.1 good.1)
 
   one_retires : (block : History) (back : List History) → back ≡ block ∷ [] → Retires block → Retires (joined back)
@@ -177,6 +171,6 @@ deleted_retired first c bytes end blocks report all rest p j cut passes =
     let fit : AllByRecursion IsWithinLimits j.lines × AllByRecursion IsWithinLimits begins.more
     = parts IsWithinLimits j.lines begins.more (subst (AllByRecursion IsWithinLimits) begins.is cut.each) in
     subst (AllByRecursion (RetiresOnly p)) (sym (ap joined j.split ∙ joined-append j.front j.back))
-    (all_append (RetiresOnly p) (joined j.front) (joined j.back)
+    (All-append (RetiresOnly p) (joined j.front) (joined j.back)
     (good_retire c p [] j.lines j.front pass.0 j.begins.good)
     (ends_retire c p first j.lines begins.more j.rest rest end j.back report begins.bytes fit.1 cut.last pass.1 j.ends))

@@ -5,6 +5,7 @@ use Rattle.std.specs.List.{AllByRecursion}
 use Rattle.lrup_model.specs.Event as events
 use Rattle.lrup_model.specs.Event.{Event, History, Reply}
 use Rattle.lrup_model.specs.declared.clause_map.Retired.{Retired}
+use Rattle.lrup_model.specs.ListLemmas.{All-append}
 use Rattle.lrup_text.specs.Lines.{StreamLine, Addition, Deletion, Import}
 use Rattle.stream_check.specs.declared.fault.Fault.{Fault}
 use Rattle.stream_check.specs.Setting.{Setting, Side, formula, own, foreign, outside, side_of}
@@ -17,11 +18,6 @@ use Rattle.stream_check.specs.Imports.{AtImported, JudgesImport}
 use Rattle.stream_check.specs.Judging.{JudgesLine}
 use Rattle.orders.specs.Lines.{IsRetire, RetiresLast}
 use Rattle.orders.specs.Laws.{RetiresOnly}
-
-pub all_append : {X : Type 0} (P : X → Type 0) (a b : List X)
-    → AllByRecursion P a → AllByRecursion P b → AllByRecursion P (a ++ b)
-all_append P [] b one two = two
-all_append P (x ∷ a) b one two = (one.0, all_append P a b one.1 two)
 
 -- Deletions
 
@@ -90,7 +86,7 @@ module _ (c : Setting) (P : Event → Type 0) (fetches : (id : ℕ) (r : Reply) 
     hints_all gone n [] es judged = none_all es judged.0
     hints_all gone n (h ∷ hints) es judged =
         test_all _ _ es v _
-        (λ a. subst (AllByRecursion P) (sym a.events) (all_append P a.asked a.rest (asked_all (side_of c h) h a.asked a.reply a.asks)
+        (λ a. subst (AllByRecursion P) (sym a.events) (All-append P a.asked a.rest (asked_all (side_of c h) h a.asked a.reply a.asks)
         (reply_all a.reply n h hints a.rest (λ m. JudgesHints c gone (published_by c id lits) m hints a.rest v)
         (λ m k. hints_all gone m hints a.rest k) a.next)))
         judged
@@ -110,7 +106,7 @@ module _ (c : Setting) (P : Event → Type 0) (fetches : (id : ℕ) (r : Reply) 
   pub import_all : (st : Standing) (id : ℕ) (lits : List ℤ) (es : History) (v : Verdict) → JudgesImport c st id lits es v → AllByRecursion P es
   import_all st id lits es v judged =
       test_all _ _ es v _ (λ a. test_all _ _ es v _ (λ a. test_all _ _ es v _
-      (λ a. subst (AllByRecursion P) (sym a.events) (all_append P a.asked a.rest (asked_all (side_of c id) id a.asked a.reply a.asks)
+      (λ a. subst (AllByRecursion P) (sym a.events) (All-append P a.asked a.rest (asked_all (side_of c id) id a.asked a.reply a.asks)
       (imported_none a.reply id lits a.rest v a.next))) a) a) judged
 
 -- Retires

@@ -2,37 +2,34 @@
 use Rattle.std.proofs.Common.{◌≡◌, ◌&&◌, ◌+◌, ℕ, Bool, true, false, cond, ltb, leb, not, List, [], ◌∷◌, ◌++◌, map, refl, sym, ap, subst, ◌∙◌, inl, inr, arith, le-leb, lt-ltb}
 use Rattle.std.specs.Prelude.{IsTrue}
 use Rattle.std.specs.List.{AllByRecursion, list_all, sum_by}
-use Rattle.std.proofs.lemmas.Bool.{cases_eq, cases_Bool, cond-true, cond-false, true≢false, and_from, leb-true, ltb-true}
+use Rattle.std.proofs.lemmas.Bool.{cases_eq, cases_Bool, cond-true, cond-false, true≢false, and_from, leb-true, ltb-true, and_parts}
 use Rattle.std.proofs.lemmas.List.Sums.{sum_by-append, sum_by-cons}
 use Rattle.lrup_model.specs.Formula.{Cnf}
 use Rattle.lrup_model.specs.Layout.{LayoutValue, Fits, IsStream}
 use Rattle.lrup_model.specs.Event as events
 use Rattle.lrup_model.specs.Event.{Event, History, stream_of, own, spent, size_of}
-use Rattle.lrup_model.specs.State.{State, Slot, absent, live, retired, IsLive, IsRetired, retire_slot, opening, after, run, state}
+use Rattle.lrup_model.specs.State.{State, live, retired, IsRetired, retire_slot, opening, after, run, state}
 use Rattle.lrup_model.specs.History.{LegalFrom, IsLegal}
 use Rattle.lrup_model.specs.Running.{own-append}
-use Rattle.lrup_model.specs.HistoryLemmas.{put-same, own-mine, own-other}
-use Rattle.lrup_model.specs.EntryLemmas.{run-advances}
+use Rattle.lrup_model.specs.HistoryLemmas.{put-same, own-mine, own-other, own-all}
+use Rattle.lrup_model.specs.EntryLemmas.{run-advances, retired_now}
 use Rattle.lrup_model.specs.OwnerLemmas.{IsOwned, owned}
 use Rattle.lrup_model.specs.Laws.{among, FindsWithin, RestrictionLegal, AmongMembers, AmongKeepsOwn}
 use Rattle.lrup_model.specs.declared.clause_map.Retired.TheVariants as retiring
 use Rattle.stream_check.specs.Judging.{joined}
 use Rattle.stream_check.specs.Reducing.{is_vacant, reduced}
+use Rattle.stream_check.specs.ReducingLemmas.{reduced_kept, reduced_left_out}
 use Rattle.runs.specs.Streams.{Block, blocks_of, events_in, IsBlockWithin}
+use Rattle.runs.specs.StreamLemmas.{blocks-same, blocks-other}
 use Rattle.orders.specs.Lines.{IsLineBlock, IsOrder}
 use Rattle.orders.specs.Premises.{FindsKept, FoundStays}
 use Rattle.orders.specs.Laws.{LinesOrdered}
 use Rattle.orders.proofs.SwapLemmas.{Settles, gone_stays}
-use Rattle.orders.proofs.BlockLemmas.{IsSettled, blocks-same, blocks-other}
+use Rattle.orders.proofs.BlockLemmas.{IsSettled}
 use Rattle.orders.proofs.AheadLemmas.{Lines, HasOrder}
-use Rattle.orders.proofs.WalkLemmas.{walk, reduced-kept, reduced-dropped}
+use Rattle.orders.proofs.WalkLemmas.{walk}
 
 -- What events tell of retired identities
-
-pub slot_gone : (x : Slot) → IsLive x → IsRetired (retire_slot x)
-slot_gone absent alive = absurd alive
-slot_gone (live c) alive = tt
-slot_gone (retired c) alive = tt
 
 settles_one : (f : Cnf) (p : LayoutValue) (final m : State) (e : Event) (h : History) → LegalFrom f p m (e ∷ h)
     → ((id : ℕ) → IsRetired (run m (e ∷ h) id) → IsRetired (final id)) → FindsKept p final e → Settles p final e
@@ -41,7 +38,7 @@ settles_one f p final m (events.publish s id c r) h legal later cites = tt
 settles_one f p final m (events.retire s id retiring.Done) h legal later cites =
     let e : Event = events.retire s id retiring.Done in
     later id (gone_stays (after m e id) (run (after m e) h id) (run-advances f p (after m e) h id legal.2)
-    (subst IsRetired (sym (put-same m id (retire_slot (m id)) id refl)) (slot_gone (m id) legal.0)))
+    (subst IsRetired (sym (put-same m id (retire_slot (m id)) id refl)) (retired_now (m id) legal.0)))
 settles_one f p final m (events.retire s id retiring.NotLive) h legal later cites = tt
 
 settles_among : (f : Cnf) (p : LayoutValue) (set : ℕ → Bool) (final m : State) (h : History) → LegalFrom f p m h
@@ -62,8 +59,8 @@ reduced_size : (es : History) → sum_by size_of (reduced es) ≡ sum_by size_of
 reduced_size [] = refl
 reduced_size (events.fetch s id events.vacant ∷ es) =
     elim (cases_Bool (list_all is_vacant es)) [
-      | inl all ↦ ap (sum_by size_of) (reduced-kept (events.fetch s id events.vacant) es (ap not all)) ∙ reduced_size es
-      | inr some ↦ ap (sum_by size_of) (reduced-dropped (events.fetch s id events.vacant) es (ap not some)) ∙ reduced_size es
+      | inl all ↦ ap (sum_by size_of) (reduced_kept (events.fetch s id events.vacant) es (ap not all)) ∙ reduced_size es
+      | inr some ↦ ap (sum_by size_of) (reduced_left_out (events.fetch s id events.vacant) es (ap not some)) ∙ reduced_size es
     ]
 reduced_size (events.fetch s id (events.live c) ∷ es) = reduced_size es
 reduced_size (events.fetch s id events.retired ∷ es) = reduced_size es
@@ -81,10 +78,6 @@ joined_size (b ∷ bs) =
     ∙ ap (λ (n : ℕ). sum_by size_of b + n) (joined_size bs)
     ∙ sym (sum_by-append size_of b (joined bs))
 
-own_all : (s : ℕ) (es : History) → AllByRecursion (λ e. stream_of e ≡ s) es → own es s ≡ es
-own_all s [] all = refl
-own_all s (e ∷ es) all = own-mine e es s all.0 ∙ ap (λ (g : History). e ∷ g) (own_all s es all.1)
-
 own_none : (s t : ℕ) (es : History) → (t ≡ s → ⊥) → AllByRecursion (λ e. stream_of e ≡ t) es → own es s ≡ []
 own_none s t [] other all = refl
 own_none s t (e ∷ es) other all = own-other e es s (λ mine. other (sym all.0 ∙ mine)) ∙ own_none s t es other all.1
@@ -95,7 +88,7 @@ own-blocks p final s (block ∷ blocks) all =
     own-append block.events (events_in blocks) s
     ∙ elim (cases_eq block.stream s) [
       | inl same ↦
-          ap (λ (g : History). g ++ own (events_in blocks) s) (own_all s block.events (subst (λ (t : ℕ). AllByRecursion (λ e. stream_of e ≡ t) block.events) same all.0.calls))
+          ap (λ (g : History). g ++ own (events_in blocks) s) (own-all s block.events (subst (λ (t : ℕ). AllByRecursion (λ e. stream_of e ≡ t) block.events) same all.0.calls))
           ∙ ap (λ (g : History). block.events ++ g) (own-blocks p final s blocks all.1)
           ∙ sym (ap joined (blocks-same block blocks s same))
       | inr other ↦
@@ -108,10 +101,6 @@ own-blocks p final s (block ∷ blocks) all =
 
 abbrev pub streams_in : LayoutValue → (ℕ → Bool) → ℕ → Bool
 streams_in p set s = set s && (ltb 0 s && leb s p.streams)
-
-and_parts : (x y : Bool) → (x && y) ≡ true → (x ≡ true) × (y ≡ true)
-and_parts true y both = (refl, both)
-and_parts false y both = absurd (true≢false (sym both))
 
 pub streams_are : (p : LayoutValue) (set : ℕ → Bool) (s : ℕ) → streams_in p set s ≡ true → IsTrue (set s) × IsStream p s
 streams_are p set s is =

@@ -1,9 +1,9 @@
 -- The premise on what is retired: by the final state, by events, and by the streams' lines.
-use Rattle.std.proofs.Common.{◌≡◌, ◌⊎◌, ◌-◌, ◌&&◌, ◌||◌, ℕ, zero, suc, Bool, true, false, eqb, List, [], ◌∷◌, ◌++◌, length, Option, Some, None, refl, sym, subst, ◌∙◌, inl, inr, ltb, leb, eq-eqb, arith, append_assoc}
+use Rattle.std.proofs.Common.{◌≡◌, ◌⊎◌, ◌-◌, ◌&&◌, ◌||◌, ℕ, zero, suc, Bool, eqb, List, [], ◌∷◌, ◌++◌, length, Option, Some, None, refl, sym, subst, ◌∙◌, inl, inr, ltb, leb, eq-eqb, arith, append_assoc}
 use Rattle.std.specs.Prelude.{IsTrue, slice_get}
 use Rattle.std.specs.Io.KnownBytes.{Consumes}
 use Rattle.std.specs.List.{AllByRecursion, list_any}
-use Rattle.std.proofs.lemmas.Bool.{cases_eq, cases_Bool, cond-true, cond-false, true≢false}
+use Rattle.std.proofs.lemmas.Bool.{cases_eq, cases_Bool, cond-true, cond-false, or_right, or_left}
 use Rattle.std.proofs.lemmas.List.Folds.{list_any-append}
 use Rattle.lrup_model.specs.Formula.{Cnf, clause_at}
 use Rattle.lrup_model.specs.Layout.{LayoutValue, IsStream, Owns}
@@ -12,7 +12,7 @@ use Rattle.lrup_model.specs.Event.{Event, Reply, History, stream_of, own}
 use Rattle.lrup_model.specs.State.{State, absent, live, IsRetired, retire_slot, opening, after, run, state}
 use Rattle.lrup_model.specs.History.{IsAllowed, LegalFrom, IsLegal}
 use Rattle.lrup_model.specs.HistoryLemmas.{put-same, put-other, own-mine, own-other}
-use Rattle.lrup_model.specs.EntryLemmas.{run-advances}
+use Rattle.lrup_model.specs.EntryLemmas.{run-advances, retired_now}
 use Rattle.lrup_model.specs.OwnerLemmas.{IsOwned, owned}
 use Rattle.lrup_model.specs.declared.clause_map.Published.TheVariants as publishing
 use Rattle.lrup_model.specs.declared.clause_map.Retired.TheVariants as retiring
@@ -25,7 +25,6 @@ use Rattle.runs.specs.Closed.{CiteWithin}
 use Rattle.orders.specs.Premises.{IsLiveReply, FindsKept, FindsUnretired, MeetsUnretired, IsRetireOf, Retires, cites, deletes, Cites, Deletes}
 use Rattle.orders.specs.Laws.{KeptByEvents, OwnersAloneSuffices, SharedStays, BeginningsCite, ReadersShare, RetiresOnly, DeletedRetired}
 use Rattle.orders.proofs.SwapLemmas.{gone_stays}
-use Rattle.orders.proofs.OrderLemmas.{slot_gone}
 use Rattle.orders.proofs.WalkLemmas.{own-calls}
 use Rattle.orders.proofs.StreamLemmas.{IsJudgedStream, judged_stream, is_inside, inside_owner, fetched_inside}
 
@@ -78,7 +77,7 @@ retired_at : (f : Cnf) (p : LayoutValue) (m : State) (e : Event) (id : ℕ) (h :
 retired_at f p m (events.fetch s j r) id h legal is = absurd is
 retired_at f p m (events.publish s j c r) id h legal is = absurd is
 retired_at f p m (events.retire s j retiring.Done) id h legal is =
-    subst IsRetired (sym (put-same m j (retire_slot (m j)) id (sym is))) (slot_gone (m j) legal.0)
+    subst IsRetired (sym (put-same m j (retire_slot (m j)) id (sym is))) (retired_now (m j) legal.0)
 retired_at f p m (events.retire s j retiring.NotLive) id h legal is = absurd is
 
 retires_gone : (f : Cnf) (p : LayoutValue) (m : State) (h : History) (id : ℕ) → LegalFrom f p m h → Retires h id → IsRetired (run m h id)
@@ -153,14 +152,6 @@ retired_passes test id (e ∷ es) all (inl here) = retire_passes test id e all.0
 retired_passes test id (e ∷ es) all (inr later) = retired_passes test id es all.1 later
 
 -- What lines name
-
-or_right : (a b : Bool) → b ≡ true → (a || b) ≡ true
-or_right true b is = refl
-or_right false b is = is
-
-or_left : (a b : Bool) → a ≡ true → (a || b) ≡ true
-or_left true b is = refl
-or_left false b is = absurd (true≢false (sym is))
 
 passes_more : (first : ℕ → Bool) (test : ℕ → Bool) (ids : List ℕ)
     → AllByRecursion (λ id. IsTrue (test id)) ids → AllByRecursion (λ id. IsTrue (first id || test id)) ids

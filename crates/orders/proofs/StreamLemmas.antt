@@ -1,5 +1,5 @@
 -- The order of the lines of streams: each one's blocks, gathered from what it is judged by.
-use Rattle.std.proofs.Common.{◌≡◌, ◌+◌, ◌-◌, ◌<◌, ◌≤◌, ℕ, zero, suc, Bool, true, cond, eqb, List, [], ◌∷◌, map, length, Option, Some, refl, sym, ap, subst, ◌∙◌, inl, inr, arith, ne_eqb, eq-eqb}
+use Rattle.std.proofs.Common.{◌≡◌, ◌+◌, ◌-◌, ◌<◌, ◌≤◌, ℕ, zero, suc, Bool, true, cond, eqb, List, [], ◌∷◌, map, length, Some, refl, sym, subst, ◌∙◌, inl, inr, arith, ne_eqb, eq-eqb}
 use Rattle.std.specs.Prelude.{IsTrue, slice_get}
 use Rattle.std.specs.List.{AllByRecursion}
 use Rattle.std.proofs.lemmas.Bool.{cases_eq, cases_Bool, cond-true, cond-false, true≢false}
@@ -17,9 +17,10 @@ use Rattle.stream_check.specs.Setting.{Setting}
 use Rattle.stream_check.specs.Judging.{joined, StreamEnd, ended, failed, JudgesBlocks}
 use Rattle.stream_check.specs.Reducing.{reduced}
 use Rattle.stream_check.specs.Laws.{cited_by, FetchesOnly, CitedFetched, ReducedStream}
-use Rattle.runs.specs.Streams.{Stop, at_end, at_failure, early, Stream, JudgesTo, JudgesStream, Block, blocks_of, IsBlockWithin, AreJudged, Terms, setting_of, AreTold}
+use Rattle.runs.specs.Streams.{Stop, at_end, at_failure, early, Stream, JudgesTo, JudgesStream, Block, blocks_of, IsBlockWithin, AreJudged, Terms, setting_of}
 use Rattle.runs.specs.Headline.{IsJudgedBy, AreJudgedIn}
 use Rattle.runs.specs.Closed.{IsAt, IsWithin, CiteWithin, IsClosed}
+use Rattle.runs.specs.StreamLemmas.{told_count}
 use Rattle.orders.specs.Lines.{IsLineBlock, IsOrder}
 use Rattle.orders.specs.Laws.{JudgedBlocks, LinesOrdered, ClosedOrdered, AllClosed, RunSerializable}
 use Rattle.orders.proofs.OrderLemmas.{streams_in, streams_are, are_streams, own_each}
@@ -279,18 +280,6 @@ all_closed every_cut p streams s stream member at =
     record { lines = cut.0; rest = cut.1; cut = cut.2; within = lines_of_all p cut.0 }
 
 -- Runs
-
-told_count : (entries lefts : List (Option (List ℕ))) (faileds : List Bool) (streams : List Stream)
-    → AreTold entries lefts faileds streams → length streams ≡ length entries
-told_count [] [] [] [] told = refl
-told_count (entry ∷ entries) (left ∷ lefts) (has_failed ∷ faileds) (stream ∷ streams) told =
-    ap suc (told_count entries lefts faileds streams told.1)
-told_count [] [] [] (stream ∷ streams) told = absurd told
-told_count [] [] (has_failed ∷ faileds) streams told = absurd told
-told_count [] (left ∷ lefts) faileds streams told = absurd told
-told_count (entry ∷ entries) [] faileds streams told = absurd told
-told_count (entry ∷ entries) (left ∷ lefts) [] streams told = absurd told
-told_count (entry ∷ entries) (left ∷ lefts) (has_failed ∷ faileds) [] told = absurd told
 
 -- streams that are all judged so are judged so where they are of a set
 judged_members : (terms : Terms) (set : ℕ → Bool) (h : History) (s : ℕ) (streams : List Stream) (reports : List Report)

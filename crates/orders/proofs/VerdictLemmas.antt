@@ -1,10 +1,11 @@
 -- The verdict that an order of lines comes to: some stream says that it added the empty clause, or one within the cube, exactly if
 -- the order publishes one.
-use Rattle.std.proofs.Common.{◌≡◌, ◌⊎◌, ◌||◌, ◌+◌, ◌-◌, ◌<◌, ◌≤◌, ℕ, zero, suc, ℤ, Bool, true, false, List, [], ◌∷◌, ◌++◌, length, refl, sym, ap, subst, ◌∙◌, inl, inr, arith, ne_eqb}
+use Rattle.std.proofs.Common.{◌≡◌, ◌||◌, ◌+◌, ◌-◌, ◌<◌, ◌≤◌, ℕ, zero, suc, ℤ, Bool, true, false, List, [], ◌∷◌, ◌++◌, length, refl, sym, ap, subst, ◌∙◌, inl, inr, arith, ne_eqb}
 use Rattle.std.specs.Prelude.{IsTrue, ◌==◌}
 use Rattle.std.specs.List.{AllByRecursion, list_any}
-use Rattle.std.proofs.lemmas.Bool.{cases_eq, cases_Bool, true≢false}
+use Rattle.std.proofs.lemmas.Bool.{cases_eq, cases_Bool, true≢false, or_right, or_left, or_cases}
 use Rattle.std.proofs.lemmas.List.Folds.{list_any-append}
+use Rattle.std.proofs.Math.Bool.{or-false}
 use Rattle.lrup_model.specs.Layout.{LayoutValue, IsStream}
 use Rattle.lrup_model.specs.Event as events
 use Rattle.lrup_model.specs.Event.{Event, History, Reply, publishes_empty}
@@ -19,27 +20,15 @@ use Rattle.stream_check.specs.Additions.{published_by}
 use Rattle.stream_check.specs.Finding.{IsGoodAddition}
 use Rattle.stream_check.specs.Judging.{JudgesLine, AreGood, EndsAfter, StreamEnd, joined, JudgesBlocks}
 use Rattle.stream_check.specs.Laws.{GoodExactlyIf}
+use Rattle.stream_check.specs.ReportLemmas.{said_empty, said_within, joined-append}
 use Rattle.runs.specs.Streams.{Stream, JudgesStream, Block, blocks_of, events_in, IsBlockWithin, AreJudged, Terms, setting_of, IsOrdered}
+use Rattle.runs.specs.StreamLemmas.{blocks-same, blocks-other}
 use Rattle.orders.specs.Lines.{publishes_within}
 use Rattle.orders.specs.Laws.{ClosedOrdered, AllClosed, AllOrdered}
 use Rattle.orders.proofs.KindLemmas.{addition_all, import_all, identities_all}
-use Rattle.orders.proofs.JudgedLemmas.{joined-append}
-use Rattle.orders.proofs.BlockLemmas.{blocks-same, blocks-other}
 use Rattle.orders.proofs.StreamLemmas.{some_end}
 
 -- Truth values
-
-or_left : (a b : Bool) → a ≡ true → (a || b) ≡ true
-or_left true b is = refl
-or_left false b is = absurd (true≢false (sym is))
-
-or_right : (a b : Bool) → b ≡ true → (a || b) ≡ true
-or_right true b is = refl
-or_right false b is = is
-
-or_either : (a b : Bool) → (a || b) ≡ true → (a ≡ true) ⊎ (b ≡ true)
-or_either true b is = inl refl
-or_either false b is = inr is
 
 or_none : (a b : Bool) → a ≡ false → b ≡ false → (a || b) ≡ false
 or_none true b first rest = first
@@ -70,20 +59,6 @@ empty_added : (c : Setting) (id : ℕ) (lits : List ℤ) (hints : List ℕ) → 
 empty_added c id [] hints = refl
 empty_added c id (l ∷ lits) hints = some_literal l _
 
-empty_said : (c : Setting) (lines : List StreamLine) (rest : List ℕ) (end : StreamEnd) (back : List History) (report : Report)
-    → EndsAfter c lines rest end back report → report.empty ≡ list_any adds_empty lines
-empty_said c lines rest end back report (inl e) = ap (λ (r : Report). r.empty) e.says
-empty_said c lines rest end back report (inr (inl e)) = ap (λ (r : Report). r.empty) e.says
-empty_said c lines rest end back report (inr (inr (inl e))) = ap (λ (r : Report). r.empty) e.says
-empty_said c lines rest end back report (inr (inr (inr e))) = ap (λ (r : Report). r.empty) e.says
-
-within_said : (c : Setting) (lines : List StreamLine) (rest : List ℕ) (end : StreamEnd) (back : List History) (report : Report)
-    → EndsAfter c lines rest end back report → report.within ≡ list_any (adds_within c.cube) lines
-within_said c lines rest end back report (inl e) = ap (λ (r : Report). r.within) e.says
-within_said c lines rest end back report (inr (inl e)) = ap (λ (r : Report). r.within) e.says
-within_said c lines rest end back report (inr (inr (inl e))) = ap (λ (r : Report). r.within) e.says
-within_said c lines rest end back report (inr (inr (inr e))) = ap (λ (r : Report). r.within) e.says
-
 -- of the empty clause
 empty_tells : (c : Setting) → Tells c publishes_empty adds_empty (λ report. report.empty)
 empty_tells c = record {
@@ -92,7 +67,7 @@ empty_tells c = record {
   publishes_added = empty_added c;
   deletions_none = λ lead ids. refl;
   imports_none = λ id lits. refl;
-  of_good = empty_said c;
+  of_good = said_empty c;
 }
 
 -- and of a clause within the cube
@@ -103,7 +78,7 @@ within_tells c = record {
   publishes_added = λ id lits hints. refl;
   deletions_none = λ lead ids. refl;
   imports_none = λ id lits. refl;
-  of_good = within_said c;
+  of_good = said_within c;
 }
 
 -- The events of a line
@@ -116,10 +91,6 @@ module _ (passes : Event → Bool) where
   quiet_none : (es : History) → AllByRecursion IsQuiet es → list_any passes es ≡ false
   quiet_none [] all = refl
   quiet_none (e ∷ es) all = or_none (passes e) (list_any passes es) all.0 (quiet_none es all.1)
-
-or_false : (a : Bool) → (a || false) ≡ a
-or_false true = refl
-or_false false = refl
 
 module _ (law : GoodExactlyIf) (c : Setting) (passes : Event → Bool) (adds : StreamLine → Bool) (says : Report → Bool) (tells : Tells c passes adds says) where
   quiet_retires : (ids : List ℕ) → AllByRecursion (λ id. (r : Retired) → IsQuiet passes (events.retire c.stream id r)) ids
@@ -178,7 +149,7 @@ module _ (law : GoodExactlyIf) (c : Setting) (passes : Event → Bool) (adds : S
       → list_any passes (joined back) ≡ false
   one_quiet block back is quiet =
       ap (λ (bs : List History). list_any passes (joined bs)) is
-      ∙ list_any-append passes block [] ∙ or_false (list_any passes block) ∙ quiet
+      ∙ list_any-append passes block [] ∙ or-false (list_any passes block) ∙ quiet
 
   no_quiet : (back : List History) → back ≡ [] → list_any passes (joined back) ≡ false
   no_quiet back is = ap (λ (bs : List History). list_any passes (joined bs)) is
@@ -203,7 +174,7 @@ module _ (law : GoodExactlyIf) (c : Setting) (passes : Event → Bool) (adds : S
       ∙ list_any-append passes (joined j.front) (joined j.back)
       ∙ ap (λ (b : Bool). b || list_any passes (joined j.back)) (good_lines [] j.lines j.front j.begins.good)
       ∙ ap (λ (b : Bool). list_any adds j.lines || b) (ends_quiet j.lines j.rest end j.back report j.ends)
-      ∙ or_false (list_any adds j.lines) ∙ sym (tells.of_good j.lines j.rest end j.back report j.ends)
+      ∙ or-false (list_any adds j.lines) ∙ sym (tells.of_good j.lines j.rest end j.back report j.ends)
 
 -- The blocks of an order
 
@@ -215,7 +186,7 @@ module _ (passes : Event → Bool) where
   in_order s (block ∷ order) is =
       list_any-append passes block.events (events_in order)
       ∙ elim (cases_eq block.stream s) [
-        | inl same ↦ elim (or_either (list_any passes block.events) (list_any passes (joined (blocks_of s order)))
+        | inl same ↦ elim (or_cases (list_any passes block.events) (list_any passes (joined (blocks_of s order)))
             (sym (list_any-append passes block.events (joined (blocks_of s order)))
             ∙ sym (ap (λ (bs : List History). list_any passes (joined bs)) (blocks-same block order s same)) ∙ is)) [
               | inl here ↦ or_left (list_any passes block.events) (list_any passes (events_in order)) here
@@ -241,7 +212,7 @@ module _ (passes : Event → Bool) where
       → (s : ℕ) × IsStream p s × (list_any passes (joined (blocks_of s order)) ≡ true)
   by_stream p set [] within is = absurd (true≢false (sym is))
   by_stream p set (block ∷ order) within is =
-      elim (or_either (list_any passes block.events) (list_any passes (events_in order))
+      elim (or_cases (list_any passes block.events) (list_any passes (events_in order))
       (sym (list_any-append passes block.events (events_in order)) ∙ is)) [
         | inl here ↦ (
           block.stream,
@@ -273,7 +244,7 @@ module _ (law : GoodExactlyIf) (terms : Terms) (order : List Block) (passes : Ev
   said_published s [] (report ∷ reports) judged is = absurd judged
   said_published s (stream ∷ streams) [] judged is = absurd judged
   said_published s (stream ∷ streams) (report ∷ reports) judged is =
-      elim (or_either (says report) (list_any says reports) is) [
+      elim (or_cases (says report) (list_any says reports) is) [
         | inl here ↦ in_order passes s order (told_by s stream report (judged.0 refl) ∙ here)
         | inr later ↦ said_published (s + 1) streams reports judged.1 later
       ]

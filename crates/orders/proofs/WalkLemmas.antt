@@ -1,7 +1,7 @@
 -- The order of lines, by one walk along a history from its end: an event goes to its stream's next block, or begins one.
 use Rattle.std.proofs.Common.{◌≡◌, ◌&&◌, ℕ, Bool, true, false, not, List, [], ◌∷◌, ◌++◌, map, refl, sym, ap, subst, ◌∙◌, inl, inr}
 use Rattle.std.specs.List.{AllByRecursion, list_all}
-use Rattle.std.proofs.lemmas.Bool.{cases_eq, cases_Bool, cond-true, cond-false, true≢false}
+use Rattle.std.proofs.lemmas.Bool.{cases_eq, cases_Bool, true≢false}
 use Rattle.lrup_model.specs.Formula.{Cnf}
 use Rattle.lrup_model.specs.Layout.{LayoutValue, IsStream}
 use Rattle.lrup_model.specs.Event as events
@@ -13,6 +13,7 @@ use Rattle.lrup_model.specs.declared.clause_map.Retired.{Retired}
 use Rattle.lrup_model.specs.HistoryLemmas.{own-mine, own-other}
 use Rattle.stream_check.specs.Judging.{joined}
 use Rattle.stream_check.specs.Reducing.{is_vacant, IsEarly, IsFetchOf, TriesAgain, reduced}
+use Rattle.stream_check.specs.ReducingLemmas.{reduced_kept, reduced_left_out, all_vacant_stay}
 use Rattle.runs.specs.Streams.{Block, blocks_of}
 use Rattle.orders.specs.Lines.{IsLineBlock, IsFetch, IsRetire, RetiresLast}
 use Rattle.orders.proofs.SwapLemmas.{Settles}
@@ -21,27 +22,12 @@ use Rattle.orders.proofs.AheadLemmas.{Lines, with, with-same, with-other, Ahead,
 
 -- Reduced
 
-pub reduced-kept : (e : Event) (es : History) → (is_vacant e && not (list_all is_vacant es)) ≡ false → reduced (e ∷ es) ≡ e ∷ reduced es
-reduced-kept e es test = cond-false (is_vacant e && not (list_all is_vacant es)) (reduced es) (e ∷ reduced es) test
-
-pub reduced-dropped : (e : Event) (es : History) → (is_vacant e && not (list_all is_vacant es)) ≡ true → reduced (e ∷ es) ≡ reduced es
-reduced-dropped e es test = cond-true (is_vacant e && not (list_all is_vacant es)) (reduced es) (e ∷ reduced es) test
-
 reduced-one : (e : Event) → reduced (e ∷ []) ≡ e ∷ []
 reduced-one (events.fetch s id events.vacant) = refl
 reduced-one (events.fetch s id (events.live c)) = refl
 reduced-one (events.fetch s id events.retired) = refl
 reduced-one (events.publish s id c r) = refl
 reduced-one (events.retire s id r) = refl
-
-all_vacant_stay : (es : History) → list_all is_vacant es ≡ true → reduced es ≡ es
-all_vacant_stay [] all = refl
-all_vacant_stay (events.fetch s id events.vacant ∷ es) all =
-    reduced-kept (events.fetch s id events.vacant) es (ap not all) ∙ ap (λ (g : History). events.fetch s id events.vacant ∷ g) (all_vacant_stay es all)
-all_vacant_stay (events.fetch s id (events.live c) ∷ es) all = absurd (true≢false (sym all))
-all_vacant_stay (events.fetch s id events.retired ∷ es) all = absurd (true≢false (sym all))
-all_vacant_stay (events.publish s id c r ∷ es) all = absurd (true≢false (sym all))
-all_vacant_stay (events.retire s id r ∷ es) all = absurd (true≢false (sym all))
 
 -- a vacant fetch of a stream, of an identity
 same_fetch : (s id : ℕ) (d : Event) (es : History) → stream_of d ≡ s → IsFetchOf id d → list_all is_vacant (d ∷ es) ≡ true → d ≡ events.fetch s id events.vacant
@@ -115,7 +101,7 @@ module _ (f : Cnf) (p : LayoutValue) (final m : State) where
           legal = join-legal f p final m e blocks (reduced (d ∷ b)) (map reduced more) early some settles made.1.settled
               (made.1.lines (stream_of e) ∙ ap (map reduced) (with-same rest (stream_of e) ((d ∷ b) ∷ more) (stream_of e) refl))
               (answers, allowed, made.1.legal);
-          lines = lines-join rest e d b more blocks is (reduced-kept e (d ∷ b) (ap (λ (x : Bool). x && not (list_all is_vacant (d ∷ b))) some)) made.1.lines;
+          lines = lines-join rest e d b more blocks is (reduced_kept e (d ∷ b) (ap (λ (x : Bool). x && not (list_all is_vacant (d ∷ b))) some)) made.1.lines;
         },
       )
 
@@ -135,7 +121,7 @@ module _ (f : Cnf) (p : LayoutValue) (final m : State) where
                 (made.1.lines s ∙ ap (map reduced) (with-same rest s ((d ∷ b) ∷ more) s refl)
                 ∙ ap (λ (g : History). g ∷ map reduced more) (all_vacant_stay (d ∷ b) vacants ∙ ap (λ (x : Event). x ∷ b) (same_fetch s id d b caller again vacants)))
                 made.1.legal;
-            lines = lines-join rest e d b more blocks is (reduced-kept e (d ∷ b) (ap not vacants)) made.1.lines;
+            lines = lines-join rest e d b more blocks is (reduced_kept e (d ∷ b) (ap not vacants)) made.1.lines;
           },
         )
         | inr others ↦ (
@@ -143,7 +129,7 @@ module _ (f : Cnf) (p : LayoutValue) (final m : State) where
           record {
             settled = made.1.settled;
             legal = made.1.legal;
-            lines = lines-skip rest e d b more blocks is (reduced-dropped e (d ∷ b) (ap not others)) made.1.lines;
+            lines = lines-skip rest e d b more blocks is (reduced_left_out e (d ∷ b) (ap not others)) made.1.lines;
           },
         )
       ]

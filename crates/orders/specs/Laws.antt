@@ -25,7 +25,8 @@ use Rattle.orders.specs.Serializable.{IsSerializable}
 
 -- the blocks by which a stream is judged are like those of lines
 abbrev pub JudgedBlocks : Type 0
-JudgedBlocks = (c : Setting) (bytes : List ℕ) (end : StreamEnd) (blocks : List History) (report : Report)
+JudgedBlocks = (c : Setting) (bytes : List ℕ) (end : StreamEnd) (blocks : List History)
+    (report : Report)
     → JudgesBlocks c bytes end blocks report → AllByRecursion IsLineBlock blocks
 
 -- a retire is of an identity that passes the test
@@ -36,7 +37,8 @@ RetiresOnly p (events.retire s id r) = IsTrue (p id)
 
 -- A stream retires no identity that its lines don't delete: where all that they delete pass a test, so does what it retires.
 abbrev pub DeletedRetired : Type 0
-DeletedRetired = (c : Setting) (bytes : List ℕ) (end : StreamEnd) (blocks : List History) (report : Report)
+DeletedRetired = (c : Setting) (bytes : List ℕ) (end : StreamEnd) (blocks : List History)
+    (report : Report)
     (all : List StreamLine) (rest : List ℕ) (p : ℕ → Bool)
     → JudgesBlocks c bytes end blocks report → Cut bytes all rest
     → AllByRecursion (λ line. AllByRecursion (λ id. IsTrue (p id)) (deleted_by line)) all
@@ -47,7 +49,8 @@ DeletedRetired = (c : Setting) (bytes : List ℕ) (end : StreamEnd) (blocks : Li
 -- Lines of streams that find no clause of streams outside their set have an order, where what they found live of one another
 -- isn't left retired.
 abbrev pub LinesOrdered : Type 0
-LinesOrdered = (f : Cnf) (p : LayoutValue) (set : ℕ → Bool) (h : History) (blocks : ℕ → List History)
+LinesOrdered = (f : Cnf) (p : LayoutValue) (set : ℕ → Bool) (h : History) (blocks : ℕ
+    → List History)
     → Fits p f → IsLegal f p h → AllByRecursion (FindsWithin p set) h
     → ((s : ℕ) → IsStream p s → IsTrue (set s) → own h s ≡ joined (blocks s))
     → ((s : ℕ) → IsStream p s → IsTrue (set s) → AllByRecursion IsLineBlock (blocks s))
@@ -57,7 +60,8 @@ LinesOrdered = (f : Cnf) (p : LayoutValue) (set : ℕ → Bool) (h : History) (b
 -- The reports of a closed set of streams that one legal history judges have an order of lines, where what the streams found live
 -- of one another isn't left retired.
 abbrev pub ClosedOrdered : Type 0
-ClosedOrdered = (f : Cnf) (terms : Terms) (set : ℕ → Bool) (h : History) (streams : List Stream) (reports : List Report)
+ClosedOrdered = (f : Cnf) (terms : Terms) (set : ℕ → Bool) (h : History) (streams : List Stream)
+    (reports : List Report)
     → Fits terms.layout f → length streams ≡ terms.layout.streams
     → IsLegal f terms.layout h → AreJudgedIn terms set h 1 streams reports
     → IsClosed terms.layout set streams → FoundStays f terms.layout set h
@@ -75,8 +79,10 @@ AllOrdered = (f : Cnf) (terms : Terms) (h : History) (streams : List Stream) (re
     → IsLegal f terms.layout h → AreJudgedIn terms (λ s. true) h 1 streams reports
     → FoundStays f terms.layout (λ s. true) h
     → (order : IsOrdered f terms (λ s. true) streams reports)
-    × (list_any (λ report. report.empty) reports ≡ list_any publishes_empty (events_in order.blocks))
-    × (list_any (λ report. report.within) reports ≡ list_any (publishes_within terms.cube) (events_in order.blocks))
+    × (list_any (λ report. report.empty) reports ≡ list_any publishes_empty
+    (events_in order.blocks))
+    × (list_any (λ report. report.within) reports ≡ list_any (publishes_within terms.cube)
+    (events_in order.blocks))
 
 -- The premise
 
@@ -92,7 +98,8 @@ OwnersAloneSuffices = (f : Cnf) (p : LayoutValue) (set : ℕ → Bool) (h : Hist
 
 -- a closed set of streams that retire nothing of their own that another cites leaves what they found of one another
 abbrev pub SharedStays : Type 0
-SharedStays = (f : Cnf) (terms : Terms) (set : ℕ → Bool) (h : History) (streams : List Stream) (reports : List Report)
+SharedStays = (f : Cnf) (terms : Terms) (set : ℕ → Bool) (h : History) (streams : List Stream)
+    (reports : List Report)
     → Fits terms.layout f → length streams ≡ terms.layout.streams
     → IsLegal f terms.layout h → AreJudgedIn terms set h 1 streams reports
     → IsClosed terms.layout set streams → KeepShared terms.layout set streams
@@ -106,8 +113,10 @@ BeginningsCite = (bytes more : List ℕ) (id : ℕ)
 -- So where the streams keep what they share in all bytes that their readers have left at first, they keep it in those that were
 -- needed.
 abbrev pub ReadersShare : Type 0
-ReadersShare = (p : LayoutValue) (set : ℕ → Bool) (entries lefts : List (Option (List ℕ))) (faileds : List Bool) (streams : List Stream)
-    → AreTold entries lefts faileds streams → ReadersKeepShared p set entries → KeepShared p set streams
+ReadersShare = (p : LayoutValue) (set : ℕ → Bool) (entries lefts : List (Option (List ℕ)))
+    (faileds : List Bool) (streams : List Stream)
+    → AreTold entries lefts faileds streams → ReadersKeepShared p set entries
+    → KeepShared p set streams
 
 -- Runs
 
@@ -115,5 +124,6 @@ ReadersShare = (p : LayoutValue) (set : ℕ → Bool) (entries lefts : List (Opt
 abbrev pub RunSerializable : Type 0
 RunSerializable = (f : Cnf) (terms : Terms) (h : History) (passes : List View)
     (entries lefts : List (Option (List ℕ))) (faileds : List Bool) (reports : List Report)
-    → Fits terms.layout f → length entries ≡ terms.layout.streams → HaveOneHistory f terms.layout h passes
+    → Fits terms.layout f → length entries ≡ terms.layout.streams
+    → HaveOneHistory f terms.layout h passes
     → IsSerializable f terms entries lefts faileds h reports

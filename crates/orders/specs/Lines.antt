@@ -55,7 +55,8 @@ pub record IsLineBlock (es : History) : Type 0 where
 
 -- An order of the lines of a set of streams, where these are each stream's blocks of events: a legal history of whole lines, each
 -- stream's in its order, and each without the vain fetches of what it found.
-pub record IsOrder (f : Cnf) (p : LayoutValue) (set : ℕ → Bool) (blocks : ℕ → List History) (order : List Block) : Type 0 where
+pub record IsOrder (f : Cnf) (p : LayoutValue) (set : ℕ → Bool) (blocks : ℕ → List History)
+    (order : List Block) : Type 0 where
   pub within : AllByRecursion (IsBlockWithin p set) order
   pub legal : IsLegal f p (events_in order)
   pub lines : (s : ℕ) → IsStream p s → IsTrue (set s) → blocks_of s order ≡ map reduced (blocks s)

@@ -30,7 +30,8 @@ FindsKept p final (events.retire s id r) = Unit {0}
 
 -- What a stream of the set found live, and isn't its own, the history doesn't leave retired.
 abbrev pub FoundStays : Cnf → LayoutValue → (ℕ → Bool) → History → Type 0
-FoundStays f p set h = (s : ℕ) → IsStream p s → IsTrue (set s) → AllByRecursion (FindsKept p (state f h)) (own h s)
+FoundStays f p set h =
+    (s : ℕ) → IsStream p s → IsTrue (set s) → AllByRecursion (FindsKept p (state f h)) (own h s)
 
 -- By events
 
@@ -60,7 +61,8 @@ MeetsUnretired p h (events.retire s id r) = Unit {0}
 
 -- No stream of the set but its owner found an identity, live or retired, that the history retires.
 abbrev pub OwnersAloneMeetRetired : LayoutValue → (ℕ → Bool) → History → Type 0
-OwnersAloneMeetRetired p set h = (s : ℕ) → IsStream p s → IsTrue (set s) → AllByRecursion (MeetsUnretired p h) (own h s)
+OwnersAloneMeetRetired p set h =
+    (s : ℕ) → IsStream p s → IsTrue (set s) → AllByRecursion (MeetsUnretired p h) (own h s)
 
 -- By texts
 
@@ -74,20 +76,25 @@ deletes lines id = list_any (λ line. is_among (deleted_by line) id) lines
 
 -- a line that the bytes are cut into cites the identity
 abbrev pub Cites : List ℕ → ℕ → Type 0
-Cites bytes id = (lines : List StreamLine) × (rest : List ℕ) × Cut bytes lines rest × IsTrue (cites lines id)
+Cites bytes id =
+    (lines : List StreamLine) × (rest : List ℕ) × Cut bytes lines rest × IsTrue (cites lines id)
 
 -- a line that the bytes are cut into deletes the identity
 abbrev pub Deletes : List ℕ → ℕ → Type 0
-Deletes bytes id = (lines : List StreamLine) × (rest : List ℕ) × Cut bytes lines rest × IsTrue (deletes lines id)
+Deletes bytes id =
+    (lines : List StreamLine) × (rest : List ℕ) × Cut bytes lines rest × IsTrue (deletes lines id)
 
 -- No stream of the set deletes an identity of its own that a line of another stream of the set cites.
 abbrev pub KeepShared : LayoutValue → (ℕ → Bool) → List Stream → Type 0
-KeepShared p set streams = (s t id : ℕ) (citing deleting : Stream) → s ≢ t → IsTrue (set s) → IsTrue (set t)
+KeepShared p set streams =
+    (s t id : ℕ) (citing deleting : Stream) → s ≢ t → IsTrue (set s) → IsTrue (set t)
     → IsAt streams s citing → IsAt streams t deleting → Owns p t id
     → Cites citing.bytes id → ¬ Deletes deleting.bytes id
 
 -- So it is in all bytes that the readers of the set's streams have left at first, which are known.
 abbrev pub ReadersKeepShared : LayoutValue → (ℕ → Bool) → List (Option (List ℕ)) → Type 0
-ReadersKeepShared p set entries = (s t id : ℕ) (citing deleting : Option (List ℕ)) → s ≢ t → IsTrue (set s) → IsTrue (set t)
+ReadersKeepShared p set entries =
+    (s t id : ℕ) (citing deleting : Option (List ℕ)) → s ≢ t → IsTrue (set s) → IsTrue (set t)
     → IsAt entries s citing → IsAt entries t deleting → Owns p t id
-    → (bytes : List ℕ) × (others : List ℕ) × (citing ≡ Some bytes) × (deleting ≡ Some others) × (Cites bytes id → ¬ Deletes others id)
+    → (bytes : List ℕ) × (others : List ℕ) × (citing ≡ Some bytes) × (deleting ≡ Some others)
+    × (Cites bytes id → ¬ Deletes others id)

@@ -1,7 +1,6 @@
 -- A stream under a cube, and without one.
-use Rattle.std.proofs.Common.{◌≡◌, ◌∙◌, ◌<◌, ◌≤◌, ℕ, ℤ, neg_ℤ, nat_abs, Bool, false, List, [], ◌∷◌, ◌++◌, length, inl, inr, refl, sym, ap, ap₂}
-use Rattle.std.specs.Prelude.{◌||◌}
-use Rattle.std.specs.List.{AllByRecursion, list_any}
+use Rattle.std.proofs.Common.{◌≡◌, ◌∙◌, ◌<◌, ◌≤◌, ℕ, ℤ, neg_ℤ, nat_abs, Bool, false, List, [], ◌∷◌, ◌++◌, length, inl, inr, sym, ap}
+use Rattle.std.specs.List.{AllByRecursion}
 use Rattle.lrup_model.specs.Clause.{IsTautology}
 use Rattle.lrup_model.specs.Layout.{Owns}
 use Rattle.lrup_model.specs.Event as events
@@ -13,13 +12,14 @@ use Rattle.stream_check.specs.declared.fault.Fault.TheVariants as faults
 use Rattle.stream_check.specs.declared.report.Ending.{Ending}
 use Rattle.stream_check.specs.declared.report.Report.{Report}
 use Rattle.stream_check.specs.Setting.{Setting, Side, formula, own, foreign, outside, side_of}
-use Rattle.stream_check.specs.Standing.{Standing, standing_of, tally_of, adds_empty, adds_within}
+use Rattle.stream_check.specs.Standing.{Standing, standing_of, tally_of}
 use Rattle.stream_check.specs.Verdicts.{Verdict, Good, Bad, Test}
 use Rattle.stream_check.specs.Asking.{AsksAt, AsksThen}
 use Rattle.stream_check.specs.Additions.{AtReply, JudgesHints, published_by, JudgesAddition}
 use Rattle.stream_check.specs.Deletions.{RetiresThen, DropsThen, DeletesAt, JudgesIdentities}
 use Rattle.stream_check.specs.Imports.{AtImported, JudgesImport}
 use Rattle.stream_check.specs.Judging.{JudgesLine, AreGood, report_of, EndsAfter, StreamEnd}
+use Rattle.stream_check.specs.ReportLemmas.{all_only_empty}
 use Rattle.outcome_laws.specs.Outcomes.{bare_setting, bare_report}
 use Rattle.outcome_laws.specs.Laws.{NoCubeJudgesAlike}
 
@@ -125,17 +125,6 @@ good_bare c before (line ∷ lines) [] good = absurd good
 good_bare c before (line ∷ lines) (block ∷ blocks) good = (line_bare c before line block Good good.0, good_bare c (before ++ line ∷ []) lines blocks good.1)
 
 -- Reports
-
--- within the empty cube is the empty clause alone
-only_empty : (line : StreamLine) → adds_within [] line ≡ adds_empty line
-only_empty (Addition id [] hints) = refl
-only_empty (Addition id (l ∷ lits) hints) = refl
-only_empty (Deletion lead ids) = refl
-only_empty (Import id lits) = refl
-
-all_only_empty : (lines : List StreamLine) → list_any (adds_within []) lines ≡ list_any adds_empty lines
-all_only_empty [] = refl
-all_only_empty (line ∷ lines) = ap₂ (λ a b. a || b) (only_empty line) (all_only_empty lines)
 
 says_bare : (c : Setting) (lines : List StreamLine) (deleted : ℕ) (ending : Ending) (report : Report)
     → report ≡ report_of (tally_of c lines) deleted ending → bare_report report ≡ report_of (tally_of (bare_setting c) lines) deleted ending

@@ -1,5 +1,5 @@
 -- Two outcomes of the program.
-use Rattle.std.proofs.Common.{◌≡◌, ◌++◌, ◌-◌, ℕ, suc, Bool, true, false, List, [], ◌∷◌, length, map, Option, Some, refl, sym, ap, subst, ◌∙◌}
+use Rattle.std.proofs.Common.{◌≡◌, ◌++◌, ◌-◌, ℕ, Bool, true, false, List, length, map, Option, Some, refl, sym, ap, subst, ◌∙◌}
 use Rattle.std.specs.Prelude.{codes, option_map}
 use Rattle.std.specs.Fmt.{decimal}
 use Rattle.std.specs.Option.{ForSome}
@@ -11,7 +11,8 @@ use Rattle.dimacs.specs.FormulaText.{IsTextOf}
 use Rattle.stream_check.specs.declared.report.Ending.{Ending}
 use Rattle.stream_check.specs.declared.report.Report.{Report}
 use Rattle.runs.specs.Closed.{IsAt}
-use Rattle.runs.specs.Streams.{Stream, Terms, AreTold, StandsOnStreams}
+use Rattle.runs.specs.Streams.{Terms, StandsOnStreams}
+use Rattle.runs.specs.StreamLemmas.{told_count}
 use Rattle.groups.specs.Groups.{IsRun}
 use Rattle.groups.specs.Laws.{SerialRun}
 use Rattle.portfolio.specs.Outcomes.{OptionsValue, layout_of}
@@ -23,11 +24,6 @@ use Rattle.outcome_laws.specs.Laws.{SameBytesSayTheSame, OutcomesAgree}
 -- a text is that of one formula: the law of `dimacs`
 abbrev OneFormula : Type 0
 OneFormula = (bytes : List ℕ) (one other : Cnf) → IsTextOf bytes one → IsTextOf bytes other → one ≡ other
-
-told_count : (entries lefts : List (Option (List ℕ))) (faileds : List Bool) (streams : List Stream) → AreTold entries lefts faileds streams → length streams ≡ length entries
-told_count [] [] [] [] told = refl
-told_count (e ∷ es) (l ∷ ls) (x ∷ xs) (t ∷ ts) told = ap suc (told_count es ls xs ts told.1)
-told_count _ _ _ _ told = absurd told
 
 is_run : SerialRun → (serial : Bool) (f : Cnf) (terms : Terms) (entries lefts : List (Option (List ℕ))) (faileds : List Bool) (reports : List Report)
     → length entries ≡ terms.layout.streams → StandsOnStreams entries lefts faileds (AreReported serial f terms reports) → IsRun f terms entries lefts faileds reports

@@ -19,38 +19,49 @@ use Rattle.outcome_laws.specs.Outcomes.{bare_setting, bare_report, SayTheSame, R
 
 -- what a stream is judged by under a cube, it is judged by without one, and its report says the same, but of clauses within the cube
 abbrev pub NoCubeJudgesAlike : Type 0
-NoCubeJudgesAlike = (c : Setting) (bytes : List ℕ) (end : StreamEnd) (blocks : List History) (report : Report)
-    → JudgesBlocks c bytes end blocks report → JudgesBlocks (bare_setting c) bytes end blocks (bare_report report)
+NoCubeJudgesAlike = (c : Setting) (bytes : List ℕ) (end : StreamEnd) (blocks : List History)
+    (report : Report)
+    → JudgesBlocks c bytes end blocks report
+    → JudgesBlocks (bare_setting c) bytes end blocks (bare_report report)
 
 -- In two runs of one formula, by one layout and so many tries, a stream that cites within itself has reports that say the same, but of
 -- clauses within a cube, where both readers have the same bytes left at first, unless memory ran out or a read failed: whatever the
 -- cubes and the other streams are, and whichever runs have threads.
 abbrev pub SameBytesSayTheSame : Type 0
 SameBytesSayTheSame = (f : Cnf) (terms other_terms : Terms) (s : ℕ) (whole : List ℕ)
-    (entries lefts other_entries other_lefts : List (Option (List ℕ))) (faileds other_faileds : List Bool)
+    (entries lefts other_entries other_lefts : List (Option (List ℕ)))
+    (faileds other_faileds : List Bool)
     (reports other_reports : List Report) (report other_report : Report)
     → Fits terms.layout f → other_terms.layout ≡ terms.layout → other_terms.tries ≡ terms.tries
     → CiteWithin terms.layout (one s) whole
-    → IsRun f terms entries lefts faileds reports → IsRun f other_terms other_entries other_lefts other_faileds other_reports
+    → IsRun f terms entries lefts faileds reports
+    → IsRun f other_terms other_entries other_lefts other_faileds other_reports
     → IsAt entries s (Some whole) → IsAt other_entries s (Some whole)
     → IsAt reports s report → IsAt other_reports s other_report
-    → ¬ IsOfMemory report → ¬ IsOfFailure report → ¬ IsOfMemory other_report → ¬ IsOfFailure other_report
+    → ¬ IsOfMemory report → ¬ IsOfFailure report → ¬ IsOfMemory other_report
+    → ¬ IsOfFailure other_report
     → SayTheSame report other_report
 
 -- Two command lines of the same words ask for the same.
 abbrev pub SameWordsAskAlike : Type 0
-SameWordsAskAlike = (words : List Text) (given other : CommandLine) → IsCommandLineOf words given → IsCommandLineOf words other
-    → (options_of other ≡ options_of given) × (other.streams ≡ given.streams) × (other.formula.now ≡ given.formula.now)
+SameWordsAskAlike = (words : List Text) (given other : CommandLine) → IsCommandLineOf words given
+    → IsCommandLineOf words other
+    → (options_of other ≡ options_of given) × (other.streams ≡ given.streams)
+    × (other.formula.now ≡ given.formula.now)
 
 -- In two outcomes of the program, whose options and number of streams are the same, a stream that cites within itself has the same
 -- line, where the files of the formula and of the stream tell the same bytes, unless a report of the stream is of memory or of a
 -- failed read: whatever the other streams' files are, whatever is assumed, and whichever of the two ran with threads.
 abbrev pub OutcomesAgree : (R : Type 0) → FilesView R → (Q : Type 0) → FilesView Q → Type 0
-OutcomesAgree R files Q others = (words other_words : List Text) (reports other_reports : List Report) (verdict other_verdict : Verdict)
-    (a : IsOutcome R files words reports verdict) (b : IsOutcome Q others other_words other_reports other_verdict)
+OutcomesAgree R files Q others =
+    (words other_words : List Text) (reports other_reports : List Report)
+    (verdict other_verdict : Verdict)
+    (a : IsOutcome R files words reports verdict)
+    (b : IsOutcome Q others other_words other_reports other_verdict)
     (s : ℕ) (text whole : List ℕ) (report other_report : Report)
     → options_of b.given ≡ options_of a.given → length b.given.streams ≡ length a.given.streams
     → files.tells a.given.formula.now ≡ Some text → others.tells b.given.formula.now ≡ Some text
     → CiteWithin (layout_at a.given a.formula) (one s) whole
-    → ReportsOn R files a.given reports s whole report → ReportsOn Q others b.given other_reports s whole other_report
+    → ReportsOn R files a.given reports s whole report
+    → ReportsOn Q others b.given other_reports s whole other_report
     → stream_line s report ≡ stream_line s other_report

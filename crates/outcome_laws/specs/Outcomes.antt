@@ -20,7 +20,13 @@ bare_terms terms = record { layout = terms.layout; cube = []; tries = terms.trie
 
 -- the report, as it is under the empty cube: within that is the empty clause alone
 abbrev pub bare_report : Report → Report
-bare_report r = record { added = r.added; deleted = r.deleted; empty = r.empty; within = r.empty; ending = r.ending }
+bare_report r = record {
+  added = r.added;
+  deleted = r.deleted;
+  empty = r.empty;
+  within = r.empty;
+  ending = r.ending;
+}
 
 -- the reports say the same, but of clauses within a cube
 pub record SayTheSame (report other : Report) : Type 0 where
@@ -31,7 +37,8 @@ pub record SayTheSame (report other : Report) : Type 0 where
 
 -- Of the command line's streams the file of stream s tells these bytes. Its report is this one, and tells neither that memory ran out
 -- nor of a failed read.
-pub record ReportsOn (R : Type 0) (files : FilesView R) (given : CommandLine) (reports : List Report) (s : ℕ) (whole : List ℕ) (report : Report) : Type 0 where
+pub record ReportsOn (R : Type 0) (files : FilesView R) (given : CommandLine)
+    (reports : List Report) (s : ℕ) (whole : List ℕ) (report : Report) : Type 0 where
   pub path : Text
   pub names : IsAt given.streams s path
   pub tells : files.tells path ≡ Some whole

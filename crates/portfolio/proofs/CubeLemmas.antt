@@ -2,7 +2,7 @@
 use Rattle.std.proofs.Common.{◌≡◌, ℕ, ℤ, Bool, true, false, List, [], ◌∷◌, ◌++◌, ◌+◌, inl, inr, refl, sym, ap, subst, ◌∙◌}
 use Rattle.std.specs.Prelude.{◌||◌, IsTrue, if◌then◌else◌}
 use Rattle.std.specs.List.{list_any}
-use Rattle.std.proofs.lemmas.Bool.{cases_Bool}
+use Rattle.std.proofs.lemmas.Bool.{cases_Bool, or_left}
 use Rattle.std.proofs.lemmas.Grind.{flat_map-append}
 use Rattle.lrup_model.specs.Clause.{Clause}
 use Rattle.lrup_model.specs.Formula.{Cnf}
@@ -22,14 +22,15 @@ use Rattle.stream_check.specs.Standing.{Standing, adds_within, is_within}
 use Rattle.stream_check.specs.CubeLemmas.{is_within-decides}
 use Rattle.stream_check.specs.Verdicts.{Good}
 use Rattle.stream_check.specs.Additions.{published_by}
-use Rattle.stream_check.specs.Judging.{JudgesLine, AreGood, joined, EndsAfter, StreamEnd, ended, failed, JudgesBlocks}
+use Rattle.stream_check.specs.Judging.{JudgesLine, AreGood, joined, StreamEnd, ended, failed, JudgesBlocks}
+use Rattle.stream_check.specs.ReportLemmas.{said_within}
 use Rattle.runs.specs.Streams.{Stop, at_end, at_failure, early, Stream, JudgesTo, JudgesStream, Block, blocks_of, events_in, AreJudged, IsOrdered, Terms, setting_of}
 use Rattle.runs.specs.Headline.{AreJudgedIn}
 use Rattle.orders.specs.Lines.{publishes_within}
 use Rattle.portfolio.specs.declared.outcome.Verdict.{Verdict}
 use Rattle.portfolio.specs.declared.outcome.Verdict.TheVariants.{Unsatisfiable, UnsatisfiableUnder, Unknown}
 use Rattle.portfolio.specs.Outcomes.{verdict_of}
-use Rattle.portfolio.proofs.EmptyLemmas.{or_left, any_front, any_back, any_filtered, any_block, fails_not, hints_publish}
+use Rattle.portfolio.proofs.EmptyLemmas.{any_front, any_back, any_filtered, any_block, fails_not, hints_publish}
 
 -- ---- the lines of a stream
 
@@ -56,14 +57,6 @@ lines_publish c before (Addition id lits hints ∷ lines) (block ∷ blocks) goo
       | inr none ↦ any_back (publishes_within c.cube) block (joined blocks)
           (lines_publish c _ lines blocks good.1 (ap (λ b. b || list_any (adds_within c.cube) lines) (sym none) ∙ e))
     ]
-
--- the report tells of the good lines alone
-said_within : (c : Setting) (lines : List StreamLine) (rest : List ℕ) (end : StreamEnd) (back : List History) (report : Report) → EndsAfter c lines rest end back report
-    → report.within ≡ list_any (adds_within c.cube) lines
-said_within c lines rest end back report (inl line) = ap (λ (r : Report). r.within) line.says
-said_within c lines rest end back report (inr (inl text)) = ap (λ (r : Report). r.within) text.says
-said_within c lines rest end back report (inr (inr (inl memory))) = ap (λ (r : Report). r.within) memory.says
-said_within c lines rest end back report (inr (inr (inr ending))) = ap (λ (r : Report). r.within) ending.says
 
 -- where the report says 'within', one of the events published a clause within the cube
 within_is_published : (c : Setting) (bytes : List ℕ) (end : StreamEnd) (blocks : List History) (report : Report)

@@ -2,7 +2,7 @@
 use Rattle.std.proofs.Common.{◌≡◌, ℕ, ℤ, Bool, true, false, List, [], ◌∷◌, ◌++◌, length, inl, inr, refl, sym, ap, subst, ◌∙◌, arith}
 use Rattle.std.specs.Prelude.{◌||◌, ◌==◌, IsTrue, if◌then◌else◌}
 use Rattle.std.specs.List.{list_any, filter}
-use Rattle.std.proofs.lemmas.Bool.{eqb-true}
+use Rattle.std.proofs.lemmas.Bool.{eqb-true, or_right, or_left}
 use Rattle.std.proofs.lemmas.Grind.{flat_map-append}
 use Rattle.std.proofs.lemmas.List.Folds.{list_any-append}
 use Rattle.lrup_model.specs.Clause.{Clause}
@@ -23,18 +23,11 @@ use Rattle.stream_check.specs.Setting.{Setting}
 use Rattle.stream_check.specs.Standing.{Standing, adds_empty}
 use Rattle.stream_check.specs.Verdicts.{Good, Bad, Fails}
 use Rattle.stream_check.specs.Additions.{AtConflict, AtReply, JudgesHints, published_by}
-use Rattle.stream_check.specs.Judging.{JudgesLine, AreGood, joined, EndsAfter, StreamEnd, ended, failed, JudgesBlocks}
+use Rattle.stream_check.specs.Judging.{JudgesLine, AreGood, joined, StreamEnd, ended, failed, JudgesBlocks}
+use Rattle.stream_check.specs.ReportLemmas.{said_empty}
 use Rattle.runs.specs.Streams.{Stop, at_end, at_failure, early, Stream, JudgesTo, JudgesStream, Block, blocks_of, events_in}
 
 -- ---- some element of a list
-
-pub or_left : (a b : Bool) → a ≡ true → (a || b) ≡ true
-or_left true b e = refl
-or_left false b e = absurd (let f : false ≡ true = e in cc)
-
-or_right : (a b : Bool) → b ≡ true → (a || b) ≡ true
-or_right true b e = refl
-or_right false b e = e
 
 or_more : (a b c : Bool) → (b ≡ true → c ≡ true) → (a || b) ≡ true → (a || c) ≡ true
 or_more true b c rest e = refl
@@ -114,13 +107,6 @@ lines_publish c before (Addition id [] hints ∷ lines) (block ∷ blocks) good 
 lines_publish c before (Addition id (l ∷ lits) hints ∷ lines) (block ∷ blocks) good e = any_back publishes_empty block (joined blocks) (lines_publish c _ lines blocks good.1 e)
 lines_publish c before (Deletion lead ids ∷ lines) (block ∷ blocks) good e = any_back publishes_empty block (joined blocks) (lines_publish c _ lines blocks good.1 e)
 lines_publish c before (Import id lits ∷ lines) (block ∷ blocks) good e = any_back publishes_empty block (joined blocks) (lines_publish c _ lines blocks good.1 e)
-
--- the report tells of the good lines alone
-said_empty : (c : Setting) (lines : List StreamLine) (rest : List ℕ) (end : StreamEnd) (back : List History) (report : Report) → EndsAfter c lines rest end back report → report.empty ≡ list_any adds_empty lines
-said_empty c lines rest end back report (inl line) = ap (λ (r : Report). r.empty) line.says
-said_empty c lines rest end back report (inr (inl text)) = ap (λ (r : Report). r.empty) text.says
-said_empty c lines rest end back report (inr (inr (inl memory))) = ap (λ (r : Report). r.empty) memory.says
-said_empty c lines rest end back report (inr (inr (inr ending))) = ap (λ (r : Report). r.empty) ending.says
 
 -- Where the report says 'empty', one of the events published the empty clause.
 pub empty_is_published : (c : Setting) (bytes : List ℕ) (end : StreamEnd) (blocks : List History) (report : Report)

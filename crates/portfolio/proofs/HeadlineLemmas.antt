@@ -1,9 +1,10 @@
 -- The one history of a run with threads, and what the reports say of it.
-use Rattle.std.proofs.Common.{◌≡◌, ◌⊎◌, inl, inr, ℕ, suc, ◌+◌, ◌-◌, ◌<◌, ◌≤◌, Bool, true, false, List, [], ◌∷◌, ◌++◌, length, map, Option, Some, refl, sym, ap, ap₂, subst, ◌∙◌, arith, append-nil}
+use Rattle.std.proofs.Common.{◌≡◌, inl, inr, ℕ, suc, ◌+◌, ◌-◌, ◌<◌, ◌≤◌, Bool, true, false, List, [], ◌∷◌, ◌++◌, length, map, Option, Some, refl, sym, ap, ap₂, subst, ◌∙◌, arith, append-nil}
 use Rattle.std.specs.Result.{IsErrAnd}
-use Rattle.std.specs.Prelude.{◌||◌, Result, Ok, Err, slice_get, if◌then◌else◌}
+use Rattle.std.specs.Prelude.{Result, Ok, Err, slice_get, if◌then◌else◌}
 use Rattle.std.specs.List.{AllByRecursion, list_any}
 use Rattle.std.proofs.lemmas.Option.{slice_get_within}
+use Rattle.std.proofs.lemmas.Bool.{or_cases}
 use Rattle.lrup_model.specs.Entailment.{IsUnsatisfiable}
 use Rattle.lrup_model.specs.Event.{History, own, spent}
 use Rattle.lrup_model.specs.Formula.{Cnf}
@@ -292,10 +293,6 @@ judged_so f terms wanted entries lefts faileds reports fs vs j same one left fai
 
 -- ---- 'unsatisfiable'
 
-either_true : (a b : Bool) → (a || b) ≡ true → (a ≡ true) ⊎ (b ≡ true)
-either_true true b is = inl refl
-either_true false b is = inr is
-
 -- where one of the reports says 'empty', no assignment makes every clause of the formula true
 sound_by : (f : Cnf) (terms : Terms) (h : History) → IsLegal f terms.layout h → (s : ℕ) (streams : List Stream) (reports : List Report)
     → AreJudgedIn terms (λ t. true) h s streams reports → list_any (λ report. report.empty) reports ≡ true → IsUnsatisfiable f
@@ -304,7 +301,7 @@ sound_by f terms h legal s [] (r ∷ rs) judged is = absurd judged
 sound_by f terms h legal s (t ∷ ts) [] judged is = absurd judged
 sound_by f terms h legal s (t ∷ ts) (r ∷ rs) judged is =
     let this = judged.0 refl in
-    elim (either_true r.empty (list_any (λ (report : Report). report.empty) rs) is) [
+    elim (or_cases r.empty (list_any (λ (report : Report). report.empty) rs) is) [
       | inl here ↦ sound f terms.layout h (setting_of terms s) t this.0 r legal this.1 this.2 here
       | inr later ↦ sound_by f terms h legal (s + 1) ts rs judged.1 later
     ]

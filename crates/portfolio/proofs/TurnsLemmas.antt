@@ -4,7 +4,7 @@ use borrow.Author.Count.{below_more}
 use Rattle.std.specs.Prelude.{◌||◌, ◌↔◌, IsTrue}
 use Rattle.std.specs.List.{AllByRecursion, list_any, sum_by}
 use Rattle.std.proofs.lemmas.Bool.{cases_Bool, cases_eq, cases_lt, cond-true, cond-false}
-use Rattle.std.proofs.lemmas.List.{append-nil, append_assoc, map-append, get_or_default, get_or-replicate, take-append-le, take_all}
+use Rattle.std.proofs.lemmas.List.{append-nil, map-append, get_or_default, get_or-replicate, take-append-le, take_all}
 use Rattle.std.proofs.lemmas.Grind.{flat_map-append}
 use Rattle.lrup_model.specs.Cube.{CubeValue}
 use Rattle.lrup_model.specs.Entailment.{IsUnsatisfiable}
@@ -16,6 +16,7 @@ use Rattle.lrup_model.specs.History.{LegalFrom, IsLegal}
 use Rattle.lrup_model.specs.HistoryLemmas.{opening-owned}
 use Rattle.lrup_model.specs.Running.{run-append, legal-append, spent-append}
 use Rattle.lrup_model.specs.Plain.{Plain, formula_of, state_of, free_at, plain_place, PlainMoves}
+use Rattle.lrup_model.specs.ListLemmas.{All-append, All-front}
 use Rattle.stream_check.specs.declared.report.Ending.{Ending}
 use Rattle.stream_check.specs.declared.report.Report.{Report}
 use Rattle.stream_check.specs.Setting.{Setting}
@@ -31,14 +32,6 @@ use Rattle.portfolio.specs.Working.{WorkerValue, WorksBy, Works, WorksOn, IsStar
 use Rattle.portfolio.specs.Turns.{HasRun, IsWorking, AreWorking, Runs, IsRunning, GoesOn, IsOver, AreOver, IsOverAt, AreStarted, HaveReports}
 
 -- ---- blocks
-
-all-append : {X : Type 0} (P : X → Type 0) (xs ys : List X) → AllByRecursion P xs → AllByRecursion P ys → AllByRecursion P (xs ++ ys)
-all-append P [] ys front back = back
-all-append P (x ∷ xs) ys front back = (front.0, all-append P xs ys front.1 back)
-
-all-front : {X : Type 0} (P : X → Type 0) (xs ys : List X) → AllByRecursion P (xs ++ ys) → AllByRecursion P xs
-all-front P [] ys all = tt
-all-front P (x ∷ xs) ys all = (all.0, all-front P xs ys all.1)
 
 all-back : {X : Type 0} (P : X → Type 0) (xs ys : List X) → AllByRecursion P (xs ++ ys) → AllByRecursion P ys
 all-back P [] ys all = all
@@ -95,7 +88,7 @@ within-tagged : (p : LayoutValue) (s : ℕ) (bs : List History) → IsStream p s
 unfolding tagged
 within-tagged p s [] stream calls = tt
 within-tagged p s (b ∷ bs) stream calls =
-    ((stream, refl, all-front (λ e. stream_of e ≡ s) b (joined bs) calls), within-tagged p s bs stream (all-back (λ e. stream_of e ≡ s) b (joined bs) calls))
+    ((stream, refl, All-front (λ e. stream_of e ≡ s) b (joined bs) calls), within-tagged p s bs stream (all-back (λ e. stream_of e ≡ s) b (joined bs) calls))
 
 -- ---- room
 
@@ -144,7 +137,7 @@ run_more f p blocks m n s bs has stream moves =
     record {
       layout = moves.layout ∙ has.layout;
       formula = moves.formula ∙ has.formula;
-      within = all-append (IsBlockWithin p (λ t. true)) blocks (tagged s bs) has.within (within-tagged p s bs stream moves.callers);
+      within = All-append (IsBlockWithin p (λ t. true)) blocks (tagged s bs) has.within (within-tagged p s bs stream moves.callers);
       legal = subst (LegalFrom f p (opening f)) same (legal-append f p (opening f) before (joined bs) has.legal later);
       state = moves.state ∙ ap (λ (state : State). run state (joined bs)) has.state ∙ sym (run-append (opening f) before (joined bs)) ∙ ap (run (opening f)) same;
       room = subst (λ (es : History). (t : ℕ) → IsStream p t → free_at n t + spent t es ≡ p.room) same room;
@@ -304,12 +297,6 @@ started_pushed {X} terms s f xs x ws vs w pushed place started here =
     let next : s ≡ 1 + length ws = omega (arith, place) in
     let more : AreStarted terms 1 (map f xs ++ f x ∷ []) (ws ++ w ∷ []) = started_more terms 1 (map f xs) ws (f x) w started (subst (λ k. IsStarted terms k (f x) w) next here) in
     subst (AreStarted terms 1 (map f (xs ++ x ∷ []))) (sym pushed) (subst (λ entries. AreStarted terms 1 entries (ws ++ w ∷ [])) (sym (map-append f xs (x ∷ []))) more)
-
--- the first of the rest is the next of those that were taken
-pub taken_first : {X Y C : Type 0} (f : X → C) (h : Y → C) (xs : List X) (x : X) (ys zs : List Y) (y : Y) (all : List C) → ys ≡ y ∷ zs → f x ≡ h y → map f xs ++ map h ys ≡ all → map f (xs ++ x ∷ []) ++ map h zs ≡ all
-taken_first {X} {Y} {C} f h xs x ys zs y all first same before =
-    ap (λ (l : List C). l ++ map h zs) (map-append f xs (x ∷ [])) ∙ append_assoc (map f xs) (f x ∷ []) (map h zs)
-    ∙ ap (λ (c : C). map f xs ++ (c ∷ map h zs)) same ∙ ap (λ (l : List Y). map f xs ++ map h l) (sym first) ∙ before
 
 count_started : (terms : Terms) (k : ℕ) (entries : List (Option (List ℕ))) (ws : List WorkerValue) → AreStarted terms k entries ws → length ws ≡ length entries
 count_started terms k [] [] started = refl

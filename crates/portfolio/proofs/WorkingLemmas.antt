@@ -5,14 +5,13 @@ use Rattle.std.specs.Io.KnownBytes.{Consumes}
 use Rattle.std.proofs.KnownBytes.{Consumes-trans}
 use Rattle.std.proofs.Math.Seq.{take-add}
 use Rattle.std.proofs.lemmas.List.{take-take, drop-drop}
-use Rattle.std.proofs.lemmas.Grind.{flat_map-append}
 use Rattle.lrup_model.specs.Event.{History}
 use Rattle.lrup_text.specs.Lines.{StreamLine}
 use Rattle.stream_check.specs.declared.report.Ending.{Ending}
 use Rattle.stream_check.specs.declared.report.Ending.TheVariants as endings
 use Rattle.stream_check.specs.declared.report.Report.{Report}
 use Rattle.stream_check.specs.Setting.{Setting}
-use Rattle.stream_check.specs.Judging.{joined, StreamEnd, ended, failed, ending_at, EndsAfter, JudgesBlocks}
+use Rattle.stream_check.specs.Judging.{StreamEnd, ended, failed, ending_at, EndsAfter, JudgesBlocks}
 use Rattle.stream_check.specs.Leaving.{Leaves}
 use Rattle.stream_check.specs.CheckerValue.{CheckerValue}
 use Rattle.stream_check.specs.Checker.{state_by, state_of, report_at, LeavesOn, EndsBy, Ends, ReportsEnd}
@@ -20,9 +19,6 @@ use Rattle.runs.specs.Streams.{Stop, early, StopsSo, StopsReading, JudgesTo}
 use Rattle.portfolio.specs.Working.{WorkerValue, WorksBy, Works, WorksOn}
 
 -- ---- in turn
-
-pub joined-append : (front back : List History) → joined front ++ joined back ≡ joined (front ++ back)
-joined-append front back = sym (flat_map-append (λ (block : History). block) front back)
 
 pub works_none : (w : WorkerValue) (room : ℕ) → WorksOn w room [] w room
 works_none w room entry before works = subst (Works entry w room) (sym (append-nil before)) works

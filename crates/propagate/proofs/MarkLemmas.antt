@@ -12,7 +12,8 @@ use Rattle.lrup_model.specs.Clause.{Has, IsClause}
 use Rattle.lrup_model.specs.Place.{Place, ClipValue, IsKnown, AllFollow, text_of}
 use Rattle.lrup_model.specs.PassLemmas.{known_follows}
 use Rattle.propagate.specs.Trail.{AreApart, AreMarks}
-use Rattle.lrup_model.specs.ClauseLemmas.{Has-append_left, Has-at, Has-push, Has-push_cases, All-Has, All-push, int_cases, take-read}
+use Rattle.lrup_model.specs.ClauseLemmas.{Has-append_left, Has-at, Has-push, Has-push_cases, All-Has, int_cases, take-read}
+use Rattle.lrup_model.specs.ListLemmas.{All-push}
 
 pub IsLiteral-neg : (vars : ℕ) (l : ℤ) → IsLiteral vars l → IsLiteral vars (neg_ℤ l)
 IsLiteral-neg vars (pos zero) h = h

@@ -6,27 +6,33 @@ use Rattle.propagate.specs.Hints.{Leads}
 use Rattle.propagate.specs.Laws.{UnitIsUnique, UnitIsNoConflict, LeadsOn, LeadsToOne, AcceptsExactly, NeedsConflict, EndsAtConflict, NeedsUnits}
 
 pub unit_is_unique : UnitIsUnique
-unit_is_unique n d l k a b = elim (b.others l a.here) [ inl same ↦ same | inr is_false ↦ absurd (a.not_false is_false) ]
+unit_is_unique n d l k a b =
+    elim (b.others l a.here) [ inl same ↦ same | inr is_false ↦ absurd (a.not_false is_false) ]
 
 pub unit_is_no_conflict : UnitIsNoConflict
 unit_is_no_conflict n d l unit conflict = unit.not_false (conflict l unit.here)
 
 pub leads_on : LeadsOn
-leads_on n m [] d l same unit = (l, subst (λ k. IsUnit k d l) (sym same) unit, ap (λ k. k ++ neg_ℤ l ∷ []) same)
-leads_on n m (e ∷ ds) d l leads unit = (leads.0, leads.1, leads_on (n ++ neg_ℤ leads.0 ∷ []) m ds d l leads.2 unit)
+leads_on n m [] d l same unit =
+    (l, subst (λ k. IsUnit k d l) (sym same) unit, ap (λ k. k ++ neg_ℤ l ∷ []) same)
+leads_on n m (e ∷ ds) d l leads unit =
+    (leads.0, leads.1, leads_on (n ++ neg_ℤ leads.0 ∷ []) m ds d l leads.2 unit)
 
 pub leads_to_one : LeadsToOne
 leads_to_one n m k [] a b = sym a ∙ b
 leads_to_one n m k (d ∷ ds) a b =
     let same = unit_is_unique n d a.0 b.0 a.1 b.1 in
-    leads_to_one (n ++ neg_ℤ b.0 ∷ []) m k ds (subst (λ l. Leads (n ++ neg_ℤ l ∷ []) ds m) same a.2) b.2
+    leads_to_one (n ++ neg_ℤ b.0 ∷ []) m k ds (subst (λ l. Leads (n ++ neg_ℤ l ∷ []) ds m) same a.2)
+    b.2
 
-refutes_from : (n m : List ℤ) (ds : List Clause) (d : Clause) → Leads n ds m → IsConflict m d → Refutes n (ds ++ d ∷ [])
+refutes_from : (n m : List ℤ) (ds : List Clause) (d : Clause) → Leads n ds m → IsConflict m d
+    → Refutes n (ds ++ d ∷ [])
 refutes_from n m [] d same conflict = subst (λ k. IsConflict k d) (sym same) conflict
 refutes_from n m (e ∷ []) d leads conflict = (leads.0, leads.1, refutes_from (n ++ neg_ℤ leads.0 ∷ []) m [] d leads.2 conflict)
 refutes_from n m (e ∷ f ∷ ds) d leads conflict = (leads.0, leads.1, refutes_from (n ++ neg_ℤ leads.0 ∷ []) m (f ∷ ds) d leads.2 conflict)
 
-leads_from : (n : List ℤ) (ds : List Clause) (d : Clause) → Refutes n (ds ++ d ∷ []) → (m : List ℤ) × Leads n ds m × IsConflict m d
+leads_from : (n : List ℤ) (ds : List Clause) (d : Clause) → Refutes n (ds ++ d ∷ []) → (m : List ℤ)
+    × Leads n ds m × IsConflict m d
 leads_from n [] d refutes = (n, refl, refutes)
 leads_from n (e ∷ []) d refutes =
     let rest = leads_from (n ++ neg_ℤ refutes.0 ∷ []) [] d refutes.2 in (rest.0, (refutes.0, refutes.1, rest.1), rest.2)
@@ -40,7 +46,8 @@ accepts_exactly c ds d = (
 )
 
 -- behind unit clauses, what is refuted is what is refuted from there
-refutes_behind : (n m : List ℤ) (ds : List Clause) (e : Clause) (es : List Clause) → Leads n ds m → Refutes n (ds ++ e ∷ es) → Refutes m (e ∷ es)
+refutes_behind : (n m : List ℤ) (ds : List Clause) (e : Clause) (es : List Clause) → Leads n ds m
+    → Refutes n (ds ++ e ∷ es) → Refutes m (e ∷ es)
 refutes_behind n m [] e es same refutes = subst (λ k. Refutes k (e ∷ es)) same refutes
 refutes_behind n m (d ∷ []) e es leads refutes =
     let same = unit_is_unique n d refutes.0 leads.0 refutes.1 leads.1 in
@@ -61,11 +68,14 @@ needs_conflict c m ds leads accepts = needs_conflict_from c m ds leads accepts.1
 
 pub ends_at_conflict : EndsAtConflict
 ends_at_conflict c m ds d e es leads conflict accepts =
-    let behind = refutes_behind c m ds d (e ∷ es) leads accepts.1 in unit_is_no_conflict m d behind.0 behind.1 conflict
+    let behind = refutes_behind c m ds d (e ∷ es) leads accepts.1 in
+    unit_is_no_conflict m d behind.0 behind.1 conflict
 
-needs_units_here : (m : List ℤ) (d : Clause) (es : List Clause) → (¬ IsConflict m d) → ((l : ℤ) → ¬ IsUnit m d l) → ¬ Refutes m (d ∷ es)
+needs_units_here : (m : List ℤ) (d : Clause) (es : List Clause) → (¬ IsConflict m d)
+    → ((l : ℤ) → ¬ IsUnit m d l) → ¬ Refutes m (d ∷ es)
 needs_units_here m d [] no_conflict no_unit refutes = no_conflict refutes
 needs_units_here m d (e ∷ es) no_conflict no_unit refutes = no_unit refutes.0 refutes.1
 
 pub needs_units : NeedsUnits
-needs_units c m ds d es leads no_conflict no_unit accepts = needs_units_here m d es no_conflict no_unit (refutes_behind c m ds d es leads accepts.1)
+needs_units c m ds d es leads no_conflict no_unit accepts =
+    needs_units_here m d es no_conflict no_unit (refutes_behind c m ds d es leads accepts.1)

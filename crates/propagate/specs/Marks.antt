@@ -15,6 +15,8 @@ pub record Propagation : Type 0 where
 
 -- what a hinted clause does
 abbrev pub Steps : Propagation → Clause → Step → Propagation → Type 0
-Steps old d steps.Unit new = (l : ℤ) × IsUnit old.falses d l × (new ≡ record old { falses = old.falses ++ neg_ℤ l ∷ [] })
+Steps old d steps.Unit new =
+    (l : ℤ) × IsUnit old.falses d l × (new ≡ record old { falses = old.falses ++ neg_ℤ l ∷ [] })
 Steps old d steps.Conflict new = IsConflict old.falses d × (new ≡ record old { ready = false })
-Steps old d steps.NotUnit new = (¬ IsConflict old.falses d) × ((l : ℤ) → ¬ IsUnit old.falses d l) × (new ≡ record old { ready = false })
+Steps old d steps.NotUnit new = (¬ IsConflict old.falses d) × ((l : ℤ) → ¬ IsUnit old.falses d l)
+    × (new ≡ record old { ready = false })

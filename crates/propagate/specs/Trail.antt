@@ -33,4 +33,5 @@ pub record AreMarks (vars : ℕ) (marks : List Bool) (ls : List ℤ) (capacity :
   pub room : vars < capacity
   pub within : AllByRecursion (IsLiteral vars) ls
   pub apart : AreApart ls
-  pub marked : (l : ℤ) → IsLiteral vars l → (slice_index_or marks (code_of l) false ≡ true) ↔ Has ls l
+  pub marked : (l : ℤ) → IsLiteral vars l → (slice_index_or marks (code_of l) false ≡ true)
+      ↔ Has ls l

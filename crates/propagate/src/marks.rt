@@ -60,7 +60,8 @@ impl Marks {
     /// Makes all buffers, for clauses over the variables 1 to `vars`, at most 16,777,215: some 6 bytes a variable.
     pub fn new(alloc: Global, vars: u32) -> Result<Marks, AllocError>
         requires { vars ≤ max_variable }
-        ensures { IfOk result (λ m. m ≡ record { vars = vars; clause = []; falses = []; ready = false }) }
+        ensures { IfOk result
+            (λ m. m ≡ record { vars = vars; clause = []; falses = []; ready = false }) }
     {
         Ok(Marks {
             trail: Trail::new(alloc, vars)?,
@@ -74,8 +75,15 @@ impl Marks {
     pub fn begin(&mut self, clause: &[Lit]) -> Result<(), Tautology>
         requires { AllByRecursion (IsLiteral self.old.vars) clause.now }
         ensures tautology { IsErr result ↔ IsTautology clause.now }
-        ensures ok { OnOk result (self.new ≡ record { vars = self.old.vars; clause = distinct clause.now; falses = distinct clause.now; ready = true }) }
-        ensures err { OnErr result (self.new ≡ record { vars = self.old.vars; clause = []; falses = []; ready = false }) }
+        ensures ok { OnOk result
+            (self.new ≡ record {
+              vars = self.old.vars;
+              clause = distinct clause.now;
+              falses = distinct clause.now;
+              ready = true;
+            }) }
+        ensures err { OnErr result
+            (self.new ≡ record { vars = self.old.vars; clause = []; falses = []; ready = false }) }
 
         // The clause that was taken up is the argument's, each literal once.
         ensures clause { OnOk result (IsClause self.old.vars self.new.clause) }
@@ -116,8 +124,10 @@ impl Marks {
         requires known { IsKnown (M.place map.old) clip.now }
         requires follow { AllFollow (M.place map.old) }
         requires variables { (M.place map.old).caller.formula.vars ≤ self.old.vars }
-        ensures conflict { (result ≡ Step.Conflict) ↔ IsConflict self.old.falses (text_of (M.place map.old) clip.now) }
-        ensures unit { (result ≡ Step.Unit) ↔ ((l : ℤ) × IsUnit self.old.falses (text_of (M.place map.old) clip.now) l) }
+        ensures conflict { (result ≡ Step.Conflict)
+            ↔ IsConflict self.old.falses (text_of (M.place map.old) clip.now) }
+        ensures unit { (result ≡ Step.Unit)
+            ↔ ((l : ℤ) × IsUnit self.old.falses (text_of (M.place map.old) clip.now) l) }
         ensures step { Steps self.old (text_of (M.place map.old) clip.now) result self.new }
 
         // At the map it is no event.
@@ -245,7 +255,8 @@ fn left_with_pair(falses: &Trail, first: Lit, second: Option<Lit>) -> Left
 #[inline]
 fn left_with(falses: &Trail, left: Left, lit: Lit) -> Left
     requires { IsLiteral falses.now.vars lit }
-    ensures { (d : List ℤ) → IsLeft falses.now.literals d left → (¬ Has d lit) → IsLeft falses.now.literals (d ++ lit ∷ []) result }
+    ensures { (d : List ℤ) → IsLeft falses.now.literals d left → (¬ Has d lit)
+        → IsLeft falses.now.literals (d ++ lit ∷ []) result }
 {
     if falses.has(lit) {
         return left;

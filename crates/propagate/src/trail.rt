@@ -129,8 +129,10 @@ impl Trail {
 /// Takes the marks of these literals away, and changes no other.
 fn unmark(marks: &mut [bool], literals: &[Lit])
     requires { HaveMarks marks.old literals.now }
-    ensures cleared { (l : ℤ) → Has literals.now l → slice_index_or marks.new (code_of l) false ≡ false }
-    ensures others { (k : ℕ) → slice_index_or marks.new k false ≡ true → slice_index_or marks.old k false ≡ true }
+    ensures cleared { (l : ℤ) → Has literals.now l
+        → slice_index_or marks.new (code_of l) false ≡ false }
+    ensures others { (k : ℕ) → slice_index_or marks.new k false ≡ true
+        → slice_index_or marks.old k false ≡ true }
 {
     for &lit in literals {
         marks[lit.code() as usize] = false;

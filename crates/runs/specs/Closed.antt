@@ -23,4 +23,5 @@ pub record CiteWithin (p : LayoutValue) (set : ℕ → Bool) (bytes : List ℕ) 
 
 -- The set is closed: no stream of it cites an identity of a stream outside it, in the bytes that were needed.
 abbrev pub IsClosed : LayoutValue → (ℕ → Bool) → List Stream → Type 0
-IsClosed p set streams = (s : ℕ) (stream : Stream) → IsTrue (set s) → IsAt streams s stream → CiteWithin p set stream.bytes
+IsClosed p set streams = (s : ℕ) (stream : Stream) → IsTrue (set s) → IsAt streams s stream
+    → CiteWithin p set stream.bytes

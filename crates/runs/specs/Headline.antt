@@ -15,7 +15,8 @@ use Rattle.runs.specs.Streams.{Stream, JudgesStream, Terms, setting_of}
 abbrev pub HaveCalls : Cnf → LayoutValue → History → ℕ → List View → Type 0
 HaveCalls f p h s [] = Unit {0}
 HaveCalls f p h s (v ∷ vs) =
-    (v.caller ≡ record { formula = f; layout = p; stream = s }) × (v.seen ≡ h) × (v.mine ≡ own h s) × HaveCalls f p h (s + 1) vs
+    (v.caller ≡ record { formula = f; layout = p; stream = s }) × (v.seen ≡ h) × (v.mine ≡ own h s)
+    × HaveCalls f p h (s + 1) vs
 
 -- what the first of the passes has seen
 abbrev pub seen_by : List View → History
@@ -23,14 +24,16 @@ seen_by [] = []
 seen_by (v ∷ vs) = v.seen
 
 -- The passes have this one history of the one-thread clause map: it is legal, and has each stream's calls once, in its order.
-pub record HaveOneHistory (f : Cnf) (p : LayoutValue) (h : History) (passes : List View) : Type 0 where
+pub record HaveOneHistory (f : Cnf) (p : LayoutValue) (h : History)
+    (passes : List View) : Type 0 where
   pub legal : IsLegal f p h
   pub count : length passes ≡ p.streams
   pub calls : HaveCalls f p h 1 passes
 
 -- a stream is judged by these events
 abbrev pub IsJudgedBy : Setting → Stream → History → Report → Type 0
-IsJudgedBy c stream es report = (blocks : List History) × (es ≡ joined blocks) × JudgesStream c stream blocks report
+IsJudgedBy c stream es report =
+    (blocks : List History) × (es ≡ joined blocks) × JudgesStream c stream blocks report
 
 -- Each stream of the set, counted on from s, is judged by its own events of the history, as its report says.
 abbrev pub AreJudgedIn : Terms → (ℕ → Bool) → History → ℕ → List Stream → List Report → Type 0

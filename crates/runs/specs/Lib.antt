@@ -1,3 +1,4 @@
 pub mod Closed
 pub mod Headline
 pub mod Streams
+pub mod StreamLemmas

@@ -33,7 +33,8 @@ StopsSo early more left has_failed = has_failed ≡ false
 
 -- The stream is what a reader told: its bytes are a beginning of those read, which are a beginning of those left at first. Where the
 -- reader doesn't tell what it has left, any bytes will do.
-pub record IsTold (entry left : Option (List ℕ)) (has_failed : Bool) (stream : Stream) : Type 0 where
+pub record IsTold (entry left : Option (List ℕ)) (has_failed : Bool)
+    (stream : Stream) : Type 0 where
   pub more : List ℕ
   pub consumes : Consumes entry left (stream.bytes ++ more)
   pub stops : StopsSo stream.stop more left has_failed
@@ -50,21 +51,24 @@ abbrev pub JudgesTo : Stop → Setting → List ℕ → List History → Report 
 JudgesTo at_end c bytes blocks report = JudgesBlocks c bytes ended blocks report
 JudgesTo at_failure c bytes blocks report = JudgesBlocks c bytes failed blocks report
 JudgesTo early c bytes blocks report =
-    StopsReading report.ending × JudgesBlocks c bytes ended blocks report × JudgesBlocks c bytes failed blocks report
+    StopsReading report.ending × JudgesBlocks c bytes ended blocks report
+    × JudgesBlocks c bytes failed blocks report
 
 -- the stream is judged by these blocks of events, as its stop wants
 abbrev pub JudgesStream : Setting → Stream → List History → Report → Type 0
 JudgesStream c stream blocks report = JudgesTo stream.stop c stream.bytes blocks report
 
 -- each stream is what its reader told: what each had left at first and has left now, and whether it has failed
-abbrev pub AreTold : List (Option (List ℕ)) → List (Option (List ℕ)) → List Bool → List Stream → Type 0
+abbrev pub AreTold : List (Option (List ℕ)) → List (Option (List ℕ)) → List Bool → List Stream
+    → Type 0
 AreTold [] [] [] [] = Unit {0}
 AreTold (entry ∷ entries) (left ∷ lefts) (has_failed ∷ faileds) (stream ∷ streams) =
     IsTold entry left has_failed stream × AreTold entries lefts faileds streams
 AreTold _ _ _ _ = ⊥
 
 -- What the reports of a run stand on: the streams that the readers told, of which the judgement holds.
-pub record StandsOnStreams (entries lefts : List (Option (List ℕ))) (faileds : List Bool) (Judged : List Stream → Type 0) : Type 0 where
+pub record StandsOnStreams (entries lefts : List (Option (List ℕ))) (faileds : List Bool)
+    (Judged : List Stream → Type 0) : Type 0 where
   pub streams : List Stream
   pub told : AreTold entries lefts faileds streams
   pub judged : Judged streams
@@ -79,7 +83,8 @@ pub record Block : Type 0 where
 -- the blocks of one stream, in order
 abbrev pub blocks_of : ℕ → List Block → List History
 blocks_of s [] = []
-blocks_of s (block ∷ blocks) = if block.stream == s then block.events ∷ blocks_of s blocks else blocks_of s blocks
+blocks_of s (block ∷ blocks) =
+    if block.stream == s then block.events ∷ blocks_of s blocks else blocks_of s blocks
 
 -- the events of all blocks, in order
 abbrev pub events_in : List Block → History
@@ -88,7 +93,8 @@ events_in blocks = flat_map (λ block. block.events) blocks
 -- the block is of a stream of the layout and of the set, and its events are that stream's
 abbrev pub IsBlockWithin : LayoutValue → (ℕ → Bool) → Block → Type 0
 IsBlockWithin p set block =
-    IsStream p block.stream × IsTrue (set block.stream) × AllByRecursion (λ e. stream_of e ≡ block.stream) block.events
+    IsStream p block.stream × IsTrue (set block.stream)
+    × AllByRecursion (λ e. stream_of e ≡ block.stream) block.events
 
 -- What the streams of a run are all checked by: the layout, the cube, and how often a hint of another stream is fetched again.
 pub record Terms : Type 0 where
@@ -102,7 +108,8 @@ terms_at p cube tries = record { layout = p; cube = cube; tries = tries }
 
 -- the setting of stream s under these terms
 abbrev pub setting_of : Terms → ℕ → Setting
-setting_of terms s = record { layout = terms.layout; cube = terms.cube; stream = s; tries = terms.tries }
+setting_of terms s =
+    record { layout = terms.layout; cube = terms.cube; stream = s; tries = terms.tries }
 
 -- each stream of the set, counted on from s, is judged by its blocks
 abbrev pub AreJudged : Terms → (ℕ → Bool) → List Block → ℕ → List Stream → List Report → Type 0
@@ -114,7 +121,8 @@ AreJudged terms set blocks s _ _ = ⊥
 
 -- The reports of a set of streams have an order of lines: a legal history of whole lines of these streams, each stream's in
 -- its order, by which each stream is judged so.
-pub record IsOrdered (f : Cnf) (terms : Terms) (set : ℕ → Bool) (streams : List Stream) (reports : List Report) : Type 0 where
+pub record IsOrdered (f : Cnf) (terms : Terms) (set : ℕ → Bool) (streams : List Stream)
+    (reports : List Report) : Type 0 where
   pub blocks : List Block
   pub within : AllByRecursion (IsBlockWithin terms.layout set) blocks
   pub legal : IsLegal f terms.layout (events_in blocks)

@@ -11,6 +11,7 @@ use Rattle.lrup_model.specs.State.{State, Slot, absent, live, retired, IsLive, I
 use Rattle.lrup_model.specs.History.{LegalFrom}
 use Rattle.lrup_model.specs.declared.clause_map.Published.TheVariants as publishing
 use Rattle.lrup_model.specs.declared.clause_map.Retired.TheVariants as retiring
+use Rattle.lrup_model.specs.HistoryLemmas.{one_owner}
 
 -- The state at one identity, after a put
 
@@ -60,18 +61,15 @@ own_after f p s m n (events.retire t id retiring.Done) es mine same legal = λ j
     ∙ ap (λ x. if j == id then retire_slot x else n j) (same id (subst (λ x. Owns p x id) mine legal.1))
 own_after f p s m n (events.retire t id retiring.NotLive) es mine same legal = same
 
-two_owners : (p : LayoutValue) (s t id : ℕ) → Owns p s id → Owns p t id → s ≡ t
-two_owners p s t id a b = let e : owners.Stream s ≡ owners.Stream t = sym a ∙ b in cc
-
 -- one event of another stream
 other_after : (f : Cnf) (p : LayoutValue) (s : ℕ) (m n : State) (e : Event) (es : History) → stream_of e ≢ s → SameOwn p s m n → LegalFrom f p m (e ∷ es) → SameOwn p s (after m e) n
 unfolding SameOwn
 other_after f p s m n (events.fetch t id r) es other same legal = same
 other_after f p s m n (events.publish t id c publishing.Done) es other same legal = λ j owns.
-    put_other m id j (live c) (λ e. other (sym (two_owners p s t id (subst (λ x. Owns p s x) e owns) legal.1.0))) ∙ same j owns
+    put_other m id j (live c) (λ e. other (sym (one_owner p s t id (subst (λ x. Owns p s x) e owns) legal.1.0))) ∙ same j owns
 other_after f p s m n (events.publish t id c publishing.Taken) es other same legal = same
 other_after f p s m n (events.retire t id retiring.Done) es other same legal = λ j owns.
-    put_other m id j (retire_slot (m id)) (λ e. other (sym (two_owners p s t id (subst (λ x. Owns p s x) e owns) legal.1))) ∙ same j owns
+    put_other m id j (retire_slot (m id)) (λ e. other (sym (one_owner p s t id (subst (λ x. Owns p s x) e owns) legal.1))) ∙ same j owns
 other_after f p s m n (events.retire t id retiring.NotLive) es other same legal = same
 
 pub own_runs : (f : Cnf) (p : LayoutValue) (s : ℕ) (m n : State) (h : History) → LegalFrom f p m h → SameOwn p s m n → OwnRun n (own h s)

@@ -2,6 +2,7 @@
 use Rattle.std.proofs.Common.{◌≡◌, ℕ, Bool, IsTrue, List, [], ◌∷◌, ◌++◌, inl, inr, refl, sym, ap, subst, ◌∙◌, append-nil}
 use Rattle.std.specs.List.{AllByRecursion, flat_map}
 use Rattle.lrup_model.specs.Event.{History}
+use Rattle.lrup_model.specs.ListLemmas.{All-append}
 use Rattle.lrup_text.specs.Lines.{StreamLine, Deletion, IsWithinLimits, line_text, HasNoLine}
 use Rattle.stream_check.specs.declared.report.Report.{Report}
 use Rattle.stream_check.specs.Setting.{Setting}
@@ -9,9 +10,9 @@ use Rattle.stream_check.specs.Standing.{standing_of}
 use Rattle.stream_check.specs.Verdicts.{Good, Bad}
 use Rattle.stream_check.specs.Judging.{AreGood, joined, EndsAfter, StreamEnd}
 use Rattle.stream_check.specs.Laws.{cited_by, FetchesOnly, JudgedLinesCut, CitedFetched}
-use Rattle.stream_check.proofs.LeavingLemmas.{joined-append}
-use Rattle.stream_check.proofs.EventLemmas.{all_append, line_fetches}
-use Rattle.stream_check.proofs.StreamLemmas.{TextLaws, same_first, split_first}
+use Rattle.stream_check.specs.ReportLemmas.{split_first, joined-append}
+use Rattle.stream_check.proofs.EventLemmas.{line_fetches}
+use Rattle.stream_check.proofs.StreamLemmas.{TextLaws, same_first}
 
 -- lines at the beginning of bytes are the first of the lines that the bytes are cut into
 lines_begin : TextLaws → (lines all : List StreamLine) (left rest : List ℕ) → AllByRecursion IsWithinLimits lines → AllByRecursion IsWithinLimits all → HasNoLine rest
@@ -48,7 +49,7 @@ good_fetch c p before [] [] all good = tt
 good_fetch c p before [] (block ∷ blocks) all good = absurd good
 good_fetch c p before (line ∷ lines) [] all good = absurd good
 good_fetch c p before (line ∷ lines) (block ∷ blocks) all good =
-    all_append (FetchesOnly p) block (joined blocks) (line_fetches c p (standing_of c before) line block Good all.0 good.0)
+    All-append (FetchesOnly p) block (joined blocks) (line_fetches c p (standing_of c before) line block Good all.0 good.0)
     (good_fetch c p (before ++ line ∷ []) lines blocks all.1 good.1)
 
 one_fetches : (p : ℕ → Bool) (block : History) (back : List History) → back ≡ block ∷ [] → AllByRecursion (FetchesOnly p) block → AllByRecursion (FetchesOnly p) (joined back)
@@ -80,6 +81,6 @@ cited_fetched laws c bytes end blocks report all rest p j cut passes =
     let more = begins.0 in
     let parts = lines_append (CitedPass p) j.lines more (subst (AllByRecursion (CitedPass p)) begins.1 passes) in
     let fit = lines_append IsWithinLimits j.lines more (subst (AllByRecursion IsWithinLimits) begins.1 cut.each) in
-    let whole = all_append (FetchesOnly p) (joined j.front) (joined j.back) (good_fetch c p [] j.lines j.front parts.0 j.begins.good)
+    let whole = All-append (FetchesOnly p) (joined j.front) (joined j.back) (good_fetch c p [] j.lines j.front parts.0 j.begins.good)
     (ends_fetch laws c p j.lines more j.rest rest end j.back report begins.2 fit.1 cut.last parts.1 j.ends) in
     subst (AllByRecursion (FetchesOnly p)) (sym (ap joined j.split ∙ joined-append j.front j.back)) whole

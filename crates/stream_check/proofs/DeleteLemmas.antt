@@ -1,10 +1,9 @@
 -- Identities that are deleted one after the other.
 use Rattle.std.proofs.Common.{◌≡◌, ◌<◌, ◌+◌, ℕ, Bool, true, false, List, [], ◌∷◌, ◌++◌, length, take, drop, get_or, inl, inr, refl, sym, ap, subst, ◌∙◌, append_assoc, append-nil, take-append-drop, drop-cons, add-one}
 use Rattle.std.specs.Prelude.{◌||◌, ◌&&◌, ◌==◌}
-use Rattle.std.specs.List.{AllByRecursion}
 use Rattle.std.proofs.lemmas.Bool.{eqb-true}
 use Rattle.std.proofs.lemmas.List.Folds.{list_any-append}
-use Rattle.lrup_model.specs.Event.{Event, History}
+use Rattle.lrup_model.specs.Event.{History}
 use Rattle.stream_check.specs.declared.fault.Fault.TheVariants as faults
 use Rattle.stream_check.specs.declared.deletion.Deleted.TheVariants as deleting
 use Rattle.stream_check.specs.Setting.{Setting, Side, formula, own, foreign, outside, side_of, is_shared}
@@ -137,7 +136,3 @@ stopped_deletion c first earlier old new id later ids es fs is before dropped de
 -- all are deleted
 pub good_deletion : (c : Setting) (first earlier ids : List ℕ) (es : History) → earlier ≡ ids → GoesOn c first earlier es → JudgesDeletion c (is_among first) ids es Good
 good_deletion c first earlier ids es is before = subst (λ (js : List ℕ). JudgesDeletion c (is_among first) js es Good) is (good_front c first earlier es before)
-
-pub retires-append : (Is : Event → Type 0) (es fs : History) → AllByRecursion Is es → AllByRecursion Is fs → AllByRecursion Is (es ++ fs)
-retires-append Is [] fs h k = k
-retires-append Is (e ∷ es) fs h k = (h.0, retires-append Is es fs h.1 k)

@@ -12,6 +12,7 @@ use Rattle.lrup_model.specs.Event.{Event, History, Reply, stream_of}
 use Rattle.lrup_model.specs.State.{State, Slot, absent, live, retired, IsLive, IsRetired, retire_slot, after, run}
 use Rattle.lrup_model.specs.Running.{run-append}
 use Rattle.lrup_model.specs.declared.clause_map.Retired.TheVariants as retiring
+use Rattle.lrup_model.specs.EntryLemmas.{retired_now}
 use Rattle.lrup_text.specs.Lines.{StreamLine, Addition, Deletion, Import}
 use Rattle.stream_check.specs.declared.fault.Fault.{Fault}
 use Rattle.stream_check.specs.declared.fault.Fault.TheVariants as faults
@@ -152,11 +153,6 @@ live_not_retired : (slot : Slot) → IsLive slot → IsRetired slot → ⊥
 live_not_retired absent a b = a
 live_not_retired (live d) a b = b
 live_not_retired (retired d) a b = a
-
-retired_now : (slot : Slot) → IsLive slot → IsRetired (retire_slot slot)
-retired_now absent a = a
-retired_now (live d) a = tt
-retired_now (retired d) a = tt
 
 -- an own identity that was live is retired
 took_own : (c : Setting) (n : State) (gone : ℕ → Bool) (earlier : List ℕ) (id many : ℕ) → side_of c id ≡ own → OwnAnswers n (events.retire c.stream id retiring.Done)

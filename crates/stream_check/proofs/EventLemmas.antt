@@ -9,6 +9,7 @@ use Rattle.lrup_model.specs.declared.clause_map.Published.{Published}
 use Rattle.lrup_model.specs.declared.clause_map.Retired.TheVariants as retiring
 use Rattle.lrup_text.specs.Lines.{StreamLine, Addition, Deletion, Import}
 use Rattle.lrup_model.specs.Distinct.{distinct}
+use Rattle.lrup_model.specs.ListLemmas.{All-append}
 use Rattle.stream_check.specs.declared.fault.Fault.{Fault}
 use Rattle.stream_check.specs.declared.fault.Fault.TheVariants as faults
 use Rattle.stream_check.specs.Setting.{Setting, Side, formula, own, foreign, outside, side_of, is_shared}
@@ -131,17 +132,13 @@ asked_are own P c h es r each asks = subst (AllByRecursion P) (sym asks) (each r
 asked_are foreign P c h es r each asks = subst (AllByRecursion P) (sym asks.3) (vacants_are P c.stream h asks.0 r each)
 asked_are outside P c h es r each asks = subst (AllByRecursion P) (sym asks.0) tt
 
-pub all_append : (P : Event → Type 0) (a b : History) → AllByRecursion P a → AllByRecursion P b → AllByRecursion P (a ++ b)
-all_append P [] b one two = two
-all_append P (e ∷ a) b one two = (one.0, all_append P a b one.1 two)
-
 pub line_calls : LineCalls
 line_calls c st line es v judged =
     let IsOurs : Event → Type 0 = λ e. stream_of e ≡ c.stream in
     line_holds c IsAny (AllByRecursion IsOurs) (record {
       none = tt;
       published = λ id d r. (refl, tt);
-      asked = λ h asked rest r any asks ends all. all_append IsOurs asked rest (asked_are (side_of c h) IsOurs c h asked r (λ x. refl) asks) all;
+      asked = λ h asked rest r any asks ends all. All-append IsOurs asked rest (asked_are (side_of c h) IsOurs c h asked r (λ x. refl) asks) all;
       retired = λ id rest all. (refl, all);
       refused = λ id. (refl, tt);
     }) st line es v (all_any (cited_by line)) judged
@@ -219,7 +216,7 @@ line_fetches c p st line es v all judged =
     line_holds c (λ h. IsTrue (p h)) (AllByRecursion (FetchesOnly p)) (record {
       none = tt;
       published = λ id d r. (tt, tt);
-      asked = λ h asked rest r passes asks ends all. all_append (FetchesOnly p) asked rest (asked_are (side_of c h) (FetchesOnly p) c h asked r (λ x. passes) asks) all;
+      asked = λ h asked rest r passes asks ends all. All-append (FetchesOnly p) asked rest (asked_are (side_of c h) (FetchesOnly p) c h asked r (λ x. passes) asks) all;
       retired = λ id rest all. (tt, all);
       refused = λ id. (tt, tt);
     }) st line es v all judged

@@ -1,6 +1,6 @@
 -- What a piece leaves of a checker.
 use Rattle.std.specs.Fmt.{decimal, signed_decimal}
-use Rattle.std.proofs.Common.{◌≡◌, ◌<◌, ◌^◌, ◌+◌, ℕ, Bool, true, false, List, [], ◌∷◌, ◌++◌, length, take, Option, None, Some, inl, inr, Ok, refl, sym, ap, subst, ◌∙◌, append-nil, append_assoc, arith}
+use Rattle.std.proofs.Common.{◌≡◌, ◌<◌, ◌^◌, ◌+◌, ℕ, Bool, true, false, List, [], ◌∷◌, ◌++◌, length, take, Option, None, Some, inl, inr, Ok, refl, sym, ap, subst, ◌∙◌, append_assoc, arith}
 use Rattle.std.specs.Prelude.{◌&&◌, is_some, map}
 use Rattle.std.specs.List.{flat_map}
 use Rattle.std.proofs.lemmas.List.{take_all}
@@ -26,12 +26,12 @@ use Rattle.stream_check.specs.declared.line.Taken.TheVariants as taken
 use Rattle.stream_check.specs.Setting.{Setting, side_of, is_shared}
 use Rattle.stream_check.specs.Standing.{Tally, tally_of, is_among, capped}
 use Rattle.stream_check.specs.Judging.{StreamEnd, ended, failed, ending_at, report_of, JudgesBlocks}
-use Rattle.stream_check.specs.Leaving.{Going, Over, CheckerState, Leaves, IsFresh}
+use Rattle.stream_check.specs.Leaving.{Going, Over, Leaves, IsFresh}
 use Rattle.stream_check.specs.CheckerValue.{CheckerValue}
 use Rattle.stream_check.specs.Checker.{read_of, value_of, state_of, state_by, holding_of, report_at, tally_at, IsReadyAt, IsSound, LeavesOn, StopsAt, IsNew, EndsBy, Ends, ReportsEnd}
 use Rattle.stream_check.specs.Taking.{IsReady, hold, StopsBy, Takes, ending_of}
-use Rattle.stream_check.proofs.LineLemmas.{tally_is}
 use Rattle.stream_check.proofs.LeavingLemmas.{end_judged, line_grows, all_snoc}
+use Rattle.stream_check.proofs.StandingLemmas.{same_tally}
 
 pub some_of : (o : Option Ending) → is_some o ≡ true → (ending : Ending) × (o ≡ Some ending)
 some_of None some = absurd (cc)
@@ -40,11 +40,6 @@ some_of (Some ending) some = (ending, refl)
 pub none_of : (o : Option Ending) → is_some o ≡ false → o ≡ None
 none_of None none = refl
 none_of (Some ending) none = absurd (cc)
-
--- nothing is taken
-pub leaves_still : (c : Setting) (s : CheckerState) → LeavesOn c s [] [] s
-leaves_still c s bytes before leaves =
-    subst (λ (b : List ℕ). Leaves c b (before ++ []) s) (sym (append-nil bytes)) (subst (λ (blocks : List History). Leaves c bytes blocks s) (sym (append-nil before)) leaves)
 
 -- where a checker goes on, nothing is said of one that is over
 pub not_over : {A : Type 0} (old : Option Ending) (ending : Ending) → old ≡ None → old ≡ Some ending → A
@@ -181,7 +176,7 @@ new_left law layout cube stream tries h r setting last dropped retired added emp
     let c : Setting = h.setting in
     let same : c.layout ≡ layout = ap (λ (s : Setting). s.layout) setting in
     let fresh : IsFresh c (hold h (read_of r) layout.room) = record {
-      tally = tally_is (tally_at h) (tally_of c []) added (omega (arith, retired, ap (λ (ids : List ℕ). length ids) dropped)) empty within;
+      tally = same_tally (tally_at h) (tally_of c []) added (omega (arith, retired, ap (λ (ids : List ℕ). length ids) dropped)) empty within;
       standing = record {
         last = last ∙ sym (ap (λ (l : LayoutValue). l.clauses) same);
         free = omega (arith, ap (λ (l : LayoutValue). l.room) same);

@@ -1,5 +1,5 @@
 -- Good additions, and the clauses that their hints found.
-use Rattle.std.proofs.Common.{◌≡◌, ◌≢◌, ◌⊎◌, ℕ, ℤ, neg_ℤ, Bool, true, false, not, List, [], ◌∷◌, ◌++◌, replicate, inl, inr, refl, sym, ap, subst, ◌∙◌, append_assoc, append-nil}
+use Rattle.std.proofs.Common.{◌≡◌, ◌≢◌, ◌⊎◌, ℕ, ℤ, neg_ℤ, Bool, false, not, List, [], ◌∷◌, ◌++◌, replicate, inl, inr, refl, sym, ap, subst, ◌∙◌, append_assoc, append-nil}
 use Rattle.std.specs.List.{AllByRecursion, filter}
 use Rattle.std.specs.Ordering.{int_eq}
 use Rattle.std.proofs.lemmas.Bool.Decides.{Decides-int_eq}
@@ -12,6 +12,8 @@ use Rattle.lrup_model.specs.Event.{Event, History, Reply}
 use Rattle.lrup_model.specs.Propagation.{IsConflict, IsUnit, Refutes}
 use Rattle.lrup_model.specs.Laws.{PropagationSound}
 use Rattle.lrup_model.specs.Distinct.{distinct}
+use Rattle.lrup_model.specs.ClauseLemmas.{int_cases}
+use Rattle.lrup_model.specs.DistinctLemmas.{Has-from_distinct, Has-distinct, IsTautology-distinct}
 use Rattle.stream_check.specs.declared.fault.Fault.{Fault}
 use Rattle.stream_check.specs.declared.fault.Fault.TheVariants as faults
 use Rattle.stream_check.specs.Setting.{Setting, Side, formula, own, foreign, outside, side_of}
@@ -23,12 +25,6 @@ use Rattle.stream_check.specs.Finding.{AreFound, IsGoodAddition, FindsSound}
 use Rattle.stream_check.specs.Laws.{GoodExactlyIf, GoodFollows}
 
 -- The distinct literals
-
-int_cases : (x y : ℤ) → (x ≡ y) ⊎ (x ≢ y)
-int_cases x y = elim (int_eq x y) as (λ b. int_eq x y ≡ b → (x ≡ y) ⊎ (x ≢ y)) [
-  | true ↦ λ e. inl ((Decides-int_eq x y).0 e)
-  | false ↦ λ e. inr (λ same. let f : false ≡ true = sym e ∙ (Decides-int_eq x y).1 same in cc)
-] refl
 
 abbrev others : ℤ → List ℤ → List ℤ
 others x ls = filter (λ y. not (int_eq y x)) ls
@@ -55,22 +51,6 @@ Has-others x (y ∷ ls) l (inr h) ne = elim (int_cases y x) [
   | inl e ↦ subst (λ m. Has m l) (sym (others-same x y ls e)) (Has-others x ls l h ne)
   | inr other ↦ subst (λ m. Has m l) (sym (others-other x y ls other)) (inr (Has-others x ls l h ne))
 ]
-
-pub Has-from_different : (ls : List ℤ) (l : ℤ) → Has (distinct ls) l → Has ls l
-Has-from_different [] l h = h
-Has-from_different (x ∷ ls) l (inl e) = inl e
-Has-from_different (x ∷ ls) l (inr h) = inr (Has-from_different ls l (Has-from_others x (distinct ls) l h))
-
-pub Has-distinct : (ls : List ℤ) (l : ℤ) → Has ls l → Has (distinct ls) l
-Has-distinct [] l h = h
-Has-distinct (x ∷ ls) l (inl e) = inl e
-Has-distinct (x ∷ ls) l (inr h) = elim (int_cases l x) [
-  | inl e ↦ inl (sym e)
-  | inr ne ↦ inr (Has-others x (distinct ls) l (Has-distinct ls l h) ne)
-]
-
-tautology_from : (ls : List ℤ) → IsTautology (distinct ls) → IsTautology ls
-tautology_from ls t = (t.0, Has-from_different ls t.0 t.1, Has-from_different ls (neg_ℤ t.0) t.2)
 
 tautology_of : (ls : List ℤ) → IsTautology ls → IsTautology (distinct ls)
 tautology_of ls t = (t.0, Has-distinct ls t.0 t.1, Has-distinct ls (neg_ℤ t.0) t.2)
@@ -196,7 +176,7 @@ good_shown c st id lits hints es (inr (a, inr (b, inr (d, inr (e, judged))))) =
       clauses = shown.clauses;
       fetches = shown.fetches;
       found = shown.found;
-      accepts = ((λ t. d (tautology_from lits t)), shown.refutes);
+      accepts = ((λ t. d (IsTautology-distinct lits t)), shown.refutes);
       published = shown.ends;
     }
 

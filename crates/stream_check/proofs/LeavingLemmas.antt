@@ -15,7 +15,7 @@ use Rattle.stream_check.specs.Setting.{Setting}
 use Rattle.stream_check.specs.Standing.{Standing, standing_of, tally_of, line_number}
 use Rattle.stream_check.specs.Verdicts.{Good, Bad}
 use Rattle.stream_check.specs.Deletions.{StopsDeletion}
-use Rattle.stream_check.specs.Judging.{JudgesLine, AreGood, joined, BeginsGood, report_of, EndsAtLine, EndsAtText, EndsAtMemory, EndsAtEnd, EndsAfter, StreamEnd, ended, failed, ending_at, JudgesBlocks}
+use Rattle.stream_check.specs.Judging.{JudgesLine, AreGood, BeginsGood, report_of, EndsAtLine, EndsAtText, EndsAtMemory, EndsAtEnd, EndsAfter, StreamEnd, ended, failed, ending_at, JudgesBlocks}
 use Rattle.stream_check.specs.Leaving.{Holding, SameStanding, LeavesGoing, standing_after, tally_after}
 use Rattle.stream_check.specs.Laws.{FreshLeft, PendingGrows, GoodLineTaken, BadLineTaken, BadTextRead, MemoryWanted, EndJudged, OverStays, IsDecided, EitherEnd, DecidedBeforeFailure}
 use Rattle.stream_check.proofs.StandingLemmas.{standing_of-snoc, tally_of-snoc, same_standing}
@@ -32,9 +32,6 @@ good_snoc c before (l ∷ lines) (b ∷ blocks) line block good judged = (
   good_snoc c (before ++ l ∷ []) lines blocks line block good.1
       (subst (λ ls. JudgesLine c (standing_of c ls) line block Good) (sym (append_assoc before (l ∷ []) lines)) judged),
 )
-
-pub joined-append : (a b : List History) → joined (a ++ b) ≡ joined a ++ joined b
-joined-append a b = flat_map-append (λ block. block) a b
 
 -- more bytes after the texts of lines
 text_grows : (texts bytes rest piece : List ℕ) → bytes ≡ texts ++ rest → bytes ++ piece ≡ texts ++ (rest ++ piece)

@@ -19,7 +19,7 @@ use Rattle.stream_check.specs.declared.held.Held.{Held}
 use Rattle.stream_check.specs.declared.deletion.Stop.{Stop}
 use Rattle.stream_check.specs.declared.deletion.Stop.TheVariants as stops
 use Rattle.stream_check.specs.Setting.{Setting, side_of, is_shared}
-use Rattle.stream_check.specs.Standing.{Standing, Tally, capped, is_among, adds_empty, is_within}
+use Rattle.stream_check.specs.Standing.{Standing, capped, is_among, adds_empty, is_within}
 use Rattle.stream_check.specs.Verdicts.{Good, Bad}
 use Rattle.stream_check.specs.Additions.{published_by, JudgesAddition}
 use Rattle.stream_check.specs.Imports.{JudgesImport}
@@ -29,6 +29,7 @@ use Rattle.stream_check.specs.Checking.{IsAt, IsFetch, IsRetire, MakesEvents, De
 use Rattle.stream_check.specs.Checker.{standing_at, tally_at, deleted_at, KeepsLines}
 use Rattle.stream_check.specs.Taking.{IsReady, DeletesMore, TakesBy}
 use Rattle.stream_check.proofs.AddLemmas.{spent-skips, spent-fetches, run-fetches, still_at}
+use Rattle.stream_check.proofs.StandingLemmas.{same_tally}
 
 -- The place after fetches alone
 
@@ -108,12 +109,6 @@ room_publish old p q es id lits at tells made =
 
 -- What is held after a good line
 
-pub tally_is : (a b : Tally) → a.added ≡ b.added → a.deleted ≡ b.deleted → a.empty ≡ b.empty → a.within ≡ b.within → a ≡ b
-tally_is a b added deleted empty within =
-    let made : ℕ → ℕ → Bool → Bool → Tally = λ x y z w. record { added = x; deleted = y; empty = z; within = w } in
-    ap (λ x. made x a.deleted a.empty a.within) added ∙ ap (λ y. made b.added y a.empty a.within) deleted
-    ∙ ap (λ z. made b.added b.deleted z a.within) empty ∙ ap (λ w. made b.added b.deleted b.empty w) within
-
 none_gone : (a s : Bool) → a ≡ (a || s && false)
 none_gone true s = refl
 none_gone false true = refl
@@ -145,7 +140,7 @@ takes_addition old new free left id lits hints es is_empty within_cube adds is w
     let line : StreamLine = Addition id lits hints in (
       judged,
       λ read. record {
-        tally = tally_is (tally_at new) (tally_after old.setting (tally_at old) line) adds.added
+        tally = same_tally (tally_at new) (tally_after old.setting (tally_at old) line) adds.added
             (omega (arith, adds.retired, ap (λ (d : DroppedValue). length d.ids) adds.dropped))
             (adds.empty ∙ ap (λ (b : Bool). old.empty || b) (empty_is is_empty id lits hints is))
             (adds.within ∙ ap (λ (b : Bool). old.within || b) within);
@@ -175,7 +170,7 @@ takes_deletion old mid new free left lead ids es count kept counts more room del
     let line : StreamLine = Deletion lead ids in (
       deletes.0,
       λ read. record {
-        tally = tally_is (tally_at new) (tally_after old.setting (tally_at old) line)
+        tally = same_tally (tally_at new) (tally_after old.setting (tally_at old) line)
             (omega (arith, counts.added, kept.added))
             (omega (arith, counts.retired, ap (λ (d : DroppedValue). length d.ids) counts.dropped, more, deletes.1))
             (counts.empty ∙ kept.empty ∙ or_false old.empty)
@@ -196,7 +191,7 @@ takes_import old new free left id lits es counts room judged =
     let line : StreamLine = Import id lits in (
       judged,
       λ read. record {
-        tally = tally_is (tally_at new) (tally_after old.setting (tally_at old) line)
+        tally = same_tally (tally_at new) (tally_after old.setting (tally_at old) line)
             (omega (arith, counts.added))
             (omega (arith, counts.retired, ap (λ (d : DroppedValue). length d.ids) counts.dropped))
             (counts.empty ∙ or_false old.empty)

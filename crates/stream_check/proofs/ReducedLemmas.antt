@@ -1,5 +1,5 @@
 -- The events of a line, and a line without the vain fetches of what it found.
-use Rattle.std.proofs.Common.{◌≡◌, ◌<◌, ◌≤◌, ◌&&◌, ℕ, zero, suc, ℤ, neg_ℤ, nat_abs, Bool, true, false, not, List, [], ◌∷◌, ◌++◌, map, length, replicate, if◌then◌else◌, inl, inr, refl, ap, ◌∙◌, arith, append_assoc, append-nil}
+use Rattle.std.proofs.Common.{◌≡◌, ◌<◌, ◌≤◌, ◌&&◌, ℕ, zero, suc, ℤ, neg_ℤ, nat_abs, Bool, true, false, not, List, [], ◌∷◌, ◌++◌, map, length, replicate, inl, inr, refl, ap, ◌∙◌, arith, append_assoc, append-nil}
 use Rattle.std.specs.List.{AllByRecursion, list_all}
 use Rattle.std.proofs.lemmas.List.{map-append}
 use Rattle.lrup_model.specs.Clause.{IsTautology}
@@ -21,6 +21,7 @@ use Rattle.stream_check.specs.Imports.{HasSame, AtImported, JudgesImport}
 use Rattle.stream_check.specs.Judging.{AreGood, EndsAfter, StreamEnd}
 use Rattle.stream_check.specs.Reducing.{is_vacant, reduced}
 use Rattle.stream_check.specs.Laws.{ReducedLine, ReducedStream}
+use Rattle.stream_check.specs.ReducingLemmas.{reduced_kept, reduced_left_out, all_vacant_stay}
 
 -- Reducing
 
@@ -34,26 +35,9 @@ reduced_none es e = ap reduced e
 fails_reduced : (fault : Fault) (es : History) (v : Verdict) → Fails fault es v → Fails fault (reduced es) v
 fails_reduced fault es v f = (reduced_none es f.0, f.1)
 
-reduced_kept : (e : Event) (es : History) → (is_vacant e && not (list_all is_vacant es)) ≡ false → reduced (e ∷ es) ≡ e ∷ reduced es
-reduced_kept e es test = ap (λ b. if b then reduced es else e ∷ reduced es) test
-
-reduced_left_out : (e : Event) (es : History) → (is_vacant e && not (list_all is_vacant es)) ≡ true → reduced (e ∷ es) ≡ reduced es
-reduced_left_out e es test = ap (λ b. if b then reduced es else e ∷ reduced es) test
-
-and_true : (a b : Bool) → (a && b) ≡ true → (a ≡ true) × (b ≡ true)
-and_true true b e = (refl, e)
-and_true false b e = absurd (let f : false ≡ true = e in cc)
-
 and_false : (a : Bool) → (a && false) ≡ false
 and_false true = refl
 and_false false = refl
-
--- vacant fetches alone stay
-all_vacant_stay : (es : History) → list_all is_vacant es ≡ true → reduced es ≡ es
-all_vacant_stay [] all = refl
-all_vacant_stay (e ∷ es) all =
-    let parts = and_true (is_vacant e) (list_all is_vacant es) all in
-    reduced_kept e es (ap (λ b. is_vacant e && not b) parts.1 ∙ and_false (is_vacant e)) ∙ ap (λ t. e ∷ t) (all_vacant_stay es parts.1)
 
 -- an event that is no vacant fetch stays
 other_stays : (e : Event) (es : History) → is_vacant e ≡ false → reduced (e ∷ es) ≡ e ∷ reduced es

@@ -4,6 +4,7 @@ use mathlib.Core.Path.{fun_ext}
 use Rattle.std.specs.List.{list_any}
 use Rattle.std.proofs.lemmas.List.Folds.{list_any-append}
 use Rattle.std.proofs.lemmas.List.Sums.{sum_by-append}
+use Rattle.std.proofs.Math.Bool.{or-false}
 use Rattle.lrup_model.specs.Layout.{LayoutValue}
 use Rattle.lrup_model.specs.Event.{History}
 use Rattle.lrup_text.specs.Lines.{StreamLine, Addition, Deletion, Import}
@@ -60,11 +61,7 @@ standing_of-snoc c lines line es j = record {
       ∙ and_or (is_shared (side_of c id)) (list_any test lines) (test line));
 }
 
-or_false : (a : Bool) → (a || false) ≡ a
-or_false true = refl
-or_false false = refl
-
-same_tally : (a b : Tally) → a.added ≡ b.added → a.deleted ≡ b.deleted → a.empty ≡ b.empty → a.within ≡ b.within → a ≡ b
+pub same_tally : (a b : Tally) → a.added ≡ b.added → a.deleted ≡ b.deleted → a.empty ≡ b.empty → a.within ≡ b.within → a ≡ b
 same_tally a b added deleted empty within =
     let made : ℕ → ℕ → Bool → Bool → Tally = λ x y z w. record { added = x; deleted = y; empty = z; within = w } in
     ap (λ x. made x a.deleted a.empty a.within) added ∙ ap (λ y. made b.added y a.empty a.within) deleted
@@ -75,8 +72,8 @@ pub tally_of-snoc : (c : Setting) (lines : List StreamLine) (line : StreamLine) 
 tally_of-snoc c lines line = same_tally (tally_after c (tally_of c lines) line) (tally_of c (lines ++ line ∷ []))
     (omega (arith, sum_by-append added_by lines (line ∷ [])))
     (omega (arith, sum_by-append (λ l. length (deleted_by l)) lines (line ∷ [])))
-    (sym (list_any-append adds_empty lines (line ∷ []) ∙ ap (λ t. list_any adds_empty lines || t) (or_false (adds_empty line))))
-    (sym (list_any-append (adds_within c.cube) lines (line ∷ []) ∙ ap (λ t. list_any (adds_within c.cube) lines || t) (or_false (adds_within c.cube line))))
+    (sym (list_any-append adds_empty lines (line ∷ []) ∙ ap (λ t. list_any adds_empty lines || t) (or-false (adds_empty line))))
+    (sym (list_any-append (adds_within c.cube) lines (line ∷ []) ∙ ap (λ t. list_any (adds_within c.cube) lines || t) (or-false (adds_within c.cube line))))
 
 -- standings that are the same are equal
 pub same_standing : (a b : Standing) → SameStanding a b → a ≡ b

@@ -17,9 +17,9 @@ use Rattle.stream_check.specs.Verdicts.{Good, Bad}
 use Rattle.stream_check.specs.Judging.{JudgesLine, AreGood, joined, report_of, EndsAtLine, EndsAtText, EndsAtMemory, EndsAtEnd, EndsAfter, StreamEnd}
 use Rattle.stream_check.specs.Forks.{NeverFork}
 use Rattle.stream_check.specs.Laws.{IsOfMemory, RepliesDecide, OneReport}
+use Rattle.stream_check.specs.ReportLemmas.{split_first, joined-append}
 use Rattle.stream_check.proofs.ForkLemmas.{never_fork_turned, never_fork_alone, never_fork_behind}
 use Rattle.stream_check.proofs.AgreeLemmas.{line_agrees}
-use Rattle.stream_check.proofs.LeavingLemmas.{joined-append}
 
 -- what is known of the texts of lines
 pub record TextLaws : Type 0 where
@@ -155,9 +155,6 @@ ends_not_good laws c lines rest more end back report line block r (inl a) fits t
 -- one line moves from the lines to those before them
 behind_one : (before : List StreamLine) (line : StreamLine) (lines all : List StreamLine) → all ≡ before ++ (line ∷ lines) → all ≡ (before ++ line ∷ []) ++ lines
 behind_one before line lines all e = e ∙ sym (append_assoc before (line ∷ []) lines)
-
-pub split_first : (line : StreamLine) (lines : List StreamLine) (rest : List ℕ) → flat_map line_text (line ∷ lines) ++ rest ≡ line_text line ++ (flat_map line_text lines ++ rest)
-split_first line lines rest = append_assoc (line_text line) (flat_map line_text lines) rest
 
 -- the good lines, their blocks, what comes after, and the report are the same
 streams_agree : TextLaws → (c : Setting) (end : StreamEnd) (before lines others all both : List StreamLine) (rest left : List ℕ)

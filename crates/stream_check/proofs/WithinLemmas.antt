@@ -23,8 +23,8 @@ use Rattle.stream_check.specs.Asking.{AsksThen}
 use Rattle.stream_check.specs.Imports.{AtImported, JudgesImport}
 use Rattle.stream_check.specs.Judging.{JudgesLine, AreGood, joined, EndsAfter, StreamEnd}
 use Rattle.stream_check.specs.Laws.{CountsWithin}
+use Rattle.stream_check.specs.ReportLemmas.{joined-append}
 use Rattle.stream_check.proofs.StandingLemmas.{last_below, same_last}
-use Rattle.stream_check.proofs.LeavingLemmas.{joined-append}
 use Rattle.stream_check.proofs.CountLemmas.{SameOwn, OwnRun, own_runs, run_on}
 use Rattle.stream_check.proofs.DeletedLemmas.{identity_below, TakenAt, Taken, Apart, are_distinct, AreTaken, identities_took, lines_took}
 

@@ -20,14 +20,16 @@ AtConflict [] published es v = (es ≡ published ∷ []) × (v ≡ Good)
 AtConflict (h ∷ hints) published es v = Fails (faults.Excess h) es v
 
 -- what a found clause does: a conflict, one more false literal for the hints that are left, or neither
-abbrev pub AtClause : List ℤ → Clause → ℕ → List ℕ → Event → History → Verdict → (List ℤ → Type 0) → Type 0
+abbrev pub AtClause : List ℤ → Clause → ℕ → List ℕ → Event → History → Verdict → (List ℤ → Type 0)
+    → Type 0
 AtClause n d h hints published es v Next =
     (IsConflict n d × AtConflict hints published es v)
     ⊎ (((l : ℤ) × IsUnit n d l × Next (n ++ neg_ℤ l ∷ []))
     ⊎ ((¬ IsConflict n d) × ((l : ℤ) → ¬ IsUnit n d l) × Fails (faults.NotUnit h) es v))
 
 -- what the last reply to a hint does
-abbrev pub AtReply : Reply → List ℤ → ℕ → List ℕ → Event → History → Verdict → (List ℤ → Type 0) → Type 0
+abbrev pub AtReply : Reply → List ℤ → ℕ → List ℕ → Event → History → Verdict → (List ℤ → Type 0)
+    → Type 0
 AtReply events.vacant n h hints published es v Next = Fails (faults.Missing h) es v
 AtReply (events.live d) n h hints published es v Next = AtClause n d h hints published es v Next
 AtReply events.retired n h hints published es v Next = Fails (faults.Retired h) es v
@@ -37,7 +39,8 @@ abbrev pub JudgesHints : Setting → (ℕ → Bool) → Event → List ℤ → L
 JudgesHints c gone published n [] es v = Fails faults.NoConflict es v
 JudgesHints c gone published n (h ∷ hints) es v =
     Test (gone h ≡ false) (faults.Dropped h) es v
-    (AsksThen c h es (λ r rest. AtReply r n h hints published rest v (λ m. JudgesHints c gone published m hints rest v)))
+    (AsksThen c h es (λ r rest. AtReply r n h hints published rest v
+    (λ m. JudgesHints c gone published m hints rest v)))
 
 -- the publish of an addition that is good
 abbrev pub published_by : Setting → ℕ → List ℤ → Event

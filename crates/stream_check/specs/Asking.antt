@@ -5,7 +5,8 @@ use Rattle.stream_check.specs.Setting.{Setting, Side, formula, own, foreign, out
 
 -- k vacant fetches of one identity and one last fetch, k at most `most`; if the last is vacant too, k is `most`
 abbrev pub FetchesUpTo : ℕ → ℕ → ℕ → History → Reply → Type 0
-FetchesUpTo most s id es r = (k : ℕ) × (k ≤ most) × (r ≡ vacant → k ≡ most) × (es ≡ replicate k (fetch s id vacant) ++ fetch s id r ∷ [])
+FetchesUpTo most s id es r = (k : ℕ) × (k ≤ most) × (r ≡ vacant → k ≡ most)
+    × (es ≡ replicate k (fetch s id vacant) ++ fetch s id r ∷ [])
 
 -- own identities and the formula's are fetched once, another stream's until it isn't vacant, and what is no identity never
 abbrev pub AsksAt : Side → Setting → ℕ → History → Reply → Type 0
@@ -19,7 +20,8 @@ abbrev pub Asks : Setting → ℕ → History → Reply → Type 0
 Asks c h es r = AsksAt (side_of c h) c h es r
 
 -- first the events of this hint, and then what its last reply and the other events decide
-pub record AsksThen (c : Setting) (h : ℕ) (es : History) (Next : Reply → History → Type 0) : Type 0 where
+pub record AsksThen (c : Setting) (h : ℕ) (es : History)
+    (Next : Reply → History → Type 0) : Type 0 where
   pub asked : History
   pub reply : Reply
   pub rest : History

@@ -49,20 +49,30 @@ pub record KeepsLines (old new : Held) : Type 0 where
   pub line : new.line ≡ old.line
 
 -- The addition passes the tests before its hints, and its clause is taken up.
-pub record Admits (c : Setting) (st : Standing) (id : ℕ) (lits : List ℤ) (marks : Propagation) : Type 0 where
+pub record Admits (c : Setting) (st : Standing) (id : ℕ) (lits : List ℤ)
+    (marks : Propagation) : Type 0 where
   pub owns : Owns c.layout c.stream id
   pub above : st.last < id
   pub fits : length (distinct lits) ≤ st.free
   pub clause : IsClause c.layout.vars (distinct lits)
   pub consistent : ¬ IsTautology (distinct lits)
-  pub marks_are : marks ≡ record { vars = c.layout.vars; clause = distinct lits; falses = distinct lits; ready = true }
+  pub marks_are : marks
+      ≡ record {
+        vars = c.layout.vars;
+        clause = distinct lits;
+        falses = distinct lits;
+        ready = true;
+      }
 
 -- the tests before the hints: they hold, and the hints decide, or one fails
 abbrev pub AdmitsBy : Setting → Standing → ℕ → List ℤ → Propagation → Option Fault → Type 0
 AdmitsBy c st id lits marks None =
     Admits c st id lits marks
-    × ((hints : List ℕ) (es : History) (v : Verdict) → JudgesHints c st.gone (published_by c id lits) (distinct lits) hints es v → JudgesAddition c st id lits hints es v)
-AdmitsBy c st id lits marks (Some fault) = (hints : List ℕ) → JudgesAddition c st id lits hints [] (Bad 0 fault)
+    × ((hints : List ℕ) (es : History) (v : Verdict)
+    → JudgesHints c st.gone (published_by c id lits) (distinct lits) hints es v
+    → JudgesAddition c st id lits hints es v)
+AdmitsBy c st id lits marks (Some fault) =
+    (hints : List ℕ) → JudgesAddition c st id lits hints [] (Bad 0 fault)
 
 -- the text that a reader has read of a line
 abbrev pub read_of : ReaderState → List ℕ
@@ -84,7 +94,14 @@ value_of h pending ending = record {
 
 -- the report of these counts, with this ending
 abbrev pub report_at : Tally → Ending → Report
-report_at t ending = record { added = t.added; deleted = t.deleted; empty = t.empty; within = t.within; ending = ending }
+report_at t ending =
+    record {
+      added = t.added;
+      deleted = t.deleted;
+      empty = t.empty;
+      within = t.within;
+      ending = ending;
+    }
 
 abbrev pub holding_of : CheckerValue → ℕ → Holding
 holding_of v free = record {
@@ -109,7 +126,8 @@ pub record IsReadyAt (v : CheckerValue) (p : Place) : Type 0 where
 
 -- Whatever bytes and blocks left the checker as it was, these bytes and blocks more leave it as it is.
 abbrev pub LeavesOn : Setting → CheckerState → List ℕ → List History → CheckerState → Type 0
-LeavesOn c old used blocks new = (bytes : List ℕ) (before : List History) → Leaves c bytes before old → Leaves c (bytes ++ used) (before ++ blocks) new
+LeavesOn c old used blocks new = (bytes : List ℕ) (before : List History)
+    → Leaves c bytes before old → Leaves c (bytes ++ used) (before ++ blocks) new
 
 -- The blocks that a call comes to: that of the line that it ends, or none, or where the reading ends that of the last line, if there is one.
 abbrev pub AreBlocksOf : Turn → List History → Type 0
@@ -121,25 +139,30 @@ AreBlocksOf turns.Over blocks = length blocks ≤ 1
 abbrev pub StopsAt : Ending → List ℕ → Type 0
 StopsAt ending text =
     ((line : StreamLine) × LineText line text)
-    ⊎ ((number : ℕ) × (fault : LineFault) × (ending ≡ endings.Bad number (faults.Text fault)) × IsRefused text fault)
+    ⊎ ((number : ℕ) × (fault : LineFault) × (ending ≡ endings.Bad number (faults.Text fault))
+    × IsRefused text fault)
 
 -- What the bytes used came to: one line more, the front of a line, or the end of the reading.
 abbrev pub Turns : Turn → CheckerValue → CheckerValue → List ℕ → List ℕ → Type 0
 Turns turns.Line old new piece used =
     (new.ending ≡ None) × (new.pending ≡ [])
-    × ((bytes : List ℕ) (lines : List StreamLine) → Cut bytes lines old.pending → (line : StreamLine) × Cut (bytes ++ used) (lines ++ line ∷ []) [])
+    × ((bytes : List ℕ) (lines : List StreamLine) → Cut bytes lines old.pending
+    → (line : StreamLine) × Cut (bytes ++ used) (lines ++ line ∷ []) [])
 Turns turns.More old new piece used =
     (new.ending ≡ None) × (used ≡ piece) × (new.pending ≡ old.pending ++ piece)
-    × ((bytes : List ℕ) (lines : List StreamLine) → Cut bytes lines old.pending → Cut (bytes ++ used) lines new.pending)
+    × ((bytes : List ℕ) (lines : List StreamLine) → Cut bytes lines old.pending
+    → Cut (bytes ++ used) lines new.pending)
 Turns turns.Over old new piece used =
-    (ending : Ending) × (new.ending ≡ Some ending) × (old.ending ≡ None → StopsAt ending (old.pending ++ used))
+    (ending : Ending) × (new.ending ≡ Some ending)
+    × (old.ending ≡ None → StopsAt ending (old.pending ++ used))
 
 -- a checker that is over takes nothing
 abbrev pub StaysOver : CheckerValue → CheckerValue → List ℕ → Type 0
 StaysOver old new used = (ending : Ending) → old.ending ≡ Some ending → (new ≡ old) × (used ≡ [])
 
 -- a checker before its first byte
-pub record IsNew (layout : LayoutValue) (cube : CubeValue) (stream tries : ℕ) (v : CheckerValue) : Type 0 where
+pub record IsNew (layout : LayoutValue) (cube : CubeValue) (stream tries : ℕ)
+    (v : CheckerValue) : Type 0 where
   pub setting : v.setting ≡ record { layout = layout; cube = cube; stream = stream; tries = tries }
   pub last : v.last ≡ layout.clauses
   pub retired : v.retired ≡ 0
@@ -148,7 +171,8 @@ pub record IsNew (layout : LayoutValue) (cube : CubeValue) (stream tries : ℕ) 
 
 abbrev pub EndsBy : Option Ending → StreamEnd → CheckerValue → CheckerValue → Type 0
 EndsBy None end old new =
-    (new.setting ≡ old.setting) × (new.tally ≡ old.tally) × (new.ending ≡ Some (ending_at end old.pending old.line)) × (new.last ≡ old.last)
+    (new.setting ≡ old.setting) × (new.tally ≡ old.tally)
+    × (new.ending ≡ Some (ending_at end old.pending old.line)) × (new.last ≡ old.last)
 EndsBy (Some ending) end old new = new ≡ old
 
 -- the end of the stream, or a failed read, ends a checker that isn't over
@@ -158,11 +182,14 @@ Ends end old new = EndsBy old.ending end old new
 -- The report of a checker that is over is right for whatever bytes and blocks left it as it was, and this end.
 abbrev pub ReportsEnd : StreamEnd → CheckerValue → CheckerValue → Type 0
 ReportsEnd end old new =
-    (bytes : List ℕ) (blocks : List History) (free : ℕ) → Leaves old.setting bytes blocks (state_of old free)
-    → (ending : Ending) × (new.ending ≡ Some ending) × JudgesBlocks old.setting bytes end blocks (report_at new.tally ending)
+    (bytes : List ℕ) (blocks : List History) (free : ℕ)
+    → Leaves old.setting bytes blocks (state_of old free)
+    → (ending : Ending) × (new.ending ≡ Some ending)
+    × JudgesBlocks old.setting bytes end blocks (report_at new.tally ending)
 
 -- a checker that isn't over reads on, and its parts are for one setting
-pub record IsSound (c : Setting) (vars : ℕ) (reader : ReaderState) (ending : Option Ending) : Type 0 where
+pub record IsSound (c : Setting) (vars : ℕ) (reader : ReaderState)
+    (ending : Option Ending) : Type 0 where
   pub reads : ending ≡ None → reader ≡ Ok (read_of reader)
   pub variables : c.layout.vars ≡ vars
   pub tries : c.tries < 2 ^ 63

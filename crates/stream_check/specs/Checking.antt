@@ -44,7 +44,8 @@ pub record IsAt (c : Setting) (p : Place) : Type 0 where
 -- a live clause that a fetch gave is known at the place, every clause there follows, and the layout has the formula's variables
 abbrev pub Gives : Place → Fetched → Type 0
 Gives p fetched.Vacant = Unit {0}
-Gives p (fetched.Live clip) = IsKnown p clip × AllFollow p × (p.caller.formula.vars ≡ p.caller.layout.vars)
+Gives p (fetched.Live clip) =
+    IsKnown p clip × AllFollow p × (p.caller.formula.vars ≡ p.caller.layout.vars)
 Gives p fetched.Retired = Unit {0}
 
 -- the event is a fetch
@@ -66,21 +67,29 @@ abbrev pub KeepsClause : Propagation → Propagation → Type 0
 KeepsClause old new = (new.vars ≡ old.vars) × (new.clause ≡ old.clause)
 
 -- What one hint did, by its events. Whatever hints come after it, and whatever is published in the end, it judges them so.
-abbrev pub Tries : Setting → (ℕ → Bool) → Cnf → Propagation → ℕ → History → Tried → Propagation → Type 0
+abbrev pub Tries : Setting → (ℕ → Bool) → Cnf → Propagation → ℕ → History → Tried → Propagation
+    → Type 0
 Tries c gone f old h es tried.Unit new =
-    (d : Clause) × (l : ℤ) × IsDerived f d × IsUnit old.falses d l × (new ≡ record old { falses = old.falses ++ neg_ℤ l ∷ [] })
-    × ((e : Event) (hints : List ℕ) (rest : History) (v : Verdict) → JudgesHints c gone e new.falses hints rest v → JudgesHints c gone e old.falses (h ∷ hints) (es ++ rest) v)
+    (d : Clause) × (l : ℤ) × IsDerived f d × IsUnit old.falses d l
+    × (new ≡ record old { falses = old.falses ++ neg_ℤ l ∷ [] })
+    × ((e : Event) (hints : List ℕ) (rest : History) (v : Verdict)
+    → JudgesHints c gone e new.falses hints rest v
+    → JudgesHints c gone e old.falses (h ∷ hints) (es ++ rest) v)
 Tries c gone f old h es tried.Conflict new =
     (d : Clause) × IsDerived f d × IsConflict old.falses d × (f.vars ≡ c.layout.vars)
-    × ((e : Event) (hints : List ℕ) (rest : History) (v : Verdict) → AtConflict hints e rest v → JudgesHints c gone e old.falses (h ∷ hints) (es ++ rest) v)
+    × ((e : Event) (hints : List ℕ) (rest : History) (v : Verdict) → AtConflict hints e rest v
+    → JudgesHints c gone e old.falses (h ∷ hints) (es ++ rest) v)
 Tries c gone f old h es (tried.Fails fault) new =
     (e : Event) (hints : List ℕ) → JudgesHints c gone e old.falses (h ∷ hints) es (Bad 0 fault)
 
 -- what the hints of an addition come to: they show its clause, or there is a fault
 abbrev pub Shows : Setting → (ℕ → Bool) → Cnf → Clause → List ℕ → History → Option Fault → Type 0
 Shows c gone f clause hints es None =
-    (ds : List Clause) × AllByRecursion (IsDerived f) ds × Accepts clause ds × (f.vars ≡ c.layout.vars) × ((e : Event) → JudgesHints c gone e clause hints (es ++ e ∷ []) Good)
-Shows c gone f clause hints es (Some fault) = (e : Event) → JudgesHints c gone e clause hints es (Bad 0 fault)
+    (ds : List Clause) × AllByRecursion (IsDerived f) ds × Accepts clause ds
+    × (f.vars ≡ c.layout.vars)
+    × ((e : Event) → JudgesHints c gone e clause hints (es ++ e ∷ []) Good)
+Shows c gone f clause hints es (Some fault) =
+    (e : Event) → JudgesHints c gone e clause hints es (Bad 0 fault)
 
 -- the fault of the hints that are left after the conflict, if any
 abbrev pub excess_of : List ℕ → Option Fault
@@ -94,20 +103,23 @@ verdict_of (Some fault) = Bad 0 fault
 
 -- a good addition makes fetches and is published, and a bad one makes fetches alone
 abbrev pub MakesEvents : Setting → ℕ → List ℤ → History → Option Fault → Type 0
-MakesEvents c id lits es None = (fetches : History) × AllByRecursion IsFetch fetches × (es ≡ fetches ++ published_by c id lits ∷ [])
+MakesEvents c id lits es None = (fetches : History) × AllByRecursion IsFetch fetches
+    × (es ≡ fetches ++ published_by c id lits ∷ [])
 MakesEvents c id lits es (Some fault) = AllByRecursion IsFetch es
 
 -- Deletions
 
 -- An identity to delete that is an own one: the reply to one retire decides. No other has an event.
 abbrev pub DeletesOwn : Setting → ℕ → List ℕ → List ℕ → History → Deleted → Type 0
-DeletesOwn c id old new es deleting.Done = (es ≡ events.retire c.stream id retiring.Done ∷ []) × (new ≡ old)
+DeletesOwn c id old new es deleting.Done =
+    (es ≡ events.retire c.stream id retiring.Done ∷ []) × (new ≡ old)
 DeletesOwn c id old new es deleting.NotLive = es ≡ events.retire c.stream id retiring.NotLive ∷ []
 DeletesOwn c id old new es deleting.NoMemory = ⊥
 
 -- one of the formula's or of another stream's: it is kept among the dropped ones, where it isn't yet
 abbrev pub DropsShared : ℕ → List ℕ → List ℕ → Deleted → Type 0
-DropsShared id old new deleting.Done = (is_among old id ≡ false) × ((j : ℕ) → is_among new j ≡ (is_among old j || id == j))
+DropsShared id old new deleting.Done =
+    (is_among old id ≡ false) × ((j : ℕ) → is_among new j ≡ (is_among old j || id == j))
 DropsShared id old new deleting.NotLive = is_among old id ≡ true
 DropsShared id old new deleting.NoMemory = is_among old id ≡ false
 
@@ -129,10 +141,14 @@ counted deleting.NoMemory = 0
 
 -- The dropped ones are those of before, and the shared ones of these identities.
 abbrev pub AreDropped : Setting → List ℕ → List ℕ → List ℕ → Type 0
-AreDropped c old ids new = (id : ℕ) → is_among new id ≡ (is_among old id || is_shared (side_of c id) && is_among ids id)
+AreDropped c old ids new =
+    (id : ℕ) → is_among new id ≡ (is_among old id || is_shared (side_of c id) && is_among ids id)
 
 -- What a deletion came to: it is good, or bad, or out of memory, after so many identities.
 abbrev pub Deletes : Setting → List ℕ → List ℕ → List ℕ → History → ℕ → Option Stop → Type 0
-Deletes c old new ids es count None = JudgesDeletion c (is_among old) ids es Good × (count ≡ length ids) × AreDropped c old ids new
-Deletes c old new ids es count (Some (stops.Bad fault)) = JudgesDeletion c (is_among old) ids es (Bad count fault)
-Deletes c old new ids es count (Some stops.Memory) = (earlier : List ℕ) × (count ≡ length earlier) × StopsDeletion c (is_among old) ids es earlier
+Deletes c old new ids es count None =
+    JudgesDeletion c (is_among old) ids es Good × (count ≡ length ids) × AreDropped c old ids new
+Deletes c old new ids es count (Some (stops.Bad fault)) =
+    JudgesDeletion c (is_among old) ids es (Bad count fault)
+Deletes c old new ids es count (Some stops.Memory) =
+    (earlier : List ℕ) × (count ≡ length earlier) × StopsDeletion c (is_among old) ids es earlier

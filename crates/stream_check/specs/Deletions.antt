@@ -17,11 +17,13 @@ abbrev pub FailsAt : List ℕ → ℕ → History → Verdict → Type 0
 FailsAt earlier id es v = (es ≡ []) × (v ≡ Bad (length earlier) (faults.NotLive id))
 
 -- An own identity is retired at the map, with one event, and its reply decides.
-pub record RetiresThen (c : Setting) (earlier : List ℕ) (id : ℕ) (es : History) (v : Verdict) (Next : History → Type 0) : Type 0 where
+pub record RetiresThen (c : Setting) (earlier : List ℕ) (id : ℕ) (es : History) (v : Verdict)
+    (Next : History → Type 0) : Type 0 where
   pub rest : History
   pub decided :
       ((es ≡ events.retire c.stream id retiring.Done ∷ rest) × Next rest)
-      ⊎ ((es ≡ events.retire c.stream id retiring.NotLive ∷ rest) × (rest ≡ []) × (v ≡ Bad (length earlier) (faults.NotLive id)))
+      ⊎ ((es ≡ events.retire c.stream id retiring.NotLive ∷ rest) × (rest ≡ [])
+      × (v ≡ Bad (length earlier) (faults.NotLive id)))
 
 -- An identity of the formula or of another stream is dropped, without an event, unless it was dropped before.
 abbrev pub DropsThen : (ℕ → Bool) → List ℕ → ℕ → History → Verdict → (History → Type 0) → Type 0
@@ -31,7 +33,8 @@ DropsThen gone earlier id es v Next =
 
 -- an own identity is retired at the map, one of the formula or of another stream is dropped by this stream alone, and what is no
 -- identity is a fault
-abbrev pub DeletesAt : Side → Setting → (ℕ → Bool) → List ℕ → ℕ → History → Verdict → (History → Type 0) → Type 0
+abbrev pub DeletesAt : Side → Setting → (ℕ → Bool) → List ℕ → ℕ → History → Verdict
+    → (History → Type 0) → Type 0
 DeletesAt formula c gone earlier id es v Next = DropsThen gone earlier id es v Next
 DeletesAt own c gone earlier id es v Next = RetiresThen c earlier id es v Next
 DeletesAt foreign c gone earlier id es v Next = DropsThen gone earlier id es v Next
@@ -41,14 +44,16 @@ DeletesAt outside c gone earlier id es v Next = FailsAt earlier id es v
 abbrev pub JudgesIdentities : Setting → (ℕ → Bool) → List ℕ → List ℕ → History → Verdict → Type 0
 JudgesIdentities c gone earlier [] es v = (es ≡ []) × (v ≡ Good)
 JudgesIdentities c gone earlier (id ∷ ids) es v =
-    DeletesAt (side_of c id) c gone earlier id es v (λ rest. JudgesIdentities c gone (earlier ++ id ∷ []) ids rest v)
+    DeletesAt (side_of c id) c gone earlier id es v
+    (λ rest. JudgesIdentities c gone (earlier ++ id ∷ []) ids rest v)
 
 -- a deletion's events and its verdict, where these were dropped before
 abbrev pub JudgesDeletion : Setting → (ℕ → Bool) → List ℕ → History → Verdict → Type 0
 JudgesDeletion c gone ids es v = JudgesIdentities c gone [] ids es v
 
 -- A deletion stops out of memory at an identity that it would drop, after those before it.
-pub record StopsDeletion (c : Setting) (gone : ℕ → Bool) (ids : List ℕ) (es : History) (earlier : List ℕ) : Type 0 where
+pub record StopsDeletion (c : Setting) (gone : ℕ → Bool) (ids : List ℕ) (es : History)
+    (earlier : List ℕ) : Type 0 where
   pub id : ℕ
   pub later : List ℕ
   pub identities : ids ≡ earlier ++ id ∷ later

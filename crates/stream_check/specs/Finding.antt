@@ -19,10 +19,13 @@ abbrev pub AreFound : Setting → (ℕ → Bool) → List ℕ → List Clause �
 AreFound c gone [] [] es = es ≡ []
 AreFound c gone [] (d ∷ ds) es = ⊥
 AreFound c gone (h ∷ hints) [] es = ⊥
-AreFound c gone (h ∷ hints) (d ∷ ds) es = (gone h ≡ false) × ((asked rest : History) × (es ≡ asked ++ rest) × Asks c h asked (events.live d) × AreFound c gone hints ds rest)
+AreFound c gone (h ∷ hints) (d ∷ ds) es = (gone h ≡ false)
+    × ((asked rest : History) × (es ≡ asked ++ rest) × Asks c h asked (events.live d)
+    × AreFound c gone hints ds rest)
 
 -- the addition passes the tests before its hints, the clauses that they found accept its clause, and its last event publishes that
-pub record IsGoodAddition (c : Setting) (st : Standing) (id : ℕ) (lits : List ℤ) (hints : List ℕ) (es : History) : Type 0 where
+pub record IsGoodAddition (c : Setting) (st : Standing) (id : ℕ) (lits : List ℤ) (hints : List ℕ)
+    (es : History) : Type 0 where
   pub owns : Owns c.layout c.stream id
   pub above : st.last < id
   pub literals : AllByRecursion (λ l. nat_abs l ≤ c.layout.vars) lits

@@ -17,7 +17,8 @@ HasSame d lits = (l : ℤ) → Has d l ↔ Has lits l
 -- what the last reply does: a clause is compared, with no more events
 abbrev pub AtImported : Reply → ℕ → List ℤ → History → Verdict → Type 0
 AtImported events.vacant id lits es v = Fails (faults.Missing id) es v
-AtImported (events.live d) id lits es v = Test (HasSame d lits) (faults.Differs id) es v ((es ≡ []) × (v ≡ Good))
+AtImported (events.live d) id lits es v =
+    Test (HasSame d lits) (faults.Differs id) es v ((es ≡ []) × (v ≡ Good))
 AtImported events.retired id lits es v = Fails (faults.Retired id) es v
 
 -- an import's events and its verdict, after the lines that left this standing: it is of the formula or of another stream, and not dropped

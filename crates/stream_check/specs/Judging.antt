@@ -29,24 +29,35 @@ abbrev pub AreGood : Setting → List StreamLine → List StreamLine → List Hi
 AreGood c before [] [] = Unit {0}
 AreGood c before [] (block ∷ blocks) = ⊥
 AreGood c before (line ∷ lines) [] = ⊥
-AreGood c before (line ∷ lines) (block ∷ blocks) = JudgesLine c (standing_of c before) line block Good × AreGood c (before ++ line ∷ []) lines blocks
+AreGood c before (line ∷ lines) (block ∷ blocks) =
+    JudgesLine c (standing_of c before) line block Good
+    × AreGood c (before ++ line ∷ []) lines blocks
 
 -- the events of the blocks, in order
 abbrev pub joined : List History → History
 joined blocks = flat_map (λ block. block) blocks
 
 -- the bytes are the texts of good lines, and a rest
-pub record BeginsGood (c : Setting) (bytes : List ℕ) (lines : List StreamLine) (rest : List ℕ) (blocks : List History) : Type 0 where
+pub record BeginsGood (c : Setting) (bytes : List ℕ) (lines : List StreamLine) (rest : List ℕ)
+    (blocks : List History) : Type 0 where
   pub text : bytes ≡ flat_map line_text lines ++ rest
   pub fits : AllByRecursion IsWithinLimits lines
   pub good : AreGood c [] lines blocks
 
 -- the report after these counts, some more deleted identities, and this ending
 abbrev pub report_of : Tally → ℕ → Ending → Report
-report_of t deleted ending = record { added = t.added; deleted = capped (t.deleted + deleted); empty = t.empty; within = t.within; ending = ending }
+report_of t deleted ending =
+    record {
+      added = t.added;
+      deleted = capped (t.deleted + deleted);
+      empty = t.empty;
+      within = t.within;
+      ending = ending;
+    }
 
 -- After good lines: a line that is bad, whatever follows it.
-pub record EndsAtLine (c : Setting) (lines : List StreamLine) (rest : List ℕ) (blocks : List History) (report : Report) : Type 0 where
+pub record EndsAtLine (c : Setting) (lines : List StreamLine) (rest : List ℕ)
+    (blocks : List History) (report : Report) : Type 0 where
   pub line : StreamLine
   pub more : List ℕ
   pub text : rest ≡ line_text line ++ more
@@ -56,17 +67,21 @@ pub record EndsAtLine (c : Setting) (lines : List StreamLine) (rest : List ℕ) 
   pub deleted : ℕ
   pub fault : Fault
   pub bad : JudgesLine c (standing_of c lines) line block (Bad deleted fault)
-  pub says : report ≡ report_of (tally_of c lines) deleted (endings.Bad (line_number (length lines)) fault)
+  pub says : report ≡ report_of (tally_of c lines) deleted
+      (endings.Bad (line_number (length lines)) fault)
 
 -- After good lines: a text that begins no line, whatever follows it.
-pub record EndsAtText (c : Setting) (lines : List StreamLine) (rest : List ℕ) (blocks : List History) (report : Report) : Type 0 where
+pub record EndsAtText (c : Setting) (lines : List StreamLine) (rest : List ℕ)
+    (blocks : List History) (report : Report) : Type 0 where
   pub fault : LineFault
   pub text : HasTextFault rest fault
   pub no_block : blocks ≡ []
-  pub says : report ≡ report_of (tally_of c lines) 0 (endings.Bad (line_number (length lines)) (faults.Text fault))
+  pub says : report ≡ report_of (tally_of c lines) 0
+      (endings.Bad (line_number (length lines)) (faults.Text fault))
 
 -- After good lines: a deletion that ran out of memory, whatever follows it.
-pub record EndsAtMemory (c : Setting) (lines : List StreamLine) (rest : List ℕ) (blocks : List History) (report : Report) : Type 0 where
+pub record EndsAtMemory (c : Setting) (lines : List StreamLine) (rest : List ℕ)
+    (blocks : List History) (report : Report) : Type 0 where
   pub lead : ℕ
   pub ids : List ℕ
   pub more : List ℕ
@@ -76,7 +91,8 @@ pub record EndsAtMemory (c : Setting) (lines : List StreamLine) (rest : List ℕ
   pub one_block : blocks ≡ block ∷ []
   pub earlier : List ℕ
   pub stops : StopsDeletion c (standing_of c lines).gone ids block earlier
-  pub says : report ≡ report_of (tally_of c lines) (length earlier) (endings.Memory (line_number (length lines)))
+  pub says : report ≡ report_of (tally_of c lines) (length earlier)
+      (endings.Memory (line_number (length lines)))
 
 -- how the reader of a stream ended
 pub data StreamEnd : Type 0 where
@@ -90,14 +106,17 @@ ending_at ended (byte ∷ bytes) number = endings.Bad number (faults.Text texts.
 ending_at failed rest number = endings.ReadFailed number
 
 -- After good lines: the end of the stream, with a rest that may still become a line.
-pub record EndsAtEnd (c : Setting) (lines : List StreamLine) (rest : List ℕ) (end : StreamEnd) (blocks : List History) (report : Report) : Type 0 where
+pub record EndsAtEnd (c : Setting) (lines : List StreamLine) (rest : List ℕ) (end : StreamEnd)
+    (blocks : List History) (report : Report) : Type 0 where
   pub pending : IsPending rest
   pub no_block : blocks ≡ []
-  pub says : report ≡ report_of (tally_of c lines) 0 (ending_at end rest (line_number (length lines)))
+  pub says : report ≡ report_of (tally_of c lines) 0
+      (ending_at end rest (line_number (length lines)))
 
 -- After good lines one of four things ends the stream. The rest decides which, but for a deletion:
 -- memory may run out there before a fault is met.
-abbrev pub EndsAfter : Setting → List StreamLine → List ℕ → StreamEnd → List History → Report → Type 0
+abbrev pub EndsAfter : Setting → List StreamLine → List ℕ → StreamEnd → List History → Report
+    → Type 0
 EndsAfter c lines rest end blocks report =
     EndsAtLine c lines rest blocks report
     ⊎ (EndsAtText c lines rest blocks report
@@ -105,7 +124,8 @@ EndsAfter c lines rest end blocks report =
     ⊎ EndsAtEnd c lines rest end blocks report))
 
 -- The stream of these bytes and this end, whose lines have these blocks of events, is judged so: its good lines come first, and then what ended it.
-pub record JudgesBlocks (c : Setting) (bytes : List ℕ) (end : StreamEnd) (blocks : List History) (report : Report) : Type 0 where
+pub record JudgesBlocks (c : Setting) (bytes : List ℕ) (end : StreamEnd) (blocks : List History)
+    (report : Report) : Type 0 where
   pub lines : List StreamLine
   pub rest : List ℕ
   pub front : List History
@@ -115,7 +135,8 @@ pub record JudgesBlocks (c : Setting) (bytes : List ℕ) (end : StreamEnd) (bloc
   pub ends : EndsAfter c lines rest end back report
 
 -- the stream of these bytes, this end and these events is judged so
-pub record Judges (c : Setting) (bytes : List ℕ) (end : StreamEnd) (es : History) (report : Report) : Type 0 where
+pub record Judges (c : Setting) (bytes : List ℕ) (end : StreamEnd) (es : History)
+    (report : Report) : Type 0 where
   pub blocks : List History
   pub events : es ≡ joined blocks
   pub judges : JudgesBlocks c bytes end blocks report

@@ -48,30 +48,37 @@ PendingGrows = (c : Setting) (bytes piece : List ℕ) (blocks : List History) (o
 
 -- one good line more
 abbrev pub GoodLineTaken : Type 0
-GoodLineTaken = (c : Setting) (bytes piece : List ℕ) (blocks : List History) (block : History) (old new : Holding) (line : StreamLine)
+GoodLineTaken = (c : Setting) (bytes piece : List ℕ) (blocks : List History) (block : History)
+    (old new : Holding) (line : StreamLine)
     → Leaves c bytes blocks (Going old) → LineText line (old.pending ++ piece)
     → JudgesLine c old.standing line block Good → TakesLine c old line new
     → Leaves c (bytes ++ piece) (blocks ++ block ∷ []) (Going new)
 
 -- a bad line
 abbrev pub BadLineTaken : Type 0
-BadLineTaken = (c : Setting) (bytes piece : List ℕ) (blocks : List History) (block : History) (old : Holding) (line : StreamLine) (deleted : ℕ) (fault : Fault)
+BadLineTaken = (c : Setting) (bytes piece : List ℕ) (blocks : List History) (block : History)
+    (old : Holding) (line : StreamLine) (deleted : ℕ) (fault : Fault)
     → Leaves c bytes blocks (Going old) → LineText line (old.pending ++ piece)
     → JudgesLine c old.standing line block (Bad deleted fault)
-    → Leaves c (bytes ++ piece) (blocks ++ block ∷ []) (Over (report_of old.tally deleted (endings.Bad old.line fault)))
+    → Leaves c (bytes ++ piece) (blocks ++ block ∷ [])
+    (Over (report_of old.tally deleted (endings.Bad old.line fault)))
 
 -- a text that begins no line
 abbrev pub BadTextRead : Type 0
-BadTextRead = (c : Setting) (bytes piece : List ℕ) (blocks : List History) (old : Holding) (fault : LineFault)
+BadTextRead = (c : Setting) (bytes piece : List ℕ) (blocks : List History) (old : Holding)
+    (fault : LineFault)
     → Leaves c bytes blocks (Going old) → IsRefused (old.pending ++ piece) fault
-    → Leaves c (bytes ++ piece) blocks (Over (report_of old.tally 0 (endings.Bad old.line (faults.Text fault))))
+    → Leaves c (bytes ++ piece) blocks
+    (Over (report_of old.tally 0 (endings.Bad old.line (faults.Text fault))))
 
 -- a deletion that ran out of memory
 abbrev pub MemoryWanted : Type 0
-MemoryWanted = (c : Setting) (bytes piece : List ℕ) (blocks : List History) (block : History) (old : Holding) (lead : ℕ) (ids earlier : List ℕ)
+MemoryWanted = (c : Setting) (bytes piece : List ℕ) (blocks : List History) (block : History)
+    (old : Holding) (lead : ℕ) (ids earlier : List ℕ)
     → Leaves c bytes blocks (Going old) → LineText (Deletion lead ids) (old.pending ++ piece)
     → StopsDeletion c old.standing.gone ids block earlier
-    → Leaves c (bytes ++ piece) (blocks ++ block ∷ []) (Over (report_of old.tally (length earlier) (endings.Memory old.line)))
+    → Leaves c (bytes ++ piece) (blocks ++ block ∷ [])
+    (Over (report_of old.tally (length earlier) (endings.Memory old.line)))
 
 -- the end of the stream, or a failed read
 abbrev pub EndJudged : Type 0
@@ -93,8 +100,10 @@ IsDecided (endings.Memory line) = Unit {0}
 
 -- so a report with such an ending is right for either end, and whatever follows
 abbrev pub EitherEnd : Type 0
-EitherEnd = (c : Setting) (bytes more : List ℕ) (end other : StreamEnd) (blocks : List History) (report : Report)
-    → IsDecided report.ending → JudgesBlocks c bytes end blocks report → JudgesBlocks c (bytes ++ more) other blocks report
+EitherEnd = (c : Setting) (bytes more : List ℕ) (end other : StreamEnd) (blocks : List History)
+    (report : Report)
+    → IsDecided report.ending → JudgesBlocks c bytes end blocks report
+    → JudgesBlocks c (bytes ++ more) other blocks report
 
 -- the report tells of a failed read
 abbrev pub IsOfFailure : Report → Type 0
@@ -102,14 +111,17 @@ IsOfFailure report = (line : ℕ) × (report.ending ≡ endings.ReadFailed line)
 
 -- where the read failed and the report doesn't tell so, it was decided before: it is right for either end, and whatever follows
 abbrev pub DecidedBeforeFailure : Type 0
-DecidedBeforeFailure = (c : Setting) (bytes more : List ℕ) (end : StreamEnd) (blocks : List History) (report : Report)
-    → ¬ IsOfFailure report → JudgesBlocks c bytes failed blocks report → JudgesBlocks c (bytes ++ more) end blocks report
+DecidedBeforeFailure = (c : Setting) (bytes more : List ℕ) (end : StreamEnd) (blocks : List History)
+    (report : Report)
+    → ¬ IsOfFailure report → JudgesBlocks c bytes failed blocks report
+    → JudgesBlocks c (bytes ++ more) end blocks report
 
 -- Where a checker may be fed
 
 -- a new checker, at a place of its stream at the opening of a run
 abbrev pub ReadyNew : Type 0
-ReadyNew = (f : Cnf) (layout : LayoutValue) (cube : CubeValue) (stream tries : ℕ) (v : CheckerValue) (p : Place)
+ReadyNew = (f : Cnf) (layout : LayoutValue) (cube : CubeValue) (stream tries : ℕ) (v : CheckerValue)
+    (p : Place)
     → IsNew layout cube stream tries v → Fits layout f
     → p.caller ≡ record { formula = f; layout = layout; stream = stream }
     → ((id : ℕ) → Owns layout stream id → p.own id ≡ opening f id)
@@ -127,7 +139,8 @@ ReadyStays = (v : CheckerValue) (p q : Place) (es : History)
 -- so at the map of one thread, after the calls of another stream
 abbrev pub ReadyBeside : Type 0
 ReadyBeside = (v : CheckerValue) (old new : Plain) (t : ℕ) (es : History)
-    → IsReadyAt v (plain_place old v.setting.stream) → PlainMoves old new t es → t ≢ v.setting.stream
+    → IsReadyAt v (plain_place old v.setting.stream) → PlainMoves old new t es
+    → t ≢ v.setting.stream
     → IsReadyAt v (plain_place new v.setting.stream)
 
 -- One report
@@ -138,7 +151,8 @@ IsOfMemory report = (line : ℕ) × (report.ending ≡ endings.Memory line)
 
 -- a stream's bytes, end and events have one report at most, and one list of blocks, unless memory ran out
 abbrev pub OneReport : Type 0
-OneReport = (c : Setting) (bytes : List ℕ) (end : StreamEnd) (blocks others : List History) (report other : Report)
+OneReport = (c : Setting) (bytes : List ℕ) (end : StreamEnd) (blocks others : List History)
+    (report other : Report)
     → joined blocks ≡ joined others
     → JudgesBlocks c bytes end blocks report → JudgesBlocks c bytes end others other
     → ¬ IsOfMemory report → ¬ IsOfMemory other
@@ -146,7 +160,8 @@ OneReport = (c : Setting) (bytes : List ℕ) (end : StreamEnd) (blocks others : 
 
 -- replies decide: events that never fork are judged alike
 abbrev pub RepliesDecide : Type 0
-RepliesDecide = (c : Setting) (bytes : List ℕ) (end : StreamEnd) (blocks others : List History) (report other : Report)
+RepliesDecide = (c : Setting) (bytes : List ℕ) (end : StreamEnd) (blocks others : List History)
+    (report other : Report)
     → NeverFork (joined blocks) (joined others)
     → JudgesBlocks c bytes end blocks report → JudgesBlocks c bytes end others other
     → ¬ IsOfMemory report → ¬ IsOfMemory other
@@ -154,11 +169,13 @@ RepliesDecide = (c : Setting) (bytes : List ℕ) (end : StreamEnd) (blocks other
 
 -- legal histories never fork
 abbrev pub LegalNeverFork : Type 0
-LegalNeverFork = (f : Cnf) (p : LayoutValue) (m : State) (g h : History) → LegalFrom f p m g → LegalFrom f p m h → NeverFork g h
+LegalNeverFork = (f : Cnf) (p : LayoutValue) (m : State) (g h : History) → LegalFrom f p m g
+    → LegalFrom f p m h → NeverFork g h
 
 -- so one stream alone has one report, whatever legal history it has
 abbrev pub AloneDecides : Type 0
-AloneDecides = (f : Cnf) (p : LayoutValue) (c : Setting) (bytes : List ℕ) (end : StreamEnd) (g h : History) (report other : Report)
+AloneDecides = (f : Cnf) (p : LayoutValue) (c : Setting) (bytes : List ℕ) (end : StreamEnd)
+    (g h : History) (report other : Report)
     → IsLegal f p g → IsLegal f p h
     → Judges c bytes end g report → Judges c bytes end h other
     → ¬ IsOfMemory report → ¬ IsOfMemory other
@@ -168,13 +185,16 @@ AloneDecides = (f : Cnf) (p : LayoutValue) (c : Setting) (bytes : List ℕ) (end
 
 -- an addition is good exactly if its hints were found and the clauses found accept its clause
 abbrev pub GoodExactlyIf : Type 0
-GoodExactlyIf = (c : Setting) (st : Standing) (id : ℕ) (lits : List ℤ) (hints : List ℕ) (es : History)
+GoodExactlyIf = (c : Setting) (st : Standing) (id : ℕ) (lits : List ℤ) (hints : List ℕ)
+    (es : History)
     → JudgesAddition c st id lits hints es Good ↔ IsGoodAddition c st id lits hints es
 
 -- so its clause follows from the formula where the clauses found do
 abbrev pub GoodFollows : Type 0
-GoodFollows = (f : Cnf) (c : Setting) (st : Standing) (id : ℕ) (lits : List ℤ) (hints : List ℕ) (es : History)
-    → JudgesAddition c st id lits hints es Good → AllByRecursion (FindsSound f) es → Follows f (distinct lits)
+GoodFollows = (f : Cnf) (c : Setting) (st : Standing) (id : ℕ) (lits : List ℤ) (hints : List ℕ)
+    (es : History)
+    → JudgesAddition c st id lits hints es Good → AllByRecursion (FindsSound f) es
+    → Follows f (distinct lits)
 
 -- The events of a line
 
@@ -185,20 +205,24 @@ LineCalls = (c : Setting) (st : Standing) (line : StreamLine) (es : History) (v 
 
 -- before a line's last event there are only fetches, and retires with Done
 abbrev pub EarlyEvents : Type 0
-EarlyEvents = (c : Setting) (st : Standing) (line : StreamLine) (es front : History) (last : Event) (v : Verdict)
+EarlyEvents = (c : Setting) (st : Standing) (line : StreamLine) (es front : History) (last : Event)
+    (v : Verdict)
     → JudgesLine c st line es v → es ≡ front ++ last ∷ [] → AllByRecursion IsEarly front
 
 -- in a line a vacant fetch is the last event, or the same identity is fetched again
 abbrev pub VacantTriesAgain : Type 0
-VacantTriesAgain = (c : Setting) (st : Standing) (line : StreamLine) (es : History) (v : Verdict) → JudgesLine c st line es v → TriesAgain es
+VacantTriesAgain = (c : Setting) (st : Standing) (line : StreamLine) (es : History) (v : Verdict)
+    → JudgesLine c st line es v → TriesAgain es
 
 -- a line without the vacant fetches of the hints that it found is judged alike
 abbrev pub ReducedLine : Type 0
-ReducedLine = (c : Setting) (st : Standing) (line : StreamLine) (es : History) (v : Verdict) → JudgesLine c st line es v → JudgesLine c st line (reduced es) v
+ReducedLine = (c : Setting) (st : Standing) (line : StreamLine) (es : History) (v : Verdict)
+    → JudgesLine c st line es v → JudgesLine c st line (reduced es) v
 
 -- and so is a stream
 abbrev pub ReducedStream : Type 0
-ReducedStream = (c : Setting) (bytes : List ℕ) (end : StreamEnd) (blocks : List History) (report : Report)
+ReducedStream = (c : Setting) (bytes : List ℕ) (end : StreamEnd) (blocks : List History)
+    (report : Report)
     → JudgesBlocks c bytes end blocks report → JudgesBlocks c bytes end (map reduced blocks) report
 
 -- What lines cite
@@ -217,12 +241,15 @@ FetchesOnly p (events.retire s id r) = Unit {0}
 
 -- the lines that a stream is judged by are the first of those that its bytes are cut into
 abbrev pub JudgedLinesCut : Type 0
-JudgedLinesCut = (c : Setting) (bytes : List ℕ) (end : StreamEnd) (blocks : List History) (report : Report) (all : List StreamLine) (rest : List ℕ)
-    → (j : JudgesBlocks c bytes end blocks report) → Cut bytes all rest → (more : List StreamLine) × (all ≡ j.lines ++ more)
+JudgedLinesCut = (c : Setting) (bytes : List ℕ) (end : StreamEnd) (blocks : List History)
+    (report : Report) (all : List StreamLine) (rest : List ℕ)
+    → (j : JudgesBlocks c bytes end blocks report) → Cut bytes all rest → (more : List StreamLine)
+    × (all ≡ j.lines ++ more)
 
 -- a stream fetches no identity that its lines don't cite: where all that they cite pass a test, so does what it fetches
 abbrev pub CitedFetched : Type 0
-CitedFetched = (c : Setting) (bytes : List ℕ) (end : StreamEnd) (blocks : List History) (report : Report) (all : List StreamLine) (rest : List ℕ) (p : ℕ → Bool)
+CitedFetched = (c : Setting) (bytes : List ℕ) (end : StreamEnd) (blocks : List History)
+    (report : Report) (all : List StreamLine) (rest : List ℕ) (p : ℕ → Bool)
     → JudgesBlocks c bytes end blocks report → Cut bytes all rest
     → AllByRecursion (λ line. AllByRecursion (λ h. IsTrue (p h)) (cited_by line)) all
     → AllByRecursion (FetchesOnly p) (joined blocks)
@@ -237,19 +264,23 @@ AddsWithin cube (Import id lits) = ⊥
 
 -- the report says 'within' exactly if a good addition's clause is within the cube
 abbrev pub WithinReported : Type 0
-WithinReported = (c : Setting) (bytes : List ℕ) (end : StreamEnd) (blocks : List History) (report : Report)
-    → (j : JudgesBlocks c bytes end blocks report) → IsTrue report.within ↔ Any (AddsWithin c.cube) j.lines
+WithinReported = (c : Setting) (bytes : List ℕ) (end : StreamEnd) (blocks : List History)
+    (report : Report)
+    → (j : JudgesBlocks c bytes end blocks report) → IsTrue report.within
+    ↔ Any (AddsWithin c.cube) j.lines
 
 -- with the empty cube it says 'within' exactly if it says 'empty'
 abbrev pub EmptyCubeReported : Type 0
-EmptyCubeReported = (c : Setting) (bytes : List ℕ) (end : StreamEnd) (blocks : List History) (report : Report)
+EmptyCubeReported = (c : Setting) (bytes : List ℕ) (end : StreamEnd) (blocks : List History)
+    (report : Report)
     → c.cube ≡ [] → JudgesBlocks c bytes end blocks report → report.within ≡ report.empty
 
 -- Counts
 
 -- In a legal history a stream adds and deletes no more than there are identities.
 abbrev pub CountsWithin : Type 0
-CountsWithin = (f : Cnf) (c : Setting) (h : History) (bytes : List ℕ) (end : StreamEnd) (blocks : List History) (report : Report)
+CountsWithin = (f : Cnf) (c : Setting) (h : History) (bytes : List ℕ) (end : StreamEnd)
+    (blocks : List History) (report : Report)
     → IsLegal f c.layout h → own h c.stream ≡ joined blocks
     → JudgesBlocks c bytes end blocks report
     → (report.added ≤ last_identity c.layout) × (report.deleted ≤ last_identity c.layout)

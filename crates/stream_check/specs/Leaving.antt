@@ -25,7 +25,8 @@ pub record SameStanding (a b : Standing) : Type 0 where
   pub gone : (id : ℕ) → a.gone id ≡ b.gone id
 
 -- all lines are good, with these blocks of events, the rest may still become a line, and the checker holds what they leave
-pub record LeavesGoing (c : Setting) (bytes : List ℕ) (blocks : List History) (now : Holding) : Type 0 where
+pub record LeavesGoing (c : Setting) (bytes : List ℕ) (blocks : List History)
+    (now : Holding) : Type 0 where
   pub lines : List StreamLine
   pub cut : Cut bytes lines now.pending
   pub pending : IsPending now.pending
@@ -37,7 +38,8 @@ pub record LeavesGoing (c : Setting) (bytes : List ℕ) (blocks : List History) 
 -- The bytes so far, whose lines have these blocks of events, leave the checker so. One that is over has a report that is right whatever the end is.
 abbrev pub Leaves : Setting → List ℕ → List History → CheckerState → Type 0
 Leaves c bytes blocks (Going now) = LeavesGoing c bytes blocks now
-Leaves c bytes blocks (Over report) = JudgesBlocks c bytes ended blocks report × JudgesBlocks c bytes failed blocks report
+Leaves c bytes blocks (Over report) =
+    JudgesBlocks c bytes ended blocks report × JudgesBlocks c bytes failed blocks report
 
 -- One good line more
 
@@ -62,7 +64,8 @@ tally_after c t line = record {
 }
 
 -- what a checker holds after one good line more
-pub record TakesLine (c : Setting) (old : Holding) (taken : StreamLine) (new : Holding) : Type 0 where
+pub record TakesLine (c : Setting) (old : Holding) (taken : StreamLine)
+    (new : Holding) : Type 0 where
   pub tally : new.tally ≡ tally_after c old.tally taken
   pub standing : SameStanding new.standing (standing_after c old.standing taken)
   pub pending : new.pending ≡ []

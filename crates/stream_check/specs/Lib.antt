@@ -13,8 +13,10 @@ pub mod Leaving
 pub mod Checking
 pub mod CheckerValue
 pub mod Checker
+pub mod ReportLemmas
 pub mod Taking
 pub mod Forks
 pub mod Reducing
+pub mod ReducingLemmas
 pub mod Finding
 pub mod Laws

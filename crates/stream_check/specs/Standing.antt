@@ -40,7 +40,8 @@ is_among ids id = list_any (λ j. j == id) ids
 
 -- a deletion among the lines has the identity, which is the formula's or another stream's
 abbrev pub is_gone : Setting → List StreamLine → ℕ → Bool
-is_gone c lines id = is_shared (side_of c id) && list_any (λ line. is_among (deleted_by line) id) lines
+is_gone c lines id =
+    is_shared (side_of c id) && list_any (λ line. is_among (deleted_by line) id) lines
 
 -- the standing that these lines leave if all are good
 abbrev pub standing_of : Setting → List StreamLine → Standing

@@ -24,7 +24,8 @@ use Rattle.stream_check.specs.Checker.{standing_at, tally_at, deleted_at, report
 
 -- what is held, with this text read of the next line, where so much room is left
 abbrev pub hold : Held → List ℕ → ℕ → Holding
-hold h pending free = record { tally = tally_at h; standing = standing_at h free; pending = pending; line = h.line }
+hold h pending free =
+    record { tally = tally_at h; standing = standing_at h free; pending = pending; line = h.line }
 
 -- the place is one where the next line can be checked
 pub record IsReady (h : Held) (p : Place) : Type 0 where
@@ -42,11 +43,15 @@ pub record DeletesMore (old new : Held) (count : ℕ) : Type 0 where
 -- what the events of one line came to
 abbrev pub TakesBy : Held → ℕ → Held → ℕ → StreamLine → History → Option Stop → Type 0
 TakesBy old free new left line es None =
-    JudgesLine old.setting (standing_at old free) line es Good × ((read : List ℕ) → TakesLine old.setting (hold old read free) line (hold new [] left))
+    JudgesLine old.setting (standing_at old free) line es Good
+    × ((read : List ℕ) → TakesLine old.setting (hold old read free) line (hold new [] left))
 TakesBy old free new left line es (Some (stops.Bad fault)) =
-    (count : ℕ) × JudgesLine old.setting (standing_at old free) line es (Bad count fault) × DeletesMore old new count
+    (count : ℕ) × JudgesLine old.setting (standing_at old free) line es (Bad count fault)
+    × DeletesMore old new count
 TakesBy old free new left line es (Some stops.Memory) =
-    (lead : ℕ) × (ids earlier : List ℕ) × (line ≡ Deletion lead ids) × StopsDeletion old.setting (is_among old.dropped.ids) ids es earlier × DeletesMore old new (length earlier)
+    (lead : ℕ) × (ids earlier : List ℕ) × (line ≡ Deletion lead ids)
+    × StopsDeletion old.setting (is_among old.dropped.ids) ids es earlier
+    × DeletesMore old new (length earlier)
 
 -- a line that stopped ends the reading so
 abbrev pub ending_of : ℕ → Stop → Ending
@@ -59,21 +64,25 @@ taken_of used (Some stop) = taken.Stopped used stop
 
 -- the text of what stopped: a line's, or one that begins no line
 abbrev pub StopsBy : Stop → List ℕ → Type 0
-StopsBy stop text = ((line : StreamLine) × LineText line text) ⊎ ((fault : LineFault) × (stop ≡ stops.Bad (faults.Text fault)) × IsRefused text fault)
+StopsBy stop text = ((line : StreamLine) × LineText line text)
+    ⊎ ((fault : LineFault) × (stop ≡ stops.Bad (faults.Text fault)) × IsRefused text fault)
 
 -- what stands next in a piece, the blocks of events that it comes to, and what it leaves
 abbrev pub Takes : Held → List ℕ → ℕ → List ℕ → List History → Taken → Held → ℕ → Type 0
 Takes old read free piece blocks (taken.Line used) new left =
     (length blocks ≡ 1)
-    × LeavesOn old.setting (Going (hold old read free)) (take used piece) blocks (Going (hold new [] left))
+    × LeavesOn old.setting (Going (hold old read free)) (take used piece) blocks
+    (Going (hold new [] left))
     × ((line : StreamLine) × LineText line (read ++ take used piece))
 Takes old read free piece blocks taken.More new left =
     (blocks ≡ [])
-    × LeavesOn old.setting (Going (hold old read free)) piece blocks (Going (hold new (read ++ piece) left))
+    × LeavesOn old.setting (Going (hold old read free)) piece blocks
+    (Going (hold new (read ++ piece) left))
     × IsPending (read ++ piece)
 Takes old read free piece blocks (taken.Stopped used stop) new left =
     (length blocks ≤ 1)
-    × LeavesOn old.setting (Going (hold old read free)) (take used piece) blocks (Over (report_at (tally_at new) (ending_of new.line stop)))
+    × LeavesOn old.setting (Going (hold old read free)) (take used piece) blocks
+    (Over (report_at (tally_at new) (ending_of new.line stop)))
     × StopsBy stop (read ++ take used piece)
 
 -- the reader after it, and how many bytes were used at most

@@ -98,8 +98,10 @@ impl Buffers {
         ensures vars { self.new.vars ≡ self.old.vars }
         ensures clause { result ≡ None → self.new.marks.clause ≡ distinct lits.now }
         ensures judged { let standing = standing_at held.now (M.place map.old).room in
-            (es : History) × M.moves map.old map.new es × MakesEvents held.now.setting id lits.now es result
-            × JudgesAddition held.now.setting standing id lits.now hints.now es (verdict_of result) }
+            (es : History) × M.moves map.old map.new es
+            × MakesEvents held.now.setting id lits.now es result
+            × JudgesAddition held.now.setting standing id lits.now hints.now es
+            (verdict_of result) }
     {
         if let Some(fault) = self.admit(held, map, id, lits) {
             return Some(fault);

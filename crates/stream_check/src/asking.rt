@@ -18,7 +18,8 @@ fn fetch_again<M: ClauseMap, G: Gate>(most: u64, map: &mut M, gate: &mut G, id: 
     requires small { most < 2 ^ 63 }
     ensures asked { let stream = (M.place map.old).caller.stream in
         (es : History) × M.moves map.old map.new es
-        × FetchesUpTo most stream id (fetch stream id vacant ∷ es) (reply_of (M.place map.new) result) }
+        × FetchesUpTo most stream id (fetch stream id vacant ∷ es)
+        (reply_of (M.place map.new) result) }
     ensures gives { Gives (M.place map.new) result }
 {
     let stream = map.stream();

@@ -52,7 +52,12 @@ pub enum Side {
 
 impl Setting {
     pub fn new(layout: &Layout, cube: Cube, stream: u64, tries: u64) -> Setting
-        ensures { result ≡ record { layout = layout.now; cube = cube; stream = stream; tries = tries } }
+        ensures { result ≡ record {
+          layout = layout.now;
+          cube = cube;
+          stream = stream;
+          tries = tries;
+        } }
     {
         Setting {
             layout: *layout,

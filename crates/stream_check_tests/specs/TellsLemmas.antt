@@ -24,7 +24,8 @@ tells_none p = record {
   follow = λ all. all;
 }
 
-pub tells_append : (p q r : Place) (es fs : History) → Tells p q es → Tells q r fs → Tells p r (es ++ fs)
+pub tells_append : (p q r : Place) (es fs : History) → Tells p q es → Tells q r fs
+    → Tells p r (es ++ fs)
 tells_append p q r es fs first later =
     let stream : q.caller.stream ≡ p.caller.stream = ap (λ (c : Caller). c.stream) first.caller in
     record {

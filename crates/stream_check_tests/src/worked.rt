@@ -56,10 +56,14 @@ fn missing_hints_are_judged()
 fn deletions_are_judged()
     ensures own { JudgesLine first_stream at_start (Deletion 5 (5 ∷ 5 ∷ []))
         (five_retired ∷ five_refused ∷ []) (Bad 1 (Fault.NotLive 5)) }
-    ensures formula { JudgesLine first_stream at_start (Deletion 5 (1 ∷ 1 ∷ [])) [] (Bad 1 (Fault.NotLive 1)) }
-    ensures again { JudgesLine first_stream after_drop (Deletion 5 (2 ∷ 1 ∷ [])) [] (Bad 1 (Fault.NotLive 1)) }
-    ensures both { JudgesLine first_stream at_start (Deletion 5 (1 ∷ 5 ∷ 6 ∷ [])) (five_retired ∷ []) Good }
-    ensures outside { JudgesLine first_stream at_start (Deletion 5 (9 ∷ [])) [] (Bad 0 (Fault.NotLive 9)) }
+    ensures formula { JudgesLine first_stream at_start (Deletion 5 (1 ∷ 1 ∷ [])) []
+        (Bad 1 (Fault.NotLive 1)) }
+    ensures again { JudgesLine first_stream after_drop (Deletion 5 (2 ∷ 1 ∷ [])) []
+        (Bad 1 (Fault.NotLive 1)) }
+    ensures both { JudgesLine first_stream at_start (Deletion 5 (1 ∷ 5 ∷ 6 ∷ []))
+        (five_retired ∷ []) Good }
+    ensures outside { JudgesLine first_stream at_start (Deletion 5 (9 ∷ [])) []
+        (Bad 0 (Fault.NotLive 9)) }
 {}
 
 /// Imports: a clause of the formula is compared, one of another stream is fetched once more, and none is added.
@@ -70,9 +74,11 @@ fn imports_are_judged()
         (first_found ∷ []) (Bad 0 (Fault.Differs 1)) }
     ensures tautology { JudgesLine first_stream at_start (Import 1 (pos 1 ∷ negsuc 0 ∷ []))
         (first_found ∷ []) (Bad 0 (Fault.Differs 1)) }
-    ensures own { JudgesLine first_stream at_start (Import 5 (pos 3 ∷ [])) [] (Bad 0 Fault.Identity) }
+    ensures own { JudgesLine first_stream at_start (Import 5 (pos 3 ∷ [])) []
+        (Bad 0 Fault.Identity) }
     ensures outside { JudgesLine first_stream at_start (Import 9 []) [] (Bad 0 Fault.Identity) }
-    ensures literal { JudgesLine first_stream after_drop (Import 1 (pos 3 ∷ [])) [] (Bad 0 Fault.Literal) }
+    ensures literal { JudgesLine first_stream after_drop (Import 1 (pos 3 ∷ [])) []
+        (Bad 0 Fault.Literal) }
     ensures dropped { JudgesLine first_stream after_drop (Import 1 (pos 1 ∷ pos 2 ∷ []))
         [] (Bad 0 (Fault.Dropped 1)) }
     ensures missing { JudgesLine first_stream at_start (Import 6 (pos 2 ∷ []))

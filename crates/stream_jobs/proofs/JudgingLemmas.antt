@@ -1,6 +1,5 @@
 -- What a checker took, piece by piece, and what both ends know together.
-use Rattle.std.proofs.Common.{◌≡◌, ◌++◌, ◌∙◌, ◌⊎◌, inl, inr, ℕ, Bool, true, false, List, [], ◌∷◌, length, Option, Some, None, IsSome, IfSome, refl, sym, ap, subst, append_assoc, append-nil}
-use Rattle.std.proofs.lemmas.Grind.{flat_map-append}
+use Rattle.std.proofs.Common.{◌≡◌, ◌++◌, ◌∙◌, ◌⊎◌, inl, inr, ℕ, Bool, true, false, List, [], Option, Some, None, IsSome, IfSome, refl, sym, ap, subst, append_assoc, append-nil}
 use Rattle.std.specs.Io.KnownBytes.{Consumes}
 use Rattle.lrup_model.specs.Event.{History}
 use Rattle.runs.specs.Streams.{Stream, at_end, at_failure, IsTold, JudgesStream}
@@ -10,20 +9,12 @@ use Rattle.stream_check.specs.declared.progress.Turn.{Turn}
 use Rattle.stream_check.specs.declared.progress.Turn.TheVariants as turns
 use Rattle.stream_check.specs.Checker.{state_by, state_of, report_at, LeavesOn, Turns, EndsBy, Ends, ReportsEnd}
 use Rattle.stream_check.specs.CheckerValue.{CheckerValue}
-use Rattle.stream_check.specs.Judging.{StreamEnd, joined, JudgesBlocks}
+use Rattle.stream_check.specs.Judging.{StreamEnd, JudgesBlocks}
 use Rattle.stream_check.specs.Laws.{OverStays}
 use Rattle.stream_check.specs.Leaving.{CheckerState, Over, Leaves}
 use Rattle.stream_check.specs.Setting.{Setting}
 use Rattle.stream_ring.specs.Items.{CameThrough}
 use Rattle.stream_jobs.specs.Judged.{IsReadOut, end_of}
-
-pub joined-append : (front back : List History) → joined front ++ joined back ≡ joined (front ++ back)
-joined-append front back = sym (flat_map-append (λ (block : History). block) front back)
-
-pub leaves_none : (c : Setting) (now : CheckerState) → LeavesOn c now [] [] now
-leaves_none c now bytes before left =
-    subst (λ (t : List ℕ). Leaves c t (before ++ []) now) (sym (append-nil bytes))
-    (subst (λ (bs : List History). Leaves c bytes bs now) (sym (append-nil before)) left)
 
 pub leaves_append : (c : Setting) (one two three : CheckerState) (xs ys : List ℕ) (front back : List History)
     → LeavesOn c one xs front two → LeavesOn c two ys back three → LeavesOn c one (xs ++ ys) (front ++ back) three
@@ -89,10 +80,6 @@ pub leaves_more : (c d : Setting) (one two three : CheckerState) (xs ys all : Li
 leaves_more c d one two three xs ys all front back same split first second =
     subst (λ (t : List ℕ). LeavesOn c one t (front ++ back) three) (sym split)
     (leaves_append c one two three xs ys front back first (subst (λ (e : Setting). LeavesOn e two ys back three) same second))
-
-pub no_items : {A : Type 0} (xs : List A) → length xs ≡ 0 → xs ≡ []
-no_items [] none = refl
-no_items (x ∷ xs) none = cc
 
 -- the report of a checker that was ended
 pub closes : (end : StreamEnd) (v u : CheckerValue) (report : Report) → ReportsEnd end v u → IfSome u.ending (λ ending. report ≡ report_at u.tally ending)

@@ -1,8 +1,8 @@
 -- What the threads of a stream gave back, and lists of them.
 use Rattle.std.proofs.Common.{◌≡◌, ◌++◌, ◌+◌, ◌∙◌, ℕ, List, [], ◌∷◌, Option, Some, None, IfSome, Result, Ok, Err, IfOk, IfErr, ◌<◌, ◌≤◌, length, map, refl, sym, ap, subst, arith, append_assoc, append-nil}
-use Rattle.std.proofs.lemmas.List.{length-append, length-map, map-append}
+use Rattle.std.proofs.lemmas.List.{length-append, length-map, map-append, nil_from_length}
 use Rattle.std.specs.declared.vec.IntoIter.{IntoIter}
-use Rattle.std.specs.Vec.Iter.{into_iter_items, into_iter_len, into_iter_steps}
+use Rattle.std.specs.Vec.Iter.{into_iter_items, into_iter_len}
 use Rattle.lrup_model.specs.Event.{History}
 use Rattle.clause_store.specs.Passes.{PassValue}
 use Rattle.clause_store.specs.Desks.{desk_place, DeskMoves}
@@ -26,22 +26,10 @@ judged_at v old new from to items (Some r) first last judged =
     (subst (λ (q : PassValue). JudgesAtPass v old.pass q items r) (sym last)
     (record { store = judged.1.store; blocks = judged.0; moves = judged.1.moves; judged = judged.2 }))
 
-none_left : {A : Type 0} (xs : List A) → length xs ≡ 0 → xs ≡ []
-none_left [] none = refl
-none_left (x ∷ xs) none = absurd (omega arith)
-
--- an iterator that gives no more has none left
-iter_end : {A Z : Type 0} (s t : IntoIter A Z) → into_iter_steps s None t → into_iter_items s ≡ []
-iter_end s t steps = none_left s.rest.items (sym s.rest.ok.0 ∙ steps.0)
-
 -- one more of a list was taken and put at the end of another
 pub moved_more : {A : Type 0} (done before rest all new : List A) (x : A) → before ≡ x ∷ rest → new ≡ done ++ x ∷ [] → done ++ before ≡ all → new ++ rest ≡ all
 moved_more done before rest all new x taken pushed whole =
     ap (λ xs. xs ++ rest) pushed ∙ append_assoc done (x ∷ []) rest ∙ ap (λ xs. done ++ xs) (sym taken) ∙ whole
-
--- all of it was
-pub moved_all : {A Z : Type 0} (done all : List A) (s t : IntoIter A Z) → into_iter_steps s None t → done ++ into_iter_items s ≡ all → done ≡ all
-moved_all done all s t steps whole = sym (append-nil done) ∙ ap (λ xs. done ++ xs) (sym (iter_end s t steps)) ∙ whole
 
 -- one more stream has ended
 all_end-snoc : (jobs : List JobsValue) (ends : List (Option FoundValue)) (one : JobsValue) (end : Option FoundValue)
@@ -114,16 +102,9 @@ jobs_pushed {X} terms s left pass xs x js new j pushed place all here =
     (subst (λ (ps : List PassValue). AreJobs terms 1 (map left xs ++ left x ∷ []) ps (js ++ j ∷ [])) (sym (map-append pass xs (x ∷ [])))
     (jobs_more terms 1 (map left xs) (map pass xs) js (left x) (pass x) j all (subst (λ k. IsJob terms k (left x) (pass x) j) next here))))
 
--- the first of the rest is the next of those that were taken
-pub taken_first : {X Y C : Type 0} (f : X → C) (h : Y → C) (xs : List X) (x : X) (ys zs : List Y) (y : Y) (all : List C) → ys ≡ y ∷ zs → f x ≡ h y
-    → map f xs ++ map h ys ≡ all → map f (xs ++ x ∷ []) ++ map h zs ≡ all
-taken_first {X} {Y} {C} f h xs x ys zs y all first same before =
-    ap (λ (l : List C). l ++ map h zs) (map-append f xs (x ∷ [])) ∙ append_assoc (map f xs) (f x ∷ []) (map h zs)
-    ∙ ap (λ (c : C). map f xs ++ (c ∷ map h zs)) same ∙ ap (λ (l : List Y). map f xs ++ map h l) (sym first) ∙ before
-
 -- an iterator of no more steps has no more items
 pub none_to_come : {A Z : Type 0} (s : IntoIter A Z) → into_iter_len s ≡ 0 → into_iter_items s ≡ []
-none_to_come s none = none_left s.rest.items (sym s.rest.ok.0 ∙ none)
+none_to_come s none = nil_from_length s.rest.items (sym s.rest.ok.0 ∙ none)
 
 -- the jobs of all, where none is left
 pub jobs_whole : (terms : Terms) (es entries more : List (Option (List ℕ))) (ps passes others : List PassValue) (js : List JobsValue)

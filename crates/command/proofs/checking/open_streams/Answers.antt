@@ -1,6 +1,7 @@
 use Rattle.std.proofs.Common.{◌∙◌, ◌≡◌, Err, false, sym, ap, subst, arith}
 use Rattle.std.specs.List.{AllByRecursion}
-use Rattle.command.proofs.OpeningLemmas.{all_more, all_opened_more, opened_more, refused_at}
+use Rattle.lrup_model.specs.ListLemmas.{All-push}
+use Rattle.command.proofs.OpeningLemmas.{all_opened_more, opened_more, refused_at}
 use Rattle.command.proofs.checking.open_streams.Goals as goal
 
 pub loop-path-preserved : goal.loop-path-preserved
@@ -15,7 +16,7 @@ loop-path-preserved g c =
       opened = all_opened_more (g.F.Files.opens c.args.files.now) (λ p. p.now) now.readers.items c.push_reserved.new.self.items c.in-Ok.reader c.args.paths.now now.path-index _
           c.loop-path-test.true pushed.items now.invariant.opened (now.invariant.stays_opens _ _ c.in-Ok.ensures.opens);
       running = subst (AllByRecursion (λ r. g.F.Input.Source.has_failed r ≡ false)) (sym pushed.items)
-          (all_more (λ r. g.F.Input.Source.has_failed r ≡ false) now.readers.items c.in-Ok.reader now.invariant.running c.in-Ok.ensures.running);
+          (All-push (λ r. g.F.Input.Source.has_failed r ≡ false) now.readers.items c.in-Ok.reader now.invariant.running c.in-Ok.ensures.running);
       count = omega (arith, pushed.len, now.invariant.count);
       room = omega (arith, pushed.capacity, now.invariant.room);
       stays = c.open.ensures.stays ∙ now.invariant.stays;

@@ -1,6 +1,7 @@
 use Rattle.std.proofs.Common.{◌≡◌, ◌<◌, [], length, get_or, ◌∙◌, arith}
 use Rattle.lrup_model.specs.Clause.{Clause}
-use Rattle.idwords.proofs.OpeningLemmas.{words_in-take, clause_at-suc, clause_words_more, words_more}
+use Rattle.lrup_model.specs.HistoryLemmas.{clause_at-suc}
+use Rattle.idwords.proofs.OpeningLemmas.{words_in-take, clause_words_more, words_more}
 use Rattle.idwords.proofs.opening.add_clauses.Goals as goal
 
 pub live_word-requires-clause-start : goal.live_word-requires-clause-start

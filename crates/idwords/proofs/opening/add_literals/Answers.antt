@@ -1,5 +1,6 @@
 use Rattle.std.proofs.Common.{◌≡◌, ◌<◌, [], length, get_or, ◌∙◌, arith}
-use Rattle.idwords.proofs.OpeningLemmas.{clause_at-suc, literal_words_more}
+use Rattle.lrup_model.specs.HistoryLemmas.{clause_at-suc}
+use Rattle.idwords.proofs.OpeningLemmas.{literal_words_more}
 use Rattle.idwords.proofs.opening.add_literals.Goals as goal
 
 pub loop-i-preserved : goal.loop-i-preserved

@@ -1,10 +1,11 @@
 use Rattle.std.proofs.Common.{◌≡◌, ◌∷◌, ◌∙◌, List, map, ap, subst, arith}
 use Rattle.std.specs.Vec.Iter.{into_iter_items}
+use Rattle.lrup_model.specs.ListLemmas.{whole_end}
 use Rattle.stream_check.specs.declared.report.Report.{Report}
 use Rattle.portfolio.specs.Outcomes.{verdict_of}
 use Rattle.portfolio.specs.Turns.{AreOver, HaveReports}
 use Rattle.portfolio.specs.Working.{WorkerValue}
-use Rattle.portfolio.proofs.JoiningLemmas.{whole_end, whole_more}
+use Rattle.portfolio.proofs.JoiningLemmas.{whole_more}
 use Rattle.portfolio.proofs.TurnsLemmas.{reports_pushed, map_more}
 use Rattle.portfolio.proofs.serial.outcome_of.Goals as goal
 

@@ -2,8 +2,9 @@ use Rattle.std.proofs.Common.{◌≡◌, ◌∷◌, false, refl, subst, arith}
 use Rattle.std.specs.Iterator.Adapters.{zip_first}
 use Rattle.std.specs.List.{AllByRecursion}
 use Rattle.std.specs.Vec.Iter.{into_iter_items}
+use Rattle.lrup_model.specs.ListLemmas.{taken_first}
 use Rattle.runs.specs.Streams.{terms_at}
-use Rattle.portfolio.proofs.TurnsLemmas.{started_pushed, taken_first}
+use Rattle.portfolio.proofs.TurnsLemmas.{started_pushed}
 use Rattle.portfolio.proofs.serial.workers_of.Goals as goal
 
 pub loop-reader-preserved : goal.loop-reader-preserved

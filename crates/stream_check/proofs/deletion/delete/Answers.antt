@@ -1,11 +1,12 @@
 use Rattle.std.proofs.Common.{◌≡◌, ◌∙◌, ◌+◌, ℕ, List, [], ◌∷◌, ◌++◌, length, take, drop, get_or, refl, sym, subst, arith, length-take}
 use Rattle.std.proofs.lemmas.List.{take_more, take_all}
+use Rattle.lrup_model.specs.ListLemmas.{All-append}
 use Rattle.stream_check.specs.Setting.{Setting}
 use Rattle.stream_check.specs.declared.deletion.Deleted.TheVariants as deleting
 use Rattle.stream_check.specs.declared.held.Held.{Held}
 use Rattle.stream_check.specs.Checking.{IsRetire, DeletesOne, AreDropped}
 use Rattle.stream_check.specs.Checker.{KeepsLines}
-use Rattle.stream_check.proofs.DeleteLemmas.{GoesOn, goes_on, among_ids, bad_deletion, stopped_deletion, good_deletion, dropped_more, retires-append}
+use Rattle.stream_check.proofs.DeleteLemmas.{GoesOn, goes_on, among_ids, bad_deletion, stopped_deletion, good_deletion, dropped_more}
 use Rattle.stream_check.proofs.deletion.delete.Goals as goal
 
 pub returns-in-NotLive-clause-deleted : goal.returns-in-NotLive-clause-deleted
@@ -22,7 +23,7 @@ returns-in-NotLive-clause-deleted g c =
     let count : length (take i ids) ≡ i = omega (arith, length-take i ids, c.loop-id-test.true) in (
       deleted.0 ++ one.0,
       g.met.M.ClauseMap.moves_append c.args.map.now c.loop-id.map c.delete_one.new.map deleted.0 one.0 deleted.1 one.1,
-      retires-append IsRetire deleted.0 one.0 deleted.2 one.2,
+      All-append IsRetire deleted.0 one.0 deleted.2 one.2,
       (
         length (take i ids),
         omega (arith, c.in-NotLive.ensures.count, c.loop-id.invariant.count, count),
@@ -44,7 +45,7 @@ returns-in-NoMemory-clause-deleted g c =
     let count : length (take i ids) ≡ i = omega (arith, length-take i ids, c.loop-id-test.true) in (
       deleted.0 ++ one.0,
       g.met.M.ClauseMap.moves_append c.args.map.now c.loop-id.map c.delete_one.new.map deleted.0 one.0 deleted.1 one.1,
-      retires-append IsRetire deleted.0 one.0 deleted.2 one.2,
+      All-append IsRetire deleted.0 one.0 deleted.2 one.2,
       (
         length (take i ids),
         omega (arith, c.in-NoMemory.ensures.count, c.loop-id.invariant.count, count),
@@ -79,7 +80,7 @@ loop-id-preserved g c =
       deleted = (
         deleted.0 ++ one.0,
         g.met.M.ClauseMap.moves_append c.args.map.now c.loop-id.map c.delete_one.new.map deleted.0 one.0 deleted.1 one.1,
-        retires-append IsRetire deleted.0 one.0 deleted.2 one.2,
+        All-append IsRetire deleted.0 one.0 deleted.2 one.2,
         subst (λ (js : List ℕ). GoesOn s old.dropped.ids js (deleted.0 ++ one.0)) (sym more)
             (goes_on s old.dropped.ids (take i ids) c.loop-id.held.dropped.ids c.delete_one.new.held.dropped.ids id deleted.0 one.0 deleted.3 c.loop-id.invariant.dropped deletes),
       );

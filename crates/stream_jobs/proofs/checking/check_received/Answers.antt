@@ -2,8 +2,9 @@ use Rattle.std.proofs.Common.{◌++◌, ◌∙◌, ℕ, List, [], refl, sym, sub
 use Rattle.std.proofs.lemmas.List.{length-take-le}
 use Rattle.rtrb.specs.Ring.{received}
 use Rattle.stream_check.specs.Checker.{LeavesOn, state_of}
+use Rattle.stream_check.specs.ReportLemmas.{joined-append, leaves_still}
 use Rattle.stream_ring.specs.Items.{byte_of}
-use Rattle.stream_jobs.proofs.JudgingLemmas.{joined-append, leaves_none, leaves_more}
+use Rattle.stream_jobs.proofs.JudgingLemmas.{leaves_more}
 use Rattle.stream_jobs.proofs.checking.check_received.Goals as goal
 
 pub loop-init : goal.loop-init
@@ -20,7 +21,7 @@ loop-init g c =
         [],
         g.met.M.ClauseMap.moves_none c.args.map.now,
         subst (λ (items : List ℕ). LeavesOn c.args.checker.now.setting state (map byte_of items) [] state) (sym c.requires.nothing)
-            (leaves_none c.args.checker.now.setting state),
+            (leaves_still c.args.checker.now.setting state),
       );
     }
 
@@ -44,7 +45,7 @@ loop-preserved g c =
       setting = c.take_all.ensures.setting ∙ c.loop.invariant.setting;
       took = (
         old.0 ++ fed.0,
-        subst (g.M.ClauseMap.moves start end) (joined-append old.0 fed.0) (g.met.M.ClauseMap.moves_append start mid end _ _ old.1 fed.1),
+        subst (g.M.ClauseMap.moves start end) (sym (joined-append old.0 fed.0)) (g.met.M.ClauseMap.moves_append start mid end _ _ old.1 fed.1),
         leaves_more c.args.checker.now.setting c.loop.checker.setting _ _ (state_of c.take_all.new.checker (g.M.ClauseMap.place end).room)
             (map byte_of (received c.loop.receiver.consumer)) _ (map byte_of (received c.receive.new.self.consumer)) old.0 fed.0
             c.loop.invariant.setting came.1 old.2 fed.2,
@@ -69,7 +70,7 @@ returns-in-Mark-clause-took g c =
     let bytes = map byte_of (received c.loop.receiver.consumer) ++ take c.in-Mark.count c.receive.new.bytes in (
       bytes,
       old.0 ++ fed.0,
-      subst (g.M.ClauseMap.moves start end) (joined-append old.0 fed.0) (g.met.M.ClauseMap.moves_append start mid end _ _ old.1 fed.1),
+      subst (g.M.ClauseMap.moves start end) (sym (joined-append old.0 fed.0)) (g.met.M.ClauseMap.moves_append start mid end _ _ old.1 fed.1),
       came.1,
       leaves_more c.args.checker.now.setting c.loop.checker.setting _ _ (state_of c.take_all-in-Mark.new.checker (g.M.ClauseMap.place end).room)
           (map byte_of (received c.loop.receiver.consumer)) (take c.in-Mark.count c.receive.new.bytes) bytes old.0 fed.0

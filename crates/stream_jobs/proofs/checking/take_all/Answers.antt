@@ -1,7 +1,8 @@
 use Rattle.std.proofs.Common.{◌≡◌, ◌++◌, ◌∙◌, ℕ, List, [], refl, sym, ap, subst, arith, take, drop, length, append_assoc, append-nil}
-use Rattle.std.proofs.lemmas.List.{take-append-drop, length-drop}
+use Rattle.std.proofs.lemmas.List.{take-append-drop, length-drop, nil_from_length}
 use Rattle.stream_check.specs.Checker.{LeavesOn, state_of}
-use Rattle.stream_jobs.proofs.JudgingLemmas.{joined-append, leaves_none, leaves_more, no_items, no_line, stopped_takes}
+use Rattle.stream_check.specs.ReportLemmas.{joined-append, leaves_still}
+use Rattle.stream_jobs.proofs.JudgingLemmas.{leaves_more, no_line, stopped_takes}
 use Rattle.stream_jobs.proofs.checking.take_all.Goals as goal
 
 pub loop-init : goal.loop-init
@@ -16,7 +17,7 @@ loop-init g c =
         [],
         refl,
         g.met.M.ClauseMap.moves_none c.args.map.now,
-        leaves_none c.args.checker.now.setting (state_of c.args.checker.now room),
+        leaves_still c.args.checker.now.setting (state_of c.args.checker.now room),
       );
     }
 
@@ -37,7 +38,7 @@ returns-in-More g c =
     record {
       took = (
         old.1 ++ fed.0,
-        subst (g.M.ClauseMap.moves start end) (joined-append old.1 fed.0) (g.met.M.ClauseMap.moves_append start mid end _ _ old.3 fed.1),
+        subst (g.M.ClauseMap.moves start end) (sym (joined-append old.1 fed.0)) (g.met.M.ClauseMap.moves_append start mid end _ _ old.3 fed.1),
         leaves_more c.args.checker.now.setting c.loop.checker.setting _ _ (state_of v free) old.0 rest c.args.piece.now old.1 fed.0 c.loop.invariant.setting old.2 old.4 whole,
       );
       ready = c.feed-progress.ensures.ready;
@@ -71,7 +72,7 @@ loop-preserved g c =
         old.1 ++ fed.0,
         old.2 ∙ ap (λ (t : List ℕ). old.0 ++ t) (sym (take-append-drop used rest)) ∙ sym (append_assoc old.0 (take used rest) (drop used rest))
             ∙ ap (λ (t : List ℕ). (old.0 ++ take used rest) ++ t) (sym c.split_at.ensures.back),
-        subst (g.M.ClauseMap.moves start end) (joined-append old.1 fed.0) (g.met.M.ClauseMap.moves_append start mid end _ _ old.3 fed.1),
+        subst (g.M.ClauseMap.moves start end) (sym (joined-append old.1 fed.0)) (g.met.M.ClauseMap.moves_append start mid end _ _ old.3 fed.1),
         leaves_more c.args.checker.now.setting c.loop.checker.setting _ _ (state_of v free) old.0 (take used rest) (old.0 ++ take used rest) old.1 fed.0
             c.loop.invariant.setting refl old.4 fed.3,
       );
@@ -85,5 +86,5 @@ returns-clause-took g c =
       old.3,
       subst (λ (t : List ℕ). LeavesOn c.args.checker.now.setting (state_of c.args.checker.now (g.M.ClauseMap.place c.args.map.now).room) t old.1
           (state_of c.loop.checker (g.M.ClauseMap.place c.loop.map).room))
-          (sym (old.2 ∙ ap (λ (t : List ℕ). old.0 ++ t) (no_items c.loop.rest.now none) ∙ append-nil old.0)) old.4,
+          (sym (old.2 ∙ ap (λ (t : List ℕ). old.0 ++ t) (nil_from_length c.loop.rest.now none) ∙ append-nil old.0)) old.4,
     )

@@ -2,8 +2,9 @@ use Rattle.std.proofs.Common.{◌≡◌, ◌∷◌, inl, inr, false, map, refl, 
 use Rattle.std.specs.Iterator.Adapters.{zip_first, zip_second}
 use Rattle.std.specs.List.{AllByRecursion}
 use Rattle.std.specs.Vec.Iter.{into_iter_items, into_iter_len}
+use Rattle.lrup_model.specs.ListLemmas.{taken_first}
 use Rattle.runs.specs.Streams.{terms_at}
-use Rattle.stream_threads.proofs.ThreadLemmas.{jobs_pushed, jobs_whole, none_to_come, taken_first, taken_next}
+use Rattle.stream_threads.proofs.ThreadLemmas.{jobs_pushed, jobs_whole, none_to_come, taken_next}
 use Rattle.stream_threads.proofs.jobs.jobs_of.Goals as goal
 
 pub loop-reader-preserved : goal.loop-reader-preserved

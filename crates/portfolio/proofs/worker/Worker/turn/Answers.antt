@@ -1,5 +1,6 @@
-use Rattle.std.proofs.Common.{◌≡◌, ◌++◌, ◌∙◌, [], false, true, refl, subst, rules}
-use Rattle.portfolio.proofs.WorkingLemmas.{joined-append, works_none, works_turn}
+use Rattle.std.proofs.Common.{◌≡◌, ◌++◌, ◌∙◌, [], false, true, refl, subst, rules, sym}
+use Rattle.stream_check.specs.ReportLemmas.{joined-append}
+use Rattle.portfolio.proofs.WorkingLemmas.{works_none, works_turn}
 use Rattle.portfolio.proofs.worker.Worker.turn.Goals as goal
 
 pub loop-init : goal.loop-init
@@ -19,7 +20,7 @@ returns-then-ne-clause-works g c =
     let fed = c.feed.ensures.works in
     let room = (g.M.ClauseMap.place mid).room in (
       old.0 ++ fed.0,
-      subst (g.M.ClauseMap.moves start end) (joined-append old.0 fed.0) (g.met.M.ClauseMap.moves_append start mid end _ _ old.1 fed.1),
+      subst (g.M.ClauseMap.moves start end) (sym (joined-append old.0 fed.0)) (g.met.M.ClauseMap.moves_append start mid end _ _ old.1 fed.1),
       works_turn c.args.self.now c.loop.self c.read.new.self c.feed.new.self (g.M.ClauseMap.place start).room room (g.M.ClauseMap.place end).room old.0 fed.0 old.2 (c.read.ensures.works room) fed.2,
     )
 
@@ -37,7 +38,7 @@ loop-preserved g c =
       setting = c.feed.ensures.setting ∙ c.read.ensures.setting ∙ c.loop.invariant.setting;
       works = (
         old.0 ++ fed.0,
-        subst (g.M.ClauseMap.moves start end) (joined-append old.0 fed.0) (g.met.M.ClauseMap.moves_append start mid end _ _ old.1 fed.1),
+        subst (g.M.ClauseMap.moves start end) (sym (joined-append old.0 fed.0)) (g.met.M.ClauseMap.moves_append start mid end _ _ old.1 fed.1),
         works_turn c.args.self.now c.loop.self c.read.new.self c.feed.new.self (g.M.ClauseMap.place start).room room (g.M.ClauseMap.place end).room old.0 fed.0 old.2 (c.read.ensures.works room) fed.2,
       );
     }

@@ -4,7 +4,8 @@ use Rattle.lrup_text.specs.Lines.{IsPending, Cut, LineText}
 use Rattle.stream_check.specs.Leaving.{Over}
 use Rattle.stream_check.specs.CheckerValue.{CheckerValue}
 use Rattle.stream_check.specs.Checker.{read_of, value_of, state_of, report_at, tally_at, LeavesOn, StopsAt}
-use Rattle.stream_check.proofs.FeedLemmas.{some_of, none_of, not_over, leaves_still, feeds_line, feeds_more, front_cut, line_cut, ready_inside, sound_on, reads_on, feeds_stopped, stops_at}
+use Rattle.stream_check.specs.ReportLemmas.{leaves_still}
+use Rattle.stream_check.proofs.FeedLemmas.{some_of, none_of, not_over, feeds_line, feeds_more, front_cut, line_cut, ready_inside, sound_on, reads_on, feeds_stopped, stops_at}
 use Rattle.stream_check.proofs.checker.Checker.feed.Goals as goal
 
 pub returns-then-is_some-clause-left : goal.returns-then-is_some-clause-left

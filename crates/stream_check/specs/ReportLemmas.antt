@@ -1,0 +1,55 @@
+-- Lemmas on a stream's lines and blocks, and on what a report says of them.
+use Rattle.std.proofs.Common.{◌≡◌, ◌∙◌, ℕ, List, [], ◌∷◌, ◌++◌, inl, inr, refl, sym, ap, ap₂, subst, append_assoc, append-nil}
+use Rattle.std.specs.Prelude.{◌||◌}
+use Rattle.std.specs.List.{flat_map, list_any}
+use Rattle.std.proofs.lemmas.Grind.{flat_map-append}
+use Rattle.lrup_model.specs.Event.{History}
+use Rattle.lrup_text.specs.Lines.{StreamLine, Addition, Deletion, Import, line_text}
+use Rattle.stream_check.specs.declared.report.Report.{Report}
+use Rattle.stream_check.specs.Setting.{Setting}
+use Rattle.stream_check.specs.Standing.{adds_empty, adds_within}
+use Rattle.stream_check.specs.Judging.{EndsAfter, StreamEnd, joined}
+use Rattle.stream_check.specs.Leaving.{CheckerState, Leaves}
+use Rattle.stream_check.specs.Checker.{LeavesOn}
+
+pub joined-append : (a b : List History) → joined (a ++ b) ≡ joined a ++ joined b
+joined-append a b = flat_map-append (λ block. block) a b
+
+pub split_first : (line : StreamLine) (lines : List StreamLine) (rest : List ℕ)
+    → flat_map line_text (line ∷ lines) ++ rest ≡ line_text line
+    ++ (flat_map line_text lines ++ rest)
+split_first line lines rest = append_assoc (line_text line) (flat_map line_text lines) rest
+
+-- nothing is taken
+pub leaves_still : (c : Setting) (s : CheckerState) → LeavesOn c s [] [] s
+leaves_still c s bytes before leaves =
+    subst (λ (b : List ℕ). Leaves c b (before ++ []) s) (sym (append-nil bytes)) (subst (λ (blocks : List History). Leaves c bytes blocks s) (sym (append-nil before)) leaves)
+
+-- the report tells of the good lines alone
+pub said_within : (c : Setting) (lines : List StreamLine) (rest : List ℕ) (end : StreamEnd)
+    (back : List History) (report : Report) → EndsAfter c lines rest end back report
+    → report.within ≡ list_any (adds_within c.cube) lines
+said_within c lines rest end back report (inl line) = ap (λ (r : Report). r.within) line.says
+said_within c lines rest end back report (inr (inl text)) = ap (λ (r : Report). r.within) text.says
+said_within c lines rest end back report (inr (inr (inl memory))) = ap (λ (r : Report). r.within) memory.says
+said_within c lines rest end back report (inr (inr (inr ending))) = ap (λ (r : Report). r.within) ending.says
+
+pub said_empty : (c : Setting) (lines : List StreamLine) (rest : List ℕ) (end : StreamEnd)
+    (back : List History) (report : Report) → EndsAfter c lines rest end back report
+    → report.empty ≡ list_any adds_empty lines
+said_empty c lines rest end back report (inl line) = ap (λ (r : Report). r.empty) line.says
+said_empty c lines rest end back report (inr (inl text)) = ap (λ (r : Report). r.empty) text.says
+said_empty c lines rest end back report (inr (inr (inl memory))) = ap (λ (r : Report). r.empty) memory.says
+said_empty c lines rest end back report (inr (inr (inr ending))) = ap (λ (r : Report). r.empty) ending.says
+
+-- within the empty cube is the empty clause alone
+pub only_empty : (line : StreamLine) → adds_within [] line ≡ adds_empty line
+only_empty (Addition id [] hints) = refl
+only_empty (Addition id (l ∷ lits) hints) = refl
+only_empty (Deletion lead ids) = refl
+only_empty (Import id lits) = refl
+
+pub all_only_empty : (lines : List StreamLine)
+    → list_any (adds_within []) lines ≡ list_any adds_empty lines
+all_only_empty [] = refl
+all_only_empty (line ∷ lines) = ap₂ (λ a b. a || b) (only_empty line) (all_only_empty lines)
