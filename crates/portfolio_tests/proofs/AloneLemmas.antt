@@ -16,6 +16,7 @@ use Rattle.stream_check.specs.Laws.{IsOfMemory, cited_by}
 use Rattle.lrup_model.specs.Cube.{CubeValue}
 use Rattle.lrup_model.specs.Formula.{Cnf}
 use Rattle.portfolio.specs.Outcomes.{OptionsValue, terms_of}
+use Rattle.runs.specs.StreamLemmas.{same_at}
 use Rattle.runs.specs.Streams.{Stream, AreTold}
 use Rattle.runs.specs.Closed.{IsAt, IsWithin, CiteWithin}
 use Rattle.groups.specs.Groups.{one, AreIsolated}
@@ -27,9 +28,6 @@ use Rattle.portfolio_tests.specs.Alone.{first_bytes, usual, two_streams, two_ter
 
 only_one : (s : ℕ) → IsTrue (one 1 s) → s ≡ 1
 only_one s member = elim (eqb_tells s 1) [ inl same ↦ same.1 | inr other ↦ absurd (let no : true ≡ false = sym member ∙ other.0 in cc) ]
-
-same_at : {X : Type 0} (xs : List X) (s : ℕ) (x y : X) → IsAt xs s x → IsAt xs s y → x ≡ y
-same_at xs s x y a b = let e : Some x ≡ Some y = sym a.1 ∙ b.1 in cc
 
 -- where a reader comes first, so does a stream
 first_told : (entries lefts : List (Option (List ℕ))) (faileds : List Bool) (streams : List Stream) (entry : Option (List ℕ))
