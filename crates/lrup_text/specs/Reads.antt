@@ -1,5 +1,5 @@
 -- Reads of a source, one after another, and what they gave.
-use Rattle.std.specs.Prelude.{◌≡◌, ◌<◌, ℕ, Bool, true, List, [], take}
+use Rattle.std.specs.Prelude.{◌≡◌, ◌<◌, ℕ, Bool, true, List, [], length, take}
 use Rattle.std.specs.Prelude.{Option, Some, None, Result, Ok, Err}
 use Rattle.std.specs.List.{FoldsTo, concat}
 
@@ -12,16 +12,21 @@ bytes_given (Err fault) buffer = None
 abbrev pub ReadsOf : Type 0 → Type 1
 ReadsOf S = S → ℕ → Option (List ℕ) → S → Type 0
 
--- Reads, one after another, took a source from first to last, and gave these bytes together. Some
--- may have given none, into an empty buffer or at an end: that an end stays one, `reads` may say.
-pub record Gave (S : Type 0) (reads : ReadsOf S) (first : S) (bytes : List ℕ)
-    (last : S) : Type 0 where
+-- a read of a source, into a buffer of some length, gave some bytes
+pub record GivesSome (S : Type 0) (reads : ReadsOf S) (source : S) (piece : List ℕ) (after : S) : Type 0 where
+  pub room : ℕ
+  pub read : reads source room (Some piece) after
+  pub some : 0 < length piece
+
+-- Reads, one after another, each of which gave some bytes, took a source from first to last, and
+-- gave these bytes together.
+pub record Gave (S : Type 0) (reads : ReadsOf S) (first : S) (bytes : List ℕ) (last : S) : Type 0 where
   pub pieces : List (List ℕ)
-  pub calls : FoldsTo (λ s piece t. (room : ℕ) × reads s room (Some piece) t) first pieces last
+  pub calls : FoldsTo (GivesSome S reads) first pieces last
   pub whole : bytes ≡ concat pieces
 
--- Reads gave these bytes of a source, up to an end: after them one gave none, though its buffer had
--- room.
+-- Reads gave these bytes of a source, up to its first end: after them one gave none, though its
+-- buffer had room.
 pub record GaveAll (S : Type 0) (reads : ReadsOf S) (first : S) (bytes : List ℕ) : Type 0 where
   pub last : S
   pub given : Gave S reads first bytes last
@@ -31,8 +36,7 @@ pub record GaveAll (S : Type 0) (reads : ReadsOf S) (first : S) (bytes : List �
   pub end : reads last room (Some []) after
 
 -- Reads gave these bytes of a source, and then one failed.
-pub record BrokeOff (S : Type 0) (reads : ReadsOf S) (has_failed : S → Bool) (first : S)
-    (bytes : List ℕ) : Type 0 where
+pub record BrokeOff (S : Type 0) (reads : ReadsOf S) (has_failed : S → Bool) (first : S) (bytes : List ℕ) : Type 0 where
   pub last : S
   pub given : Gave S reads first bytes last
   pub room : ℕ

@@ -1,5 +1,6 @@
-use Rattle.std.proofs.Common.{◌≡◌, ℕ, List, None, rules, subst, sym, true}
+use Rattle.std.proofs.Common.{arith, ◌≡◌, ℕ, List, None, rules, subst, sym, true}
 use Rattle.std.specs.Io.KnownBytes.{Consumes}
+use Rattle.std.proofs.lemmas.List.{length-take-le}
 use Rattle.lrup_text.specs.Reads.{Gave, ReadsOf}
 use Rattle.command.specs.Commands.{HasBrokenOff, IsFailedRead, ReaderView}
 use Rattle.command.specs.declared.fault.CommandFault.{CommandFault}
@@ -12,8 +13,9 @@ pub loop-preserved : goal.loop-preserved
 loop-preserved g c =
     let read = c.in_ok-count.ensures in
     let items = c.in_ok-extend_from_slice.ensures.items in
+    let given = length-take-le _ _ read.bound in
     record {
-      gave = gave_more _ g.S.Source.reads _ _ _ _ _ _ _ c.loop.invariant.gave read.reads items;
+      gave = gave_more _ g.S.Source.reads _ _ _ _ _ _ _ c.loop.invariant.gave read.reads (omega (arith, given, c.if-count-eq0.false)) items;
       consumes = consumed_more _ _ _ _ _ _ c.loop.invariant.consumes read.bytes.0 items;
       running = read.failed;
       piece = search rules;
