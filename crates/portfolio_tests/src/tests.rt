@@ -23,6 +23,7 @@ mod assumptions;
 mod interleavings;
 mod isolation;
 mod line_orders;
+mod memory;
 mod readings;
 mod rows;
 mod serial;

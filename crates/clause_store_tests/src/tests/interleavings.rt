@@ -314,8 +314,8 @@ fn hammers(store: &Store, pass: &mut Pass, id: Id) -> Option<bool>
     None
 }
 
-/// How many clauses are hammered: it takes about a second.
-const HAMMERED: u64 = 3_000;
+/// How many clauses are hammered: it takes some seconds.
+const HAMMERED: u64 = 40_000;
 
 /// Publishes the clause of each line once eight others hammer at it.
 fn publish_hammered<R: Abort>(rt: &R, store: &Store, pass: &mut Pass, there: &AtomicU64)

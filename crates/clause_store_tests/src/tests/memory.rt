@@ -1,11 +1,12 @@
 //! What the calls of a store take of memory, which is nothing.
-ghost use Rattle.std.specs.Prelude.{◌≡◌};
-ghost use Rattle.clause_store.specs.Passes.{store_of};
+ghost use Rattle.std.specs.Prelude.{◌≡◌, IfOk};
+ghost use Rattle.clause_store.specs.Passes.{store_of, AreOf};
 ghost use Rattle.clause_store_tests.specs.Worked.{IsAt, raced};
 
 use super::{Found, finds_raced, holds, look, open_race, publish_raced, retire_raced, same};
 use clause_store::{Pass, Store};
-use lrup_model::{Fetched, Id, Published, Retired};
+use lrup_model::{Fetched, Formula, Id, Layout, Published, Retired};
+use std::alloc::Global;
 use std::process::Abort;
 use std::test::Fail;
 
@@ -63,6 +64,33 @@ fn the_last_allocation_comes_after_all_calls(rt: HostRuntime) -> Result<(), Fail
     let mut first = passes.pop().ok_or("one pass")?;
     call_often(&rt, &store, &mut first, &mut second);
     let _last: Vec<u8> = Vec::with_capacity(rt.alloc(), 1)?;
+    Ok(())
+}
+
+/// A store without clauses for two streams with one identity each, and their passes; a refused one is asked for once more.
+fn open_again(alloc: Global) -> Result<(Store, Vec<Pass>), Fail>
+    ensures { IfOk result (λ opened. AreOf opened.0 opened.1.items) }
+{
+    let formula = Formula::new(alloc, 2);
+    let layout = Layout::new(2, 0, 0, 2, 1, 2)?;
+    if !layout.fits(&formula) {
+        return Err("no layout".into());
+    }
+    match Store::open(alloc, &formula, layout) {
+        Ok(opened) => Ok(opened),
+        Err(_) => Ok(Store::open(alloc, &formula, layout)?),
+    }
+}
+
+/// The gate runs this test with each of its allocations refused, one after the other; the second opening then has memory.
+#[test]
+fn a_refused_store_can_be_opened_again(rt: HostRuntime) -> Result<(), Fail> {
+    let (store, mut passes) = open_again(rt.alloc())?;
+    same(&rt, passes.len(), 2);
+    let mut second = passes.pop().ok_or("no pass")?;
+    same(&rt, look(&store, &mut second, 1), Some(Found::Vacant));
+    holds(&rt, store.owns(&second, 2));
+    same(&rt, store.room(&second), 2);
     Ok(())
 }
 

@@ -6,7 +6,7 @@ ghost use Rattle.runs.specs.Closed.{CiteWithin, IsAt};
 ghost use Rattle.groups.specs.Groups.{one};
 ghost use Rattle.portfolio_tests.specs.Alone.{first_bytes, two_streams, usual, IsReportAlone};
 
-use super::{BOTH, By, Open, bad_line, ended, options, readers_of, reports_of, same};
+use super::{BOTH, By, Open, bad_line, defaults, ended, readers_of, reports_of, same};
 use groups::laws::{alone_has_one_report, readers_closed, told_is_reading};
 use lrup_model::Cube;
 use lrup_text::Source;
@@ -174,13 +174,10 @@ fn reports_of_an_import(rt: HostRuntime) -> Result<(), Fail> {
         ("5 1 0 1 3 0\n", bad_line(1, Fault::Differs(5))),
         ("", bad_line(1, Fault::Missing(5))),
     ] {
-        for by in BOTH {
-            let readers = readers_of(rt.alloc(), &[neighbour, "5 i 2 0\n"], 7)?;
-            let often = options(10_000, 65_536, 1_048_576);
-            let reports = reports_of(&rt, rt.alloc(), by, often, readers)?;
-            let said = reports.get(1).copied();
-            same(&rt, (by, neighbour, said), (by, neighbour, Some(wanted)));
-        }
+        let readers = readers_of(rt.alloc(), &[neighbour, "5 i 2 0\n"], 7)?;
+        let reports = reports_of(&rt, rt.alloc(), By::Turns, defaults(), readers)?;
+        let said = reports.get(1).copied();
+        same(&rt, (neighbour, said), (neighbour, Some(wanted)));
     }
     Ok(())
 }

@@ -139,10 +139,15 @@ fn always<T: Threads + Wait + Sync + Abort>(
     Ok(())
 }
 
-/// With one try more, stream 1 has asked for 6 in vain before stream 2 begins, and asks again once it is published.
+/// With one try more, stream 1 has asked for 6 in vain before stream 2 begins, and asks again once it is published. The last wait
+/// ends at once, since attempt 1 was told before: it is there to want that.
 #[test]
 fn a_hint_that_comes_at_the_second_try(rt: HostRuntime) -> Result<(), Fail> {
-    let holds = [until([2, 3, 1], [1, 6, 2]), until([1, 6, 2], [2, 6, 0])];
+    let holds = [
+        until([2, 3, 1], [1, 6, 2]),
+        until([1, 6, 2], [2, 6, 0]),
+        until([1, 6, 2], [1, 6, 1]),
+    ];
     let wanted = [ended(2, true), ended(1, false)];
     let wanted = (wanted.as_slice(), Verdict::Unsatisfiable);
     always(&rt, rt.alloc(), options(1, 2, 16), &CITING, &holds, wanted)
