@@ -11,7 +11,7 @@ use crate::setting::Setting;
 use lrup_model::{ClauseMap, Fetched, Id};
 
 /// Fetches an identity that was vacant again, until the reply isn't vacant, and so many times at most.
-// A call of it would hand each reply of `ask` back through memory, also where there is no second fetch.
+// Where it or `ask` is called and doesn't stand in place, each reply goes back through memory, also where there is no second fetch.
 #[inline(always)]
 fn fetch_again<M: ClauseMap, G: Gate>(most: u64, map: &mut M, gate: &mut G, id: Id) -> Fetched
     requires identity { IsIdentity (M.place map.old).caller.layout id }
