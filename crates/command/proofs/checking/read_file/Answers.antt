@@ -1,6 +1,6 @@
 use Rattle.std.proofs.Common.{◌∙◌, Err, ap, subst, sym}
 use Rattle.command.specs.Commands.{IsFileCause, files_view}
-use Rattle.command.proofs.CheckingLemmas.{err_given, if_err, if_ok}
+use Rattle.command.proofs.CheckingLemmas.{err_given, if_err}
 use Rattle.command.proofs.FileLemmas.{opening_cause, reading_cause, was_read}
 use Rattle.command.proofs.checking.read_file.Goals as goal
 
