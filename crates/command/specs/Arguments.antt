@@ -31,7 +31,8 @@ refusal_status kinds.OutOfMemory = status_of faults.Memory
 refusal_status kind = 2
 
 -- The program ends without arguments, and says why.
-pub record EndsWithoutArguments (kind : ErrorKind) (out err : SinkChange) (status : ℕ) : Type 0 where
+pub record EndsWithoutArguments (kind : ErrorKind) (out err : SinkChange)
+    (status : ℕ) : Type 0 where
   pub untouched : IsUntouched out
   pub said : Takes err (refusal_text kind)
   pub status_is : status ≡ refusal_status kind

@@ -63,7 +63,8 @@ pub record ReaderView (R : Type 0) : Type 0 where
 
 -- The reports and the verdict of a formula's streams. `entries` is what each stream's file told when it was opened; the readers
 -- are those of the streams in the end: one that has failed has left what its stream's file told after the bytes judged.
-pub record AreChecked (R : Type 0) (reading : ReaderView R) (serial : Bool) (f : Cnf) (terms : Terms)
+pub record AreChecked (R : Type 0) (reading : ReaderView R) (serial : Bool) (f : Cnf)
+    (terms : Terms)
     (entries : List (Option (List ℕ))) (reports : List Report) (verdict : Verdict) : Type 0 where
   pub layout : (fault : LayoutFault) → IsFault terms.layout fault → ⊥
   pub readers : List R
@@ -104,7 +105,8 @@ pub record WasRead (R : Type 0) (files : FilesView R) (path : Text) (bytes : Lis
 -- The words are a command line, and what was read of the file at its FORMULA is a text of a formula
 -- that no assignment satisfies.
 abbrev pub NameUnsatisfiable : (R : Type 0) → FilesView R → List Text → Type 0
-NameUnsatisfiable R files words = (given : CommandLine) × (bytes : List ℕ) × IsCommandLineOf words given
+NameUnsatisfiable R files words =
+    (given : CommandLine) × (bytes : List ℕ) × IsCommandLineOf words given
     × WasRead R files given.formula.now bytes × IsUnsatisfiableText bytes
 
 -- the formula whose text was read of the file at a path
@@ -114,7 +116,8 @@ IsFormulaAt R files path f = (bytes : List ℕ) × WasRead R files path bytes ×
 -- the assumed literals of the file at a path, over the variables 1 to vars; without a path there are none
 abbrev pub AreAssumed : (R : Type 0) → FilesView R → ℕ → Option Text → CubeValue → Type 0
 AreAssumed R files vars None cube = cube ≡ []
-AreAssumed R files vars (Some path) cube = (bytes : List ℕ) × WasRead R files path bytes × IsCubeText vars bytes cube
+AreAssumed R files vars (Some path) cube =
+    (bytes : List ℕ) × WasRead R files path bytes × IsCubeText vars bytes cube
 
 -- the path that is lent, if any
 abbrev pub path_of : Option (Bor Text) → Option Text
@@ -127,17 +130,21 @@ assumed_at given = path_of given.assume
 -- What was read of the file at the path of the words' formula is a text of a formula, and what was read of that of the assumed
 -- literals a text of a cube, under which no assignment satisfies the formula.
 abbrev pub NameUnsatisfiableUnder : (R : Type 0) → FilesView R → List Text → Type 0
-NameUnsatisfiableUnder R files words = (given : CommandLine) × (f : Cnf) × (cube : CubeValue) × IsCommandLineOf words given
-    × IsFormulaAt R files given.formula.now f × AreAssumed R files f.vars (assumed_at given) cube × IsUnsatisfiableUnder f cube
+NameUnsatisfiableUnder R files words =
+    (given : CommandLine) × (f : Cnf) × (cube : CubeValue) × IsCommandLineOf words given
+    × IsFormulaAt R files given.formula.now f × AreAssumed R files f.vars (assumed_at given) cube
+    × IsUnsatisfiableUnder f cube
 
 -- The files at the paths were opened, in order, as these readers.
 abbrev pub AreOpened : {R : Type 0} → (Text → R → Type 0) → List Text → List R → Type 0
 AreOpened opens [] [] = Unit {0}
-AreOpened opens (path ∷ paths) (reader ∷ readers) = opens path reader × AreOpened opens paths readers
+AreOpened opens (path ∷ paths) (reader ∷ readers) =
+    opens path reader × AreOpened opens paths readers
 AreOpened opens _ _ = ⊥
 
 -- The reports and the verdict that the words and the files come to. `readers` are the streams' files as they were opened.
-pub record IsOutcome (R : Type 0) (files : FilesView R) (words : List Text) (reports : List Report) (verdict : Verdict) : Type 0 where
+pub record IsOutcome (R : Type 0) (files : FilesView R) (words : List Text) (reports : List Report)
+    (verdict : Verdict) : Type 0 where
   pub given : CommandLine
   pub command_line : IsCommandLineOf words given
   pub formula : Cnf
@@ -147,13 +154,15 @@ pub record IsOutcome (R : Type 0) (files : FilesView R) (words : List Text) (rep
   pub readers : List R
   pub opened : AreOpened files.opens given.streams readers
   pub left : map files.reading.left readers ≡ map files.tells given.streams
-  pub checked : AreChecked R files.reading given.serial formula (terms_given given cube formula) (map files.tells given.streams) reports verdict
+  pub checked : AreChecked R files.reading given.serial formula (terms_given given cube formula)
+      (map files.tells given.streams) reports verdict
 
 -- Causes. Nothing shows afterwards that memory ran out or that a thread wasn't started, so these are taken as causes whatever the
 -- files hold.
 
 -- Reads of a file gave some bytes, and then one failed. If the device tells what was left of the file, it began with these bytes.
-pub record HasBrokenOff (R : Type 0) (reading : ReaderView R) (reads : ReadsOf R) (first : R) : Type 0 where
+pub record HasBrokenOff (R : Type 0) (reading : ReaderView R) (reads : ReadsOf R)
+    (first : R) : Type 0 where
   pub bytes : List ℕ
   pub broke : BrokeOff R reads reading.has_failed first bytes
   pub told : ForSome (reading.left first) (λ all. (rest : List ℕ) × (all ≡ bytes ++ rest))
@@ -181,7 +190,8 @@ IsFileCause R files path fault = ⊥
 abbrev pub IsReadCause : (R : Type 0) → FilesView R → Text → CommandFault → Type 0
 IsReadCause R files path faults.Unread = IsTrue (files.may_refuse path) ⊎ WasUnread R files path
 IsReadCause R files path (faults.Refused fault) =
-    (fault ≢ formulas.Memory) × ((bytes : List ℕ) × WasRead R files path bytes × IsFormulaFault bytes fault)
+    (fault ≢ formulas.Memory)
+    × ((bytes : List ℕ) × WasRead R files path bytes × IsFormulaFault bytes fault)
 IsReadCause R files path faults.Memory = Unit {0}
 IsReadCause R files path fault = ⊥
 
@@ -189,16 +199,19 @@ IsReadCause R files path fault = ⊥
 -- it holds no text of them; without a path there is no cause
 abbrev pub IsAssumeCause : (R : Type 0) → FilesView R → ℕ → Option Text → CommandFault → Type 0
 IsAssumeCause R files vars None fault = ⊥
-IsAssumeCause R files vars (Some path) faults.CubeUnread = IsTrue (files.may_refuse path) ⊎ WasUnread R files path
+IsAssumeCause R files vars (Some path) faults.CubeUnread =
+    IsTrue (files.may_refuse path) ⊎ WasUnread R files path
 IsAssumeCause R files vars (Some path) (faults.CubeRefused fault) =
-    (fault ≢ cubes.Memory) × ((bytes : List ℕ) × WasRead R files path bytes × IsCubeFault vars bytes fault)
+    (fault ≢ cubes.Memory)
+    × ((bytes : List ℕ) × WasRead R files path bytes × IsCubeFault vars bytes fault)
 IsAssumeCause R files vars (Some path) faults.Memory = Unit {0}
 IsAssumeCause R files vars (Some path) fault = ⊥
 
 -- why not all of the streams at these paths were opened: the file of one was refused, counted from 1
 abbrev pub IsOpenCause : (Text → Bool) → List Text → CommandFault → Type 0
 IsOpenCause may_refuse paths (faults.NotOpened stream) =
-    (place : ℕ) × (path : Text) × (stream ≡ place + 1) × (slice_get paths place ≡ Some path) × IsTrue (may_refuse path)
+    (place : ℕ) × (path : Text) × (stream ≡ place + 1) × (slice_get paths place ≡ Some path)
+    × IsTrue (may_refuse path)
 IsOpenCause may_refuse paths faults.Memory = Unit {0}
 IsOpenCause may_refuse paths fault = ⊥
 
@@ -220,13 +233,15 @@ IsCauseAt R files given fault =
     ⊎ ((f : Cnf) × IsFormulaAt R files given.formula.now f
     × (IsAssumeCause R files f.vars (assumed_at given) fault
     ⊎ ((cube : CubeValue) × AreAssumed R files f.vars (assumed_at given) cube
-    × (IsOpenCause files.may_refuse given.streams fault ⊎ IsRunCause given.serial (layout_at given f) fault))))
+    × (IsOpenCause files.may_refuse given.streams fault
+    ⊎ IsRunCause given.serial (layout_at given f) fault))))
 
 -- Why there is no outcome, by the words and the files.
 abbrev pub IsCause : (R : Type 0) → FilesView R → List Text → CommandFault → Type 0
 IsCause R files words (faults.Usage text) = HaveFault words
 IsCause R files words faults.Memory = Unit {0}
-IsCause R files words fault = (given : CommandLine) × IsCommandLineOf words given × IsCauseAt R files given fault
+IsCause R files words fault =
+    (given : CommandLine) × IsCommandLineOf words given × IsCauseAt R files given fault
 
 -- What goes out.
 
@@ -243,7 +258,8 @@ change before after failed = record { before = before; after = after; failed = f
 -- a text went out to the sink; or a beginning of it, where the sink failed
 abbrev pub TakesUnlessFailed : Bool → Option (List ℕ) → Option (List ℕ) → List ℕ → Type 0
 TakesUnlessFailed false before after text = Appends before after text
-TakesUnlessFailed true before after text = (went rest : List ℕ) × (text ≡ went ++ rest) × Appends before after went
+TakesUnlessFailed true before after text =
+    (went rest : List ℕ) × (text ≡ went ++ rest) × Appends before after went
 
 abbrev pub Takes : SinkChange → List ℕ → Type 0
 Takes sink text = TakesUnlessFailed sink.failed sink.before sink.after text
@@ -269,7 +285,8 @@ SaysOfReport true err = Takes err (text_of faults.Unwritten)
 SaysOfReport false err = IsUntouched err
 
 -- The program ends with a report.
-pub record EndsWithReport (R : Type 0) (files : FilesView R) (words : List Text) (out err : SinkChange) (status : ℕ) : Type 0 where
+pub record EndsWithReport (R : Type 0) (files : FilesView R) (words : List Text)
+    (out err : SinkChange) (status : ℕ) : Type 0 where
   pub reports : List Report
   pub verdict : Verdict
   pub outcome : IsOutcome R files words reports verdict
@@ -278,7 +295,8 @@ pub record EndsWithReport (R : Type 0) (files : FilesView R) (words : List Text)
   pub status_is : status ≡ report_status out.failed verdict
 
 -- The program ends without one, and says why.
-pub record EndsWithFault (R : Type 0) (files : FilesView R) (words : List Text) (out err : SinkChange) (status : ℕ) : Type 0 where
+pub record EndsWithFault (R : Type 0) (files : FilesView R) (words : List Text)
+    (out err : SinkChange) (status : ℕ) : Type 0 where
   pub fault : CommandFault
   pub cause : IsCause R files words fault
   pub untouched : IsUntouched out

@@ -70,11 +70,14 @@ status_of faults.Unwritten = 7
 abbrev pub formula_fault_text : DimacsFault → List ℕ
 formula_fault_text formulas.NoHeader = codes "formula refused: no header"
 formula_fault_text formulas.BadHeader = codes "formula refused: bad header"
-formula_fault_text (formulas.BadNumber line) = codes "formula refused: bad number in line " ++ decimal line
-formula_fault_text (formulas.VariableRange line) = codes "formula refused: variable out of range in line " ++ decimal line
+formula_fault_text (formulas.BadNumber line) =
+    codes "formula refused: bad number in line " ++ decimal line
+formula_fault_text (formulas.VariableRange line) =
+    codes "formula refused: variable out of range in line " ++ decimal line
 formula_fault_text formulas.OpenClause = codes "formula refused: open clause"
 formula_fault_text formulas.TooFew = codes "formula refused: too few clauses"
-formula_fault_text (formulas.TooMany line) = codes "formula refused: too many clauses in line " ++ decimal line
+formula_fault_text (formulas.TooMany line) =
+    codes "formula refused: too many clauses in line " ++ decimal line
 formula_fault_text formulas.Limit = codes "formula refused: limit"
 formula_fault_text formulas.Memory = codes "out of memory"
 

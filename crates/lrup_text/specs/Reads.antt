@@ -13,14 +13,16 @@ abbrev pub ReadsOf : Type 0 → Type 1
 ReadsOf S = S → ℕ → Option (List ℕ) → S → Type 0
 
 -- a read of a source, into a buffer of some length, gave some bytes
-pub record GivesSome (S : Type 0) (reads : ReadsOf S) (source : S) (piece : List ℕ) (after : S) : Type 0 where
+pub record GivesSome (S : Type 0) (reads : ReadsOf S) (source : S) (piece : List ℕ)
+    (after : S) : Type 0 where
   pub room : ℕ
   pub read : reads source room (Some piece) after
   pub some : 0 < length piece
 
 -- Reads, one after another, each of which gave some bytes, took a source from first to last, and
 -- gave these bytes together.
-pub record Gave (S : Type 0) (reads : ReadsOf S) (first : S) (bytes : List ℕ) (last : S) : Type 0 where
+pub record Gave (S : Type 0) (reads : ReadsOf S) (first : S) (bytes : List ℕ)
+    (last : S) : Type 0 where
   pub pieces : List (List ℕ)
   pub calls : FoldsTo (GivesSome S reads) first pieces last
   pub whole : bytes ≡ concat pieces
@@ -36,7 +38,8 @@ pub record GaveAll (S : Type 0) (reads : ReadsOf S) (first : S) (bytes : List �
   pub end : reads last room (Some []) after
 
 -- Reads gave these bytes of a source, and then one failed.
-pub record BrokeOff (S : Type 0) (reads : ReadsOf S) (has_failed : S → Bool) (first : S) (bytes : List ℕ) : Type 0 where
+pub record BrokeOff (S : Type 0) (reads : ReadsOf S) (has_failed : S → Bool) (first : S)
+    (bytes : List ℕ) : Type 0 where
   pub last : S
   pub given : Gave S reads first bytes last
   pub room : ℕ

@@ -25,7 +25,8 @@ max_tries = setting.max_tries
 
 -- the layout of a formula and so many streams
 abbrev pub layout_of : OptionsValue → Cnf → ℕ → LayoutValue
-layout_of options f streams = layout_value f.vars (length f.clauses) (literals_of f) streams options.lines options.room
+layout_of options f streams =
+    layout_value f.vars (length f.clauses) (literals_of f) streams options.lines options.room
 
 -- what a run of a formula and so many streams is checked by, under a cube
 abbrev pub terms_of : OptionsValue → CubeValue → Cnf → ℕ → Terms
@@ -35,7 +36,8 @@ terms_of options cube f streams = terms_at (layout_of options f streams) cube op
 -- some stream added a clause within the cube.
 abbrev pub verdict_of : List Report → Verdict
 verdict_of reports =
-    if list_any (λ report. report.empty) reports then Unsatisfiable else if list_any (λ report. report.within) reports then UnsatisfiableUnder else Unknown
+    if list_any (λ report. report.empty) reports then Unsatisfiable
+    else if list_any (λ report. report.within) reports then UnsatisfiableUnder else Unknown
 
 -- a run answers that there is no layout exactly where these numbers have none, and says why
 abbrev pub IsLayoutFault : {T : Type 0} → Result T RunFault → LayoutValue → Type 0

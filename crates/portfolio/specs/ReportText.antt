@@ -10,14 +10,16 @@ use Rattle.portfolio.specs.declared.outcome.Verdict.TheVariants as verdicts
 
 abbrev pub ending_text : Ending → List ℕ
 ending_text endings.Ended = codes "ended"
-ending_text (endings.Bad line fault) = codes "bad line " ++ decimal line ++ codes " (" ++ fault_text fault ++ codes ")"
+ending_text (endings.Bad line fault) =
+    codes "bad line " ++ decimal line ++ codes " (" ++ fault_text fault ++ codes ")"
 ending_text (endings.ReadFailed line) = codes "read failed at line " ++ decimal line
 ending_text (endings.Memory line) = codes "out of memory at line " ++ decimal line
 
 -- the line of a stream, from 1 on, ended by LF
 abbrev pub stream_line : ℕ → Report → List ℕ
 stream_line s r =
-    codes "c stream " ++ decimal s ++ codes ": " ++ decimal r.added ++ codes " added, " ++ decimal r.deleted ++ codes " deleted, "
+    codes "c stream " ++ decimal s ++ codes ": " ++ decimal r.added ++ codes " added, "
+    ++ decimal r.deleted ++ codes " deleted, "
     ++ ending_text r.ending ++ codes "\n"
 
 -- the lines of the streams, counted on from s

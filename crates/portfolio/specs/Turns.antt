@@ -23,20 +23,23 @@ pub record HasRun (f : Cnf) (p : LayoutValue) (blocks : List Block) (map : Plain
   pub room : (s : ℕ) → IsStream p s → free_at map s + spent s (events_in blocks) ≡ p.room
 
 -- the worker is stream s's, has come to this by the stream's blocks, and can go on at the map
-pub record IsWorking (terms : Terms) (blocks : List Block) (map : Plain) (s : ℕ) (entry : Option (List ℕ)) (w : WorkerValue) : Type 0 where
+pub record IsWorking (terms : Terms) (blocks : List Block) (map : Plain) (s : ℕ)
+    (entry : Option (List ℕ)) (w : WorkerValue) : Type 0 where
   pub setting : w.checker.setting ≡ setting_of terms s
   pub works : Works entry w (free_at map s) (blocks_of s blocks)
   pub ready : IsReadyAt w.checker (plain_place map s)
 
 -- so it is with each worker, counted on from s
-abbrev pub AreWorking : Terms → List Block → Plain → ℕ → List (Option (List ℕ)) → List WorkerValue → Type 0
+abbrev pub AreWorking : Terms → List Block → Plain → ℕ → List (Option (List ℕ)) → List WorkerValue
+    → Type 0
 AreWorking terms blocks map s [] [] = Unit {0}
 AreWorking terms blocks map s (entry ∷ entries) (w ∷ ws) =
     IsWorking terms blocks map s entry w × AreWorking terms blocks map (s + 1) entries ws
 AreWorking terms blocks map s _ _ = ⊥
 
 -- A run between two turns: its map is that of the blocks so far, and each worker has come to what its own blocks say.
-pub record Runs (f : Cnf) (terms : Terms) (entries : List (Option (List ℕ))) (map : Plain) (workers : List WorkerValue) : Type 0 where
+pub record Runs (f : Cnf) (terms : Terms) (entries : List (Option (List ℕ))) (map : Plain)
+    (workers : List WorkerValue) : Type 0 where
   pub count : length workers ≡ terms.layout.streams
   pub blocks : List Block
   pub map_is : HasRun f terms.layout blocks map
@@ -45,7 +48,8 @@ pub record Runs (f : Cnf) (terms : Terms) (entries : List (Option (List ℕ))) (
 -- the run of some formula, layout and readers stands here
 abbrev pub IsRunning : Plain → List WorkerValue → Type 0
 IsRunning map workers =
-    (f : Cnf) × (terms : Terms) × (entries : List (Option (List ℕ))) × Runs f terms entries map workers
+    (f : Cnf) × (terms : Terms) × (entries : List (Option (List ℕ)))
+    × Runs f terms entries map workers
 
 -- whatever run stood at the one moment stands at the other
 abbrev pub GoesOn : Plain → List WorkerValue → Plain → List WorkerValue → Type 0
@@ -66,12 +70,14 @@ IsOverAt ws i = IfSome (slice_get ws i) IsOver
 -- the workers of the streams counted on from s, before their first bytes
 abbrev pub AreStarted : Terms → ℕ → List (Option (List ℕ)) → List WorkerValue → Type 0
 AreStarted terms s [] [] = Unit {0}
-AreStarted terms s (entry ∷ entries) (w ∷ ws) = IsStarted terms s entry w × AreStarted terms (s + 1) entries ws
+AreStarted terms s (entry ∷ entries) (w ∷ ws) =
+    IsStarted terms s entry w × AreStarted terms (s + 1) entries ws
 AreStarted terms s _ _ = ⊥
 
 -- the reports of workers that are over
 abbrev pub HaveReports : List WorkerValue → List Report → Type 0
 HaveReports [] [] = Unit {0}
 HaveReports (w ∷ ws) (report ∷ reports) =
-    ((ending : Ending) × (w.checker.ending ≡ Some ending) × (report ≡ report_at w.checker.tally ending)) × HaveReports ws reports
+    ((ending : Ending) × (w.checker.ending ≡ Some ending)
+    × (report ≡ report_at w.checker.tally ending)) × HaveReports ws reports
 HaveReports _ _ = ⊥

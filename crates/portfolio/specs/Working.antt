@@ -31,7 +31,8 @@ Works entry w free blocks = WorksBy w.checker.ending entry w free blocks
 -- whatever came before, these blocks more bring the one worker to the other
 abbrev pub WorksOn : WorkerValue → ℕ → List History → WorkerValue → ℕ → Type 0
 WorksOn old room blocks new left =
-    (entry : Option (List ℕ)) (before : List History) → Works entry old room before → Works entry new left (before ++ blocks)
+    (entry : Option (List ℕ)) (before : List History) → Works entry old room before
+    → Works entry new left (before ++ blocks)
 
 -- a worker has a buffer, whose unread bytes lie between two places, and reads only where its reader hasn't failed
 pub record IsWorker (has_failed : Bool) (size from to : ℕ) (ending : Option Ending) : Type 0 where
@@ -41,7 +42,8 @@ pub record IsWorker (has_failed : Bool) (size from to : ℕ) (ending : Option En
   pub running : ending ≡ None → has_failed ≡ false
 
 -- a worker of this stream before its first byte, whose reader has this left
-pub record IsStarted (terms : Terms) (s : ℕ) (entry : Option (List ℕ)) (w : WorkerValue) : Type 0 where
+pub record IsStarted (terms : Terms) (s : ℕ) (entry : Option (List ℕ))
+    (w : WorkerValue) : Type 0 where
   pub setting : w.checker.setting ≡ setting_of terms s
   pub last : w.checker.last ≡ terms.layout.clauses
   pub ending : w.checker.ending ≡ None

@@ -88,7 +88,8 @@ pub(crate) fn workers_of<R: Source + Drop, G: Gate + Drop>(
     requires streams { layout.now.streams ≡ length readers.items }
     requires tries { tries ≤ max_tries }
     ensures { IfOk result (λ workers.
-        AreStarted (terms_at layout.now cube.now tries) 1 (map R.left readers.items) workers.items) }
+        AreStarted (terms_at layout.now cube.now tries) 1 (map R.left readers.items)
+        workers.items) }
 {
     let mut workers = Vec::with_capacity(alloc, readers.len())?;
     for (reader, gate) in readers.into_iter().zip(gates) {

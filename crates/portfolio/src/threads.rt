@@ -68,7 +68,8 @@ pub fn run<T: Threads + Wait + Sync, R: Source + Send + Drop, G: Gate + Send + D
         streams outcome.reports.items) outcome.reports.items) }
     // The lines are serializable: those of each closed set of streams have an order, where what
     // they found live of one another isn't left retired.
-    ensures serializable { let terms = terms_of options cube.now formula.now (length readers.items) in
+    ensures serializable { let terms = terms_of options cube.now formula.now
+        (length readers.items) in
         IfOk result (λ outcome. IsSerializable formula.now terms (map R.left readers.items)
         (map R.left outcome.readers.items) (map R.has_failed outcome.readers.items)
         (seen_by (views outcome.passes.items)) outcome.reports.items) }

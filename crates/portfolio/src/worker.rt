@@ -62,7 +62,8 @@ impl<R: Source + Drop, G: Gate + Drop> Worker<R, G> {
         requires running { R.has_failed reader ≡ false }
         requires stream { IsStream layout.now stream }
         requires tries { tries ≤ max_tries }
-        ensures { IfOk result (IsStarted (terms_at layout.now cube.now tries) stream (R.left reader)) }
+        ensures { IfOk result
+            (IsStarted (terms_at layout.now cube.now tries) stream (R.left reader)) }
     {
         Ok(Worker {
             reader,

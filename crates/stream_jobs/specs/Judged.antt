@@ -20,8 +20,10 @@ IsReadOut stream = (stream.stop ≡ at_end) ⊎ (stream.stop ≡ at_failure)
 
 -- The items received end at a mark; and the bytes before it, with the end that the mark tells and these blocks of events, are
 -- judged so, where no byte had been taken when the checker had this room.
-pub record JudgesAtMark (v : CheckerValue) (room : ℕ) (items : List ℕ) (blocks : List History) (report : Report) : Type 0 where
+pub record JudgesAtMark (v : CheckerValue) (room : ℕ) (items : List ℕ) (blocks : List History)
+    (report : Report) : Type 0 where
   pub bytes : List ℕ
   pub has_failed : Bool
   pub marked : EndsAtMark bytes has_failed items
-  pub judged : Leaves v.setting [] [] (state_of v room) → JudgesBlocks v.setting bytes (end_of has_failed) blocks report
+  pub judged : Leaves v.setting [] [] (state_of v room)
+      → JudgesBlocks v.setting bytes (end_of has_failed) blocks report

@@ -177,7 +177,8 @@ fn check_received<W: Wait, G: Gate, M: ClauseMap>(
     ensures took { let old = state_of checker.old (M.place map.old).room in
         let new = state_of checker.new (M.place map.new).room in
         IfSome result (λ failed. (fed : List ℕ) × (blocks : List History)
-        × M.moves map.old map.new (joined blocks) × EndsAtMark fed failed (received receiver.new.consumer)
+        × M.moves map.old map.new (joined blocks)
+        × EndsAtMark fed failed (received receiver.new.consumer)
         × LeavesOn checker.old.setting old fed blocks new) }
 {
     for _ in wait.forever() {

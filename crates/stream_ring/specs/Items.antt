@@ -29,7 +29,8 @@ pub record EndsAtMark (bytes : List ℕ) (failed : Bool) (items : List ℕ) : Ty
   pub items_are : items ≡ taken ++ mark ∷ []
 
 -- what came through: the bytes are those that the reader told, and the mark says whether it failed
-pub record CameThrough (before after : Option (List ℕ)) (has_failed failed : Bool) (bytes : List ℕ) : Type 0 where
+pub record CameThrough (before after : Option (List ℕ)) (has_failed failed : Bool)
+    (bytes : List ℕ) : Type 0 where
   pub told : Consumes before after bytes
   pub all : failed ≡ false → IsAtEnd after
   pub failed_is : failed ≡ has_failed

@@ -20,7 +20,8 @@ pub record JobsValue : Type 0 where
   pub pass : PassValue
 
 -- the jobs of a stream, from 1 on, before its first byte: what its reader has left, a checker of that stream, and its pass
-pub record IsJob (terms : Terms) (s : ℕ) (entry : Option (List ℕ)) (at : PassValue) (jobs : JobsValue) : Type 0 where
+pub record IsJob (terms : Terms) (s : ℕ) (entry : Option (List ℕ)) (at : PassValue)
+    (jobs : JobsValue) : Type 0 where
   pub left : jobs.left ≡ entry
   pub checker : IsNew terms.layout terms.cube s terms.tries jobs.checker
   pub pass : jobs.pass ≡ at
@@ -45,7 +46,8 @@ pub record CanBegin (store : StoreValue) (jobs : JobsValue) : Type 0 where
   pub ready : IsReadyAt jobs.checker (pass_place jobs.pass.view)
 
 -- the report judges the bytes received up to a mark by the calls that the pass made since
-pub record JudgesAtPass (v : CheckerValue) (old new : PassValue) (items : List ℕ) (report : Report) : Type 0 where
+pub record JudgesAtPass (v : CheckerValue) (old new : PassValue) (items : List ℕ)
+    (report : Report) : Type 0 where
   pub store : store_of new ≡ store_of old
   pub blocks : List History
   pub moves : PassMoves old.view new.view (joined blocks)
@@ -57,8 +59,10 @@ pub record Finishes (jobs : JobsValue) (found : FoundValue) : Type 0 where
   pub store : store_of found.pass ≡ store_of jobs.pass
   pub blocks : List History
   pub moves : PassMoves jobs.pass.view found.pass.view (joined blocks)
-  pub judged : Leaves jobs.checker.setting [] [] (state_of jobs.checker (pass_place jobs.pass.view).room)
-      → (stream : Stream) × IsReadOut stream × IsTold jobs.left found.left found.has_failed stream × JudgesStream jobs.checker.setting stream blocks found.report
+  pub judged : Leaves jobs.checker.setting [] []
+      (state_of jobs.checker (pass_place jobs.pass.view).room)
+      → (stream : Stream) × IsReadOut stream × IsTold jobs.left found.left found.has_failed stream
+      × JudgesStream jobs.checker.setting stream blocks found.report
 
 -- what was found of each stream, in order
 abbrev pub AllFinish : List JobsValue → List FoundValue → Type 0

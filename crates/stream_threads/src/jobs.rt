@@ -67,7 +67,8 @@ impl<R: Source + Drop, G: Gate + Drop> StreamJobs<R, G> {
         requires stream { IsStream layout.now stream }
         requires tries { tries ≤ max_tries }
         ensures left { IfOk result (λ jobs. jobs.left ≡ R.left reader) }
-        ensures checker { IfOk result (λ jobs. IsNew layout.now cube.now stream tries jobs.checker) }
+        ensures checker { IfOk result
+            (λ jobs. IsNew layout.now cube.now stream tries jobs.checker) }
         ensures pass { IfOk result (λ jobs. jobs.pass ≡ pass) }
     {
         let (reading, checking) = jobs(alloc, reader, gate, stream, layout, cube, tries)?;

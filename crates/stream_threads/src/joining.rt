@@ -142,8 +142,10 @@ fn all_found<R: Source + Drop>(
     requires none { found.items ≡ [] }
     requires room { vec_len ends ≤ vec_capacity found }
     ensures found { IfOk result (λ all. ends.items ≡ map (λ f. Some f) all.items) }
-    ensures first { IfErr result (λ fault. (before : List FoundValue) × (after : List (Option FoundValue))
-        × (ends.items ≡ map (λ f. Some f) before ++ None ∷ after) × (fault ≡ Ring (length before + 1))) }
+    ensures first { IfErr result (λ fault. (before : List FoundValue)
+        × (after : List (Option FoundValue))
+        × (ends.items ≡ map (λ f. Some f) before ++ None ∷ after)
+        × (fault ≡ Ring (length before + 1))) }
 {
     for end in ends {
         let Some(one) = end else {
