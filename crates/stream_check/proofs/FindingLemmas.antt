@@ -13,7 +13,7 @@ use Rattle.lrup_model.specs.Propagation.{IsConflict, IsUnit, Refutes}
 use Rattle.lrup_model.specs.Laws.{PropagationSound}
 use Rattle.lrup_model.specs.Distinct.{distinct}
 use Rattle.lrup_model.specs.ClauseLemmas.{int_cases}
-use Rattle.lrup_model.specs.DistinctLemmas.{Has-from_distinct, Has-distinct, IsTautology-distinct}
+use Rattle.lrup_model.specs.DistinctLemmas.{Has-distinct, IsTautology-distinct}
 use Rattle.stream_check.specs.declared.fault.Fault.{Fault}
 use Rattle.stream_check.specs.declared.fault.Fault.TheVariants as faults
 use Rattle.stream_check.specs.Setting.{Setting, Side, formula, own, foreign, outside, side_of}
