@@ -395,8 +395,9 @@ fn publish_or_hammer<R: Abort + Clock>(
     }
 }
 
-/// Eight threads fetch as fast as they can while one publishes, for two seconds or three. No gate can stand between the stores of a clause's literals and
-/// the exchange that makes it live; whoever finds it live reads the whole clause.
+/// Eight threads fetch as fast as they can while one publishes, for two to three seconds or until all is published. No gate can
+/// stand between the stores of a clause's literals and the exchange that makes it live; whoever finds it live reads the whole
+/// clause.
 #[test]
 fn eight_threads_hammer(rt: HostRuntime) -> Result<(), Fail> {
     let (store, mut passes) = open_race(rt.alloc(), 9, HAMMERED, 6 * HAMMERED)?;
