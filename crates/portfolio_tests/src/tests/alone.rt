@@ -37,7 +37,8 @@ fn two_readers<'a>(
     neighbour: &'a str,
 ) -> Result<Vec<Pieces<'a>>, Fail>
     ensures two { IfOk result (λ readers. length readers.items ≡ 2) }
-    ensures running { IfOk result (λ readers. AllByRecursion (λ r. r.failed ≡ false) readers.items) }
+    ensures running { IfOk result (λ readers.
+        AllByRecursion (λ r. r.failed ≡ false) readers.items) }
     ensures first { IfOk result (λ readers.
         IsAt (map (λ r. Some r.left.now) readers.items) 1 (Some first.now)) }
 {
