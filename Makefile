@@ -69,7 +69,7 @@ neighbours: build c-and-python
 
 # Runs with each allocation, read, write and thread refused in turn.
 sweep: build c-and-python
-	@python3 gate/sweep.py $(PROGRAM)
+	@python3 gate/sweep.py $(PROGRAM) $(RT)
 
 # Writes docs/AUDIT.md: what one has to read to believe status 0 and the headline, word for word from the sources.
 audit:
@@ -91,7 +91,7 @@ test: toolchain pages solver
 	$(RT) ci | tee "$$log" && sh examples/compare.sh $(PROGRAM) && sh examples/groups.sh $(PROGRAM) && \
 	sh examples/words.sh $(PROGRAM) && sh examples/live.sh $(PROGRAM) && python3 examples/solver/test.py $(PROGRAM) $(SOLVER) && \
 	python3 tools/test.py $(PROGRAM) && python3 examples/neighbours.py $(PROGRAM) && \
-	python3 gate/sweep.py $(PROGRAM) && sh gate/allocations.sh $(RT) && tail -n 1 "$$log"
+	python3 gate/sweep.py $(PROGRAM) $(RT) && sh gate/allocations.sh $(RT) && tail -n 1 "$$log"
 
 toolchain:
 	@command -v $(RT) > /dev/null || { echo "lrupd needs Rattle's toolchain: no command '$(RT)' is on the PATH"; exit 1; }

@@ -1,6 +1,6 @@
 #!/bin/sh
 # Runs tests with one allocation refused, the first, the second and so on, and looks at how they end. It proves nothing. It ends
-# with status 1 where one ends in another way than is wanted. The program itself is swept by sweep.py.
+# with status 1 where one ends in another way than is wanted. The program, runs and two openings are swept by sweep.py.
 #
 #     sh gate/allocations.sh rt
 #

@@ -1,10 +1,12 @@
 #!/usr/bin/env python3
 """Refuses each allocation, read, write and thread of the program in turn, and compares each answer with those that may be.
 
-    sweep.py PROGRAM
+    sweep.py PROGRAM RT
 
 It builds refuse.c, which the loader puts before the C library, and runs PROGRAM with the first call of a kind refused, then
-with the second, and so on until a run meets no refusal; that run has to give the ample answer.
+with the second, and so on until a run meets no refusal; that run has to give the ample answer. Then it does so with a few
+tests: runs without the program around them, and calls that can be made again. They are as `rt ci` built them; where there are
+none, RT, Rattle's command, makes them.
 """
 import functools
 import itertools
@@ -18,6 +20,8 @@ from collections import namedtuple
 from pathlib import Path
 
 Answer = namedtuple("Answer", "status out err")
+# A test, what it tells where an allocation is refused, and how many streams it starts threads for.
+Test = namedtuple("Test", "crate name told streams")
 ROOT = Path(__file__).resolve().parent.parent
 EXAMPLES = ROOT / "examples"
 FOUR_CLAUSE = EXAMPLES / "four-clause.cnf"
@@ -237,8 +241,63 @@ def kinds(given):
         yield "write", how
 
 
+def tests():
+    """The tests that are swept. Each cause that one may tell has to come."""
+    memory = ["AllocError", "Memory"]  # of what the test makes by itself, and of the run's
+
+    def reported(added, ending):
+        return f"Report {{ added: {added}, deleted: 0, empty: false, within: false, ending: {ending} }}"
+
+    refused, other = reported(0, "Memory(1)"), reported(1, "Ended")
+    for name, streams, reports in [("two_streams", 2, []), ("a_dropped_clause", 1, [f"[{refused}]"]),
+                                   ("a_dropped_clause_beside_another", 2, [f"[{refused}, {other}]"])]:
+        starts = [f"Spawn({number})" for number in range(1, streams + 1)]
+        yield Test("portfolio", f"memory::{name}_by_threads", memory + starts + reports, streams)
+        yield Test("portfolio", f"memory::{name}_by_turns", memory + reports, 0)
+    yield Test("clause_store", "memory::a_refused_store_can_be_opened_again", [], 0)
+    yield Test("dimacs", "a_refused_text_can_be_parsed_again", [], 0)
+
+
+def program_of_tests(crate, rt):
+    folder = ROOT / "crates" / f"{crate}_tests"
+    program = folder / "out" / f"{crate}_tests_tests"
+    if not program.exists():
+        subprocess.run([rt, "test"], cwd=folder, stdout=subprocess.DEVNULL, check=True)
+    return program
+
+
+def told(answer):
+    """What a test tells that failed; nothing where it passed."""
+    found = re.fullmatch(r"error: (.*)\nthe test failed: its result gives status 1\n", answer.err)
+    return "" if answer.status == 0 else found[1] if found else str(answer)
+
+
+def sweep_test(machine, test, kind):
+    """How many calls were refused, and what the test may not tell."""
+    wrong, causes = [], set()
+    for number in itertools.count(1):
+        answer, refused, seconds = machine.run([f"tests::{test.name}"], f"{kind}:{number}")
+        cause = told(answer)
+        if not refused:
+            break
+        causes.add(cause)
+        if kind == "thread":
+            right = test.streams > 0 and cause == f"Spawn({(number - 1) % test.streams + 1})"
+        else:
+            right = cause in test.told or not cause
+        if not right or "Spawn" in cause and seconds > SECONDS:
+            wrong.append(f"{test.name}, {kind}:{number}, {seconds:.1f} s: {cause}")
+    if cause:
+        wrong.append(f"{test.name}, nothing refused: {cause}")
+    if kind == "allocate":
+        wrong += [f"{test.name}, never told: {never}" for never in test.told if never not in causes]
+    if number - 1 != 2 * test.streams if kind == "thread" else number == 1:
+        wrong.append(f"{test.name}, {number - 1} calls refused: {kind}")
+    return number - 1, wrong
+
+
 def main():
-    if len(sys.argv) != 2:
+    if len(sys.argv) != 3:
         sys.exit(__doc__)
     began, refused, wrong, allocations = time.monotonic(), {}, [], {}
     with tempfile.TemporaryDirectory() as name:
@@ -251,6 +310,12 @@ def main():
                 wrong += answers
                 if kind == "allocate":
                     allocations[given.name] = count
+        for test in tests():
+            machine = Machine(program_of_tests(test.crate, sys.argv[2]), folder)
+            for kind in ["allocate", "thread"]:
+                count, answers = sweep_test(machine, test, kind)
+                refused[kind] += count
+                wrong += answers
     for kind in ["", " --serial"]:
         one, many = allocations[ONE_LINE + kind], allocations[MANY_LINES + kind]
         if one != many:

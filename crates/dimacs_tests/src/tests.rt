@@ -175,12 +175,20 @@ fn memory_text(rt: HostRuntime) -> Result<(), Fail> {
     Ok(())
 }
 
-// With an allocation that fails the answer is `Memory`, and else the formula.
+/// The gate runs this test with each of its allocations refused, one after the other; the second attempt then has memory.
 #[test]
-fn growth(rt: HostRuntime) {
+fn a_refused_text_can_be_parsed_again(rt: HostRuntime) -> Result<(), Fail> {
     let text = b"p cnf 9 3\n1 -2 0\n1 2 3 4 5 6 7 8 9 -1 -2 -3 0\n9 0\n";
-    match parse(rt.alloc(), text) {
-        Ok(formula) => assert_eq!(rt; formula.literals(), 15),
-        Err(fault) => assert_eq!(rt; fault, DimacsFault::Memory),
-    }
+    let formula = match parse(rt.alloc(), text) {
+        Ok(formula) => formula,
+        Err(fault) => {
+            assert_eq!(rt; fault, DimacsFault::Memory);
+            parse(rt.alloc(), text)?
+        }
+    };
+    assert_eq!(rt;
+        (formula.vars(), formula.len(), formula.literals()),
+        (9, 3, 15)
+    );
+    Ok(())
 }

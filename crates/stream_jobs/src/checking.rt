@@ -19,7 +19,7 @@ use stream_check::{Checker, Gate, Report, Turn};
 use stream_ring::{Received, Receiver, told};
 
 /// The most items that are popped, and the most bytes that are fed, at once.
-const POPPED: usize = 16_384;
+const POPPED: usize = 65_536;
 
 /// What a checking thread is given: a stream's checker and its gate, and its end of the ring, of which nothing was received yet.
 #[derive(Drop)]

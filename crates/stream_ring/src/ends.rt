@@ -183,14 +183,6 @@ impl Receiver {
         consumer
     }
 
-    /// Wakes the other end once at most half of the ring is known to be full, so that it isn't woken for each piece that was popped.
-    /// It does so at the latest with the last item that is known, and so before this end can sleep.
-    fn ring_for_room(&self) {
-        if self.consumer.cached_slots() <= self.consumer.capacity() / 2 {
-            self.room.ring();
-        }
-    }
-
     /// Pops at least one item, and sleeps while there is none. 0 where the other end is gone.
     fn pop_some<W: Wait>(&mut self, wait: &W, items: &mut [u16]) -> usize
         requires { 0 < length items.old }
@@ -204,7 +196,7 @@ impl Receiver {
         for _ in wait.forever() {
             let count = self.consumer.pop_partial_slice(items);
             if count > 0 {
-                self.ring_for_room();
+                self.room.ring();
                 return count;
             }
             if gone {

@@ -18,6 +18,7 @@ use std::process::Abort;
 use std::sync::atomic::{AtomicU64, Ordering};
 use std::test::Fail;
 use std::thread::{Threads, for_each_mut, join, yield_now};
+use std::time::{Clock, Duration};
 use test_support::lit;
 
 /// Retires 6 and publishes 8, and then stays until the other thread has read its clip. Was that in time?
@@ -314,27 +315,59 @@ fn hammers(store: &Store, pass: &mut Pass, id: Id) -> Option<bool>
     None
 }
 
-/// How many clauses are hammered: it takes some seconds.
-const HAMMERED: u64 = 40_000;
+/// How many clauses are hammered at most.
+const HAMMERED: u64 = 100_000;
 
-/// Publishes the clause of each line once eight others hammer at it.
-fn publish_hammered<R: Abort>(rt: &R, store: &Store, pass: &mut Pass, there: &AtomicU64)
+/// Have some seconds gone by since then? Not where the clock fails.
+fn is_late(clock: &impl Clock, began: Option<Duration>) -> bool {
+    match (clock.monotonic(), began) {
+        (Ok(now), Some(then)) => now.as_secs() > then.as_secs().saturating_add(2),
+        _ => false,
+    }
+}
+
+/// Publishes the clause of each line once eight others hammer at it. Where it is late, this line is told to be the last one
+/// before its clause is there, so that whoever finds it knows.
+fn publish_hammered<R: Abort + Clock>(
+    rt: &R,
+    store: &Store,
+    pass: &mut Pass,
+    there: &AtomicU64,
+    lines: &AtomicU64,
+)
     requires { IsAt raced store.now pass.old }
     ensures { store_of pass.new ≡ store.now }
 {
+    let began = rt.monotonic().ok();
     for line in 0..HAMMERED {
         assert!(rt; waits_for(there, 8 * line + 8), "line {line}");
+        let late = is_late(rt, began);
+        if late {
+            lines.store(line + 1, Ordering::SeqCst);
+        }
         let answer = publish_six(store, pass, 9 * line + 2);
         assert_eq!(rt; answer, Some(Published::Done), "line {line}");
+        if late {
+            return;
+        }
     }
 }
 
 /// Hammers at the clause of each line.
-fn hammer_all<R: Abort>(rt: &R, store: &Store, pass: &mut Pass, there: &AtomicU64)
+fn hammer_all<R: Abort>(
+    rt: &R,
+    store: &Store,
+    pass: &mut Pass,
+    there: &AtomicU64,
+    lines: &AtomicU64,
+)
     requires { store_of pass.old ≡ store.now }
     ensures { store_of pass.new ≡ store.now }
 {
     for line in 0..HAMMERED {
+        if lines.load(Ordering::SeqCst) <= line {
+            return;
+        }
         there.fetch_add(1, Ordering::SeqCst);
         assert_eq!(rt;
             hammers(store, pass, 9 * line + 2),
@@ -345,30 +378,42 @@ fn hammer_all<R: Abort>(rt: &R, store: &Store, pass: &mut Pass, there: &AtomicU6
 }
 
 /// The first stream publishes, and the others hammer.
-fn publish_or_hammer<R: Abort>(rt: &R, store: &Store, pass: &mut Pass, there: &AtomicU64)
+fn publish_or_hammer<R: Abort + Clock>(
+    rt: &R,
+    store: &Store,
+    pass: &mut Pass,
+    there: &AtomicU64,
+    lines: &AtomicU64,
+)
     requires { IsAt raced store.now pass.old }
     ensures { store_of pass.new ≡ store.now }
 {
     if pass.stream() == 1 {
-        publish_hammered(rt, store, pass, there);
+        publish_hammered(rt, store, pass, there, lines);
     } else {
-        hammer_all(rt, store, pass, there);
+        hammer_all(rt, store, pass, there, lines);
     }
 }
 
-/// Eight threads fetch as fast as they can while one publishes. No gate can stand between the stores of a clause's literals and
-/// the exchange that makes it live; whoever finds it live reads the whole clause.
+/// Eight threads fetch as fast as they can while one publishes, for two to three seconds or until all is published. No gate can
+/// stand between the stores of a clause's literals and the exchange that makes it live; whoever finds it live reads the whole
+/// clause.
 #[test]
 fn eight_threads_hammer(rt: HostRuntime) -> Result<(), Fail> {
     let (store, mut passes) = open_race(rt.alloc(), 9, HAMMERED, 6 * HAMMERED)?;
     holds(&rt, passes.len() == 9);
-    let there = AtomicU64::new(0);
+    let (there, lines) = (AtomicU64::new(0), AtomicU64::new(HAMMERED));
     for_each_mut(
         &rt,
         passes.as_mut_slice(),
         9,
-        &|_, pass: &mut Pass| publish_or_hammer(&rt, &store, pass, &there),
+        &|_, pass: &mut Pass| publish_or_hammer(&rt, &store, pass, &there, &lines),
     );
-    same(&rt, there.load(Ordering::SeqCst), 8 * HAMMERED);
+    let hammered = lines.load(Ordering::SeqCst);
+    same(
+        &rt,
+        there.load(Ordering::SeqCst),
+        hammered.saturating_mul(8),
+    );
     Ok(())
 }

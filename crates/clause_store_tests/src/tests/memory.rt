@@ -1,4 +1,4 @@
-//! What the calls of a store take of memory, which is nothing.
+//! What the calls of a store take of memory, which is nothing; and an opening that is refused.
 ghost use Rattle.std.specs.Prelude.{◌≡◌, IfOk};
 ghost use Rattle.clause_store.specs.Passes.{store_of, AreOf};
 ghost use Rattle.clause_store_tests.specs.Worked.{IsAt, raced};

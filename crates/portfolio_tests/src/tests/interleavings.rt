@@ -139,8 +139,8 @@ fn always<T: Threads + Wait + Sync + Abort>(
     Ok(())
 }
 
-/// With one try more, stream 1 has asked for 6 in vain before stream 2 begins, and asks again once it is published. The last wait
-/// ends at once, since attempt 1 was told before: it is there to want that.
+/// With one try more, stream 1 has asked for 6 in vain before stream 2 begins, and asks again once it is published. The last
+/// wait ends at once, since attempt 1 was told before: it is there to want that.
 #[test]
 fn a_hint_that_comes_at_the_second_try(rt: HostRuntime) -> Result<(), Fail> {
     let holds = [

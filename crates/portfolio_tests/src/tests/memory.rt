@@ -1,5 +1,5 @@
-//! Runs of which the gate refuses each allocation and each start of a thread in turn (`make sweep`). A test that fails there tells
-//! what the run said.
+//! Runs of which the gate refuses each allocation and each start of a thread in turn (`make sweep`). A test that fails there
+//! tells what the run said.
 use super::{By, defaults, ended, readers_of, report, reports_of};
 use std::alloc::Global;
 use std::sync::Wait;
