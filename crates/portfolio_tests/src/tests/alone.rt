@@ -37,13 +37,8 @@ fn two_readers<'a>(
     neighbour: &'a str,
 ) -> Result<Vec<Pieces<'a>>, Fail>
     ensures two { IfOk result (λ readers. length readers.items ≡ 2) }
-<<<<<<< HEAD
-    ensures running { IfOk result
-        (λ readers. AllByRecursion (λ r. r.failed ≡ false) readers.items) }
-=======
     ensures running { IfOk result (λ readers.
         AllByRecursion (λ r. r.failed ≡ false) readers.items) }
->>>>>>> tests
     ensures first { IfOk result (λ readers.
         IsAt (map (λ r. Some r.left.now) readers.items) 1 (Some first.now)) }
 {
