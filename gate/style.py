@@ -20,7 +20,7 @@ ROOT = Path(__file__).resolve().parent.parent
 COLUMNS = 100
 # What stands in backticks and isn't of this repository: the toolchain's, the system's, other programs', and what a text makes up.
 FOREIGN = set("""
-ANTT.md CONTRACTS.md SHORTER_PROOFS.md BUILD.bazel start_lib start_io untested --only
+ANTT.md CONTRACTS.md SHORTER_PROOFS.md BUILD.bazel start_lib start_io proves untested --only
 cadical --plain --no-binary pv socat ssh madvise
 group1 group2 my_lemma run_ serial_ worker_ XValue OPTIONS=--serial
 """.split())
