@@ -94,8 +94,8 @@ files_view tells may_refuse left has_failed opens reads = record {
   reads = reads;
 }
 
--- The file at the path was opened, and its reads gave these bytes, up to an end. Where the device
--- tells the file's bytes, they are these.
+-- The file at the path was opened, and its reads gave these bytes, up to its first end. Where the
+-- device tells the file's bytes, they are these.
 pub record WasRead (R : Type 0) (files : FilesView R) (path : Text) (bytes : List ℕ) : Type 0 where
   pub reader : R
   pub opened : files.opens path reader
