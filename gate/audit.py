@@ -506,7 +506,6 @@ GLOSSES = """
 `App` a command of `clap`: what it takes itself, `top`, and its subcommands, `subs`
 `Append` each use of the argument adds to its values
 `Bool` `true` or `false`
-`Bor A` an A that is lent: `p.now` is what it is
 `Consumes old new bs` if `old` is `Some xs`, `new` is `Some ys`, and xs is `bs ++ ys`; of `None` it says nothing
 `Err e` a result that is the fault e
 `FoldsTo R a xs b` steps that R allows lead from a to b, one for each element: `R a x c`, and so on from c; with none a is b
@@ -521,17 +520,13 @@ GLOSSES = """
 `ReadConsumes old new r buffer` if r is `Ok n`, `Consumes` of the first n of the buffer, and `IsAtEnd new` if n is 0 and the \
 buffer isn't empty; if it is `Err`, what is known is as it was
 `Result A E` `Ok x`, or `Err e`
-`Row` what `clap` found for an argument: its name and its values
 `Rule` what `clap` is told of an argument; with `value_names` 0 or 1 an option has one value
 `SetTrue` an argument that takes no value: its use is 'true'
 `Some x` x is there
 `Text` the bytes of a word
-`all_of name rows` all values of an argument, if it has any
-`bytes_eq a b` the same bytes
 `codes "p"` the text p, as a list of its bytes
 `concat xss` the lists, one after the other
 `decimal n` n in decimal, without leading zeros
-`digits_value 10 bs` the number that digits spell in decimal
 `false` a test's outcome
 `fault_of app words` the errors that the command finds in the words, asking for help among them: `[]` if there is none
 `filter f xs` the elements that pass the test
@@ -554,13 +549,11 @@ buffer isn't empty; if it is `Err`, what is known is as it was
 `new_rule name` an argument of which only the name is told: no `--name` (`long`), not `required`, one value, any text
 `new_shape name` a command of which only the name is told
 `not b` the opposite
-`on_top f app` the command with `top` changed by f
-`one_of name rows` the first value of an argument, if it has any, as its `parser` takes it
 `option_map f o` f of x where o is `Some x`, else `None`
-`option_map_or f o d` f of x where o is `Some x`, else d
 `parser` what a value may be: `Unsigned low high` numbers from low to high, `Bool` 'true' or 'false'
 `pos n` n, as a whole number
 `replicate n x` n times x
+`result_ok r` `Some x` where r is `Ok x`, else `None`
 `signed_decimal z` z in decimal, with `-` where it is negative
 `slice_get xs i` `Some` of element i, from 0 on, or `None`
 `slice_index_or xs i d` element i, from 0 on, or d if there is none
@@ -573,7 +566,6 @@ buffer isn't empty; if it is `Err`, what is known is as it was
 `unsigned_abs z` z without its sign
 `usize_max` 2^64 - 1
 `vec_len v` the count of elements
-`without_leading_plus bs` without a `+` in front
 `ℕ` the numbers from 0 on
 `ℤ` the whole numbers
 """

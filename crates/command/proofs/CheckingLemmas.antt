@@ -12,11 +12,11 @@ use Rattle.portfolio.specs.declared.outcome.RunFault.{RunFault}
 use Rattle.portfolio.specs.declared.outcome.RunFault.TheVariants as runs
 use Rattle.portfolio.specs.declared.outcome.Verdict.{Verdict}
 use Rattle.stream_check.specs.declared.report.Report.{Report}
-use Rattle.command_line.specs.CommandLine.{IsCommandLineOf}
+use Rattle.command_line.specs.CommandLine.{AskFor, IsCommandLineOf}
 use Rattle.command_line.specs.declared.words.CommandLine.{CommandLine}
 use Rattle.command.specs.Commands.{AreAssumed, IsAssumeCause, NameUnsatisfiableUnder, assumed_at}
 use Rattle.command.specs.Commands.{AreChecked, AreOpened, IsCause, IsFormulaAt, IsOpenCause, IsOutcome, IsReadCause}
-use Rattle.command.specs.Commands.{FilesView, IsRunCause, NameUnsatisfiable, Text, layout_at, terms_given, options_of}
+use Rattle.command.specs.Commands.{FilesView, IsRunCause, NameUnsatisfiable, Text, WasReadIn, layout_at, terms_given, options_of}
 use Rattle.command.specs.Faults.{of_run}
 use Rattle.command.specs.declared.fault.CommandFault.{CommandFault}
 use Rattle.command.specs.declared.fault.CommandFault.TheVariants as faults
@@ -74,30 +74,36 @@ same_layout options f given count options_are count_is =
 same_count : {A B C : Type 0} (f : A → C) (g : B → C) (xs : List A) (ys : List B) → map f xs ≡ map g ys → length xs ≡ length ys
 same_count f g xs ys same = sym (length-map xs f) ∙ ap length same ∙ length-map ys g
 
+-- what words ask for that are a command line
+ask_for : (words : List Text) (given : CommandLine) → IsCommandLineOf words given → AskFor words given.formula.now (assumed_at given)
+ask_for words given line = record { good = line.good; formula_is = line.said.formula; assume_is = sym line.said.assume }
+
 -- what was read is a text of a formula that no assignment satisfies
 pub names_unsatisfiable : (R : Type 0) (files : FilesView R) (words : List Text) (given : CommandLine) (f : Cnf) → IsCommandLineOf words given
-    → IsFormulaAt R files given.formula.now f → IsUnsatisfiable f → NameUnsatisfiable R files words
-names_unsatisfiable R files words given f line at refuted = (given, at.0, line, at.1, (f, at.2, refuted))
+    → IsFormulaAt R files given.formula.now f → IsUnsatisfiable f → NameUnsatisfiable (WasReadIn R files) words
+names_unsatisfiable R files words given f line at refuted =
+    (given.formula.now, assumed_at given, at.0, f, ask_for words given line, at.1, at.2, refuted)
 
 -- so with the assumed literals
 pub names_unsatisfiable_under : (R : Type 0) (files : FilesView R) (words : List Text) (given : CommandLine) (f : Cnf) (cube : CubeValue) → IsCommandLineOf words given
-    → IsFormulaAt R files given.formula.now f → AreAssumed R files f.vars (assumed_at given) cube → IsUnsatisfiableUnder f cube → NameUnsatisfiableUnder R files words
-names_unsatisfiable_under R files words given f cube line at assumed refuted = (given, f, cube, line, at, assumed, refuted)
+    → IsFormulaAt R files given.formula.now f → AreAssumed (WasReadIn R files) f.vars (assumed_at given) cube → IsUnsatisfiableUnder f cube → NameUnsatisfiableUnder (WasReadIn R files) words
+names_unsatisfiable_under R files words given f cube line at assumed refuted =
+    (given.formula.now, assumed_at given, at.0, f, cube, ask_for words given line, at.1, at.2, assumed, refuted)
 
 -- what is checked is the outcome of the words and the files
 pub is_outcome : (R : Type 0) (files : FilesView R) (words : List Text) (given : CommandLine) (f : Cnf) (cube : CubeValue) (options : OptionsValue) (readers : List R)
-    → IsCommandLineOf words given → IsFormulaAt R files given.formula.now f → AreAssumed R files f.vars (assumed_at given) cube
+    → IsCommandLineOf words given → IsFormulaAt R files given.formula.now f → AreAssumed (WasReadIn R files) f.vars (assumed_at given) cube
     → options ≡ options_of given → AreOpened files.opens given.streams readers → map files.reading.left readers ≡ map files.tells given.streams
     → (reports : List Report) (verdict : Verdict)
-    → AreChecked R files.reading given.serial f (terms_of options cube f (length readers)) (map files.reading.left readers) reports verdict
+    → AreChecked R files.reading files.reads given.serial f (terms_of options cube f (length readers)) readers (map files.reading.left readers) reports verdict
     → IsOutcome R files words reports verdict
 is_outcome R files words given f cube options readers line at assumed options_are opened entries_are reports verdict checked =
     let reading = files.reading in
     let entries = map reading.left readers in
-    let one = subst (λ (o : OptionsValue). AreChecked R reading given.serial f (terms_of o cube f (length readers)) entries reports verdict) options_are checked in
-    let two = subst (λ (n : ℕ). AreChecked R reading given.serial f (terms_of (options_of given) cube f n) entries reports verdict)
+    let one = subst (λ (o : OptionsValue). AreChecked R reading files.reads given.serial f (terms_of o cube f (length readers)) readers entries reports verdict) options_are checked in
+    let two = subst (λ (n : ℕ). AreChecked R reading files.reads given.serial f (terms_of (options_of given) cube f n) readers entries reports verdict)
     (same_count _ _ readers given.streams entries_are) one in
-    let three = subst (λ (es : List (Option (List ℕ))). AreChecked R reading given.serial f (terms_given given cube f) es reports verdict) entries_are two in
+    let three = subst (λ (es : List (Option (List ℕ))). AreChecked R reading files.reads given.serial f (terms_given given cube f) readers es reports verdict) entries_are two in
     record { given = given; command_line = line; formula = f; is_formula = at; cube = cube; assumed = assumed; readers = readers; opened = opened; left = entries_are; checked = three }
 
 -- The causes are those of the words and the files.
@@ -135,7 +141,7 @@ assumed_cause R files words given f line at None same fault cause = absurd cause
 assumed_cause R files words given f line at (Some path) same fault cause = assume_cause R files words given f line at path same fault cause
 
 pub open_cause : (R : Type 0) (files : FilesView R) (words : List Text) (given : CommandLine) (f : Cnf) (cube : CubeValue) → IsCommandLineOf words given
-    → IsFormulaAt R files given.formula.now f → AreAssumed R files f.vars (assumed_at given) cube → (fault : CommandFault) → IsOpenCause files.may_refuse given.streams fault → IsCause R files words fault
+    → IsFormulaAt R files given.formula.now f → AreAssumed (WasReadIn R files) f.vars (assumed_at given) cube → (fault : CommandFault) → IsOpenCause files.may_refuse given.streams fault → IsCause R files words fault
 open_cause R files words given f cube line at assumed (faults.Usage text) cause = absurd cause
 open_cause R files words given f cube line at assumed faults.Unread cause = absurd cause
 open_cause R files words given f cube line at assumed (faults.Refused fault) cause = absurd cause
@@ -149,7 +155,7 @@ open_cause R files words given f cube line at assumed faults.Memory cause = tt
 open_cause R files words given f cube line at assumed faults.Unwritten cause = absurd cause
 
 line_cause : (R : Type 0) (files : FilesView R) (words : List Text) (given : CommandLine) (f : Cnf) (cube : CubeValue) → IsCommandLineOf words given
-    → IsFormulaAt R files given.formula.now f → AreAssumed R files f.vars (assumed_at given) cube → (fault : CommandFault) → IsRunCause given.serial (layout_at given f) fault → IsCause R files words fault
+    → IsFormulaAt R files given.formula.now f → AreAssumed (WasReadIn R files) f.vars (assumed_at given) cube → (fault : CommandFault) → IsRunCause given.serial (layout_at given f) fault → IsCause R files words fault
 line_cause R files words given f cube line at assumed (faults.Usage text) cause = absurd cause
 line_cause R files words given f cube line at assumed faults.Unread cause = absurd cause
 line_cause R files words given f cube line at assumed (faults.Refused fault) cause = absurd cause
@@ -164,7 +170,7 @@ line_cause R files words given f cube line at assumed faults.Unwritten cause = a
 
 -- so a run's cause, by the layout that the run has
 pub run_cause_of : (R : Type 0) (files : FilesView R) (words : List Text) (given : CommandLine) (f : Cnf) (cube : CubeValue) (options : OptionsValue) (readers : List R)
-    → IsCommandLineOf words given → IsFormulaAt R files given.formula.now f → AreAssumed R files f.vars (assumed_at given) cube
+    → IsCommandLineOf words given → IsFormulaAt R files given.formula.now f → AreAssumed (WasReadIn R files) f.vars (assumed_at given) cube
     → options ≡ options_of given → map files.reading.left readers ≡ map files.tells given.streams
     → (fault : CommandFault) → IsRunCause given.serial (layout_of options f (length readers)) fault → IsCause R files words fault
 run_cause_of R files words given f cube options readers line at assumed options_are entries_are fault cause =

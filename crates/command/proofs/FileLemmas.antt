@@ -9,7 +9,7 @@ use Rattle.lrup_text.specs.declared.cube.CubeFault.TheVariants as cubes
 use Rattle.dimacs.specs.FormulaFault.{IsFaultOf}
 use Rattle.dimacs.specs.declared.fault.DimacsFault.{DimacsFault}
 use Rattle.dimacs.specs.declared.fault.DimacsFault.TheVariants as formulas
-use Rattle.command.specs.Commands.{AreAssumed, FilesView, IsAssumeCause, IsFailedRead, IsFileCause, IsReadCause, Text, WasRead, WasUnread}
+use Rattle.command.specs.Commands.{AreAssumed, FilesView, IsAssumeCause, IsFailedRead, IsFileCause, IsReadCause, Text, WasReadIn, WasUnread}
 use Rattle.command.specs.Faults.{of_cube, of_cube_file, of_formula, of_open}
 use Rattle.command.specs.declared.fault.CommandFault.{CommandFault}
 use Rattle.command.specs.declared.fault.CommandFault.TheVariants as faults
@@ -40,7 +40,7 @@ reading_cause R files path reader opened left faults.Unwritten cause = absurd ca
 -- what was read of a file that was opened
 pub was_read : (R : Type 0) (files : FilesView R) (path : Text) (reader : R) {T E : Type 0} (items : T → List ℕ) (read : Result T E) → files.opens path reader → files.reading.left reader ≡ files.tells path
     → IfOk read (λ bytes. GaveAll R files.reads reader (items bytes)) → IfOk read (λ bytes. ForSome (files.reading.left reader) (λ all. all ≡ items bytes))
-    → IfOk read (λ bytes. WasRead R files path (items bytes))
+    → IfOk read (λ bytes. WasReadIn R files path (items bytes))
 was_read R files path reader items (Ok bytes) opened left gave all =
     record { reader = reader; opened = opened; gave = gave; told = λ whole told. all whole (left ∙ told) }
 was_read R files path reader items (Err fault) opened left gave all = tt
@@ -73,7 +73,7 @@ cube_file_cause R files vars path faults.Memory cause = tt
 cube_file_cause R files vars path faults.Unwritten cause = absurd cause
 
 -- why what was read is no formula, or no text of literals
-pub text_cause : (R : Type 0) (files : FilesView R) (path : Text) (bytes : List ℕ) → WasRead R files path bytes
+pub text_cause : (R : Type 0) (files : FilesView R) (path : Text) (bytes : List ℕ) → WasReadIn R files path bytes
     → (fault : DimacsFault) → (fault ≢ formulas.Memory → IsFaultOf bytes fault) → IsReadCause R files path (of_formula fault)
 text_cause R files path bytes was formulas.NoHeader is = (λ e. cc, (bytes, was, is (λ e. cc)))
 text_cause R files path bytes was formulas.BadHeader is = (λ e. cc, (bytes, was, is (λ e. cc)))
@@ -85,7 +85,7 @@ text_cause R files path bytes was (formulas.TooMany line) is = (λ e. cc, (bytes
 text_cause R files path bytes was formulas.Limit is = (λ e. cc, (bytes, was, is (λ e. cc)))
 text_cause R files path bytes was formulas.Memory is = tt
 
-pub cube_text_cause : (R : Type 0) (files : FilesView R) (vars : ℕ) (path : Text) (bytes : List ℕ) → WasRead R files path bytes
+pub cube_text_cause : (R : Type 0) (files : FilesView R) (vars : ℕ) (path : Text) (bytes : List ℕ) → WasReadIn R files path bytes
     → (fault : CubeFault) → IsCubeFault vars bytes fault → IsAssumeCause R files vars (Some path) (of_cube fault)
 cube_text_cause R files vars path bytes was cubes.Spelling is = (λ e. cc, (bytes, was, is))
 cube_text_cause R files vars path bytes was cubes.TooLong is = (λ e. cc, (bytes, was, is))
@@ -99,7 +99,7 @@ module _ (R : Type 0) (files : FilesView R) (tells : Text → Option (List ℕ))
   abbrev later : FilesView R
   later = record files { tells = tells; may_refuse = may_refuse; opens = opened }
 
-  moved_read : (path : Text) (bytes : List ℕ) → WasRead R later path bytes → WasRead R files path bytes
+  moved_read : (path : Text) (bytes : List ℕ) → WasReadIn R later path bytes → WasReadIn R files path bytes
   moved_read path bytes was = record {
     reader = was.reader;
     opened = before path was.reader was.opened;
@@ -116,7 +116,7 @@ module _ (R : Type 0) (files : FilesView R) (tells : Text → Option (List ℕ))
     broken = was.broken;
   })
 
-  pub moved_assumed : (vars : ℕ) (path : Option Text) (cube : CubeValue) → AreAssumed R later vars path cube → AreAssumed R files vars path cube
+  pub moved_assumed : (vars : ℕ) (path : Option Text) (cube : CubeValue) → AreAssumed (WasReadIn R later) vars path cube → AreAssumed (WasReadIn R files) vars path cube
   moved_assumed vars None cube none = none
   moved_assumed vars (Some path) cube read = (read.0, moved_read path read.0 read.1, read.2)
 

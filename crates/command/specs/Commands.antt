@@ -20,10 +20,11 @@ use Rattle.stream_check.specs.declared.report.Report.{Report}
 use Rattle.runs.specs.Headline.{AreJudgedIn}
 use Rattle.portfolio.specs.Outcomes.{OptionsValue, layout_of, terms_of, verdict_of}
 use Rattle.portfolio.specs.ReportText.{report_text}
+use Rattle.runs.specs.Readings.{AreRead}
 use Rattle.runs.specs.Streams.{IsOrdered, StandsOnStreams, Stream, Terms}
 use Rattle.portfolio.specs.declared.outcome.Verdict.{Verdict}
 use Rattle.portfolio.specs.declared.outcome.Verdict.TheVariants.{Unsatisfiable, UnsatisfiableUnder, Unknown}
-use Rattle.command_line.specs.CommandLine.{HaveFault, IsCommandLineOf}
+use Rattle.command_line.specs.CommandLine.{AskFor, HaveFault, IsCommandLineOf}
 use Rattle.command_line.specs.declared.words.CommandLine.{CommandLine}
 use Rattle.command.specs.Faults.{status_of, text_of}
 use Rattle.command.specs.declared.fault.CommandFault.{CommandFault}
@@ -33,9 +34,35 @@ use Rattle.command.specs.declared.fault.CommandFault.TheVariants as faults
 abbrev pub Text : Type 0
 Text = List ℕ
 
--- the bytes are a text of a formula that no assignment satisfies
-abbrev pub IsUnsatisfiableText : List ℕ → Type 0
-IsUnsatisfiableText bytes = (f : Cnf) × IsTextOf bytes f × IsUnsatisfiable f
+-- The file at the path was opened, and its reads gave these bytes, up to its first end. Where the
+-- device tells the file's bytes, they are these.
+pub record WasRead (R : Type 0) (opens : Text → R → Type 0) (reads : ReadsOf R)
+    (tells : Text → Option (List ℕ)) (path : Text) (bytes : List ℕ) : Type 0 where
+  pub reader : R
+  pub opened : opens path reader
+  pub gave : GaveAll R reads reader bytes
+  pub told : ForSome (tells path) (λ all. all ≡ bytes)
+
+-- The words ask for a formula, and what was read of the file at its path is a text of one that no
+-- assignment satisfies.
+abbrev pub NameUnsatisfiable : (Text → List ℕ → Type 0) → List Text → Type 0
+NameUnsatisfiable Read words =
+    (formula : Text) × (assume : Option Text) × (bytes : List ℕ) × (f : Cnf)
+    × AskFor words formula assume × Read formula bytes × IsTextOf bytes f × IsUnsatisfiable f
+
+-- what was read of the files of the assumed literals, over the variables 1 to vars; without a path there are none
+abbrev pub AreAssumed : (Text → List ℕ → Type 0) → ℕ → Option Text → CubeValue → Type 0
+AreAssumed Read vars None cube = cube ≡ []
+AreAssumed Read vars (Some path) cube =
+    (bytes : List ℕ) × Read path bytes × IsCubeText vars bytes cube
+
+-- The words ask for a formula and for assumed literals, and what was read of their files is a text
+-- of the one and of the others, under which no assignment satisfies the formula.
+abbrev pub NameUnsatisfiableUnder : (Text → List ℕ → Type 0) → List Text → Type 0
+NameUnsatisfiableUnder Read words =
+    (formula : Text) × (assume : Option Text) × (bytes : List ℕ) × (f : Cnf) × (cube : CubeValue)
+    × AskFor words formula assume × Read formula bytes × IsTextOf bytes f
+    × AreAssumed Read f.vars assume cube × IsUnsatisfiableUnder f cube
 
 -- the options of a command line
 abbrev pub options_of : CommandLine → OptionsValue
@@ -61,15 +88,17 @@ pub record ReaderView (R : Type 0) : Type 0 where
   pub left : R → Option (List ℕ)
   pub has_failed : R → Bool
 
--- The reports and the verdict of a formula's streams. `entries` is what each stream's file told when it was opened; the readers
--- are those of the streams in the end: one that has failed has left what its stream's file told after the bytes judged.
-pub record AreChecked (R : Type 0) (reading : ReaderView R) (serial : Bool) (f : Cnf)
-    (terms : Terms)
+-- The reports and the verdict of a formula's streams. `firsts` are the readers of the streams as they were opened, and `entries`
+-- is what each stream's file told then; `readers` are those in the end, after reads that gave the streams: one that has failed has
+-- left what its stream's file told after the bytes judged.
+pub record AreChecked (R : Type 0) (reading : ReaderView R) (reads : ReadsOf R) (serial : Bool)
+    (f : Cnf) (terms : Terms) (firsts : List R)
     (entries : List (Option (List ℕ))) (reports : List Report) (verdict : Verdict) : Type 0 where
   pub layout : (fault : LayoutFault) → IsFault terms.layout fault → ⊥
   pub readers : List R
   pub reported : StandsOnStreams entries (map reading.left readers) (map reading.has_failed readers)
       (AreReported serial f terms reports)
+  pub read : AreRead R reads firsts readers reported.streams
   pub is_verdict : verdict ≡ verdict_of reports
   pub sound : verdict ≡ Unsatisfiable → IsUnsatisfiable f
   pub sound_under : verdict ≡ UnsatisfiableUnder → IsUnsatisfiableUnder f terms.cube
@@ -94,30 +123,13 @@ files_view tells may_refuse left has_failed opens reads = record {
   reads = reads;
 }
 
--- The file at the path was opened, and its reads gave these bytes, up to its first end. Where the
--- device tells the file's bytes, they are these.
-pub record WasRead (R : Type 0) (files : FilesView R) (path : Text) (bytes : List ℕ) : Type 0 where
-  pub reader : R
-  pub opened : files.opens path reader
-  pub gave : GaveAll R files.reads reader bytes
-  pub told : ForSome (files.tells path) (λ all. all ≡ bytes)
-
--- The words are a command line, and what was read of the file at its FORMULA is a text of a formula
--- that no assignment satisfies.
-abbrev pub NameUnsatisfiable : (R : Type 0) → FilesView R → List Text → Type 0
-NameUnsatisfiable R files words =
-    (given : CommandLine) × (bytes : List ℕ) × IsCommandLineOf words given
-    × WasRead R files given.formula.now bytes × IsUnsatisfiableText bytes
+-- what was read of the file at a path, by what is known of files
+abbrev pub WasReadIn : (R : Type 0) → FilesView R → Text → List ℕ → Type 0
+WasReadIn R files = WasRead R files.opens files.reads files.tells
 
 -- the formula whose text was read of the file at a path
 abbrev pub IsFormulaAt : (R : Type 0) → FilesView R → Text → Cnf → Type 0
-IsFormulaAt R files path f = (bytes : List ℕ) × WasRead R files path bytes × IsTextOf bytes f
-
--- the assumed literals of the file at a path, over the variables 1 to vars; without a path there are none
-abbrev pub AreAssumed : (R : Type 0) → FilesView R → ℕ → Option Text → CubeValue → Type 0
-AreAssumed R files vars None cube = cube ≡ []
-AreAssumed R files vars (Some path) cube =
-    (bytes : List ℕ) × WasRead R files path bytes × IsCubeText vars bytes cube
+IsFormulaAt R files path f = (bytes : List ℕ) × WasReadIn R files path bytes × IsTextOf bytes f
 
 -- the path that is lent, if any
 abbrev pub path_of : Option (Bor Text) → Option Text
@@ -126,14 +138,6 @@ path_of path = option_map (λ p. p.now) path
 -- the path of the assumed literals that the words have, if any
 abbrev pub assumed_at : CommandLine → Option Text
 assumed_at given = path_of given.assume
-
--- What was read of the file at the path of the words' formula is a text of a formula, and what was read of that of the assumed
--- literals a text of a cube, under which no assignment satisfies the formula.
-abbrev pub NameUnsatisfiableUnder : (R : Type 0) → FilesView R → List Text → Type 0
-NameUnsatisfiableUnder R files words =
-    (given : CommandLine) × (f : Cnf) × (cube : CubeValue) × IsCommandLineOf words given
-    × IsFormulaAt R files given.formula.now f × AreAssumed R files f.vars (assumed_at given) cube
-    × IsUnsatisfiableUnder f cube
 
 -- The files at the paths were opened, in order, as these readers.
 abbrev pub AreOpened : {R : Type 0} → (Text → R → Type 0) → List Text → List R → Type 0
@@ -150,12 +154,12 @@ pub record IsOutcome (R : Type 0) (files : FilesView R) (words : List Text) (rep
   pub formula : Cnf
   pub is_formula : IsFormulaAt R files given.formula.now formula
   pub cube : CubeValue
-  pub assumed : AreAssumed R files formula.vars (assumed_at given) cube
+  pub assumed : AreAssumed (WasReadIn R files) formula.vars (assumed_at given) cube
   pub readers : List R
   pub opened : AreOpened files.opens given.streams readers
   pub left : map files.reading.left readers ≡ map files.tells given.streams
-  pub checked : AreChecked R files.reading given.serial formula (terms_given given cube formula)
-      (map files.tells given.streams) reports verdict
+  pub checked : AreChecked R files.reading files.reads given.serial formula
+      (terms_given given cube formula) readers (map files.tells given.streams) reports verdict
 
 -- Causes. Nothing shows afterwards that memory ran out or that a thread wasn't started, so these are taken as causes whatever the
 -- files hold.
@@ -191,7 +195,7 @@ abbrev pub IsReadCause : (R : Type 0) → FilesView R → Text → CommandFault 
 IsReadCause R files path faults.Unread = IsTrue (files.may_refuse path) ⊎ WasUnread R files path
 IsReadCause R files path (faults.Refused fault) =
     (fault ≢ formulas.Memory)
-    × ((bytes : List ℕ) × WasRead R files path bytes × IsFormulaFault bytes fault)
+    × ((bytes : List ℕ) × WasReadIn R files path bytes × IsFormulaFault bytes fault)
 IsReadCause R files path faults.Memory = Unit {0}
 IsReadCause R files path fault = ⊥
 
@@ -203,7 +207,7 @@ IsAssumeCause R files vars (Some path) faults.CubeUnread =
     IsTrue (files.may_refuse path) ⊎ WasUnread R files path
 IsAssumeCause R files vars (Some path) (faults.CubeRefused fault) =
     (fault ≢ cubes.Memory)
-    × ((bytes : List ℕ) × WasRead R files path bytes × IsCubeFault vars bytes fault)
+    × ((bytes : List ℕ) × WasReadIn R files path bytes × IsCubeFault vars bytes fault)
 IsAssumeCause R files vars (Some path) faults.Memory = Unit {0}
 IsAssumeCause R files vars (Some path) fault = ⊥
 
@@ -232,7 +236,7 @@ IsCauseAt R files given fault =
     IsReadCause R files given.formula.now fault
     ⊎ ((f : Cnf) × IsFormulaAt R files given.formula.now f
     × (IsAssumeCause R files f.vars (assumed_at given) fault
-    ⊎ ((cube : CubeValue) × AreAssumed R files f.vars (assumed_at given) cube
+    ⊎ ((cube : CubeValue) × AreAssumed (WasReadIn R files) f.vars (assumed_at given) cube
     × (IsOpenCause files.may_refuse given.streams fault
     ⊎ IsRunCause given.serial (layout_at given f) fault))))
 

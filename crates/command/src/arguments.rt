@@ -8,7 +8,7 @@ ghost use Rattle.command_line.specs.CommandLine.{HaveFault};
 ghost use Rattle.command.specs.Arguments.{EndsWithoutArguments, not_utf8, refusal_status, refusal_text};
 ghost use Rattle.command.specs.Arguments.{words_after_name};
 ghost use Rattle.command.specs.Commands.{EndsWithFault, EndsWithReport, NameUnsatisfiable, NameUnsatisfiableUnder};
-ghost use Rattle.command.specs.Commands.{Takes, change, files_view};
+ghost use Rattle.command.specs.Commands.{Takes, WasRead, change, files_view};
 
 use crate::fault::CommandFault;
 use crate::files::Files;
@@ -42,15 +42,15 @@ pub fn command_with_arguments<
     requires out { O.has_failed out.old ≡ false }
     requires err { E.has_failed err.old ≡ false }
     // What a user relies on: with status 0 the bytes that were read of FORMULA are a text of a formula that no assignment satisfies.
-    ensures sound { let view = files_view (F.tells files.old) (F.may_refuse files.old)
-        F.Input.Source.left F.Input.Source.has_failed (F.opens files.old) F.Input.Source.reads in
+    ensures sound { let read = WasRead _ (F.opens files.old)
+        F.Input.Source.reads (F.tells files.old) in
         exit_status result ≡ 0
-        → IsOkAnd arguments (λ given. NameUnsatisfiable _ view (words_after_name given)) }
+        → IsOkAnd arguments (λ given. NameUnsatisfiable read (words_after_name given)) }
     // With status 8 no assignment makes it and every literal of the assumed ones' file true.
-    ensures sound_under { let view = files_view (F.tells files.old) (F.may_refuse files.old)
-        F.Input.Source.left F.Input.Source.has_failed (F.opens files.old) F.Input.Source.reads in
+    ensures sound_under { let read = WasRead _ (F.opens files.old)
+        F.Input.Source.reads (F.tells files.old) in
         exit_status result ≡ 8
-        → IsOkAnd arguments (λ given. NameUnsatisfiableUnder _ view (words_after_name given)) }
+        → IsOkAnd arguments (λ given. NameUnsatisfiableUnder read (words_after_name given)) }
     // A report of what the words and the files come to, or none and the cause; what goes out; and the status.
     ensures ends { let view = files_view (F.tells files.old) (F.may_refuse files.old)
         F.Input.Source.left F.Input.Source.has_failed (F.opens files.old) F.Input.Source.reads in
@@ -91,12 +91,12 @@ fn with_words<T: Threads + Wait + Sync, C: Clock + Sync, F: Files, O: Sink, E: S
 ) -> u8
     requires out { O.has_failed out.old ≡ false }
     requires err { E.has_failed err.old ≡ false }
-    ensures sound { let view = files_view (F.tells files.old) (F.may_refuse files.old)
-        F.Input.Source.left F.Input.Source.has_failed (F.opens files.old) F.Input.Source.reads in
-        result ≡ 0 → NameUnsatisfiable _ view (words_after_name arguments) }
-    ensures sound_under { let view = files_view (F.tells files.old) (F.may_refuse files.old)
-        F.Input.Source.left F.Input.Source.has_failed (F.opens files.old) F.Input.Source.reads in
-        result ≡ 8 → NameUnsatisfiableUnder _ view (words_after_name arguments) }
+    ensures sound { let read = WasRead _ (F.opens files.old)
+        F.Input.Source.reads (F.tells files.old) in
+        result ≡ 0 → NameUnsatisfiable read (words_after_name arguments) }
+    ensures sound_under { let read = WasRead _ (F.opens files.old)
+        F.Input.Source.reads (F.tells files.old) in
+        result ≡ 8 → NameUnsatisfiableUnder read (words_after_name arguments) }
     ensures ends { let view = files_view (F.tells files.old) (F.may_refuse files.old)
         F.Input.Source.left F.Input.Source.has_failed (F.opens files.old) F.Input.Source.reads in
         let output = change (O.written out.old) (O.written out.new) (O.has_failed out.new) in

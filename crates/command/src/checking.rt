@@ -8,7 +8,7 @@ ghost use Rattle.lrup_text.specs.Reads.{GaveAll};
 ghost use Rattle.command.specs.Commands.{AreChecked, AreOpened, IsCause, IsFailedRead, IsFormulaAt};
 ghost use Rattle.command.specs.Commands.{IsOpenCause, IsOutcome, IsReadCause, IsRunCause};
 ghost use Rattle.command.specs.Commands.{AreAssumed, IsAssumeCause, IsFileCause, NameUnsatisfiable};
-ghost use Rattle.command.specs.Commands.{NameUnsatisfiableUnder, WasRead, files_view, path_of};
+ghost use Rattle.command.specs.Commands.{NameUnsatisfiableUnder, WasRead, WasReadIn, files_view, path_of};
 ghost use Rattle.command.specs.Faults.{of_cube_file};
 
 use crate::fault::CommandFault;
@@ -47,14 +47,14 @@ pub fn check_words<T: Threads + Wait + Sync, C: Clock + Sync, F: Files>(
         F.Input.Source.left F.Input.Source.has_failed (F.opens files.old) F.Input.Source.reads in
         IfOk result (λ found.
         IsOutcome _ view (texts words.now) found.reports.items found.verdict) }
-    ensures sound { let view = files_view (F.tells files.old) (F.may_refuse files.old)
-        F.Input.Source.left F.Input.Source.has_failed (F.opens files.old) F.Input.Source.reads in
+    ensures sound { let read = WasRead _ (F.opens files.old)
+        F.Input.Source.reads (F.tells files.old) in
         IfOk result (λ found. found.verdict ≡ Verdict.Unsatisfiable
-        → NameUnsatisfiable _ view (texts words.now)) }
-    ensures sound_under { let view = files_view (F.tells files.old) (F.may_refuse files.old)
-        F.Input.Source.left F.Input.Source.has_failed (F.opens files.old) F.Input.Source.reads in
+        → NameUnsatisfiable read (texts words.now)) }
+    ensures sound_under { let read = WasRead _ (F.opens files.old)
+        F.Input.Source.reads (F.tells files.old) in
         IfOk result (λ found. found.verdict ≡ Verdict.UnsatisfiableUnder
-        → NameUnsatisfiableUnder _ view (texts words.now)) }
+        → NameUnsatisfiableUnder read (texts words.now)) }
     ensures cause { let view = files_view (F.tells files.old) (F.may_refuse files.old)
         F.Input.Source.left F.Input.Source.has_failed (F.opens files.old) F.Input.Source.reads in
         IfErr result (IsCause _ view (texts words.now)) }
@@ -108,7 +108,7 @@ fn read_assumed<W: Wait, F: Files>(
 ) -> Result<Cube, CommandFault>
     ensures cube { let view = files_view (F.tells files.old) (F.may_refuse files.old)
         F.Input.Source.left F.Input.Source.has_failed (F.opens files.old) F.Input.Source.reads in
-        IfOk result (AreAssumed _ view formula.now.vars (path_of path.entry)) }
+        IfOk result (AreAssumed (WasReadIn _ view) formula.now.vars (path_of path.entry)) }
     ensures cause { let view = files_view (F.tells files.old) (F.may_refuse files.old)
         F.Input.Source.left F.Input.Source.has_failed (F.opens files.old) F.Input.Source.reads in
         IfErr result (IsAssumeCause _ view formula.now.vars (path_of path.entry)) }
@@ -133,7 +133,7 @@ fn read_cube_at<W: Wait, F: Files>(
 ) -> Result<Cube, CommandFault>
     ensures cube { let view = files_view (F.tells files.old) (F.may_refuse files.old)
         F.Input.Source.left F.Input.Source.has_failed (F.opens files.old) F.Input.Source.reads in
-        IfOk result (AreAssumed _ view formula.now.vars (Some path.now)) }
+        IfOk result (AreAssumed (WasReadIn _ view) formula.now.vars (Some path.now)) }
     ensures cause { let view = files_view (F.tells files.old) (F.may_refuse files.old)
         F.Input.Source.left F.Input.Source.has_failed (F.opens files.old) F.Input.Source.reads in
         IfErr result (IsAssumeCause _ view formula.now.vars (Some path.now)) }
@@ -167,7 +167,7 @@ fn read_file<W: Wait, F: Files>(
 ) -> Result<Vec<u8>, CommandFault>
     ensures bytes { let view = files_view (F.tells files.old) (F.may_refuse files.old)
         F.Input.Source.left F.Input.Source.has_failed (F.opens files.old) F.Input.Source.reads in
-        IfOk result (λ bytes. WasRead _ view path.now bytes.items) }
+        IfOk result (λ bytes. WasReadIn _ view path.now bytes.items) }
     ensures cause { let view = files_view (F.tells files.old) (F.may_refuse files.old)
         F.Input.Source.left F.Input.Source.has_failed (F.opens files.old) F.Input.Source.reads in
         IfErr result (IsFileCause _ view path.now) }
@@ -248,7 +248,8 @@ fn check_streams<T: Threads + Wait + Sync, C: Clock + Sync, R: Source + Send + D
     requires running { AllByRecursion (λ r. R.has_failed r ≡ false) readers.items }
     ensures checked { let terms = terms_of options cube.now formula.now (length readers.items) in
         IfOk result (λ found. AreChecked _ (record { left = R.left; has_failed = R.has_failed })
-        serial formula.now terms (map R.left readers.items) found.reports.items found.verdict) }
+        R.reads serial formula.now terms readers.items (map R.left readers.items)
+        found.reports.items found.verdict) }
     ensures cause { IfErr result
         (IsRunCause serial (layout_of options formula.now (length readers.items))) }
 {
@@ -271,7 +272,8 @@ fn check_serially<W: Wait, R: Source + Drop>(
     requires running { AllByRecursion (λ r. R.has_failed r ≡ false) readers.items }
     ensures checked { let terms = terms_of options cube.now formula.now (length readers.items) in
         IfOk result (λ found. AreChecked _ (record { left = R.left; has_failed = R.has_failed })
-        true formula.now terms (map R.left readers.items) found.reports.items found.verdict) }
+        R.reads true formula.now terms readers.items (map R.left readers.items)
+        found.reports.items found.verdict) }
     ensures cause { IfErr result
         (IsRunCause true (layout_of options formula.now (length readers.items))) }
 {
@@ -298,7 +300,8 @@ fn check_in_threads<T: Threads + Wait + Sync, C: Clock + Sync, R: Source + Send 
     requires running { AllByRecursion (λ r. R.has_failed r ≡ false) readers.items }
     ensures checked { let terms = terms_of options cube.now formula.now (length readers.items) in
         IfOk result (λ found. AreChecked _ (record { left = R.left; has_failed = R.has_failed })
-        false formula.now terms (map R.left readers.items) found.reports.items found.verdict) }
+        R.reads false formula.now terms readers.items (map R.left readers.items)
+        found.reports.items found.verdict) }
     ensures cause { IfErr result
         (IsRunCause false (layout_of options formula.now (length readers.items))) }
 {

@@ -4,7 +4,7 @@ ghost use Rattle.clap.specs.Walk.{texts};
 ghost use Rattle.portfolio.specs.ReportText.{report_text};
 ghost use Rattle.command_line.specs.CommandLine.{HaveFault};
 ghost use Rattle.command.specs.Commands.{EndsWithFault, EndsWithReport, NameUnsatisfiable, NameUnsatisfiableUnder, SaysOfReport, files_view};
-ghost use Rattle.command.specs.Commands.{Takes, change, report_status};
+ghost use Rattle.command.specs.Commands.{Takes, WasRead, change, report_status};
 ghost use Rattle.command.specs.Faults.{status_of, text_of};
 
 use crate::checking::{Found, check_words};
@@ -45,13 +45,13 @@ pub fn command<T: Threads + Wait + Sync, C: Clock + Sync, F: Files, O: Sink, E: 
     requires out { O.has_failed out.old ≡ false }
     requires err { E.has_failed err.old ≡ false }
     // What a user relies on: with status 0 the bytes that were read of FORMULA are a text of a formula that no assignment satisfies.
-    ensures sound { let view = files_view (F.tells files.old) (F.may_refuse files.old)
-        F.Input.Source.left F.Input.Source.has_failed (F.opens files.old) F.Input.Source.reads in
-        result ≡ 0 → NameUnsatisfiable _ view (texts words.now) }
+    ensures sound { let read = WasRead _ (F.opens files.old)
+        F.Input.Source.reads (F.tells files.old) in
+        result ≡ 0 → NameUnsatisfiable read (texts words.now) }
     // With status 8 no assignment makes it and every literal of the assumed ones' file true.
-    ensures sound_under { let view = files_view (F.tells files.old) (F.may_refuse files.old)
-        F.Input.Source.left F.Input.Source.has_failed (F.opens files.old) F.Input.Source.reads in
-        result ≡ 8 → NameUnsatisfiableUnder _ view (texts words.now) }
+    ensures sound_under { let read = WasRead _ (F.opens files.old)
+        F.Input.Source.reads (F.tells files.old) in
+        result ≡ 8 → NameUnsatisfiableUnder read (texts words.now) }
     // A report of what the words and the files come to, or none and the cause; what goes out; and the status.
     ensures ends { let view = files_view (F.tells files.old) (F.may_refuse files.old)
         F.Input.Source.left F.Input.Source.has_failed (F.opens files.old) F.Input.Source.reads in

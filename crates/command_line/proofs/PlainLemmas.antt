@@ -262,4 +262,8 @@ plain_words formula [] plain all some few = absurd (omega arith)
 plain_words formula (first ∷ rest) plain all some few = (
   plain_good formula first rest plain all few,
   λ given is. defaults formula first rest (matches_of lrupd (formula ∷ first ∷ rest)) (plain_rows formula first rest plain all) given is.said,
+  λ path assume ask. (
+    sym (value_of formula path (sym (ap (first_of (codes "FORMULA")) (plain_rows formula first rest plain all)) ∙ ask.formula_is)),
+    sym ask.assume_is ∙ ap (first_of (codes "assume")) (plain_rows formula first rest plain all),
+  ),
 )

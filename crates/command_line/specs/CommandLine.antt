@@ -1,12 +1,12 @@
 -- The command line of `lrupd`: what `clap` is told of it, and what it finds in the words.
-use Rattle.std.specs.Prelude.{◌≡◌, ◌≢◌, ◌<◌, ◌≤◌, ⊤, ℕ, Bool, true, false, List, [], ◌∷◌, Some, codes, length, option_map}
+use Rattle.std.specs.Prelude.{◌≡◌, ◌≢◌, ◌<◌, ◌≤◌, ⊤, ℕ, Bool, true, false, List, [], ◌∷◌, Option, Some, codes, length, option_map}
 use Rattle.std.specs.Option.{option_map_or}
 use Rattle.std.specs.Str.{bytes_eq}
 use Rattle.std.specs.Str.Parse.{digits_value, without_leading_plus}
 use Rattle.clap.specs.Lexer.{usize_max}
 use Rattle.clap.specs.Words.{App, Row, Rule, Text, all_of, fault_of, first_of, matches_of}
 use Rattle.clap.specs.Words.{new_rule, one_of}
-use Rattle.clap.specs.Simple.{new_shape, on_top}
+use Rattle.clap.specs.Simple.{new_shape}
 use Rattle.clap.specs.declared.builder.action.ArgAction.TheVariants.{Append, SetTrue}
 use Rattle.clap.specs.declared.builder.value_parser.ValueParser.TheVariants as parser
 use Rattle.command_line.specs.declared.words.CommandLine.{CommandLine}
@@ -60,21 +60,26 @@ stream_rule = record (new_rule (codes "STREAM")) {
   range = Some (record { start_inclusive = 1; end_inclusive = usize_max });
 }
 
--- the rules in the order of the help; those without `long` are found by their places
-abbrev pub rules : List Rule
-rules = number_rule (codes "tries") max_tries
-    ∷ number_rule (codes "lines") max_lines
-    ∷ number_rule (codes "room") max_room
-    ∷ assume_rule ∷ serial_rule ∷ formula_rule ∷ stream_rule ∷ []
-
--- the command, with no argument and no subcommand; its words don't begin with the program's name
-abbrev pub without_arguments : App
-without_arguments =
-    record { top = record (new_shape (codes "lrupd")) { no_binary_name = true }; subs = [] }
-
--- the command, with its arguments
+-- The command, with its arguments in the order of the help; its words don't begin with the program's
+-- name. Arguments without `long` are found by their places.
 abbrev pub lrupd : App
-lrupd = on_top (λ s. record s { rules = rules }) without_arguments
+lrupd = record {
+  top = record (new_shape (codes "lrupd")) {
+    no_binary_name = true;
+    rules = number_rule (codes "tries") max_tries
+        ∷ number_rule (codes "lines") max_lines
+        ∷ number_rule (codes "room") max_room
+        ∷ assume_rule ∷ serial_rule ∷ formula_rule ∷ stream_rule ∷ [];
+  };
+  subs = [];
+}
+
+-- The words have no fault. They ask for the formula at a path, and for the assumed literals at
+-- another, if any.
+pub record AskFor (words : List Text) (formula : Text) (assume : Option Text) : Type 0 where
+  pub good : fault_of lrupd words ≡ []
+  pub formula_is : first_of (codes "FORMULA") (matches_of lrupd words) ≡ Some formula
+  pub assume_is : first_of (codes "assume") (matches_of lrupd words) ≡ assume
 
 -- ---- what the words say, by the rows that are found in them
 

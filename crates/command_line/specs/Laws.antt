@@ -1,8 +1,8 @@
 -- What the words say in the plainest case, as a law over all texts.
-use Rattle.std.specs.Prelude.{◌≡◌, ◌==◌, ◌<◌, ◌^◌, Bool, true, false, not, List, [], ◌∷◌, None, length}
+use Rattle.std.specs.Prelude.{◌≡◌, ◌==◌, ◌<◌, ◌^◌, Bool, true, false, not, List, [], ◌∷◌, Option, None, length}
 use Rattle.std.specs.List.{list_all}
 use Rattle.clap.specs.Words.{Text, fault_of}
-use Rattle.command_line.specs.CommandLine.{IsCommandLineOf, lrupd}
+use Rattle.command_line.specs.CommandLine.{AskFor, IsCommandLineOf, lrupd}
 use Rattle.command_line.specs.declared.words.CommandLine.{CommandLine}
 
 -- the word doesn't begin with a hyphen (45)
@@ -28,3 +28,5 @@ PlainWords = (formula : Text) (streams : List Text) → is_plain formula ≡ tru
     → (fault_of lrupd (formula ∷ streams) ≡ [])
     × ((given : CommandLine) → IsCommandLineOf (formula ∷ streams) given
     → HasDefaults formula streams given)
+    × ((path : Text) (assume : Option Text) → AskFor (formula ∷ streams) path assume
+    → (path ≡ formula) × (assume ≡ None))

@@ -1,16 +1,20 @@
 -- What is found in words that have no fault, and a part of the command (words inside the crate).
-use Rattle.std.specs.Prelude.{◌≡◌, ◌≢◌, ◌⊎◌, ◌<◌, ◌^◌, ⊤, ℕ, List, [], ◌∷◌, Some, codes, length, IsSome}
+use Rattle.std.specs.Prelude.{◌≡◌, ◌≢◌, ◌⊎◌, ◌<◌, ◌^◌, ⊤, ℕ, true, List, [], ◌∷◌, Some, codes, length, IsSome}
 use Rattle.std.specs.Option.{ForSome}
 use Rattle.std.specs.Str.Parse.{IsNumeral, digits_value, without_leading_plus}
-use Rattle.clap.specs.Simple.{on_top}
+use Rattle.clap.specs.Simple.{new_shape, on_top}
 use Rattle.clap.specs.Words.{App, IsUnsignedIn, Row, Text, all_of, fault_of, first_of, kind_of}
 use Rattle.clap.specs.Words.{matches_of, one_of}
 use Rattle.clap.specs.declared.error.Error.{Error}
 use Rattle.clap.specs.declared.error.kind.ErrorKind.TheVariants.{OutOfMemory}
 use Rattle.command_line.specs.CommandLine.{lrupd, max_lines, max_room, max_tries, number_rule}
-use Rattle.command_line.specs.CommandLine.{without_arguments}
 use Rattle.command_line.specs.declared.words.WordsFault.{WordsFault}
 use Rattle.command_line.specs.declared.words.WordsFault.TheVariants.{Usage, Memory}
+
+-- the command, with no argument
+abbrev pub without_arguments : App
+without_arguments =
+    record { top = record (new_shape (codes "lrupd")) { no_binary_name = true }; subs = [] }
 
 -- the command, with the options that have a number
 abbrev pub with_numbers : App

@@ -2,8 +2,8 @@
 ghost use Rattle.std.specs.Prelude.{◌≡◌, IfOk, false};
 ghost use Rattle.clap.specs.Words.{app_of, rule_of};
 ghost use Rattle.command_line.specs.CommandLine.{assume_rule, formula_rule, lrupd, number_rule, serial_rule};
-ghost use Rattle.command_line.specs.CommandLine.{stream_rule, without_arguments};
-ghost use Rattle.command_line.specs.Matches.{with_numbers};
+ghost use Rattle.command_line.specs.CommandLine.{stream_rule};
+ghost use Rattle.command_line.specs.Matches.{with_numbers, without_arguments};
 
 use crate::help;
 use clap::builder::ValueParser;

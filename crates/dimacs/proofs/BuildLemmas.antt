@@ -10,7 +10,7 @@ use Rattle.dimacs.specs.Numerals.{number_of}
 use Rattle.lrup_model.specs.DistinctLemmas.{distinct-push_same, distinct-push_other}
 use Rattle.lrup_model.specs.ListLemmas.{All-push}
 use Rattle.lrup_model.specs.ClauseLemmas.{All-from_Has, All-Has}
-use Rattle.dimacs.specs.FormulaText.{IsWritten, IsRead, IsSetOf, AreSetsOf, AreClauses, ended}
+use Rattle.dimacs.specs.FormulaTokens.{IsWritten, IsRead, IsSetOf, AreSetsOf, AreClauses, ended}
 use Rattle.dimacs.specs.FormulaFault.{StandsAt, HasBadNumber, HasLargeVariable, HasMoreClauses, HasLongClause, EndsOpen, EndsEarly}
 use Rattle.dimacs.specs.Places.{IsBuilt, AddsLiteral, AddsClause, IsFirstToken}
 use Rattle.dimacs.proofs.SetLemmas.{Has-push}

@@ -6,7 +6,7 @@ use Rattle.dimacs.specs.declared.fault.DimacsFault.{DimacsFault}
 use Rattle.dimacs.specs.declared.fault.DimacsFault.TheVariants.{TooMany, Limit, Memory, OpenClause, TooFew}
 use Rattle.dimacs.specs.Lines.{Token, lines_of}
 use Rattle.dimacs.specs.Numerals.{number_of}
-use Rattle.dimacs.specs.FormulaText.{InBodyOf}
+use Rattle.dimacs.specs.FormulaTokens.{InBodyOf}
 use Rattle.dimacs.specs.FormulaFault.{IsBodyFault}
 use Rattle.dimacs.specs.Places.{IsFirstToken, IsSmallHeader, lines_at, tokens_at}
 use Rattle.dimacs.proofs.BuildLemmas.{Reads, more_clauses, long_clause, ends_open, ends_early}

@@ -6,7 +6,9 @@ use Rattle.lrup_model.specs.Literal.{IsLiteral}
 use Rattle.lrup_model.specs.Clause.{Clause}
 use Rattle.lrup_model.specs.Formula.{Cnf}
 use Rattle.dimacs.specs.Lines.{Line, Token, lines_of, all_tokens}
-use Rattle.dimacs.specs.FormulaText.{InBodyOf, IsWritten, AreSetsOf, AreClauses, IsTextOf, ended}
+use Rattle.dimacs.specs.FormulaTokens.{InBodyOf, IsWritten, AreSetsOf, AreClauses, ended}
+use Rattle.dimacs.specs.FormulaText.{IsTextOf}
+use Rattle.dimacs.proofs.TextLemmas.{body_of_text}
 use Rattle.dimacs.proofs.LawLemmas.{one_header, somes-injective}
 
 -- a clause ends at its first 0
@@ -58,4 +60,4 @@ in_lines (header ∷ lines) f g h k =
     same_clauses f g h.vars h.count (all_tokens lines) h.later there
 
 pub one_formula : (bytes : List ℕ) (f g : Cnf) → IsTextOf bytes f → IsTextOf bytes g → f ≡ g
-one_formula bytes f g h k = in_lines (lines_of bytes) f g h k
+one_formula bytes f g h k = in_lines (lines_of bytes) f g (body_of_text bytes f h) (body_of_text bytes g k)

@@ -7,7 +7,7 @@ use Rattle.lrup_model.specs.Literal.{max_variable}
 use Rattle.lrup_model.specs.Formula.{max_clauses}
 use Rattle.dimacs.specs.Lines.{is_separator, runs}
 use Rattle.dimacs.specs.Numerals.{is_count, value}
-use Rattle.dimacs.specs.FormulaText.{IsHeader}
+use Rattle.dimacs.specs.FormulaTokens.{IsHeader}
 use Rattle.dimacs.specs.FormulaFault.{SaysTooMuch}
 use Rattle.dimacs.specs.Places.{run, after_run, with_run, IsAtToken, ReadsCount}
 use Rattle.dimacs.proofs.LineLemmas.{run-begun, run-ended, run-nil, after_run-begun, after_run-ended, after_run-nil, runs_begun, IsRun, IsRun-run}

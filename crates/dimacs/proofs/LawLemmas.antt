@@ -8,9 +8,11 @@ use Rattle.dimacs.specs.declared.fault.DimacsFault.{DimacsFault}
 use Rattle.dimacs.specs.declared.fault.DimacsFault.TheVariants.{NoHeader, BadHeader, BadNumber, VariableRange, OpenClause, TooFew, TooMany, Limit, Memory}
 use Rattle.dimacs.specs.Lines.{Line, Token, lines_of, all_tokens}
 use Rattle.dimacs.specs.Numerals.{number_of}
-use Rattle.dimacs.specs.FormulaText.{IsHeader, InBodyOf, IsWritten, IsRead, AreClauses, IsTextOf, ended}
+use Rattle.dimacs.specs.FormulaTokens.{IsHeader, InBodyOf, IsWritten, IsRead, AreClauses, ended}
 use Rattle.dimacs.specs.FormulaFault.{BeginsHeader, StandsAt, IsBodyFault, IsHeaderFault, IsFaultOf}
 use Rattle.dimacs.proofs.TallyLemmas.{tally, tally_on, Tally, tally-append, further_by_one, longer_by_one, tally_read, numbers}
+use Rattle.dimacs.specs.FormulaText.{IsTextOf}
+use Rattle.dimacs.proofs.TextLemmas.{body_of_text}
 use Rattle.dimacs.proofs.BuildLemmas.{length-sets}
 
 abbrev numbers_of : List Token → List (Option ℤ)
@@ -186,4 +188,4 @@ in_lines (header ∷ lines) f fault text faulty =
     faulty
 
 pub formula_or_fault : (bytes : List ℕ) (f : Cnf) (fault : DimacsFault) → IsTextOf bytes f → IsFaultOf bytes fault → ⊥
-formula_or_fault bytes f fault text faulty = in_lines (lines_of bytes) f fault text faulty
+formula_or_fault bytes f fault text faulty = in_lines (lines_of bytes) f fault (body_of_text bytes f text) faulty

@@ -5,6 +5,7 @@ pub mod HeaderLemmas
 pub mod SetLemmas
 pub mod BuildLemmas
 pub mod FaultLemmas
+pub mod TextLemmas
 pub mod TallyLemmas
 pub mod LawLemmas
 pub mod UniqueLemmas

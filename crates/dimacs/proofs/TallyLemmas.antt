@@ -5,7 +5,7 @@ use Rattle.std.proofs.lemmas.List.{append_assoc}
 use Rattle.lrup_model.specs.Literal.{IsLiteral}
 use Rattle.lrup_model.specs.Formula.{max_clause_literals}
 use Rattle.dimacs.specs.Lines.{Token}
-use Rattle.dimacs.specs.FormulaText.{IsWritten, IsRead, ended}
+use Rattle.dimacs.specs.FormulaTokens.{IsWritten, IsRead, ended}
 
 -- clauses ended, literals of the clause begun, and the most literals of any clause
 pub record Tally : Type 0 where

@@ -42,7 +42,7 @@ pub number_of-leading_zero : (bs : List ℕ) → (bs ≡ [] → ⊥) → number_
 unfolding number_of
 number_of-leading_zero bs ne = rw (zero_more bs ne) refl
 
-negative : (bs : List ℕ) → is_numeral bs ≡ true → number_of (45 ∷ bs) ≡ Some (neg_ℤ (pos (value bs)))
+pub negative : (bs : List ℕ) → is_numeral bs ≡ true → number_of (45 ∷ bs) ≡ Some (neg_ℤ (pos (value bs)))
 unfolding number_of
 negative bs e = rw (is_zero-other 45 bs refl, e) refl
 

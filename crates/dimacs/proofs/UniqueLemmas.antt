@@ -7,7 +7,7 @@ use Rattle.dimacs.specs.declared.fault.DimacsFault.{DimacsFault}
 use Rattle.dimacs.specs.declared.fault.DimacsFault.TheVariants.{NoHeader, BadHeader, BadNumber, VariableRange, OpenClause, TooFew, TooMany, Limit, Memory}
 use Rattle.dimacs.specs.Lines.{Line, Token, lines_of, all_tokens}
 use Rattle.dimacs.specs.Numerals.{number_of}
-use Rattle.dimacs.specs.FormulaText.{InBodyOf, IsRead}
+use Rattle.dimacs.specs.FormulaTokens.{InBodyOf, IsRead}
 use Rattle.dimacs.specs.FormulaFault.{HasNoHeader, HasBadHeader, HasLargeHeader, StandsAt, IsBodyFault, IsHeaderFault, IsFaultOf}
 use Rattle.dimacs.proofs.LawLemmas.{IsFine, fine, fine_at, one_reading, one_header, begins, no_header_fault}
 

@@ -8,7 +8,7 @@ use Rattle.dimacs.specs.declared.fault.DimacsFault.{DimacsFault}
 use Rattle.dimacs.specs.declared.fault.DimacsFault.TheVariants.{NoHeader, BadHeader, BadNumber, VariableRange, OpenClause, TooFew, TooMany, Limit, Memory}
 use Rattle.dimacs.specs.Lines.{Line, Token, lines_of}
 use Rattle.dimacs.specs.Numerals.{number_of}
-use Rattle.dimacs.specs.FormulaText.{IsHeader, IsRead, InBody}
+use Rattle.dimacs.specs.FormulaTokens.{IsHeader, IsRead, InBody}
 
 -- the line begins with the token `p`
 abbrev pub BeginsHeader : List (List ℕ) → Type 0

@@ -1,6 +1,7 @@
 pub mod Lines
 pub mod Numerals
 pub mod FormulaText
+pub mod FormulaTokens
 pub mod FormulaFault
 pub mod Places
 pub mod Marks

@@ -24,6 +24,12 @@ abbrev pub is_comment : List ℕ → Bool
 is_comment [] = false
 is_comment (b ∷ bs) = b == 99
 
+-- The tokens of each line that is no comment and has some; a line ends at LF.
+abbrev pub token_lines : List ℕ → List (List (List ℕ))
+token_lines bytes =
+    filter (λ tokens. not (is_empty tokens))
+    (map runs (filter (λ line. not (is_comment line)) (slice_split (λ b. b == 10) bytes)))
+
 -- a line with its number and its tokens
 pub record Line : Type 0 where
   pub number : ℕ

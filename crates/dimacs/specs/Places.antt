@@ -6,7 +6,7 @@ use Rattle.dimacs.specs.declared.tokens.Next.{Next}
 use Rattle.dimacs.specs.declared.tokens.Next.TheVariants.{End, Bad, Range, Zero, Literal}
 use Rattle.dimacs.specs.Lines.{Line, Token, ends_line, is_separator, is_empty, runs, lines_from, all_tokens}
 use Rattle.dimacs.specs.Numerals.{is_numeral, is_count, value, number_of}
-use Rattle.dimacs.specs.FormulaText.{IsHeader, IsRead, IsSetOf, AreSetsOf}
+use Rattle.dimacs.specs.FormulaTokens.{IsHeader, IsRead, IsSetOf, AreSetsOf}
 use Rattle.dimacs.specs.FormulaFault.{IsHeaderFault}
 use Rattle.dimacs.specs.declared.fault.DimacsFault.{DimacsFault}
 use Rattle.lrup_model.specs.Clause.{Has, EachOnce}

@@ -2,7 +2,7 @@
 ghost use Rattle.std.specs.Prelude.{◌≡◌, ◌≢◌, ◌⊎◌, ◌<◌, ◌≤◌, ◌+◌, ◌-◌, [], length, OnOk, IfOk, IfErr};
 ghost use Rattle.lrup_model.specs.Literal.{max_variable};
 ghost use Rattle.lrup_model.specs.Formula.{max_clauses, max_clause_literals, IsFormulaClause};
-ghost use Rattle.dimacs.specs.FormulaText.{AreClauses};
+ghost use Rattle.dimacs.specs.FormulaTokens.{AreClauses};
 ghost use Rattle.dimacs.specs.FormulaFault.{IsBodyFault};
 ghost use Rattle.dimacs.specs.Places.{tokens_at, AddsLiteral, AddsClause};
 ghost use Rattle.dimacs.specs.declared.fault.DimacsFault.TheVariants.{OpenClause as ends_open, TooFew, TooMany, Limit, Memory};

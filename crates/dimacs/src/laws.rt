@@ -1,9 +1,15 @@
 //! What holds of every file: laws on the words in which `parse` is stated.
-ghost use Rattle.std.specs.Prelude.{◌≡◌, ℕ, List};
+ghost use Rattle.std.specs.Prelude.{◌≡◌, ◌↔◌, ℕ, List};
 ghost use Rattle.lrup_model.specs.Formula.{Cnf};
 ghost use Rattle.dimacs.specs.declared.fault.DimacsFault.{DimacsFault};
 ghost use Rattle.dimacs.specs.FormulaText.{IsTextOf};
+ghost use Rattle.dimacs.specs.FormulaTokens.{InBody, AreClauses};
 ghost use Rattle.dimacs.specs.FormulaFault.{IsFaultOf};
+
+/// A text of a formula is one whose tokens, read one by one, are the formula's.
+pub fn text_is_read()
+    ensures { (bytes : List ℕ) (f : Cnf) → IsTextOf bytes f ↔ InBody bytes (AreClauses f) }
+{}
 
 /// No text of a formula has a fault.
 pub fn formula_or_fault()

@@ -14,4 +14,5 @@ pub mod Cuts
 pub mod CubeFaults
 pub mod CubeRests
 pub mod CubeReads
+pub mod CubeTexts
 pub mod CubeLaws

@@ -1,7 +1,7 @@
 -- The texts of cubes, in the words and within the limits of a stream's lines (this project's own):
 --     cube = *( lit SP ) "0" LF
 -- A file is the text of a cube if it is one such line and nothing more.
-use Rattle.std.specs.Prelude.{◌≡◌, ◌⊎◌, ℕ, ℤ, false, List, [], ◌∷◌, ◌++◌, map}
+use Rattle.std.specs.Prelude.{◌≡◌, ◌⊎◌, ◌↔◌, ◌≤◌, ◌<◌, ◌^◌, ℕ, ℤ, false, List, [], ◌∷◌, ◌++◌, codes, length, map, flat_map}
 use Rattle.std.specs.Fmt.{signed_decimal}
 use Rattle.lrup_model.specs.Cube.{CubeValue, IsCubeOf, IsOver}
 use Rattle.lrup_text.specs.declared.cube.CubeFault.{CubeFault}
@@ -14,10 +14,12 @@ pub record IsTextOf (literals : List ℤ) (bytes : List ℕ) : Type 0 where
   pub few : AreFew 65535 IsStreamLiteral literals
   pub is : bytes ≡ clause_text (map signed_decimal literals) (line_feed ∷ [])
 
--- the bytes are a text of the cube, whose literals are over the variables 1 to vars
+-- The bytes are a text of the cube: literals over the variables 1 to vars, each with a space after
+-- it, and then 0 and LF. The cube is their set.
 pub record IsCubeText (vars : ℕ) (bytes : List ℕ) (cube : CubeValue) : Type 0 where
   pub literals : List ℤ
-  pub text : IsTextOf literals bytes
+  pub text : bytes ≡ flat_map (λ l. signed_decimal l ++ codes " ") literals ++ codes "0\n"
+  pub few : length literals ≤ 65535
   pub over : IsOver vars literals
   pub set : IsCubeOf literals cube
 
@@ -75,3 +77,10 @@ IsCubeFault vars bytes Memory = (literals : List ℤ) × IsTextOf literals bytes
 abbrev pub TextHasNoFault : Type 0
 TextHasNoFault = (literals : List ℤ) (bytes : List ℕ) (fault : CubeFault) → IsTextOf literals bytes
     → ¬ IsTextFault IsCubeLine bytes fault
+
+-- the text of a cube over variables of at most 18 digits is a text of its literals
+abbrev pub CubeTextIsRead : Type 0
+CubeTextIsRead = (vars : ℕ) (bytes : List ℕ) (cube : CubeValue) → vars < 10 ^ 18
+    → IsCubeText vars bytes cube
+    ↔ ((literals : List ℤ) × IsTextOf literals bytes × IsOver vars literals
+    × IsCubeOf literals cube)

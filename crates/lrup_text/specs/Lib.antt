@@ -8,6 +8,8 @@ pub mod Laws
 pub mod Lending
 pub mod Lines
 pub mod Reading
+pub mod ReadOut
+pub mod ReadLemmas
 pub mod Reads
 pub mod Rests
 pub mod Writing

@@ -1,30 +1,18 @@
 -- Reads of a source, one after another, and what they gave.
-use Rattle.std.specs.Prelude.{◌≡◌, ◌<◌, ℕ, Bool, true, List, [], length, take}
-use Rattle.std.specs.Prelude.{Option, Some, None, Result, Ok, Err}
+use Rattle.std.specs.Prelude.{◌≡◌, ◌<◌, ℕ, Bool, true, List, [], length, Option, Some, None}
 use Rattle.std.specs.List.{FoldsTo, concat}
-
--- what a read gives: the bytes at the front of the buffer, or none after a fault
-abbrev pub bytes_given : {E : Type 0} → Result ℕ E → List ℕ → Option (List ℕ)
-bytes_given (Ok count) buffer = Some (take count buffer)
-bytes_given (Err fault) buffer = None
 
 -- what reads do: the source before, how long the buffer is, what is given, and the source after
 abbrev pub ReadsOf : Type 0 → Type 1
 ReadsOf S = S → ℕ → Option (List ℕ) → S → Type 0
 
--- a read of a source, into a buffer of some length, gave some bytes
-pub record GivesSome (S : Type 0) (reads : ReadsOf S) (source : S) (piece : List ℕ)
-    (after : S) : Type 0 where
-  pub room : ℕ
-  pub read : reads source room (Some piece) after
-  pub some : 0 < length piece
-
--- Reads, one after another, each of which gave some bytes, took a source from first to last, and
--- gave these bytes together.
+-- Reads, one after another, each of which gave some bytes into a buffer of some length, took a
+-- source from first to last, and gave these bytes together.
 pub record Gave (S : Type 0) (reads : ReadsOf S) (first : S) (bytes : List ℕ)
     (last : S) : Type 0 where
   pub pieces : List (List ℕ)
-  pub calls : FoldsTo (GivesSome S reads) first pieces last
+  pub calls : FoldsTo (λ source piece after.
+      (room : ℕ) × reads source room (Some piece) after × (0 < length piece)) first pieces last
   pub whole : bytes ≡ concat pieces
 
 -- Reads gave these bytes of a source, up to its first end: after them one gave none, though its

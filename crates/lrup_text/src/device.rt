@@ -1,7 +1,7 @@
 //! Where streams come from and go to.
-ghost use Rattle.std.specs.Prelude.{◌≡◌, ◌<◌, ◌≤◌, ℕ, List, Bool, false, Option, IfOk, is_err, length};
+ghost use Rattle.std.specs.Prelude.{◌≡◌, ◌<◌, ◌≤◌, ℕ, List, Bool, false, Option, IfOk, is_err, length, option_map, take};
 ghost use Rattle.std.specs.Io.KnownBytes.{ReadConsumes, WriteAppends};
-ghost use Rattle.lrup_text.specs.Reads.{bytes_given};
+ghost use Rattle.std.specs.Result.{result_ok};
 
 use std::io;
 use thiserror::Error;
@@ -36,8 +36,8 @@ pub trait Source {
         ensures bound { IfOk result (λ count. count ≤ length buffer.new) }
         ensures bytes { ReadConsumes (left self.old) (left self.new) result buffer.new }
         ensures failed { has_failed self.new ≡ is_err result }
-        ensures reads { reads self.old (length buffer.new) (bytes_given result buffer.new)
-            self.new };
+        ensures reads { reads self.old (length buffer.new)
+            (option_map (λ count. take count buffer.new) (result_ok result)) self.new };
 
     /// Whether a read has failed.
     fn failed(&self) -> bool

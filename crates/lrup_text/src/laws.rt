@@ -18,7 +18,7 @@ ghost use Rattle.lrup_text.specs.Laws.{
   EmptyPending,
   CutLaws,
 };
-ghost use Rattle.lrup_text.specs.Cubes.{TextHasNoFault};
+ghost use Rattle.lrup_text.specs.Cubes.{TextHasNoFault, CubeTextIsRead};
 
 /// A line has one text.
 pub fn a_line_has_one_text()
@@ -103,6 +103,11 @@ pub fn calls_cut_the_stream()
 /// The text of a cube's literals is neither misspelled nor too long.
 pub fn a_cube_has_no_text_fault()
     ensures { TextHasNoFault }
+{}
+
+/// The text of a cube is read as its literals, and printed from them.
+pub fn a_cube_text_is_read()
+    ensures { CubeTextIsRead }
 {}
 
 /// The laws that a proof about a whole stream rests on, at one call.

@@ -2,3 +2,4 @@ mod CubeLemmas
 mod RunLemmas
 mod WordLemmas
 mod OutcomeLemmas
+mod StatusLemmas

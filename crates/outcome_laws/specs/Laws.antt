@@ -1,5 +1,5 @@
 -- Laws of outcomes. Each is the contract of a function of laws.
-use Rattle.std.specs.Prelude.{◌≡◌, ℕ, Bool, List, length, Option, Some}
+use Rattle.std.specs.Prelude.{◌≡◌, ◌⊎◌, ℕ, Bool, List, length, Option, Some}
 use Rattle.lrup_model.specs.Event.{History}
 use Rattle.lrup_model.specs.Formula.{Cnf}
 use Rattle.lrup_model.specs.Layout.{Fits}
@@ -14,7 +14,10 @@ use Rattle.portfolio.specs.ReportText.{stream_line}
 use Rattle.portfolio.specs.declared.outcome.Verdict.{Verdict}
 use Rattle.command_line.specs.CommandLine.{IsCommandLineOf}
 use Rattle.command_line.specs.declared.words.CommandLine.{CommandLine}
-use Rattle.command.specs.Commands.{FilesView, IsOutcome, Text, layout_at, options_of}
+use Rattle.command.specs.Commands.{EndsWithFault, EndsWithReport, FilesView, IsOutcome, SinkChange, Text, WasReadIn}
+use Rattle.command.specs.Commands.{layout_at, options_of}
+use Rattle.dimacs.specs.FormulaText.{IsTextOf}
+use Rattle.lrup_model.specs.Entailment.{IsUnsatisfiable}
 use Rattle.outcome_laws.specs.Outcomes.{bare_setting, bare_report, SayTheSame, ReportsOn}
 
 -- what a stream is judged by under a cube, it is judged by without one, and its report says the same, but of clauses within the cube
@@ -65,3 +68,11 @@ OutcomesAgree R files Q others =
     → ReportsOn R files a.given reports s whole report
     → ReportsOn Q others b.given other_reports s whole other_report
     → stream_line s report ≡ stream_line s other_report
+
+-- What the program's ending says of status 0: the words have a command line, and what was read at its FORMULA is a text of a formula
+-- that no assignment satisfies. So all that isn't in the clause `sound` of what the words say is in the clause `ends`.
+abbrev pub Status0HasACommandLine : (R : Type 0) → FilesView R → Type 0
+Status0HasACommandLine R files = (words : List Text) (out err : SinkChange)
+    → EndsWithReport R files words out err 0 ⊎ EndsWithFault R files words out err 0
+    → (given : CommandLine) × (bytes : List ℕ) × (f : Cnf) × IsCommandLineOf words given
+    × WasReadIn R files given.formula.now bytes × IsTextOf bytes f × IsUnsatisfiable f

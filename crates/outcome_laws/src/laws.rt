@@ -1,6 +1,6 @@
 //! Laws of outcomes. Each function does nothing; its contract is the law.
 ghost use Rattle.command.specs.Commands.{files_view};
-ghost use Rattle.outcome_laws.specs.Laws.{NoCubeJudgesAlike, SameBytesSayTheSame, SameWordsAskAlike, OutcomesAgree};
+ghost use Rattle.outcome_laws.specs.Laws.{NoCubeJudgesAlike, SameBytesSayTheSame, SameWordsAskAlike, OutcomesAgree, Status0HasACommandLine};
 
 use command::Files;
 use dimacs::laws::one_formula;
@@ -41,3 +41,11 @@ pub fn outcomes_agree<F: Files, G: Files>(files: &F, others: &G)
     serial_run();
     same_bytes_say_the_same();
 }
+
+/// With status 0 the words have a whole command line, and what was read at its FORMULA is a text of a formula that no assignment
+/// satisfies: the clause `ends` of `command` says so.
+pub fn status_0_has_a_command_line<F: Files>(files: &F)
+    ensures { let view = files_view (F.tells files.now) (F.may_refuse files.now)
+        F.Input.Source.left F.Input.Source.has_failed (F.opens files.now) F.Input.Source.reads in
+        Status0HasACommandLine _ view }
+{}

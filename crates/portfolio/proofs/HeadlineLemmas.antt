@@ -30,6 +30,8 @@ use Rattle.portfolio.specs.Outcomes.{verdict_of}
 use Rattle.runs.specs.Headline.{HaveCalls, HaveOneHistory, IsJudgedBy, AreJudgedIn, seen_by}
 use Rattle.stream_jobs.specs.Judged.{IsReadOut}
 use Rattle.stream_threads.specs.Jobs.{JobsValue, FoundValue, CanBegin, Finishes, AllFinish, AreJobs}
+use Rattle.lrup_text.specs.ReadOut.{SourceView}
+use Rattle.runs.specs.Readings.{IsRead, AreRead}
 use Rattle.runs.specs.Streams.{Stream, IsTold, AreTold, JudgesStream, StandsOnStreams, Terms, setting_of}
 use Rattle.portfolio.proofs.EmptyLemmas.{sound}
 
@@ -74,102 +76,13 @@ are_opened store f p ps count each = opened_from store f 1 ps (λ k pass at.
 
 -- ---- the jobs
 
--- the jobs of a stream before its first byte, at the pass that the store opened
-pub record IsReady (store : StoreValue) (f : Cnf) (terms : Terms) (s : ℕ) (entry : Option (List ℕ)) (jobs : JobsValue) : Type 0 where
-  pub left : jobs.left ≡ entry
-  pub checker : IsNew terms.layout terms.cube s terms.tries jobs.checker
-  pub opened : IsOpened store f s jobs.pass
-
-abbrev pub AreReady : StoreValue → Cnf → Terms → ℕ → List (Option (List ℕ)) → List JobsValue → Type 0
-AreReady store f terms s [] [] = Unit {0}
-AreReady store f terms s (e ∷ es) (j ∷ js) = IsReady store f terms s e j × AreReady store f terms (s + 1) es js
-AreReady store f terms s _ _ = ⊥
-
-pub are_ready : (store : StoreValue) (f : Cnf) (terms : Terms) (s : ℕ) (entries : List (Option (List ℕ))) (ps : List PassValue) (js : List JobsValue)
-    → AreJobs terms s entries ps js → AreOpened store f s ps → AreReady store f terms s entries js
-are_ready store f terms s [] [] [] all opened = tt
-are_ready store f terms s [] [] (j ∷ js) all opened = absurd all
-are_ready store f terms s [] (q ∷ ps) js all opened = absurd all
-are_ready store f terms s (e ∷ es) [] js all opened = absurd all
-are_ready store f terms s (e ∷ es) (q ∷ ps) [] all opened = absurd all
-are_ready store f terms s (e ∷ es) (q ∷ ps) (j ∷ js) all opened = (
-  record { left = all.0.left; checker = all.0.checker; opened = subst (IsOpened store f s) (sym all.0.pass) opened.0 },
-  are_ready store f terms (s + 1) es ps js all.1 opened.1,
-)
-
--- the first byte may be taken where nothing was called yet
-ready_can : (f : Cnf) (terms : Terms) (store : StoreValue) (s : ℕ) (entry : Option (List ℕ)) (j : JobsValue)
-    → Fits terms.layout f → store.layout ≡ terms.layout → IsReady store f terms s entry j → CanBegin store j
-ready_can f terms store s entry j fits same ready =
-    let opened = ready.opened in
-    let setting = ready.checker.setting in
-    let layout : j.pass.view.caller.layout ≡ terms.layout = ap (λ (c : Caller). c.layout) opened.caller ∙ same in
-    let stream : j.pass.view.caller.stream ≡ s = ap (λ (c : Caller). c.stream) opened.caller in
-    let formula : j.pass.view.caller.formula ≡ f = ap (λ (c : Caller). c.formula) opened.caller in
-    record {
-      here = opened.store;
-      ready = record {
-        at = record {
-          layout = layout ∙ sym (ap (λ (c : Setting). c.layout) setting);
-          stream = stream ∙ sym (ap (λ (c : Setting). c.stream) setting);
-        };
-        vacant = λ id owns above.
-            let here = subst (λ (n : ℕ). Owns terms.layout n id) stream (subst (λ (q : LayoutValue). Owns q j.pass.view.caller.stream id) layout owns) in
-            ap₂ (λ (g : Cnf) (h : History). state g h id) formula opened.mine ∙ opening-owned f terms.layout s id fits here;
-      };
-    }
-
-pub all_can_begin : (f : Cnf) (terms : Terms) (store : StoreValue) → Fits terms.layout f → store.layout ≡ terms.layout
-    → (s : ℕ) (entries : List (Option (List ℕ))) (js : List JobsValue) → AreReady store f terms s entries js → AllByRecursion (CanBegin store) js
-all_can_begin f terms store fits same s [] [] ready = tt
-all_can_begin f terms store fits same s [] (j ∷ js) ready = absurd ready
-all_can_begin f terms store fits same s (e ∷ es) [] ready = absurd ready
-all_can_begin f terms store fits same s (e ∷ es) (j ∷ js) ready =
-    (ready_can f terms store s e j fits same ready.0, all_can_begin f terms store fits same (s + 1) es js ready.1)
-
-pub ready_count : (store : StoreValue) (f : Cnf) (terms : Terms) (s : ℕ) (entries : List (Option (List ℕ))) (js : List JobsValue)
-    → AreReady store f terms s entries js → length js ≡ length entries
-ready_count store f terms s [] [] ready = refl
-ready_count store f terms s [] (j ∷ js) ready = absurd ready
-ready_count store f terms s (e ∷ es) [] ready = absurd ready
-ready_count store f terms s (e ∷ es) (j ∷ js) ready = omega (arith, ready_count store f terms (s + 1) es js ready.1)
-
--- ---- what was found, and the passes when all have met
-
-pub finish_of : (store : StoreValue) (f : Cnf) (terms : Terms) (s : ℕ) (entries : List (Option (List ℕ))) (js : List JobsValue) (fs : List FoundValue)
-    → AreReady store f terms s entries js → AllFinish js fs → AreOf store (map (λ x. x.pass) fs)
-finish_of store f terms s [] [] [] ready all = tt
-finish_of store f terms s [] [] (x ∷ fs) ready all = absurd all
-finish_of store f terms s [] (j ∷ js) fs ready all = absurd ready
-finish_of store f terms s (e ∷ es) [] fs ready all = absurd ready
-finish_of store f terms s (e ∷ es) (j ∷ js) [] ready all = absurd all
-finish_of store f terms s (e ∷ es) (j ∷ js) (x ∷ fs) ready all = (all.0.store ∙ ready.0.opened.store, finish_of store f terms (s + 1) es js fs ready.1 all.1)
-
-pub finish_count : (js : List JobsValue) (fs : List FoundValue) → AllFinish js fs → length fs ≡ length js
-finish_count [] [] all = refl
-finish_count [] (x ∷ fs) all = absurd all
-finish_count (j ∷ js) [] all = absurd all
-finish_count (j ∷ js) (x ∷ fs) all = omega (arith, finish_count js fs all.1)
-
-met_count : (fs : List FoundValue) (vs : List View) → AreMet (views (map (λ x. x.pass) fs)) vs → length vs ≡ length fs
-met_count [] [] met = refl
-met_count [] (v ∷ vs) met = absurd met
-met_count (x ∷ fs) [] met = absurd met
-met_count (x ∷ fs) (v ∷ vs) met = omega (arith, met_count fs vs met.2)
+-- what the calls of a pass come to
 
 -- one stream's pass, from its opening to the meeting: it is the stream's, and its calls are those that were made
 pub record Ends (f : Cnf) (p : LayoutValue) (s : ℕ) (es : History) (v : View) : Type 0 where
   pub caller : v.caller ≡ record { formula = f; layout = p; stream = s }
   pub mine : v.mine ≡ es
   pub fair : IsFair v
-
-ends : (f : Cnf) (p : LayoutValue) (store : StoreValue) (s : ℕ) (j : JobsValue) (x : FoundValue) (v : View)
-    → store.layout ≡ p → IsOpened store f s j.pass → (fin : Finishes j x) → PassMoves x.pass.view v [] → IsFair v → Ends f p s (joined fin.blocks) v
-ends f p store s j x v same opened fin met fair = record {
-  caller = met.caller ∙ fin.moves.caller ∙ opened.caller ∙ ap (λ (l : LayoutValue). record { formula = f; layout = l; stream = s }) same;
-  mine = met.mine ∙ append-nil x.pass.view.mine ∙ fin.moves.mine ∙ ap (λ (es : History). es ++ joined fin.blocks) opened.mine;
-  fair = fair;
-}
 
 -- what the pass has seen is legal, and has its calls just as they were made
 ends_own : (f : Cnf) (p : LayoutValue) (s : ℕ) (es h : History) (v : View) → Ends f p s es v → v.seen ≡ h → v.mine ≡ own h s
@@ -178,49 +91,9 @@ ends_own f p s es h v e saw = sym e.fair.mine ∙ ap₂ (λ (g : History) (n : �
 ends_legal : (f : Cnf) (p : LayoutValue) (s : ℕ) (es h : History) (v : View) → Ends f p s es v → v.seen ≡ h → IsLegal f p h
 ends_legal f p s es h v e saw = subst (λ (c : Caller). IsLegal c.formula c.layout h) e.caller (subst (λ (g : History). IsLegal v.caller.formula v.caller.layout g) saw e.fair.legal)
 
-have_calls : (f : Cnf) (terms : Terms) (store : StoreValue) (h : History) → store.layout ≡ terms.layout
-    → (s : ℕ) (entries : List (Option (List ℕ))) (js : List JobsValue) (fs : List FoundValue) (vs : List View)
-    → AreReady store f terms s entries js → AllFinish js fs → AreMet (views (map (λ x. x.pass) fs)) vs → AllSaw h vs → HaveCalls f terms.layout h s vs
-have_calls f terms store h same s [] [] [] [] ready all met saw = tt
-have_calls f terms store h same s [] [] [] (v ∷ vs) ready all met saw = absurd met
-have_calls f terms store h same s [] [] (x ∷ fs) vs ready all met saw = absurd all
-have_calls f terms store h same s [] (j ∷ js) fs vs ready all met saw = absurd ready
-have_calls f terms store h same s (e ∷ es) [] fs vs ready all met saw = absurd ready
-have_calls f terms store h same s (e ∷ es) (j ∷ js) [] vs ready all met saw = absurd all
-have_calls f terms store h same s (e ∷ es) (j ∷ js) (x ∷ fs) [] ready all met saw = absurd met
-have_calls f terms store h same s (e ∷ es) (j ∷ js) (x ∷ fs) (v ∷ vs) ready all met saw =
-    let end = ends f terms.layout store s j x v same ready.0.opened all.0 met.0 met.1 in
-    (end.caller, saw.0, ends_own f terms.layout s (joined all.0.blocks) h v end saw.0, have_calls f terms store h same (s + 1) es js fs vs ready.1 all.1 met.2 saw.1)
-
-have_legal : (f : Cnf) (terms : Terms) (store : StoreValue) (h : History) → store.layout ≡ terms.layout
-    → (s : ℕ) (entries : List (Option (List ℕ))) (js : List JobsValue) (fs : List FoundValue) (vs : List View)
-    → AreReady store f terms s entries js → AllFinish js fs → AreMet (views (map (λ x. x.pass) fs)) vs → AllSaw h vs → 0 < length js → IsLegal f terms.layout h
-have_legal f terms store h same s entries [] fs vs ready all met saw some = absurd (omega arith)
-have_legal f terms store h same s [] (j ∷ js) fs vs ready all met saw some = absurd ready
-have_legal f terms store h same s (e ∷ es) (j ∷ js) [] vs ready all met saw some = absurd all
-have_legal f terms store h same s (e ∷ es) (j ∷ js) (x ∷ fs) [] ready all met saw some = absurd met
-have_legal f terms store h same s (e ∷ es) (j ∷ js) (x ∷ fs) (v ∷ vs) ready all met saw some =
-    ends_legal f terms.layout s (joined all.0.blocks) h v (ends f terms.layout store s j x v same ready.0.opened all.0 met.0 met.1) saw.0
-
 first_saw : (h : History) (vs : List View) → AllSaw h vs → 0 < length vs → h ≡ seen_by vs
 first_saw h [] saw some = absurd (omega arith)
 first_saw h (v ∷ vs) saw some = sym saw.0
-
--- all passes of a run have one history
-pub one_history : (f : Cnf) (terms : Terms) (store : StoreValue) (entries : List (Option (List ℕ))) (js : List JobsValue) (fs : List FoundValue) (vs : List View)
-    → IsLayout terms.layout → store.layout ≡ terms.layout → length js ≡ terms.layout.streams
-    → AreReady store f terms 1 entries js → AllFinish js fs → AreMet (views (map (λ x. x.pass) fs)) vs → HaveMet vs → HaveOneHistory f terms.layout (seen_by vs) vs
-one_history f terms store entries js fs vs is same count ready all met one =
-    let each : length vs ≡ terms.layout.streams = met_count fs vs met ∙ finish_count js fs all ∙ count in
-    let seen : one.0 ≡ seen_by vs = first_saw one.0 vs one.1 (omega (arith, is.some_stream, each)) in
-    let saw : AllSaw (seen_by vs) vs = subst (λ (h : History). AllSaw h vs) seen one.1 in
-    record {
-      legal = have_legal f terms store (seen_by vs) same 1 entries js fs vs ready all met saw (omega (arith, is.some_stream, count));
-      count = each;
-      calls = have_calls f terms store (seen_by vs) same 1 entries js fs vs ready all met saw;
-    }
-
--- ---- the reports
 
 -- a pass that has made no call has the whole room
 opened_room : (f : Cnf) (p : LayoutValue) (store : StoreValue) (s : ℕ) (q : PassValue) → store.layout ≡ p → IsOpened store f s q → p.room ≡ (pass_place q.view).room
@@ -249,47 +122,193 @@ judged_in f terms h s (t ∷ ts) (v ∷ vs) (r ∷ rs) judged calls = (
   judged_in f terms h (s + 1) ts vs rs judged.1 calls.3,
 )
 
--- The streams that the readers told, by which the reports hold.
-pub record Judged (terms : Terms) (s : ℕ) (entries : List (Option (List ℕ))) (fs : List FoundValue) (vs : List View) : Type 0 where
-  pub streams : List Stream
-  pub out : AllByRecursion IsReadOut streams
-  pub told : AreTold entries (map (λ x. x.left) fs) (map (λ x. x.has_failed) fs) streams
-  pub judged : AreJudgedBy terms s streams vs (map (λ x. x.report) fs)
+-- ---- of readers of one kind
 
-pub judged_by : (f : Cnf) (terms : Terms) (store : StoreValue) → store.layout ≡ terms.layout
-    → (s : ℕ) (entries : List (Option (List ℕ))) (js : List JobsValue) (fs : List FoundValue) (vs : List View)
-    → AreReady store f terms s entries js → AllFinish js fs → AreMet (views (map (λ x. x.pass) fs)) vs → Judged terms s entries fs vs
-judged_by f terms store same s [] [] [] [] ready all met = record { streams = []; out = tt; told = tt; judged = tt }
-judged_by f terms store same s [] [] [] (v ∷ vs) ready all met = absurd met
-judged_by f terms store same s [] [] (x ∷ fs) vs ready all met = absurd all
-judged_by f terms store same s [] (j ∷ js) fs vs ready all met = absurd ready
-judged_by f terms store same s (e ∷ es) [] fs vs ready all met = absurd ready
-judged_by f terms store same s (e ∷ es) (j ∷ js) [] vs ready all met = absurd all
-judged_by f terms store same s (e ∷ es) (j ∷ js) (x ∷ fs) [] ready all met = absurd met
-judged_by f terms store same s (e ∷ es) (j ∷ js) (x ∷ fs) (v ∷ vs) ready all met =
-    let here = ready.0 in
-    let fresh = subst (λ (n : ℕ). Leaves j.checker.setting [] [] (state_of j.checker n)) (opened_room f terms.layout store s j.pass same here.opened) here.checker.left in
-    let one = all.0.judged fresh in
-    let told = subst (λ (o : Option (List ℕ)). IsTold o x.left x.has_failed one.0) here.left one.2 in
-    let calls = (ends f terms.layout store s j x v same here.opened all.0 met.0 met.1).mine in
-    let judged = subst (λ (c : Setting). JudgesStream c one.0 all.0.blocks x.report) here.checker.setting one.3 in
-    let more = judged_by f terms store same (s + 1) es js fs vs ready.1 all.1 met.2 in
-    record { streams = one.0 ∷ more.streams; out = (one.1, more.out); told = (told, more.told); judged = ((all.0.blocks, calls, judged), more.judged) }
+module _ {S : Type 0} (view : SourceView S) where
+  -- the jobs of a stream before its first byte, at the pass that the store opened
+  pub record IsReady (store : StoreValue) (f : Cnf) (terms : Terms) (s : ℕ) (first : S) (jobs : JobsValue S) : Type 0 where
+    pub reader_is : jobs.reader ≡ first
+    pub checker : IsNew terms.layout terms.cube s terms.tries jobs.checker
+    pub opened : IsOpened store f s jobs.pass
 
--- the same in the words of the lists that are given back, and of the one history
-pub judged_so : (f : Cnf) (terms wanted : Terms) (entries lefts : List (Option (List ℕ))) (faileds : List Bool) (reports : List Report)
-    (fs : List FoundValue) (vs : List View)
-    → Judged terms 1 entries fs vs → terms ≡ wanted → HaveOneHistory f wanted.layout (seen_by vs) vs
-    → lefts ≡ map (λ x. x.left) fs → faileds ≡ map (λ x. x.has_failed) fs → reports ≡ map (λ x. x.report) fs
-    → StandsOnStreams entries lefts faileds (λ streams. AllByRecursion IsReadOut streams × AreJudgedIn wanted (λ s. true) (seen_by vs) 1 streams reports)
-judged_so f terms wanted entries lefts faileds reports fs vs j same one left failed said =
-    let judged : AreJudgedBy wanted 1 j.streams vs (map (λ x. x.report) fs) =
-    subst (λ (t : Terms). AreJudgedBy t 1 j.streams vs (map (λ x. x.report) fs)) same j.judged in
-    record {
-      streams = j.streams;
-      told = rw (left, failed) j.told;
-      judged = (j.out, rw said (judged_in f wanted (seen_by vs) 1 j.streams vs (map (λ x. x.report) fs) judged one.calls));
-    }
+  abbrev pub AreReady : StoreValue → Cnf → Terms → ℕ → List S → List (JobsValue S) → Type 0
+  AreReady store f terms s [] [] = Unit {0}
+  AreReady store f terms s (e ∷ es) (j ∷ js) = IsReady store f terms s e j × AreReady store f terms (s + 1) es js
+  AreReady store f terms s _ _ = ⊥
+
+  pub are_ready : (store : StoreValue) (f : Cnf) (terms : Terms) (s : ℕ) (firsts : List S) (ps : List PassValue) (js : List (JobsValue S))
+      → AreJobs terms s firsts ps js → AreOpened store f s ps → AreReady store f terms s firsts js
+  are_ready store f terms s [] [] [] all opened = tt
+  are_ready store f terms s [] [] (j ∷ js) all opened = absurd all
+  are_ready store f terms s [] (q ∷ ps) js all opened = absurd all
+  are_ready store f terms s (e ∷ es) [] js all opened = absurd all
+  are_ready store f terms s (e ∷ es) (q ∷ ps) [] all opened = absurd all
+  are_ready store f terms s (e ∷ es) (q ∷ ps) (j ∷ js) all opened = (
+    record { reader_is = all.0.reader_is; checker = all.0.checker; opened = subst (IsOpened store f s) (sym all.0.pass) opened.0 },
+    are_ready store f terms (s + 1) es ps js all.1 opened.1,
+  )
+
+  -- the first byte may be taken where nothing was called yet
+  ready_can : (f : Cnf) (terms : Terms) (store : StoreValue) (s : ℕ) (first : S) (j : JobsValue S)
+      → Fits terms.layout f → store.layout ≡ terms.layout → IsReady store f terms s first j → CanBegin store j
+  ready_can f terms store s first j fits same ready =
+      let opened = ready.opened in
+      let setting = ready.checker.setting in
+      let layout : j.pass.view.caller.layout ≡ terms.layout = ap (λ (c : Caller). c.layout) opened.caller ∙ same in
+      let stream : j.pass.view.caller.stream ≡ s = ap (λ (c : Caller). c.stream) opened.caller in
+      let formula : j.pass.view.caller.formula ≡ f = ap (λ (c : Caller). c.formula) opened.caller in
+      record {
+        here = opened.store;
+        ready = record {
+          at = record {
+            layout = layout ∙ sym (ap (λ (c : Setting). c.layout) setting);
+            stream = stream ∙ sym (ap (λ (c : Setting). c.stream) setting);
+          };
+          vacant = λ id owns above.
+              let here = subst (λ (n : ℕ). Owns terms.layout n id) stream (subst (λ (q : LayoutValue). Owns q j.pass.view.caller.stream id) layout owns) in
+              ap₂ (λ (g : Cnf) (h : History). state g h id) formula opened.mine ∙ opening-owned f terms.layout s id fits here;
+        };
+      }
+
+  pub all_can_begin : (f : Cnf) (terms : Terms) (store : StoreValue) → Fits terms.layout f → store.layout ≡ terms.layout
+      → (s : ℕ) (firsts : List S) (js : List (JobsValue S)) → AreReady store f terms s firsts js → AllByRecursion (CanBegin store) js
+  all_can_begin f terms store fits same s [] [] ready = tt
+  all_can_begin f terms store fits same s [] (j ∷ js) ready = absurd ready
+  all_can_begin f terms store fits same s (e ∷ es) [] ready = absurd ready
+  all_can_begin f terms store fits same s (e ∷ es) (j ∷ js) ready =
+      (ready_can f terms store s e j fits same ready.0, all_can_begin f terms store fits same (s + 1) es js ready.1)
+
+  pub ready_count : (store : StoreValue) (f : Cnf) (terms : Terms) (s : ℕ) (firsts : List S) (js : List (JobsValue S))
+      → AreReady store f terms s firsts js → length js ≡ length firsts
+  ready_count store f terms s [] [] ready = refl
+  ready_count store f terms s [] (j ∷ js) ready = absurd ready
+  ready_count store f terms s (e ∷ es) [] ready = absurd ready
+  ready_count store f terms s (e ∷ es) (j ∷ js) ready = omega (arith, ready_count store f terms (s + 1) es js ready.1)
+
+  -- ---- what was found, and the passes when all have met
+
+  pub finish_of : (store : StoreValue) (f : Cnf) (terms : Terms) (s : ℕ) (firsts : List S) (js : List (JobsValue S)) (fs : List (FoundValue S))
+      → AreReady store f terms s firsts js → AllFinish view js fs → AreOf store (map (λ x. x.pass) fs)
+  finish_of store f terms s [] [] [] ready all = tt
+  finish_of store f terms s [] [] (x ∷ fs) ready all = absurd all
+  finish_of store f terms s [] (j ∷ js) fs ready all = absurd ready
+  finish_of store f terms s (e ∷ es) [] fs ready all = absurd ready
+  finish_of store f terms s (e ∷ es) (j ∷ js) [] ready all = absurd all
+  finish_of store f terms s (e ∷ es) (j ∷ js) (x ∷ fs) ready all = (all.0.store ∙ ready.0.opened.store, finish_of store f terms (s + 1) es js fs ready.1 all.1)
+
+  pub finish_count : (js : List (JobsValue S)) (fs : List (FoundValue S)) → AllFinish view js fs → length fs ≡ length js
+  finish_count [] [] all = refl
+  finish_count [] (x ∷ fs) all = absurd all
+  finish_count (j ∷ js) [] all = absurd all
+  finish_count (j ∷ js) (x ∷ fs) all = omega (arith, finish_count js fs all.1)
+
+  met_count : (fs : List (FoundValue S)) (vs : List View) → AreMet (views (map (λ x. x.pass) fs)) vs → length vs ≡ length fs
+  met_count [] [] met = refl
+  met_count [] (v ∷ vs) met = absurd met
+  met_count (x ∷ fs) [] met = absurd met
+  met_count (x ∷ fs) (v ∷ vs) met = omega (arith, met_count fs vs met.2)
+
+  ends : (f : Cnf) (p : LayoutValue) (store : StoreValue) (s : ℕ) (j : JobsValue S) (x : FoundValue S) (v : View)
+      → store.layout ≡ p → IsOpened store f s j.pass → (fin : Finishes view j x) → PassMoves x.pass.view v [] → IsFair v → Ends f p s (joined fin.blocks) v
+  ends f p store s j x v same opened fin met fair = record {
+    caller = met.caller ∙ fin.moves.caller ∙ opened.caller ∙ ap (λ (l : LayoutValue). record { formula = f; layout = l; stream = s }) same;
+    mine = met.mine ∙ append-nil x.pass.view.mine ∙ fin.moves.mine ∙ ap (λ (es : History). es ++ joined fin.blocks) opened.mine;
+    fair = fair;
+  }
+
+  have_calls : (f : Cnf) (terms : Terms) (store : StoreValue) (h : History) → store.layout ≡ terms.layout
+      → (s : ℕ) (firsts : List S) (js : List (JobsValue S)) (fs : List (FoundValue S)) (vs : List View)
+      → AreReady store f terms s firsts js → AllFinish view js fs → AreMet (views (map (λ x. x.pass) fs)) vs → AllSaw h vs → HaveCalls f terms.layout h s vs
+  have_calls f terms store h same s [] [] [] [] ready all met saw = tt
+  have_calls f terms store h same s [] [] [] (v ∷ vs) ready all met saw = absurd met
+  have_calls f terms store h same s [] [] (x ∷ fs) vs ready all met saw = absurd all
+  have_calls f terms store h same s [] (j ∷ js) fs vs ready all met saw = absurd ready
+  have_calls f terms store h same s (e ∷ es) [] fs vs ready all met saw = absurd ready
+  have_calls f terms store h same s (e ∷ es) (j ∷ js) [] vs ready all met saw = absurd all
+  have_calls f terms store h same s (e ∷ es) (j ∷ js) (x ∷ fs) [] ready all met saw = absurd met
+  have_calls f terms store h same s (e ∷ es) (j ∷ js) (x ∷ fs) (v ∷ vs) ready all met saw =
+      let end = ends f terms.layout store s j x v same ready.0.opened all.0 met.0 met.1 in
+      (end.caller, saw.0, ends_own f terms.layout s (joined all.0.blocks) h v end saw.0, have_calls f terms store h same (s + 1) es js fs vs ready.1 all.1 met.2 saw.1)
+
+  have_legal : (f : Cnf) (terms : Terms) (store : StoreValue) (h : History) → store.layout ≡ terms.layout
+      → (s : ℕ) (firsts : List S) (js : List (JobsValue S)) (fs : List (FoundValue S)) (vs : List View)
+      → AreReady store f terms s firsts js → AllFinish view js fs → AreMet (views (map (λ x. x.pass) fs)) vs → AllSaw h vs → 0 < length js → IsLegal f terms.layout h
+  have_legal f terms store h same s firsts [] fs vs ready all met saw some = absurd (omega arith)
+  have_legal f terms store h same s [] (j ∷ js) fs vs ready all met saw some = absurd ready
+  have_legal f terms store h same s (e ∷ es) (j ∷ js) [] vs ready all met saw some = absurd all
+  have_legal f terms store h same s (e ∷ es) (j ∷ js) (x ∷ fs) [] ready all met saw some = absurd met
+  have_legal f terms store h same s (e ∷ es) (j ∷ js) (x ∷ fs) (v ∷ vs) ready all met saw some =
+      ends_legal f terms.layout s (joined all.0.blocks) h v (ends f terms.layout store s j x v same ready.0.opened all.0 met.0 met.1) saw.0
+
+  -- all passes of a run have one history
+  pub one_history : (f : Cnf) (terms : Terms) (store : StoreValue) (firsts : List S) (js : List (JobsValue S)) (fs : List (FoundValue S)) (vs : List View)
+      → IsLayout terms.layout → store.layout ≡ terms.layout → length js ≡ terms.layout.streams
+      → AreReady store f terms 1 firsts js → AllFinish view js fs → AreMet (views (map (λ x. x.pass) fs)) vs → HaveMet vs → HaveOneHistory f terms.layout (seen_by vs) vs
+  one_history f terms store firsts js fs vs is same count ready all met one =
+      let each : length vs ≡ terms.layout.streams = met_count fs vs met ∙ finish_count js fs all ∙ count in
+      let seen : one.0 ≡ seen_by vs = first_saw one.0 vs one.1 (omega (arith, is.some_stream, each)) in
+      let saw : AllSaw (seen_by vs) vs = subst (λ (h : History). AllSaw h vs) seen one.1 in
+      record {
+        legal = have_legal f terms store (seen_by vs) same 1 firsts js fs vs ready all met saw (omega (arith, is.some_stream, count));
+        count = each;
+        calls = have_calls f terms store (seen_by vs) same 1 firsts js fs vs ready all met saw;
+      }
+
+  -- ---- the reports
+
+  -- The streams that the readers told, and that their reads gave, by which the reports hold.
+  pub record Judged (terms : Terms) (s : ℕ) (firsts : List S) (fs : List (FoundValue S)) (vs : List View) : Type 0 where
+    pub streams : List Stream
+    pub out : AllByRecursion IsReadOut streams
+    pub told : AreTold (map view.left firsts) (map view.left (map (λ x. x.reader) fs)) (map view.has_failed (map (λ x. x.reader) fs)) streams
+    pub judged : AreJudgedBy terms s streams vs (map (λ x. x.report) fs)
+    pub read : AreRead S view.reads firsts (map (λ x. x.reader) fs) streams
+
+  pub judged_by : (f : Cnf) (terms : Terms) (store : StoreValue) → store.layout ≡ terms.layout
+      → (s : ℕ) (firsts : List S) (js : List (JobsValue S)) (fs : List (FoundValue S)) (vs : List View)
+      → AreReady store f terms s firsts js → AllFinish view js fs → AreMet (views (map (λ x. x.pass) fs)) vs → Judged terms s firsts fs vs
+  judged_by f terms store same s [] [] [] [] ready all met = record { streams = []; out = tt; told = tt; judged = tt; read = tt }
+  judged_by f terms store same s [] [] [] (v ∷ vs) ready all met = absurd met
+  judged_by f terms store same s [] [] (x ∷ fs) vs ready all met = absurd all
+  judged_by f terms store same s [] (j ∷ js) fs vs ready all met = absurd ready
+  judged_by f terms store same s (e ∷ es) [] fs vs ready all met = absurd ready
+  judged_by f terms store same s (e ∷ es) (j ∷ js) [] vs ready all met = absurd all
+  judged_by f terms store same s (e ∷ es) (j ∷ js) (x ∷ fs) [] ready all met = absurd met
+  judged_by f terms store same s (e ∷ es) (j ∷ js) (x ∷ fs) (v ∷ vs) ready all met =
+      let here = ready.0 in
+      let fresh = subst (λ (n : ℕ). Leaves j.checker.setting [] [] (state_of j.checker n)) (opened_room f terms.layout store s j.pass same here.opened) here.checker.left in
+      let one = all.0.judged fresh in
+      let told = subst (λ (r : S). IsTold (view.left r) (view.left x.reader) (view.has_failed x.reader) one.0) here.reader_is one.2 in
+      let read = subst (λ (r : S). IsRead S view.reads r x.reader one.0) here.reader_is one.3 in
+      let calls = (ends f terms.layout store s j x v same here.opened all.0 met.0 met.1).mine in
+      let judged = subst (λ (c : Setting). JudgesStream c one.0 all.0.blocks x.report) here.checker.setting one.4 in
+      let more = judged_by f terms store same (s + 1) es js fs vs ready.1 all.1 met.2 in
+      record {
+        streams = one.0 ∷ more.streams;
+        out = (one.1, more.out);
+        told = (told, more.told);
+        judged = ((all.0.blocks, calls, judged), more.judged);
+        read = (read, more.read);
+      }
+
+  -- the same in the words of the lists that are given back, and of the one history
+  pub judged_so : (f : Cnf) (terms wanted : Terms) (firsts lasts : List S) (reports : List Report) (fs : List (FoundValue S)) (vs : List View)
+      → Judged terms 1 firsts fs vs → terms ≡ wanted → HaveOneHistory f wanted.layout (seen_by vs) vs
+      → lasts ≡ map (λ x. x.reader) fs → reports ≡ map (λ x. x.report) fs
+      → StandsOnStreams (map view.left firsts) (map view.left lasts) (map view.has_failed lasts)
+      (λ streams. AllByRecursion IsReadOut streams × AreJudgedIn wanted (λ s. true) (seen_by vs) 1 streams reports × AreRead S view.reads firsts lasts streams)
+  judged_so f terms wanted firsts lasts reports fs vs j same one readers said =
+      let judged : AreJudgedBy wanted 1 j.streams vs (map (λ x. x.report) fs) =
+      subst (λ (t : Terms). AreJudgedBy t 1 j.streams vs (map (λ x. x.report) fs)) same j.judged in
+      record {
+        streams = j.streams;
+        told = subst (λ (ls : List S). AreTold (map view.left firsts) (map view.left ls) (map view.has_failed ls) j.streams) (sym readers) j.told;
+        judged = (
+          j.out,
+          rw said (judged_in f wanted (seen_by vs) 1 j.streams vs (map (λ x. x.report) fs) judged one.calls),
+          subst (λ (ls : List S). AreRead S view.reads firsts ls j.streams) (sym readers) j.read,
+        );
+      }
 
 -- ---- 'unsatisfiable'
 

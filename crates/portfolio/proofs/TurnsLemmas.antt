@@ -27,6 +27,8 @@ use Rattle.stream_check.specs.Laws.{ReadyBeside}
 use Rattle.portfolio.proofs.EmptyLemmas.{sound_in_order}
 use Rattle.portfolio.proofs.WorkingLemmas.{not_over}
 use Rattle.portfolio.specs.Outcomes.{OptionsValue, layout_of}
+use Rattle.lrup_text.specs.ReadOut.{SourceView}
+use Rattle.runs.specs.Readings.{IsRead, AreRead}
 use Rattle.runs.specs.Streams.{Stream, IsTold, AreTold, JudgesStream, Block, blocks_of, events_in, IsBlockWithin, setting_of, AreJudged, IsOrdered, StandsOnStreams, Terms, terms_at}
 use Rattle.portfolio.specs.Working.{WorkerValue, WorksBy, Works, WorksOn, IsStarted}
 use Rattle.portfolio.specs.Turns.{HasRun, IsWorking, AreWorking, Runs, IsRunning, GoesOn, IsOver, AreOver, IsOverAt, AreStarted, HaveReports}
@@ -143,167 +145,6 @@ run_more f p blocks m n s bs has stream moves =
       room = subst (λ (es : History). (t : ℕ) → IsStream p t → free_at n t + spent t es ≡ p.room) same room;
     }
 
--- the worker whose turn it was
-working_on : (terms : Terms) (blocks : List Block) (m n : Plain) (s : ℕ) (bs : List History) (entry : Option (List ℕ)) (w v : WorkerValue) → IsWorking terms blocks m s entry w
-    → WorksOn w (free_at m s) bs v (free_at n s) → IsReadyAt v.checker (plain_place n s) → v.checker.setting ≡ w.checker.setting → IsWorking terms (blocks ++ tagged s bs) n s entry v
-working_on terms blocks m n s bs entry w v working on ready setting = record {
-  setting = setting ∙ working.setting;
-  works = subst (Works entry v (free_at n s)) (sym (blocks_more s blocks bs)) (on entry (blocks_of s blocks) working.works);
-  ready = ready;
-}
-
--- the other workers
-module _ (law : ReadyBeside) (terms : Terms) (blocks : List Block) (m n : Plain) (s : ℕ) (bs : List History) (moves : PlainMoves m n s (joined bs)) where
-  working_beside : (t : ℕ) (entry : Option (List ℕ)) (w : WorkerValue) → 0 < t → s ≢ t → IsWorking terms blocks m t entry w → IsWorking terms (blocks ++ tagged s bs) n t entry w
-  working_beside t entry w positive other working =
-      let stream : w.checker.setting.stream ≡ t = ap (λ (c : Setting). c.stream) working.setting in
-      let here : IsReadyAt w.checker (plain_place m w.checker.setting.stream) = subst (λ k. IsReadyAt w.checker (plain_place m k)) (sym stream) working.ready in
-      record {
-        setting = working.setting;
-        works = subst (λ k. Works entry w k (blocks_of t (blocks ++ tagged s bs))) (sym (moves.others t positive (λ is. other (sym is))))
-            (subst (Works entry w (free_at m t)) (sym (blocks_beside s t blocks bs other)) working.works);
-        ready = subst (λ k. IsReadyAt w.checker (plain_place n k)) stream (law w.checker m n s (joined bs) here moves (λ is. other (is ∙ stream)));
-      }
-
-  working_above : (k : ℕ) (entries : List (Option (List ℕ))) (ws : List WorkerValue) → s < k → AreWorking terms blocks m k entries ws → AreWorking terms (blocks ++ tagged s bs) n k entries ws
-  working_above k [] [] above working = tt
-  working_above k [] (w ∷ ws) above working = absurd working
-  working_above k (entry ∷ entries) [] above working = absurd working
-  working_above k (entry ∷ entries) (w ∷ ws) above working =
-      (working_beside k entry w (omega arith) (λ is. omega (arith, is, above)) working.0, working_above (k + 1) entries ws (omega arith) working.1)
-
-  -- the turn of the worker at place i, which is now v
-  turn_at : (k i : ℕ) (entries : List (Option (List ℕ))) (ws : List WorkerValue) (d w v : WorkerValue) → 0 < k → s ≡ k + i → i < length ws → get_or ws i d ≡ w
-      → WorksOn w (free_at m s) bs v (free_at n s) → IsReadyAt v.checker (plain_place n s) → v.checker.setting ≡ w.checker.setting
-      → AreWorking terms blocks m k entries ws → AreWorking terms (blocks ++ tagged s bs) n k entries (set ws i v)
-  turn_at k i [] [] d w v positive place within is on ready setting working = absurd (omega (arith, within))
-  turn_at k i [] (x ∷ ws) d w v positive place within is on ready setting working = absurd working
-  turn_at k i (entry ∷ entries) [] d w v positive place within is on ready setting working = absurd working
-  turn_at k zero (entry ∷ entries) (x ∷ ws) d w v positive place within is on ready setting working =
-      let here : s ≡ k = omega (arith, place) in
-      let mine : IsWorking terms blocks m s entry w = subst (λ (y : WorkerValue). IsWorking terms blocks m s entry y) is (subst (λ t. IsWorking terms blocks m t entry x) (sym here) working.0) in (
-        subst (λ t. IsWorking terms (blocks ++ tagged s bs) n t entry v) here (working_on terms blocks m n s bs entry w v mine on ready setting),
-        working_above (k + 1) entries ws (omega (arith, here)) working.1,
-      )
-  turn_at k (suc i) (entry ∷ entries) (x ∷ ws) d w v positive place within is on ready setting working = (
-    working_beside k entry x positive (λ same. omega (arith, same, place)) working.0,
-    turn_at (k + 1) i entries ws d w v (omega arith) (omega (arith, place)) (omega (arith, within)) is on ready setting working.1,
-  )
-
--- ---- what a worker has before its turn
-
--- the worker at place i, where they are counted on from k
-pub working_at : (terms : Terms) (blocks : List Block) (m : Plain) (k i : ℕ) (entries : List (Option (List ℕ))) (ws : List WorkerValue) (d w : WorkerValue) → i < length ws → get_or ws i d ≡ w
-    → AreWorking terms blocks m k entries ws → IsReadyAt w.checker (plain_place m (k + i))
-working_at terms blocks m k i [] [] d w within is working = absurd (omega (arith, within))
-working_at terms blocks m k i [] (x ∷ ws) d w within is working = absurd working
-working_at terms blocks m k i (entry ∷ entries) [] d w within is working = absurd working
-working_at terms blocks m k zero (entry ∷ entries) (x ∷ ws) d w within is working =
-    let place : k ≡ k + zero = omega arith in
-    subst (λ t. IsReadyAt w.checker (plain_place m t)) place (subst (λ (y : WorkerValue). IsReadyAt y.checker (plain_place m k)) is working.0.ready)
-working_at terms blocks m k (suc i) (entry ∷ entries) (x ∷ ws) d w within is working =
-    let place : k + 1 + i ≡ k + suc i = omega arith in
-    subst (λ t. IsReadyAt w.checker (plain_place m t)) place (working_at terms blocks m (k + 1) i entries ws d w (omega (arith, within)) is working.1)
-
--- the worker at this place isn't over
-pub going_at : (ws : List WorkerValue) (i : ℕ) (d e : WorkerValue) (over : Bool) → i < length ws
-    → (IsTrue over ↔ IsSome (get_or ws i d).checker.ending) → over ≡ false → (get_or ws i e).checker.ending ≡ None
-going_at ws i d e over within is going =
-    ap (λ (w : WorkerValue). w.checker.ending) (get_or_default ws i e d within) ∙ not_over over (get_or ws i d).checker.ending is going
-
--- the worker of stream i + 1 of a run, whatever run it is
-pub ready_at : (m : Plain) (ws : List WorkerValue) (i : ℕ) (d : WorkerValue) → IsRunning m ws → i < length ws → IsReadyAt (get_or ws i d).checker (plain_place m (i + 1))
-ready_at m ws i d running within =
-    let runs = running.3 in
-    let here = working_at running.1 runs.blocks m 1 i running.2 ws d (get_or ws i d) within refl runs.workers_are in
-    let place : 1 + i ≡ i + 1 = omega arith in
-    subst (λ t. IsReadyAt (get_or ws i d).checker (plain_place m t)) place here
-
--- a run goes on by a turn of the worker at place i
-pub runs_more : (law : ReadyBeside) (f : Cnf) (terms : Terms) (entries : List (Option (List ℕ))) (m n : Plain) (ws : List WorkerValue) (i : ℕ) (d v : WorkerValue) (bs : List History)
-    → i < length ws → PlainMoves m n (i + 1) (joined bs)
-    → WorksOn (get_or ws i d) (free_at m (i + 1)) bs v (free_at n (i + 1)) → IsReadyAt v.checker (plain_place n (i + 1)) → v.checker.setting ≡ (get_or ws i d).checker.setting
-    → Runs f terms entries m ws → Runs f terms entries n (set ws i v)
-runs_more law f terms entries m n ws i d v bs within moves on ready setting runs =
-    let count : length (set ws i v) ≡ terms.layout.streams = omega (arith, length-set {A = WorkerValue}, runs.count) in
-    record {
-      count = count;
-      blocks = runs.blocks ++ tagged (i + 1) bs;
-      map_is = run_more f terms.layout runs.blocks m n (i + 1) bs runs.map_is (omega arith, omega (arith, within, runs.count)) moves;
-      workers_are = turn_at law terms runs.blocks m n (i + 1) bs moves 1 i entries ws d (get_or ws i d) v (omega arith) (omega arith) within refl on ready setting runs.workers_are;
-    }
-
--- whatever run stood at the start stands after two stretches
-pub goes_twice : (a b c : Plain) (us vs ws : List WorkerValue) → GoesOn a us b vs → GoesOn b vs c ws → GoesOn a us c ws
-goes_twice a b c us vs ws front back f terms entries runs = back f terms entries (front f terms entries runs)
-
--- so some run stands
-pub running_on : (a b : Plain) (us vs : List WorkerValue) → IsRunning a us → GoesOn a us b vs → IsRunning b vs
-running_on a b us vs running on = (running.0, running.1, running.2, on running.0 running.1 running.2 running.3)
-
--- one more stream was over, where all were
-pub over_more : (i : ℕ) (going turned : Bool) (first old new : List WorkerValue) → (going || turned) ≡ false
-    → (going ≡ false → (old ≡ first) × ((k : ℕ) → k < i → IsOverAt old k)) → (turned ≡ false → IsOverAt old i × (new ≡ old))
-    → (new ≡ first) × ((k : ℕ) → k < i + 1 → IsOverAt new k)
-over_more i true turned first old new none before here = absurd (cc)
-over_more i false turned first old new none before here =
-    let over = before refl in
-    let last = here none in
-    (last.1 ∙ over.0, λ k below. subst (λ (ws : List WorkerValue). IsOverAt ws k) (sym last.1) (below_more (IsOverAt old) i over.1 last.0 k below))
-
--- each worker is over
-pub over_each : (ws : List WorkerValue) → ((k : ℕ) → k < length ws → IsOverAt ws k) → AreOver ws
-over_each [] over = tt
-over_each (w ∷ ws) over = (over zero (omega arith), over_each ws (λ k below. over (suc k) (omega arith)))
-
--- ---- the reports
-
-report_at_end : (o : Option Ending) (t : Tally) (r : Report) → IsSome o → IfSome o (λ ending. r ≡ report_at t ending) → (ending : Ending) × (o ≡ Some ending) × (r ≡ report_at t ending)
-report_at_end None t r over is = absurd (let none : false ≡ true = over in cc)
-report_at_end (Some ending) t r over is = (ending, refl, is)
-
-reports_more : (ws : List WorkerValue) (rs : List Report) (w : WorkerValue) (r : Report) → HaveReports ws rs → IsOver w → IfSome w.checker.ending (λ ending. r ≡ report_at w.checker.tally ending)
-    → HaveReports (ws ++ w ∷ []) (rs ++ r ∷ [])
-reports_more [] [] w r have over is = (report_at_end w.checker.ending w.checker.tally r over is, tt)
-reports_more [] (x ∷ rs) w r have over is = absurd have
-reports_more (v ∷ ws) [] w r have over is = absurd have
-reports_more (v ∷ ws) (x ∷ rs) w r have over is = (have.0, reports_more ws rs w r have.1 over is)
-
--- one report more
-pub reports_pushed : (ws : List WorkerValue) (rs ts : List Report) (w : WorkerValue) (r : Report) → ts ≡ rs ++ r ∷ [] → HaveReports ws rs → IsOver w
-    → IfSome w.checker.ending (λ ending. r ≡ report_at w.checker.tally ending) → HaveReports (ws ++ w ∷ []) ts
-reports_pushed ws rs ts w r pushed have over is = subst (HaveReports (ws ++ w ∷ [])) (sym pushed) (reports_more ws rs w r have over is)
-
--- two lists that map alike, with one element more each
-pub map_more : {A B C : Type 0} (f : A → C) (h : B → C) (xs zs : List A) (ys : List B) (x : A) (y : B) → zs ≡ xs ++ x ∷ [] → map f xs ≡ map h ys → f x ≡ h y → map f zs ≡ map h (ys ++ y ∷ [])
-map_more {A} {B} {C} f h xs zs ys x y is before here =
-    ap (map f) is ∙ map-append f xs (x ∷ []) ∙ ap₂ (λ (l : List C) (c : C). l ++ c ∷ []) before here ∙ sym (map-append h ys (y ∷ []))
-
--- ---- before the first turn
-
--- one worker more
-started_more : (terms : Terms) (k : ℕ) (entries : List (Option (List ℕ))) (ws : List WorkerValue) (entry : Option (List ℕ)) (w : WorkerValue)
-    → AreStarted terms k entries ws → IsStarted terms (k + length ws) entry w → AreStarted terms k (entries ++ entry ∷ []) (ws ++ w ∷ [])
-started_more terms k [] [] entry w started here = let place : k + 0 ≡ k = omega arith in (subst (λ s. IsStarted terms s entry w) place here, tt)
-started_more terms k [] (v ∷ ws) entry w started here = absurd started
-started_more terms k (other ∷ entries) [] entry w started here = absurd started
-started_more terms k (other ∷ entries) (v ∷ ws) entry w started here =
-    let place : k + length (v ∷ ws) ≡ k + 1 + length ws = omega arith in
-    (started.0, started_more terms (k + 1) entries ws entry w started.1 (subst (λ s. IsStarted terms s entry w) place here))
-
-pub started_pushed : {X : Type 0} (terms : Terms) (s : ℕ) (f : X → Option (List ℕ)) (xs : List X) (x : X) (ws vs : List WorkerValue) (w : WorkerValue)
-    → vs ≡ ws ++ w ∷ [] → s ≡ length ws + 1 → AreStarted terms 1 (map f xs) ws → IsStarted terms s (f x) w → AreStarted terms 1 (map f (xs ++ x ∷ [])) vs
-started_pushed {X} terms s f xs x ws vs w pushed place started here =
-    let next : s ≡ 1 + length ws = omega (arith, place) in
-    let more : AreStarted terms 1 (map f xs ++ f x ∷ []) (ws ++ w ∷ []) = started_more terms 1 (map f xs) ws (f x) w started (subst (λ k. IsStarted terms k (f x) w) next here) in
-    subst (AreStarted terms 1 (map f (xs ++ x ∷ []))) (sym pushed) (subst (λ entries. AreStarted terms 1 entries (ws ++ w ∷ [])) (sym (map-append f xs (x ∷ []))) more)
-
-count_started : (terms : Terms) (k : ℕ) (entries : List (Option (List ℕ))) (ws : List WorkerValue) → AreStarted terms k entries ws → length ws ≡ length entries
-count_started terms k [] [] started = refl
-count_started terms k [] (w ∷ ws) started = absurd started
-count_started terms k (entry ∷ entries) [] started = absurd started
-count_started terms k (entry ∷ entries) (w ∷ ws) started = omega (arith, count_started terms (k + 1) entries ws started.1)
-
 -- a map before the first turn
 pub record IsOpened (f : Cnf) (p : LayoutValue) (m : Plain) : Type 0 where
   pub fits : Fits p f
@@ -312,93 +153,251 @@ pub record IsOpened (f : Cnf) (p : LayoutValue) (m : Plain) : Type 0 where
   pub state : state_of m ≡ opening f
   pub room : m.free ≡ replicate p.streams p.room
 
-module _ (f : Cnf) (p : LayoutValue) (m : Plain) (opened : IsOpened f p m) where
-  room_opened : (s : ℕ) → IsStream p s → free_at m s ≡ p.room
-  room_opened s stream = ap (λ (rooms : List ℕ). get_or rooms (s - 1) 0) opened.room ∙ get_or-replicate p.streams (s - 1) p.room 0 (omega (arith, stream.0, stream.1))
+report_at_end : (o : Option Ending) (t : Tally) (r : Report) → IsSome o → IfSome o (λ ending. r ≡ report_at t ending) → (ending : Ending) × (o ≡ Some ending) × (r ≡ report_at t ending)
+report_at_end None t r over is = absurd (let none : false ≡ true = over in cc)
+report_at_end (Some ending) t r over is = (ending, refl, is)
 
-  ready_opened : (cube : CubeValue) (tries s : ℕ) (entry : Option (List ℕ)) (w : WorkerValue) → IsStarted (terms_at p cube tries) s entry w → IsReadyAt w.checker (plain_place m s)
-  ready_opened cube tries s entry w started = record {
-    at = record {
-      layout = opened.layout ∙ sym (ap (λ (c : Setting). c.layout) started.setting);
-      stream = sym (ap (λ (c : Setting). c.stream) started.setting);
-    };
-    vacant = λ id owns above.
-        ap (λ (state : State). state id) opened.state ∙ opening-owned f p s id opened.fits (subst (λ (q : LayoutValue). Owns q s id) opened.layout owns);
+module _ {S : Type 0} (view : SourceView S) where
+  -- the worker whose turn it was
+  working_on : (terms : Terms) (blocks : List Block) (m n : Plain) (s : ℕ) (bs : List History) (first : S) (w v : WorkerValue S) → IsWorking view terms blocks m s first w
+      → WorksOn view w (free_at m s) bs v (free_at n s) → IsReadyAt v.checker (plain_place n s) → v.checker.setting ≡ w.checker.setting → IsWorking view terms (blocks ++ tagged s bs) n s first v
+  working_on terms blocks m n s bs first w v working on ready setting = record {
+    setting = setting ∙ working.setting;
+    works = subst (Works view first v (free_at n s)) (sym (blocks_more s blocks bs)) (on first (blocks_of s blocks) working.works);
+    ready = ready;
   }
 
-  working_started : (cube : CubeValue) (tries k : ℕ) (entries : List (Option (List ℕ))) (ws : List WorkerValue) → 0 < k → k + length ws ≤ p.streams + 1 → AreStarted (terms_at p cube tries) k entries ws → AreWorking (terms_at p cube tries) [] m k entries ws
-  working_started cube tries k [] [] positive within started = tt
-  working_started cube tries k [] (w ∷ ws) positive within started = absurd started
-  working_started cube tries k (entry ∷ entries) [] positive within started = absurd started
-  working_started cube tries k (entry ∷ entries) (w ∷ ws) positive within started =
-      let room : free_at m k ≡ p.room = room_opened k (positive, omega (arith, within)) in (
+  -- the other workers
+  module _ (law : ReadyBeside) (terms : Terms) (blocks : List Block) (m n : Plain) (s : ℕ) (bs : List History) (moves : PlainMoves m n s (joined bs)) where
+    working_beside : (t : ℕ) (first : S) (w : WorkerValue S) → 0 < t → s ≢ t → IsWorking view terms blocks m t first w → IsWorking view terms (blocks ++ tagged s bs) n t first w
+    working_beside t first w positive other working =
+        let stream : w.checker.setting.stream ≡ t = ap (λ (c : Setting). c.stream) working.setting in
+        let here : IsReadyAt w.checker (plain_place m w.checker.setting.stream) = subst (λ k. IsReadyAt w.checker (plain_place m k)) (sym stream) working.ready in
         record {
-          setting = started.0.setting;
-          works = subst (λ free. Works entry w free []) (sym room) started.0.works;
-          ready = ready_opened cube tries k entry w started.0;
-        },
-        working_started cube tries (k + 1) entries ws (omega arith) (omega (arith, within)) started.1,
-      )
+          setting = working.setting;
+          works = subst (λ k. Works view first w k (blocks_of t (blocks ++ tagged s bs))) (sym (moves.others t positive (λ is. other (sym is))))
+              (subst (Works view first w (free_at m t)) (sym (blocks_beside s t blocks bs other)) working.works);
+          ready = subst (λ k. IsReadyAt w.checker (plain_place n k)) stream (law w.checker m n s (joined bs) here moves (λ is. other (is ∙ stream)));
+        }
 
-  run_opened : HasRun f p [] m
-  run_opened = record {
-    layout = opened.layout;
-    formula = opened.formula;
-    within = tt;
-    legal = tt;
-    state = opened.state;
-    room = λ s stream. omega (arith, room_opened s stream);
-  }
+    working_above : (k : ℕ) (firsts : List S) (ws : List (WorkerValue S)) → s < k → AreWorking view terms blocks m k firsts ws → AreWorking view terms (blocks ++ tagged s bs) n k firsts ws
+    working_above k [] [] above working = tt
+    working_above k [] (w ∷ ws) above working = absurd working
+    working_above k (first ∷ firsts) [] above working = absurd working
+    working_above k (first ∷ firsts) (w ∷ ws) above working =
+        (working_beside k first w (omega arith) (λ is. omega (arith, is, above)) working.0, working_above (k + 1) firsts ws (omega arith) working.1)
 
-  -- a run before its first turn
-  pub runs_opened : (cube : CubeValue) (tries : ℕ) (entries : List (Option (List ℕ))) (ws : List WorkerValue) → length entries ≡ p.streams → AreStarted (terms_at p cube tries) 1 entries ws → Runs f (terms_at p cube tries) entries m ws
-  runs_opened cube tries entries ws count started =
-      let same : length ws ≡ p.streams = omega (arith, count_started (terms_at p cube tries) 1 entries ws started, count) in
+    -- the turn of the worker at place i, which is now v
+    turn_at : (k i : ℕ) (firsts : List S) (ws : List (WorkerValue S)) (d w v : WorkerValue S) → 0 < k → s ≡ k + i → i < length ws → get_or ws i d ≡ w
+        → WorksOn view w (free_at m s) bs v (free_at n s) → IsReadyAt v.checker (plain_place n s) → v.checker.setting ≡ w.checker.setting
+        → AreWorking view terms blocks m k firsts ws → AreWorking view terms (blocks ++ tagged s bs) n k firsts (set ws i v)
+    turn_at k i [] [] d w v positive place within is on ready setting working = absurd (omega (arith, within))
+    turn_at k i [] (x ∷ ws) d w v positive place within is on ready setting working = absurd working
+    turn_at k i (first ∷ firsts) [] d w v positive place within is on ready setting working = absurd working
+    turn_at k zero (first ∷ firsts) (x ∷ ws) d w v positive place within is on ready setting working =
+        let here : s ≡ k = omega (arith, place) in
+        let mine : IsWorking view terms blocks m s first w = subst (λ (y : WorkerValue S). IsWorking view terms blocks m s first y) is (subst (λ t. IsWorking view terms blocks m t first x) (sym here) working.0) in (
+          subst (λ t. IsWorking view terms (blocks ++ tagged s bs) n t first v) here (working_on terms blocks m n s bs first w v mine on ready setting),
+          working_above (k + 1) firsts ws (omega (arith, here)) working.1,
+        )
+    turn_at k (suc i) (first ∷ firsts) (x ∷ ws) d w v positive place within is on ready setting working = (
+      working_beside k first x positive (λ same. omega (arith, same, place)) working.0,
+      turn_at (k + 1) i firsts ws d w v (omega arith) (omega (arith, place)) (omega (arith, within)) is on ready setting working.1,
+    )
+
+  -- ---- what a worker has before its turn
+
+  -- the worker at place i, where they are counted on from k
+  pub working_at : (terms : Terms) (blocks : List Block) (m : Plain) (k i : ℕ) (firsts : List S) (ws : List (WorkerValue S)) (d w : WorkerValue S) → i < length ws → get_or ws i d ≡ w
+      → AreWorking view terms blocks m k firsts ws → IsReadyAt w.checker (plain_place m (k + i))
+  working_at terms blocks m k i [] [] d w within is working = absurd (omega (arith, within))
+  working_at terms blocks m k i [] (x ∷ ws) d w within is working = absurd working
+  working_at terms blocks m k i (first ∷ firsts) [] d w within is working = absurd working
+  working_at terms blocks m k zero (first ∷ firsts) (x ∷ ws) d w within is working =
+      let place : k ≡ k + zero = omega arith in
+      subst (λ t. IsReadyAt w.checker (plain_place m t)) place (subst (λ (y : WorkerValue S). IsReadyAt y.checker (plain_place m k)) is working.0.ready)
+  working_at terms blocks m k (suc i) (first ∷ firsts) (x ∷ ws) d w within is working =
+      let place : k + 1 + i ≡ k + suc i = omega arith in
+      subst (λ t. IsReadyAt w.checker (plain_place m t)) place (working_at terms blocks m (k + 1) i firsts ws d w (omega (arith, within)) is working.1)
+
+  -- the worker at this place isn't over
+  pub going_at : (ws : List (WorkerValue S)) (i : ℕ) (d e : WorkerValue S) (over : Bool) → i < length ws
+      → (IsTrue over ↔ IsSome (get_or ws i d).checker.ending) → over ≡ false → (get_or ws i e).checker.ending ≡ None
+  going_at ws i d e over within is going =
+      ap (λ (w : WorkerValue S). w.checker.ending) (get_or_default ws i e d within) ∙ not_over over (get_or ws i d).checker.ending is going
+
+  -- the worker of stream i + 1 of a run, whatever run it is
+  pub ready_at : (m : Plain) (ws : List (WorkerValue S)) (i : ℕ) (d : WorkerValue S) → IsRunning view m ws → i < length ws → IsReadyAt (get_or ws i d).checker (plain_place m (i + 1))
+  ready_at m ws i d running within =
+      let runs = running.3 in
+      let here = working_at running.1 runs.blocks m 1 i running.2 ws d (get_or ws i d) within refl runs.workers_are in
+      let place : 1 + i ≡ i + 1 = omega arith in
+      subst (λ t. IsReadyAt (get_or ws i d).checker (plain_place m t)) place here
+
+  -- a run goes on by a turn of the worker at place i
+  pub runs_more : (law : ReadyBeside) (f : Cnf) (terms : Terms) (firsts : List S) (m n : Plain) (ws : List (WorkerValue S)) (i : ℕ) (d v : WorkerValue S) (bs : List History)
+      → i < length ws → PlainMoves m n (i + 1) (joined bs)
+      → WorksOn view (get_or ws i d) (free_at m (i + 1)) bs v (free_at n (i + 1)) → IsReadyAt v.checker (plain_place n (i + 1)) → v.checker.setting ≡ (get_or ws i d).checker.setting
+      → Runs view f terms firsts m ws → Runs view f terms firsts n (set ws i v)
+  runs_more law f terms firsts m n ws i d v bs within moves on ready setting runs =
+      let count : length (set ws i v) ≡ terms.layout.streams = omega (arith, length-set {A = WorkerValue S}, runs.count) in
       record {
-        count = same;
-        blocks = [];
-        map_is = run_opened;
-        workers_are = working_started cube tries 1 entries ws (omega arith) (omega (arith, same)) started;
+        count = count;
+        blocks = runs.blocks ++ tagged (i + 1) bs;
+        map_is = run_more f terms.layout runs.blocks m n (i + 1) bs runs.map_is (omega arith, omega (arith, within, runs.count)) moves;
+        workers_are = turn_at law terms runs.blocks m n (i + 1) bs moves 1 i firsts ws d (get_or ws i d) v (omega arith) (omega arith) within refl on ready setting runs.workers_are;
       }
 
--- ---- when all streams are over
+  -- whatever run stood at the start stands after two stretches
+  pub goes_twice : (a b c : Plain) (us vs ws : List (WorkerValue S)) → GoesOn view a us b vs → GoesOn view b vs c ws → GoesOn view a us c ws
+  goes_twice a b c us vs ws front back f terms firsts runs = back f terms firsts (front f terms firsts runs)
 
--- a worker that is over tells of its stream
-told_over : (o : Option Ending) (ending : Ending) (entry : Option (List ℕ)) (w : WorkerValue) (free : ℕ) (blocks : List History) → o ≡ Some ending → WorksBy o entry w free blocks
-    → (stream : Stream) × IsTold entry w.left w.has_failed stream × JudgesStream w.checker.setting stream blocks (report_at w.checker.tally ending)
-told_over o ending entry w free blocks is works = let at : WorksBy (Some ending) entry w free blocks = subst (λ e. WorksBy e entry w free blocks) is works in at
+  -- so some run stands
+  pub running_on : (a b : Plain) (us vs : List (WorkerValue S)) → IsRunning view a us → GoesOn view a us b vs → IsRunning view b vs
+  running_on a b us vs running on = (running.0, running.1, running.2, on running.0 running.1 running.2 running.3)
 
--- each stream is what its reader told, and is judged by its blocks
-pub streams_over : (terms : Terms) (blocks : List Block) (m : Plain) (k : ℕ) (entries : List (Option (List ℕ))) (ws : List WorkerValue) (reports : List Report)
-    → AreWorking terms blocks m k entries ws → HaveReports ws reports
-    → (streams : List Stream) × AreTold entries (map (λ w. w.left) ws) (map (λ w. w.has_failed) ws) streams × AreJudged terms (λ s. true) blocks k streams reports
-streams_over terms blocks m k [] [] [] working have = ([], tt, tt)
-streams_over terms blocks m k [] [] (r ∷ reports) working have = absurd have
-streams_over terms blocks m k [] (w ∷ ws) reports working have = absurd working
-streams_over terms blocks m k (entry ∷ entries) [] reports working have = absurd working
-streams_over terms blocks m k (entry ∷ entries) (w ∷ ws) [] working have = absurd have
-streams_over terms blocks m k (entry ∷ entries) (w ∷ ws) (r ∷ reports) working have =
-    let others = streams_over terms blocks m (k + 1) entries ws reports working.1 have.1 in
-    let told = told_over w.checker.ending have.0.0 entry w (free_at m k) (blocks_of k blocks) have.0.1 working.0.works in
-    let judged : JudgesStream (setting_of terms k) told.0 (blocks_of k blocks) r =
-    subst (λ (c : Setting). JudgesStream c told.0 (blocks_of k blocks) r) working.0.setting
-    (subst (λ (x : Report). JudgesStream w.checker.setting told.0 (blocks_of k blocks) x) (sym have.0.2) told.2) in
-    (told.0 ∷ others.0, (told.1, others.1), (λ all. judged, others.2))
+  -- one more stream was over, where all were
+  pub over_more : (i : ℕ) (going turned : Bool) (first old new : List (WorkerValue S)) → (going || turned) ≡ false
+      → (going ≡ false → (old ≡ first) × ((k : ℕ) → k < i → IsOverAt old k)) → (turned ≡ false → IsOverAt old i × (new ≡ old))
+      → (new ≡ first) × ((k : ℕ) → k < i + 1 → IsOverAt new k)
+  over_more i true turned first old new none before here = absurd (cc)
+  over_more i false turned first old new none before here =
+      let over = before refl in
+      let last = here none in
+      (last.1 ∙ over.0, λ k below. subst (λ (ws : List (WorkerValue S)). IsOverAt ws k) (sym last.1) (below_more (IsOverAt old) i over.1 last.0 k below))
 
--- the reports have an order of lines
-pub ordered_over : (f : Cnf) (terms : Terms) (entries : List (Option (List ℕ))) (m : Plain) (ws : List WorkerValue) (reports : List Report) → Runs f terms entries m ws → HaveReports ws reports
-    → (streams : List Stream) × AreTold entries (map (λ w. w.left) ws) (map (λ w. w.has_failed) ws) streams × IsOrdered f terms (λ s. true) streams reports
-ordered_over f terms entries m ws reports runs have =
-    let streams = streams_over terms runs.blocks m 1 entries ws reports runs.workers_are have in (
-      streams.0,
-      streams.1,
-      record {
-        blocks = runs.blocks;
-        within = runs.map_is.within;
-        legal = record { events = runs.map_is.legal; room = within_room f terms.layout runs.blocks m runs.map_is };
-        judged = streams.2;
-      },
-    )
+  -- each worker is over
+  pub over_each : (ws : List (WorkerValue S)) → ((k : ℕ) → k < length ws → IsOverAt ws k) → AreOver ws
+  over_each [] over = tt
+  over_each (w ∷ ws) over = (over zero (omega arith), over_each ws (λ k below. over (suc k) (omega arith)))
+
+  -- ---- the reports
+
+  reports_more : (ws : List (WorkerValue S)) (rs : List Report) (w : WorkerValue S) (r : Report) → HaveReports ws rs → IsOver w → IfSome w.checker.ending (λ ending. r ≡ report_at w.checker.tally ending)
+      → HaveReports (ws ++ w ∷ []) (rs ++ r ∷ [])
+  reports_more [] [] w r have over is = (report_at_end w.checker.ending w.checker.tally r over is, tt)
+  reports_more [] (x ∷ rs) w r have over is = absurd have
+  reports_more (v ∷ ws) [] w r have over is = absurd have
+  reports_more (v ∷ ws) (x ∷ rs) w r have over is = (have.0, reports_more ws rs w r have.1 over is)
+
+  -- one report more
+  pub reports_pushed : (ws : List (WorkerValue S)) (rs ts : List Report) (w : WorkerValue S) (r : Report) → ts ≡ rs ++ r ∷ [] → HaveReports ws rs → IsOver w
+      → IfSome w.checker.ending (λ ending. r ≡ report_at w.checker.tally ending) → HaveReports (ws ++ w ∷ []) ts
+  reports_pushed ws rs ts w r pushed have over is = subst (HaveReports (ws ++ w ∷ [])) (sym pushed) (reports_more ws rs w r have over is)
+
+  -- ---- before the first turn
+
+  -- one worker more
+  started_more : (terms : Terms) (k : ℕ) (firsts : List S) (ws : List (WorkerValue S)) (first : S) (w : WorkerValue S)
+      → AreStarted view terms k firsts ws → IsStarted view terms (k + length ws) first w → AreStarted view terms k (firsts ++ first ∷ []) (ws ++ w ∷ [])
+  started_more terms k [] [] first w started here = let place : k + 0 ≡ k = omega arith in (subst (λ s. IsStarted view terms s first w) place here, tt)
+  started_more terms k [] (v ∷ ws) first w started here = absurd started
+  started_more terms k (other ∷ firsts) [] first w started here = absurd started
+  started_more terms k (other ∷ firsts) (v ∷ ws) first w started here =
+      let place : k + length (v ∷ ws) ≡ k + 1 + length ws = omega arith in
+      (started.0, started_more terms (k + 1) firsts ws first w started.1 (subst (λ s. IsStarted view terms s first w) place here))
+
+  pub started_pushed : {X : Type 0} (terms : Terms) (s : ℕ) (f : X → S) (xs : List X) (x : X) (ws vs : List (WorkerValue S)) (w : WorkerValue S)
+      → vs ≡ ws ++ w ∷ [] → s ≡ length ws + 1 → AreStarted view terms 1 (map f xs) ws → IsStarted view terms s (f x) w → AreStarted view terms 1 (map f (xs ++ x ∷ [])) vs
+  started_pushed {X} terms s f xs x ws vs w pushed place started here =
+      let next : s ≡ 1 + length ws = omega (arith, place) in
+      let more : AreStarted view terms 1 (map f xs ++ f x ∷ []) (ws ++ w ∷ []) = started_more terms 1 (map f xs) ws (f x) w started (subst (λ k. IsStarted view terms k (f x) w) next here) in
+      subst (AreStarted view terms 1 (map f (xs ++ x ∷ []))) (sym pushed) (subst (λ firsts. AreStarted view terms 1 firsts (ws ++ w ∷ [])) (sym (map-append f xs (x ∷ []))) more)
+
+  count_started : (terms : Terms) (k : ℕ) (firsts : List S) (ws : List (WorkerValue S)) → AreStarted view terms k firsts ws → length ws ≡ length firsts
+  count_started terms k [] [] started = refl
+  count_started terms k [] (w ∷ ws) started = absurd started
+  count_started terms k (first ∷ firsts) [] started = absurd started
+  count_started terms k (first ∷ firsts) (w ∷ ws) started = omega (arith, count_started terms (k + 1) firsts ws started.1)
+
+  module _ (f : Cnf) (p : LayoutValue) (m : Plain) (opened : IsOpened f p m) where
+    room_opened : (s : ℕ) → IsStream p s → free_at m s ≡ p.room
+    room_opened s stream = ap (λ (rooms : List ℕ). get_or rooms (s - 1) 0) opened.room ∙ get_or-replicate p.streams (s - 1) p.room 0 (omega (arith, stream.0, stream.1))
+
+    ready_opened : (cube : CubeValue) (tries s : ℕ) (first : S) (w : WorkerValue S) → IsStarted view (terms_at p cube tries) s first w → IsReadyAt w.checker (plain_place m s)
+    ready_opened cube tries s first w started = record {
+      at = record {
+        layout = opened.layout ∙ sym (ap (λ (c : Setting). c.layout) started.setting);
+        stream = sym (ap (λ (c : Setting). c.stream) started.setting);
+      };
+      vacant = λ id owns above.
+          ap (λ (state : State). state id) opened.state ∙ opening-owned f p s id opened.fits (subst (λ (q : LayoutValue). Owns q s id) opened.layout owns);
+    }
+
+    working_started : (cube : CubeValue) (tries k : ℕ) (firsts : List S) (ws : List (WorkerValue S)) → 0 < k → k + length ws ≤ p.streams + 1 → AreStarted view (terms_at p cube tries) k firsts ws → AreWorking view (terms_at p cube tries) [] m k firsts ws
+    working_started cube tries k [] [] positive within started = tt
+    working_started cube tries k [] (w ∷ ws) positive within started = absurd started
+    working_started cube tries k (first ∷ firsts) [] positive within started = absurd started
+    working_started cube tries k (first ∷ firsts) (w ∷ ws) positive within started =
+        let room : free_at m k ≡ p.room = room_opened k (positive, omega (arith, within)) in (
+          record {
+            setting = started.0.setting;
+            works = subst (λ free. Works view first w free []) (sym room) started.0.works;
+            ready = ready_opened cube tries k first w started.0;
+          },
+          working_started cube tries (k + 1) firsts ws (omega arith) (omega (arith, within)) started.1,
+        )
+
+    run_opened : HasRun f p [] m
+    run_opened = record {
+      layout = opened.layout;
+      formula = opened.formula;
+      within = tt;
+      legal = tt;
+      state = opened.state;
+      room = λ s stream. omega (arith, room_opened s stream);
+    }
+
+    -- a run before its first turn
+    pub runs_opened : (cube : CubeValue) (tries : ℕ) (firsts : List S) (ws : List (WorkerValue S)) → length firsts ≡ p.streams → AreStarted view (terms_at p cube tries) 1 firsts ws → Runs view f (terms_at p cube tries) firsts m ws
+    runs_opened cube tries firsts ws count started =
+        let same : length ws ≡ p.streams = omega (arith, count_started (terms_at p cube tries) 1 firsts ws started, count) in
+        record {
+          count = same;
+          blocks = [];
+          map_is = run_opened;
+          workers_are = working_started cube tries 1 firsts ws (omega arith) (omega (arith, same)) started;
+        }
+
+  -- ---- when all streams are over
+
+  -- a worker that is over tells of its stream
+  told_over : (o : Option Ending) (ending : Ending) (first : S) (w : WorkerValue S) (free : ℕ) (blocks : List History) → o ≡ Some ending → WorksBy view o first w free blocks
+      → (stream : Stream) × IsTold (view.left first) (view.left w.reader) (view.has_failed w.reader) stream × IsRead S view.reads first w.reader stream × JudgesStream w.checker.setting stream blocks (report_at w.checker.tally ending)
+  told_over o ending first w free blocks is works = let at : WorksBy view (Some ending) first w free blocks = subst (λ e. WorksBy view e first w free blocks) is works in at
+
+  -- each stream is what its reader told, and is judged by its blocks
+  pub streams_over : (terms : Terms) (blocks : List Block) (m : Plain) (k : ℕ) (firsts : List S) (ws : List (WorkerValue S)) (reports : List Report)
+      → AreWorking view terms blocks m k firsts ws → HaveReports ws reports
+      → (streams : List Stream) × AreTold (map view.left firsts) (map view.left (map (λ w. w.reader) ws)) (map view.has_failed (map (λ w. w.reader) ws)) streams × AreRead S view.reads firsts (map (λ w. w.reader) ws) streams × AreJudged terms (λ s. true) blocks k streams reports
+  streams_over terms blocks m k [] [] [] working have = ([], tt, tt, tt)
+  streams_over terms blocks m k [] [] (r ∷ reports) working have = absurd have
+  streams_over terms blocks m k [] (w ∷ ws) reports working have = absurd working
+  streams_over terms blocks m k (first ∷ firsts) [] reports working have = absurd working
+  streams_over terms blocks m k (first ∷ firsts) (w ∷ ws) [] working have = absurd have
+  streams_over terms blocks m k (first ∷ firsts) (w ∷ ws) (r ∷ reports) working have =
+      let others = streams_over terms blocks m (k + 1) firsts ws reports working.1 have.1 in
+      let told = told_over w.checker.ending have.0.0 first w (free_at m k) (blocks_of k blocks) have.0.1 working.0.works in
+      let judged : JudgesStream (setting_of terms k) told.0 (blocks_of k blocks) r =
+      subst (λ (c : Setting). JudgesStream c told.0 (blocks_of k blocks) r) working.0.setting
+      (subst (λ (x : Report). JudgesStream w.checker.setting told.0 (blocks_of k blocks) x) (sym have.0.2) told.3) in
+      (told.0 ∷ others.0, (told.1, others.1), (told.2, others.2), (λ all. judged, others.3))
+
+  -- the reports have an order of lines
+  pub ordered_over : (f : Cnf) (terms : Terms) (firsts : List S) (m : Plain) (ws : List (WorkerValue S)) (reports : List Report) → Runs view f terms firsts m ws → HaveReports ws reports
+      → (streams : List Stream) × AreTold (map view.left firsts) (map view.left (map (λ w. w.reader) ws)) (map view.has_failed (map (λ w. w.reader) ws)) streams × AreRead S view.reads firsts (map (λ w. w.reader) ws) streams × IsOrdered f terms (λ s. true) streams reports
+  ordered_over f terms firsts m ws reports runs have =
+      let streams = streams_over terms runs.blocks m 1 firsts ws reports runs.workers_are have in (
+        streams.0,
+        streams.1,
+        streams.2,
+        record {
+          blocks = runs.blocks;
+          within = runs.map_is.within;
+          legal = record { events = runs.map_is.legal; room = within_room f terms.layout runs.blocks m runs.map_is };
+          judged = streams.3;
+        },
+      )
 
 -- where one of the reports says 'empty', no assignment makes every clause of the formula true
 sound_among : (f : Cnf) (terms : Terms) (blocks : List Block) (k : ℕ) (streams : List Stream) (reports : List Report) → IsLegal f terms.layout (events_in blocks)
@@ -417,19 +416,23 @@ pub sound_over : (f : Cnf) (terms : Terms) (streams : List Stream) (reports : Li
 sound_over f terms streams reports ordered some = sound_among f terms ordered.blocks 1 streams reports ordered.legal ordered.judged some
 
 -- the whole run: opened, gone on with, and over
-pub run_ordered : (f : Cnf) (p : LayoutValue) (cube : CubeValue) (tries : ℕ) (wanted : Terms) (entries lefts : List (Option (List ℕ))) (faileds : List Bool) (m n : Plain) (us vs ws xs : List WorkerValue) (reports : List Report)
-    → IsOpened f p m → terms_at p cube tries ≡ wanted → length entries ≡ p.streams → AreStarted (terms_at p cube tries) 1 entries us
-    → vs ≡ us → GoesOn m vs n ws → xs ≡ ws → HaveReports xs reports → lefts ≡ map (λ w. w.left) xs → faileds ≡ map (λ w. w.has_failed) xs
-    → StandsOnStreams entries lefts faileds (λ streams. IsOrdered f wanted (λ s. true) streams reports)
-run_ordered f p cube tries wanted entries lefts faileds m n us vs ws xs reports opened same count started same_start goes same_end have left failed =
+pub run_ordered : {S : Type 0} (view : SourceView S) (f : Cnf) (p : LayoutValue) (cube : CubeValue) (tries : ℕ) (wanted : Terms) (firsts lasts : List S) (m n : Plain) (us vs ws xs : List (WorkerValue S)) (reports : List Report)
+    → IsOpened f p m → terms_at p cube tries ≡ wanted → length firsts ≡ p.streams → AreStarted view (terms_at p cube tries) 1 firsts us
+    → vs ≡ us → GoesOn view m vs n ws → xs ≡ ws → HaveReports xs reports → lasts ≡ map (λ w. w.reader) xs
+    → StandsOnStreams (map view.left firsts) (map view.left lasts) (map view.has_failed lasts)
+    (λ streams. IsOrdered f wanted (λ s. true) streams reports × AreRead S view.reads firsts lasts streams)
+run_ordered {S} view f p cube tries wanted firsts lasts m n us vs ws xs reports opened same count started same_start goes same_end have readers =
     let terms = terms_at p cube tries in
-    let begun : Runs f terms entries m vs = subst (Runs f terms entries m) (sym same_start) (runs_opened f p m opened cube tries entries us count started) in
-    let ended : Runs f terms entries n xs = subst (Runs f terms entries n) (sym same_end) (goes f terms entries begun) in
-    let ordered = ordered_over f terms entries n xs reports ended have in
+    let begun : Runs view f terms firsts m vs = subst (Runs view f terms firsts m) (sym same_start) (runs_opened view f p m opened cube tries firsts us count started) in
+    let ended : Runs view f terms firsts n xs = subst (Runs view f terms firsts n) (sym same_end) (goes f terms firsts begun) in
+    let ordered = ordered_over view f terms firsts n xs reports ended have in
     record {
       streams = ordered.0;
-      told = subst (λ (l : List (Option (List ℕ))). AreTold entries l faileds ordered.0) (sym left) (subst (λ (l : List Bool). AreTold entries (map (λ w. w.left) xs) l ordered.0) (sym failed) ordered.1);
-      judged = subst (λ (t : Terms). IsOrdered f t (λ s. true) ordered.0 reports) same ordered.2;
+      told = subst (λ (ls : List S). AreTold (map view.left firsts) (map view.left ls) (map view.has_failed ls) ordered.0) (sym readers) ordered.1;
+      judged = (
+        subst (λ (t : Terms). IsOrdered f t (λ s. true) ordered.0 reports) same ordered.3,
+        subst (λ (ls : List S). AreRead S view.reads firsts ls ordered.0) (sym readers) ordered.2,
+      );
     }
 
 -- so many streams as the layout was asked for

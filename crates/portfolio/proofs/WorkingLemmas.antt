@@ -1,5 +1,5 @@
 -- What a worker's steps leave: a read, what the checker takes of a piece, and the end.
-use Rattle.std.proofs.Common.{◌≡◌, ℕ, ◌+◌, ◌-◌, ◌≤◌, Bool, true, false, List, [], ◌∷◌, ◌++◌, length, take, drop, arith, length-take, Option, None, Some, inl, inr, refl, sym, ap, subst, ◌∙◌, append_assoc, append-nil}
+use Rattle.std.proofs.Common.{◌≡◌, ℕ, ◌+◌, ◌-◌, ◌<◌, ◌≤◌, Bool, true, false, List, [], ◌∷◌, ◌++◌, length, take, drop, arith, length-take, Option, None, Some, inl, inr, refl, sym, ap, subst, ◌∙◌, append_assoc, append-nil}
 use Rattle.std.specs.Prelude.{◌↔◌, IsSome, IsTrue}
 use Rattle.std.specs.Io.KnownBytes.{Consumes}
 use Rattle.std.proofs.KnownBytes.{Consumes-trans}
@@ -15,21 +15,12 @@ use Rattle.stream_check.specs.Judging.{StreamEnd, ended, failed, ending_at, Ends
 use Rattle.stream_check.specs.Leaving.{Leaves}
 use Rattle.stream_check.specs.CheckerValue.{CheckerValue}
 use Rattle.stream_check.specs.Checker.{state_by, state_of, report_at, LeavesOn, EndsBy, Ends, ReportsEnd}
+use Rattle.lrup_text.specs.ReadLemmas.{gave_more}
+use Rattle.lrup_text.specs.ReadOut.{SourceView}
+use Rattle.lrup_text.specs.Reads.{Gave}
+use Rattle.runs.specs.Readings.{IsReadTo}
 use Rattle.runs.specs.Streams.{Stop, early, StopsSo, StopsReading, JudgesTo}
 use Rattle.portfolio.specs.Working.{WorkerValue, WorksBy, Works, WorksOn}
-
--- ---- in turn
-
-pub works_none : (w : WorkerValue) (room : ℕ) → WorksOn w room [] w room
-works_none w room entry before works = subst (Works entry w room) (sym (append-nil before)) works
-
-pub works_append : (a b c : WorkerValue) (i j k : ℕ) (front back : List History) → WorksOn a i front b j → WorksOn b j back c k → WorksOn a i (front ++ back) c k
-works_append a b c i j k front back first second entry before works =
-    subst (Works entry c k) (append_assoc before front back) (second entry (before ++ front) (first entry before works))
-
--- what was done so far, a read, and what the checker took
-pub works_turn : (a b c d : WorkerValue) (i j k : ℕ) (front back : List History) → WorksOn a i front b j → WorksOn b j [] c j → WorksOn c j back d k → WorksOn a i (front ++ back) d k
-works_turn a b c d i j k front back first read fed = works_append a b d i j k front back first (works_append b c d j j k [] back read fed)
 
 -- ---- going on
 
@@ -66,65 +57,86 @@ stops_reading c bytes blocks report (endings.Bad line fault) is at_end at_failur
 stops_reading c bytes blocks report (endings.ReadFailed line) is at_end at_failure = ends_not_failed c at_end.lines at_end.rest at_end.back report line at_end.ends is
 stops_reading c bytes blocks report (endings.Memory line) is at_end at_failure = tt
 
--- ---- the parts of a worker
+-- ---- a worker's steps
 
-abbrev pub worker_of : Option (List ℕ) → Bool → List ℕ → CheckerValue → WorkerValue
-worker_of left has_failed unread v = record { left = left; has_failed = has_failed; unread = unread; checker = v }
+abbrev pub worker_of : {S : Type 0} → S → List ℕ → CheckerValue → WorkerValue S
+worker_of reader unread v = record { reader = reader; unread = unread; checker = v }
 
--- a read, where all bytes were taken
-pub works_read : (old new : Option (List ℕ)) (has_failed has_failed' : Bool) (unread piece : List ℕ) (v : CheckerValue) (room : ℕ)
-    → Consumes old new piece → unread ≡ [] → v.ending ≡ None
-    → WorksOn (worker_of old has_failed unread v) room [] (worker_of new has_failed' piece v) room
-works_read old new has_failed has_failed' unread piece v room read none going entry before works =
-    let here = subst (λ e. WorksBy e entry (worker_of old has_failed unread v) room before) going works in
-    let given : Consumes entry old here.0 = subst (Consumes entry old) (ap (λ (t : List ℕ). here.0 ++ t) none ∙ append-nil here.0) here.1 in
-    subst (λ e. WorksBy e entry (worker_of new has_failed' piece v) room (before ++ [])) (sym going)
-    (subst (λ (bs : List History). WorksBy None entry (worker_of new has_failed' piece v) room bs) (sym (append-nil before))
-    (here.0, Consumes-trans entry old new here.0 piece given read, here.2))
+module _ {S : Type 0} (view : SourceView S) where
+  pub works_none : (w : WorkerValue S) (room : ℕ) → WorksOn view w room [] w room
+  works_none w room entry before works = subst (Works view entry w room) (sym (append-nil before)) works
 
--- the end, or a read that failed
-pub works_over : (stop : Stop) (end : StreamEnd) (old new : Option (List ℕ)) (has_failed has_failed' : Bool) (unread rest : List ℕ) (v u : CheckerValue) (room : ℕ)
-    → ((c : Setting) (bytes : List ℕ) (blocks : List History) (report : Report) → JudgesBlocks c bytes end blocks report → JudgesTo stop c bytes blocks report)
-    → StopsSo stop [] new has_failed'
-    → Consumes old new [] → unread ≡ [] → v.ending ≡ None → Ends end v u → ReportsEnd end v u
-    → WorksOn (worker_of old has_failed unread v) room [] (worker_of new has_failed' rest u) room
-works_over stop end old new has_failed has_failed' unread rest v u room judges stops read none going ends reports entry before works =
-    let here = subst (λ e. WorksBy e entry (worker_of old has_failed unread v) room before) going works in
-    let given : Consumes entry old here.0 = subst (Consumes entry old) (ap (λ (t : List ℕ). here.0 ++ t) none ∙ append-nil here.0) here.1 in
-    let same : u.setting ≡ v.setting = (subst (λ e. EndsBy e end v u) going ends).0 in
-    let judged = reports here.0 before room here.2 in
-    let report = report_at u.tally judged.0 in
-    subst (λ e. WorksBy e entry (worker_of new has_failed' rest u) room (before ++ [])) (sym judged.1)
-    (subst (λ (bs : List History). WorksBy (Some judged.0) entry (worker_of new has_failed' rest u) room bs) (sym (append-nil before)) (
-      record { bytes = here.0; stop = stop },
-      record { more = []; consumes = Consumes-trans entry old new here.0 [] given read; stops = stops },
-      subst (λ (c : Setting). JudgesTo stop c here.0 before report) (sym same) (judges v.setting here.0 before report judged.2),
-    ))
+  pub works_append : (a b c : WorkerValue S) (i j k : ℕ) (front back : List History) → WorksOn view a i front b j → WorksOn view b j back c k → WorksOn view a i (front ++ back) c k
+  works_append a b c i j k front back first second entry before works =
+      subst (Works view entry c k) (append_assoc before front back) (second entry (before ++ front) (first entry before works))
 
--- the bytes so far left the checker so, and it is over or not
-works_at : (ending : Option Ending) (entry left : Option (List ℕ)) (has_failed : Bool) (bytes rest : List ℕ) (v : CheckerValue) (room : ℕ) (blocks : List History)
-    → v.ending ≡ ending → has_failed ≡ false → Consumes entry left (bytes ++ rest) → Leaves v.setting bytes blocks (state_by v room ending)
-    → WorksBy ending entry (worker_of left has_failed rest v) room blocks
-works_at None entry left has_failed bytes rest v room blocks is running given leaves =
-    (bytes, given, subst (λ e. Leaves v.setting bytes blocks (state_by v room e)) (sym is) leaves)
-works_at (Some ending) entry left has_failed bytes rest v room blocks is running given leaves = (
-  record { bytes = bytes; stop = early },
-  record { more = rest; consumes = given; stops = running },
-  (stops_reading v.setting bytes blocks (report_at v.tally ending) ending refl leaves.0 leaves.1, leaves.0, leaves.1),
-)
+  -- what was done so far, a read, and what the checker took
+  pub works_turn : (a b c d : WorkerValue S) (i j k : ℕ) (front back : List History) → WorksOn view a i front b j → WorksOn view b j [] c j → WorksOn view c j back d k → WorksOn view a i (front ++ back) d k
+  works_turn a b c d i j k front back first read fed = works_append a b d i j k front back first (works_append b c d j j k [] back read fed)
 
--- what the checker took of the bytes that were read
-pub works_fed : (left : Option (List ℕ)) (has_failed : Bool) (unread front rest : List ℕ) (v u : CheckerValue) (room after : ℕ) (blocks : List History)
-    → has_failed ≡ false → unread ≡ front ++ rest → v.ending ≡ None → u.setting ≡ v.setting
-    → LeavesOn v.setting (state_of v room) front blocks (state_of u after)
-    → WorksOn (worker_of left has_failed unread v) room blocks (worker_of left has_failed rest u) after
-works_fed left has_failed unread front rest v u room after blocks running split going same leaves entry before works =
-    let here = subst (λ e. WorksBy e entry (worker_of left has_failed unread v) room before) going works in
-    let given : Consumes entry left ((here.0 ++ front) ++ rest) =
-    subst (Consumes entry left) (ap (λ (t : List ℕ). here.0 ++ t) split ∙ sym (append_assoc here.0 front rest)) here.1 in
-    let there : Leaves u.setting (here.0 ++ front) (before ++ blocks) (state_of u after) =
-    subst (λ (c : Setting). Leaves c (here.0 ++ front) (before ++ blocks) (state_of u after)) (sym same) (leaves here.0 before here.2) in
-    works_at u.ending entry left has_failed (here.0 ++ front) rest u after (before ++ blocks) refl running given there
+  -- a read, where all bytes were taken
+  pub works_read : (old new : S) (unread piece : List ℕ) (size : ℕ) (v : CheckerValue) (room : ℕ)
+      → Consumes (view.left old) (view.left new) piece → view.reads old size (Some piece) new → 0 < length piece → unread ≡ [] → v.ending ≡ None
+      → WorksOn view (worker_of old unread v) room [] (worker_of new piece v) room
+  works_read old new unread piece size v room told read some none going first before works =
+      let here = subst (λ e. WorksBy view e first (worker_of old unread v) room before) going works in
+      let same : here.0 ++ unread ≡ here.0 = ap (λ (t : List ℕ). here.0 ++ t) none ∙ append-nil here.0 in
+      let given : Consumes (view.left first) (view.left old) here.0 = subst (Consumes (view.left first) (view.left old)) same here.1 in
+      let gave : Gave S view.reads first here.0 old = subst (λ (t : List ℕ). Gave S view.reads first t old) same here.2 in
+      subst (λ e. WorksBy view e first (worker_of new piece v) room (before ++ [])) (sym going)
+      (subst (λ (bs : List History). WorksBy view None first (worker_of new piece v) room bs) (sym (append-nil before))
+      (here.0, Consumes-trans (view.left first) (view.left old) (view.left new) here.0 piece given told, gave_more S view.reads first old new here.0 piece (here.0 ++ piece) size gave read some refl, here.3))
+
+  -- the end, or a read that failed
+  pub works_over : (stop : Stop) (end : StreamEnd) (old new : S) (unread rest : List ℕ) (v u : CheckerValue) (room : ℕ)
+      → ((c : Setting) (bytes : List ℕ) (blocks : List History) (report : Report) → JudgesBlocks c bytes end blocks report → JudgesTo stop c bytes blocks report)
+      → StopsSo stop [] (view.left new) (view.has_failed new)
+      → ((first : S) (bytes : List ℕ) → Gave S view.reads first bytes old → IsReadTo S view.reads stop first bytes new)
+      → Consumes (view.left old) (view.left new) [] → unread ≡ [] → v.ending ≡ None → Ends end v u → ReportsEnd end v u
+      → WorksOn view (worker_of old unread v) room [] (worker_of new rest u) room
+  works_over stop end old new unread rest v u room judges stops reads told none going ends reports first before works =
+      let here = subst (λ e. WorksBy view e first (worker_of old unread v) room before) going works in
+      let all : here.0 ++ unread ≡ here.0 = ap (λ (t : List ℕ). here.0 ++ t) none ∙ append-nil here.0 in
+      let given : Consumes (view.left first) (view.left old) here.0 = subst (Consumes (view.left first) (view.left old)) all here.1 in
+      let gave : Gave S view.reads first here.0 old = subst (λ (t : List ℕ). Gave S view.reads first t old) all here.2 in
+      let same : u.setting ≡ v.setting = (subst (λ e. EndsBy e end v u) going ends).0 in
+      let judged = reports here.0 before room here.3 in
+      let report = report_at u.tally judged.0 in
+      subst (λ e. WorksBy view e first (worker_of new rest u) room (before ++ [])) (sym judged.1)
+      (subst (λ (bs : List History). WorksBy view (Some judged.0) first (worker_of new rest u) room bs) (sym (append-nil before)) (
+        record { bytes = here.0; stop = stop },
+        record { more = []; consumes = Consumes-trans (view.left first) (view.left old) (view.left new) here.0 [] given told; stops = stops },
+        reads first here.0 gave,
+        subst (λ (c : Setting). JudgesTo stop c here.0 before report) (sym same) (judges v.setting here.0 before report judged.2),
+      ))
+
+  -- the bytes so far left the checker so, and it is over or not
+  works_at : (ending : Option Ending) (first reader : S) (bytes rest : List ℕ) (v : CheckerValue) (room : ℕ) (blocks : List History)
+      → v.ending ≡ ending → view.has_failed reader ≡ false → Consumes (view.left first) (view.left reader) (bytes ++ rest) → Gave S view.reads first (bytes ++ rest) reader
+      → Leaves v.setting bytes blocks (state_by v room ending)
+      → WorksBy view ending first (worker_of reader rest v) room blocks
+  works_at None first reader bytes rest v room blocks is running given gave leaves =
+      (bytes, given, gave, subst (λ e. Leaves v.setting bytes blocks (state_by v room e)) (sym is) leaves)
+  works_at (Some ending) first reader bytes rest v room blocks is running given gave leaves = (
+    record { bytes = bytes; stop = early },
+    record { more = rest; consumes = given; stops = running },
+    (rest, gave),
+    (stops_reading v.setting bytes blocks (report_at v.tally ending) ending refl leaves.0 leaves.1, leaves.0, leaves.1),
+  )
+
+  -- what the checker took of the bytes that were read
+  pub works_fed : (reader : S) (unread front rest : List ℕ) (v u : CheckerValue) (room after : ℕ) (blocks : List History)
+      → view.has_failed reader ≡ false → unread ≡ front ++ rest → v.ending ≡ None → u.setting ≡ v.setting
+      → LeavesOn v.setting (state_of v room) front blocks (state_of u after)
+      → WorksOn view (worker_of reader unread v) room blocks (worker_of reader rest u) after
+  works_fed reader unread front rest v u room after blocks running split going same leaves first before works =
+      let here = subst (λ e. WorksBy view e first (worker_of reader unread v) room before) going works in
+      let all : here.0 ++ unread ≡ (here.0 ++ front) ++ rest = ap (λ (t : List ℕ). here.0 ++ t) split ∙ sym (append_assoc here.0 front rest) in
+      let given : Consumes (view.left first) (view.left reader) ((here.0 ++ front) ++ rest) = subst (Consumes (view.left first) (view.left reader)) all here.1 in
+      let gave : Gave S view.reads first ((here.0 ++ front) ++ rest) reader = subst (λ (t : List ℕ). Gave S view.reads first t reader) all here.2 in
+      let there : Leaves u.setting (here.0 ++ front) (before ++ blocks) (state_of u after) =
+      subst (λ (c : Setting). Leaves c (here.0 ++ front) (before ++ blocks) (state_of u after)) (sym same) (leaves here.0 before here.3) in
+      works_at u.ending first reader (here.0 ++ front) rest u after (before ++ blocks) refl running given gave there
 
 -- ---- the buffer
 

@@ -11,6 +11,7 @@ use Rattle.stream_check.specs.declared.report.Ending.{Ending}
 use Rattle.stream_check.specs.declared.report.Report.{Report}
 use Rattle.stream_check.specs.Checker.{IsReadyAt, report_at}
 use Rattle.runs.specs.Streams.{Block, blocks_of, events_in, IsBlockWithin, Terms, setting_of}
+use Rattle.lrup_text.specs.ReadOut.{SourceView}
 use Rattle.portfolio.specs.Working.{WorkerValue, Works, IsStarted}
 
 -- the map is the one that the blocks' events leave, and they are legal
@@ -23,59 +24,60 @@ pub record HasRun (f : Cnf) (p : LayoutValue) (blocks : List Block) (map : Plain
   pub room : (s : ℕ) → IsStream p s → free_at map s + spent s (events_in blocks) ≡ p.room
 
 -- the worker is stream s's, has come to this by the stream's blocks, and can go on at the map
-pub record IsWorking (terms : Terms) (blocks : List Block) (map : Plain) (s : ℕ)
-    (entry : Option (List ℕ)) (w : WorkerValue) : Type 0 where
+pub record IsWorking {S : Type 0} (view : SourceView S) (terms : Terms) (blocks : List Block)
+    (map : Plain) (s : ℕ) (first : S) (w : WorkerValue S) : Type 0 where
   pub setting : w.checker.setting ≡ setting_of terms s
-  pub works : Works entry w (free_at map s) (blocks_of s blocks)
+  pub works : Works view first w (free_at map s) (blocks_of s blocks)
   pub ready : IsReadyAt w.checker (plain_place map s)
 
 -- so it is with each worker, counted on from s
-abbrev pub AreWorking : Terms → List Block → Plain → ℕ → List (Option (List ℕ)) → List WorkerValue
-    → Type 0
-AreWorking terms blocks map s [] [] = Unit {0}
-AreWorking terms blocks map s (entry ∷ entries) (w ∷ ws) =
-    IsWorking terms blocks map s entry w × AreWorking terms blocks map (s + 1) entries ws
-AreWorking terms blocks map s _ _ = ⊥
+abbrev pub AreWorking : {S : Type 0} → SourceView S → Terms → List Block → Plain → ℕ → List S
+    → List (WorkerValue S) → Type 0
+AreWorking view terms blocks map s [] [] = Unit {0}
+AreWorking view terms blocks map s (first ∷ firsts) (w ∷ ws) =
+    IsWorking view terms blocks map s first w × AreWorking view terms blocks map (s + 1) firsts ws
+AreWorking view terms blocks map s _ _ = ⊥
 
 -- A run between two turns: its map is that of the blocks so far, and each worker has come to what its own blocks say.
-pub record Runs (f : Cnf) (terms : Terms) (entries : List (Option (List ℕ))) (map : Plain)
-    (workers : List WorkerValue) : Type 0 where
+pub record Runs {S : Type 0} (view : SourceView S) (f : Cnf) (terms : Terms) (firsts : List S)
+    (map : Plain) (workers : List (WorkerValue S)) : Type 0 where
   pub count : length workers ≡ terms.layout.streams
   pub blocks : List Block
   pub map_is : HasRun f terms.layout blocks map
-  pub workers_are : AreWorking terms blocks map 1 entries workers
+  pub workers_are : AreWorking view terms blocks map 1 firsts workers
 
 -- the run of some formula, layout and readers stands here
-abbrev pub IsRunning : Plain → List WorkerValue → Type 0
-IsRunning map workers =
-    (f : Cnf) × (terms : Terms) × (entries : List (Option (List ℕ)))
-    × Runs f terms entries map workers
+abbrev pub IsRunning : {S : Type 0} → SourceView S → Plain → List (WorkerValue S) → Type 0
+IsRunning {S} view map workers =
+    (f : Cnf) × (terms : Terms) × (firsts : List S) × Runs view f terms firsts map workers
 
 -- whatever run stood at the one moment stands at the other
-abbrev pub GoesOn : Plain → List WorkerValue → Plain → List WorkerValue → Type 0
-GoesOn map workers later after =
-    (f : Cnf) (terms : Terms) (entries : List (Option (List ℕ)))
-    → Runs f terms entries map workers → Runs f terms entries later after
+abbrev pub GoesOn : {S : Type 0} → SourceView S → Plain → List (WorkerValue S) → Plain
+    → List (WorkerValue S) → Type 0
+GoesOn {S} view map workers later after =
+    (f : Cnf) (terms : Terms) (firsts : List S)
+    → Runs view f terms firsts map workers → Runs view f terms firsts later after
 
-abbrev pub IsOver : WorkerValue → Type 0
+abbrev pub IsOver : {S : Type 0} → WorkerValue S → Type 0
 IsOver w = IsSome w.checker.ending
 
-abbrev pub AreOver : List WorkerValue → Type 0
+abbrev pub AreOver : {S : Type 0} → List (WorkerValue S) → Type 0
 AreOver ws = AllByRecursion IsOver ws
 
 -- the worker at this place in the list is over
-abbrev pub IsOverAt : List WorkerValue → ℕ → Type 0
+abbrev pub IsOverAt : {S : Type 0} → List (WorkerValue S) → ℕ → Type 0
 IsOverAt ws i = IfSome (slice_get ws i) IsOver
 
 -- the workers of the streams counted on from s, before their first bytes
-abbrev pub AreStarted : Terms → ℕ → List (Option (List ℕ)) → List WorkerValue → Type 0
-AreStarted terms s [] [] = Unit {0}
-AreStarted terms s (entry ∷ entries) (w ∷ ws) =
-    IsStarted terms s entry w × AreStarted terms (s + 1) entries ws
-AreStarted terms s _ _ = ⊥
+abbrev pub AreStarted : {S : Type 0} → SourceView S → Terms → ℕ → List S → List (WorkerValue S)
+    → Type 0
+AreStarted view terms s [] [] = Unit {0}
+AreStarted view terms s (first ∷ firsts) (w ∷ ws) =
+    IsStarted view terms s first w × AreStarted view terms (s + 1) firsts ws
+AreStarted view terms s _ _ = ⊥
 
 -- the reports of workers that are over
-abbrev pub HaveReports : List WorkerValue → List Report → Type 0
+abbrev pub HaveReports : {S : Type 0} → List (WorkerValue S) → List Report → Type 0
 HaveReports [] [] = Unit {0}
 HaveReports (w ∷ ws) (report ∷ reports) =
     ((ending : Ending) × (w.checker.ending ≡ Some ending)

@@ -10,6 +10,8 @@ ghost use Rattle.stream_check.specs.Checker.{IsReadyAt};
 ghost use Rattle.stream_check.specs.Judging.{joined};
 ghost use Rattle.groups.specs.Groups.{AreIsolated};
 ghost use Rattle.portfolio.specs.Outcomes.{IsLayoutFault, layout_of, max_tries, terms_of, verdict_of};
+ghost use Rattle.lrup_text.specs.ReadOut.{source_view};
+ghost use Rattle.runs.specs.Readings.{AreRead};
 ghost use Rattle.runs.specs.Streams.{IsOrdered, StandsOnStreams, terms_at};
 ghost use Rattle.portfolio.specs.Turns.{AreOver, AreStarted, GoesOn, HaveReports, IsOverAt, IsRunning};
 ghost use Rattle.portfolio.specs.Working.{WorksOn};
@@ -44,11 +46,13 @@ pub fn run_serial<W: Wait, R: Source + Drop, G: Gate + Drop>(
     ensures layout { IsLayoutFault result (layout_of options formula.now (length readers.items)) }
     ensures alone { (stream : ℕ) → result ≢ Err (RunFault.Spawn stream) }
     ensures no_ring { (stream : ℕ) → result ≢ Err (RunFault.Ring stream) }
-    // Each stream is what its reader told, and the reports have an order of lines.
+    // Each stream is what its reader told, and what the reader's reads gave, and the reports have an
+    // order of lines.
     ensures ordered { let terms = terms_of options cube.now formula.now (length readers.items) in
         IfOk result (λ outcome. StandsOnStreams (map R.left readers.items)
         (map R.left outcome.readers.items) (map R.has_failed outcome.readers.items)
-        (λ streams. IsOrdered formula.now terms (λ s. true) streams outcome.reports.items)) }
+        (λ streams. IsOrdered formula.now terms (λ s. true) streams outcome.reports.items
+        × AreRead _ R.reads readers.items outcome.readers.items streams)) }
     // Groups of streams are isolated: the reports of a closed set of streams, where none tells that
     // memory ran out, are such as the set alone may have.
     ensures isolated { let terms = terms_of options cube.now formula.now (length readers.items) in
@@ -87,9 +91,8 @@ pub(crate) fn workers_of<R: Source + Drop, G: Gate + Drop>(
     requires running { AllByRecursion (λ r. R.has_failed r ≡ false) readers.items }
     requires streams { layout.now.streams ≡ length readers.items }
     requires tries { tries ≤ max_tries }
-    ensures { IfOk result (λ workers.
-        AreStarted (terms_at layout.now cube.now tries) 1 (map R.left readers.items)
-        workers.items) }
+    ensures { IfOk result (λ workers. AreStarted (source_view R.left R.has_failed R.reads)
+        (terms_at layout.now cube.now tries) 1 readers.items workers.items) }
 {
     let mut workers = Vec::with_capacity(alloc, readers.len())?;
     for (reader, gate) in readers.into_iter().zip(gates) {
@@ -105,8 +108,9 @@ fn take_turns<W: Wait, R: Source + Drop, G: Gate + Drop>(
     map: &mut PlainMap,
     workers: &mut [Worker<R, G>],
 )
-    requires running { IsRunning map.old workers.old }
-    ensures runs { GoesOn map.old workers.old map.new workers.new }
+    requires running { IsRunning (source_view R.left R.has_failed R.reads) map.old workers.old }
+    ensures runs { GoesOn (source_view R.left R.has_failed R.reads) map.old workers.old map.new
+        workers.new }
     ensures over { AreOver workers.new }
 {
     for _ in wait.forever() {
@@ -122,8 +126,9 @@ fn take_round<W: Wait, R: Source + Drop, G: Gate + Drop>(
     map: &mut PlainMap,
     workers: &mut [Worker<R, G>],
 ) -> bool
-    requires running { IsRunning map.old workers.old }
-    ensures runs { GoesOn map.old workers.old map.new workers.new }
+    requires running { IsRunning (source_view R.left R.has_failed R.reads) map.old workers.old }
+    ensures runs { GoesOn (source_view R.left R.has_failed R.reads) map.old workers.old map.new
+        workers.new }
     ensures over { result ≡ false → AreOver workers.new }
 {
     let mut going = false;
@@ -140,9 +145,10 @@ fn take_turn<W: Wait, R: Source + Drop, G: Gate + Drop>(
     workers: &mut [Worker<R, G>],
     i: usize,
 ) -> bool
-    requires running { IsRunning map.old workers.old }
+    requires running { IsRunning (source_view R.left R.has_failed R.reads) map.old workers.old }
     requires within { i < length workers.old }
-    ensures runs { GoesOn map.old workers.old map.new workers.new }
+    ensures runs { GoesOn (source_view R.left R.has_failed R.reads) map.old workers.old map.new
+        workers.new }
     ensures over { result ≡ false → IsOverAt workers.old i × (workers.new ≡ workers.old) }
 {
     ready_beside();
@@ -164,7 +170,8 @@ fn turn_at_desk<W: Wait, R: Source + Drop, G: Gate + Drop>(
     requires ready { IsReadyAt worker.old.checker (plain_place map.old s) }
     requires going { worker.old.checker.ending ≡ None }
     ensures works { (blocks : List History) × PlainMoves map.old map.new s (joined blocks)
-        × WorksOn worker.old (free_at map.old s) blocks worker.new (free_at map.new s) }
+        × WorksOn (source_view R.left R.has_failed R.reads) worker.old (free_at map.old s) blocks
+        worker.new (free_at map.new s) }
     ensures ready { IsReadyAt worker.new.checker (plain_place map.new s) }
     ensures setting { worker.new.checker.setting ≡ worker.old.checker.setting }
 {
@@ -182,8 +189,7 @@ fn outcome_of<R: Source + Drop, G: Gate + Drop>(
     requires reports { vec_len workers ≤ vec_capacity reports }
     requires readers { vec_len workers ≤ vec_capacity readers }
     ensures reports { HaveReports workers.items result.reports.items }
-    ensures left { map R.left result.readers.items ≡ map (λ w. w.left) workers.items }
-    ensures failed { map R.has_failed result.readers.items ≡ map (λ w. w.has_failed) workers.items }
+    ensures readers { result.readers.items ≡ map (λ w. w.reader) workers.items }
     ensures verdict { result.verdict ≡ verdict_of result.reports.items }
 {
     for worker in workers {

@@ -6,6 +6,7 @@ ghost use Rattle.lrup_model.specs.Entailment.{IsUnsatisfiable};
 ghost use Rattle.lrup_model.specs.Layout.{IsStream};
 ghost use Rattle.lrup_model.specs.Pass.{AreMet};
 ghost use Rattle.clause_store.specs.Passes.{AreOf, HaveMet, store_of, views};
+ghost use Rattle.runs.specs.Readings.{AreRead};
 ghost use Rattle.runs.specs.Headline.{AreJudgedIn, HaveOneHistory, seen_by};
 ghost use Rattle.portfolio.specs.Outcomes.{IsLayoutFault, layout_of, terms_of, verdict_of};
 ghost use Rattle.runs.specs.Streams.{StandsOnStreams};
@@ -51,14 +52,15 @@ pub fn run<T: Threads + Wait + Sync, R: Source + Send + Drop, G: Gate + Send + D
     ensures history { IfOk result (λ outcome. let passes = views outcome.passes.items in
         HaveOneHistory formula.now (layout_of options formula.now (length readers.items))
         (seen_by passes) passes) }
-    // Each stream is what its reader told, to its end or to the read that failed, and its report is
-    // the judgement of its bytes and its events of that history.
+    // Each stream is what its reader told, and what the reader's reads gave, to its end or to the read
+    // that failed, and its report is the judgement of its bytes and its events of that history.
     ensures reports { let terms = terms_of options cube.now formula.now (length readers.items) in
         IfOk result (λ outcome. StandsOnStreams (map R.left readers.items)
         (map R.left outcome.readers.items) (map R.has_failed outcome.readers.items)
         (λ streams. AllByRecursion IsReadOut streams
         × AreJudgedIn terms (λ s. true) (seen_by (views outcome.passes.items)) 1
-        streams outcome.reports.items)) }
+        streams outcome.reports.items
+        × AreRead _ R.reads readers.items outcome.readers.items streams)) }
     // Groups of streams are isolated: the reports of a closed set of streams, where none tells that
     // memory ran out, are such as the set alone may have.
     ensures isolated { let terms = terms_of options cube.now formula.now (length readers.items) in
@@ -151,8 +153,7 @@ fn outcome_of<R: Source + Drop>(
     requires passes { vec_len found ≤ vec_capacity passes }
     requires readers { vec_len found ≤ vec_capacity readers }
     ensures reports { result.reports.items ≡ map (λ f. f.report) found.items }
-    ensures left { map R.left result.readers.items ≡ map (λ f. f.left) found.items }
-    ensures failed { map R.has_failed result.readers.items ≡ map (λ f. f.has_failed) found.items }
+    ensures readers { result.readers.items ≡ map (λ f. f.reader) found.items }
     ensures met { AreMet (views (map (λ f. f.pass) found.items)) (views result.passes.items) }
     ensures one { HaveMet (views result.passes.items) }
     ensures verdict { result.verdict ≡ verdict_of result.reports.items }

@@ -3,6 +3,7 @@ ghost use Rattle.std.specs.Prelude.{◌≡◌, ◌↔◌, ◌≤◌, ℕ, false,
 ghost use Rattle.std.specs.Bool.{OnTrue, OnFalse};
 ghost use Rattle.lrup_model.specs.Event.{History};
 ghost use Rattle.lrup_model.specs.Layout.{IsStream};
+ghost use Rattle.lrup_text.specs.ReadOut.{source_view};
 ghost use Rattle.stream_check.specs.Checker.{IsReadyAt, report_at};
 ghost use Rattle.stream_check.specs.Judging.{joined};
 ghost use Rattle.portfolio.specs.Outcomes.{max_tries};
@@ -34,11 +35,10 @@ impl<R: Source + Drop, G: Gate + Drop> Model for Worker<R, G> {
     ghost use Rattle.std.specs.Prelude.{◌-◌, take, drop, length};
     ghost use Rattle.portfolio.specs.Working.{WorkerValue, IsWorker};
 
-    ghost Value = { WorkerValue };
+    ghost Value = { WorkerValue R };
 
     ghost view = { λ w. record {
-      left = R.left w.reader;
-      has_failed = R.has_failed w.reader;
+      reader = w.reader;
       unread = take (w.to - w.from) (drop w.from w.buffer.items);
       checker = w.checker;
     } };
@@ -62,8 +62,8 @@ impl<R: Source + Drop, G: Gate + Drop> Worker<R, G> {
         requires running { R.has_failed reader ≡ false }
         requires stream { IsStream layout.now stream }
         requires tries { tries ≤ max_tries }
-        ensures { IfOk result
-            (IsStarted (terms_at layout.now cube.now tries) stream (R.left reader)) }
+        ensures { IfOk result (IsStarted (source_view R.left R.has_failed R.reads)
+            (terms_at layout.now cube.now tries) stream reader) }
     {
         Ok(Worker {
             reader,
@@ -87,7 +87,8 @@ impl<R: Source + Drop, G: Gate + Drop> Worker<R, G> {
         requires ready { IsReadyAt self.old.checker (M.place map.old) }
         requires going { self.old.checker.ending ≡ None }
         ensures works { (blocks : List History) × M.moves map.old map.new (joined blocks)
-            × WorksOn self.old (M.place map.old).room blocks self.new (M.place map.new).room }
+            × WorksOn (source_view R.left R.has_failed R.reads) self.old (M.place map.old).room
+            blocks self.new (M.place map.new).room }
         ensures ready { IsReadyAt self.new.checker (M.place map.new) }
         ensures setting { self.new.checker.setting ≡ self.old.checker.setting }
     {
@@ -105,7 +106,8 @@ impl<R: Source + Drop, G: Gate + Drop> Worker<R, G> {
     /// false.
     fn read(&mut self) -> bool
         requires { self.old.checker.ending ≡ None }
-        ensures works { (room : ℕ) → WorksOn self.old room [] self.new room }
+        ensures works { (room : ℕ) → WorksOn (source_view R.left R.has_failed R.reads)
+            self.old room [] self.new room }
         ensures going { OnTrue result (self.new.checker.ending ≡ None) }
         ensures over { OnFalse result (IsSome self.new.checker.ending) }
         ensures last { self.new.checker.last ≡ self.old.checker.last }
@@ -136,7 +138,8 @@ impl<R: Source + Drop, G: Gate + Drop> Worker<R, G> {
         requires ready { IsReadyAt self.old.checker (M.place map.old) }
         requires going { self.old.checker.ending ≡ None }
         ensures works { (blocks : List History) × M.moves map.old map.new (joined blocks)
-            × WorksOn self.old (M.place map.old).room blocks self.new (M.place map.new).room }
+            × WorksOn (source_view R.left R.has_failed R.reads) self.old (M.place map.old).room
+            blocks self.new (M.place map.new).room }
         ensures going { result ≡ Turn.More → self.new.checker.ending ≡ None }
         ensures ready { IsReadyAt self.new.checker (M.place map.new) }
         ensures setting { self.new.checker.setting ≡ self.old.checker.setting }
@@ -152,8 +155,7 @@ impl<R: Source + Drop, G: Gate + Drop> Worker<R, G> {
         requires { IsSome self.checker.ending }
         ensures report { IfSome self.checker.ending (λ ending.
             result.0 ≡ report_at self.checker.tally ending) }
-        ensures left { R.left result.1 ≡ self.left }
-        ensures failed { R.has_failed result.1 ≡ self.has_failed }
+        ensures reader { result.1 ≡ self.reader }
     {
         let Worker {
             reader,

@@ -1,4 +1,5 @@
 pub mod Closed
 pub mod Headline
+pub mod Readings
 pub mod Streams
 pub mod StreamLemmas

@@ -1,7 +1,9 @@
 -- What a checker took, piece by piece, and what both ends know together.
 use Rattle.std.proofs.Common.{◌≡◌, ◌++◌, ◌∙◌, ◌⊎◌, inl, inr, ℕ, Bool, true, false, List, [], Option, Some, None, IsSome, IfSome, refl, sym, ap, subst, append_assoc, append-nil}
-use Rattle.std.specs.Io.KnownBytes.{Consumes}
+use Rattle.std.specs.Io.KnownBytes.{Consumes, IsAtEnd}
 use Rattle.lrup_model.specs.Event.{History}
+use Rattle.lrup_text.specs.ReadOut.{ReadOut, SourceView}
+use Rattle.runs.specs.Readings.{IsRead}
 use Rattle.runs.specs.Streams.{Stream, at_end, at_failure, IsTold, JudgesStream}
 use Rattle.stream_check.specs.declared.report.Ending.{Ending}
 use Rattle.stream_check.specs.declared.report.Report.{Report}
@@ -13,7 +15,6 @@ use Rattle.stream_check.specs.Judging.{StreamEnd, JudgesBlocks}
 use Rattle.stream_check.specs.Laws.{OverStays}
 use Rattle.stream_check.specs.Leaving.{CheckerState, Over, Leaves}
 use Rattle.stream_check.specs.Setting.{Setting}
-use Rattle.stream_ring.specs.Items.{CameThrough}
 use Rattle.stream_jobs.specs.Judged.{IsReadOut, end_of}
 
 pub leaves_append : (c : Setting) (one two three : CheckerState) (xs ys : List ℕ) (front back : List History)
@@ -57,22 +58,28 @@ ends_by (Some ending) end old new is ends = subst (λ (e : Option Ending). IsSom
 pub ends_over : (end : StreamEnd) (old new : CheckerValue) → Ends end old new → IsSome new.ending
 ends_over end old new ends = ends_by old.ending end old new refl ends
 
--- what came through is the stream that was judged
-pub told_and_judged : (entry after : Option (List ℕ)) (has_failed failed : Bool) (bytes : List ℕ) (c : Setting) (blocks : List History) (report : Report)
-    → CameThrough entry after has_failed failed bytes → JudgesBlocks c bytes (end_of failed) blocks report
-    → (stream : Stream) × IsReadOut stream × IsTold entry after has_failed stream × JudgesStream c stream blocks report
-told_and_judged entry after has_failed true bytes c blocks report came judged = (
+-- what was sent is the stream that was judged
+pub told_and_judged : (S : Type 0) (view : SourceView S) (first last : S) (failed has : Bool) (bytes : List ℕ) (c : Setting) (blocks : List History) (report : Report)
+    → failed ≡ has → view.has_failed last ≡ has → Consumes (view.left first) (view.left last) bytes → (has ≡ false → IsAtEnd (view.left last))
+    → ReadOut S view.reads has first bytes last → JudgesBlocks c bytes (end_of failed) blocks report
+    → (stream : Stream) × IsReadOut stream × IsTold (view.left first) (view.left last) (view.has_failed last) stream × IsRead S view.reads first last stream
+    × JudgesStream c stream blocks report
+told_and_judged S view first last true true bytes c blocks report same has told all read judged = (
   record { bytes = bytes; stop = at_failure },
   inr refl,
-  record { more = []; consumes = subst (Consumes entry after) (sym (append-nil bytes)) came.told; stops = (refl, sym came.failed_is) },
+  record { more = []; consumes = subst (Consumes (view.left first) (view.left last)) (sym (append-nil bytes)) told; stops = (refl, has) },
+  read,
   judged,
 )
-told_and_judged entry after has_failed false bytes c blocks report came judged = (
+told_and_judged S view first last false false bytes c blocks report same has told all read judged = (
   record { bytes = bytes; stop = at_end },
   inl refl,
-  record { more = []; consumes = subst (Consumes entry after) (sym (append-nil bytes)) came.told; stops = (refl, came.all refl, sym came.failed_is) },
+  record { more = []; consumes = subst (Consumes (view.left first) (view.left last)) (sym (append-nil bytes)) told; stops = (refl, all refl, has) },
+  read,
   judged,
 )
+told_and_judged S view first last true false bytes c blocks report same has told all read judged = absurd (cc)
+told_and_judged S view first last false true bytes c blocks report same has told all read judged = absurd (cc)
 
 -- what was taken so far, and then more, with the same setting
 pub leaves_more : (c d : Setting) (one two three : CheckerState) (xs ys all : List ℕ) (front back : List History) → d ≡ c → all ≡ xs ++ ys

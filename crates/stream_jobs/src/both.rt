@@ -1,8 +1,10 @@
 //! The two jobs of a stream before their threads start, and what came of them after both have ended.
-ghost use Rattle.std.specs.Prelude.{◌≡◌, ◌≤◌, ℕ, List, [], Option, false, IfOk};
+ghost use Rattle.std.specs.Prelude.{◌≡◌, ◌≤◌, ℕ, List, [], false, IfOk};
 ghost use Rattle.lrup_model.specs.Event.{History};
 ghost use Rattle.lrup_model.specs.Layout.{IsStream};
+ghost use Rattle.lrup_text.specs.ReadOut.{source_view};
 ghost use Rattle.rtrb.specs.Ring.{sent, received, IsPair};
+ghost use Rattle.runs.specs.Readings.{IsRead};
 ghost use Rattle.runs.specs.Streams.{Stream, IsTold, JudgesStream};
 ghost use Rattle.stream_check.specs.declared.report.Report.{Report};
 ghost use Rattle.stream_check.specs.Checker.{IsNew, state_of};
@@ -49,20 +51,21 @@ pub fn jobs<R: Source + Drop, G: Gate + Drop>(
     Ok((reading, checking))
 }
 
-/// What both threads gave back, in one thread again: the stream that was judged is what its reader told, to its end or to the read
-/// that failed.
+/// What both threads gave back, in one thread again: the stream that was judged is what its reader told and its reads gave, to its
+/// end or to the read that failed.
 pub fn meet<R: Source + Drop>(sent: &mut Sent<R>, checked: &mut Checked)
     requires { IsPair sent.old.producer checked.old.consumer }
     ensures reader { sent.new.reader ≡ sent.old.reader }
     ensures report { checked.new.report ≡ checked.old.report }
-    ensures judged { (entry : Option (List ℕ)) (v : CheckerValue) (room : ℕ)
+    ensures judged { (first : R) (v : CheckerValue) (room : ℕ)
         (blocks : List History) (report : Report)
-        → SendsAll entry (R.left sent.old.reader) (R.has_failed sent.old.reader)
+        → SendsAll _ (source_view R.left R.has_failed R.reads) first sent.old.reader
         (Rattle.rtrb.specs.Ring.sent sent.old.producer)
         → JudgesAtMark v room (received checked.old.consumer) blocks report
         → Leaves v.setting [] [] (state_of v room)
         → (stream : Stream) × IsReadOut stream
-        × IsTold entry (R.left sent.old.reader) (R.has_failed sent.old.reader) stream
+        × IsTold (R.left first) (R.left sent.old.reader) (R.has_failed sent.old.reader) stream
+        × IsRead _ R.reads first sent.old.reader stream
         × JudgesStream v.setting stream blocks report }
 {
     came_through(&mut sent.producer, &mut checked.consumer);

@@ -1,5 +1,6 @@
 //! The job of the thread that reads a stream.
 ghost use Rattle.std.specs.Prelude.{◌≡◌, ◌<◌, [], false, vec_len, IfOk, IfErr};
+ghost use Rattle.lrup_text.specs.ReadOut.{source_view};
 ghost use Rattle.rtrb.specs.Ring.{sent, SameProducer};
 ghost use Rattle.stream_ring.specs.Items.{SendsAll};
 
@@ -66,8 +67,8 @@ pub fn read_when_told<'a, W: Wait, R: Source + Drop>(
 ) -> Result<Sent<R>, OnceToken<'a, bool>>
     ensures leaves { IfErr result (λ token. (token.of ≡ word.now.id) × (token.value ≡ false)) }
     ensures ring { IfOk result (λ sent. SameProducer job.sender.producer sent.producer) }
-    ensures sent { IfOk result (λ s. SendsAll (R.left job.reader) (R.left s.reader)
-        (R.has_failed s.reader) (sent s.producer)) }
+    ensures sent { IfOk result (λ s. SendsAll _ (source_view R.left R.has_failed R.reads)
+        job.reader s.reader (sent s.producer)) }
 {
     let token = told(wait, word);
     if !*word.value(&token) {

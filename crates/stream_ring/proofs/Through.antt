@@ -1,10 +1,10 @@
 -- Bytes and a mark, sent and received.
-use Rattle.std.proofs.Common.{◌≡◌, ℕ, suc, ◌<◌, ◌≤◌, ◌+◌, ◌-◌, List, [], ◌∷◌, ◌++◌, Bool, true, false, length, take, get_or, nat_eq, map, refl, ap, sym, ◌∙◌, arith, append_assoc, Option}
+use Rattle.std.proofs.Common.{◌≡◌, ℕ, suc, ◌<◌, ◌≤◌, ◌+◌, ◌-◌, List, [], ◌∷◌, ◌++◌, Bool, true, false, length, take, get_or, nat_eq, map, refl, ap, sym, ◌∙◌, arith, append_assoc}
 use Rattle.std.specs.Prelude.{All}
 use native.Mathlib.Numerals.{unary_clauses}
 use Rattle.std.proofs.Math.Seq.{take-suc, take-append_seam}
 use Rattle.std.proofs.lemmas.List.{map-append, length-map, length-take-le, length-append}
-use Rattle.stream_ring.specs.Items.{SendsAll, EndsAtMark, mark_of, byte_of, CameThrough}
+use Rattle.stream_ring.specs.Items.{EndsAtMark, IsSentOf, mark_of, byte_of}
 
 head_below : (x : ℕ) (xs : List ℕ) → All (λ b. b < 256) (x ∷ xs) → x < 256
 head_below x xs h = h 0 0 (omega arith)
@@ -93,16 +93,9 @@ mark_tells : (failed : Bool) → nat_eq (mark_of failed) 257 ≡ failed
 mark_tells true = refl
 mark_tells false = refl
 
-pub came_by : (items received known : List ℕ) → received ++ known ≡ items
-    → (before after : Option (List ℕ)) (has failed : Bool) (bytes : List ℕ)
-    → SendsAll before after has items → EndsAtMark bytes failed received → CameThrough before after has failed bytes
-came_by items received known whole before after has failed bytes s t =
-    let both : t.taken ++ t.mark ∷ known ≡ s.bytes ++ mark_of has ∷ [] = sym (append_assoc t.taken (t.mark ∷ []) known) ∙ (ap (λ u. u ++ known) (sym t.items_are) ∙ (whole ∙ s.items_are)) in
-    let same = same_mark t.taken s.bytes known t.mark (mark_of has) s.small t.is_mark (mark_is has) both in
-    let flag : failed ≡ has = t.failed_is ∙ (ap (λ u. nat_eq u 257) same.1 ∙ mark_tells has) in
-    let are : s.bytes ≡ bytes = sym same.0 ∙ sym t.bytes_are in
-    record {
-      told = rw (← are) s.told;
-      all = λ e. s.all (sym flag ∙ e);
-      failed_is = flag;
-    }
+pub came_by : (items received known : List ℕ) → received ++ known ≡ items → (bytes came : List ℕ) (has failed : Bool)
+    → IsSentOf bytes has items → EndsAtMark came failed received → (came ≡ bytes) × (failed ≡ has)
+came_by items received known whole bytes came has failed s t =
+    let both : t.taken ++ t.mark ∷ known ≡ bytes ++ mark_of has ∷ [] = sym (append_assoc t.taken (t.mark ∷ []) known) ∙ (ap (λ u. u ++ known) (sym t.items_are) ∙ (whole ∙ s.items_are)) in
+    let same = same_mark t.taken bytes known t.mark (mark_of has) s.small t.is_mark (mark_is has) both in
+    (t.bytes_are ∙ same.0, t.failed_is ∙ (ap (λ u. nat_eq u 257) same.1 ∙ mark_tells has))

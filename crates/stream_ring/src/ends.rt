@@ -1,7 +1,8 @@
 //! The two ends of a ring, and what each thread does at its own.
-ghost use Rattle.std.specs.Prelude.{◌≡◌, ◌<◌, ◌≤◌, ℕ, Bool, List, [], ◌++◌, ◌∷◌, true, false, length, take, map, All, Option, IfOk};
+ghost use Rattle.std.specs.Prelude.{◌≡◌, ◌<◌, ◌≤◌, ℕ, Bool, List, [], ◌++◌, ◌∷◌, true, false, length, take, map, All, IfOk};
 ghost use Rattle.rtrb.specs.Ring.{sent, received, SameProducer, SameConsumer, IsPair};
-ghost use Rattle.stream_ring.specs.Items.{CameThrough, EndsAtMark, SendsAll, byte_of};
+ghost use Rattle.lrup_text.specs.ReadOut.{source_view};
+ghost use Rattle.stream_ring.specs.Items.{EndsAtMark, IsSentOf, SendsAll, byte_of};
 
 use crate::blocks::{narrow, widen};
 use crossbeam_utils::Backoff;
@@ -154,8 +155,8 @@ impl Sender {
         requires room { (0 < length piece.old) × (0 < length items.old) }
         ensures ring { SameProducer self.old.producer self.new.producer }
         ensures failed { result ≡ R.has_failed reader.new }
-        ensures sent { SendsAll (R.left reader.old) (R.left reader.new)
-            (R.has_failed reader.new) (sent self.new.producer) }
+        ensures sent { SendsAll _ (source_view R.left R.has_failed R.reads) reader.old reader.new
+            (sent self.new.producer) }
     {
         for _ in wait.forever() {
             match reader.read(piece) {
@@ -245,14 +246,13 @@ impl Receiver {
     }
 }
 
-/// Both ends in one thread again, after what was received ended at a mark: all that the reader told came through, and the mark
-/// says whether it failed.
+/// Both ends in one thread again, after what was received ended at a mark: the bytes and the mark are those that were sent.
 pub fn came_through(producer: &mut Producer<u16>, consumer: &mut Consumer<u16>)
     requires { IsPair producer.old consumer.old }
-    ensures { (before after : Option (List ℕ)) (has_failed failed : Bool) (bytes : List ℕ)
-        → SendsAll before after has_failed (sent producer.old)
-        → EndsAtMark bytes failed (received consumer.old)
-        → CameThrough before after has_failed failed bytes }
+    ensures { (bytes came : List ℕ) (has_failed failed : Bool)
+        → IsSentOf bytes has_failed (sent producer.old)
+        → EndsAtMark came failed (received consumer.old)
+        → (came ≡ bytes) × (failed ≡ has_failed) }
 {
     consumer.slots_beside(producer);
 }

@@ -2,6 +2,7 @@
 ghost use Rattle.std.specs.Prelude.{◌≡◌, IfSome};
 ghost use Rattle.clause_store.specs.Passes.{store_of};
 ghost use Rattle.lrup_model.specs.Pass.{pass_place};
+ghost use Rattle.lrup_text.specs.ReadOut.{source_view};
 ghost use Rattle.rtrb.specs.Ring.{received, SameConsumer, SameProducer};
 ghost use Rattle.stream_check.specs.Checker.{IsReadyAt};
 ghost use Rattle.stream_ring.specs.Items.{SendsAll};
@@ -31,7 +32,7 @@ pub(crate) struct ReadTask<R: Source + Drop> {
 impl<R: Source + Drop> Promise<Option<Sent<R>>> for ReadTask<R> {
     ghost kept_by = { λ task end. IfSome end (λ s.
         SameProducer task.job.value.sender.producer s.producer
-        × SendsAll (R.left task.job.value.reader) (R.left s.reader) (R.has_failed s.reader)
+        × SendsAll _ (source_view R.left R.has_failed R.reads) task.job.value.reader s.reader
         (Rattle.rtrb.specs.Ring.sent s.producer)) };
 }
 
@@ -56,8 +57,8 @@ pub(crate) fn read<W: Wait, R: Source + Drop>(
     job: ReadingJob<R>,
 ) -> Option<Sent<R>>
     ensures ring { IfSome result (λ s. SameProducer job.sender.producer s.producer) }
-    ensures sent { IfSome result (λ s. SendsAll (R.left job.reader) (R.left s.reader)
-        (R.has_failed s.reader) (Rattle.rtrb.specs.Ring.sent s.producer)) }
+    ensures sent { IfSome result (λ s. SendsAll _ (source_view R.left R.has_failed R.reads)
+        job.reader s.reader (Rattle.rtrb.specs.Ring.sent s.producer)) }
 {
     read_when_told(wait, word, job).ok()
 }

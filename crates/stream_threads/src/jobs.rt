@@ -1,5 +1,5 @@
 //! The jobs of a stream, before its threads start, between their starts, and after both have started.
-ghost use Rattle.std.specs.Prelude.{◌≡◌, ◌≤◌, false, IfOk, length, map, vec_len};
+ghost use Rattle.std.specs.Prelude.{◌≡◌, ◌≤◌, false, IfOk, length, vec_len};
 ghost use Rattle.std.specs.List.{AllByRecursion};
 ghost use Rattle.lrup_model.specs.Layout.{IsStream};
 ghost use Rattle.runs.specs.Streams.{terms_at};
@@ -38,10 +38,10 @@ impl<R: Source + Drop, G: Gate + Drop> Model for StreamJobs<R, G> {
     ghost use Rattle.rtrb.specs.Ring.{IsPair};
     ghost use Rattle.stream_threads.specs.Jobs.{JobsValue};
 
-    ghost Value = { JobsValue };
+    ghost Value = { JobsValue R };
 
     ghost view = { λ j. record {
-      left = R.left j.reading.reader;
+      reader = j.reading.reader;
       checker = j.checking.checker;
       pass = j.pass;
     } };
@@ -66,7 +66,7 @@ impl<R: Source + Drop, G: Gate + Drop> StreamJobs<R, G> {
         requires running { R.has_failed reader ≡ false }
         requires stream { IsStream layout.now stream }
         requires tries { tries ≤ max_tries }
-        ensures left { IfOk result (λ jobs. jobs.left ≡ R.left reader) }
+        ensures reader { IfOk result (λ jobs. jobs.reader ≡ reader) }
         ensures checker { IfOk result
             (λ jobs. IsNew layout.now cube.now stream tries jobs.checker) }
         ensures pass { IfOk result (λ jobs. jobs.pass ≡ pass) }
@@ -96,7 +96,7 @@ pub fn jobs_of<R: Source + Drop, G: Gate + Drop>(
     requires streams { layout.now.streams ≡ length readers.items }
     requires tries { tries ≤ max_tries }
     ensures { IfOk result (λ all. AreJobs (terms_at layout.now cube.now tries) 1
-        (map R.left readers.items) passes.items all.items) }
+        readers.items passes.items all.items) }
 {
     let mut all = Vec::with_capacity(alloc, readers.len())?;
     for ((reader, gate), pass) in readers.into_iter().zip(gates).zip(passes) {
@@ -117,10 +117,10 @@ impl<R: Source + Drop, G: Gate + Drop> Model for HalfStarted<R, G> {
     ghost use Rattle.rtrb.specs.Ring.{IsPair};
     ghost use Rattle.stream_threads.specs.Jobs.{JobsValue};
 
-    ghost Value = { JobsValue };
+    ghost Value = { JobsValue R };
 
     ghost view = { λ h. record {
-      left = R.left h.reading.reader;
+      reader = h.reading.reader;
       checker = h.checking.promise.job.value.checker;
       pass = h.checking.promise.pass.value;
     } };
@@ -140,10 +140,10 @@ impl<R: Source + Drop, G: Gate + Drop> Model for Started<R, G> {
     ghost use Rattle.rtrb.specs.Ring.{IsPair};
     ghost use Rattle.stream_threads.specs.Jobs.{JobsValue};
 
-    ghost Value = { JobsValue };
+    ghost Value = { JobsValue R };
 
     ghost view = { λ s. record {
-      left = R.left s.reading.promise.job.value.reader;
+      reader = s.reading.promise.job.value.reader;
       checker = s.checking.promise.job.value.checker;
       pass = s.checking.promise.pass.value;
     } };

@@ -1,6 +1,7 @@
 //! The threads' joins, and what was found of each stream.
 ghost use Rattle.std.specs.Prelude.{◌≡◌, ◌+◌, ◌++◌, ◌⊎◌, ◌↔◌, ◌<◌, ◌≤◌, List, Option, [], ◌∷◌, None, Some, IfErr, IfOk, IfSome, IsNone, OnOk, length, map, vec_capacity, vec_len};
 ghost use Rattle.std.specs.List.{AllByRecursion};
+ghost use Rattle.lrup_text.specs.ReadOut.{source_view};
 ghost use Rattle.rtrb.specs.Ring.{received, IsPair};
 ghost use Rattle.stream_ring.specs.Items.{SendsAll};
 ghost use Rattle.stream_threads.specs.Jobs.{AllEnd, AllFinish, CanBegin, Finishes, FoundValue, IsFaultWithin, JobsValue, JudgesAtPass};
@@ -33,12 +34,11 @@ pub struct Found<R: Source + Drop> {
 impl<R: Source + Drop> Model for Found<R> {
     ghost use Rattle.stream_threads.specs.Jobs.{FoundValue};
 
-    ghost Value = { FoundValue };
+    ghost Value = { FoundValue R };
 
     ghost view = { λ f. record {
       report = f.report;
-      left = R.left f.reader;
-      has_failed = R.has_failed f.reader;
+      reader = f.reader;
       pass = f.pass;
     } };
 }
@@ -87,12 +87,12 @@ fn meet_ends<R: Source + Drop>(
     requires pair { IfSome sent (λ s. IfSome checked (λ e.
         IsPair s.producer e.checked.consumer)) }
     ensures none { IsNone result ↔ (IsNone sent ⊎ IfSome checked (λ e. IsNone e.checked.report)) }
-    ensures judged { (jobs : JobsValue)
-        → IfSome sent (λ s. SendsAll jobs.left (R.left s.reader) (R.has_failed s.reader)
-        (Rattle.rtrb.specs.Ring.sent s.producer))
+    ensures judged { (jobs : JobsValue R)
+        → IfSome sent (λ s. SendsAll _ (source_view R.left R.has_failed R.reads) jobs.reader
+        s.reader (Rattle.rtrb.specs.Ring.sent s.producer))
         → IfSome checked (λ e. IfSome e.checked.report (JudgesAtPass jobs.checker jobs.pass e.pass
         (received e.checked.consumer)))
-        → IfSome result (Finishes jobs) }
+        → IfSome result (Finishes (source_view R.left R.has_failed R.reads) jobs) }
 {
     let mut sent = sent?;
     let CheckedPass { mut checked, pass } = checked?;
@@ -108,7 +108,7 @@ fn meet_ends<R: Source + Drop>(
 impl<R: Source + Drop, G: Gate + Drop> Started<R, G> {
     /// Waits until both threads have ended. None where no mark was met.
     fn join<T: Threads>(self, threads: &T) -> Option<Found<R>>
-        ensures { IfSome result (Finishes self) }
+        ensures { IfSome result (Finishes (source_view R.left R.has_failed R.reads) self) }
     {
         let Started { reading, checking } = self;
         let sent = reading.join(threads);
@@ -125,7 +125,7 @@ fn join_all<T: Threads, R: Source + Drop, G: Gate + Drop>(
 ) -> Vec<Option<Found<R>>>
     requires none { ends.items ≡ [] }
     requires room { vec_len all ≤ vec_capacity ends }
-    ensures ends { AllEnd all.items result.items }
+    ensures ends { AllEnd (source_view R.left R.has_failed R.reads) all.items result.items }
     ensures count { vec_len result ≡ vec_len all }
 {
     for started in all {
@@ -142,8 +142,8 @@ fn all_found<R: Source + Drop>(
     requires none { found.items ≡ [] }
     requires room { vec_len ends ≤ vec_capacity found }
     ensures found { IfOk result (λ all. ends.items ≡ map (λ f. Some f) all.items) }
-    ensures first { IfErr result (λ fault. (before : List FoundValue)
-        × (after : List (Option FoundValue))
+    ensures first { IfErr result (λ fault. (before : List (FoundValue R))
+        × (after : List (Option (FoundValue R)))
         × (ends.items ≡ map (λ f. Some f) before ++ None ∷ after)
         × (fault ≡ Ring (length before + 1))) }
 {
@@ -173,7 +173,8 @@ fn start_and_join<
 ) -> Result<Vec<Found<R>>, ThreadFault>
     requires begin { AllByRecursion (CanBegin store.now) all.items }
     requires room { vec_len all ≤ room }
-    ensures found { IfOk result (λ found. AllFinish all.items found.items) }
+    ensures found { IfOk result (λ found.
+        AllFinish (source_view R.left R.has_failed R.reads) all.items found.items) }
     ensures fault { IfErr result (IsFaultWithin (vec_len all)) }
 {
     let Room {
@@ -205,7 +206,8 @@ pub fn check_all<T: Threads + Wait + Sync, R: Source + Send + Drop, G: Gate + Se
 ) -> Result<Vec<Found<R>>, ThreadFault>
     requires begin { AllByRecursion (CanBegin store.now) all.items }
     requires room { vec_len all ≤ room }
-    ensures found { IfOk result (λ found. AllFinish all.items found.items) }
+    ensures found { IfOk result (λ found.
+        AllFinish (source_view R.left R.has_failed R.reads) all.items found.items) }
     ensures fault { IfErr result (IsFaultWithin (vec_len all)) }
 {
     let start = OnceLock::new();
@@ -216,7 +218,8 @@ pub fn check_all<T: Threads + Wait + Sync, R: Source + Send + Drop, G: Gate + Se
         move |scope| -> Result<Vec<Found<R>>, ThreadFault>
             requires begin { AllByRecursion (CanBegin store.now) all.items }
             requires room { vec_len all ≤ room }
-            ensures found { IfOk result (λ found. AllFinish all.items found.items) }
+            ensures found { IfOk result (λ found.
+                AllFinish (source_view R.left R.has_failed R.reads) all.items found.items) }
             ensures fault { IfErr result (IsFaultWithin (vec_len all)) }
         { start_and_join(scope, threads, store, word, all, room) },
     )

@@ -1,6 +1,8 @@
 //! Files that tell their bytes, and what status 0 says of them.
 ghost use Rattle.std.specs.Prelude.{◌≡◌, IsTrue, Some, cond, false, length, nat_eq};
-ghost use Rattle.command.specs.Commands.{IsUnsatisfiableText};
+ghost use Rattle.dimacs.specs.FormulaText.{IsTextOf};
+ghost use Rattle.lrup_model.specs.Entailment.{IsUnsatisfiable};
+ghost use Rattle.lrup_model.specs.Formula.{Cnf};
 
 use super::*;
 use command_line::laws::plain_words;
@@ -37,7 +39,7 @@ fn refutes<T: Threads + Wait + Sync + Clock>(
     formula: &str,
     stream: &str,
 ) -> bool
-    ensures { IsTrue result → IsUnsatisfiableText formula.now }
+    ensures { IsTrue result → (f : Cnf) × IsTextOf formula.now f × IsUnsatisfiable f }
 {
     plain_words();
     let mut files = Told { formula, stream };

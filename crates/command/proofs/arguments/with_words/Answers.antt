@@ -2,7 +2,7 @@ use Rattle.std.proofs.Common.{◌≡◌, List, inr, map, rules, string_bytes, su
 use Rattle.clap.specs.Walk.{texts}
 use Rattle.command_line.specs.CommandLine.{HaveFault}
 use Rattle.command.specs.Arguments.{words_after_name}
-use Rattle.command.specs.Commands.{NameUnsatisfiable, NameUnsatisfiableUnder, Text, files_view}
+use Rattle.command.specs.Commands.{NameUnsatisfiable, NameUnsatisfiableUnder, Text, WasRead}
 use Rattle.command.proofs.WordLemmas.{read_all}
 use Rattle.command.specs.declared.fault.CommandFault.TheVariants as faults
 use Rattle.command.proofs.arguments.with_words.Given
@@ -33,15 +33,13 @@ same_words g c = read_all texts (map string_bytes) c.deref-2.result.now c.in-Ok-
 
 pub returns-clause-sound : goal.returns-clause-sound
 returns-clause-sound g c zero =
-    let view = files_view (g.F.Files.tells c.args.files.now) (g.F.Files.may_refuse c.args.files.now)
-    g.F.Input.Source.left g.F.Input.Source.has_failed (g.F.Files.opens c.args.files.now) g.F.Input.Source.reads in
-    subst (λ (words : List Text). NameUnsatisfiable g.row.F-Input.Denot view words) (same_words g c) (c.command.ensures.sound zero)
+    let Read = WasRead g.row.F-Input.Denot (g.F.Files.opens c.args.files.now) g.F.Input.Source.reads (g.F.Files.tells c.args.files.now) in
+    subst (λ (words : List Text). NameUnsatisfiable Read words) (same_words g c) (c.command.ensures.sound zero)
 
 pub returns-clause-sound_under : goal.returns-clause-sound_under
 returns-clause-sound_under g c eight =
-    let view = files_view (g.F.Files.tells c.args.files.now) (g.F.Files.may_refuse c.args.files.now)
-    g.F.Input.Source.left g.F.Input.Source.has_failed (g.F.Files.opens c.args.files.now) g.F.Input.Source.reads in
-    subst (λ (words : List Text). NameUnsatisfiableUnder g.row.F-Input.Denot view words) (same_words g c) (c.command.ensures.sound_under eight)
+    let Read = WasRead g.row.F-Input.Denot (g.F.Files.opens c.args.files.now) g.F.Input.Source.reads (g.F.Files.tells c.args.files.now) in
+    subst (λ (words : List Text). NameUnsatisfiableUnder Read words) (same_words g c) (c.command.ensures.sound_under eight)
 
 pub returns-clause-usage : goal.returns-clause-usage
 returns-clause-usage g c fault = c.command.ensures.usage (subst HaveFault (sym (same_words g c)) fault)

@@ -24,6 +24,7 @@ returns-clause-checked g c =
         told = reports.told;
         judged = (_, c.in_ok-outcome.ensures.history.legal, reports.judged.1);
       };
+      read = reports.judged.2;
       is_verdict = c.in_ok-outcome.ensures.verdict;
       sound = c.in_ok-outcome.ensures.sound;
       sound_under = c.in_ok-outcome.ensures.sound_under;

@@ -15,10 +15,12 @@ returns-in_err-outcome-clause-cause g c =
 pub returns-clause-checked : goal.returns-clause-checked
 returns-clause-checked g c =
     let p = layout_of c.args.options c.args.formula.now (length c.args.readers.items) in
+    let ordered = c.in_ok-outcome.ensures.ordered in
     record {
       layout = has_layout p c.run_serial.result c.in_ok-outcome.outcome c.in_ok-outcome.was c.run_serial.ensures.layout;
       readers = c.in_ok-outcome.outcome.readers.items;
-      reported = c.in_ok-outcome.ensures.ordered;
+      reported = record { streams = ordered.streams; told = ordered.told; judged = ordered.judged.0 };
+      read = ordered.judged.1;
       is_verdict = c.in_ok-outcome.ensures.verdict;
       sound = c.in_ok-outcome.ensures.sound;
       sound_under = c.in_ok-outcome.ensures.sound_under;

@@ -1,6 +1,6 @@
 use Rattle.std.proofs.Common.{◌≡◌, ◌∙◌, List, map, refl, sym, ap, subst}
 use Rattle.clap.specs.Walk.{texts}
-use Rattle.command.specs.Commands.{AreAssumed, AreOpened, IsCause, IsOutcome, Text, assumed_at, files_view, options_of}
+use Rattle.command.specs.Commands.{AreAssumed, AreOpened, IsCause, IsOutcome, Text, WasReadIn, assumed_at, files_view, options_of}
 use Rattle.command.proofs.CheckingLemmas.{assumed_cause, err_given, if_err, if_ok, is_outcome, names_unsatisfiable, names_unsatisfiable_under, open_cause, open_moved, run_cause_of, some_given}
 use Rattle.command.proofs.FileLemmas.{moved_assumed, moved_cause}
 use Rattle.command.proofs.OpeningLemmas.{opened_before}
@@ -34,7 +34,7 @@ returns g c =
     let later = c.read_formula.new.files in
     let at = read.formula in
     let cube = c.in_ok-cube.cube in
-    let assumed : AreAssumed R files formula.vars (assumed_at line) cube =
+    let assumed : AreAssumed (WasReadIn R files) formula.vars (assumed_at line) cube =
     moved_assumed R files (g.F.Files.tells later) (g.F.Files.may_refuse later) (g.F.Files.opens later) read.stays read.stays_refused read.stays_opens
     formula.vars (assumed_at line) cube c.in_ok-cube.ensures.cube in
     let readers = c.in_ok-readers.readers.items in
@@ -70,7 +70,7 @@ returns-in_err-readers-clause-cause g c =
     let read = c.in_ok-formula.ensures in
     let later = c.read_formula.new.files in
     let cube = c.in_ok-cube.cube in
-    let assumed : AreAssumed R files formula.vars (assumed_at line) cube =
+    let assumed : AreAssumed (WasReadIn R files) formula.vars (assumed_at line) cube =
     moved_assumed R files (g.F.Files.tells later) (g.F.Files.may_refuse later) (g.F.Files.opens later) read.stays read.stays_refused read.stays_opens
     formula.vars (assumed_at line) cube c.in_ok-cube.ensures.cube in
     let moved = open_moved files.may_refuse (g.F.Files.may_refuse c.read_assumed.new.files) line.streams (texts c.as_slice.result.now)

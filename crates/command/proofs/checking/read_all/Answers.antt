@@ -1,12 +1,13 @@
 use Rattle.std.proofs.Common.{arith, ◌≡◌, ℕ, List, None, rules, subst, sym, true}
 use Rattle.std.specs.Io.KnownBytes.{Consumes}
 use Rattle.std.proofs.lemmas.List.{length-take-le}
+use Rattle.lrup_text.specs.ReadLemmas.{gave_more}
 use Rattle.lrup_text.specs.Reads.{Gave, ReadsOf}
 use Rattle.command.specs.Commands.{HasBrokenOff, IsFailedRead, ReaderView}
 use Rattle.command.specs.declared.fault.CommandFault.{CommandFault}
 use Rattle.command.specs.declared.fault.CommandFault.TheVariants as faults
 use Rattle.command.proofs.CheckingLemmas.{err_given}
-use Rattle.command.proofs.ReadingLemmas.{consumed_begins, consumed_more, gave_more}
+use Rattle.command.proofs.ReadingLemmas.{consumed_begins, consumed_more}
 use Rattle.command.proofs.checking.read_all.Goals as goal
 
 pub loop-preserved : goal.loop-preserved

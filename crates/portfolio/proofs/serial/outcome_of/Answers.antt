@@ -2,11 +2,12 @@ use Rattle.std.proofs.Common.{◌≡◌, ◌∷◌, ◌∙◌, List, map, ap, su
 use Rattle.std.specs.Vec.Iter.{into_iter_items}
 use Rattle.lrup_model.specs.ListLemmas.{whole_end}
 use Rattle.stream_check.specs.declared.report.Report.{Report}
+use Rattle.lrup_text.specs.ReadOut.{source_view}
 use Rattle.portfolio.specs.Outcomes.{verdict_of}
 use Rattle.portfolio.specs.Turns.{AreOver, HaveReports}
 use Rattle.portfolio.specs.Working.{WorkerValue}
-use Rattle.portfolio.proofs.JoiningLemmas.{whole_more}
-use Rattle.portfolio.proofs.TurnsLemmas.{reports_pushed, map_more}
+use Rattle.portfolio.proofs.JoiningLemmas.{pushed_more, whole_more}
+use Rattle.portfolio.proofs.TurnsLemmas.{reports_pushed}
 use Rattle.portfolio.proofs.serial.outcome_of.Goals as goal
 
 pub loop-worker-preserved : goal.loop-worker-preserved
@@ -20,9 +21,9 @@ loop-worker-preserved g c =
     record {
       whole = whole_more now.yielded (into_iter_items now.worker-iterator) (into_iter_items c.next.new.self) _ w steps.0 now.invariant.whole;
       over = over.1;
-      reports = reports_pushed now.yielded now.reports.items c.push_reserved.new.self.items w parts.result.0 c.push_reserved.ensures.items now.invariant.reports over.0 parts.ensures.report;
-      left = map_more g.R.Source.left (λ v. v.left) now.readers.items c.push_reserved-in-loop-worker.new.self.items now.yielded parts.result.1 w reader.items now.invariant.left parts.ensures.left;
-      failed = map_more g.R.Source.has_failed (λ v. v.has_failed) now.readers.items c.push_reserved-in-loop-worker.new.self.items now.yielded parts.result.1 w reader.items now.invariant.failed parts.ensures.failed;
+      reports = reports_pushed (source_view g.R.Source.left g.R.Source.has_failed g.R.Source.reads) now.yielded now.reports.items c.push_reserved.new.self.items w parts.result.0 c.push_reserved.ensures.items now.invariant.reports over.0 parts.ensures.report;
+      readers = pushed_more (λ (v : WorkerValue g.row.R.Denot). v.reader) now.readers.items c.push_reserved-in-loop-worker.new.self.items now.yielded parts.result.1 w
+          reader.items now.invariant.readers parts.ensures.reader;
       report_count = omega (arith, c.push_reserved.ensures.len, steps.1, now.invariant.report_count);
       reader_count = omega (arith, reader.len, steps.1, now.invariant.reader_count);
       report_room = omega (arith, c.push_reserved.ensures.capacity, now.invariant.report_room);
@@ -32,18 +33,13 @@ loop-worker-preserved g c =
 pub returns-clause-reports : goal.returns-clause-reports
 returns-clause-reports g c =
     let now = c.loop-worker in
-    subst (λ (ws : List WorkerValue). HaveReports ws now.reports.items)
+    subst (λ (ws : List (WorkerValue g.row.R.Denot)). HaveReports ws now.reports.items)
     (whole_end now.yielded c.args.workers.items now.worker-iterator c.next.new.self c.in-None.ensures.steps now.invariant.whole) now.invariant.reports
 
-pub returns-clause-left : goal.returns-clause-left
-returns-clause-left g c =
+pub returns-clause-readers : goal.returns-clause-readers
+returns-clause-readers g c =
     let now = c.loop-worker in
-    now.invariant.left ∙ ap (map (λ (w : WorkerValue). w.left)) (whole_end now.yielded c.args.workers.items now.worker-iterator c.next.new.self c.in-None.ensures.steps now.invariant.whole)
-
-pub returns-clause-failed : goal.returns-clause-failed
-returns-clause-failed g c =
-    let now = c.loop-worker in
-    now.invariant.failed ∙ ap (map (λ (w : WorkerValue). w.has_failed)) (whole_end now.yielded c.args.workers.items now.worker-iterator c.next.new.self c.in-None.ensures.steps now.invariant.whole)
+    now.invariant.readers ∙ ap (map (λ (w : WorkerValue g.row.R.Denot). w.reader)) (whole_end now.yielded c.args.workers.items now.worker-iterator c.next.new.self c.in-None.ensures.steps now.invariant.whole)
 
 pub returns-clause-verdict : goal.returns-clause-verdict
 returns-clause-verdict g c = subst (λ (rs : List Report). c.of-verdict.result ≡ verdict_of rs) c.deref.ensures.value c.of-verdict.ensures

@@ -8,8 +8,7 @@ invariant-loop-worker g l = record {
   whole : l.yielded ++ into_iter_items l.worker-iterator ≡ l.fn.workers.items;
   over : AreOver (into_iter_items l.worker-iterator);
   reports : HaveReports l.yielded l.reports.items;
-  left : map g.R.Source.left l.readers.items ≡ map (λ w. w.left) l.yielded;
-  failed : map g.R.Source.has_failed l.readers.items ≡ map (λ w. w.has_failed) l.yielded;
+  readers : l.readers.items ≡ map (λ w. w.reader) l.yielded;
   report_count : vec_len l.reports + into_iter_len l.worker-iterator ≡ vec_len l.fn.workers;
   reader_count : vec_len l.readers + into_iter_len l.worker-iterator ≡ vec_len l.fn.workers;
   report_room : vec_capacity l.reports ≡ vec_capacity l.initial.reports;

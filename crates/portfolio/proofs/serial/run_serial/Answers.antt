@@ -1,6 +1,7 @@
 use Rattle.std.proofs.Common.{◌≡◌, ℕ, ◌∙◌, length, map, drop, refl, sym, ap, ap₂, subst, arith}
 use Rattle.std.proofs.lemmas.List.{length-map}
 use Rattle.lrup_model.specs.Layout.{LayoutValue, IsFault, Fits}
+use Rattle.lrup_text.specs.ReadOut.{source_view}
 use Rattle.portfolio.specs.Outcomes.{layout_of, terms_of}
 use Rattle.runs.specs.Streams.{terms_at}
 use Rattle.portfolio.specs.Turns.{AreOver, Runs}
@@ -19,7 +20,8 @@ take_turns-requires g c =
     let f = c.args.formula.now in
     let p = c.in_ok-layout.layout in
     let m = c.in_ok-map.map in
-    let entries = map g.R.Source.left c.args.readers.items in
+    let view = source_view g.R.Source.left g.R.Source.has_failed g.R.Source.reads in
+    let firsts = c.args.readers.items in
     let opened : IsOpened f p m = record {
       fits = c.in_ok-layout.ensures.layout.2;
       layout = c.in_ok-map.ensures.layout;
@@ -28,9 +30,9 @@ take_turns-requires g c =
       room = c.in_ok-map.ensures.room;
     } in
     let same : p.streams ≡ c.len.result = streams_asked c.args.options f c.len.result p c.in_ok-layout.ensures.layout.0 in
-    let count : length entries ≡ p.streams = omega (arith, length-map c.args.readers.items g.R.Source.left, same, c.len.ensures, c.args.readers.ok.0) in
+    let count : length firsts ≡ p.streams = omega (arith, same, c.len.ensures, c.args.readers.ok.0) in
     record {
-      running = (f, terms_at p c.args.cube.now c.tries.result, entries, subst (Runs f (terms_at p c.args.cube.now c.tries.result) entries m) (sym c.deref_mut.ensures.value) (runs_opened f p m opened c.args.cube.now c.tries.result entries c.in_ok-workers.workers.items count c.in_ok-workers.ensures));
+      running = (f, terms_at p c.args.cube.now c.tries.result, firsts, subst (Runs view f (terms_at p c.args.cube.now c.tries.result) firsts m) (sym c.deref_mut.ensures.value) (runs_opened view f p m opened c.args.cube.now c.tries.result firsts c.in_ok-workers.workers.items count c.in_ok-workers.ensures));
     }
 
 pub outcome_of-requires-clause-over : goal.outcome_of-requires-clause-over
@@ -56,7 +58,7 @@ returns-clause-ordered g c =
     let p = c.in_ok-layout.layout in
     let m = c.in_ok-map.map in
     let readers = c.args.readers.items in
-    let entries = map g.R.Source.left readers in
+    let view = source_view g.R.Source.left g.R.Source.has_failed g.R.Source.reads in
     let started = c.in_ok-workers.workers in
     let worked = c.take_turns.new.workers in
     let outcome = c.outcome_of.result in
@@ -70,13 +72,13 @@ returns-clause-ordered g c =
     let streams : c.len.result ≡ length readers = c.len.ensures ∙ c.args.readers.ok.0 in
     let same : p ≡ layout_of c.args.options f (length readers) = c.in_ok-layout.ensures.layout.0 ∙ ap (layout_of c.args.options f) streams in
     let each : p.streams ≡ length readers = streams_asked c.args.options f (length readers) p same in
-    let count : length entries ≡ p.streams = omega (arith, length-map readers g.R.Source.left, each) in
+    let count : length readers ≡ p.streams = omega (arith, each) in
     let back = written_back started.len worked (drop (length worked) started.items) (c.take_turns.auto.workers ∙ c.deref_mut.ensures.len) in
     let wanted = terms_of c.args.options c.args.cube.now f (length readers) in
     let terms : terms_at p c.args.cube.now c.tries.result ≡ wanted = ap₂ (λ (l : LayoutValue) (n : ℕ). terms_at l c.args.cube.now n) same c.tries.ensures.tries in
-    run_ordered f p c.args.cube.now c.tries.result wanted entries (map g.R.Source.left outcome.readers.items) (map g.R.Source.has_failed outcome.readers.items)
+    run_ordered view f p c.args.cube.now c.tries.result wanted readers outcome.readers.items
     m c.take_turns.new.map started.items c.deref_mut.result.now worked _ outcome.reports.items opened terms count c.in_ok-workers.ensures
-    c.deref_mut.ensures.value c.take_turns.ensures.runs back c.outcome_of.ensures.reports c.outcome_of.ensures.left c.outcome_of.ensures.failed
+    c.deref_mut.ensures.value c.take_turns.ensures.runs back c.outcome_of.ensures.reports c.outcome_of.ensures.readers
 
 -- the law's premise is the layout of the formula and the readers
 pub returns-clause-isolated : goal.returns-clause-isolated
@@ -92,11 +94,11 @@ returns-clause-isolated g c =
 pub returns-clause-sound : goal.returns-clause-sound
 returns-clause-sound g c unsatisfiable =
     let ordered = returns-clause-ordered g c in
-    sound_over c.args.formula.now (terms_of c.args.options c.args.cube.now c.args.formula.now (length c.args.readers.items)) ordered.streams c.outcome_of.result.reports.items ordered.judged
+    sound_over c.args.formula.now (terms_of c.args.options c.args.cube.now c.args.formula.now (length c.args.readers.items)) ordered.streams c.outcome_of.result.reports.items ordered.judged.0
     (is_empty c.outcome_of.result.reports.items c.outcome_of.result.verdict c.outcome_of.ensures.verdict unsatisfiable)
 
 pub returns-clause-sound_under : goal.returns-clause-sound_under
 returns-clause-sound_under g c =
     let ordered = returns-clause-ordered g c in
     sound_under_order c.args.formula.now (terms_of c.args.options c.args.cube.now c.args.formula.now (length c.args.readers.items)) ordered.streams c.outcome_of.result.reports.items
-    c.outcome_of.result.verdict ordered.judged c.outcome_of.ensures.verdict
+    c.outcome_of.result.verdict ordered.judged.0 c.outcome_of.ensures.verdict

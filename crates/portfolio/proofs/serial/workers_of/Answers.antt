@@ -2,7 +2,8 @@ use Rattle.std.proofs.Common.{◌≡◌, ◌∷◌, false, refl, subst, arith}
 use Rattle.std.specs.Iterator.Adapters.{zip_first}
 use Rattle.std.specs.List.{AllByRecursion}
 use Rattle.std.specs.Vec.Iter.{into_iter_items}
-use Rattle.lrup_model.specs.ListLemmas.{taken_first}
+use Rattle.lrup_model.specs.ListLemmas.{taken_next}
+use Rattle.lrup_text.specs.ReadOut.{source_view}
 use Rattle.runs.specs.Streams.{terms_at}
 use Rattle.portfolio.proofs.TurnsLemmas.{started_pushed}
 use Rattle.portfolio.proofs.serial.workers_of.Goals as goal
@@ -10,7 +11,6 @@ use Rattle.portfolio.proofs.serial.workers_of.Goals as goal
 pub loop-reader-preserved : goal.loop-reader-preserved
 loop-reader-preserved g c =
     let now = c.loop-reader in
-    let left = g.R.Source.left in
     let reader = c.in-Some.reader in
     let item : g.row.R.Denot × g.row.G.Denot = (c.in-Some.reader, c.in-Some.gate) in
     let before = into_iter_items (zip_first now.reader-iterator) in
@@ -20,9 +20,9 @@ loop-reader-preserved g c =
     let pushed = c.push_reserved.ensures in
     record {
       running = running.1;
-      started = started_pushed (terms_at c.args.layout.now c.args.cube.now c.args.tries) _ (λ x. left x.0) now.yielded item now.workers.items c.push_reserved.new.self.items c.in_ok-new.field-0 pushed.items
+      started = started_pushed (source_view g.R.Source.left g.R.Source.has_failed g.R.Source.reads) (terms_at c.args.layout.now c.args.cube.now c.args.tries) _ (λ x. x.0) now.yielded item now.workers.items c.push_reserved.new.self.items c.in_ok-new.field-0 pushed.items
           (omega (arith, now.workers.ok.0, c.len-in-loop-reader.ensures)) now.invariant.started c.in_ok-new.ensures;
-      entries = taken_first (λ x. left x.0) left now.yielded item before rest reader _ steps.0.0 refl now.invariant.entries;
+      readers = taken_next (λ x. x.0) now.yielded item before rest reader _ steps.0.0 refl now.invariant.readers;
       count = omega (arith, pushed.len, steps.0.1, now.invariant.count);
       gates = omega (arith, steps.0.1, steps.1.1, now.invariant.gates);
       room = omega (arith, pushed.capacity, now.invariant.room);

@@ -5,7 +5,7 @@ use Rattle.lrup_model.specs.ListLemmas.{whole_end}
 use Rattle.clause_store.specs.Passes.{HaveMet, PassValue, views}
 use Rattle.stream_threads.specs.Jobs.{FoundValue}
 use Rattle.portfolio.proofs.JoiningLemmas.{pushed_more, whole_more}
-use Rattle.portfolio.proofs.TurnsLemmas.{map_more, written_back}
+use Rattle.portfolio.proofs.TurnsLemmas.{written_back}
 use Rattle.portfolio.proofs.threads.outcome_of.Goals as goal
 
 pub loop-one-preserved : goal.loop-one-preserved
@@ -20,14 +20,12 @@ loop-one-preserved g c =
     let reader = c.push_reserved-in-loop-one-2.ensures in
     record {
       whole = whole_more now.yielded (into_iter_items now.one-iterator) (into_iter_items c.next.new.self) _ one steps.0 now.invariant.whole;
-      reports = pushed_more (λ (f : FoundValue). f.report) now.reports.items c.push_reserved.new.self.items now.yielded parts.report one
-          report.items now.invariant.reports (ap (λ (f : FoundValue). f.report) view);
-      passes = pushed_more (λ (f : FoundValue). f.pass) now.passes.items c.push_reserved-in-loop-one.new.self.items now.yielded parts.pass one
-          pass.items now.invariant.passes (ap (λ (f : FoundValue). f.pass) view);
-      left = map_more g.R.Source.left (λ (f : FoundValue). f.left) now.readers.items c.push_reserved-in-loop-one-2.new.self.items now.yielded parts.reader one
-          reader.items now.invariant.left (ap (λ (f : FoundValue). f.left) view);
-      failed = map_more g.R.Source.has_failed (λ (f : FoundValue). f.has_failed) now.readers.items c.push_reserved-in-loop-one-2.new.self.items now.yielded parts.reader one
-          reader.items now.invariant.failed (ap (λ (f : FoundValue). f.has_failed) view);
+      reports = pushed_more (λ (f : FoundValue g.row.R.Denot). f.report) now.reports.items c.push_reserved.new.self.items now.yielded parts.report one
+          report.items now.invariant.reports (ap (λ (f : FoundValue g.row.R.Denot). f.report) view);
+      passes = pushed_more (λ (f : FoundValue g.row.R.Denot). f.pass) now.passes.items c.push_reserved-in-loop-one.new.self.items now.yielded parts.pass one
+          pass.items now.invariant.passes (ap (λ (f : FoundValue g.row.R.Denot). f.pass) view);
+      readers = pushed_more (λ (f : FoundValue g.row.R.Denot). f.reader) now.readers.items c.push_reserved-in-loop-one-2.new.self.items now.yielded parts.reader one
+          reader.items now.invariant.readers (ap (λ (f : FoundValue g.row.R.Denot). f.reader) view);
       report_count = omega (arith, report.len, steps.1, now.invariant.report_count);
       pass_count = omega (arith, pass.len, steps.1, now.invariant.pass_count);
       reader_count = omega (arith, reader.len, steps.1, now.invariant.reader_count);
@@ -39,26 +37,21 @@ loop-one-preserved g c =
 pub returns-clause-reports : goal.returns-clause-reports
 returns-clause-reports g c =
     let now = c.loop-one in
-    now.invariant.reports ∙ ap (map (λ (f : FoundValue). f.report)) (whole_end now.yielded c.args.found.items now.one-iterator c.next.new.self c.in-None.ensures.steps now.invariant.whole)
+    now.invariant.reports ∙ ap (map (λ (f : FoundValue g.row.R.Denot). f.report)) (whole_end now.yielded c.args.found.items now.one-iterator c.next.new.self c.in-None.ensures.steps now.invariant.whole)
 
-pub returns-clause-left : goal.returns-clause-left
-returns-clause-left g c =
+pub returns-clause-readers : goal.returns-clause-readers
+returns-clause-readers g c =
     let now = c.loop-one in
-    now.invariant.left ∙ ap (map (λ (f : FoundValue). f.left)) (whole_end now.yielded c.args.found.items now.one-iterator c.next.new.self c.in-None.ensures.steps now.invariant.whole)
-
-pub returns-clause-failed : goal.returns-clause-failed
-returns-clause-failed g c =
-    let now = c.loop-one in
-    now.invariant.failed ∙ ap (map (λ (f : FoundValue). f.has_failed)) (whole_end now.yielded c.args.found.items now.one-iterator c.next.new.self c.in-None.ensures.steps now.invariant.whole)
+    now.invariant.readers ∙ ap (map (λ (f : FoundValue g.row.R.Denot). f.reader)) (whole_end now.yielded c.args.found.items now.one-iterator c.next.new.self c.in-None.ensures.steps now.invariant.whole)
 
 pub returns-clause-met : goal.returns-clause-met
 returns-clause-met g c =
     let now = c.loop-one in
     let met = c.meet_all.new.passes in
-    let found = map (λ (f : FoundValue). f.pass) c.args.found.items in
+    let found = map (λ (f : FoundValue g.row.R.Denot). f.pass) c.args.found.items in
     let back = written_back now.passes.len met (drop (length met) now.passes.items) (c.meet_all.auto.passes ∙ c.deref_mut.ensures.len) in
     let whole = whole_end now.yielded c.args.found.items now.one-iterator c.next.new.self c.in-None.ensures.steps now.invariant.whole in
-    let passes : c.deref_mut.result.now ≡ found = c.deref_mut.ensures.value ∙ now.invariant.passes ∙ ap (map (λ (f : FoundValue). f.pass)) whole in
+    let passes : c.deref_mut.result.now ≡ found = c.deref_mut.ensures.value ∙ now.invariant.passes ∙ ap (map (λ (f : FoundValue g.row.R.Denot). f.pass)) whole in
     subst (λ (ps : List PassValue). AreMet (views found) (views ps)) (sym back)
     (subst (λ (ps : List PassValue). AreMet (views ps) (views met)) passes c.meet_all.ensures.met)
 

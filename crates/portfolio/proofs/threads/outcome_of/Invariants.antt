@@ -7,8 +7,7 @@ invariant-loop-one g l = record {
   whole : l.yielded ++ into_iter_items l.one-iterator ≡ l.fn.found.items;
   reports : l.reports.items ≡ map (λ f. f.report) l.yielded;
   passes : l.passes.items ≡ map (λ f. f.pass) l.yielded;
-  left : map g.R.Source.left l.readers.items ≡ map (λ f. f.left) l.yielded;
-  failed : map g.R.Source.has_failed l.readers.items ≡ map (λ f. f.has_failed) l.yielded;
+  readers : l.readers.items ≡ map (λ f. f.reader) l.yielded;
   report_count : vec_len l.reports + into_iter_len l.one-iterator ≡ vec_len l.fn.found;
   pass_count : vec_len l.passes + into_iter_len l.one-iterator ≡ vec_len l.fn.found;
   reader_count : vec_len l.readers + into_iter_len l.one-iterator ≡ vec_len l.fn.found;

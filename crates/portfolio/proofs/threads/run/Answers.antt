@@ -2,6 +2,7 @@ use Rattle.std.proofs.Common.{◌≡◌, ℕ, length, map, refl, sym, ap, ap₂,
 use Rattle.std.proofs.lemmas.List.{length-map}
 use Rattle.lrup_model.specs.Layout.{LayoutValue, IsFault, Fits}
 use Rattle.runs.specs.Headline.{HaveOneHistory, seen_by}
+use Rattle.lrup_text.specs.ReadOut.{source_view}
 use Rattle.portfolio.specs.Outcomes.{layout_of, terms_of}
 use Rattle.runs.specs.Streams.{Terms, terms_at}
 use Rattle.stream_threads.specs.Jobs.{stream_of}
@@ -23,10 +24,11 @@ check_all-requires-clause-begin g c κs within =
     let opens = c.in_ok-store.ensures in
     let jobs = c.in_ok-jobs.jobs in
     let terms = terms_at p c.args.cube.now c.tries.result in
-    let entries = map g.R.Source.left c.args.readers.items in
+    let view = source_view g.R.Source.left g.R.Source.has_failed g.R.Source.reads in
+    let firsts = c.args.readers.items in
     let opened : AreOpened c.in_ok-store.store f 1 passes.items = are_opened c.in_ok-store.store f p passes.items (sym passes.ok.0 ∙ opens.count) opens.passes in
-    let ready = are_ready c.in_ok-store.store f terms 1 entries passes.items jobs.items c.in_ok-jobs.ensures opened in
-    all_can_begin f terms c.in_ok-store.store c.in_ok-layout.ensures.layout.2 opens.layout 1 entries jobs.items ready
+    let ready = are_ready view c.in_ok-store.store f terms 1 firsts passes.items jobs.items c.in_ok-jobs.ensures opened in
+    all_can_begin view f terms c.in_ok-store.store c.in_ok-layout.ensures.layout.2 opens.layout 1 firsts jobs.items ready
 
 pub outcome_of-requires-clause-store : goal.outcome_of-requires-clause-store
 outcome_of-requires-clause-store g c =
@@ -36,24 +38,25 @@ outcome_of-requires-clause-store g c =
     let opens = c.in_ok-store.ensures in
     let jobs = c.in_ok-jobs.jobs in
     let terms = terms_at p c.args.cube.now c.tries.result in
-    let entries = map g.R.Source.left c.args.readers.items in
+    let view = source_view g.R.Source.left g.R.Source.has_failed g.R.Source.reads in
+    let firsts = c.args.readers.items in
     let opened : AreOpened c.in_ok-store.store f 1 passes.items = are_opened c.in_ok-store.store f p passes.items (sym passes.ok.0 ∙ opens.count) opens.passes in
-    let ready = are_ready c.in_ok-store.store f terms 1 entries passes.items jobs.items c.in_ok-jobs.ensures opened in
-    finish_of c.in_ok-store.store f terms 1 entries jobs.items c.in-Ok.found.items ready c.in-Ok.ensures.found
+    let ready = are_ready view c.in_ok-store.store f terms 1 firsts passes.items jobs.items c.in_ok-jobs.ensures opened in
+    finish_of view c.in_ok-store.store f terms 1 firsts jobs.items c.in-Ok.found.items ready c.in-Ok.ensures.found
 
 pub outcome_of-requires-clause-reports : goal.outcome_of-requires-clause-reports
 outcome_of-requires-clause-reports g c =
-    let count = finish_count c.in_ok-jobs.jobs.items c.in-Ok.found.items c.in-Ok.ensures.found in
+    let count = finish_count (source_view g.R.Source.left g.R.Source.has_failed g.R.Source.reads) c.in_ok-jobs.jobs.items c.in-Ok.found.items c.in-Ok.ensures.found in
     omega (arith, count, c.in-Ok.found.ok.0, c.in_ok-jobs.jobs.ok.0, c.len-2.ensures, c.in_ok-room.ensures.reports.1)
 
 pub outcome_of-requires-clause-passes : goal.outcome_of-requires-clause-passes
 outcome_of-requires-clause-passes g c =
-    let count = finish_count c.in_ok-jobs.jobs.items c.in-Ok.found.items c.in-Ok.ensures.found in
+    let count = finish_count (source_view g.R.Source.left g.R.Source.has_failed g.R.Source.reads) c.in_ok-jobs.jobs.items c.in-Ok.found.items c.in-Ok.ensures.found in
     omega (arith, count, c.in-Ok.found.ok.0, c.in_ok-jobs.jobs.ok.0, c.len-2.ensures, c.in_ok-room.ensures.met.1)
 
 pub outcome_of-requires-clause-readers : goal.outcome_of-requires-clause-readers
 outcome_of-requires-clause-readers g c =
-    let count = finish_count c.in_ok-jobs.jobs.items c.in-Ok.found.items c.in-Ok.ensures.found in
+    let count = finish_count (source_view g.R.Source.left g.R.Source.has_failed g.R.Source.reads) c.in_ok-jobs.jobs.items c.in-Ok.found.items c.in-Ok.ensures.found in
     omega (arith, count, c.in-Ok.found.ok.0, c.in_ok-jobs.jobs.ok.0, c.len-2.ensures, c.in_ok-room.ensures.readers.1)
 
 pub returns-in-Ok-clause-layout : goal.returns-in-Ok-clause-layout
@@ -82,17 +85,18 @@ returns-in-Ok-clause-history g c =
     let opens = c.in_ok-store.ensures in
     let jobs = c.in_ok-jobs.jobs in
     let terms = terms_at p c.args.cube.now c.tries.result in
-    let entries = map g.R.Source.left c.args.readers.items in
+    let view = source_view g.R.Source.left g.R.Source.has_failed g.R.Source.reads in
+    let firsts = c.args.readers.items in
     let opened : AreOpened c.in_ok-store.store f 1 passes.items = are_opened c.in_ok-store.store f p passes.items (sym passes.ok.0 ∙ opens.count) opens.passes in
-    let ready = are_ready c.in_ok-store.store f terms 1 entries passes.items jobs.items c.in_ok-jobs.ensures opened in
+    let ready = are_ready view c.in_ok-store.store f terms 1 firsts passes.items jobs.items c.in_ok-jobs.ensures opened in
     let vs = map (λ q. q.view) c.outcome_of.result.passes.items in
     let same : p ≡ layout_of c.args.options f (length c.args.readers.items) =
     c.in_ok-layout.ensures.layout.0 ∙ ap (λ (n : ℕ). layout_of c.args.options f n) (c.len.ensures ∙ c.args.readers.ok.0) in
     let streams = ap (λ (l : LayoutValue). l.streams) c.in_ok-layout.ensures.layout.0 in
     let count : length jobs.items ≡ p.streams =
-    ready_count c.in_ok-store.store f terms 1 entries jobs.items ready ∙ length-map c.args.readers.items g.R.Source.left ∙ sym c.args.readers.ok.0 ∙ sym c.len.ensures ∙ sym streams in
+    ready_count view c.in_ok-store.store f terms 1 firsts jobs.items ready ∙ sym c.args.readers.ok.0 ∙ sym c.len.ensures ∙ sym streams in
     subst (λ (l : LayoutValue). HaveOneHistory f l (seen_by vs) vs) same
-    (one_history f terms c.in_ok-store.store entries jobs.items c.in-Ok.found.items vs
+    (one_history view f terms c.in_ok-store.store firsts jobs.items c.in-Ok.found.items vs
     c.in_ok-layout.ensures.layout.1 opens.layout count ready c.in-Ok.ensures.found c.outcome_of.ensures.met c.outcome_of.ensures.one)
 
 pub returns-in-Ok-clause-reports : goal.returns-in-Ok-clause-reports
@@ -103,20 +107,20 @@ returns-in-Ok-clause-reports g c =
     let opens = c.in_ok-store.ensures in
     let jobs = c.in_ok-jobs.jobs in
     let terms = terms_at p c.args.cube.now c.tries.result in
-    let entries = map g.R.Source.left c.args.readers.items in
+    let view = source_view g.R.Source.left g.R.Source.has_failed g.R.Source.reads in
+    let firsts = c.args.readers.items in
     let opened : AreOpened c.in_ok-store.store f 1 passes.items = are_opened c.in_ok-store.store f p passes.items (sym passes.ok.0 ∙ opens.count) opens.passes in
-    let ready = are_ready c.in_ok-store.store f terms 1 entries passes.items jobs.items c.in_ok-jobs.ensures opened in
+    let ready = are_ready view c.in_ok-store.store f terms 1 firsts passes.items jobs.items c.in_ok-jobs.ensures opened in
     let found = c.in-Ok.found.items in
     let out = c.outcome_of in
     let vs = map (λ q. q.view) out.result.passes.items in
     let same : p ≡ layout_of c.args.options f (length c.args.readers.items) =
     c.in_ok-layout.ensures.layout.0 ∙ ap (λ (n : ℕ). layout_of c.args.options f n) (c.len.ensures ∙ c.args.readers.ok.0) in
-    let judged = judged_by f terms c.in_ok-store.store opens.layout 1 entries jobs.items found vs ready c.in-Ok.ensures.found out.ensures.met in
+    let judged = judged_by view f terms c.in_ok-store.store opens.layout 1 firsts jobs.items found vs ready c.in-Ok.ensures.found out.ensures.met in
     let wanted = terms_of c.args.options c.args.cube.now f (length c.args.readers.items) in
     let are : terms ≡ wanted = ap₂ (λ (l : LayoutValue) (n : ℕ). terms_at l c.args.cube.now n) same c.tries.ensures.tries in
-    judged_so f terms wanted entries (map g.R.Source.left out.result.readers.items)
-    (map g.R.Source.has_failed out.result.readers.items) out.result.reports.items found vs
-    judged are (returns-in-Ok-clause-history g c) out.ensures.left out.ensures.failed out.ensures.reports
+    judged_so view f terms wanted firsts out.result.readers.items out.result.reports.items found vs
+    judged are (returns-in-Ok-clause-history g c) out.ensures.readers out.ensures.reports
 
 -- the laws' premises are the history, and the layout of the formula and the readers
 pub returns-in-Ok-clause-isolated : goal.returns-in-Ok-clause-isolated
@@ -188,15 +192,15 @@ returns-in-Err-Spawn-clause-spawn g c = λ stream e.
     let opens = c.in_ok-store.ensures in
     let jobs = c.in_ok-jobs.jobs in
     let terms = terms_at p c.args.cube.now c.tries.result in
-    let entries = map g.R.Source.left c.args.readers.items in
+    let view = source_view g.R.Source.left g.R.Source.has_failed g.R.Source.reads in
+    let firsts = c.args.readers.items in
     let opened : AreOpened c.in_ok-store.store f 1 passes.items = are_opened c.in_ok-store.store f p passes.items (sym passes.ok.0 ∙ opens.count) opens.passes in
-    let ready = are_ready c.in_ok-store.store f terms 1 entries passes.items jobs.items c.in_ok-jobs.ensures opened in
-    let each : length jobs.items ≡ length entries = ready_count c.in_ok-store.store f terms 1 entries jobs.items ready in
-    let readers : length entries ≡ length c.args.readers.items = length-map c.args.readers.items g.R.Source.left in
+    let ready = are_ready view c.in_ok-store.store f terms 1 firsts passes.items jobs.items c.in_ok-jobs.ensures opened in
+    let each : length jobs.items ≡ length firsts = ready_count view c.in_ok-store.store f terms 1 firsts jobs.items ready in
     let within = c.in-Err-Spawn.ensures.fault in
     let is : stream_of c.in-Err-Spawn.field-0 ≡ c.in-Err-Spawn.stream = ap stream_of c.in-Err-Spawn.field-0-is in (
       omega (arith, within.0, here, is),
-      omega (arith, within.1, here, is, jobs.ok.0, c.len-2.ensures, each, readers),
+      omega (arith, within.1, here, is, jobs.ok.0, c.len-2.ensures, each),
     )
 
 pub returns-clause-ring : goal.returns-clause-ring
@@ -208,13 +212,13 @@ returns-clause-ring g c = λ stream e.
     let opens = c.in_ok-store.ensures in
     let jobs = c.in_ok-jobs.jobs in
     let terms = terms_at p c.args.cube.now c.tries.result in
-    let entries = map g.R.Source.left c.args.readers.items in
+    let view = source_view g.R.Source.left g.R.Source.has_failed g.R.Source.reads in
+    let firsts = c.args.readers.items in
     let opened : AreOpened c.in_ok-store.store f 1 passes.items = are_opened c.in_ok-store.store f p passes.items (sym passes.ok.0 ∙ opens.count) opens.passes in
-    let ready = are_ready c.in_ok-store.store f terms 1 entries passes.items jobs.items c.in_ok-jobs.ensures opened in
-    let each : length jobs.items ≡ length entries = ready_count c.in_ok-store.store f terms 1 entries jobs.items ready in
-    let readers : length entries ≡ length c.args.readers.items = length-map c.args.readers.items g.R.Source.left in
+    let ready = are_ready view c.in_ok-store.store f terms 1 firsts passes.items jobs.items c.in_ok-jobs.ensures opened in
+    let each : length jobs.items ≡ length firsts = ready_count view c.in_ok-store.store f terms 1 firsts jobs.items ready in
     let within = c.in-Err-Ring.ensures.fault in
     let is : stream_of c.in-Err-Ring.field-0 ≡ c.in-Err-Ring.stream = ap stream_of c.in-Err-Ring.field-0-is in (
       omega (arith, within.0, here, is),
-      omega (arith, within.1, here, is, jobs.ok.0, c.len-2.ensures, each, readers),
+      omega (arith, within.1, here, is, jobs.ok.0, c.len-2.ensures, each),
     )

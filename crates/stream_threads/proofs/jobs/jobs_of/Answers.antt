@@ -1,16 +1,15 @@
-use Rattle.std.proofs.Common.{◌≡◌, ◌∷◌, inl, inr, false, map, refl, ap, subst, arith}
+use Rattle.std.proofs.Common.{◌≡◌, ◌∷◌, inl, inr, false, refl, subst, arith}
 use Rattle.std.specs.Iterator.Adapters.{zip_first, zip_second}
 use Rattle.std.specs.List.{AllByRecursion}
 use Rattle.std.specs.Vec.Iter.{into_iter_items, into_iter_len}
-use Rattle.lrup_model.specs.ListLemmas.{taken_first}
+use Rattle.lrup_model.specs.ListLemmas.{taken_next}
 use Rattle.runs.specs.Streams.{terms_at}
-use Rattle.stream_threads.proofs.ThreadLemmas.{jobs_pushed, jobs_whole, none_to_come, taken_next}
+use Rattle.stream_threads.proofs.ThreadLemmas.{jobs_pushed, jobs_whole, none_to_come}
 use Rattle.stream_threads.proofs.jobs.jobs_of.Goals as goal
 
 pub loop-reader-preserved : goal.loop-reader-preserved
 loop-reader-preserved g c =
     let now = c.loop-reader in
-    let left = g.R.Source.left in
     let reader = c.in-Some.reader in
     let pass = c.in-Some.pass in
     let item : (g.row.R.Denot × g.row.G.Denot) × _ = ((reader, c.in-Some.gate), pass) in
@@ -23,9 +22,9 @@ loop-reader-preserved g c =
     let new = c.in_ok-new.ensures in
     record {
       running = running.1;
-      jobs = jobs_pushed (terms_at c.args.layout.now c.args.cube.now c.args.tries) _ (λ x. left x.0.0) (λ x. x.1) now.yielded item now.all.items c.push_reserved.new.self.items c.in_ok-new.field-0
-          pushed.items (omega (arith, now.all.ok.0, c.len-in-loop-reader.ensures)) now.invariant.jobs (record { left = new.left; checker = new.checker; pass = new.pass });
-      entries = taken_first (λ x. left x.0.0) left now.yielded item before rest reader _ steps.0.0.0 refl now.invariant.entries;
+      jobs = jobs_pushed (terms_at c.args.layout.now c.args.cube.now c.args.tries) _ (λ x. x.0.0) (λ x. x.1) now.yielded item now.all.items c.push_reserved.new.self.items c.in_ok-new.field-0
+          pushed.items (omega (arith, now.all.ok.0, c.len-in-loop-reader.ensures)) now.invariant.jobs (record { reader_is = new.reader; checker = new.checker; pass = new.pass });
+      readers = taken_next (λ x. x.0.0) now.yielded item before rest reader _ steps.0.0.0 refl now.invariant.readers;
       passes = taken_next (λ x. x.1) now.yielded item (into_iter_items (zip_second now.reader-iterator)) others pass _ steps.1.0 refl now.invariant.passes;
       count = omega (arith, pushed.len, steps.0.0.1, now.invariant.count);
       gates = omega (arith, steps.0.0.1, steps.0.1.1, now.invariant.gates);
@@ -43,5 +42,5 @@ returns g c =
       | inr e ↦ omega (arith, e.1.0, now.invariant.others)
     ] in
     let no_more : into_iter_len third ≡ 0 = omega (arith, none, now.invariant.others) in
-    jobs_whole (terms_at c.args.layout.now c.args.cube.now c.args.tries) _ _ (map g.R.Source.left (into_iter_items first)) _ _ (into_iter_items third) now.all.items
-    now.invariant.jobs now.invariant.entries now.invariant.passes (ap (map g.R.Source.left) (none_to_come first none)) (none_to_come third no_more)
+    jobs_whole (terms_at c.args.layout.now c.args.cube.now c.args.tries) _ _ (into_iter_items first) _ _ (into_iter_items third) now.all.items
+    now.invariant.jobs now.invariant.readers now.invariant.passes (none_to_come first none) (none_to_come third no_more)

@@ -13,8 +13,8 @@ invariant-loop-reader g l =
     let third = zip_second l.reader-iterator in
     record {
       running : AllByRecursion (λ r. g.R.Source.has_failed r ≡ false) (into_iter_items first);
-      jobs : AreJobs (terms_at l.layout l.cube l.tries) 1 (map (λ x. g.R.Source.left x.0.0) l.yielded) (map (λ x. x.1) l.yielded) l.all.items;
-      entries : map (λ x. g.R.Source.left x.0.0) l.yielded ++ map g.R.Source.left (into_iter_items first) ≡ map g.R.Source.left l.fn.readers.items;
+      jobs : AreJobs (terms_at l.layout l.cube l.tries) 1 (map (λ x. x.0.0) l.yielded) (map (λ x. x.1) l.yielded) l.all.items;
+      readers : map (λ x. x.0.0) l.yielded ++ into_iter_items first ≡ l.fn.readers.items;
       passes : map (λ x. x.1) l.yielded ++ into_iter_items third ≡ l.fn.passes.items;
       count : vec_len l.all + into_iter_len first ≡ vec_len l.fn.readers;
       gates : into_iter_len second ≡ into_iter_len first;

@@ -1,4 +1,5 @@
 use Rattle.std.proofs.Common.{sym, subst}
+use Rattle.runs.specs.Readings.{IsRead}
 use Rattle.runs.specs.Streams.{IsTold}
 use Rattle.stream_threads.proofs.joining.meet_ends.Goals as goal
 
@@ -11,10 +12,12 @@ returns-clause-judged g c jobs sent checked =
       blocks = e.blocks;
       moves = e.moves;
       judged = λ fresh.
-          let met = c.meet.ensures.judged jobs.left jobs.checker _ e.blocks _ s e.judged fresh in (
+          let met = c.meet.ensures.judged jobs.reader jobs.checker _ e.blocks _ s e.judged fresh in
+          let same = sym c.meet.ensures.reader in (
             met.0,
             met.1,
-            subst (λ r. IsTold jobs.left (g.R.Source.left r) (g.R.Source.has_failed r) met.0) (sym c.meet.ensures.reader) met.2,
-            met.3,
+            subst (λ r. IsTold (g.R.Source.left jobs.reader) (g.R.Source.left r) (g.R.Source.has_failed r) met.0) same met.2,
+            subst (λ r. IsRead _ g.R.Source.reads jobs.reader r met.0) same met.3,
+            met.4,
           );
     }

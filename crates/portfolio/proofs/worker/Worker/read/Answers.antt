@@ -1,60 +1,72 @@
-use Rattle.std.proofs.Common.{◌≡◌, ◌<◌, ◌-◌, ◌∙◌, [], None, length, refl, sym, ap, subst, take, drop, arith}
+use Rattle.std.proofs.Common.{◌≡◌, ◌<◌, ◌-◌, ◌∙◌, ℕ, List, [], None, Some, length, refl, sym, ap, subst, take, drop, arith}
 use Rattle.std.specs.Io.KnownBytes.{Consumes}
 use Rattle.std.specs.Vec.{with_items}
-use Rattle.std.proofs.lemmas.List.{with_items_is}
+use Rattle.std.proofs.lemmas.List.{length-take-le, with_items_is}
 use Rattle.std.proofs.KnownBytes.{Consumes-nil, Consumes-kept}
 use Rattle.stream_check.specs.Judging.{ended, failed}
 use Rattle.runs.specs.Streams.{at_end, at_failure, StopsSo}
+use Rattle.lrup_text.specs.ReadOut.{source_view}
 use Rattle.portfolio.specs.Working.{WorkerValue, WorksOn}
 use Rattle.portfolio.proofs.WorkingLemmas.{worker_of, works_read, works_over, none_between}
 use Rattle.portfolio.proofs.worker.Worker.read.Goals as goal
 
 pub read-requires : goal.read-requires
-read-requires g c = c.self.invariant.running (ap (λ (v : WorkerValue). v.checker.ending) c.self.view_is ∙ c.requires)
+read-requires g c = c.self.invariant.running (ap (λ (v : WorkerValue g.row.R.Denot). v.checker.ending) c.self.view_is ∙ c.requires)
 
 pub returns-in-Ok-eq0-clause-works : goal.returns-in-Ok-eq0-clause-works
 returns-in-Ok-eq0-clause-works g c room =
     let w = c.self.inside in
     let old = g.R.Source.left w.reader in
     let new = g.R.Source.left c.read.new.self in
-    let had = g.R.Source.has_failed w.reader in
     let has = g.R.Source.has_failed c.read.new.self in
+    let view = source_view g.R.Source.left g.R.Source.has_failed g.R.Source.reads in
+    let reader = c.read.new.self in
     let rest = take (w.to - w.from) (drop w.from (with_items w.buffer c.read.new.buffer).items) in
     let read = c.in-Ok-eq0.ensures.bytes in
-    let going : w.checker.ending ≡ None = ap (λ (v : WorkerValue). v.checker.ending) c.self.view_is ∙ c.requires in
+    let going : w.checker.ending ≡ None = ap (λ (v : WorkerValue g.row.R.Denot). v.checker.ending) c.self.view_is ∙ c.requires in
     let taken : take (w.to - w.from) (drop w.from w.buffer.items) ≡ [] = none_between w.buffer.items w.from w.to c.if-self.false in
     let none : Consumes old new [] = subst (Consumes old new) (ap (λ k. take k c.read.new.buffer) c.in-Ok-eq0.field-0-test) read.0 in
     let some : 0 < length c.read.new.buffer = omega (arith, c.read.auto.buffer, ap length c.deref_mut.ensures.value, c.self.invariant.some) in
+    let last = subst (λ (k : ℕ). view.reads w.reader (length c.read.new.buffer) (Some (take k c.read.new.buffer)) reader) c.in-Ok-eq0.field-0-test c.in-Ok-eq0.ensures.reads in
     let stops : StopsSo at_end [] new has = (refl, read.1 c.in-Ok-eq0.field-0-test some, c.in-Ok-eq0.ensures.failed) in
-    let over = works_over at_end ended old new had has _ rest w.checker c.end.new.self room (λ d bytes blocks report judged. judged) stops none taken going c.end.ensures.ends c.end.ensures.reports in
-    subst (λ (v : WorkerValue). WorksOn v room [] (worker_of new has rest c.end.new.self) room) c.self.view_is over
+    let over = works_over view at_end ended w.reader reader _ rest w.checker c.end.new.self room (λ d bytes blocks report judged. judged) stops
+    (λ first bytes gave. record { last = w.reader; given = gave; end = (length c.read.new.buffer, some, last) }) none taken going c.end.ensures.ends c.end.ensures.reports in
+    subst (λ (v : WorkerValue g.row.R.Denot). WorksOn view v room [] (worker_of reader rest c.end.new.self) room) c.self.view_is over
 
 pub returns-in-Ok-clause-works : goal.returns-in-Ok-clause-works
 returns-in-Ok-clause-works g c room =
     let w = c.self.inside in
     let old = g.R.Source.left w.reader in
     let new = g.R.Source.left c.read.new.self in
-    let had = g.R.Source.has_failed w.reader in
     let has = g.R.Source.has_failed c.read.new.self in
-    let going : w.checker.ending ≡ None = ap (λ (v : WorkerValue). v.checker.ending) c.self.view_is ∙ c.requires in
+    let view = source_view g.R.Source.left g.R.Source.has_failed g.R.Source.reads in
+    let reader = c.read.new.self in
+    let going : w.checker.ending ≡ None = ap (λ (v : WorkerValue g.row.R.Denot). v.checker.ending) c.self.view_is ∙ c.requires in
     let taken : take (w.to - w.from) (drop w.from w.buffer.items) ≡ [] = none_between w.buffer.items w.from w.to c.if-self.false in
     let piece = take (c.in-Ok.count - 0) (with_items w.buffer c.read.new.buffer).items in
     let same = with_items_is w.buffer c.read.new.buffer (c.read.auto.buffer ∙ c.deref_mut.ensures.len) in
     let count : c.in-Ok.count - 0 ≡ c.in-Ok.count = omega arith in
-    let given = subst (Consumes old new) (sym (ap (take (c.in-Ok.count - 0)) same ∙ ap (λ k. take k c.read.new.buffer) count)) c.in-Ok.ensures.bytes.0 in
-    let more = works_read old new had has _ piece w.checker room given taken going in
-    subst (λ (v : WorkerValue). WorksOn v room [] (worker_of new has piece w.checker) room) c.self.view_is more
+    let is : piece ≡ take c.in-Ok.count c.read.new.buffer = ap (take (c.in-Ok.count - 0)) same ∙ ap (λ k. take k c.read.new.buffer) count in
+    let given = subst (Consumes old new) (sym is) c.in-Ok.ensures.bytes.0 in
+    let gave = subst (λ (t : List ℕ). view.reads w.reader (length c.read.new.buffer) (Some t) reader) (sym is) c.in-Ok.ensures.reads in
+    let long = length-take-le c.in-Ok.count c.read.new.buffer c.in-Ok.ensures.bound in
+    let test = c.in-Ok.count-test in
+    let some : 0 < length piece = omega (arith, ap length is, long) in
+    let more = works_read view w.reader reader _ piece (length c.read.new.buffer) w.checker room given gave some taken going in
+    subst (λ (v : WorkerValue g.row.R.Denot). WorksOn view v room [] (worker_of reader piece w.checker) room) c.self.view_is more
 
 pub returns-in-Err-clause-works : goal.returns-in-Err-clause-works
 returns-in-Err-clause-works g c room =
     let w = c.self.inside in
     let old = g.R.Source.left w.reader in
     let new = g.R.Source.left c.read.new.self in
-    let had = g.R.Source.has_failed w.reader in
     let has = g.R.Source.has_failed c.read.new.self in
+    let view = source_view g.R.Source.left g.R.Source.has_failed g.R.Source.reads in
+    let reader = c.read.new.self in
     let rest = take (w.to - w.from) (drop w.from (with_items w.buffer c.read.new.buffer).items) in
-    let going : w.checker.ending ≡ None = ap (λ (v : WorkerValue). v.checker.ending) c.self.view_is ∙ c.requires in
+    let going : w.checker.ending ≡ None = ap (λ (v : WorkerValue g.row.R.Denot). v.checker.ending) c.self.view_is ∙ c.requires in
     let taken : take (w.to - w.from) (drop w.from w.buffer.items) ≡ [] = none_between w.buffer.items w.from w.to c.if-self.false in
     let none = Consumes-kept old old new [] (Consumes-nil old) c.in-Err.ensures.bytes in
-    let over = works_over at_failure failed old new had has _ rest w.checker c.read_failed.new.self room (λ d bytes blocks report judged. judged) (refl, c.in-Err.ensures.failed) none taken going c.read_failed.ensures.ends c.read_failed.ensures.reports in
-    subst (λ (v : WorkerValue). WorksOn v room [] (worker_of new has rest c.read_failed.new.self) room) c.self.view_is over
+    let over = works_over view at_failure failed w.reader reader _ rest w.checker c.read_failed.new.self room (λ d bytes blocks report judged. judged) (refl, c.in-Err.ensures.failed)
+    (λ first bytes gave. record { last = w.reader; given = gave; end = (length c.read.new.buffer, c.in-Err.ensures.reads) }) none taken going c.read_failed.ensures.ends c.read_failed.ensures.reports in
+    subst (λ (v : WorkerValue g.row.R.Denot). WorksOn view v room [] (worker_of reader rest c.read_failed.new.self) room) c.self.view_is over

@@ -13,6 +13,6 @@ returns g c =
     (λ report says fine.
     report_alone c.readers_closed.ensures c.told_is_reading.ensures c.args.first.now _ _ _ _ _ report stands.streams
     (of_two _ _ _ _ _ _ _ _ _ c.usual_options.ensures c.empty.ensures c.in_ok-formula.ensures c.in_ok-readers.ensures.two ran.isolated)
-    stands.told stands.judged c.requires c.in_ok-readers.ensures.first
+    stands.told stands.judged.0 c.requires c.in_ok-readers.ensures.first
     (subst (λ (readers : List Pieces). IsAt (map (λ r. r.failed) readers) 1 false) c.deref-2.ensures.value fine)
     (subst (λ (reports : List Report). IsAt reports 1 report) c.deref.ensures.value says))

@@ -1,0 +1,82 @@
+-- A text of a formula, read token by token: the words of this crate's own functions, and of the faults. What a text is says
+-- FormulaText, and a law that it is the same.
+use Rattle.std.specs.Prelude.{◌≡◌, ◌↔◌, ◌≤◌, ◌<◌, ℕ, ℤ, pos, IsTrue, Some, List, [], ◌∷◌, ◌++◌, codes, length, map, flat_map}
+use Rattle.std.specs.List.{AllByRecursion}
+use Rattle.lrup_model.specs.Literal.{IsLiteral, max_variable}
+use Rattle.lrup_model.specs.Clause.{Clause, Has, EachOnce}
+use Rattle.lrup_model.specs.Formula.{Cnf, max_clauses, max_clause_literals}
+use Rattle.dimacs.specs.Lines.{Line, Token, lines_of, all_tokens}
+use Rattle.lrup_model.specs.Distinct.{distinct}
+use Rattle.dimacs.specs.Numerals.{is_count, value, number_of}
+
+-- the token spells this count
+abbrev pub IsCount : List ℕ → ℕ → Type 0
+IsCount text n = IsTrue (is_count text) × (value text ≡ n)
+
+-- the header's tokens: `p`, `cnf`, the number of variables, the number of clauses
+abbrev pub IsHeader : List (List ℕ) → ℕ → ℕ → Type 0
+IsHeader (p ∷ cnf ∷ variables ∷ clauses ∷ []) vars count =
+    (p ≡ codes "p") × (cnf ≡ codes "cnf") × IsCount variables vars × IsCount clauses count
+IsHeader _ vars count = ⊥
+
+-- what holds after a header that is spelled right and within the limits: of its two counts, and of the later tokens
+pub record AfterHeader (header : Line) (lines : List Line)
+    (P : ℕ → ℕ → List Token → Type 0) : Type 0 where
+  pub vars : ℕ
+  pub count : ℕ
+  pub spelled : IsHeader header.tokens vars count
+  pub few_variables : vars ≤ max_variable
+  pub few_clauses : count ≤ max_clauses
+  pub later : P vars count (all_tokens lines)
+
+-- The first of these lines, which are no comments and hold a token, is a header, and P holds of its
+-- two counts and of the tokens after it.
+abbrev pub InBodyOf : List Line → (ℕ → ℕ → List Token → Type 0) → Type 0
+InBodyOf [] P = ⊥
+InBodyOf (header ∷ lines) P = AfterHeader header lines P
+
+-- so for the lines of a whole file, as bytes
+abbrev pub InBody : List ℕ → (ℕ → ℕ → List Token → Type 0) → Type 0
+InBody bytes P = InBodyOf (lines_of bytes) P
+
+-- the literals of a clause as the text has them, repeats counted
+pub record IsWritten (vars : ℕ) (literals : List ℤ) : Type 0 where
+  pub within : AllByRecursion (IsLiteral vars) literals
+  pub size : length literals ≤ max_clause_literals
+
+-- a clause's literals and the 0 that ends it
+abbrev pub ended : List ℤ → List ℤ
+ended literals = literals ++ pos 0 ∷ []
+
+-- These tokens have no fault: they spell the clauses of closed, each with its 0, and then the literals of begun, whose
+-- clause has not ended.
+pub record IsRead (vars count : ℕ) (tokens : List Token) (closed : List (List ℤ))
+    (begun : List ℤ) : Type 0 where
+  pub numbers : map (λ (t : Token). number_of t.text) tokens
+      ≡ map (λ (z : ℤ). Some z) (flat_map ended closed ++ begun)
+  pub closed_within : AllByRecursion (IsWritten vars) closed
+  pub begun_within : IsWritten vars begun
+  pub closed_count : length closed ≤ count
+  pub begun_count : 0 < length begun → length closed < count
+
+-- The clause is the set of the literals, and has each of them once, in the order of their first
+-- places. The last member alone gives the other two, which say it as textbooks do.
+pub record IsSetOf (literals : List ℤ) (clause : Clause) : Type 0 where
+  pub members : (l : ℤ) → Has clause l ↔ Has literals l
+  pub each_once : EachOnce clause
+  pub order : clause ≡ distinct literals
+
+-- clause by clause, in order
+abbrev pub AreSetsOf : List (List ℤ) → List Clause → Type 0
+AreSetsOf [] [] = Unit {0}
+AreSetsOf (literals ∷ rest) (clause ∷ clauses) = IsSetOf literals clause × AreSetsOf rest clauses
+AreSetsOf [] (clause ∷ clauses) = ⊥
+AreSetsOf (literals ∷ rest) [] = ⊥
+
+-- the tokens after the header are the formula's clauses
+pub record AreClauses (f : Cnf) (vars count : ℕ) (tokens : List Token) : Type 0 where
+  pub written : List (List ℤ)
+  pub vars_are : f.vars ≡ vars
+  pub count_is : length f.clauses ≡ count
+  pub read : IsRead vars count tokens written []
+  pub sets : AreSetsOf written f.clauses

@@ -1,0 +1,38 @@
+-- A cube's text, as it is printed, is the text of its literals that is read.
+use Rattle.std.proofs.Common.{◌≡◌, ℕ, ℤ, pos, negsuc, ◌<◌, ◌^◌, List, [], ◌∷◌, ◌++◌, unsigned_abs, nat_abs, refl, sym, ◌∙◌, arith}
+use Rattle.std.specs.List.{AllByRecursion}
+use Rattle.lrup_model.specs.Cube.{CubeValue, IsCubeOf, IsOver}
+use Rattle.lrup_model.specs.ListLemmas.{All-map}
+use Rattle.lrup_model.specs.Literal.{IsLiteral, max_variable}
+use Rattle.lrup_text.specs.Cubes.{IsTextOf, IsCubeText, CubeTextIsRead}
+use Rattle.lrup_text.specs.Grammar.{line_feed}
+use Rattle.lrup_text.specs.Lines.{IsStreamLiteral}
+use Rattle.lrup_text.specs.Reading.{literals_text}
+use Rattle.lrup_text.proofs.Bytes.{literals_end}
+
+stream_literal : (vars : ℕ) → vars < 10 ^ 18 → (z : ℤ) → IsLiteral vars z → IsStreamLiteral z
+stream_literal vars few (pos n) is = (is.0, omega (arith, few, is.1))
+stream_literal vars few (negsuc n) is = (is.0, omega (arith, few, is.1))
+
+pub printed_cube : (vars : ℕ) (literals : List ℤ) (bytes : List ℕ) (cube : CubeValue) → IsTextOf literals bytes → IsOver vars literals → IsCubeOf literals cube → IsCubeText vars bytes cube
+unfolding literals_text
+printed_cube vars literals bytes cube text over set = record {
+  literals = literals;
+  text = text.is ∙ sym (literals_end literals (line_feed ∷ []));
+  few = text.few.count;
+  over = over;
+  set = set;
+}
+
+read_cube : (vars : ℕ) (bytes : List ℕ) (cube : CubeValue) → vars < 10 ^ 18 → (h : IsCubeText vars bytes cube) → IsTextOf h.literals bytes
+unfolding literals_text
+read_cube vars bytes cube few h = record {
+  few = record { count = h.few; each = All-map (IsLiteral vars) IsStreamLiteral (stream_literal vars few) h.literals h.over };
+  is = h.text ∙ literals_end h.literals (line_feed ∷ []);
+}
+
+pub cube_text_is_read : CubeTextIsRead
+cube_text_is_read vars bytes cube few = (
+  λ h. (h.literals, read_cube vars bytes cube few h, h.over, h.set),
+  λ h. printed_cube vars h.0 bytes cube h.1 h.2 h.3,
+)

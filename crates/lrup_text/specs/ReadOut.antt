@@ -1,0 +1,28 @@
+-- What is known of sources of one kind, and reads of one of them up to the last.
+use Rattle.std.specs.Prelude.{◌<◌, ℕ, Bool, true, false, List, [], Option, Some, None}
+use Rattle.lrup_text.specs.Reads.{Gave, ReadsOf}
+
+-- what is known of each source: the bytes left, where the device tells them, and whether a read has failed; and what a read does
+pub record SourceView (S : Type 0) : Type 1 where
+  pub left : S → Option (List ℕ)
+  pub has_failed : S → Bool
+  pub reads : ReadsOf S
+
+-- the record of these
+abbrev pub source_view : {S : Type 0} → (S → Option (List ℕ)) → (S → Bool) → ReadsOf S
+    → SourceView S
+source_view left has_failed reads =
+    record { left = left; has_failed = has_failed; reads = reads }
+
+-- the read that is a source's last: one that failed, or else one that gave nothing, though its buffer had room
+abbrev pub IsLastRead : (S : Type 0) → ReadsOf S → Bool → S → S → Type 0
+IsLastRead S reads true before after = (room : ℕ) × reads before room None after
+IsLastRead S reads false before after =
+    (room : ℕ) × (0 < room) × reads before room (Some []) after
+
+-- Reads of a source, from the first on, gave these bytes together, and then came one last read.
+pub record ReadOut (S : Type 0) (reads : ReadsOf S) (failed : Bool) (first : S) (bytes : List ℕ)
+    (after : S) : Type 0 where
+  pub last : S
+  pub given : Gave S reads first bytes last
+  pub end : IsLastRead S reads failed last after

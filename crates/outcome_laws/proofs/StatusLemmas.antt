@@ -1,0 +1,43 @@
+-- What the clause `ends` says of status 0.
+use Rattle.std.proofs.Common.{◌≡◌, ◌⊎◌, ℕ, Bool, true, false, List, inl, inr, refl}
+use Rattle.lrup_model.specs.declared.layout.LayoutFault.{LayoutFault}
+use Rattle.lrup_model.specs.declared.layout.LayoutFault.TheVariants as layouts
+use Rattle.portfolio.specs.declared.outcome.Verdict.{Verdict}
+use Rattle.portfolio.specs.declared.outcome.Verdict.TheVariants.{Unsatisfiable, UnsatisfiableUnder, Unknown}
+use Rattle.command.specs.Commands.{EndsWithFault, EndsWithReport, FilesView, SinkChange, Text, report_status}
+use Rattle.command.specs.Faults.{layout_status, status_of}
+use Rattle.command.specs.declared.fault.CommandFault.{CommandFault}
+use Rattle.command.specs.declared.fault.CommandFault.TheVariants as faults
+use Rattle.outcome_laws.specs.Laws.{Status0HasACommandLine}
+
+refuted : (failed : Bool) (verdict : Verdict) → 0 ≡ report_status failed verdict → verdict ≡ Unsatisfiable
+refuted true verdict is = absurd (let no : 0 ≡ 7 = is in cc)
+refuted false Unsatisfiable is = refl
+refuted false UnsatisfiableUnder is = absurd (let no : 0 ≡ 8 = is in cc)
+refuted false Unknown is = absurd (let no : 0 ≡ 3 = is in cc)
+
+no_layout : (fault : LayoutFault) → 0 ≡ layout_status fault → ⊥
+no_layout layouts.TooManyVariables is = let no : 0 ≡ 4 = is in cc
+no_layout layouts.TooManyClauses is = let no : 0 ≡ 4 = is in cc
+no_layout layouts.BadStreamCount is = let no : 0 ≡ 2 = is in cc
+no_layout layouts.RowTooLong is = let no : 0 ≡ 2 = is in cc
+
+no_fault : (fault : CommandFault) → 0 ≡ status_of fault → ⊥
+no_fault (faults.Usage text) is = let no : 0 ≡ 2 = is in cc
+no_fault faults.Unread is = let no : 0 ≡ 5 = is in cc
+no_fault (faults.Refused fault) is = let no : 0 ≡ 4 = is in cc
+no_fault faults.CubeUnread is = let no : 0 ≡ 5 = is in cc
+no_fault (faults.CubeRefused fault) is = let no : 0 ≡ 4 = is in cc
+no_fault (faults.NotOpened stream) is = let no : 0 ≡ 5 = is in cc
+no_fault (faults.Layout fault) is = no_layout fault is
+no_fault (faults.NotStarted stream) is = let no : 0 ≡ 6 = is in cc
+no_fault (faults.Ring stream) is = let no : 0 ≡ 6 = is in cc
+no_fault faults.Memory is = let no : 0 ≡ 6 = is in cc
+no_fault faults.Unwritten is = let no : 0 ≡ 7 = is in cc
+
+pub status_0 : (R : Type 0) (files : FilesView R) → Status0HasACommandLine R files
+status_0 R files words out err (inl report) =
+    let o = report.outcome in
+    let at = o.is_formula in
+    (o.given, at.0, o.formula, o.command_line, at.1, at.2, o.checked.sound (refuted out.failed report.verdict report.status_is))
+status_0 R files words out err (inr fault) = absurd (no_fault fault.fault fault.status_is)

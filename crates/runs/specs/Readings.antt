@@ -1,0 +1,23 @@
+-- Which reads gave a run's streams (this project's own).
+use Rattle.std.specs.Prelude.{◌++◌, ℕ, true, false, List, [], ◌∷◌}
+use Rattle.lrup_text.specs.ReadOut.{ReadOut}
+use Rattle.lrup_text.specs.Reads.{Gave, ReadsOf}
+use Rattle.runs.specs.Streams.{Stop, at_end, at_failure, early, Stream}
+
+-- Reads of a reader gave these bytes: all that it gave up to its first end, or to a read that failed; or, of one that was stopped
+-- early, a beginning of what it gave.
+abbrev pub IsReadTo : (S : Type 0) → ReadsOf S → Stop → S → List ℕ → S → Type 0
+IsReadTo S reads at_end first bytes last = ReadOut S reads false first bytes last
+IsReadTo S reads at_failure first bytes last = ReadOut S reads true first bytes last
+IsReadTo S reads early first bytes last = (more : List ℕ) × Gave S reads first (bytes ++ more) last
+
+-- the stream is what reads of a reader gave, from the first on
+abbrev pub IsRead : (S : Type 0) → ReadsOf S → S → S → Stream → Type 0
+IsRead S reads first last stream = IsReadTo S reads stream.stop first stream.bytes last
+
+-- so it is with each stream: the readers before their first reads, and after their last
+abbrev pub AreRead : (S : Type 0) → ReadsOf S → List S → List S → List Stream → Type 0
+AreRead S reads [] [] [] = Unit {0}
+AreRead S reads (first ∷ firsts) (last ∷ lasts) (stream ∷ streams) =
+    IsRead S reads first last stream × AreRead S reads firsts lasts streams
+AreRead S reads _ _ _ = ⊥
