@@ -494,8 +494,9 @@ else; it has no contract.
 
 What a file tells (`tells`), and what its calls do (`opens`, `reads`), is said by those who write `Files` and `Source`. The machine's
 tell no bytes, and say nothing of their calls, so of them alone this clause says little. But `command` is proved for all files, those
-too that tell their bytes and whose calls do one thing alone, and it can't tell one kind from another, since what is `ghost` isn't
-there when it runs: what it does with the machine's files it would do with those, for which the clause leaves no choice."""
+too of which `opens` and `reads` are an account of the calls that were made and of what each gave. It can't see that account, since
+what is `ghost` isn't there when it runs: what it does with the machine's files it would do with those, for which the clause leaves
+no choice."""
 
 ASSUMED = """What a user of `--assume` relies on, by another clause of the same function; what stands above isn't repeated."""
 
@@ -575,14 +576,14 @@ SYMBOLS = set("if◌then◌else◌ ◌%◌ ◌^◌ ◌+◌ ◌*◌ ◌<◌ ◌�
 
 HEADLINE = """What a run of several streams promises, with two threads for each. What stands above isn't repeated: what a formula is, and that
 no assignment satisfies it. A gate is told before each fetch and after each publish, and may hold a thread there; the program's is
-`Pause`, which sleeps a microsecond before a hint is looked up again. `entries` are what each reader has left at first, `lefts`
-what it has left in the end, and `faileds` whether it has failed. A type that contracts see as something else they know by that
-alone, whatever its members are. That a `Formula` of the code is seen as that of a text is a clause of `dimacs::parse`, which
-`sound` above takes in.
+`Pause`, which sleeps a microsecond before a hint is looked up again. `told` is what each reader tells: what it has left at first,
+what it has left in the end, and whether it has failed. A type that contracts see as something else they know by that alone, whatever
+its members are. That a `Formula` of the code is seen as that of a text is a clause of `dimacs::parse`, which `sound` above takes in.
 
-Of readers that don't tell what they have left, as the machine's, `reports` says that some bytes have these reports, and not which.
-As for files above, `run` can't tell them from readers that tell it. That a closed set of one stream has one report, whatever the
-others do, is a law beside `isolated` (`alone_has_one_report` of `groups`), not a part of it."""
+Which bytes the streams have, `AreRead` says: those that reads gave, from the reader that was handed in, up to one that gave none, or
+one that failed. The machine's readers say nothing of what a read does; as for files above, `run` is proved for those too of which
+`reads` is an account of the reads, and can't see it. That a closed set of one stream has one report, whatever the others do, is a
+law beside `isolated` (`alone_has_one_report` of `groups`), not a part of it."""
 
 
 def parts():

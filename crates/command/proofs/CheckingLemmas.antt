@@ -95,16 +95,13 @@ pub is_outcome : (R : Type 0) (files : FilesView R) (words : List Text) (given :
     → IsCommandLineOf words given → IsFormulaAt R files given.formula.now f → AreAssumed (WasReadIn R files) f.vars (assumed_at given) cube
     → options ≡ options_of given → AreOpened files.opens given.streams readers → map files.reading.left readers ≡ map files.tells given.streams
     → (reports : List Report) (verdict : Verdict)
-    → AreChecked R files.reading files.reads given.serial f (terms_of options cube f (length readers)) readers (map files.reading.left readers) reports verdict
+    → AreChecked files.reading given.serial f (terms_of options cube f (length readers)) readers reports verdict
     → IsOutcome R files words reports verdict
 is_outcome R files words given f cube options readers line at assumed options_are opened entries_are reports verdict checked =
-    let reading = files.reading in
-    let entries = map reading.left readers in
-    let one = subst (λ (o : OptionsValue). AreChecked R reading files.reads given.serial f (terms_of o cube f (length readers)) readers entries reports verdict) options_are checked in
-    let two = subst (λ (n : ℕ). AreChecked R reading files.reads given.serial f (terms_of (options_of given) cube f n) readers entries reports verdict)
+    let one = subst (λ (o : OptionsValue). AreChecked files.reading given.serial f (terms_of o cube f (length readers)) readers reports verdict) options_are checked in
+    let two = subst (λ (n : ℕ). AreChecked files.reading given.serial f (terms_of (options_of given) cube f n) readers reports verdict)
     (same_count _ _ readers given.streams entries_are) one in
-    let three = subst (λ (es : List (Option (List ℕ))). AreChecked R reading files.reads given.serial f (terms_given given cube f) readers es reports verdict) entries_are two in
-    record { given = given; command_line = line; formula = f; is_formula = at; cube = cube; assumed = assumed; readers = readers; opened = opened; left = entries_are; checked = three }
+    record { given = given; command_line = line; formula = f; is_formula = at; cube = cube; assumed = assumed; readers = readers; opened = opened; left = entries_are; checked = two }
 
 -- The causes are those of the words and the files.
 pub read_cause : (R : Type 0) (files : FilesView R) (words : List Text) (given : CommandLine) → IsCommandLineOf words given

@@ -24,7 +24,7 @@ opening_cause R files path opens.Memory refused = tt
 
 pub reading_cause : (R : Type 0) (files : FilesView R) (path : Text) (reader : R) → files.opens path reader
     → files.reading.left reader ≡ files.tells path
-    → (fault : CommandFault) → IsFailedRead R files.reading files.reads reader fault → IsFileCause R files path fault
+    → (fault : CommandFault) → IsFailedRead files.reading reader fault → IsFileCause R files path fault
 reading_cause R files path reader opened left (faults.Usage text) cause = absurd cause
 reading_cause R files path reader opened left faults.Unread cause = inr (record { reader = reader; opened = opened; left = left; broken = cause })
 reading_cause R files path reader opened left (faults.Refused fault) cause = absurd cause
@@ -39,7 +39,7 @@ reading_cause R files path reader opened left faults.Unwritten cause = absurd ca
 
 -- what was read of a file that was opened
 pub was_read : (R : Type 0) (files : FilesView R) (path : Text) (reader : R) {T E : Type 0} (items : T → List ℕ) (read : Result T E) → files.opens path reader → files.reading.left reader ≡ files.tells path
-    → IfOk read (λ bytes. GaveAll R files.reads reader (items bytes)) → IfOk read (λ bytes. ForSome (files.reading.left reader) (λ all. all ≡ items bytes))
+    → IfOk read (λ bytes. GaveAll R files.reading.reads reader (items bytes)) → IfOk read (λ bytes. ForSome (files.reading.left reader) (λ all. all ≡ items bytes))
     → IfOk read (λ bytes. WasReadIn R files path (items bytes))
 was_read R files path reader items (Ok bytes) opened left gave all =
     record { reader = reader; opened = opened; gave = gave; told = λ whole told. all whole (left ∙ told) }

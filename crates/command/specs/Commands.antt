@@ -2,6 +2,7 @@
 use Rattle.std.specs.Prelude.{◌≡◌, ◌≢◌, ◌+◌, ◌++◌, ◌⊎◌, ℕ, Bool, true, false, IsTrue, List, [], ◌∷◌, map, length, slice_get, Option, None, Some, option_map}
 use Rattle.std.specs.Io.KnownBytes.{Appends, Keeps}
 use Rattle.std.specs.Borrow.{Bor}
+use Rattle.std.specs.List.{AllByRecursion}
 use Rattle.std.specs.Option.{ForSome}
 use Rattle.lrup_model.specs.Cube.{CubeValue, IsUnsatisfiableUnder}
 use Rattle.lrup_model.specs.Entailment.{IsUnsatisfiable}
@@ -13,7 +14,8 @@ use Rattle.lrup_model.specs.declared.layout.LayoutFault.{LayoutFault}
 use Rattle.dimacs.specs.FormulaFault.{IsFaultOf as IsFormulaFault}
 use Rattle.dimacs.specs.FormulaText.{IsTextOf}
 use Rattle.dimacs.specs.declared.fault.DimacsFault.TheVariants as formulas
-use Rattle.lrup_text.specs.Reads.{BrokeOff, GaveAll, ReadsOf}
+use Rattle.lrup_text.specs.ReadOut.{ReadOut, SourceView}
+use Rattle.lrup_text.specs.Reads.{GaveAll, ReadsOf}
 use Rattle.lrup_text.specs.Cubes.{IsCubeFault, IsCubeText}
 use Rattle.lrup_text.specs.declared.cube.CubeFault.TheVariants as cubes
 use Rattle.stream_check.specs.declared.report.Report.{Report}
@@ -21,7 +23,7 @@ use Rattle.runs.specs.Headline.{AreJudgedIn}
 use Rattle.portfolio.specs.Outcomes.{OptionsValue, layout_of, terms_of, verdict_of}
 use Rattle.portfolio.specs.ReportText.{report_text}
 use Rattle.runs.specs.Readings.{AreRead}
-use Rattle.runs.specs.Streams.{IsOrdered, StandsOnStreams, Stream, Terms}
+use Rattle.runs.specs.Streams.{IsOrdered, IsReadOut, StandsOnStreams, Stream, Terms, tellings}
 use Rattle.portfolio.specs.declared.outcome.Verdict.{Verdict}
 use Rattle.portfolio.specs.declared.outcome.Verdict.TheVariants.{Unsatisfiable, UnsatisfiableUnder, Unknown}
 use Rattle.command_line.specs.CommandLine.{AskFor, HaveFault, IsCommandLineOf}
@@ -76,41 +78,35 @@ layout_at given f = layout_of (options_of given) f (length given.streams)
 abbrev pub terms_given : CommandLine → CubeValue → Cnf → Terms
 terms_given given cube f = terms_of (options_of given) cube f (length given.streams)
 
--- what the reports say of the streams: on one thread they have an order of lines; with two threads for each they are judged
--- by their events of one legal history
+-- what the reports say of the streams: on one thread they have an order of lines; with two threads for each, each was read to its
+-- end or to a read that failed, and they are judged by their events of one legal history
 abbrev pub AreReported : Bool → Cnf → Terms → List Report → List Stream → Type 0
 AreReported true f terms reports streams = IsOrdered f terms (λ s. true) streams reports
 AreReported false f terms reports streams =
-    (h : History) × IsLegal f terms.layout h × AreJudgedIn terms (λ s. true) h 1 streams reports
+    AllByRecursion IsReadOut streams
+    × ((h : History) × IsLegal f terms.layout h
+    × AreJudgedIn terms (λ s. true) h 1 streams reports)
 
--- what is known of a reader: the bytes that it has left, where the device tells them, and whether it has failed
-pub record ReaderView (R : Type 0) : Type 0 where
-  pub left : R → Option (List ℕ)
-  pub has_failed : R → Bool
-
--- The reports and the verdict of a formula's streams. `firsts` are the readers of the streams as they were opened, and `entries`
--- is what each stream's file told then; `readers` are those in the end, after reads that gave the streams: one that has failed has
--- left what its stream's file told after the bytes judged.
-pub record AreChecked (R : Type 0) (reading : ReaderView R) (reads : ReadsOf R) (serial : Bool)
-    (f : Cnf) (terms : Terms) (firsts : List R)
-    (entries : List (Option (List ℕ))) (reports : List Report) (verdict : Verdict) : Type 0 where
+-- The reports and the verdict of a formula's streams. `firsts` are the readers of the streams as they were opened, and `lasts` those
+-- in the end, after reads that gave the streams.
+pub record AreChecked {R : Type 0} (reading : SourceView R) (serial : Bool) (f : Cnf)
+    (terms : Terms) (firsts : List R) (reports : List Report) (verdict : Verdict) : Type 0 where
   pub layout : (fault : LayoutFault) → IsFault terms.layout fault → ⊥
-  pub readers : List R
-  pub reported : StandsOnStreams entries (map reading.left readers) (map reading.has_failed readers)
+  pub lasts : List R
+  pub reported : StandsOnStreams (tellings reading firsts lasts)
       (AreReported serial f terms reports)
-  pub read : AreRead R reads firsts readers reported.streams
+  pub read : AreRead R reading.reads firsts lasts reported.streams
   pub is_verdict : verdict ≡ verdict_of reports
   pub sound : verdict ≡ Unsatisfiable → IsUnsatisfiable f
   pub sound_under : verdict ≡ UnsatisfiableUnder → IsUnsatisfiableUnder f terms.cube
 
--- What is known of files: what the file at each path tells, where the device tells it, whether a path may be refused, the readers
--- that they are opened as, and what an opening and a read do.
+-- What is known of files: what the file at each path tells, where the device tells it, whether a path may be refused, what an opening
+-- does, and what is known of the readers that they are opened as.
 pub record FilesView (R : Type 0) : Type 1 where
   pub tells : Text → Option (List ℕ)
   pub may_refuse : Text → Bool
-  pub reading : ReaderView R
   pub opens : Text → R → Type 0
-  pub reads : ReadsOf R
+  pub reading : SourceView R
 
 -- the record of these
 abbrev pub files_view : {R : Type 0} → (Text → Option (List ℕ)) → (Text → Bool)
@@ -118,14 +114,13 @@ abbrev pub files_view : {R : Type 0} → (Text → Option (List ℕ)) → (Text 
 files_view tells may_refuse left has_failed opens reads = record {
   tells = tells;
   may_refuse = may_refuse;
-  reading = record { left = left; has_failed = has_failed };
   opens = opens;
-  reads = reads;
+  reading = record { left = left; has_failed = has_failed; reads = reads };
 }
 
 -- what was read of the file at a path, by what is known of files
 abbrev pub WasReadIn : (R : Type 0) → FilesView R → Text → List ℕ → Type 0
-WasReadIn R files = WasRead R files.opens files.reads files.tells
+WasReadIn R files = WasRead R files.opens files.reading.reads files.tells
 
 -- the formula whose text was read of the file at a path
 abbrev pub IsFormulaAt : (R : Type 0) → FilesView R → Text → Cnf → Type 0
@@ -158,31 +153,32 @@ pub record IsOutcome (R : Type 0) (files : FilesView R) (words : List Text) (rep
   pub readers : List R
   pub opened : AreOpened files.opens given.streams readers
   pub left : map files.reading.left readers ≡ map files.tells given.streams
-  pub checked : AreChecked R files.reading files.reads given.serial formula
-      (terms_given given cube formula) readers (map files.tells given.streams) reports verdict
+  pub checked : AreChecked files.reading given.serial formula (terms_given given cube formula)
+      readers reports verdict
 
 -- Causes. Nothing shows afterwards that memory ran out or that a thread wasn't started, so these are taken as causes whatever the
 -- files hold.
 
 -- Reads of a file gave some bytes, and then one failed. If the device tells what was left of the file, it began with these bytes.
-pub record HasBrokenOff (R : Type 0) (reading : ReaderView R) (reads : ReadsOf R)
-    (first : R) : Type 0 where
+pub record HasBrokenOff {R : Type 0} (reading : SourceView R) (first : R) : Type 0 where
   pub bytes : List ℕ
-  pub broke : BrokeOff R reads reading.has_failed first bytes
+  pub after : R
+  pub read : ReadOut R reading.reads true first bytes after
+  pub failed : reading.has_failed after ≡ true
   pub told : ForSome (reading.left first) (λ all. (rest : List ℕ) × (all ≡ bytes ++ rest))
 
 -- why a file that was opened wasn't read to its end
-abbrev pub IsFailedRead : (R : Type 0) → ReaderView R → ReadsOf R → R → CommandFault → Type 0
-IsFailedRead R reading reads first faults.Unread = HasBrokenOff R reading reads first
-IsFailedRead R reading reads first faults.Memory = Unit {0}
-IsFailedRead R reading reads first fault = ⊥
+abbrev pub IsFailedRead : {R : Type 0} → SourceView R → R → CommandFault → Type 0
+IsFailedRead reading first faults.Unread = HasBrokenOff reading first
+IsFailedRead reading first faults.Memory = Unit {0}
+IsFailedRead reading first fault = ⊥
 
 -- The file at the path was opened, and its reading failed.
 pub record WasUnread (R : Type 0) (files : FilesView R) (path : Text) : Type 0 where
   pub reader : R
   pub opened : files.opens path reader
   pub left : files.reading.left reader ≡ files.tells path
-  pub broken : HasBrokenOff R files.reading files.reads reader
+  pub broken : HasBrokenOff files.reading reader
 
 -- why the file at a path wasn't read: it was refused, or its reading failed
 abbrev pub IsFileCause : (R : Type 0) → FilesView R → Text → CommandFault → Type 0

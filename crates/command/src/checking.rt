@@ -4,6 +4,7 @@ ghost use Rattle.std.specs.List.{AllByRecursion};
 ghost use Rattle.std.specs.Option.{ForSome};
 ghost use Rattle.clap.specs.Walk.{texts};
 ghost use Rattle.portfolio.specs.Outcomes.{layout_of, terms_of};
+ghost use Rattle.lrup_text.specs.ReadOut.{source_view};
 ghost use Rattle.lrup_text.specs.Reads.{GaveAll};
 ghost use Rattle.command.specs.Commands.{AreChecked, AreOpened, IsCause, IsFailedRead, IsFormulaAt};
 ghost use Rattle.command.specs.Commands.{IsOpenCause, IsOutcome, IsReadCause, IsRunCause};
@@ -191,8 +192,8 @@ fn read_all<W: Wait, S: Source>(
     requires some { 0 < most }
     ensures gave { IfOk result (λ bytes. GaveAll _ S.reads source.old bytes.items) }
     ensures all { IfOk result (λ bytes. ForSome (S.left source.old) (λ all. all ≡ bytes.items)) }
-    ensures fault { IfErr result (IsFailedRead _
-        (record { left = S.left; has_failed = S.has_failed }) S.reads source.old) }
+    ensures fault { IfErr result
+        (IsFailedRead (source_view S.left S.has_failed S.reads) source.old) }
 {
     let mut bytes = Vec::new(alloc);
     let mut buffer = vec![in alloc; 0; most]?;
@@ -247,9 +248,8 @@ fn check_streams<T: Threads + Wait + Sync, C: Clock + Sync, R: Source + Send + D
 ) -> Result<Found, CommandFault>
     requires running { AllByRecursion (λ r. R.has_failed r ≡ false) readers.items }
     ensures checked { let terms = terms_of options cube.now formula.now (length readers.items) in
-        IfOk result (λ found. AreChecked _ (record { left = R.left; has_failed = R.has_failed })
-        R.reads serial formula.now terms readers.items (map R.left readers.items)
-        found.reports.items found.verdict) }
+        IfOk result (λ found. AreChecked (source_view R.left R.has_failed R.reads) serial
+        formula.now terms readers.items found.reports.items found.verdict) }
     ensures cause { IfErr result
         (IsRunCause serial (layout_of options formula.now (length readers.items))) }
 {
@@ -271,9 +271,8 @@ fn check_serially<W: Wait, R: Source + Drop>(
 ) -> Result<Found, CommandFault>
     requires running { AllByRecursion (λ r. R.has_failed r ≡ false) readers.items }
     ensures checked { let terms = terms_of options cube.now formula.now (length readers.items) in
-        IfOk result (λ found. AreChecked _ (record { left = R.left; has_failed = R.has_failed })
-        R.reads true formula.now terms readers.items (map R.left readers.items)
-        found.reports.items found.verdict) }
+        IfOk result (λ found. AreChecked (source_view R.left R.has_failed R.reads) true
+        formula.now terms readers.items found.reports.items found.verdict) }
     ensures cause { IfErr result
         (IsRunCause true (layout_of options formula.now (length readers.items))) }
 {
@@ -299,9 +298,8 @@ fn check_in_threads<T: Threads + Wait + Sync, C: Clock + Sync, R: Source + Send 
 ) -> Result<Found, CommandFault>
     requires running { AllByRecursion (λ r. R.has_failed r ≡ false) readers.items }
     ensures checked { let terms = terms_of options cube.now formula.now (length readers.items) in
-        IfOk result (λ found. AreChecked _ (record { left = R.left; has_failed = R.has_failed })
-        R.reads false formula.now terms readers.items (map R.left readers.items)
-        found.reports.items found.verdict) }
+        IfOk result (λ found. AreChecked (source_view R.left R.has_failed R.reads) false
+        formula.now terms readers.items found.reports.items found.verdict) }
     ensures cause { IfErr result
         (IsRunCause false (layout_of options formula.now (length readers.items))) }
 {

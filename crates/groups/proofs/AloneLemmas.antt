@@ -27,9 +27,9 @@ judged_whole law c at_end bytes whole end blocks report is j =
     subst (λ b. JudgesBlocks c b end blocks report) (sym is.0) (subst (λ e. JudgesBlocks c bytes e blocks report) (sym is.1) j)
 judged_whole law c at_failure bytes whole end blocks report is j =
     subst (λ b. JudgesBlocks c b end blocks report) (sym is.0) (subst (λ e. JudgesBlocks c bytes e blocks report) (sym is.1) j)
-judged_whole law c early bytes whole ended blocks report is j =
+judged_whole law c (early unneeded) bytes whole ended blocks report is j =
     subst (λ b. JudgesBlocks c b ended blocks report) (sym is.1) (law c bytes is.0 blocks report (j.1, j.2)).0
-judged_whole law c early bytes whole failed blocks report is j =
+judged_whole law c (early unneeded) bytes whole failed blocks report is j =
     subst (λ b. JudgesBlocks c b failed blocks report) (sym is.1) (law c bytes is.0 blocks report (j.1, j.2)).1
 
 pub me : (s : ℕ) → IsTrue (one s s)

@@ -94,7 +94,7 @@ fetches_within law p set c at_end bytes blocks report some cites j =
     law c bytes ended blocks report cites.lines cites.rest (is_within p (inside p set)) j cites.cut (cites_pass p set cites.lines some cites.within)
 fetches_within law p set c at_failure bytes blocks report some cites j =
     law c bytes failed blocks report cites.lines cites.rest (is_within p (inside p set)) j cites.cut (cites_pass p set cites.lines some cites.within)
-fetches_within law p set c early bytes blocks report some cites j =
+fetches_within law p set c (early unneeded) bytes blocks report some cites j =
     law c bytes ended blocks report cites.lines cites.rest (is_within p (inside p set)) j.1 cites.cut (cites_pass p set cites.lines some cites.within)
 
 -- The history

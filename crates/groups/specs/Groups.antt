@@ -1,5 +1,5 @@
 -- Groups of streams: what holds of their reports whatever the streams outside the group do (this project's own).
-use Rattle.std.specs.Prelude.{◌≡◌, ◌+◌, ◌-◌, ◌<◌, ◌==◌, ◌++◌, ℕ, Bool, true, false, IsTrue, List, [], ◌∷◌, length, Option, Some, if◌then◌else◌, slice_get}
+use Rattle.std.specs.Prelude.{◌≡◌, ◌+◌, ◌-◌, ◌<◌, ◌==◌, ◌++◌, ℕ, Bool, true, false, IsTrue, List, [], ◌∷◌, length, Some, if◌then◌else◌, slice_get}
 use Rattle.std.specs.List.{AllByRecursion}
 use Rattle.lrup_model.specs.Formula.{Cnf}
 use Rattle.lrup_model.specs.Layout.{LayoutValue, Owns}
@@ -11,7 +11,7 @@ use Rattle.stream_check.specs.declared.report.Report.{Report}
 use Rattle.stream_check.specs.Judging.{StreamEnd, ended, failed}
 use Rattle.stream_check.specs.Laws.{cited_by, IsOfMemory}
 use Rattle.runs.specs.Closed.{IsAt, CiteWithin, IsClosed}
-use Rattle.runs.specs.Streams.{Stop, at_end, at_failure, early, Stream, Terms, AreTold}
+use Rattle.runs.specs.Streams.{Stop, at_end, at_failure, early, Stream, Telling, Terms, AreTold}
 use Rattle.runs.specs.Headline.{AreJudgedIn}
 
 -- one stream, as a set
@@ -21,10 +21,10 @@ one s = λ t. t == s
 -- Closed sets
 
 -- each reader of the set's streams has known bytes left at first, and all of them cite within the set
-abbrev pub AreClosedReaders : LayoutValue → (ℕ → Bool) → List (Option (List ℕ)) → Type 0
-AreClosedReaders p set entries =
-    (s : ℕ) (entry : Option (List ℕ)) → IsTrue (set s) → IsAt entries s entry
-    → (bytes : List ℕ) × (entry ≡ Some bytes) × CiteWithin p set bytes
+abbrev pub AreClosedReaders : LayoutValue → (ℕ → Bool) → List Telling → Type 0
+AreClosedReaders p set told =
+    (s : ℕ) (telling : Telling) → IsTrue (set s) → IsAt told s telling
+    → (bytes : List ℕ) × (telling.entry ≡ Some bytes) × CiteWithin p set bytes
 
 -- Groups
 
@@ -49,10 +49,9 @@ IsAlone f terms s streams reports = IsGroup f terms (one s) streams reports
 
 -- The reports are isolated: for every list of streams that the readers told and by which they are judged, and for every
 -- closed set of these streams none of whose reports tells that memory ran out, the set's reports are such as it may have alone.
-abbrev pub AreIsolated : Cnf → Terms → List (Option (List ℕ)) → List (Option (List ℕ)) → List Bool
-    → (List Stream → Type 0) → List Report → Type 0
-AreIsolated f terms entries lefts faileds Judged reports =
-    (streams : List Stream) → AreTold entries lefts faileds streams → Judged streams
+abbrev pub AreIsolated : Cnf → Terms → List Telling → (List Stream → Type 0) → List Report → Type 0
+AreIsolated f terms told Judged reports =
+    (streams : List Stream) → AreTold told streams → Judged streams
     → (set : ℕ → Bool) → IsClosed terms.layout set streams → NoneOutOfMemory set reports
     → IsGroup f terms set streams reports
 
@@ -81,10 +80,10 @@ with_others set x s (y ∷ ys) = (if set s then y else x) ∷ with_others set x 
 
 -- What a run promises of its reports, with threads or on one: the readers told streams, as many as the layout has, and one
 -- legal history judges each by its own events, as its report says.
-pub record IsRun (f : Cnf) (terms : Terms) (entries lefts : List (Option (List ℕ)))
-    (faileds : List Bool) (reports : List Report) : Type 0 where
+pub record IsRun (f : Cnf) (terms : Terms) (told : List Telling)
+    (reports : List Report) : Type 0 where
   pub streams : List Stream
-  pub told : AreTold entries lefts faileds streams
+  pub are_told : AreTold told streams
   pub count : length streams ≡ terms.layout.streams
   pub history : History
   pub legal : IsLegal f terms.layout history
@@ -94,7 +93,7 @@ pub record IsRun (f : Cnf) (terms : Terms) (entries lefts : List (Option (List �
 abbrev pub IsReadingTo : Stop → List ℕ → List ℕ → StreamEnd → Type 0
 IsReadingTo at_end bytes whole end = (whole ≡ bytes) × (end ≡ ended)
 IsReadingTo at_failure bytes whole end = (whole ≡ bytes) × (end ≡ failed)
-IsReadingTo early bytes whole end = (more : List ℕ) × (whole ≡ bytes ++ more)
+IsReadingTo (early unneeded) bytes whole end = (more : List ℕ) × (whole ≡ bytes ++ more)
 
 abbrev pub IsReadingOf : List ℕ → StreamEnd → Stream → Type 0
 IsReadingOf whole end stream = IsReadingTo stream.stop stream.bytes whole end

@@ -1,5 +1,5 @@
 -- Laws of groups of streams. Each is the contract of a function of laws.
-use Rattle.std.specs.Prelude.{◌≡◌, ◌++◌, ℕ, Bool, true, false, IsTrue, List, length, Option, Some}
+use Rattle.std.specs.Prelude.{◌≡◌, ◌++◌, ℕ, Bool, true, false, IsTrue, List, length, Some}
 use Rattle.lrup_model.specs.Formula.{Cnf}
 use Rattle.lrup_model.specs.Layout.{LayoutValue, Fits}
 use Rattle.lrup_model.specs.Event.{History}
@@ -8,7 +8,7 @@ use Rattle.lrup_model.specs.Pass.{View}
 use Rattle.stream_check.specs.declared.report.Report.{Report}
 use Rattle.stream_check.specs.Judging.{StreamEnd, ended, failed}
 use Rattle.stream_check.specs.Laws.{IsOfMemory, IsOfFailure}
-use Rattle.runs.specs.Streams.{Stream, Terms, AreTold, StandsOnStreams, IsOrdered}
+use Rattle.runs.specs.Streams.{Stream, Telling, Terms, AreTold, StandsOnStreams, IsOrdered}
 use Rattle.runs.specs.Headline.{HaveOneHistory, AreJudgedIn}
 use Rattle.runs.specs.Closed.{IsAt, CiteWithin, IsClosed}
 use Rattle.groups.specs.Groups.{one, AreClosedReaders, NoneOutOfMemory, IsGroup, IsAlone, AreIsolated, empty_stream, empty_report, with_others, IsRun, IsReadingOf}
@@ -22,10 +22,8 @@ BeginningsWithin = (p : LayoutValue) (set : ℕ → Bool) (bytes more : List ℕ
 
 -- so a set is closed where all bytes that its readers have left at first cite within it
 abbrev pub ReadersClosed : Type 0
-ReadersClosed = (p : LayoutValue) (set : ℕ → Bool) (entries lefts : List (Option (List ℕ)))
-    (faileds : List Bool) (streams : List Stream)
-    → AreTold entries lefts faileds streams → AreClosedReaders p set entries
-    → IsClosed p set streams
+ReadersClosed = (p : LayoutValue) (set : ℕ → Bool) (told : List Telling) (streams : List Stream)
+    → AreTold told streams → AreClosedReaders p set told → IsClosed p set streams
 
 -- Groups
 
@@ -78,64 +76,57 @@ AloneHasOneReport = (f : Cnf) (terms : Terms) (s : ℕ) (whole : List ℕ) (end 
 
 -- the reports of a run with threads are isolated
 abbrev pub RunIsolated : Type 0
-RunIsolated = (f : Cnf) (terms : Terms) (h : History) (passes : List View)
-    (entries lefts : List (Option (List ℕ))) (faileds : List Bool) (reports : List Report)
-    → Fits terms.layout f → length entries ≡ terms.layout.streams
+RunIsolated = (f : Cnf) (terms : Terms) (h : History) (passes : List View) (told : List Telling)
+    (reports : List Report)
+    → Fits terms.layout f → length told ≡ terms.layout.streams
     → HaveOneHistory f terms.layout h passes
-    → AreIsolated f terms entries lefts faileds
+    → AreIsolated f terms told
     (λ streams. AreJudgedIn terms (λ s. true) h 1 streams reports) reports
 
 -- and so are those of a run on one thread
 abbrev pub SerialIsolated : Type 0
-SerialIsolated = (f : Cnf) (terms : Terms) (entries lefts : List (Option (List ℕ)))
-    (faileds : List Bool) (reports : List Report)
-    → Fits terms.layout f → length entries ≡ terms.layout.streams
-    → AreIsolated f terms entries lefts faileds
+SerialIsolated = (f : Cnf) (terms : Terms) (told : List Telling) (reports : List Report)
+    → Fits terms.layout f → length told ≡ terms.layout.streams
+    → AreIsolated f terms told
     (λ streams. IsOrdered f terms (λ s. true) streams reports) reports
 
 -- a run with threads, and one on one thread, is a run
 abbrev pub ThreadsRun : Type 0
-ThreadsRun = (f : Cnf) (terms : Terms) (h : History) (passes : List View)
-    (entries lefts : List (Option (List ℕ))) (faileds : List Bool) (reports : List Report)
-    → length entries ≡ terms.layout.streams → HaveOneHistory f terms.layout h passes
-    → StandsOnStreams entries lefts faileds
-    (λ streams. AreJudgedIn terms (λ s. true) h 1 streams reports)
-    → IsRun f terms entries lefts faileds reports
+ThreadsRun = (f : Cnf) (terms : Terms) (h : History) (passes : List View) (told : List Telling)
+    (reports : List Report)
+    → length told ≡ terms.layout.streams → HaveOneHistory f terms.layout h passes
+    → StandsOnStreams told (λ streams. AreJudgedIn terms (λ s. true) h 1 streams reports)
+    → IsRun f terms told reports
 
 abbrev pub SerialRun : Type 0
-SerialRun = (f : Cnf) (terms : Terms) (entries lefts : List (Option (List ℕ))) (faileds : List Bool)
-    (reports : List Report)
-    → length entries ≡ terms.layout.streams
-    → StandsOnStreams entries lefts faileds
-    (λ streams. IsOrdered f terms (λ s. true) streams reports)
-    → IsRun f terms entries lefts faileds reports
+SerialRun = (f : Cnf) (terms : Terms) (told : List Telling) (reports : List Report)
+    → length told ≡ terms.layout.streams
+    → StandsOnStreams told (λ streams. IsOrdered f terms (λ s. true) streams reports)
+    → IsRun f terms told reports
 
 -- a reader that hasn't failed told a reading of the bytes that it had left at first, which end
 abbrev pub ToldIsReading : Type 0
-ToldIsReading = (entries lefts : List (Option (List ℕ))) (faileds : List Bool)
-    (streams : List Stream) (s : ℕ) (whole : List ℕ) (stream : Stream)
-    → AreTold entries lefts faileds streams → IsAt entries s (Some whole) → IsAt faileds s false
-    → IsAt streams s stream
-    → IsReadingOf whole ended stream
+ToldIsReading = (told : List Telling) (streams : List Stream) (s : ℕ) (telling : Telling)
+    (stream : Stream) (whole : List ℕ)
+    → AreTold told streams → IsAt told s telling → IsAt streams s stream
+    → telling.entry ≡ Some whole → telling.has_failed ≡ false → IsReadingOf whole ended stream
 
 -- a reader that failed told all bytes before those that it has left then
 abbrev pub FailedIsReading : Type 0
-FailedIsReading = (entries lefts : List (Option (List ℕ))) (faileds : List Bool)
-    (streams : List Stream) (s : ℕ) (whole left : List ℕ) (stream : Stream)
-    → AreTold entries lefts faileds streams → IsAt entries s (Some (whole ++ left))
-    → IsAt lefts s (Some left) → IsAt faileds s true → IsAt streams s stream
+FailedIsReading = (told : List Telling) (streams : List Stream) (s : ℕ) (telling : Telling)
+    (stream : Stream) (whole left : List ℕ)
+    → AreTold told streams → IsAt told s telling → IsAt streams s stream
+    → telling.entry ≡ Some (whole ++ left) → telling.left ≡ Some left → telling.has_failed ≡ true
     → IsReadingOf whole failed stream
 
 -- In two runs of one formula, by the same terms, a stream that cites within itself has one report where the readers told the
 -- same bytes and end of it, unless memory ran out: whatever the other streams are, and whichever runs have threads.
 abbrev pub SameReadingAgrees : Type 0
 SameReadingAgrees = (f : Cnf) (terms : Terms) (s : ℕ) (whole : List ℕ) (end : StreamEnd)
-    (entries lefts other_entries other_lefts : List (Option (List ℕ)))
-    (faileds other_faileds : List Bool)
-    (reports other_reports : List Report) (stream other : Stream) (report other_report : Report)
+    (told other_told : List Telling) (reports other_reports : List Report) (stream other : Stream)
+    (report other_report : Report)
     → Fits terms.layout f → CiteWithin terms.layout (one s) whole
-    → (a : IsRun f terms entries lefts faileds reports)
-    (b : IsRun f terms other_entries other_lefts other_faileds other_reports)
+    → (a : IsRun f terms told reports) (b : IsRun f terms other_told other_reports)
     → IsAt a.streams s stream → IsAt b.streams s other → IsReadingOf whole end stream
     → IsReadingOf whole end other
     → IsAt reports s report → IsAt other_reports s other_report
@@ -143,14 +134,13 @@ SameReadingAgrees = (f : Cnf) (terms : Terms) (s : ℕ) (whole : List ℕ) (end 
 
 -- So it has where both readers have the same bytes left at first, unless memory ran out or a read failed.
 abbrev pub SameBytesAgree : Type 0
-SameBytesAgree = (f : Cnf) (terms : Terms) (s : ℕ) (whole : List ℕ)
-    (entries lefts other_entries other_lefts : List (Option (List ℕ)))
-    (faileds other_faileds : List Bool)
-    (reports other_reports : List Report) (report other_report : Report)
+SameBytesAgree = (f : Cnf) (terms : Terms) (s : ℕ) (whole : List ℕ) (told other_told : List Telling)
+    (telling other_telling : Telling) (reports other_reports : List Report)
+    (report other_report : Report)
     → Fits terms.layout f → CiteWithin terms.layout (one s) whole
-    → IsRun f terms entries lefts faileds reports
-    → IsRun f terms other_entries other_lefts other_faileds other_reports
-    → IsAt entries s (Some whole) → IsAt other_entries s (Some whole)
+    → IsRun f terms told reports → IsRun f terms other_told other_reports
+    → IsAt told s telling → telling.entry ≡ Some whole
+    → IsAt other_told s other_telling → other_telling.entry ≡ Some whole
     → IsAt reports s report → IsAt other_reports s other_report
     → ¬ IsOfMemory report → ¬ IsOfFailure report → ¬ IsOfMemory other_report
     → ¬ IsOfFailure other_report

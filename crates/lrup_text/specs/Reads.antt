@@ -1,5 +1,5 @@
 -- Reads of a source, one after another, and what they gave.
-use Rattle.std.specs.Prelude.{◌≡◌, ◌<◌, ℕ, Bool, true, List, [], length, Option, Some, None}
+use Rattle.std.specs.Prelude.{◌≡◌, ◌<◌, ℕ, List, [], length, Option, Some}
 use Rattle.std.specs.List.{FoldsTo, concat}
 
 -- what reads do: the source before, how long the buffer is, what is given, and the source after
@@ -24,13 +24,3 @@ pub record GaveAll (S : Type 0) (reads : ReadsOf S) (first : S) (bytes : List �
   pub some : 0 < room
   pub after : S
   pub end : reads last room (Some []) after
-
--- Reads gave these bytes of a source, and then one failed.
-pub record BrokeOff (S : Type 0) (reads : ReadsOf S) (has_failed : S → Bool) (first : S)
-    (bytes : List ℕ) : Type 0 where
-  pub last : S
-  pub given : Gave S reads first bytes last
-  pub room : ℕ
-  pub after : S
-  pub fault : reads last room None after
-  pub failed : has_failed after ≡ true

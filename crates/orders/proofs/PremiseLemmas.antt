@@ -1,7 +1,6 @@
 -- The premise on what is retired: by the final state, by events, and by the streams' lines.
-use Rattle.std.proofs.Common.{◌≡◌, ◌⊎◌, ◌-◌, ◌&&◌, ◌||◌, ℕ, zero, suc, Bool, eqb, List, [], ◌∷◌, ◌++◌, length, Option, Some, None, refl, sym, subst, ◌∙◌, inl, inr, ltb, leb, eq-eqb, arith, append_assoc}
-use Rattle.std.specs.Prelude.{IsTrue, slice_get}
-use Rattle.std.specs.Io.KnownBytes.{Consumes}
+use Rattle.std.proofs.Common.{◌≡◌, ◌⊎◌, ◌-◌, ◌&&◌, ◌||◌, ℕ, zero, suc, Bool, eqb, List, [], ◌∷◌, ◌++◌, length, refl, sym, subst, ◌∙◌, inl, inr, ltb, leb, eq-eqb, arith}
+use Rattle.std.specs.Prelude.{IsTrue}
 use Rattle.std.specs.List.{AllByRecursion, list_any}
 use Rattle.std.proofs.lemmas.Bool.{cases_eq, cases_Bool, cond-true, cond-false, or_right, or_left}
 use Rattle.std.proofs.lemmas.List.Folds.{list_any-append}
@@ -20,7 +19,8 @@ use Rattle.lrup_text.specs.Lines.{StreamLine}
 use Rattle.lrup_text.specs.Laws.{BeginningCut, EveryCut}
 use Rattle.stream_check.specs.Standing.{is_among, deleted_by}
 use Rattle.stream_check.specs.Laws.{cited_by, FetchesOnly, CitedFetched}
-use Rattle.runs.specs.Streams.{Stream, AreTold, setting_of}
+use Rattle.runs.specs.Streams.{Stream, setting_of}
+use Rattle.runs.specs.StreamLemmas.{told_from, told_begins}
 use Rattle.runs.specs.Closed.{CiteWithin}
 use Rattle.orders.specs.Premises.{IsLiveReply, FindsKept, FindsUnretired, MeetsUnretired, IsRetireOf, Retires, cites, deletes, Cites, Deletes}
 use Rattle.orders.specs.Laws.{KeptByEvents, OwnersAloneSuffices, SharedStays, BeginningsCite, ReadersShare, RetiresOnly, DeletedRetired}
@@ -256,46 +256,12 @@ beginnings_cite beginning every_cut bytes more id =
 
 -- Readers
 
--- what a reader told of a stream begins what it had left at first
-TellsBeginning : Option (List ℕ) → Stream → Type 0
-TellsBeginning entry stream = (whole : List ℕ) → entry ≡ Some whole → (tail : List ℕ) × (whole ≡ stream.bytes ++ tail)
-
-consumed : (whole bytes more : List ℕ) (entry left : Option (List ℕ)) → entry ≡ Some whole → Consumes entry left (bytes ++ more)
-    → (tail : List ℕ) × (whole ≡ bytes ++ tail)
-consumed whole bytes more None left is consumes = absurd (cc)
-consumed whole bytes more (Some known) None is consumes = absurd consumes
-consumed whole bytes more (Some known) (Some rest) is consumes =
-    let same : known ≡ whole = cc in
-    (more ++ rest, sym same ∙ consumes ∙ append_assoc bytes more rest)
-
-told_from : (entries lefts : List (Option (List ℕ))) (faileds : List Bool) (streams : List Stream) → AreTold entries lefts faileds streams
-    → (k : ℕ) (stream : Stream) → slice_get streams k ≡ Some stream
-    → (entry : Option (List ℕ)) × (slice_get entries k ≡ Some entry) × TellsBeginning entry stream
-unfolding TellsBeginning
-told_from [] [] [] [] told k stream at = absurd (cc)
-told_from (entry ∷ entries) (left ∷ lefts) (has_failed ∷ faileds) (told_stream ∷ streams) told zero stream at =
-    let same : told_stream ≡ stream = cc in (
-      entry,
-      refl,
-      λ whole is. subst (λ (x : Stream). (tail : List ℕ) × (whole ≡ x.bytes ++ tail)) same
-          (consumed whole told_stream.bytes told.0.more entry left is told.0.consumes),
-    )
-told_from (entry ∷ entries) (left ∷ lefts) (has_failed ∷ faileds) (told_stream ∷ streams) told (suc k) stream at =
-    told_from entries lefts faileds streams told.1 k stream at
-told_from [] [] [] (told_stream ∷ streams) told k stream at = absurd told
-told_from [] [] (has_failed ∷ faileds) streams told k stream at = absurd told
-told_from [] (left ∷ lefts) faileds streams told k stream at = absurd told
-told_from (entry ∷ entries) [] faileds streams told k stream at = absurd told
-told_from (entry ∷ entries) (left ∷ lefts) [] streams told k stream at = absurd told
-told_from (entry ∷ entries) (left ∷ lefts) (has_failed ∷ faileds) [] told k stream at = absurd told
-
 pub readers_share : BeginningsCite → ReadersShare
-unfolding TellsBeginning
-readers_share beginnings_cite p set entries lefts faileds streams told keeps s t id citing deleting other member also at yours owns cited deleted =
-    let mine = told_from entries lefts faileds streams told (s - 1) citing at.1 in
-    let theirs = told_from entries lefts faileds streams told (t - 1) deleting yours.1 in
-    let kept = keeps s t id mine.0 theirs.0 other member also (at.0, mine.1) (yours.0, theirs.1) owns in
-    let front = mine.2 kept.0 kept.2 in
-    let behind = theirs.2 kept.1 kept.3 in
+readers_share beginnings_cite p set told streams are_told keeps s t id citing deleting other member also at yours owns cited deleted =
+    let mine = told_from told streams (s - 1) citing are_told at.1 in
+    let theirs = told_from told streams (t - 1) deleting are_told yours.1 in
+    let kept = keeps s t id mine.telling theirs.telling other member also (at.0, mine.at) (yours.0, theirs.at) owns in
+    let front = told_begins mine.telling kept.0 citing mine.is_told kept.2 in
+    let behind = told_begins theirs.telling kept.1 deleting theirs.is_told kept.3 in
     kept.4 (subst (λ (bytes : List ℕ). Cites bytes id) (sym front.1) ((beginnings_cite citing.bytes front.0 id).0 cited))
     (subst (λ (bytes : List ℕ). Deletes bytes id) (sym behind.1) ((beginnings_cite deleting.bytes behind.0 id).1 deleted))

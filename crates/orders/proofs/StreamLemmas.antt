@@ -32,13 +32,13 @@ pub some_end : (stop : Stop) (c : Setting) (bytes : List ℕ) (blocks : List His
     → JudgesTo stop c bytes blocks report → (end : StreamEnd) × JudgesBlocks c bytes end blocks report
 some_end at_end c bytes blocks report judged = (ended, judged)
 some_end at_failure c bytes blocks report judged = (failed, judged)
-some_end early c bytes blocks report judged = (ended, judged.1)
+some_end (early unneeded) c bytes blocks report judged = (ended, judged.1)
 
 reduced_judged : ReducedStream → (stop : Stop) (c : Setting) (bytes : List ℕ) (blocks : List History) (report : Report)
     → JudgesTo stop c bytes blocks report → JudgesTo stop c bytes (map reduced blocks) report
 reduced_judged law at_end c bytes blocks report judged = law c bytes ended blocks report judged
 reduced_judged law at_failure c bytes blocks report judged = law c bytes failed blocks report judged
-reduced_judged law early c bytes blocks report judged =
+reduced_judged law (early unneeded) c bytes blocks report judged =
     (judged.0, law c bytes ended blocks report judged.1, law c bytes failed blocks report judged.2)
 
 module _ (terms : Terms) (set : ℕ → Bool) (h : History) where
@@ -291,6 +291,6 @@ judged_members terms set h s (stream ∷ streams) (report ∷ reports) judged =
     ((λ member. judged.0 refl), judged_members terms set h (s + 1) streams reports judged.1)
 
 pub run_serializable : ClosedOrdered → RunSerializable
-run_serializable closed_ordered f terms h passes entries lefts faileds reports fits count one streams told judged set closed stays =
-    closed_ordered f terms set h streams reports fits (told_count entries lefts faileds streams told ∙ count) one.legal
+run_serializable closed_ordered f terms h passes told reports fits count one streams are_told judged set closed stays =
+    closed_ordered f terms set h streams reports fits (told_count told streams are_told ∙ count) one.legal
     (judged_members terms set h 1 streams reports judged) closed stays

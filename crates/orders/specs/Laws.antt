@@ -1,5 +1,5 @@
 -- Laws of the order of lines. Each is the contract of a function of laws.
-use Rattle.std.specs.Prelude.{◌≡◌, ◌↔◌, ◌++◌, ℕ, Bool, true, IsTrue, List, length, Option}
+use Rattle.std.specs.Prelude.{◌≡◌, ◌↔◌, ◌++◌, ℕ, Bool, true, IsTrue, List, length}
 use Rattle.std.specs.List.{AllByRecursion, list_any}
 use Rattle.lrup_model.specs.Formula.{Cnf}
 use Rattle.lrup_model.specs.Layout.{LayoutValue, Fits, IsStream}
@@ -14,7 +14,7 @@ use Rattle.stream_check.specs.declared.report.Report.{Report}
 use Rattle.stream_check.specs.Setting.{Setting}
 use Rattle.stream_check.specs.Standing.{deleted_by}
 use Rattle.stream_check.specs.Judging.{joined, StreamEnd, JudgesBlocks}
-use Rattle.runs.specs.Streams.{Stream, Block, events_in, Terms, AreTold, IsOrdered}
+use Rattle.runs.specs.Streams.{Stream, Block, events_in, Telling, Terms, AreTold, IsOrdered}
 use Rattle.runs.specs.Headline.{HaveOneHistory, AreJudgedIn}
 use Rattle.runs.specs.Closed.{IsClosed}
 use Rattle.orders.specs.Lines.{IsLineBlock, IsOrder, publishes_within}
@@ -113,17 +113,15 @@ BeginningsCite = (bytes more : List ℕ) (id : ℕ)
 -- So where the streams keep what they share in all bytes that their readers have left at first, they keep it in those that were
 -- needed.
 abbrev pub ReadersShare : Type 0
-ReadersShare = (p : LayoutValue) (set : ℕ → Bool) (entries lefts : List (Option (List ℕ)))
-    (faileds : List Bool) (streams : List Stream)
-    → AreTold entries lefts faileds streams → ReadersKeepShared p set entries
-    → KeepShared p set streams
+ReadersShare = (p : LayoutValue) (set : ℕ → Bool) (told : List Telling) (streams : List Stream)
+    → AreTold told streams → ReadersKeepShared p set told → KeepShared p set streams
 
 -- Runs
 
 -- The lines of a run with threads are serializable.
 abbrev pub RunSerializable : Type 0
 RunSerializable = (f : Cnf) (terms : Terms) (h : History) (passes : List View)
-    (entries lefts : List (Option (List ℕ))) (faileds : List Bool) (reports : List Report)
-    → Fits terms.layout f → length entries ≡ terms.layout.streams
+    (told : List Telling) (reports : List Report)
+    → Fits terms.layout f → length told ≡ terms.layout.streams
     → HaveOneHistory f terms.layout h passes
-    → IsSerializable f terms entries lefts faileds h reports
+    → IsSerializable f terms told h reports

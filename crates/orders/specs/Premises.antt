@@ -1,5 +1,5 @@
 -- What the streams of a set may share, so that their lines have an order (this project's own).
-use Rattle.std.specs.Prelude.{◌≡◌, ◌≢◌, ◌⊎◌, ℕ, Bool, IsTrue, List, [], ◌∷◌, Option, Some}
+use Rattle.std.specs.Prelude.{◌≡◌, ◌≢◌, ◌⊎◌, ℕ, Bool, IsTrue, List, [], ◌∷◌, Some}
 use Rattle.std.specs.List.{AllByRecursion, list_any}
 use Rattle.lrup_model.specs.Formula.{Cnf}
 use Rattle.lrup_model.specs.Layout.{LayoutValue, IsStream, Owns}
@@ -11,7 +11,7 @@ use Rattle.lrup_model.specs.declared.clause_map.Retired.TheVariants as retiring
 use Rattle.lrup_text.specs.Lines.{StreamLine, Cut}
 use Rattle.stream_check.specs.Standing.{is_among, deleted_by}
 use Rattle.stream_check.specs.Laws.{cited_by}
-use Rattle.runs.specs.Streams.{Stream}
+use Rattle.runs.specs.Streams.{Stream, Telling}
 use Rattle.runs.specs.Closed.{IsAt}
 
 -- By what the history leaves
@@ -92,9 +92,10 @@ KeepShared p set streams =
     → Cites citing.bytes id → ¬ Deletes deleting.bytes id
 
 -- So it is in all bytes that the readers of the set's streams have left at first, which are known.
-abbrev pub ReadersKeepShared : LayoutValue → (ℕ → Bool) → List (Option (List ℕ)) → Type 0
-ReadersKeepShared p set entries =
-    (s t id : ℕ) (citing deleting : Option (List ℕ)) → s ≢ t → IsTrue (set s) → IsTrue (set t)
-    → IsAt entries s citing → IsAt entries t deleting → Owns p t id
-    → (bytes : List ℕ) × (others : List ℕ) × (citing ≡ Some bytes) × (deleting ≡ Some others)
+abbrev pub ReadersKeepShared : LayoutValue → (ℕ → Bool) → List Telling → Type 0
+ReadersKeepShared p set told =
+    (s t id : ℕ) (citing deleting : Telling) → s ≢ t → IsTrue (set s) → IsTrue (set t)
+    → IsAt told s citing → IsAt told t deleting → Owns p t id
+    → (bytes : List ℕ) × (others : List ℕ)
+    × (citing.entry ≡ Some bytes) × (deleting.entry ≡ Some others)
     × (Cites bytes id → ¬ Deletes others id)

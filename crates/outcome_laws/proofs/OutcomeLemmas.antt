@@ -1,6 +1,6 @@
 -- Two outcomes of the program.
 use Rattle.std.proofs.Common.{◌≡◌, ◌++◌, ◌-◌, ℕ, Bool, true, false, List, length, map, Option, Some, refl, sym, ap, subst, ◌∙◌}
-use Rattle.std.specs.Prelude.{codes, option_map}
+use Rattle.std.specs.Prelude.{codes, option_map, slice_get}
 use Rattle.std.specs.Fmt.{decimal}
 use Rattle.std.specs.Option.{ForSome}
 use Rattle.std.proofs.lemmas.List.{length-map}
@@ -11,13 +11,14 @@ use Rattle.dimacs.specs.FormulaText.{IsTextOf}
 use Rattle.stream_check.specs.declared.report.Ending.{Ending}
 use Rattle.stream_check.specs.declared.report.Report.{Report}
 use Rattle.runs.specs.Closed.{IsAt}
-use Rattle.runs.specs.Streams.{Terms, StandsOnStreams}
-use Rattle.runs.specs.StreamLemmas.{told_count}
+use Rattle.runs.specs.Streams.{Telling, Terms, StandsOnStreams, tellings}
+use Rattle.runs.specs.StreamLemmas.{told_as_many, told_count, telling_at}
 use Rattle.groups.specs.Groups.{IsRun}
 use Rattle.groups.specs.Laws.{SerialRun}
 use Rattle.portfolio.specs.Outcomes.{OptionsValue, layout_of}
 use Rattle.portfolio.specs.ReportText.{ending_text, stream_line}
-use Rattle.command.specs.Commands.{AreReported, FilesView, IsFormulaAt, Text, layout_at, options_of, terms_given}
+use Rattle.command.specs.Commands.{AreReported, FilesView, IsFormulaAt, IsOutcome, Text, layout_at, options_of, terms_given}
+use Rattle.portfolio.specs.declared.outcome.Verdict.{Verdict}
 use Rattle.outcome_laws.specs.Outcomes.{SayTheSame}
 use Rattle.outcome_laws.specs.Laws.{SameBytesSayTheSame, OutcomesAgree}
 
@@ -25,16 +26,16 @@ use Rattle.outcome_laws.specs.Laws.{SameBytesSayTheSame, OutcomesAgree}
 abbrev OneFormula : Type 0
 OneFormula = (bytes : List ℕ) (one other : Cnf) → IsTextOf bytes one → IsTextOf bytes other → one ≡ other
 
-is_run : SerialRun → (serial : Bool) (f : Cnf) (terms : Terms) (entries lefts : List (Option (List ℕ))) (faileds : List Bool) (reports : List Report)
-    → length entries ≡ terms.layout.streams → StandsOnStreams entries lefts faileds (AreReported serial f terms reports) → IsRun f terms entries lefts faileds reports
-is_run law true f terms entries lefts faileds reports count stands = law f terms entries lefts faileds reports count stands
-is_run law false f terms entries lefts faileds reports count stands = record {
+is_run : SerialRun → (serial : Bool) (f : Cnf) (terms : Terms) (told : List Telling) (reports : List Report)
+    → length told ≡ terms.layout.streams → StandsOnStreams told (AreReported serial f terms reports) → IsRun f terms told reports
+is_run law true f terms told reports count stands = law f terms told reports count stands
+is_run law false f terms told reports count stands = record {
   streams = stands.streams;
-  told = stands.told;
-  count = told_count entries lefts faileds stands.streams stands.told ∙ count;
-  history = stands.judged.0;
-  legal = stands.judged.1;
-  judged = stands.judged.2;
+  are_told = stands.are_told;
+  count = told_count told stands.streams stands.are_told ∙ count;
+  history = stands.judged.1.0;
+  legal = stands.judged.1.1;
+  judged = stands.judged.1.2;
 }
 
 -- the line of a stream doesn't show `within`
@@ -51,10 +52,31 @@ is_text : (R : Type 0) (files : FilesView R) (path : Text) (f : Cnf) (text : Lis
 is_text R files path f text told at =
     subst (λ (x : List ℕ). IsTextOf x f) (sym (text_of (files.tells path) text at.0 told at.1.told)) at.2
 
-entry_at : (tells : Text → Option (List ℕ)) (paths : List Text) (s : ℕ) (path : Text) (whole : List ℕ)
-    → IsAt paths s path → tells path ≡ Some whole → IsAt (map tells paths) s (Some whole)
-entry_at tells paths s path whole at told =
-    (at.0, slice_get-map tells paths (s - 1) ∙ ap (option_map tells) at.1 ∙ ap (λ (x : Option (List ℕ)). Some x) told)
+-- what the readers of an outcome told
+told_in : (R : Type 0) (files : FilesView R) (words : List Text) (reports : List Report) (verdict : Verdict) → IsOutcome R files words reports verdict → List Telling
+told_in R files words reports verdict a = tellings files.reading a.readers a.checked.lasts
+
+-- an outcome's reports are those of a run
+run_of : SerialRun → (R : Type 0) (files : FilesView R) (words : List Text) (reports : List Report) (verdict : Verdict) (a : IsOutcome R files words reports verdict)
+    → IsRun a.formula (terms_given a.given a.cube a.formula) (told_in R files words reports verdict a) reports
+unfolding told_in
+run_of serial R files words reports verdict a =
+    let readers : length a.readers ≡ length a.given.streams =
+    sym (length-map a.readers files.reading.left) ∙ ap length a.left ∙ length-map a.given.streams files.tells in
+    is_run serial a.given.serial a.formula (terms_given a.given a.cube a.formula) (tellings files.reading a.readers a.checked.lasts) reports
+    (told_as_many files.reading a.readers a.checked.lasts a.checked.reported.streams a.checked.read ∙ readers) a.checked.reported
+
+-- what a file tells its reader had left at first
+telling_of_file : (R : Type 0) (files : FilesView R) (words : List Text) (reports : List Report) (verdict : Verdict) (a : IsOutcome R files words reports verdict)
+    (s : ℕ) (path : Text) (whole : List ℕ) → IsAt a.given.streams s path → files.tells path ≡ Some whole
+    → (telling : Telling) × IsAt (told_in R files words reports verdict a) s telling × (telling.entry ≡ Some whole)
+unfolding told_in
+telling_of_file R files words reports verdict a s path whole at told =
+    let entry : slice_get (map files.reading.left a.readers) (s - 1) ≡ Some (Some whole) =
+    ap (λ (es : List (Option (List ℕ))). slice_get es (s - 1)) a.left
+    ∙ slice_get-map files.tells a.given.streams (s - 1) ∙ ap (option_map files.tells) at.1 ∙ ap (λ (x : Option (List ℕ)). Some x) told in
+    let is = telling_at files.reading a.readers a.checked.lasts a.checked.reported.streams a.checked.read (s - 1) (Some whole) entry in
+    (is.0, (at.0, is.1), is.2)
 
 pub outcomes_agree : OneFormula → SerialRun → SameBytesSayTheSame → (R : Type 0) (files : FilesView R) (Q : Type 0) (others : FilesView Q) → OutcomesAgree R files Q others
 outcomes_agree one_formula serial same R files Q others words other_words reports other_reports verdict other_verdict a b s text whole report other
@@ -66,15 +88,14 @@ outcomes_agree one_formula serial same R files Q others words other_words report
     ∙ ap (λ (x : Cnf). layout_of (options_of a.given) x (length b.given.streams)) formulas
     ∙ ap (layout_of (options_of a.given) a.formula) count in
     let fits : Fits (layout_at a.given a.formula) a.formula = record { vars = refl; clauses = refl; literals = refl } in
-    let mine = is_run serial a.given.serial a.formula (terms_given a.given a.cube a.formula) (map files.tells a.given.streams) _ _ reports
-    (length-map a.given.streams files.tells) a.checked.reported in
-    let theirs = is_run serial b.given.serial b.formula (terms_given b.given b.cube b.formula) (map others.tells b.given.streams) _ _ other_reports
-    (length-map b.given.streams others.tells) b.checked.reported in
+    let mine = run_of serial R files words reports verdict a in
+    let theirs = run_of serial Q others other_words other_reports other_verdict b in
+    let here = telling_of_file R files words reports verdict a s on.path whole on.names on.tells in
+    let over = telling_of_file Q others other_words other_reports other_verdict b s there.path whole there.names there.tells in
     same_line s report other
     (same a.formula (terms_given a.given a.cube a.formula) (terms_given b.given b.cube b.formula) s whole
-    (map files.tells a.given.streams) _ (map others.tells b.given.streams) _ _ _ reports other_reports report other
+    (told_in R files words reports verdict a) (told_in Q others other_words other_reports other_verdict b) here.0 over.0 reports other_reports report other
     fits layouts (ap (λ (x : OptionsValue). x.tries) options) cites
-    mine (subst (λ (g : Cnf). IsRun g (terms_given b.given b.cube b.formula) (map others.tells b.given.streams)
-    (map others.reading.left b.checked.readers) (map others.reading.has_failed b.checked.readers) other_reports) formulas theirs)
-    (entry_at files.tells a.given.streams s on.path whole on.names on.tells) (entry_at others.tells b.given.streams s there.path whole there.names there.tells)
+    mine (subst (λ (g : Cnf). IsRun g (terms_given b.given b.cube b.formula) (told_in Q others other_words other_reports other_verdict b) other_reports) formulas theirs)
+    here.1 here.2 over.1 over.2
     on.says there.says on.memory on.failure there.memory there.failure)

@@ -9,7 +9,7 @@ use Rattle.stream_check.specs.Judging.{ended, failed}
 use Rattle.stream_check.specs.Setting.{Setting}
 use Rattle.runs.specs.Closed.{IsAt}
 use Rattle.runs.specs.Headline.{AreJudgedIn}
-use Rattle.runs.specs.Streams.{Stop, at_end, at_failure, early, Stream, JudgesTo, Terms, setting_of}
+use Rattle.runs.specs.Streams.{Stop, at_end, at_failure, early, Stream, Telling, JudgesTo, Terms, setting_of}
 use Rattle.groups.specs.Groups.{IsRun}
 use Rattle.groups.specs.Laws.{SameBytesAgree}
 use Rattle.outcome_laws.specs.Outcomes.{bare_setting, bare_terms, bare_report}
@@ -19,7 +19,7 @@ judges_bare : NoCubeJudgesAlike → (stop : Stop) (c : Setting) (bytes : List �
     → JudgesTo stop c bytes blocks report → JudgesTo stop (bare_setting c) bytes blocks (bare_report report)
 judges_bare law at_end c bytes blocks report j = law c bytes ended blocks report j
 judges_bare law at_failure c bytes blocks report j = law c bytes failed blocks report j
-judges_bare law early c bytes blocks report j = (j.0, law c bytes ended blocks report j.1, law c bytes failed blocks report j.2)
+judges_bare law (early unneeded) c bytes blocks report j = (j.0, law c bytes ended blocks report j.1, law c bytes failed blocks report j.2)
 
 judged_bare : NoCubeJudgesAlike → (terms : Terms) (set : ℕ → Bool) (h : History) (s : ℕ) (streams : List Stream) (reports : List Report)
     → AreJudgedIn terms set h s streams reports → AreJudgedIn (bare_terms terms) set h s streams (map bare_report reports)
@@ -31,11 +31,11 @@ judged_bare law terms set h s (t ∷ ts) (r ∷ rs) judged = (
   judged_bare law terms set h (s + 1) ts rs judged.1,
 )
 
-run_bare : NoCubeJudgesAlike → (f : Cnf) (terms : Terms) (entries lefts : List (Option (List ℕ))) (faileds : List Bool) (reports : List Report)
-    → IsRun f terms entries lefts faileds reports → IsRun f (bare_terms terms) entries lefts faileds (map bare_report reports)
-run_bare law f terms entries lefts faileds reports a = record {
+run_bare : NoCubeJudgesAlike → (f : Cnf) (terms : Terms) (told : List Telling) (reports : List Report)
+    → IsRun f terms told reports → IsRun f (bare_terms terms) told (map bare_report reports)
+run_bare law f terms told reports a = record {
   streams = a.streams;
-  told = a.told;
+  are_told = a.are_told;
   count = a.count;
   history = a.history;
   legal = a.legal;
@@ -51,14 +51,14 @@ same_terms terms other layout tries =
     ∙ ap (λ (n : ℕ). record { layout = terms.layout; cube = []; tries = n }) tries
 
 pub same_bytes_say_the_same : NoCubeJudgesAlike → SameBytesAgree → SameBytesSayTheSame
-same_bytes_say_the_same law agree f terms other_terms s whole entries lefts other_entries other_lefts faileds other_faileds reports other_reports report other
-    fits layout tries cites a b entry there says too memory failure none never =
-    let mine = run_bare law f terms entries lefts faileds reports a in
-    let theirs = subst (λ (t : Terms). IsRun f t other_entries other_lefts other_faileds (map bare_report other_reports))
-    (same_terms terms other_terms layout tries) (run_bare law f other_terms other_entries other_lefts other_faileds other_reports b) in
+same_bytes_say_the_same law agree f terms other_terms s whole told other_told telling other_telling reports other_reports report other
+    fits layout tries cites a b here entry there known says too memory failure none never =
+    let mine = run_bare law f terms told reports a in
+    let theirs = subst (λ (t : Terms). IsRun f t other_told (map bare_report other_reports))
+    (same_terms terms other_terms layout tries) (run_bare law f other_terms other_told other_reports b) in
     let same : bare_report report ≡ bare_report other =
-    agree f (bare_terms terms) s whole entries lefts other_entries other_lefts faileds other_faileds (map bare_report reports) (map bare_report other_reports)
-    (bare_report report) (bare_report other) fits cites mine theirs entry there (at_bare reports s report says) (at_bare other_reports s other too)
+    agree f (bare_terms terms) s whole told other_told telling other_telling (map bare_report reports) (map bare_report other_reports)
+    (bare_report report) (bare_report other) fits cites mine theirs here entry there known (at_bare reports s report says) (at_bare other_reports s other too)
     memory failure none never in
     record {
       added = ap (λ (r : Report). r.added) same;

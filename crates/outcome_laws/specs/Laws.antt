@@ -1,5 +1,5 @@
 -- Laws of outcomes. Each is the contract of a function of laws.
-use Rattle.std.specs.Prelude.{◌≡◌, ◌⊎◌, ℕ, Bool, List, length, Option, Some}
+use Rattle.std.specs.Prelude.{◌≡◌, ◌⊎◌, ℕ, List, length, Some}
 use Rattle.lrup_model.specs.Event.{History}
 use Rattle.lrup_model.specs.Formula.{Cnf}
 use Rattle.lrup_model.specs.Layout.{Fits}
@@ -8,7 +8,7 @@ use Rattle.stream_check.specs.Judging.{StreamEnd, JudgesBlocks}
 use Rattle.stream_check.specs.Laws.{IsOfMemory, IsOfFailure}
 use Rattle.stream_check.specs.Setting.{Setting}
 use Rattle.runs.specs.Closed.{IsAt, CiteWithin}
-use Rattle.runs.specs.Streams.{Terms}
+use Rattle.runs.specs.Streams.{Telling, Terms}
 use Rattle.groups.specs.Groups.{one, IsRun}
 use Rattle.portfolio.specs.ReportText.{stream_line}
 use Rattle.portfolio.specs.declared.outcome.Verdict.{Verdict}
@@ -32,14 +32,13 @@ NoCubeJudgesAlike = (c : Setting) (bytes : List ℕ) (end : StreamEnd) (blocks :
 -- cubes and the other streams are, and whichever runs have threads.
 abbrev pub SameBytesSayTheSame : Type 0
 SameBytesSayTheSame = (f : Cnf) (terms other_terms : Terms) (s : ℕ) (whole : List ℕ)
-    (entries lefts other_entries other_lefts : List (Option (List ℕ)))
-    (faileds other_faileds : List Bool)
+    (told other_told : List Telling) (telling other_telling : Telling)
     (reports other_reports : List Report) (report other_report : Report)
     → Fits terms.layout f → other_terms.layout ≡ terms.layout → other_terms.tries ≡ terms.tries
     → CiteWithin terms.layout (one s) whole
-    → IsRun f terms entries lefts faileds reports
-    → IsRun f other_terms other_entries other_lefts other_faileds other_reports
-    → IsAt entries s (Some whole) → IsAt other_entries s (Some whole)
+    → IsRun f terms told reports → IsRun f other_terms other_told other_reports
+    → IsAt told s telling → telling.entry ≡ Some whole
+    → IsAt other_told s other_telling → other_telling.entry ≡ Some whole
     → IsAt reports s report → IsAt other_reports s other_report
     → ¬ IsOfMemory report → ¬ IsOfFailure report → ¬ IsOfMemory other_report
     → ¬ IsOfFailure other_report

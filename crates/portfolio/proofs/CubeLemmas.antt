@@ -72,7 +72,7 @@ stream_publishes : (c : Setting) (stop : Stop) (bytes : List ℕ) (blocks : List
     → JudgesTo stop c bytes blocks report → IsTrue report.within → IsTrue (list_any (publishes_within c.cube) (joined blocks))
 stream_publishes c at_end bytes blocks report judged is = within_is_published c bytes ended blocks report judged is
 stream_publishes c at_failure bytes blocks report judged is = within_is_published c bytes failed blocks report judged is
-stream_publishes c early bytes blocks report judged is = within_is_published c bytes ended blocks report judged.1 is
+stream_publishes c (early unneeded) bytes blocks report judged is = within_is_published c bytes ended blocks report judged.1 is
 
 -- ---- the formula under the cube
 

@@ -122,7 +122,7 @@ pub stream_publishes : (c : Setting) (stop : Stop) (bytes : List ℕ) (blocks : 
     → JudgesTo stop c bytes blocks report → IsTrue report.empty → IsTrue (list_any publishes_empty (joined blocks))
 stream_publishes c at_end bytes blocks report judged is = empty_is_published c bytes ended blocks report judged is
 stream_publishes c at_failure bytes blocks report judged is = empty_is_published c bytes failed blocks report judged is
-stream_publishes c early bytes blocks report judged is = empty_is_published c bytes ended blocks report judged.1 is
+stream_publishes c (early unneeded) bytes blocks report judged is = empty_is_published c bytes ended blocks report judged.1 is
 
 -- ---- the formula
 

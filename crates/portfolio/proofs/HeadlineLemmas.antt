@@ -28,11 +28,10 @@ use Rattle.portfolio.specs.declared.outcome.Verdict.{Verdict}
 use Rattle.portfolio.specs.declared.outcome.Verdict.TheVariants.{Unsatisfiable, UnsatisfiableUnder, Unknown}
 use Rattle.portfolio.specs.Outcomes.{verdict_of}
 use Rattle.runs.specs.Headline.{HaveCalls, HaveOneHistory, IsJudgedBy, AreJudgedIn, seen_by}
-use Rattle.stream_jobs.specs.Judged.{IsReadOut}
 use Rattle.stream_threads.specs.Jobs.{JobsValue, FoundValue, CanBegin, Finishes, AllFinish, AreJobs}
 use Rattle.lrup_text.specs.ReadOut.{SourceView}
-use Rattle.runs.specs.Readings.{IsRead, AreRead}
-use Rattle.runs.specs.Streams.{Stream, IsTold, AreTold, JudgesStream, StandsOnStreams, Terms, setting_of}
+use Rattle.runs.specs.Readings.{AreRead, IsStreamOf}
+use Rattle.runs.specs.Streams.{Stream, IsReadOut, tellings, AreTold, JudgesStream, StandsOnStreams, Terms, setting_of}
 use Rattle.portfolio.proofs.EmptyLemmas.{sound}
 
 -- ---- the layout
@@ -260,7 +259,7 @@ module _ {S : Type 0} (view : SourceView S) where
   pub record Judged (terms : Terms) (s : ℕ) (firsts : List S) (fs : List (FoundValue S)) (vs : List View) : Type 0 where
     pub streams : List Stream
     pub out : AllByRecursion IsReadOut streams
-    pub told : AreTold (map view.left firsts) (map view.left (map (λ x. x.reader) fs)) (map view.has_failed (map (λ x. x.reader) fs)) streams
+    pub told : AreTold (tellings view firsts (map (λ x. x.reader) fs)) streams
     pub judged : AreJudgedBy terms s streams vs (map (λ x. x.report) fs)
     pub read : AreRead S view.reads firsts (map (λ x. x.reader) fs) streams
 
@@ -278,31 +277,30 @@ module _ {S : Type 0} (view : SourceView S) where
       let here = ready.0 in
       let fresh = subst (λ (n : ℕ). Leaves j.checker.setting [] [] (state_of j.checker n)) (opened_room f terms.layout store s j.pass same here.opened) here.checker.left in
       let one = all.0.judged fresh in
-      let told = subst (λ (r : S). IsTold (view.left r) (view.left x.reader) (view.has_failed x.reader) one.0) here.reader_is one.2 in
-      let read = subst (λ (r : S). IsRead S view.reads r x.reader one.0) here.reader_is one.3 in
+      let of = subst (λ (r : S). IsStreamOf view r x.reader one.0) here.reader_is one.2 in
       let calls = (ends f terms.layout store s j x v same here.opened all.0 met.0 met.1).mine in
-      let judged = subst (λ (c : Setting). JudgesStream c one.0 all.0.blocks x.report) here.checker.setting one.4 in
+      let judged = subst (λ (c : Setting). JudgesStream c one.0 all.0.blocks x.report) here.checker.setting one.3 in
       let more = judged_by f terms store same (s + 1) es js fs vs ready.1 all.1 met.2 in
       record {
         streams = one.0 ∷ more.streams;
         out = (one.1, more.out);
-        told = (told, more.told);
+        told = (of.0, more.told);
         judged = ((all.0.blocks, calls, judged), more.judged);
-        read = (read, more.read);
+        read = (of.1, more.read);
       }
 
   -- the same in the words of the lists that are given back, and of the one history
   pub judged_so : (f : Cnf) (terms wanted : Terms) (firsts lasts : List S) (reports : List Report) (fs : List (FoundValue S)) (vs : List View)
       → Judged terms 1 firsts fs vs → terms ≡ wanted → HaveOneHistory f wanted.layout (seen_by vs) vs
       → lasts ≡ map (λ x. x.reader) fs → reports ≡ map (λ x. x.report) fs
-      → StandsOnStreams (map view.left firsts) (map view.left lasts) (map view.has_failed lasts)
+      → StandsOnStreams (tellings view firsts lasts)
       (λ streams. AllByRecursion IsReadOut streams × AreJudgedIn wanted (λ s. true) (seen_by vs) 1 streams reports × AreRead S view.reads firsts lasts streams)
   judged_so f terms wanted firsts lasts reports fs vs j same one readers said =
       let judged : AreJudgedBy wanted 1 j.streams vs (map (λ x. x.report) fs) =
       subst (λ (t : Terms). AreJudgedBy t 1 j.streams vs (map (λ x. x.report) fs)) same j.judged in
       record {
         streams = j.streams;
-        told = subst (λ (ls : List S). AreTold (map view.left firsts) (map view.left ls) (map view.has_failed ls) j.streams) (sym readers) j.told;
+        are_told = subst (λ (ls : List S). AreTold (tellings view firsts ls) j.streams) (sym readers) j.told;
         judged = (
           j.out,
           rw said (judged_in f wanted (seen_by vs) 1 j.streams vs (map (λ x. x.report) fs) judged one.calls),

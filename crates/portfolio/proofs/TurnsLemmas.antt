@@ -28,8 +28,8 @@ use Rattle.portfolio.proofs.EmptyLemmas.{sound_in_order}
 use Rattle.portfolio.proofs.WorkingLemmas.{not_over}
 use Rattle.portfolio.specs.Outcomes.{OptionsValue, layout_of}
 use Rattle.lrup_text.specs.ReadOut.{SourceView}
-use Rattle.runs.specs.Readings.{IsRead, AreRead}
-use Rattle.runs.specs.Streams.{Stream, IsTold, AreTold, JudgesStream, Block, blocks_of, events_in, IsBlockWithin, setting_of, AreJudged, IsOrdered, StandsOnStreams, Terms, terms_at}
+use Rattle.runs.specs.Readings.{AreRead, IsStreamOf}
+use Rattle.runs.specs.Streams.{Stream, tellings, AreTold, JudgesStream, Block, blocks_of, events_in, IsBlockWithin, setting_of, AreJudged, IsOrdered, StandsOnStreams, Terms, terms_at}
 use Rattle.portfolio.specs.Working.{WorkerValue, WorksBy, Works, WorksOn, IsStarted}
 use Rattle.portfolio.specs.Turns.{HasRun, IsWorking, AreWorking, Runs, IsRunning, GoesOn, IsOver, AreOver, IsOverAt, AreStarted, HaveReports}
 
@@ -363,13 +363,13 @@ module _ {S : Type 0} (view : SourceView S) where
 
   -- a worker that is over tells of its stream
   told_over : (o : Option Ending) (ending : Ending) (first : S) (w : WorkerValue S) (free : ℕ) (blocks : List History) → o ≡ Some ending → WorksBy view o first w free blocks
-      → (stream : Stream) × IsTold (view.left first) (view.left w.reader) (view.has_failed w.reader) stream × IsRead S view.reads first w.reader stream × JudgesStream w.checker.setting stream blocks (report_at w.checker.tally ending)
+      → (stream : Stream) × IsStreamOf view first w.reader stream × JudgesStream w.checker.setting stream blocks (report_at w.checker.tally ending)
   told_over o ending first w free blocks is works = let at : WorksBy view (Some ending) first w free blocks = subst (λ e. WorksBy view e first w free blocks) is works in at
 
   -- each stream is what its reader told, and is judged by its blocks
   pub streams_over : (terms : Terms) (blocks : List Block) (m : Plain) (k : ℕ) (firsts : List S) (ws : List (WorkerValue S)) (reports : List Report)
       → AreWorking view terms blocks m k firsts ws → HaveReports ws reports
-      → (streams : List Stream) × AreTold (map view.left firsts) (map view.left (map (λ w. w.reader) ws)) (map view.has_failed (map (λ w. w.reader) ws)) streams × AreRead S view.reads firsts (map (λ w. w.reader) ws) streams × AreJudged terms (λ s. true) blocks k streams reports
+      → (streams : List Stream) × AreTold (tellings view firsts (map (λ w. w.reader) ws)) streams × AreRead S view.reads firsts (map (λ w. w.reader) ws) streams × AreJudged terms (λ s. true) blocks k streams reports
   streams_over terms blocks m k [] [] [] working have = ([], tt, tt, tt)
   streams_over terms blocks m k [] [] (r ∷ reports) working have = absurd have
   streams_over terms blocks m k [] (w ∷ ws) reports working have = absurd working
@@ -380,12 +380,12 @@ module _ {S : Type 0} (view : SourceView S) where
       let told = told_over w.checker.ending have.0.0 first w (free_at m k) (blocks_of k blocks) have.0.1 working.0.works in
       let judged : JudgesStream (setting_of terms k) told.0 (blocks_of k blocks) r =
       subst (λ (c : Setting). JudgesStream c told.0 (blocks_of k blocks) r) working.0.setting
-      (subst (λ (x : Report). JudgesStream w.checker.setting told.0 (blocks_of k blocks) x) (sym have.0.2) told.3) in
-      (told.0 ∷ others.0, (told.1, others.1), (told.2, others.2), (λ all. judged, others.3))
+      (subst (λ (x : Report). JudgesStream w.checker.setting told.0 (blocks_of k blocks) x) (sym have.0.2) told.2) in
+      (told.0 ∷ others.0, (told.1.0, others.1), (told.1.1, others.2), (λ all. judged, others.3))
 
   -- the reports have an order of lines
   pub ordered_over : (f : Cnf) (terms : Terms) (firsts : List S) (m : Plain) (ws : List (WorkerValue S)) (reports : List Report) → Runs view f terms firsts m ws → HaveReports ws reports
-      → (streams : List Stream) × AreTold (map view.left firsts) (map view.left (map (λ w. w.reader) ws)) (map view.has_failed (map (λ w. w.reader) ws)) streams × AreRead S view.reads firsts (map (λ w. w.reader) ws) streams × IsOrdered f terms (λ s. true) streams reports
+      → (streams : List Stream) × AreTold (tellings view firsts (map (λ w. w.reader) ws)) streams × AreRead S view.reads firsts (map (λ w. w.reader) ws) streams × IsOrdered f terms (λ s. true) streams reports
   ordered_over f terms firsts m ws reports runs have =
       let streams = streams_over terms runs.blocks m 1 firsts ws reports runs.workers_are have in (
         streams.0,
@@ -419,7 +419,7 @@ sound_over f terms streams reports ordered some = sound_among f terms ordered.bl
 pub run_ordered : {S : Type 0} (view : SourceView S) (f : Cnf) (p : LayoutValue) (cube : CubeValue) (tries : ℕ) (wanted : Terms) (firsts lasts : List S) (m n : Plain) (us vs ws xs : List (WorkerValue S)) (reports : List Report)
     → IsOpened f p m → terms_at p cube tries ≡ wanted → length firsts ≡ p.streams → AreStarted view (terms_at p cube tries) 1 firsts us
     → vs ≡ us → GoesOn view m vs n ws → xs ≡ ws → HaveReports xs reports → lasts ≡ map (λ w. w.reader) xs
-    → StandsOnStreams (map view.left firsts) (map view.left lasts) (map view.has_failed lasts)
+    → StandsOnStreams (tellings view firsts lasts)
     (λ streams. IsOrdered f wanted (λ s. true) streams reports × AreRead S view.reads firsts lasts streams)
 run_ordered {S} view f p cube tries wanted firsts lasts m n us vs ws xs reports opened same count started same_start goes same_end have readers =
     let terms = terms_at p cube tries in
@@ -428,7 +428,7 @@ run_ordered {S} view f p cube tries wanted firsts lasts m n us vs ws xs reports 
     let ordered = ordered_over view f terms firsts n xs reports ended have in
     record {
       streams = ordered.0;
-      told = subst (λ (ls : List S). AreTold (map view.left firsts) (map view.left ls) (map view.has_failed ls) ordered.0) (sym readers) ordered.1;
+      are_told = subst (λ (ls : List S). AreTold (tellings view firsts ls) ordered.0) (sym readers) ordered.1;
       judged = (
         subst (λ (t : Terms). IsOrdered f t (λ s. true) ordered.0 reports) same ordered.3,
         subst (λ (ls : List S). AreRead S view.reads firsts ls ordered.0) (sym readers) ordered.2,

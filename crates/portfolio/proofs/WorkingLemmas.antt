@@ -19,7 +19,7 @@ use Rattle.lrup_text.specs.ReadLemmas.{gave_more}
 use Rattle.lrup_text.specs.ReadOut.{SourceView}
 use Rattle.lrup_text.specs.Reads.{Gave}
 use Rattle.runs.specs.Readings.{IsReadTo}
-use Rattle.runs.specs.Streams.{Stop, early, StopsSo, StopsReading, JudgesTo}
+use Rattle.runs.specs.Streams.{Stop, early, read_to, StopsSo, StopsReading, JudgesTo}
 use Rattle.portfolio.specs.Working.{WorkerValue, WorksBy, Works, WorksOn}
 
 -- ---- going on
@@ -90,11 +90,11 @@ module _ {S : Type 0} (view : SourceView S) where
   -- the end, or a read that failed
   pub works_over : (stop : Stop) (end : StreamEnd) (old new : S) (unread rest : List ℕ) (v u : CheckerValue) (room : ℕ)
       → ((c : Setting) (bytes : List ℕ) (blocks : List History) (report : Report) → JudgesBlocks c bytes end blocks report → JudgesTo stop c bytes blocks report)
-      → StopsSo stop [] (view.left new) (view.has_failed new)
+      → ((bytes : List ℕ) → read_to stop bytes ≡ bytes) → StopsSo stop (view.left new) (view.has_failed new)
       → ((first : S) (bytes : List ℕ) → Gave S view.reads first bytes old → IsReadTo S view.reads stop first bytes new)
       → Consumes (view.left old) (view.left new) [] → unread ≡ [] → v.ending ≡ None → Ends end v u → ReportsEnd end v u
       → WorksOn view (worker_of old unread v) room [] (worker_of new rest u) room
-  works_over stop end old new unread rest v u room judges stops reads told none going ends reports first before works =
+  works_over stop end old new unread rest v u room judges needed stops reads told none going ends reports first before works =
       let here = subst (λ e. WorksBy view e first (worker_of old unread v) room before) going works in
       let all : here.0 ++ unread ≡ here.0 = ap (λ (t : List ℕ). here.0 ++ t) none ∙ append-nil here.0 in
       let given : Consumes (view.left first) (view.left old) here.0 = subst (Consumes (view.left first) (view.left old)) all here.1 in
@@ -105,8 +105,14 @@ module _ {S : Type 0} (view : SourceView S) where
       subst (λ e. WorksBy view e first (worker_of new rest u) room (before ++ [])) (sym judged.1)
       (subst (λ (bs : List History). WorksBy view (Some judged.0) first (worker_of new rest u) room bs) (sym (append-nil before)) (
         record { bytes = here.0; stop = stop },
-        record { more = []; consumes = Consumes-trans (view.left first) (view.left old) (view.left new) here.0 [] given told; stops = stops },
-        reads first here.0 gave,
+        (
+          record {
+            consumes = subst (Consumes (view.left first) (view.left new)) (append-nil here.0 ∙ sym (needed here.0))
+                (Consumes-trans (view.left first) (view.left old) (view.left new) here.0 [] given told);
+            stops = stops;
+          },
+          reads first here.0 gave,
+        ),
         subst (λ (c : Setting). JudgesTo stop c here.0 before report) (sym same) (judges v.setting here.0 before report judged.2),
       ))
 
@@ -118,9 +124,8 @@ module _ {S : Type 0} (view : SourceView S) where
   works_at None first reader bytes rest v room blocks is running given gave leaves =
       (bytes, given, gave, subst (λ e. Leaves v.setting bytes blocks (state_by v room e)) (sym is) leaves)
   works_at (Some ending) first reader bytes rest v room blocks is running given gave leaves = (
-    record { bytes = bytes; stop = early },
-    record { more = rest; consumes = given; stops = running },
-    (rest, gave),
+    record { bytes = bytes; stop = early rest },
+    (record { consumes = given; stops = running }, gave),
     (stops_reading v.setting bytes blocks (report_at v.tally ending) ending refl leaves.0 leaves.1, leaves.0, leaves.1),
   )
 

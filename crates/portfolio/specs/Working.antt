@@ -8,8 +8,8 @@ use Rattle.stream_check.specs.Checker.{state_of, report_at}
 use Rattle.stream_check.specs.Leaving.{Leaves}
 use Rattle.lrup_text.specs.ReadOut.{SourceView}
 use Rattle.lrup_text.specs.Reads.{Gave}
-use Rattle.runs.specs.Readings.{IsRead}
-use Rattle.runs.specs.Streams.{Stream, IsTold, JudgesStream, Terms, setting_of}
+use Rattle.runs.specs.Readings.{IsStreamOf}
+use Rattle.runs.specs.Streams.{Stream, JudgesStream, Terms, setting_of}
 
 -- the reader, the bytes read and not checked yet, and the checker
 pub record WorkerValue (S : Type 0) : Type 0 where
@@ -24,9 +24,7 @@ WorksBy {S} view None first w free blocks =
     × Gave S view.reads first (bytes ++ w.unread) w.reader
     × Leaves w.checker.setting bytes blocks (state_of w.checker free)
 WorksBy {S} view (Some ending) first w free blocks =
-    (stream : Stream)
-    × IsTold (view.left first) (view.left w.reader) (view.has_failed w.reader) stream
-    × IsRead S view.reads first w.reader stream
+    (stream : Stream) × IsStreamOf view first w.reader stream
     × JudgesStream w.checker.setting stream blocks (report_at w.checker.tally ending)
 
 -- What the worker's stream has come to by these blocks of events, where its reader was the first before any read and so much room

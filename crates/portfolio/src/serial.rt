@@ -12,7 +12,7 @@ ghost use Rattle.groups.specs.Groups.{AreIsolated};
 ghost use Rattle.portfolio.specs.Outcomes.{IsLayoutFault, layout_of, max_tries, terms_of, verdict_of};
 ghost use Rattle.lrup_text.specs.ReadOut.{source_view};
 ghost use Rattle.runs.specs.Readings.{AreRead};
-ghost use Rattle.runs.specs.Streams.{IsOrdered, StandsOnStreams, terms_at};
+ghost use Rattle.runs.specs.Streams.{IsOrdered, StandsOnStreams, tellings, terms_at};
 ghost use Rattle.portfolio.specs.Turns.{AreOver, AreStarted, GoesOn, HaveReports, IsOverAt, IsRunning};
 ghost use Rattle.portfolio.specs.Working.{WorksOn};
 
@@ -49,15 +49,15 @@ pub fn run_serial<W: Wait, R: Source + Drop, G: Gate + Drop>(
     // Each stream is what its reader told, and what the reader's reads gave, and the reports have an
     // order of lines.
     ensures ordered { let terms = terms_of options cube.now formula.now (length readers.items) in
-        IfOk result (λ outcome. StandsOnStreams (map R.left readers.items)
-        (map R.left outcome.readers.items) (map R.has_failed outcome.readers.items)
+        IfOk result (λ outcome. StandsOnStreams
+        (tellings (source_view R.left R.has_failed R.reads) readers.items outcome.readers.items)
         (λ streams. IsOrdered formula.now terms (λ s. true) streams outcome.reports.items
         × AreRead _ R.reads readers.items outcome.readers.items streams)) }
     // Groups of streams are isolated: the reports of a closed set of streams, where none tells that
     // memory ran out, are such as the set alone may have.
     ensures isolated { let terms = terms_of options cube.now formula.now (length readers.items) in
-        IfOk result (λ outcome. AreIsolated formula.now terms (map R.left readers.items)
-        (map R.left outcome.readers.items) (map R.has_failed outcome.readers.items)
+        IfOk result (λ outcome. AreIsolated formula.now terms
+        (tellings (source_view R.left R.has_failed R.reads) readers.items outcome.readers.items)
         (λ streams. IsOrdered formula.now terms (λ s. true) streams outcome.reports.items)
         outcome.reports.items) }
     ensures verdict { IfOk result (λ outcome.

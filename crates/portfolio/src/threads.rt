@@ -6,11 +6,11 @@ ghost use Rattle.lrup_model.specs.Entailment.{IsUnsatisfiable};
 ghost use Rattle.lrup_model.specs.Layout.{IsStream};
 ghost use Rattle.lrup_model.specs.Pass.{AreMet};
 ghost use Rattle.clause_store.specs.Passes.{AreOf, HaveMet, store_of, views};
+ghost use Rattle.lrup_text.specs.ReadOut.{source_view};
 ghost use Rattle.runs.specs.Readings.{AreRead};
 ghost use Rattle.runs.specs.Headline.{AreJudgedIn, HaveOneHistory, seen_by};
 ghost use Rattle.portfolio.specs.Outcomes.{IsLayoutFault, layout_of, terms_of, verdict_of};
-ghost use Rattle.runs.specs.Streams.{StandsOnStreams};
-ghost use Rattle.stream_jobs.specs.Judged.{IsReadOut};
+ghost use Rattle.runs.specs.Streams.{IsReadOut, StandsOnStreams, tellings};
 ghost use Rattle.groups.specs.Groups.{AreIsolated};
 ghost use Rattle.orders.specs.Serializable.{IsSerializable};
 
@@ -55,8 +55,8 @@ pub fn run<T: Threads + Wait + Sync, R: Source + Send + Drop, G: Gate + Send + D
     // Each stream is what its reader told, and what the reader's reads gave, to its end or to the read
     // that failed, and its report is the judgement of its bytes and its events of that history.
     ensures reports { let terms = terms_of options cube.now formula.now (length readers.items) in
-        IfOk result (λ outcome. StandsOnStreams (map R.left readers.items)
-        (map R.left outcome.readers.items) (map R.has_failed outcome.readers.items)
+        IfOk result (λ outcome. StandsOnStreams
+        (tellings (source_view R.left R.has_failed R.reads) readers.items outcome.readers.items)
         (λ streams. AllByRecursion IsReadOut streams
         × AreJudgedIn terms (λ s. true) (seen_by (views outcome.passes.items)) 1
         streams outcome.reports.items
@@ -64,16 +64,16 @@ pub fn run<T: Threads + Wait + Sync, R: Source + Send + Drop, G: Gate + Send + D
     // Groups of streams are isolated: the reports of a closed set of streams, where none tells that
     // memory ran out, are such as the set alone may have.
     ensures isolated { let terms = terms_of options cube.now formula.now (length readers.items) in
-        IfOk result (λ outcome. AreIsolated formula.now terms (map R.left readers.items)
-        (map R.left outcome.readers.items) (map R.has_failed outcome.readers.items)
+        IfOk result (λ outcome. AreIsolated formula.now terms
+        (tellings (source_view R.left R.has_failed R.reads) readers.items outcome.readers.items)
         (λ streams. AreJudgedIn terms (λ s. true) (seen_by (views outcome.passes.items)) 1
         streams outcome.reports.items) outcome.reports.items) }
     // The lines are serializable: those of each closed set of streams have an order, where what
     // they found live of one another isn't left retired.
     ensures serializable { let terms = terms_of options cube.now formula.now
         (length readers.items) in
-        IfOk result (λ outcome. IsSerializable formula.now terms (map R.left readers.items)
-        (map R.left outcome.readers.items) (map R.has_failed outcome.readers.items)
+        IfOk result (λ outcome. IsSerializable formula.now terms
+        (tellings (source_view R.left R.has_failed R.reads) readers.items outcome.readers.items)
         (seen_by (views outcome.passes.items)) outcome.reports.items) }
     ensures verdict { IfOk result (λ outcome.
         outcome.verdict ≡ verdict_of outcome.reports.items) }

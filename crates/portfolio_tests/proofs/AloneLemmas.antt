@@ -1,5 +1,5 @@
 -- One stream of a run, by the contract of the run alone.
-use Rattle.std.proofs.Common.{◌≡◌, ◌≤◌, ◌<◌, ◌^◌, ℕ, ℤ, zero, suc, ◌+◌, ◌-◌, Bool, true, false, Option, List, [], ◌∷◌, ◌++◌, length, Some, None, pos, negsuc, refl, sym, ap, subst, ◌∙◌, inl, inr, arith}
+use Rattle.std.proofs.Common.{◌≡◌, ◌≤◌, ◌<◌, ◌^◌, ℕ, ℤ, zero, suc, ◌+◌, ◌-◌, Bool, true, false, Option, List, [], ◌∷◌, ◌++◌, length, map, Some, None, pos, negsuc, refl, sym, ap, subst, ◌∙◌, inl, inr, arith}
 use Rattle.std.specs.Fmt.{digits}
 use Rattle.std.proofs.lemmas.Bool.Decides.{eqb_tells}
 use Rattle.std.specs.Prelude.{IsTrue, slice_get, codes, ◌==◌, Result, Ok, Err, IfOk}
@@ -17,7 +17,9 @@ use Rattle.lrup_model.specs.Cube.{CubeValue}
 use Rattle.lrup_model.specs.Formula.{Cnf}
 use Rattle.portfolio.specs.Outcomes.{OptionsValue, terms_of}
 use Rattle.runs.specs.StreamLemmas.{same_at}
-use Rattle.runs.specs.Streams.{Stream, AreTold}
+use Rattle.lrup_text.specs.ReadOut.{SourceView}
+use Rattle.runs.specs.Readings.{AreRead}
+use Rattle.runs.specs.Streams.{Stream, Telling, telling_of, tellings, AreTold}
 use Rattle.runs.specs.Closed.{IsAt, IsWithin, CiteWithin}
 use Rattle.groups.specs.Groups.{one, AreIsolated}
 use Rattle.groups.specs.Laws.{ReadersClosed, ToldIsReading, AloneHasOneReport}
@@ -29,43 +31,64 @@ use Rattle.portfolio_tests.specs.Alone.{first_bytes, usual, two_streams, two_ter
 only_one : (s : ℕ) → IsTrue (one 1 s) → s ≡ 1
 only_one s member = elim (eqb_tells s 1) [ inl same ↦ same.1 | inr other ↦ absurd (let no : true ≡ false = sym member ∙ other.0 in cc) ]
 
--- where a reader comes first, so does a stream
-first_told : (entries lefts : List (Option (List ℕ))) (faileds : List Bool) (streams : List Stream) (entry : Option (List ℕ))
-    → AreTold entries lefts faileds streams → IsAt entries 1 entry → (stream : Stream) × IsAt streams 1 stream
-first_told [] [] [] [] entry told at = absurd (let none : None ≡ Some entry = at.1 in cc)
-first_told (e ∷ es) (l ∷ ls) (x ∷ xs) (t ∷ ts) entry told at = (t, (omega arith, refl))
-first_told _ _ _ _ entry told at = absurd told
+-- the first stream, and what its reader told, which hasn't failed
+record IsFirst (told : List Telling) (streams : List Stream) (bytes : List ℕ) : Type 0 where
+  stream : Stream
+  at : IsAt streams 1 stream
+  telling : Telling
+  telling_at : IsAt told 1 telling
+  entry : telling.entry ≡ Some bytes
+  running : telling.has_failed ≡ false
+
+first_told : {S : Type 0} (view : SourceView S) (firsts lasts : List S) (streams : List Stream) (bytes : List ℕ)
+    → AreRead S view.reads firsts lasts streams → IsAt (map view.left firsts) 1 (Some bytes) → IsAt (map view.has_failed lasts) 1 false
+    → IsFirst (tellings view firsts lasts) streams bytes
+first_told view [] [] [] bytes read entry fine = absurd (let none : None ≡ Some (Some bytes) = entry.1 in cc)
+first_told view (first ∷ firsts) (last ∷ lasts) (stream ∷ streams) bytes read entry fine = record {
+  stream = stream;
+  at = (omega arith, refl);
+  telling = telling_of view first last;
+  telling_at = (omega arith, refl);
+  entry = let same : Some (view.left first) ≡ Some (Some bytes) = entry.1 in cc;
+  running = let same : Some (view.has_failed last) ≡ Some false = fine.1 in cc;
+}
+first_told view _ _ _ bytes read entry fine = absurd read
 
 -- the terms of such a run are those of two streams over the four clauses
-pub of_two : (options : OptionsValue) (cube : CubeValue) (f : Cnf) (count : ℕ) (entries lefts : List (Option (List ℕ))) (faileds : List Bool)
+pub of_two : (options : OptionsValue) (cube : CubeValue) (f : Cnf) (count : ℕ) (told : List Telling)
     (Judged : List Stream → Type 0) (reports : List Report)
     → options ≡ usual → cube ≡ [] → f ≡ four → count ≡ 2
-    → AreIsolated f (terms_of options cube f count) entries lefts faileds Judged reports → AreIsolated four two_terms entries lefts faileds Judged reports
-of_two options cube f count entries lefts faileds Judged reports same none formula two isolated =
-    subst (λ n. AreIsolated four (terms_of usual [] four n) entries lefts faileds Judged reports) two
-    (subst (λ g. AreIsolated g (terms_of usual [] g count) entries lefts faileds Judged reports) formula
-    (subst (λ k. AreIsolated f (terms_of usual k f count) entries lefts faileds Judged reports) none
-    (subst (λ o. AreIsolated f (terms_of o cube f count) entries lefts faileds Judged reports) same isolated)))
+    → AreIsolated f (terms_of options cube f count) told Judged reports → AreIsolated four two_terms told Judged reports
+of_two options cube f count told Judged reports same none formula two isolated =
+    subst (λ n. AreIsolated four (terms_of usual [] four n) told Judged reports) two
+    (subst (λ g. AreIsolated g (terms_of usual [] g count) told Judged reports) formula
+    (subst (λ k. AreIsolated f (terms_of usual k f count) told Judged reports) none
+    (subst (λ o. AreIsolated f (terms_of o cube f count) told Judged reports) same isolated)))
 
 -- A report of stream 1 is one that it may have alone, where the reports of the run are isolated.
-pub report_alone : ReadersClosed → ToldIsReading → (bytes : List ℕ) (entries lefts : List (Option (List ℕ))) (faileds : List Bool)
+pub report_alone : ReadersClosed → ToldIsReading → {S : Type 0} (view : SourceView S) (firsts lasts : List S) (bytes : List ℕ)
     (Judged : List Stream → Type 0) (reports : List Report) (report : Report) (streams : List Stream)
-    → AreIsolated four two_terms entries lefts faileds Judged reports → AreTold entries lefts faileds streams → Judged streams
+    → AreIsolated four two_terms (tellings view firsts lasts) Judged reports
+    → AreTold (tellings view firsts lasts) streams → AreRead S view.reads firsts lasts streams → Judged streams
     → CiteWithin two_streams (one 1) bytes
-    → IsAt entries 1 (Some bytes) → IsAt faileds 1 false → IsAt reports 1 report → ¬ IsOfMemory report → IsReportAlone bytes report
-report_alone closes reads bytes entries lefts faileds Judged reports report streams isolated told judged cites entry fine says memory =
-    let stream = first_told entries lefts faileds streams (Some bytes) told entry in
+    → IsAt (map view.left firsts) 1 (Some bytes) → IsAt (map view.has_failed lasts) 1 false
+    → IsAt reports 1 report → ¬ IsOfMemory report → IsReportAlone bytes report
+report_alone closes reads view firsts lasts bytes Judged reports report streams isolated told read judged cites entry fine says memory =
+    let tells = tellings view firsts lasts in
+    let first = first_told view firsts lasts streams bytes read entry fine in
     record {
       streams = streams;
       reports = reports;
-      stream = stream.0;
+      stream = first.stream;
       alone = isolated streams told judged (one 1)
-          (closes two_streams (one 1) entries lefts faileds streams told
-          (λ s other member at. (bytes, same_at entries 1 other (Some bytes) (subst (λ n. IsAt entries n other) (only_one s member) at) entry, cites)))
+          (closes two_streams (one 1) tells streams told
+          (λ s other member at.
+          let same = same_at tells 1 other first.telling (subst (λ n. IsAt tells n other) (only_one s member) at) first.telling_at in
+          (bytes, ap (λ (t : Telling). t.entry) same ∙ first.entry, cites)))
           (λ s other member at. subst (λ r. ¬ IsOfMemory r)
           (same_at reports 1 report other says (subst (λ n. IsAt reports n other) (only_one s member) at)) memory);
-      at = stream.1;
-      reads = reads entries lefts faileds streams 1 bytes stream.0 told entry fine stream.1;
+      at = first.at;
+      reads = reads tells streams 1 first.telling first.stream bytes told first.telling_at first.at first.entry first.running;
       says = says;
     }
 

@@ -1,21 +1,26 @@
 -- Which reads gave a run's streams (this project's own).
 use Rattle.std.specs.Prelude.{◌++◌, ℕ, true, false, List, [], ◌∷◌}
-use Rattle.lrup_text.specs.ReadOut.{ReadOut}
+use Rattle.lrup_text.specs.ReadOut.{ReadOut, SourceView}
 use Rattle.lrup_text.specs.Reads.{Gave, ReadsOf}
-use Rattle.runs.specs.Streams.{Stop, at_end, at_failure, early, Stream}
+use Rattle.runs.specs.Streams.{Stop, at_end, at_failure, early, Stream, IsTold, telling_of}
 
 -- Reads of a reader gave these bytes: all that it gave up to its first end, or to a read that failed; or, of one that was stopped
--- early, a beginning of what it gave.
+-- early, all that it gave but for what wasn't needed.
 abbrev pub IsReadTo : (S : Type 0) → ReadsOf S → Stop → S → List ℕ → S → Type 0
 IsReadTo S reads at_end first bytes last = ReadOut S reads false first bytes last
 IsReadTo S reads at_failure first bytes last = ReadOut S reads true first bytes last
-IsReadTo S reads early first bytes last = (more : List ℕ) × Gave S reads first (bytes ++ more) last
+IsReadTo S reads (early unneeded) first bytes last = Gave S reads first (bytes ++ unneeded) last
 
 -- the stream is what reads of a reader gave, from the first on
 abbrev pub IsRead : (S : Type 0) → ReadsOf S → S → S → Stream → Type 0
 IsRead S reads first last stream = IsReadTo S reads stream.stop first stream.bytes last
 
--- so it is with each stream: the readers before their first reads, and after their last
+-- the stream is what a reader told, and what its reads gave
+abbrev pub IsStreamOf : {S : Type 0} → SourceView S → S → S → Stream → Type 0
+IsStreamOf {S} view first last stream =
+    IsTold (telling_of view first last) stream × IsRead S view.reads first last stream
+
+-- each stream is what reads of its reader gave: the readers before their first reads, and after their last
 abbrev pub AreRead : (S : Type 0) → ReadsOf S → List S → List S → List Stream → Type 0
 AreRead S reads [] [] [] = Unit {0}
 AreRead S reads (first ∷ firsts) (last ∷ lasts) (stream ∷ streams) =

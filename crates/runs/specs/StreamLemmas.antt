@@ -1,19 +1,83 @@
 -- Lemmas on the streams of a run, on places in lists of them, and on the blocks of one stream.
-use Rattle.std.proofs.Common.{◌≡◌, ◌∙◌, ℕ, suc, Bool, List, [], ◌∷◌, Option, Some, length, eqb, refl, sym, ap, eq-eqb, ne_eqb}
+use Rattle.std.proofs.Common.{◌≡◌, ◌∙◌, ◌++◌, ℕ, zero, suc, List, [], ◌∷◌, Option, Some, None, length, map, eqb, refl, sym, ap, subst, append_assoc, append-nil, eq-eqb, ne_eqb}
+use Rattle.std.specs.Prelude.{slice_get}
+use Rattle.std.specs.Io.KnownBytes.{Consumes}
 use Rattle.std.proofs.lemmas.Bool.{cond-true, cond-false}
+use Rattle.lrup_text.specs.ReadOut.{SourceView}
 use Rattle.runs.specs.Closed.{IsAt}
-use Rattle.runs.specs.Streams.{Stream, AreTold, Block, blocks_of}
+use Rattle.runs.specs.Readings.{AreRead}
+use Rattle.runs.specs.Streams.{Stop, at_end, at_failure, early, Stream, Telling, read_to, telling_of, tellings, IsTold, AreTold, Block, blocks_of}
 
 -- at one place stands one thing
 pub same_at : {X : Type 0} (xs : List X) (s : ℕ) (x y : X) → IsAt xs s x → IsAt xs s y → x ≡ y
 same_at xs s x y a b = let e : Some x ≡ Some y = sym a.1 ∙ b.1 in cc
 
-pub told_count : (entries lefts : List (Option (List ℕ))) (faileds : List Bool)
-    (streams : List Stream) → AreTold entries lefts faileds streams
-    → length streams ≡ length entries
-told_count [] [] [] [] told = refl
-told_count (e ∷ es) (l ∷ ls) (x ∷ xs) (t ∷ ts) told = ap suc (told_count es ls xs ts told.1)
-told_count _ _ _ _ told = absurd told
+pub told_count : (told : List Telling) (streams : List Stream) → AreTold told streams
+    → length streams ≡ length told
+told_count [] [] are_told = refl
+told_count (t ∷ ts) (s ∷ ss) are_told = ap suc (told_count ts ss are_told.1)
+told_count _ _ are_told = absurd are_told
+
+-- of readers whose reads gave streams, each tells something
+pub told_as_many : {S : Type 0} (view : SourceView S) (firsts lasts : List S)
+    (streams : List Stream) → AreRead S view.reads firsts lasts streams
+    → length (tellings view firsts lasts) ≡ length firsts
+told_as_many view [] [] [] read = refl
+told_as_many view (first ∷ firsts) (last ∷ lasts) (stream ∷ streams) read =
+    ap suc (told_as_many view firsts lasts streams read.1)
+told_as_many view _ _ _ read = absurd read
+
+-- and what it tells of the bytes that it has left at first is what is known of its reader
+pub telling_at : {S : Type 0} (view : SourceView S) (firsts lasts : List S) (streams : List Stream)
+    → AreRead S view.reads firsts lasts streams
+    → (k : ℕ) (entry : Option (List ℕ)) → slice_get (map view.left firsts) k ≡ Some entry
+    → (telling : Telling) × (slice_get (tellings view firsts lasts) k ≡ Some telling)
+    × (telling.entry ≡ entry)
+telling_at view [] [] [] read k entry at = absurd (cc)
+telling_at view (first ∷ firsts) (last ∷ lasts) (stream ∷ streams) read zero entry at =
+    (telling_of view first last, refl, cc)
+telling_at view (first ∷ firsts) (last ∷ lasts) (stream ∷ streams) read (suc k) entry at =
+    telling_at view firsts lasts streams read.1 k entry at
+telling_at view _ _ _ read k entry at = absurd read
+
+-- what the reader at this place in the list told
+pub record WasTold (told : List Telling) (k : ℕ) (stream : Stream) : Type 0 where
+  pub telling : Telling
+  pub at : slice_get told k ≡ Some telling
+  pub is_told : IsTold telling stream
+
+pub told_from : (told : List Telling) (streams : List Stream) (k : ℕ) (stream : Stream)
+    → AreTold told streams → slice_get streams k ≡ Some stream → WasTold told k stream
+told_from [] [] k stream are_told at = absurd (cc)
+told_from (t ∷ ts) (s ∷ ss) zero stream are_told at =
+    let same : s ≡ stream = cc in
+    record { telling = t; at = refl; is_told = subst (IsTold t) same are_told.0 }
+told_from (t ∷ ts) (s ∷ ss) (suc k) stream are_told at =
+    let was = told_from ts ss k stream are_told.1 at in
+    record { telling = was.telling; at = was.at; is_told = was.is_told }
+told_from _ _ k stream are_told at = absurd are_told
+
+-- the bytes that were needed begin those that were read
+read_begins : (stop : Stop) (bytes : List ℕ)
+    → (more : List ℕ) × (read_to stop bytes ≡ bytes ++ more)
+read_begins at_end bytes = ([], sym (append-nil bytes))
+read_begins at_failure bytes = ([], sym (append-nil bytes))
+read_begins (early unneeded) bytes = (unneeded, refl)
+
+begins : (left : Option (List ℕ)) (whole : List ℕ) (stop : Stop) (bytes : List ℕ)
+    → Consumes (Some whole) left (read_to stop bytes) → (rest : List ℕ) × (whole ≡ bytes ++ rest)
+begins None whole stop bytes consumes = absurd consumes
+begins (Some left) whole stop bytes consumes =
+    let read = read_begins stop bytes in
+    (read.0 ++ left, consumes ∙ ap (λ (l : List ℕ). l ++ left) read.1 ∙ append_assoc bytes read.0 left)
+
+-- and those that were left at first
+pub told_begins : (telling : Telling) (whole : List ℕ) (stream : Stream)
+    → IsTold telling stream → telling.entry ≡ Some whole
+    → (rest : List ℕ) × (whole ≡ stream.bytes ++ rest)
+told_begins telling whole stream told entry =
+    begins telling.left whole stream.stop stream.bytes
+    (subst (λ (e : Option (List ℕ)). Consumes e telling.left (read_to stream.stop stream.bytes)) entry told.consumes)
 
 pub blocks-same : (block : Block) (blocks : List Block) (s : ℕ) → block.stream ≡ s
     → blocks_of s (block ∷ blocks) ≡ block.events ∷ blocks_of s blocks

@@ -1,5 +1,5 @@
 -- What a run's streams told, and in which order of lines their reports hold (this project's own).
-use Rattle.std.specs.Prelude.{◌≡◌, ◌+◌, ◌++◌, ◌==◌, ℕ, Bool, true, false, IsTrue, List, [], ◌∷◌, Option, if◌then◌else◌}
+use Rattle.std.specs.Prelude.{◌≡◌, ◌+◌, ◌++◌, ◌==◌, ◌⊎◌, ℕ, Bool, true, false, IsTrue, List, [], ◌∷◌, Option, if◌then◌else◌}
 use Rattle.std.specs.Io.KnownBytes.{Consumes, IsAtEnd}
 use Rattle.std.specs.List.{AllByRecursion, flat_map}
 use Rattle.lrup_model.specs.Formula.{Cnf}
@@ -7,37 +7,68 @@ use Rattle.lrup_model.specs.Cube.{CubeValue}
 use Rattle.lrup_model.specs.Layout.{LayoutValue, IsStream}
 use Rattle.lrup_model.specs.Event.{History, stream_of}
 use Rattle.lrup_model.specs.History.{IsLegal}
+use Rattle.lrup_text.specs.ReadOut.{SourceView}
 use Rattle.stream_check.specs.declared.report.Ending.{Ending}
 use Rattle.stream_check.specs.declared.report.Ending.TheVariants as endings
 use Rattle.stream_check.specs.declared.report.Report.{Report}
 use Rattle.stream_check.specs.Setting.{Setting}
 use Rattle.stream_check.specs.Judging.{ended, failed, JudgesBlocks}
 
--- Where the reading of a stream stopped: at its end, at a read that failed, or before either, since nothing more was needed.
+-- Where the reading of a stream stopped: at its end, at a read that failed, or before either, since nothing more was needed than
+-- what came before these last bytes that were read.
 pub data Stop : Type 0 where
   at_end : Stop
   at_failure : Stop
-  early : Stop
+  early : (unneeded : List ℕ) → Stop
 
 -- the bytes of a stream that were needed, and where its reading stopped
 pub record Stream : Type 0 where
   pub bytes : List ℕ
   pub stop : Stop
 
--- at the end all bytes were needed and none is left; at a failure all were needed and the reader
--- has failed; early, it hasn't failed: of one that has, all bytes that were read count as needed
-abbrev pub StopsSo : Stop → List ℕ → Option (List ℕ) → Bool → Type 0
-StopsSo at_end more left has_failed = (more ≡ []) × IsAtEnd left × (has_failed ≡ false)
-StopsSo at_failure more left has_failed = (more ≡ []) × (has_failed ≡ true)
-StopsSo early more left has_failed = has_failed ≡ false
+-- the stream was read to its end, or to the read that failed
+abbrev pub IsReadOut : Stream → Type 0
+IsReadOut stream = (stream.stop ≡ at_end) ⊎ (stream.stop ≡ at_failure)
 
--- The stream is what a reader told: its bytes are a beginning of those read, which are a beginning of those left at first. Where the
--- reader doesn't tell what it has left, any bytes will do.
-pub record IsTold (entry left : Option (List ℕ)) (has_failed : Bool)
-    (stream : Stream) : Type 0 where
-  pub more : List ℕ
-  pub consumes : Consumes entry left (stream.bytes ++ more)
-  pub stops : StopsSo stream.stop more left has_failed
+-- all bytes that were read, where these were needed
+abbrev pub read_to : Stop → List ℕ → List ℕ
+read_to at_end bytes = bytes
+read_to at_failure bytes = bytes
+read_to (early unneeded) bytes = bytes ++ unneeded
+
+-- What a reader tells: which bytes it has left at first and which in the end, where the device tells them, and whether it has
+-- failed then.
+pub record Telling : Type 0 where
+  pub entry : Option (List ℕ)
+  pub left : Option (List ℕ)
+  pub has_failed : Bool
+
+-- what a reader tells that was the first one before any read, and is the last one in the end
+abbrev pub telling_of : {S : Type 0} → SourceView S → S → S → Telling
+telling_of view first last = record {
+  entry = view.left first;
+  left = view.left last;
+  has_failed = view.has_failed last;
+}
+
+-- what each of some readers tells
+abbrev pub tellings : {S : Type 0} → SourceView S → List S → List S → List Telling
+tellings view [] lasts = []
+tellings view (first ∷ firsts) [] = []
+tellings view (first ∷ firsts) (last ∷ lasts) =
+    telling_of view first last ∷ tellings view firsts lasts
+
+-- at the end no byte is left; and the reader has failed if its reading stopped at a failure, and only then
+abbrev pub StopsSo : Stop → Option (List ℕ) → Bool → Type 0
+StopsSo at_end left has_failed = IsAtEnd left × (has_failed ≡ false)
+StopsSo at_failure left has_failed = has_failed ≡ true
+StopsSo (early unneeded) left has_failed = has_failed ≡ false
+
+-- The stream is what a reader told: the bytes read are a beginning of those left at first. Where the reader doesn't tell what it has
+-- left, any bytes will do.
+pub record IsTold (telling : Telling) (stream : Stream) : Type 0 where
+  pub consumes : Consumes telling.entry telling.left (read_to stream.stop stream.bytes)
+  pub stops : StopsSo stream.stop telling.left telling.has_failed
 
 -- only a bad line, or that memory ran out, stops a stream early
 abbrev pub StopsReading : Ending → Type 0
@@ -50,7 +81,7 @@ StopsReading (endings.Memory line) = Unit {0}
 abbrev pub JudgesTo : Stop → Setting → List ℕ → List History → Report → Type 0
 JudgesTo at_end c bytes blocks report = JudgesBlocks c bytes ended blocks report
 JudgesTo at_failure c bytes blocks report = JudgesBlocks c bytes failed blocks report
-JudgesTo early c bytes blocks report =
+JudgesTo (early unneeded) c bytes blocks report =
     StopsReading report.ending × JudgesBlocks c bytes ended blocks report
     × JudgesBlocks c bytes failed blocks report
 
@@ -58,19 +89,16 @@ JudgesTo early c bytes blocks report =
 abbrev pub JudgesStream : Setting → Stream → List History → Report → Type 0
 JudgesStream c stream blocks report = JudgesTo stream.stop c stream.bytes blocks report
 
--- each stream is what its reader told: what each had left at first and has left now, and whether it has failed
-abbrev pub AreTold : List (Option (List ℕ)) → List (Option (List ℕ)) → List Bool → List Stream
-    → Type 0
-AreTold [] [] [] [] = Unit {0}
-AreTold (entry ∷ entries) (left ∷ lefts) (has_failed ∷ faileds) (stream ∷ streams) =
-    IsTold entry left has_failed stream × AreTold entries lefts faileds streams
-AreTold _ _ _ _ = ⊥
+-- each stream is what its reader told
+abbrev pub AreTold : List Telling → List Stream → Type 0
+AreTold [] [] = Unit {0}
+AreTold (telling ∷ told) (stream ∷ streams) = IsTold telling stream × AreTold told streams
+AreTold _ _ = ⊥
 
 -- What the reports of a run stand on: the streams that the readers told, of which the judgement holds.
-pub record StandsOnStreams (entries lefts : List (Option (List ℕ))) (faileds : List Bool)
-    (Judged : List Stream → Type 0) : Type 0 where
+pub record StandsOnStreams (told : List Telling) (Judged : List Stream → Type 0) : Type 0 where
   pub streams : List Stream
-  pub told : AreTold entries lefts faileds streams
+  pub are_told : AreTold told streams
   pub judged : Judged streams
 
 -- An order of lines

@@ -3,8 +3,8 @@ use Rattle.std.proofs.Common.{◌≡◌, ◌++◌, ◌∙◌, ◌⊎◌, inl, in
 use Rattle.std.specs.Io.KnownBytes.{Consumes, IsAtEnd}
 use Rattle.lrup_model.specs.Event.{History}
 use Rattle.lrup_text.specs.ReadOut.{ReadOut, SourceView}
-use Rattle.runs.specs.Readings.{IsRead}
-use Rattle.runs.specs.Streams.{Stream, at_end, at_failure, IsTold, JudgesStream}
+use Rattle.runs.specs.Readings.{IsStreamOf}
+use Rattle.runs.specs.Streams.{Stream, at_end, at_failure, IsReadOut, JudgesStream}
 use Rattle.stream_check.specs.declared.report.Ending.{Ending}
 use Rattle.stream_check.specs.declared.report.Report.{Report}
 use Rattle.stream_check.specs.declared.progress.Turn.{Turn}
@@ -15,7 +15,7 @@ use Rattle.stream_check.specs.Judging.{StreamEnd, JudgesBlocks}
 use Rattle.stream_check.specs.Laws.{OverStays}
 use Rattle.stream_check.specs.Leaving.{CheckerState, Over, Leaves}
 use Rattle.stream_check.specs.Setting.{Setting}
-use Rattle.stream_jobs.specs.Judged.{IsReadOut, end_of}
+use Rattle.stream_jobs.specs.Judged.{end_of}
 
 pub leaves_append : (c : Setting) (one two three : CheckerState) (xs ys : List ℕ) (front back : List History)
     → LeavesOn c one xs front two → LeavesOn c two ys back three → LeavesOn c one (xs ++ ys) (front ++ back) three
@@ -62,20 +62,17 @@ ends_over end old new ends = ends_by old.ending end old new refl ends
 pub told_and_judged : (S : Type 0) (view : SourceView S) (first last : S) (failed has : Bool) (bytes : List ℕ) (c : Setting) (blocks : List History) (report : Report)
     → failed ≡ has → view.has_failed last ≡ has → Consumes (view.left first) (view.left last) bytes → (has ≡ false → IsAtEnd (view.left last))
     → ReadOut S view.reads has first bytes last → JudgesBlocks c bytes (end_of failed) blocks report
-    → (stream : Stream) × IsReadOut stream × IsTold (view.left first) (view.left last) (view.has_failed last) stream × IsRead S view.reads first last stream
-    × JudgesStream c stream blocks report
+    → (stream : Stream) × IsReadOut stream × IsStreamOf view first last stream × JudgesStream c stream blocks report
 told_and_judged S view first last true true bytes c blocks report same has told all read judged = (
   record { bytes = bytes; stop = at_failure },
   inr refl,
-  record { more = []; consumes = subst (Consumes (view.left first) (view.left last)) (sym (append-nil bytes)) told; stops = (refl, has) },
-  read,
+  (record { consumes = told; stops = has }, read),
   judged,
 )
 told_and_judged S view first last false false bytes c blocks report same has told all read judged = (
   record { bytes = bytes; stop = at_end },
   inl refl,
-  record { more = []; consumes = subst (Consumes (view.left first) (view.left last)) (sym (append-nil bytes)) told; stops = (refl, all refl, has) },
-  read,
+  (record { consumes = told; stops = (all refl, has) }, read),
   judged,
 )
 told_and_judged S view first last true false bytes c blocks report same has told all read judged = absurd (cc)

@@ -1,7 +1,6 @@
 -- How the bytes that a checking thread received are judged.
-use Rattle.std.specs.Prelude.{◌≡◌, ◌⊎◌, ℕ, Bool, true, false, List, []}
+use Rattle.std.specs.Prelude.{ℕ, Bool, true, false, List, []}
 use Rattle.lrup_model.specs.Event.{History}
-use Rattle.runs.specs.Streams.{Stream, at_end, at_failure}
 use Rattle.stream_check.specs.declared.report.Report.{Report}
 use Rattle.stream_check.specs.Checker.{state_of}
 use Rattle.stream_check.specs.CheckerValue.{CheckerValue}
@@ -13,10 +12,6 @@ use Rattle.stream_ring.specs.Items.{EndsAtMark}
 abbrev pub end_of : Bool → StreamEnd
 end_of true = failed
 end_of false = ended
-
--- the stream was read to its end, or to the read that failed
-abbrev pub IsReadOut : Stream → Type 0
-IsReadOut stream = (stream.stop ≡ at_end) ⊎ (stream.stop ≡ at_failure)
 
 -- The items received end at a mark; and the bytes before it, with the end that the mark tells and these blocks of events, are
 -- judged so, where no byte had been taken when the checker had this room.

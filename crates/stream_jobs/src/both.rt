@@ -4,14 +4,14 @@ ghost use Rattle.lrup_model.specs.Event.{History};
 ghost use Rattle.lrup_model.specs.Layout.{IsStream};
 ghost use Rattle.lrup_text.specs.ReadOut.{source_view};
 ghost use Rattle.rtrb.specs.Ring.{sent, received, IsPair};
-ghost use Rattle.runs.specs.Readings.{IsRead};
-ghost use Rattle.runs.specs.Streams.{Stream, IsTold, JudgesStream};
+ghost use Rattle.runs.specs.Readings.{IsStreamOf};
+ghost use Rattle.runs.specs.Streams.{Stream, IsReadOut, JudgesStream};
 ghost use Rattle.stream_check.specs.declared.report.Report.{Report};
 ghost use Rattle.stream_check.specs.Checker.{IsNew, state_of};
 ghost use Rattle.stream_check.specs.CheckerValue.{CheckerValue};
 ghost use Rattle.stream_check.specs.Leaving.{Leaves};
 ghost use Rattle.stream_check.specs.Setting.{max_tries};
-ghost use Rattle.stream_jobs.specs.Judged.{IsReadOut, JudgesAtMark};
+ghost use Rattle.stream_jobs.specs.Judged.{JudgesAtMark};
 ghost use Rattle.stream_ring.specs.Items.{SendsAll};
 
 use crate::checking::{Checked, CheckingJob};
@@ -64,8 +64,7 @@ pub fn meet<R: Source + Drop>(sent: &mut Sent<R>, checked: &mut Checked)
         → JudgesAtMark v room (received checked.old.consumer) blocks report
         → Leaves v.setting [] [] (state_of v room)
         → (stream : Stream) × IsReadOut stream
-        × IsTold (R.left first) (R.left sent.old.reader) (R.has_failed sent.old.reader) stream
-        × IsRead _ R.reads first sent.old.reader stream
+        × IsStreamOf (source_view R.left R.has_failed R.reads) first sent.old.reader stream
         × JudgesStream v.setting stream blocks report }
 {
     came_through(&mut sent.producer, &mut checked.consumer);

@@ -9,9 +9,9 @@ use Rattle.stream_check.specs.CheckerValue.{CheckerValue}
 use Rattle.stream_check.specs.Judging.{joined}
 use Rattle.stream_check.specs.Leaving.{Leaves}
 use Rattle.lrup_text.specs.ReadOut.{SourceView}
-use Rattle.runs.specs.Readings.{IsRead}
-use Rattle.runs.specs.Streams.{Stream, IsTold, JudgesStream, Terms}
-use Rattle.stream_jobs.specs.Judged.{IsReadOut, JudgesAtMark}
+use Rattle.runs.specs.Readings.{IsStreamOf}
+use Rattle.runs.specs.Streams.{Stream, IsReadOut, JudgesStream, Terms}
+use Rattle.stream_jobs.specs.Judged.{JudgesAtMark}
 use Rattle.stream_threads.specs.declared.jobs.ThreadFault.{ThreadFault}
 use Rattle.stream_threads.specs.declared.jobs.ThreadFault.TheVariants.{Spawn, Ring}
 
@@ -64,10 +64,7 @@ pub record Finishes {S : Type 0} (view : SourceView S) (jobs : JobsValue S)
   pub moves : PassMoves jobs.pass.view found.pass.view (joined blocks)
   pub judged : Leaves jobs.checker.setting [] []
       (state_of jobs.checker (pass_place jobs.pass.view).room)
-      → (stream : Stream) × IsReadOut stream
-      × IsTold (view.left jobs.reader) (view.left found.reader) (view.has_failed found.reader)
-      stream
-      × IsRead S view.reads jobs.reader found.reader stream
+      → (stream : Stream) × IsReadOut stream × IsStreamOf view jobs.reader found.reader stream
       × JudgesStream jobs.checker.setting stream blocks found.report
 
 -- what was found of each stream, in order

@@ -18,11 +18,11 @@ returns-clause-checked g c =
     let reports = c.in_ok-outcome.ensures.reports in
     record {
       layout = has_layout p c.run.result c.in_ok-outcome.outcome c.in_ok-outcome.was c.run.ensures.layout;
-      readers = c.in_ok-outcome.outcome.readers.items;
+      lasts = c.in_ok-outcome.outcome.readers.items;
       reported = record {
         streams = reports.streams;
-        told = reports.told;
-        judged = (_, c.in_ok-outcome.ensures.history.legal, reports.judged.1);
+        are_told = reports.are_told;
+        judged = (reports.judged.0, (_, c.in_ok-outcome.ensures.history.legal, reports.judged.1));
       };
       read = reports.judged.2;
       is_verdict = c.in_ok-outcome.ensures.verdict;

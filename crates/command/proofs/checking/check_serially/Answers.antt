@@ -18,8 +18,8 @@ returns-clause-checked g c =
     let ordered = c.in_ok-outcome.ensures.ordered in
     record {
       layout = has_layout p c.run_serial.result c.in_ok-outcome.outcome c.in_ok-outcome.was c.run_serial.ensures.layout;
-      readers = c.in_ok-outcome.outcome.readers.items;
-      reported = record { streams = ordered.streams; told = ordered.told; judged = ordered.judged.0 };
+      lasts = c.in_ok-outcome.outcome.readers.items;
+      reported = record { streams = ordered.streams; are_told = ordered.are_told; judged = ordered.judged.0 };
       read = ordered.judged.1;
       is_verdict = c.in_ok-outcome.ensures.verdict;
       sound = c.in_ok-outcome.ensures.sound;

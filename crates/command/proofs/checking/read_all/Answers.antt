@@ -2,8 +2,9 @@ use Rattle.std.proofs.Common.{arith, ◌≡◌, ℕ, List, None, rules, subst, s
 use Rattle.std.specs.Io.KnownBytes.{Consumes}
 use Rattle.std.proofs.lemmas.List.{length-take-le}
 use Rattle.lrup_text.specs.ReadLemmas.{gave_more}
-use Rattle.lrup_text.specs.Reads.{Gave, ReadsOf}
-use Rattle.command.specs.Commands.{HasBrokenOff, IsFailedRead, ReaderView}
+use Rattle.lrup_text.specs.ReadOut.{SourceView, source_view}
+use Rattle.lrup_text.specs.Reads.{Gave}
+use Rattle.command.specs.Commands.{HasBrokenOff, IsFailedRead}
 use Rattle.command.specs.declared.fault.CommandFault.{CommandFault}
 use Rattle.command.specs.declared.fault.CommandFault.TheVariants as faults
 use Rattle.command.proofs.CheckingLemmas.{err_given}
@@ -23,21 +24,23 @@ loop-preserved g c =
     }
 
 -- why the source wasn't read to its end
-broken_off : (R : Type 0) (reading : ReaderView R) (reads : ReadsOf R) (first last after : R) (bytes : List ℕ) (room : ℕ) (fault : CommandFault)
-    → Gave R reads first bytes last → Consumes (reading.left first) (reading.left last) bytes → reads last room None after → reading.has_failed after ≡ true
-    → fault ≡ faults.Unread → IsFailedRead R reading reads first fault
-broken_off R reading reads first last after bytes room fault gave consumed read failed is =
-    let broken : HasBrokenOff R reading reads first = record {
+broken_off : (R : Type 0) (reading : SourceView R) (first last after : R) (bytes : List ℕ) (room : ℕ) (fault : CommandFault)
+    → Gave R reading.reads first bytes last → Consumes (reading.left first) (reading.left last) bytes → reading.reads last room None after → reading.has_failed after ≡ true
+    → fault ≡ faults.Unread → IsFailedRead reading first fault
+broken_off R reading first last after bytes room fault gave consumed read failed is =
+    let broken : HasBrokenOff reading first = record {
       bytes = bytes;
-      broke = record { last = last; given = gave; room = room; after = after; fault = read; failed = failed };
+      after = after;
+      read = record { last = last; given = gave; end = (room, read) };
+      failed = failed;
       told = consumed_begins _ _ bytes consumed;
     } in
-    subst (IsFailedRead R reading reads first) (sym is) broken
+    subst (IsFailedRead reading first) (sym is) broken
 
 pub returns-in_err-count-clause-fault : goal.returns-in_err-count-clause-fault
 returns-in_err-count-clause-fault g c =
-    let reading : ReaderView g.row.S.Denot = record { left = g.S.Source.left; has_failed = g.S.Source.has_failed } in
+    let reading = source_view g.S.Source.left g.S.Source.has_failed g.S.Source.reads in
     let read = c.in_err-count.ensures in
-    err_given c.from_residual-in_err-count.result _ (IsFailedRead _ reading g.S.Source.reads c.args.source.now)
-    (λ fault is. broken_off _ reading g.S.Source.reads _ _ _ _ _ fault c.loop.invariant.gave c.loop.invariant.consumes read.reads read.failed is)
+    err_given c.from_residual-in_err-count.result _ (IsFailedRead reading c.args.source.now)
+    (λ fault is. broken_off _ reading _ _ _ _ _ fault c.loop.invariant.gave c.loop.invariant.consumes read.reads read.failed is)
     c.from_residual-in_err-count.ensures.1

@@ -1,9 +1,9 @@
 use Rattle.std.proofs.Common.{◌≡◌, ℕ, ◌∙◌, length, map, drop, refl, sym, ap, ap₂, subst, arith}
-use Rattle.std.proofs.lemmas.List.{length-map}
 use Rattle.lrup_model.specs.Layout.{LayoutValue, IsFault, Fits}
 use Rattle.lrup_text.specs.ReadOut.{source_view}
 use Rattle.portfolio.specs.Outcomes.{layout_of, terms_of}
-use Rattle.runs.specs.Streams.{terms_at}
+use Rattle.runs.specs.StreamLemmas.{told_as_many}
+use Rattle.runs.specs.Streams.{tellings, terms_at}
 use Rattle.portfolio.specs.Turns.{AreOver, Runs}
 use Rattle.portfolio.proofs.CubeLemmas.{sound_under_order}
 use Rattle.portfolio.proofs.HeadlineLemmas.{is_empty, no_fault}
@@ -87,9 +87,10 @@ returns-clause-isolated g c =
     let out = c.outcome_of.result in
     let readers = c.args.readers.items in
     let terms = terms_of c.args.options c.args.cube.now f (length readers) in
+    let view = source_view g.R.Source.left g.R.Source.has_failed g.R.Source.reads in
     let fits : Fits terms.layout f = record { vars = refl; clauses = refl; literals = refl } in
-    c.serial_isolated.ensures f terms (map g.R.Source.left readers) (map g.R.Source.left out.readers.items)
-    (map g.R.Source.has_failed out.readers.items) out.reports.items fits (length-map readers g.R.Source.left)
+    c.serial_isolated.ensures f terms (tellings view readers out.readers.items) out.reports.items fits
+    (told_as_many view readers out.readers.items _ (returns-clause-ordered g c).judged.1)
 
 pub returns-clause-sound : goal.returns-clause-sound
 returns-clause-sound g c unsatisfiable =

@@ -1,10 +1,10 @@
 use Rattle.std.proofs.Common.{◌≡◌, ℕ, length, map, refl, sym, ap, ap₂, subst, ◌∙◌, arith}
-use Rattle.std.proofs.lemmas.List.{length-map}
 use Rattle.lrup_model.specs.Layout.{LayoutValue, IsFault, Fits}
 use Rattle.runs.specs.Headline.{HaveOneHistory, seen_by}
 use Rattle.lrup_text.specs.ReadOut.{source_view}
 use Rattle.portfolio.specs.Outcomes.{layout_of, terms_of}
-use Rattle.runs.specs.Streams.{Terms, terms_at}
+use Rattle.runs.specs.StreamLemmas.{told_as_many}
+use Rattle.runs.specs.Streams.{tellings, terms_at}
 use Rattle.stream_threads.specs.Jobs.{stream_of}
 use Rattle.portfolio.proofs.CubeLemmas.{sound_under_run}
 use Rattle.portfolio.proofs.HeadlineLemmas.{no_fault, not_layout, AreOpened, are_opened, are_ready, all_can_begin, ready_count, finish_of, finish_count, one_history, judged_by, judged_so, sound_run}
@@ -130,10 +130,10 @@ returns-in-Ok-clause-isolated g c =
     let vs = map (λ q. q.view) out.passes.items in
     let readers = c.args.readers.items in
     let terms = terms_of c.args.options c.args.cube.now f (length readers) in
+    let view = source_view g.R.Source.left g.R.Source.has_failed g.R.Source.reads in
     let fits : Fits terms.layout f = record { vars = refl; clauses = refl; literals = refl } in
-    c.run_isolated.ensures f terms (seen_by vs) vs (map g.R.Source.left readers)
-    (map g.R.Source.left out.readers.items) (map g.R.Source.has_failed out.readers.items) out.reports.items
-    fits (length-map readers g.R.Source.left) (returns-in-Ok-clause-history g c)
+    c.run_isolated.ensures f terms (seen_by vs) vs (tellings view readers out.readers.items) out.reports.items
+    fits (told_as_many view readers out.readers.items _ (returns-in-Ok-clause-reports g c).judged.2) (returns-in-Ok-clause-history g c)
 
 pub returns-in-Ok-clause-serializable : goal.returns-in-Ok-clause-serializable
 returns-in-Ok-clause-serializable g c =
@@ -142,10 +142,10 @@ returns-in-Ok-clause-serializable g c =
     let vs = map (λ q. q.view) out.passes.items in
     let readers = c.args.readers.items in
     let terms = terms_of c.args.options c.args.cube.now f (length readers) in
+    let view = source_view g.R.Source.left g.R.Source.has_failed g.R.Source.reads in
     let fits : Fits terms.layout f = record { vars = refl; clauses = refl; literals = refl } in
-    c.run_serializable.ensures f terms (seen_by vs) vs (map g.R.Source.left readers)
-    (map g.R.Source.left out.readers.items) (map g.R.Source.has_failed out.readers.items) out.reports.items
-    fits (length-map readers g.R.Source.left) (returns-in-Ok-clause-history g c)
+    c.run_serializable.ensures f terms (seen_by vs) vs (tellings view readers out.readers.items) out.reports.items
+    fits (told_as_many view readers out.readers.items _ (returns-in-Ok-clause-reports g c).judged.2) (returns-in-Ok-clause-history g c)
 
 pub returns-in-Ok-clause-sound : goal.returns-in-Ok-clause-sound
 returns-in-Ok-clause-sound g c =

@@ -1,6 +1,6 @@
 use Rattle.std.proofs.Common.{sym, subst}
-use Rattle.runs.specs.Readings.{IsRead}
-use Rattle.runs.specs.Streams.{IsTold}
+use Rattle.lrup_text.specs.ReadOut.{source_view}
+use Rattle.runs.specs.Readings.{IsStreamOf}
 use Rattle.stream_threads.proofs.joining.meet_ends.Goals as goal
 
 pub returns-clause-judged : goal.returns-clause-judged
@@ -16,8 +16,7 @@ returns-clause-judged g c jobs sent checked =
           let same = sym c.meet.ensures.reader in (
             met.0,
             met.1,
-            subst (λ r. IsTold (g.R.Source.left jobs.reader) (g.R.Source.left r) (g.R.Source.has_failed r) met.0) same met.2,
-            subst (λ r. IsRead _ g.R.Source.reads jobs.reader r met.0) same met.3,
-            met.4,
+            subst (λ r. IsStreamOf (source_view g.R.Source.left g.R.Source.has_failed g.R.Source.reads) jobs.reader r met.0) same met.2,
+            met.3,
           );
     }
