@@ -1,5 +1,5 @@
 -- The one history of a run with threads, and what the reports say of it.
-use Rattle.std.proofs.Common.{◌≡◌, inl, inr, ℕ, suc, ◌+◌, ◌-◌, ◌<◌, ◌≤◌, Bool, true, false, List, [], ◌∷◌, ◌++◌, length, map, Option, Some, refl, sym, ap, ap₂, subst, ◌∙◌, arith, append-nil}
+use Rattle.std.proofs.Common.{◌≡◌, inl, inr, ℕ, zero, suc, ◌+◌, ◌-◌, ◌<◌, ◌≤◌, Bool, true, false, List, [], ◌∷◌, ◌++◌, length, map, take, Option, Some, refl, sym, ap, ap₂, subst, ◌∙◌, arith, append-nil}
 use Rattle.std.specs.Result.{IsErrAnd}
 use Rattle.std.specs.Prelude.{Result, Ok, Err, slice_get, if◌then◌else◌}
 use Rattle.std.specs.List.{AllByRecursion, list_any}
@@ -27,7 +27,7 @@ use Rattle.portfolio.specs.declared.outcome.RunFault.TheVariants.{Layout, Memory
 use Rattle.portfolio.specs.declared.outcome.Verdict.{Verdict}
 use Rattle.portfolio.specs.declared.outcome.Verdict.TheVariants.{Unsatisfiable, UnsatisfiableUnder, Unknown}
 use Rattle.portfolio.specs.Outcomes.{verdict_of}
-use Rattle.runs.specs.Headline.{HaveCalls, HaveOneHistory, IsJudgedBy, AreJudgedIn, seen_by}
+use Rattle.runs.specs.Headline.{HaveCalls, HaveOneHistory, IsJudgedBy, AreJudgedIn, WereJudged, seen_by}
 use Rattle.stream_threads.specs.Jobs.{JobsValue, FoundValue, CanBegin, Finishes, AllFinish, AreJobs}
 use Rattle.lrup_text.specs.ReadOut.{SourceView}
 use Rattle.runs.specs.Readings.{AreRead, IsStreamOf}
@@ -288,6 +288,24 @@ module _ {S : Type 0} (view : SourceView S) where
         judged = ((all.0.blocks, calls, judged), more.judged);
         read = (of.1, more.read);
       }
+
+  -- so of the streams before one, where those before it alone were found
+  pub were_judged : (f : Cnf) (terms : Terms) (store : StoreValue) → store.layout ≡ terms.layout
+      → (s : ℕ) (firsts : List S) (js : List (JobsValue S)) (n : ℕ) (fs : List (FoundValue S))
+      → AreReady store f terms s firsts js → AllFinish view (take n js) fs → WereJudged view terms s (take n firsts)
+  were_judged f terms store same s [] [] zero fs ready all = tt
+  were_judged f terms store same s [] [] (suc n) fs ready all = tt
+  were_judged f terms store same s [] (j ∷ js) n fs ready all = absurd ready
+  were_judged f terms store same s (e ∷ es) [] n fs ready all = absurd ready
+  were_judged f terms store same s (e ∷ es) (j ∷ js) zero fs ready all = tt
+  were_judged f terms store same s (e ∷ es) (j ∷ js) (suc n) [] ready all = absurd all
+  were_judged f terms store same s (e ∷ es) (j ∷ js) (suc n) (x ∷ fs) ready all =
+      let here = ready.0 in
+      let fresh = subst (λ (n : ℕ). Leaves j.checker.setting [] [] (state_of j.checker n)) (opened_room f terms.layout store s j.pass same here.opened) here.checker.left in
+      let one = all.0.judged fresh in
+      let of = subst (λ (r : S). IsStreamOf view r x.reader one.0) here.reader_is one.2 in
+      let judged = subst (λ (c : Setting). JudgesStream c one.0 all.0.blocks x.report) here.checker.setting one.3 in
+      ((x.reader, one.0, all.0.blocks, x.report, one.1, of, judged), were_judged f terms store same (s + 1) es js n fs ready.1 all.1)
 
   -- the same in the words of the lists that are given back, and of the one history
   pub judged_so : (f : Cnf) (terms wanted : Terms) (firsts lasts : List S) (reports : List Report) (fs : List (FoundValue S)) (vs : List View)

@@ -1,5 +1,5 @@
 //! A run with two threads for each stream.
-ghost use Rattle.std.specs.Prelude.{◌≡◌, ◌≤◌, true, false, ℕ, [], Err, IfOk, length, map, vec_capacity, vec_len};
+ghost use Rattle.std.specs.Prelude.{◌≡◌, ◌≤◌, ◌-◌, true, false, ℕ, [], Err, IfOk, length, map, take, vec_capacity, vec_len};
 ghost use Rattle.std.specs.List.{AllByRecursion};
 ghost use Rattle.lrup_model.specs.Cube.{IsUnsatisfiableUnder};
 ghost use Rattle.lrup_model.specs.Entailment.{IsUnsatisfiable};
@@ -8,7 +8,7 @@ ghost use Rattle.lrup_model.specs.Pass.{AreMet};
 ghost use Rattle.clause_store.specs.Passes.{AreOf, HaveMet, store_of, views};
 ghost use Rattle.lrup_text.specs.ReadOut.{source_view};
 ghost use Rattle.runs.specs.Readings.{AreRead};
-ghost use Rattle.runs.specs.Headline.{AreJudgedIn, HaveOneHistory, seen_by};
+ghost use Rattle.runs.specs.Headline.{AreJudgedIn, HaveOneHistory, WereJudged, seen_by};
 ghost use Rattle.portfolio.specs.Outcomes.{IsLayoutFault, layout_of, terms_of, verdict_of};
 ghost use Rattle.runs.specs.Streams.{IsReadOut, StandsOnStreams, tellings};
 ghost use Rattle.groups.specs.Groups.{AreIsolated};
@@ -30,7 +30,8 @@ use stream_threads::{Found, Room, ThreadFault, check_all, jobs_of};
 /// Checks the streams that the readers give, each in two threads of its own, one that reads it to its end and one that checks what
 /// was read, against one store of clauses, and says whether one derived a clause that contradicts the cube. As many gates are
 /// wanted as readers. All memory is taken before the first thread starts, but for the identities that streams drop. No reader is
-/// read before all threads have been started. It returns when all threads have ended, so it blocks while a reader does.
+/// read before all threads have been started. It returns when all threads have ended, so it blocks while a reader does. A fault of a
+/// ring names the first stream that wasn't judged.
 pub fn run<T: Threads + Wait + Sync, R: Source + Send + Drop, G: Gate + Send + Drop>(
     threads: &T,
     alloc: Global,
@@ -48,6 +49,10 @@ pub fn run<T: Threads + Wait + Sync, R: Source + Send + Drop, G: Gate + Send + D
         → IsStream (layout_of options formula.now (length readers.items)) stream }
     ensures ring { (stream : ℕ) → result ≡ Err (RunFault.Ring stream)
         → IsStream (layout_of options formula.now (length readers.items)) stream }
+    ensures first { let terms = terms_of options cube.now formula.now (length readers.items) in
+        (stream : ℕ) → result ≡ Err (RunFault.Ring stream)
+        → WereJudged (source_view R.left R.has_failed R.reads) terms 1
+        (take (stream - 1) readers.items) }
     // One legal history has each stream's calls once, in its order, with the replies that it got.
     ensures history { IfOk result (λ outcome. let passes = views outcome.passes.items in
         HaveOneHistory formula.now (layout_of options formula.now (length readers.items))

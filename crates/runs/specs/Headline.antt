@@ -8,7 +8,9 @@ use Rattle.lrup_model.specs.Pass.{View}
 use Rattle.stream_check.specs.declared.report.Report.{Report}
 use Rattle.stream_check.specs.Setting.{Setting}
 use Rattle.stream_check.specs.Judging.{joined}
-use Rattle.runs.specs.Streams.{Stream, JudgesStream, Terms, setting_of}
+use Rattle.lrup_text.specs.ReadOut.{SourceView}
+use Rattle.runs.specs.Readings.{IsStreamOf}
+use Rattle.runs.specs.Streams.{Stream, IsReadOut, JudgesStream, Terms, setting_of}
 
 -- The passes, of the streams counted on from s: each is that stream's at this formula and layout, has seen the history, and
 -- its calls are the history's events of that stream, in order.
@@ -42,3 +44,12 @@ AreJudgedIn terms set h s (stream ∷ streams) (report ∷ reports) =
     (IsTrue (set s) → IsJudgedBy (setting_of terms s) stream (own h s) report)
     × AreJudgedIn terms set h (s + 1) streams reports
 AreJudgedIn terms set h s _ _ = ⊥
+
+-- Each stream of these readers, counted on from s, was read out, and judged by some blocks of events: where a run has no outcome.
+abbrev pub WereJudged : {S : Type 0} → SourceView S → Terms → ℕ → List S → Type 0
+WereJudged view terms s [] = Unit {0}
+WereJudged {S} view terms s (first ∷ firsts) =
+    ((last : S) × (stream : Stream) × (blocks : List History) × (report : Report)
+    × IsReadOut stream × IsStreamOf view first last stream
+    × JudgesStream (setting_of terms s) stream blocks report)
+    × WereJudged view terms (s + 1) firsts

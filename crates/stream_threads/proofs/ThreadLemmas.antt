@@ -1,5 +1,5 @@
 -- What the threads of a stream gave back, and lists of them.
-use Rattle.std.proofs.Common.{◌≡◌, ◌++◌, ◌+◌, ◌∙◌, ℕ, List, [], ◌∷◌, Option, Some, None, IfSome, Result, Ok, Err, IfOk, IfErr, ◌<◌, ◌≤◌, length, map, refl, sym, ap, subst, arith, append_assoc, append-nil}
+use Rattle.std.proofs.Common.{◌≡◌, ◌++◌, ◌+◌, ◌∙◌, ℕ, List, [], ◌∷◌, Option, Some, None, IfSome, Result, Ok, Err, IfOk, IfErr, ◌<◌, ◌≤◌, ◌-◌, length, map, take, refl, sym, ap, subst, arith, append_assoc, append-nil}
 use Rattle.std.proofs.lemmas.List.{length-append, length-map, map-append, nil_from_length}
 use Rattle.std.specs.declared.vec.IntoIter.{IntoIter}
 use Rattle.std.specs.Vec.Iter.{into_iter_items, into_iter_len}
@@ -12,7 +12,7 @@ use Rattle.stream_check.specs.CheckerValue.{CheckerValue}
 use Rattle.stream_check.specs.Judging.{joined}
 use Rattle.stream_jobs.specs.Judged.{JudgesAtMark}
 use Rattle.lrup_text.specs.ReadOut.{SourceView}
-use Rattle.stream_threads.specs.Jobs.{AllEnd, AllFinish, AreJobs, Finishes, FoundValue, IsFaultWithin, IsJob, JobsValue, JudgesAtPass}
+use Rattle.stream_threads.specs.Jobs.{AllEnd, AllFinish, AreJobs, Finishes, FoundValue, IsFaultWithin, IsFirstFault, IsJob, JobsValue, JudgesAtPass}
 use Rattle.stream_threads.specs.declared.jobs.ThreadFault.{ThreadFault}
 use Rattle.stream_threads.specs.declared.jobs.ThreadFault.TheVariants.{Ring}
 use Rattle.runs.specs.Streams.{Terms}
@@ -78,6 +78,26 @@ first_within view count jobs ends (Err fault) all same first =
     let low : 0 < length first.0 + 1 = omega arith in
     let high : length first.0 + 1 ≤ count = omega (arith, whole, ends_count view jobs ends all, same) in
     subst (IsFaultWithin count) (sym first.3) (low, high)
+
+-- something was found of each stream before it
+finish_before : {S : Type 0} (view : SourceView S) (jobs : List (JobsValue S)) (before : List (FoundValue S)) (after : List (Option (FoundValue S)))
+    → AllEnd view jobs (map (λ f. Some f) before ++ None ∷ after) → AllFinish view (take (length before) jobs) before
+finish_before view [] [] after all = absurd all
+finish_before view [] (f ∷ before) after all = absurd all
+finish_before view (j ∷ jobs) [] after all = tt
+finish_before view (j ∷ jobs) (f ∷ before) after all = (all.0, finish_before view jobs before after all.1)
+
+pub first_fault : {A : Type 0} {S : Type 0} (view : SourceView S) (jobs : List (JobsValue S)) (ends : List (Option (FoundValue S))) (r : Result A ThreadFault) → AllEnd view jobs ends
+    → IfErr r (λ fault. (before : List (FoundValue S)) × (after : List (Option (FoundValue S))) × (ends ≡ map (λ f. Some f) before ++ None ∷ after) × (fault ≡ Ring (length before + 1)))
+    → IfErr r (IsFirstFault view jobs)
+first_fault view jobs ends (Ok a) all first = tt
+first_fault {A} {S} view jobs ends (Err fault) all first =
+    let found : AllFinish view (take (length first.0) jobs) first.0 =
+    finish_before view jobs first.0 first.1 (subst (AllEnd view jobs) first.2 all) in
+    let same : length first.0 ≡ length first.0 + 1 - 1 = omega arith in
+    let there : AllFinish view (take (length first.0 + 1 - 1) jobs) first.0 =
+    subst (λ (n : ℕ). AllFinish view (take n jobs) first.0) same found in
+    subst (IsFirstFault view jobs) (sym first.3) (first.0, there)
 
 -- ---- the jobs of all streams
 

@@ -1,5 +1,5 @@
 -- The two jobs of a stream, and what comes of them (this project's own).
-use Rattle.std.specs.Prelude.{◌≡◌, ◌≤◌, ◌<◌, ◌+◌, ℕ, List, [], ◌∷◌, Option, IfSome}
+use Rattle.std.specs.Prelude.{◌≡◌, ◌≤◌, ◌<◌, ◌+◌, ◌-◌, ℕ, List, [], ◌∷◌, take, Option, IfSome}
 use Rattle.lrup_model.specs.Event.{History}
 use Rattle.lrup_model.specs.Pass.{PassMoves, pass_place}
 use Rattle.clause_store.specs.Passes.{StoreValue, PassValue, store_of}
@@ -81,6 +81,13 @@ AllEnd view [] [] = Unit {0}
 AllEnd view (jobs ∷ all) (end ∷ more) = IfSome end (Finishes view jobs) × AllEnd view all more
 AllEnd view _ _ = ⊥
 
+-- where the fault names a stream whose ring met no end, something was found of each stream before it
+abbrev pub IsFirstFault : {S : Type 0} → SourceView S → List (JobsValue S) → ThreadFault → Type 0
+IsFirstFault view all (Spawn stream) = Unit {0}
+IsFirstFault {S} view all (Ring stream) =
+    (found : List (FoundValue S)) × AllFinish view (take (stream - 1) all) found
+
+-- the stream that a fault names
 abbrev pub stream_of : ThreadFault → ℕ
 stream_of (Spawn stream) = stream
 stream_of (Ring stream) = stream

@@ -4,7 +4,7 @@ ghost use Rattle.std.specs.List.{AllByRecursion};
 ghost use Rattle.lrup_text.specs.ReadOut.{source_view};
 ghost use Rattle.rtrb.specs.Ring.{received, IsPair};
 ghost use Rattle.stream_ring.specs.Items.{SendsAll};
-ghost use Rattle.stream_threads.specs.Jobs.{AllEnd, AllFinish, CanBegin, Finishes, FoundValue, IsFaultWithin, JobsValue, JudgesAtPass};
+ghost use Rattle.stream_threads.specs.Jobs.{AllEnd, AllFinish, CanBegin, Finishes, FoundValue, IsFaultWithin, IsFirstFault, JobsValue, JudgesAtPass};
 ghost use Rattle.stream_threads.specs.declared.jobs.ThreadFault.TheVariants.{Ring};
 
 use crate::ends::CheckedPass;
@@ -176,6 +176,8 @@ fn start_and_join<
     ensures found { IfOk result (λ found.
         AllFinish (source_view R.left R.has_failed R.reads) all.items found.items) }
     ensures fault { IfErr result (IsFaultWithin (vec_len all)) }
+    ensures first { IfErr result
+        (IsFirstFault (source_view R.left R.has_failed R.reads) all.items) }
 {
     let Room {
         mut halves,
@@ -197,7 +199,8 @@ fn start_and_join<
 }
 
 /// Reads and checks all streams, each in two threads of its own, until all have ended. No reader is read before all threads have
-/// been started; where one can't be, those that were leave at once. It blocks while a reader does.
+/// been started; where one can't be, those that were leave at once. It blocks while a reader does. A fault of a ring names the
+/// first stream of which nothing was found.
 pub fn check_all<T: Threads + Wait + Sync, R: Source + Send + Drop, G: Gate + Send + Drop>(
     threads: &T,
     store: &Store,
@@ -209,6 +212,8 @@ pub fn check_all<T: Threads + Wait + Sync, R: Source + Send + Drop, G: Gate + Se
     ensures found { IfOk result (λ found.
         AllFinish (source_view R.left R.has_failed R.reads) all.items found.items) }
     ensures fault { IfErr result (IsFaultWithin (vec_len all)) }
+    ensures first { IfErr result
+        (IsFirstFault (source_view R.left R.has_failed R.reads) all.items) }
 {
     let start = OnceLock::new();
     let word = &start;
@@ -221,6 +226,8 @@ pub fn check_all<T: Threads + Wait + Sync, R: Source + Send + Drop, G: Gate + Se
             ensures found { IfOk result (λ found.
                 AllFinish (source_view R.left R.has_failed R.reads) all.items found.items) }
             ensures fault { IfErr result (IsFaultWithin (vec_len all)) }
+            ensures first { IfErr result
+                (IsFirstFault (source_view R.left R.has_failed R.reads) all.items) }
         { start_and_join(scope, threads, store, word, all, room) },
     )
 }

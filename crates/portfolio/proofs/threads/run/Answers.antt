@@ -1,13 +1,13 @@
-use Rattle.std.proofs.Common.{◌≡◌, ℕ, length, map, refl, sym, ap, ap₂, subst, ◌∙◌, arith}
+use Rattle.std.proofs.Common.{◌≡◌, ℕ, ◌-◌, length, map, take, refl, sym, ap, ap₂, subst, ◌∙◌, arith}
 use Rattle.lrup_model.specs.Layout.{LayoutValue, IsFault, Fits}
-use Rattle.runs.specs.Headline.{HaveOneHistory, seen_by}
+use Rattle.runs.specs.Headline.{HaveOneHistory, WereJudged, seen_by}
 use Rattle.lrup_text.specs.ReadOut.{source_view}
 use Rattle.portfolio.specs.Outcomes.{layout_of, terms_of}
 use Rattle.runs.specs.StreamLemmas.{told_as_many}
-use Rattle.runs.specs.Streams.{tellings, terms_at}
-use Rattle.stream_threads.specs.Jobs.{stream_of}
+use Rattle.runs.specs.Streams.{Terms, tellings, terms_at}
+use Rattle.stream_threads.specs.Jobs.{IsFirstFault, stream_of}
 use Rattle.portfolio.proofs.CubeLemmas.{sound_under_run}
-use Rattle.portfolio.proofs.HeadlineLemmas.{no_fault, not_layout, AreOpened, are_opened, are_ready, all_can_begin, ready_count, finish_of, finish_count, one_history, judged_by, judged_so, sound_run}
+use Rattle.portfolio.proofs.HeadlineLemmas.{no_fault, not_layout, AreOpened, are_opened, are_ready, all_can_begin, ready_count, finish_of, finish_count, one_history, judged_by, judged_so, were_judged, sound_run}
 use Rattle.portfolio.proofs.threads.run.Goals as goal
 
 -- the layout is the one of the formula, the options and the readers
@@ -222,3 +222,25 @@ returns-clause-ring g c = λ stream e.
       omega (arith, within.0, here, is),
       omega (arith, within.1, here, is, jobs.ok.0, c.len-2.ensures, each),
     )
+
+pub returns-clause-first : goal.returns-clause-first
+returns-clause-first g c = λ stream e.
+    let here : c.in-Err-Ring.stream ≡ stream = cc in
+    let f = c.args.formula.now in
+    let p = c.in_ok-layout.layout in
+    let passes = c.in_ok-store.passes in
+    let opens = c.in_ok-store.ensures in
+    let jobs = c.in_ok-jobs.jobs in
+    let terms = terms_at p c.args.cube.now c.tries.result in
+    let wanted = terms_of c.args.options c.args.cube.now f (length c.args.readers.items) in
+    let view = source_view g.R.Source.left g.R.Source.has_failed g.R.Source.reads in
+    let firsts = c.args.readers.items in
+    let opened : AreOpened c.in_ok-store.store f 1 passes.items = are_opened c.in_ok-store.store f p passes.items (sym passes.ok.0 ∙ opens.count) opens.passes in
+    let ready = are_ready view c.in_ok-store.store f terms 1 firsts passes.items jobs.items c.in_ok-jobs.ensures opened in
+    let same : p ≡ layout_of c.args.options f (length firsts) =
+    c.in_ok-layout.ensures.layout.0 ∙ ap (λ (n : ℕ). layout_of c.args.options f n) (c.len.ensures ∙ c.args.readers.ok.0) in
+    let are : terms ≡ wanted = ap₂ (λ (l : LayoutValue) (n : ℕ). terms_at l c.args.cube.now n) same c.tries.ensures.tries in
+    let before = subst (IsFirstFault view jobs.items) (c.in-Err-Ring.field-0-is) c.in-Err-Ring.ensures.first in
+    let judged = were_judged view f terms c.in_ok-store.store opens.layout 1 firsts jobs.items (c.in-Err-Ring.stream - 1) before.0 ready before.1 in
+    subst (λ (n : ℕ). WereJudged view wanted 1 (take (n - 1) firsts)) here
+    (subst (λ (t : Terms). WereJudged view t 1 (take (c.in-Err-Ring.stream - 1) firsts)) are judged)
