@@ -4,8 +4,9 @@ ghost use Rattle.std.specs.Bool.{OnTrue, OnFalse};
 ghost use Rattle.lrup_model.specs.Event.{History};
 ghost use Rattle.lrup_model.specs.Layout.{IsStream};
 ghost use Rattle.lrup_text.specs.ReadOut.{source_view};
-ghost use Rattle.stream_check.specs.Checker.{IsReadyAt, report_at};
+ghost use Rattle.stream_check.specs.Checker.{Ends, IsReadyAt, ReportsEnd, report_at};
 ghost use Rattle.stream_check.specs.Judging.{joined};
+ghost use Rattle.stream_jobs.specs.Judged.{end_of};
 ghost use Rattle.portfolio.specs.Outcomes.{max_tries};
 ghost use Rattle.runs.specs.Streams.{terms_at};
 ghost use Rattle.portfolio.specs.Working.{IsStarted, WorksOn};
@@ -118,7 +119,7 @@ impl<R: Source + Drop, G: Gate + Drop> Worker<R, G> {
         }
         match self.reader.read(&mut self.buffer) {
             Ok(0) => {
-                self.checker.end();
+                close(&mut self.checker, false);
                 false
             }
             Ok(count) => {
@@ -127,7 +128,7 @@ impl<R: Source + Drop, G: Gate + Drop> Worker<R, G> {
                 true
             }
             Err(_) => {
-                self.checker.read_failed();
+                close(&mut self.checker, true);
                 false
             }
         }
@@ -163,5 +164,17 @@ impl<R: Source + Drop, G: Gate + Drop> Worker<R, G> {
             ..
         } = self;
         (checker.report(), reader)
+    }
+}
+
+/// Takes the end of the stream, or a read that failed.
+fn close(checker: &mut Checker, has_failed: bool)
+    ensures ends { Ends (end_of has_failed) checker.old checker.new }
+    ensures reports { ReportsEnd (end_of has_failed) checker.old checker.new }
+{
+    if has_failed {
+        checker.read_failed();
+    } else {
+        checker.end();
     }
 }

@@ -20,6 +20,7 @@ use test_support::{Paper, Pieces, four_clauses};
 
 mod alone;
 mod assumptions;
+mod ends;
 mod interleavings;
 mod isolation;
 mod line_orders;
