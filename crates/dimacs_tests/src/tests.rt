@@ -4,6 +4,8 @@ use std::fmt::Write;
 use std::process::Abort;
 use std::test::Fail;
 
+mod texts;
+
 /// The formula's numbers and clauses, or the fault's text.
 fn shown(alloc: Global, bytes: &[u8]) -> Result<String, AllocError> {
     let formula = match parse(alloc, bytes) {

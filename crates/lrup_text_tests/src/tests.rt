@@ -13,6 +13,7 @@ use std::test::Fail;
 use std::{fmt, io};
 use test_support::Paper;
 
+mod cube_texts;
 mod imports;
 
 /// Stops the test where two values differ: an assertion that is proved once for all tests.

@@ -1,0 +1,18 @@
+//! What the definition of a cube's text says of a few texts. Each follows from the definition alone, so a wrong one isn't proved.
+ghost use Rattle.std.specs.Prelude.{◌≡◌, ◌≤◌, [], ◌∷◌, ℕ, codes, pos, negsuc};
+ghost use Rattle.lrup_model.specs.Cube.{CubeValue, IsCubeOf};
+ghost use Rattle.lrup_model.specs.Literal.{max_variable};
+ghost use Rattle.lrup_text.specs.Cubes.{IsCubeText};
+
+/// A number with a zero in front of it is none, and a text ends with its LF.
+pub fn cubes_are_refused()
+    ensures zero { (vars : ℕ) (cube : CubeValue) → vars ≤ max_variable
+        → ¬ IsCubeText vars (codes "01 0\n") cube }
+    ensures line_feed { (vars : ℕ) (cube : CubeValue) → ¬ IsCubeText vars (codes "1 0") cube }
+{}
+
+/// A literal has its sign, a text may repeat it, and the cube is the set of the literals in any order.
+pub fn a_text_is_of_a_set()
+    ensures { (cube : CubeValue) → IsCubeOf (pos 1 ∷ negsuc 1 ∷ []) cube
+        → IsCubeText 2 (codes "-2 1 -2 0\n") cube }
+{}
