@@ -21,6 +21,11 @@ clean() {
 trap clean EXIT
 trap 'exit 1' HUP INT TERM
 
+# lrupd WORDS..: the program, ended with status 124 after two minutes. No row takes more than a few seconds.
+lrupd() {
+    timeout 120 "$program" "$@"
+}
+
 # want OUT ERR: what the next run is to write. In every text of this file '\n' is the end of a line.
 want() {
     printf '%b' "$1" > "$work/wanted-out"
@@ -45,7 +50,7 @@ judge() {
 run() {
     name=$1 status=$2
     shift 2
-    "$program" "$@" > "$work/out" 2> "$work/err" < /dev/null
+    lrupd "$@" > "$work/out" 2> "$work/err" < /dev/null
     judge "$name" "$status" $?
 }
 
@@ -53,7 +58,7 @@ run() {
 inside() {
     name=$1 status=$2
     shift 2
-    (cd "$work" && exec "$program" "$@") > "$work/out" 2> "$work/err" < "$work/two"
+    (cd "$work" && lrupd "$@") > "$work/out" 2> "$work/err" < "$work/two"
     judge "$name" "$status" $?
 }
 
@@ -63,7 +68,7 @@ example() {
     shift 2
     want '' ''
     cp "$here/$name.out" "$work/wanted-out"
-    (cd "$here" && "$program" $options "$@") > "$work/out" 2> "$work/err"
+    (cd "$here" && lrupd $options "$@") > "$work/out" 2> "$work/err"
     judge "$name $options" 0 $?
 }
 
@@ -127,7 +132,7 @@ usage() {
     name=$1
     shift
     want '' ''
-    "$program" "$@" > "$work/out" 2> "$work/err"
+    lrupd "$@" > "$work/out" 2> "$work/err"
     status=$?
     grep -v '^lrupd: ' "$work/err" > "$work/wanted-err" || echo 'some words of usage' > "$work/wanted-err"
     [ "$(grep -cxF "$(head -n 1 "$work/err")" "$work/err")" = 1 ] || echo 'words of usage, once' > "$work/wanted-err"
@@ -303,8 +308,10 @@ refused 'row too long' 2 --lines 268435456 "$work/formula" "$work/one"
 refused 'row too long' 2 --room 268435456 "$work/formula" "$work/one"
 
 set --
-while [ $# -lt 65 ]; do set -- "$@" "$work/one"; done
-refused 'stream count' 2 "$work/formula" "$@"
+for count in 65 110; do
+    while [ $# -lt $count ]; do set -- "$@" "$work/one"; done
+    refused 'stream count' 2 "$work/formula" "$@"
+done
 
 usage 'no words'
 usage 'no stream' "$work/formula"
@@ -327,13 +334,19 @@ done
 cp "$here/assumed.cube" "$work/cube"
 want '' ''
 cp "$here/assumed.out" "$work/wanted-out"
-(cd "$here" && "$program" --assume assumed.cube assumed.cnf assumed.lrup) > "$work/out" 2> "$work/err"
+(cd "$here" && lrupd --assume assumed.cube assumed.cnf assumed.lrup) > "$work/out" 2> "$work/err"
 judge 'assumed' 8 $?
 want 'c stream 1: 2 added, 0 deleted, ended\ns UNSATISFIABLE\n' ''
 run 'the empty clause under assumptions' 0 --assume "$work/cube" "$work/formula" "$work/two"
 { printf '%s' '-2'; sleep 0.1; printf ' 0\n'; } > "$work/pipe1" & writers="$writers $!"
 want 'c stream 1: 1 added, 0 deleted, ended\ns UNSATISFIABLE UNDER ASSUMPTIONS\n' ''
 run 'a pipe of assumptions' 8 --assume "$work/pipe1" "$here/assumed.cnf" "$here/assumed.lrup"
+{ awk 'BEGIN { for (i = 1; i <= 65535; i++) printf "%d ", -i }' && echo 0; } > "$work/cube"
+printf 'p cnf 65535 2\n1 2 0\n-1 2 0\n' > "$work/wide"
+for options in '' '--serial'; do
+    want 'c stream 1: 1 added, 0 deleted, ended\ns UNSATISFIABLE UNDER ASSUMPTIONS\n' ''
+    run "65,535 assumed literals $options" 8 $options --assume "$work/cube" "$work/wide" "$here/assumed.lrup"
+done
 unassumed 'variable out of range' '3 0\n'
 unassumed 'variable out of range' '999999999999999999 0\n'
 unassumed 'too long' '1000000000000000000 0\n'
@@ -377,7 +390,9 @@ done
 # comment before the four clauses.
 
 if awk '$1 == "MemAvailable:" && $2 >= 4000000 { found = 1 } END { exit !found }' /proc/meminfo 2> /dev/null; then
-    streams 'a room of 110,000,000 literals' '--room 110000000' 0 '2 added, 0 deleted, ended' "$two"
+    for options in '' '--serial'; do
+        streams "a room of 110,000,000 literals $options" "--room 110000000 $options" 0 '2 added, 0 deleted, ended' "$two"
+    done
     { printf 'c '; head -c 1100000000 /dev/zero | tr '\0' x; printf '%b' "\n$four"; } > "$work/pipe1" & writers="$writers $!"
     want 'c stream 1: 2 added, 0 deleted, ended\ns UNSATISFIABLE\n' ''
     run 'a formula of 1,100,000,000 bytes' 0 "$work/pipe1" "$work/two"
@@ -391,16 +406,16 @@ limited 'worker 1 not started' 9000 --lines 1 --room 1 "$work/formula" "$work/on
 # Outputs that take nothing. What can't be said on standard error changes no status.
 
 want '' 'lrupd: cannot write report\n'
-"$program" "$work/formula" "$work/one" > /dev/full 2> "$work/err"
+lrupd "$work/formula" "$work/one" > /dev/full 2> "$work/err"
 judge 'a full output' 7 $?
-"$program" "$work/formula" "$work/one" >&- 2> "$work/err"
+lrupd "$work/formula" "$work/one" >&- 2> "$work/err"
 judge 'a closed output' 7 $?
 want '' ''
-"$program" "$absent" "$work/one" > "$work/out" 2> /dev/full
+lrupd "$absent" "$work/one" > "$work/out" 2> /dev/full
 judge 'a full standard error' 5 $?
-"$program" --help > "$work/out" 2> /dev/full
+lrupd --help > "$work/out" 2> /dev/full
 judge 'a full standard error for help' 2 $?
-"$program" "$work/formula" "$work/one" > /dev/full 2> /dev/full
+lrupd "$work/formula" "$work/one" > /dev/full 2> /dev/full
 judge 'both full' 7 $?
 
 echo "$passed passed, $failed failed"
