@@ -45,7 +45,7 @@ BURDENED = " under assumptions, after a drop"
 FEW_CLAUSES, MANY_CLAUSES = "two clauses", f"{MANY} clauses"
 GROWTHS = 100  # how many allocations more the many clauses may take, whose lists double as they grow: some thirty
 MOST = 1_000  # calls of a kind are refused of a run; none makes as many
-SECONDS = 1  # within which a run ends whose thread isn't started
+SECONDS = 20  # within which a run ends whose thread isn't started, and not a minute later, when the others' tries are over
 LIMIT = 100  # seconds, after which a run hangs
 HELD = 30  # the same of one that waits for a pipe
 
