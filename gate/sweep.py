@@ -6,16 +6,20 @@
 It builds refuse.c, which the loader puts before the C library, and runs PROGRAM with the first call of a kind refused, then
 with the second, and so on until a run meets no refusal; that run has to give the ample answer. Then it does so with a few
 tests: runs without the program around them, calls that can be made again, and calls that take no memory. They are as `rt ci`
-built them; where there are none, RT, Rattle's command, makes them. Last, what a store took has to be given back.
+built them; where there are none, RT, Rattle's command, makes them. Where a thread isn't started, pipes that stay open are left
+alone, and hold nothing up. Last, what a store took has to be given back.
 """
+import fcntl
 import functools
 import itertools
 import os
 import re
 import resource
+import struct
 import subprocess
 import sys
 import tempfile
+import termios
 import time
 from collections import namedtuple
 from pathlib import Path
@@ -37,7 +41,13 @@ ERRORS_OF_WRITES = ["EIO", "ENOSPC", "EPIPE"]
 SHORT = ["short", "half"]
 MANY = 5_000
 ONE_LINE, MANY_LINES = "a line and an import", f"{MANY} lines and imports"  # as many allocations: lines take none
-SECONDS = 1  # within which a run ends whose thread isn't started
+BURDENED = " under assumptions, after a drop"
+FEW_CLAUSES, MANY_CLAUSES = "two clauses", f"{MANY} clauses"
+GROWTHS = 100  # how many allocations more the many clauses may take, whose lists double as they grow: some thirty
+MOST = 1_000  # calls of a kind are refused of a run; none makes as many
+SECONDS = 20  # within which a run ends whose thread isn't started, and not a minute later, when the others' tries are over
+LIMIT = 100  # seconds, after which a run hangs
+HELD = 30  # the same of one that waits for a pipe
 
 
 class Input:
@@ -58,15 +68,18 @@ class Machine:
         subprocess.run([os.environ.get("CC", "cc"), "-std=gnu11", "-O2", "-shared", "-fPIC", "-o", self.shim,
                         ROOT / "gate" / "refuse.c"], check=True)
 
-    def run(self, words, refuse="", out=None):
+    def run(self, words, refuse="", out=None, limit=LIMIT):
         """The answer, whether a call was refused, and the seconds that it took."""
         self.mark.unlink(missing_ok=True)
         surroundings = {"LD_PRELOAD": str(self.shim), "REFUSE": refuse, "MARK": str(self.mark), "PATH": os.environ["PATH"]}
         began = time.monotonic()
         with open(out or os.devnull, "wb") as full:
-            done = subprocess.run([self.program, *words], env=surroundings, stdin=subprocess.DEVNULL, timeout=100,
-                                  stdout=full if out else subprocess.PIPE, stderr=subprocess.PIPE)
-        answer = Answer(done.returncode, (done.stdout or b"").decode(), done.stderr.decode())
+            try:
+                done = subprocess.run([self.program, *words], env=surroundings, stdin=subprocess.DEVNULL, timeout=limit,
+                                      stdout=full if out else subprocess.PIPE, stderr=subprocess.PIPE)
+                answer = Answer(done.returncode, (done.stdout or b"").decode(), done.stderr.decode())
+            except subprocess.TimeoutExpired:
+                answer = Answer(None, "", f"no end in {limit} seconds")
         return answer, self.mark.exists(), time.monotonic() - began
 
     @functools.cache
@@ -168,6 +181,8 @@ def sweep(machine, given, kind, how):
         answers.append(answer)
         if not is_right(kind, how, number, answer, ample, given, seconds, machine):
             wrong.append(f"{given.name}, {refuse}, {seconds:.1f} s: {answer}")
+        if number == MOST:
+            return number, [*wrong, f"{given.name}, more calls than may be: {refuse}"]
     if answer != ample:
         wrong.append(f"{given.name}, nothing refused: {answer}")
     if number == 1 and are_due(kind, ample, given):
@@ -200,6 +215,11 @@ def inputs(folder):
     assumed = [EXAMPLES / "assumed.cnf", EXAMPLES / "assumed.lrup"]
     # The hints are those of the first line of bmc.lrup; the import is of the first clause of bmc.cnf.
     lines = [f"{number} 101 -107 -108 -109 0 487 490 0\n1 i 13 -1 5 0\n" for number in range(534, 534 + MANY)]
+    drop = "534 d 2 0\n"
+
+    def clauses(count):
+        """A formula with as many clauses, short and long ones by turns."""
+        return f"p cnf 12 {count}\n" + count // 2 * "1 2 0\n1 2 3 4 5 6 7 8 9 10 11 12 0\n"
 
     def dropped(text):
         return [Answer(3, f"c stream 1: {text}\ns UNKNOWN\n", "")]
@@ -225,6 +245,11 @@ def inputs(folder):
                     [*(serial or ["--tries", "1000000"]), EXAMPLES / "bmc.cnf", *FOUR_SOLVERS], 4, waits=not serial)
         yield Input(ONE_LINE + kind, [*serial, EXAMPLES / "bmc.cnf", file("line", lines[0])], 1)
         yield Input(MANY_LINES + kind, [*serial, EXAMPLES / "bmc.cnf", file("lines", "".join(lines))], 1)
+        burdened = [*serial, "--assume", EXAMPLES / "assumed.cube", EXAMPLES / "bmc.cnf"]
+        yield Input(ONE_LINE + BURDENED + kind, [*burdened, file("burdened_line", drop + lines[0])], 1, at_once)
+        yield Input(MANY_LINES + BURDENED + kind, [*burdened, file("burdened_lines", drop + "".join(lines))], 1, at_once)
+        yield Input(FEW_CLAUSES + kind, [*serial, file("few_clauses", clauses(2)), os.devnull], 1)
+        yield Input(MANY_CLAUSES + kind, [*serial, file("many_clauses", clauses(MANY)), os.devnull], 1)
     yield Input("help", ["--help"])
     yield Input("a mistake in the words", ["--tries", "x", FOUR_CLAUSE, row_one])
     yield Input("a bad formula", [bad, row_one], 1)
@@ -235,7 +260,7 @@ def inputs(folder):
 
 def kinds(given):
     yield "allocate", ""
-    if given.name.startswith((ONE_LINE, MANY_LINES)):
+    if given.name.startswith((ONE_LINE, MANY_LINES, FEW_CLAUSES, MANY_CLAUSES)):
         return
     yield "thread", ""
     for how in SHORT + ([] if given.waits else ERRORS_OF_READS):
@@ -311,6 +336,34 @@ def sweep_test(machine, test, kind):
     return number - 1, wrong
 
 
+def waiting(pipe):
+    """How many bytes were written to a pipe and not read."""
+    return struct.unpack("i", fcntl.ioctl(pipe, termios.FIONREAD, bytes(4)))[0]
+
+
+def leave(machine, folder, count):
+    """How many threads were refused beside so many pipes that stay open after their first line, and what went wrong.
+
+    The run ends all the same, and reads none of them.
+    """
+    name, line, wrong = f"{count} pipes that stay open", b"5 2 0 1 2 0\n", []
+    paths = [folder / f"pipe_{count}_{number}" for number in range(1, count + 1)]
+    pipes = []
+    for path in paths:
+        os.mkfifo(path)
+        pipes.append(os.open(path, os.O_RDWR))
+        os.write(pipes[-1], line)
+    for number in range(1, 2 * count + 1):
+        answer, _, seconds = machine.run([str(FOUR_CLAUSE), *map(str, paths)], f"thread:{number}", limit=HELD)
+        left = [waiting(pipe) for pipe in pipes]
+        if answer != not_started((number - 1) % count + 1) or left != [len(line)] * count:
+            wrong.append(f"{name}, thread:{number}, {seconds:.1f} s: {answer}; bytes left: {left}")
+            break
+    for pipe in pipes:
+        os.close(pipe)
+    return number, wrong
+
+
 def kept(rt):
     """What a test says of a store of 16 million words that is opened and dropped four times, where it doesn't pass.
 
@@ -337,6 +390,10 @@ def main():
                 wrong += answers
                 if kind == "allocate":
                     allocations[given.name] = count
+        for count in [1, 2, 8]:
+            number, answers = leave(machine, folder, count)
+            refused["thread"] += number
+            wrong += answers
         for test in tests():
             machine = Machine(program_of_tests(test.crate, sys.argv[2]), folder)
             for kind in ["allocate"] if test.last else ["allocate", "thread"]:
@@ -345,9 +402,13 @@ def main():
                 wrong += answers
     wrong += kept(sys.argv[2])
     for kind in ["", " --serial"]:
-        one, many = allocations[ONE_LINE + kind], allocations[MANY_LINES + kind]
-        if one != many:
-            wrong.append(f"one line takes {one} allocations, {MANY} lines {many}{kind}")
+        for burden in ["", BURDENED]:
+            one, many = allocations[ONE_LINE + burden + kind], allocations[MANY_LINES + burden + kind]
+            if one != many:
+                wrong.append(f"one line takes {one} allocations, {MANY} lines {many}{burden}{kind}")
+        few, many = allocations[FEW_CLAUSES + kind], allocations[MANY_CLAUSES + kind]
+        if many > few + GROWTHS:
+            wrong.append(f"two clauses take {few} allocations, {MANY} clauses {many}{kind}")
     for answer in wrong:
         print(answer)
     print("refused: " + ", ".join(f"{kind} {count}" for kind, count in refused.items())

@@ -1,0 +1,114 @@
+#!/usr/bin/env python3
+"""Counts the instructions that the program takes, and compares them with what it took when it was measured last.
+
+    instructions.py PROGRAM
+
+It needs valgrind, and says 'skipped' where there is none. PROGRAM is crates/lrupd/out/lrupd, as LLVM built it. With --serial,
+runs over the same files take as many instructions each time; what is counted is the lines' part, so a run over empty streams is
+taken off. Each has to be within 5 % of its figure below: the toolchain is fixed, and the rest is for other C libraries and
+processors. Where a change of the code is meant to move one, put the count that is printed in its place. How the work
+grows with an assumed cube is compared too, by ratios, which need no figure.
+
+The last line has the counts, and the status is 1 where one isn't as wanted.
+"""
+import os
+import re
+import shutil
+import subprocess
+import sys
+import tempfile
+import time
+from pathlib import Path
+
+ROOT = Path(__file__).resolve().parent.parent
+EXAMPLES = ROOT / "examples"
+FIGURES = {"four solvers": 6_259_316, "long lines": 9_082_910}
+MARGIN = 0.05
+LIMIT = 600  # seconds, after which a run hangs
+LITERALS, HINTS = 65_535, 65_536  # the most of one line
+ASSUMED, LINES = 20_000, 400
+
+
+class Counter:
+    """Counts the instructions of runs, whose files are in a folder."""
+
+    def __init__(self, program, folder):
+        self.program, self.folder, self.runs = program, folder, 0
+
+    def file(self, text):
+        self.runs += 1
+        path = self.folder / f"file{self.runs}"
+        path.write_text(text)
+        return path
+
+    def count(self, words, wanted):
+        """How many instructions a run takes, which has to end with this report."""
+        tool = ["valgrind", "--tool=callgrind", f"--callgrind-out-file={os.devnull}"]
+        words = ["--serial", *map(str, words)]
+        try:
+            done = subprocess.run([*tool, self.program, *words], stdin=subprocess.DEVNULL, capture_output=True, text=True,
+                                  timeout=LIMIT)
+        except subprocess.TimeoutExpired:
+            sys.exit(f"{words}: no end in {LIMIT} seconds")
+        found = re.search(r"^==\d+== Collected : (\d+)$", done.stderr, re.M)
+        if not found or done.stdout != wanted:
+            sys.exit(f"{words}: status {done.returncode}, and not\n{wanted}\nbut\n{done.stdout}{done.stderr}")
+        return int(found[1])
+
+    def lines(self, words, streams, wanted):
+        """How many more than over streams that are empty."""
+        nothing = "".join(f"c stream {number}: 0 added, 0 deleted, ended\n" for number in range(1, len(streams) + 1))
+        empty = self.count([*words, *[os.devnull] * len(streams)], nothing + "s UNKNOWN\n")
+        return self.count([*words, *streams], wanted) - empty
+
+    def four_solvers(self):
+        """3,000 lines of some 70 bytes, each whole in what one read gives."""
+        streams = [EXAMPLES / f"bmc-four.{number}" for number in range(1, 5)]
+        return self.lines([EXAMPLES / "bmc.cnf"], streams, (EXAMPLES / "bmc-four.out").read_text())
+
+    def long_lines(self):
+        """A line with the most literals and one with the most hints, which no read gives whole. The third hint is one too many."""
+        text = f"5 {'2 ' * LITERALS}0 1 2 0\n6 2 0 1 2 {'100001 ' * (HINTS - 2)}0\n"
+        wanted = "c stream 1: 1 added, 0 deleted, bad line 2 (excess 100001)\ns UNKNOWN\n"
+        return self.lines([EXAMPLES / "four-clause.cnf"], [self.file(text)], wanted)
+
+    def assumed(self, literals, lines):
+        """Some additions under so many assumed literals, none of which contradicts them."""
+        formula = self.file(f"p cnf {LITERALS} 2\n1 2 0\n-1 2 0\n")
+        cube = self.file("".join(f"{literal} " for literal in range(1, literals + 1)) + "0\n")
+        stream = self.file("".join(f"{number} 2 0 1 2 0\n" for number in range(3, 3 + lines)))
+        return self.count(["--assume", cube, formula, stream], f"c stream 1: {lines} added, 0 deleted, ended\ns UNKNOWN\n")
+
+
+def main():
+    if len(sys.argv) != 2:
+        sys.exit(__doc__)
+    if not shutil.which("valgrind"):
+        print("skipped: the instructions are not counted, since no command 'valgrind' is on the PATH")
+        return
+    began, wrong = time.monotonic(), 0
+    with tempfile.TemporaryDirectory() as name:
+        counter = Counter(os.path.abspath(sys.argv[1]), Path(name))
+        counts = {"four solvers": counter.four_solvers(), "long lines": counter.long_lines()}
+        none = counter.assumed(0, 0)
+        # A cube is looked through by halves: lines under a large one take little more than under one of one literal.
+        few, many = [counter.assumed(size, LINES) - counter.assumed(size, 0) for size in [1, ASSUMED]]
+        # It is sorted once: twice as many literals take little more than twice as long.
+        small, large = [counter.assumed(size, 0) - none for size in [4_000, 8_000]]
+    for name, count in counts.items():
+        figure = FIGURES[name]
+        if abs(count - figure) > MARGIN * figure:
+            wrong += 1
+            print(f"{name}: {count} instructions, and not {figure}, or 5 % more or less")
+    for name, ratio, most in [(f"lines under {ASSUMED:,} assumed literals, and under one", many / few, 2),
+                              ("8,000 assumed literals, and 4,000", large / small, 3)]:
+        if ratio > most:
+            wrong += 1
+            print(f"{name}: {ratio:.2f} times as many instructions, and not at most {most} times")
+    told = ", ".join(f"{name} {count}" for name, count in counts.items())
+    print(f"instructions: {told}; ratios {many / few:.2f}, {large / small:.2f}; {wrong} wrong; "
+          f"{time.monotonic() - began:.0f} seconds")
+    sys.exit(1 if wrong else 0)
+
+
+main()
