@@ -26,7 +26,7 @@ use Rattle.clap.specs.declared.parser.matches.ArgMatches.{ArgMatches}
 use Rattle.clap.specs.declared.parser.matches.Found.{Found}
 use Rattle.clap.proofs.CallerLemmas.{entry_by_id}
 use Rattle.clap.proofs.WalkLemmas.{find_row, first_value-rows, one_text-rows, raw_values-rows, simple_arg}
-use Rattle.command_line.specs.CommandLine.{lrupd, max_lines, max_room, max_tries}
+use Rattle.command_line.specs.CommandLine.{lrupd}
 use Rattle.command_line.specs.Matches.{AreFound, HasTruth, HasUpTo}
 use Rattle.command_line.proofs.FaultLemmas.{given, simple, simple_and_free}
 use Rattle.command_line.proofs.ProgramLemmas.{EachArgument, IsProgram, argument_has, is_program, program_simple}
@@ -101,13 +101,13 @@ named x xs e = cc
 other : {A : Type 0} → false ≡ true → A
 other e = cc
 
-tries_parses : Parses (codes "tries") (parser.Unsigned 0 max_tries)
+tries_parses : Parses (codes "tries") (parser.Unsigned 0 1000000)
 tries_parses = ((λ _. refl, (other, (other, (other, (other, (other, (other, tt))))))), (λ _. refl, (other, (other, (other, (other, (other, (other, (other, tt)))))))))
 
-lines_parses : Parses (codes "lines") (parser.Unsigned 0 max_lines)
+lines_parses : Parses (codes "lines") (parser.Unsigned 0 268435456)
 lines_parses = ((other, (λ _. refl, (other, (other, (other, (other, (other, tt))))))), (other, (λ _. refl, (other, (other, (other, (other, (other, (other, tt)))))))))
 
-room_parses : Parses (codes "room") (parser.Unsigned 0 max_room)
+room_parses : Parses (codes "room") (parser.Unsigned 0 268435456)
 room_parses = ((other, (other, (λ _. refl, (other, (other, (other, (other, tt))))))), (other, (other, (λ _. refl, (other, (other, (other, (other, (other, tt)))))))))
 
 serial_parses : Parses (codes "serial") parser.Bool
@@ -182,9 +182,9 @@ are_found words c d f is after whole pass good found =
       good = good;
       found = found;
       whole = record {
-        tries = up_to d f (codes "tries") max_tries program pass (named _ _) tries_parses;
-        lines = up_to d f (codes "lines") max_lines program pass (named _ _) lines_parses;
-        room = up_to d f (codes "room") max_room program pass (named _ _) room_parses;
+        tries = up_to d f (codes "tries") 1000000 program pass (named _ _) tries_parses;
+        lines = up_to d f (codes "lines") 268435456 program pass (named _ _) lines_parses;
+        room = up_to d f (codes "room") 268435456 program pass (named _ _) room_parses;
         serial = truth d f program pass;
         formula = ap is_some (sym (first_value-rows f (codes "FORMULA"))) ∙ has_first f (codes "FORMULA") formula.0 formula.1 formula.2;
         streams = (

@@ -13,18 +13,6 @@ use Rattle.command_line.specs.declared.words.CommandLine.{CommandLine}
 use Rattle.command_line.specs.declared.words.WordsFault.{WordsFault}
 use Rattle.command_line.specs.declared.words.WordsFault.TheVariants.{Usage, Memory}
 
--- the most times that a vacant hint is looked up again
-abbrev pub max_tries : ℕ
-max_tries = 1000000
-
--- the most identities of a stream
-abbrev pub max_lines : ℕ
-max_lines = 268435456
-
--- the most literals that the clauses of a stream may have together
-abbrev pub max_room : ℕ
-max_room = 268435456
-
 -- an option `--name N`, of a number from 0 to `most`
 abbrev pub number_rule : Text → ℕ → Rule
 number_rule name most = record (new_rule name) {
@@ -61,14 +49,16 @@ stream_rule = record (new_rule (codes "STREAM")) {
 }
 
 -- The command, with its arguments in the order of the help; its words don't begin with the program's
--- name. Arguments without `long` are found by their places.
+-- name. Arguments without `long` are found by their places. The numbers are how often a vacant hint
+-- is looked up again, how many identities a stream has, and how many literals its clauses may have
+-- together.
 abbrev pub lrupd : App
 lrupd = record {
   top = record (new_shape (codes "lrupd")) {
     no_binary_name = true;
-    rules = number_rule (codes "tries") max_tries
-        ∷ number_rule (codes "lines") max_lines
-        ∷ number_rule (codes "room") max_room
+    rules = number_rule (codes "tries") 1000000
+        ∷ number_rule (codes "lines") 268435456
+        ∷ number_rule (codes "room") 268435456
         ∷ assume_rule ∷ serial_rule ∷ formula_rule ∷ stream_rule ∷ [];
   };
   subs = [];
@@ -99,11 +89,11 @@ HaveFault words = fault_of lrupd words ≢ []
 -- What the rows say, field by field.
 pub record IsSaidBy (rows : List Row) (given : CommandLine) : Type 0 where
   pub tries : given.tries ≡ number_of (codes "tries") 1000 rows
-  pub few_tries : given.tries ≤ max_tries
+  pub few_tries : given.tries ≤ 1000000
   pub lines : given.lines ≡ number_of (codes "lines") 65536 rows
-  pub few_lines : given.lines ≤ max_lines
+  pub few_lines : given.lines ≤ 268435456
   pub room : given.room ≡ number_of (codes "room") 1048576 rows
-  pub small_room : given.room ≤ max_room
+  pub small_room : given.room ≤ 268435456
   pub assume : option_map (λ path. path.now) given.assume ≡ first_of (codes "assume") rows
   pub serial : given.serial ≡ is_set (codes "serial") rows
   pub formula : first_of (codes "FORMULA") rows ≡ Some given.formula.now

@@ -7,7 +7,7 @@ use Rattle.clap.specs.Words.{App, IsUnsignedIn, Row, Text, all_of, fault_of, fir
 use Rattle.clap.specs.Words.{matches_of, one_of}
 use Rattle.clap.specs.declared.error.Error.{Error}
 use Rattle.clap.specs.declared.error.kind.ErrorKind.TheVariants.{OutOfMemory}
-use Rattle.command_line.specs.CommandLine.{lrupd, max_lines, max_room, max_tries, number_rule}
+use Rattle.command_line.specs.CommandLine.{lrupd, number_rule}
 use Rattle.command_line.specs.declared.words.WordsFault.{WordsFault}
 use Rattle.command_line.specs.declared.words.WordsFault.TheVariants.{Usage, Memory}
 
@@ -19,9 +19,9 @@ without_arguments =
 -- the command, with the options that have a number
 abbrev pub with_numbers : App
 with_numbers = on_top (λ s. record s {
-  rules = number_rule (codes "tries") max_tries
-      ∷ number_rule (codes "lines") max_lines
-      ∷ number_rule (codes "room") max_room ∷ [];
+  rules = number_rule (codes "tries") 1000000
+      ∷ number_rule (codes "lines") 268435456
+      ∷ number_rule (codes "room") 268435456 ∷ [];
 }) without_arguments
 
 -- a number of 64 bits
@@ -43,9 +43,9 @@ HasTruth name rows =
 
 -- what is there in the rows of words without a fault
 pub record AreWhole (rows : List Row) : Type 0 where
-  pub tries : HasUpTo max_tries (codes "tries") rows
-  pub lines : HasUpTo max_lines (codes "lines") rows
-  pub room : HasUpTo max_room (codes "room") rows
+  pub tries : HasUpTo 1000000 (codes "tries") rows
+  pub lines : HasUpTo 268435456 (codes "lines") rows
+  pub room : HasUpTo 268435456 (codes "room") rows
   pub serial : HasTruth (codes "serial") rows
   pub formula : IsSome (first_of (codes "FORMULA") rows)
   pub streams : (paths : List Text) × (all_of (codes "STREAM") rows ≡ Some paths)

@@ -4,6 +4,8 @@ use std::alloc::Global;
 use std::process::Abort;
 use std::test::Fail;
 
+mod asked;
+
 /// The numbers of a command line, and its flag.
 #[derive(Clone, Copy, Debug, PartialEq, Eq)]
 struct Options {

@@ -1,11 +1,14 @@
 //! Files that tell their bytes, and what status 0 says of them.
-ghost use Rattle.std.specs.Prelude.{◌≡◌, IsTrue, Some, cond, false, length, nat_eq};
+ghost use Rattle.std.specs.Prelude.{◌≡◌, [], ◌∷◌, IsTrue, Some, codes, cond, false, length, nat_eq};
+ghost use Rattle.command_line.specs.CommandLine.{IsCommandLineOf};
+ghost use Rattle.command_line.specs.declared.words.CommandLine.{CommandLine};
 ghost use Rattle.dimacs.specs.FormulaText.{IsTextOf};
 ghost use Rattle.lrup_model.specs.Entailment.{IsUnsatisfiable};
 ghost use Rattle.lrup_model.specs.Formula.{Cnf};
 
 use super::*;
 use command_line::laws::plain_words;
+use outcome_laws::laws::status_0_has_a_command_line;
 
 /// A formula at the paths of one byte, and a stream at all others.
 #[derive(Drop)]
@@ -48,9 +51,29 @@ fn refutes<T: Threads + Wait + Sync + Clock>(
     command(rt, rt, alloc, &["f", "s1"], &mut files, &mut out, &mut err) == 0
 }
 
+/// The same. By a law and the clause `ends` the words then have a whole command line, and the text is one that its FORMULA names.
+fn refutes_by_its_end<T: Threads + Wait + Sync + Clock>(
+    rt: &T,
+    alloc: Global,
+    formula: &str,
+    stream: &str,
+) -> bool
+    ensures { IsTrue result → (given : CommandLine) × (f : Cnf)
+        × IsCommandLineOf (codes "f" ∷ codes "s1" ∷ []) given
+        × IsTextOf formula.now f × IsUnsatisfiable f }
+{
+    plain_words();
+    let mut files = Told { formula, stream };
+    status_0_has_a_command_line(&files);
+    let mut out = Paper::new(alloc, 7, 0);
+    let mut err = Paper::new(alloc, 7, 0);
+    command(rt, rt, alloc, &["f", "s1"], &mut files, &mut out, &mut err) == 0
+}
+
 #[test]
 fn a_formula_that_is_told(rt: HostRuntime) {
     let proof = "5 2 0 1 2 0\n6 0 5 3 4 0\n";
     same(&rt, refutes(&rt, rt.alloc(), FOUR, proof), true);
     same(&rt, refutes(&rt, rt.alloc(), FOUR, ""), false);
+    same(&rt, refutes_by_its_end(&rt, rt.alloc(), FOUR, proof), true);
 }

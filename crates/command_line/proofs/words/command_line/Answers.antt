@@ -1,32 +1,31 @@
 use Rattle.std.proofs.Common.{◌≤◌, ℕ, arith, codes, subst, sym}
 use Rattle.clap.specs.Words.{found_of, rows_of}
-use Rattle.command_line.specs.CommandLine.{max_lines, max_room, max_tries}
 use Rattle.command_line.proofs.ReadLemmas.{number_within, same_length, up_to_is_number}
 use Rattle.command_line.proofs.words.command_line.Goals as goal
 
 pub number_of-requires : goal.number_of-requires
-number_of-requires c = up_to_is_number max_tries (codes "tries") (rows_of (found_of c.args.matches.now)) c.requires.tries
+number_of-requires c = up_to_is_number 1000000 (codes "tries") (rows_of (found_of c.args.matches.now)) c.requires.tries
 
 pub number_of-requires-2 : goal.number_of-requires-2
-number_of-requires-2 c = up_to_is_number max_lines (codes "lines") (rows_of (found_of c.args.matches.now)) c.requires.lines
+number_of-requires-2 c = up_to_is_number 268435456 (codes "lines") (rows_of (found_of c.args.matches.now)) c.requires.lines
 
 pub number_of-requires-3 : goal.number_of-requires-3
-number_of-requires-3 c = up_to_is_number max_room (codes "room") (rows_of (found_of c.args.matches.now)) c.requires.room
+number_of-requires-3 c = up_to_is_number 268435456 (codes "room") (rows_of (found_of c.args.matches.now)) c.requires.room
 
 pub returns : goal.returns
 returns c =
     let rows = rows_of (found_of c.args.matches.now) in
-    let tries = number_within max_tries (codes "tries") 1000 rows c.requires.tries (omega arith) in
-    let lines = number_within max_lines (codes "lines") 65536 rows c.requires.lines (omega arith) in
-    let room = number_within max_room (codes "room") 1048576 rows c.requires.room (omega arith) in
+    let tries = number_within 1000000 (codes "tries") 1000 rows c.requires.tries (omega arith) in
+    let lines = number_within 268435456 (codes "lines") 65536 rows c.requires.lines (omega arith) in
+    let room = number_within 268435456 (codes "room") 1048576 rows c.requires.room (omega arith) in
     let streams = c.in_ok-streams_of.ensures in
     record {
       tries = c.number_of.ensures;
-      few_tries = subst (λ (n : ℕ). n ≤ max_tries) (sym c.number_of.ensures) tries;
+      few_tries = subst (λ (n : ℕ). n ≤ 1000000) (sym c.number_of.ensures) tries;
       lines = c.number_of-2.ensures;
-      few_lines = subst (λ (n : ℕ). n ≤ max_lines) (sym c.number_of-2.ensures) lines;
+      few_lines = subst (λ (n : ℕ). n ≤ 268435456) (sym c.number_of-2.ensures) lines;
       room = c.number_of-3.ensures;
-      small_room = subst (λ (n : ℕ). n ≤ max_room) (sym c.number_of-3.ensures) room;
+      small_room = subst (λ (n : ℕ). n ≤ 268435456) (sym c.number_of-3.ensures) room;
       assume = c.assume_of.ensures;
       serial = c.is_set.ensures;
       formula = c.formula_of.ensures;

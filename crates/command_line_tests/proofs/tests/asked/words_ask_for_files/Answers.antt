@@ -1,0 +1,15 @@
+use Rattle.std.proofs.Common.{◌≡◌, ℕ, List, [], ◌∷◌, Option, Some, codes, refl}
+use Rattle.clap.proofs.OnLiterals.{clap_on_literals}
+use Rattle.command_line.specs.CommandLine.{AskFor}
+use Rattle.command_line_tests.proofs.tests.asked.words_ask_for_files.Goals as goal
+
+assumed : AskFor (codes "--assume" ∷ codes "a" ∷ codes "f" ∷ codes "s" ∷ []) (codes "f") (Some (codes "a"))
+unfolding clap_on_literals
+assumed = record { good = refl; formula_is = refl; assume_is = refl }
+
+fault : (formula : List ℕ) (assume : Option (List ℕ)) → ¬ AskFor (codes "--assume" ∷ codes "a" ∷ codes "f" ∷ []) formula assume
+unfolding clap_on_literals
+fault formula assume h = let e = h.good in cc
+
+pub returns : goal.returns
+returns c = record { assumed = assumed; fault = fault }
