@@ -1,12 +1,11 @@
 -- A few texts, by the definition of a text.
-use Rattle.std.proofs.Common.{◌≡◌, ◌≢◌, ◌+◌, ◌^◌, ◌<◌, ◌≤◌, ℕ, ℤ, pos, negsuc, nat_abs, zero, suc, List, [], ◌∷◌, ◌++◌, codes, map, flat_map, length, get_or, refl, sym, ap, ◌∙◌, arith}
+use Rattle.std.proofs.Common.{◌≡◌, ◌≢◌, ◌^◌, ◌<◌, ◌≤◌, ℕ, ℤ, pos, negsuc, nat_abs, zero, suc, List, [], ◌∷◌, ◌++◌, codes, map, flat_map, get_or, refl, sym, ap, ◌∙◌, arith}
 use Rattle.std.specs.Fmt.{decimal, signed_decimal}
 use Rattle.std.specs.List.{AllByRecursion}
 use Rattle.std.proofs.lemmas.Fmt.{decimal_digit, first_decimal}
-use Rattle.lrup_model.specs.Formula.{Cnf, max_clause_literals}
+use Rattle.lrup_model.specs.Formula.{Cnf}
 use Rattle.lrup_model.specs.Literal.{IsLiteral, max_variable}
 use Rattle.dimacs.specs.FormulaText.{IsTextOf}
-use Rattle.dimacs.specs.Lines.{token_lines}
 
 -- no number is printed with a zero in front of it
 count_begins : (n b : ℕ) (bs : List ℕ) → n < 2 ^ 64 → decimal n ≢ 48 ∷ b ∷ bs

@@ -1,5 +1,5 @@
 -- A few texts, by the definition of a cube's text.
-use Rattle.std.proofs.Common.{append_assoc, length-append, ◌≡◌, ◌⊎◌, ◌+◌, ◌^◌, ◌<◌, ◌≤◌, ℕ, ℤ, pos, negsuc, nat_abs, zero, suc, List, [], ◌∷◌, ◌++◌, codes, flat_map, length, get_or, refl, ap, inl, inr, ⊎_elim, arith}
+use Rattle.std.proofs.Common.{append_assoc, length-append, ◌≡◌, ◌<◌, ◌≤◌, ℕ, ℤ, pos, negsuc, zero, suc, List, [], ◌∷◌, ◌++◌, codes, flat_map, length, get_or, refl, ap, inl, inr, arith}
 use Rattle.std.specs.Fmt.{decimal, signed_decimal}
 use Rattle.std.proofs.lemmas.Fmt.{decimal_digit, first_decimal}
 use Rattle.lrup_model.specs.Clause.{Has}

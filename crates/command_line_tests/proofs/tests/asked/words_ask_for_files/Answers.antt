@@ -1,4 +1,4 @@
-use Rattle.std.proofs.Common.{◌≡◌, ℕ, List, [], ◌∷◌, Option, Some, codes, refl}
+use Rattle.std.proofs.Common.{ℕ, List, [], ◌∷◌, Option, Some, codes, refl}
 use Rattle.clap.proofs.OnLiterals.{clap_on_literals}
 use Rattle.command_line.specs.CommandLine.{AskFor}
 use Rattle.command_line_tests.proofs.tests.asked.words_ask_for_files.Goals as goal

@@ -1,7 +1,17 @@
 use Rattle.std.proofs.Common.{◌≡◌, ℕ, List, [], ◌∷◌, Some, cond, codes, length, nat_eq, refl, sym, ap, subst, arith}
 use Rattle.std.proofs.lemmas.Bool.{eqb-true}
+use Rattle.lrup_model.specs.Formula.{Cnf}
+use Rattle.lrup_text.specs.Reads.{ReadsOf}
 use Rattle.dimacs.specs.FormulaText.{IsTextOf}
+use Rattle.command.specs.Commands.{WasRead}
 use Rattle.command_tests.proofs.tests.told.refutes_by_its_end.Goals as goal
+
+-- what the file at `f` tells is what was read of it
+read_is_told : (R : Type 0) (opens : List ℕ → R → Type 0) (reads : ReadsOf R) (formula stream path bytes : List ℕ) → path ≡ codes "f" → WasRead R opens reads (λ p. Some (cond (nat_eq (length p) 1) formula stream)) path bytes → formula ≡ bytes
+read_is_told R opens reads formula stream path bytes is read = read.told formula (ap (λ (p : List ℕ). Some (cond (nat_eq (length p) 1) formula stream)) is)
+
+text_is_told : (formula bytes : List ℕ) (f : Cnf) → formula ≡ bytes → IsTextOf bytes f → IsTextOf formula f
+text_is_told formula bytes f same text = subst (λ (x : List ℕ). IsTextOf x f) (sym same) text
 
 pub returns : goal.returns
 returns g c zero =
@@ -9,5 +19,5 @@ returns g c zero =
     let ends = rw (eqb-true c.command.result 0 zero) at c.command.ensures.ends in
     let named = c.status_0_has_a_command_line.ensures _ _ _ ends in
     let said = (c.plain_words.ensures (codes "f") (codes "s1" ∷ []) refl refl (omega arith) (omega arith)).1 named.0 named.3 in
-    let same : formula ≡ named.1 = named.4.told formula (ap (λ (path : List ℕ). Some (cond (nat_eq (length path) 1) formula c.args.stream.now)) said.formula) in
-    (named.0, named.2, named.3, subst (λ (bytes : List ℕ). IsTextOf bytes named.2) (sym same) named.5, named.6)
+    let same = read_is_told _ _ _ formula c.args.stream.now named.0.formula.now named.1 said.formula named.4 in
+    (named.0, named.2, named.3, text_is_told formula named.1 named.2 same named.5, named.6)

@@ -1,5 +1,4 @@
-use Rattle.std.proofs.Common.{◌≡◌, ℕ, pos, List, [], ◌∷◌, codes, sym, subst}
-use Rattle.lrup_model.specs.Formula.{Cnf}
+use Rattle.std.proofs.Common.{codes, sym, subst}
 use Rattle.dimacs.specs.FormulaText.{IsTextOf}
 use Rattle.dimacs_tests.proofs.TextLemmas.{text_of_two_lines, text_of_comment}
 use Rattle.dimacs_tests.proofs.tests.texts.a_clause_ends_at_its_zero.Goals as goal
