@@ -1,5 +1,5 @@
 -- A text of a formula, as it is printed, is the text that is read token by token.
-use Rattle.std.proofs.Common.{inl, inr, ◌≡◌, ◌⊎◌, ◌+◌, ◌-◌, ◌*◌, ◌^◌, ◌<◌, ◌≤◌, ◌&&◌, ◌==◌, ℕ, ℤ, pos, negsuc, neg_ℤ, nat_abs, zero, suc, true, false, not, cond, leb, List, [], ◌∷◌, ◌++◌, codes, map, flat_map, filter, length, get_or, Option, Some, None, refl, sym, ap, ◌∙◌, subst, arith}
+use Rattle.std.proofs.Common.{inl, inr, ◌≡◌, ◌+◌, ◌-◌, ◌*◌, ◌^◌, ◌<◌, ◌≤◌, ◌&&◌, ◌==◌, ℕ, ℤ, pos, negsuc, neg_ℤ, nat_abs, zero, suc, true, false, not, leb, List, [], ◌∷◌, ◌++◌, codes, map, flat_map, filter, length, get_or, Option, Some, None, refl, sym, ap, ◌∙◌, subst, arith}
 use Rattle.std.specs.Fmt.{decimal, signed_decimal}
 use Rattle.std.specs.List.{AllByRecursion, slice_split}
 use Rattle.std.proofs.lemmas.Bool.{and_from, and_parts, cases_Bool, eqb-true, le-leb, leb-true, ne_eqb}
@@ -13,9 +13,9 @@ use Rattle.lrup_model.specs.Formula.{Cnf, max_clause_literals}
 use Rattle.lrup_model.specs.ListLemmas.{All-append, All-map}
 use Rattle.lrup_model.specs.Literal.{IsLiteral, max_variable}
 use Rattle.dimacs.specs.Lines.{Line, Token, is_comment, is_empty, runs, lines_from, lines_of, tokens_of, all_tokens, token_lines}
-use Rattle.dimacs.specs.Numerals.{is_digit, all_digits, value_after, value, is_numeral, is_zero, is_count, negative_of, number_of}
+use Rattle.dimacs.specs.Numerals.{is_digit, all_digits, value_after, value, is_numeral, is_zero, negative_of, number_of}
 use Rattle.dimacs.specs.FormulaText.{IsTextOf}
-use Rattle.dimacs.specs.FormulaTokens.{IsCount, IsHeader, InBodyOf, InBody, IsWritten, IsRead, IsSetOf, AreSetsOf, AreClauses, ended}
+use Rattle.dimacs.specs.FormulaTokens.{IsCount, IsHeader, InBodyOf, InBody, IsWritten, IsSetOf, AreSetsOf, AreClauses, ended}
 use Rattle.dimacs.proofs.NumeralLemmas.{value_after-le}
 use Rattle.dimacs.proofs.TokenLemmas.{negative}
 

@@ -1,5 +1,5 @@
 -- One stream alone.
-use Rattle.std.proofs.Common.{◌≡◌, ℕ, Bool, true, false, eqb, List, [], ◌∷◌, refl, sym, ap, subst, ◌∙◌, eq-eqb, inl, inr}
+use Rattle.std.proofs.Common.{◌≡◌, ℕ, true, false, eqb, List, [], ◌∷◌, refl, sym, ap, subst, ◌∙◌, eq-eqb, inl, inr}
 use Rattle.std.specs.Prelude.{IsTrue}
 use Rattle.std.specs.List.{AllByRecursion}
 use Rattle.std.proofs.lemmas.Bool.Decides.{eqb_tells}
@@ -7,15 +7,13 @@ use Rattle.std.proofs.lemmas.Bool.{cond-true}
 use Rattle.lrup_model.specs.Formula.{Cnf}
 use Rattle.lrup_model.specs.Event.{History, stream_of, own}
 use Rattle.lrup_text.specs.Laws.{EveryCut, BeginningCut}
-use Rattle.lrup_text.specs.Lines.{StreamLine}
-use Rattle.lrup_model.specs.Layout.{LayoutValue}
 use Rattle.lrup_model.specs.ListLemmas.{All-front}
 use Rattle.stream_check.specs.declared.report.Report.{Report}
 use Rattle.stream_check.specs.Setting.{Setting}
 use Rattle.stream_check.specs.Judging.{StreamEnd, ended, failed, JudgesBlocks, Judges}
 use Rattle.stream_check.specs.Laws.{cited_by, OverStays, AloneDecides}
 use Rattle.runs.specs.Streams.{Stop, at_end, at_failure, early, Stream, JudgesTo, Terms, setting_of}
-use Rattle.runs.specs.Closed.{IsAt, IsWithin, CiteWithin}
+use Rattle.runs.specs.Closed.{IsAt, IsWithin}
 use Rattle.groups.specs.Groups.{one, IsAlone, IsReadingTo, IsReadingOf}
 use Rattle.groups.specs.Laws.{AloneHasOneReport, BeginningsWithin}
 use Rattle.groups.proofs.Places.{judged_at}

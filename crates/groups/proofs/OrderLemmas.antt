@@ -1,11 +1,11 @@
 -- An order of lines as a history, and the lines of a closed set of streams.
-use Rattle.std.proofs.Common.{◌≡◌, ℕ, ◌+◌, Bool, true, false, List, [], ◌∷◌, ◌++◌, length, refl, sym, ap, subst, ◌∙◌, inl, inr}
+use Rattle.std.proofs.Common.{◌≡◌, ℕ, ◌+◌, Bool, true, false, List, [], ◌∷◌, ◌++◌, refl, sym, ap, subst, ◌∙◌, inl, inr}
 use Rattle.std.specs.Prelude.{IsTrue}
 use Rattle.std.specs.List.{AllByRecursion, filter}
 use Rattle.std.proofs.lemmas.Bool.{cases_Bool, cases_eq, cond-true, cond-false, true≢false}
 use Rattle.std.proofs.lemmas.List.Elements.{filter-append}
-use Rattle.lrup_model.specs.Layout.{LayoutValue, IsStream}
-use Rattle.lrup_model.specs.Event.{Event, History, stream_of, own}
+use Rattle.lrup_model.specs.Layout.{LayoutValue}
+use Rattle.lrup_model.specs.Event.{History, stream_of, own}
 use Rattle.lrup_model.specs.History.{IsLegal}
 use Rattle.lrup_model.specs.HistoryLemmas.{own-none, own-all}
 use Rattle.lrup_model.specs.CallerLemmas.{calls_differ}

@@ -1,6 +1,5 @@
 -- What readers told, and two runs of one stream.
-use Rattle.std.proofs.Common.{◌≡◌, ℕ, zero, suc, ◌+◌, ◌-◌, Bool, true, false, Option, List, [], ◌∷◌, ◌++◌, Some, None, refl, sym, ap, subst, ◌∙◌, append_assoc, append-nil, arith}
-use Rattle.std.specs.Prelude.{IsTrue, slice_get}
+use Rattle.std.proofs.Common.{◌≡◌, ℕ, ◌-◌, Bool, true, false, Option, List, ◌++◌, Some, None, refl, sym, ap, subst, ◌∙◌, append_assoc, append-nil, arith}
 use Rattle.std.specs.Io.KnownBytes.{Consumes}
 use Rattle.std.proofs.lemmas.List.{append_cancel_right}
 use Rattle.std.proofs.lemmas.Option.{slice_get_within}
@@ -13,10 +12,9 @@ use Rattle.stream_check.specs.Setting.{Setting}
 use Rattle.stream_check.specs.Judging.{StreamEnd, ended, failed, JudgesBlocks, Judges}
 use Rattle.stream_check.specs.Laws.{AloneDecides, DecidedBeforeFailure, IsOfMemory, IsOfFailure}
 use Rattle.runs.specs.Streams.{Stop, at_end, at_failure, early, Stream, Telling, read_to, StopsSo, IsTold, AreTold, JudgesTo, Terms, setting_of}
-use Rattle.runs.specs.Headline.{AreJudgedIn}
-use Rattle.runs.specs.Closed.{IsAt, CiteWithin, IsClosed}
+use Rattle.runs.specs.Closed.{IsAt, CiteWithin}
 use Rattle.runs.specs.StreamLemmas.{told_count, told_from, told_begins, same_at}
-use Rattle.groups.specs.Groups.{one, NoneOutOfMemory, IsAlone, IsRun, IsReadingTo, IsReadingOf}
+use Rattle.groups.specs.Groups.{one, IsAlone, IsRun, IsReadingTo}
 use Rattle.groups.specs.Laws.{BeginningsWithin, ReadersClosed, ClosedIsGroup, OrderedIsGroup, AloneHasOneReport, RunIsolated, SerialIsolated, ThreadsRun, SerialRun, ToldIsReading, FailedIsReading, SameReadingAgrees, SameBytesAgree}
 use Rattle.groups.proofs.Places.{has_place, judged_count, judged_at, judged_fewer}
 use Rattle.groups.proofs.OrderLemmas.{ordered_judged}

@@ -1,9 +1,8 @@
 -- A cube's text, as it is printed, is the text of its literals that is read.
-use Rattle.std.proofs.Common.{◌≡◌, ℕ, ℤ, pos, negsuc, ◌<◌, ◌^◌, List, [], ◌∷◌, ◌++◌, unsigned_abs, nat_abs, refl, sym, ◌∙◌, arith}
-use Rattle.std.specs.List.{AllByRecursion}
+use Rattle.std.proofs.Common.{ℕ, ℤ, pos, negsuc, ◌<◌, ◌^◌, List, [], ◌∷◌, sym, ◌∙◌, arith}
 use Rattle.lrup_model.specs.Cube.{CubeValue, IsCubeOf, IsOver}
 use Rattle.lrup_model.specs.ListLemmas.{All-map}
-use Rattle.lrup_model.specs.Literal.{IsLiteral, max_variable}
+use Rattle.lrup_model.specs.Literal.{IsLiteral}
 use Rattle.lrup_text.specs.Cubes.{IsTextOf, IsCubeText, CubeTextIsRead}
 use Rattle.lrup_text.specs.Grammar.{line_feed}
 use Rattle.lrup_text.specs.Lines.{IsStreamLiteral}

@@ -8,7 +8,7 @@ use Rattle.lrup_model.specs.Formula.{Cnf}
 use Rattle.lrup_model.specs.Layout.{LayoutValue, Fits, IsStream}
 use Rattle.lrup_model.specs.Event as events
 use Rattle.lrup_model.specs.Event.{Event, History, stream_of, own, spent, size_of}
-use Rattle.lrup_model.specs.State.{State, live, retired, IsRetired, retire_slot, opening, after, run, state}
+use Rattle.lrup_model.specs.State.{State, IsRetired, retire_slot, opening, after, run, state}
 use Rattle.lrup_model.specs.History.{LegalFrom, IsLegal}
 use Rattle.lrup_model.specs.Running.{own-append}
 use Rattle.lrup_model.specs.HistoryLemmas.{put-same, own-mine, own-other, own-all}

@@ -1,11 +1,11 @@
 -- The premise on what is retired: by the final state, by events, and by the streams' lines.
-use Rattle.std.proofs.Common.{◌≡◌, ◌⊎◌, ◌-◌, ◌&&◌, ◌||◌, ℕ, zero, suc, Bool, eqb, List, [], ◌∷◌, ◌++◌, length, refl, sym, subst, ◌∙◌, inl, inr, ltb, leb, eq-eqb, arith}
+use Rattle.std.proofs.Common.{◌≡◌, ◌⊎◌, ◌-◌, ◌&&◌, ◌||◌, ℕ, Bool, eqb, List, [], ◌∷◌, ◌++◌, length, refl, sym, subst, ◌∙◌, inl, inr, ltb, leb, eq-eqb, arith}
 use Rattle.std.specs.Prelude.{IsTrue}
 use Rattle.std.specs.List.{AllByRecursion, list_any}
 use Rattle.std.proofs.lemmas.Bool.{cases_eq, cases_Bool, cond-true, cond-false, or_right, or_left}
 use Rattle.std.proofs.lemmas.List.Folds.{list_any-append}
 use Rattle.lrup_model.specs.Formula.{Cnf, clause_at}
-use Rattle.lrup_model.specs.Layout.{LayoutValue, IsStream, Owns}
+use Rattle.lrup_model.specs.Layout.{LayoutValue, Owns}
 use Rattle.lrup_model.specs.Event as events
 use Rattle.lrup_model.specs.Event.{Event, Reply, History, stream_of, own}
 use Rattle.lrup_model.specs.State.{State, absent, live, IsRetired, retire_slot, opening, after, run, state}
@@ -19,10 +19,10 @@ use Rattle.lrup_text.specs.Lines.{StreamLine}
 use Rattle.lrup_text.specs.Laws.{BeginningCut, EveryCut}
 use Rattle.stream_check.specs.Standing.{is_among, deleted_by}
 use Rattle.stream_check.specs.Laws.{cited_by, FetchesOnly, CitedFetched}
-use Rattle.runs.specs.Streams.{Stream, setting_of}
+use Rattle.runs.specs.Streams.{setting_of}
 use Rattle.runs.specs.StreamLemmas.{told_from, told_begins}
 use Rattle.runs.specs.Closed.{CiteWithin}
-use Rattle.orders.specs.Premises.{IsLiveReply, FindsKept, FindsUnretired, MeetsUnretired, IsRetireOf, Retires, cites, deletes, Cites, Deletes}
+use Rattle.orders.specs.Premises.{FindsKept, FindsUnretired, MeetsUnretired, IsRetireOf, Retires, cites, deletes, Cites, Deletes}
 use Rattle.orders.specs.Laws.{KeptByEvents, OwnersAloneSuffices, SharedStays, BeginningsCite, ReadersShare, RetiresOnly, DeletedRetired}
 use Rattle.orders.proofs.SwapLemmas.{gone_stays}
 use Rattle.orders.proofs.WalkLemmas.{own-calls}

@@ -2,7 +2,7 @@
 use Rattle.std.proofs.Common.{◌≡◌, ◌+◌, ◌-◌, ◌<◌, ◌≤◌, ℕ, zero, suc, Bool, true, cond, eqb, List, [], ◌∷◌, map, length, Some, refl, sym, subst, ◌∙◌, inl, inr, arith, ne_eqb, eq-eqb}
 use Rattle.std.specs.Prelude.{IsTrue, slice_get}
 use Rattle.std.specs.List.{AllByRecursion}
-use Rattle.std.proofs.lemmas.Bool.{cases_eq, cases_Bool, cond-true, cond-false, true≢false}
+use Rattle.std.proofs.lemmas.Bool.{cases_Bool, cond-true, cond-false, true≢false}
 use Rattle.lrup_model.specs.Layout.{LayoutValue, IsStream, Owns, owner}
 use Rattle.lrup_model.specs.declared.layout.Owner.{Owner}
 use Rattle.lrup_model.specs.declared.layout.Owner.TheVariants as owners
@@ -19,9 +19,9 @@ use Rattle.stream_check.specs.Reducing.{reduced}
 use Rattle.stream_check.specs.Laws.{cited_by, FetchesOnly, CitedFetched, ReducedStream}
 use Rattle.runs.specs.Streams.{Stop, at_end, at_failure, early, Stream, JudgesTo, JudgesStream, Block, blocks_of, IsBlockWithin, AreJudged, Terms, setting_of}
 use Rattle.runs.specs.Headline.{IsJudgedBy, AreJudgedIn}
-use Rattle.runs.specs.Closed.{IsAt, IsWithin, CiteWithin, IsClosed}
+use Rattle.runs.specs.Closed.{IsAt, IsWithin, CiteWithin}
 use Rattle.runs.specs.StreamLemmas.{told_count}
-use Rattle.orders.specs.Lines.{IsLineBlock, IsOrder}
+use Rattle.orders.specs.Lines.{IsOrder}
 use Rattle.orders.specs.Laws.{JudgedBlocks, LinesOrdered, ClosedOrdered, AllClosed, RunSerializable}
 use Rattle.orders.proofs.OrderLemmas.{streams_in, streams_are, are_streams, own_each}
 

@@ -1,7 +1,7 @@
 -- The verdict that an order of lines comes to: some stream says that it added the empty clause, or one within the cube, exactly if
 -- the order publishes one.
 use Rattle.std.proofs.Common.{◌≡◌, ◌||◌, ◌+◌, ◌-◌, ◌<◌, ◌≤◌, ℕ, zero, suc, ℤ, Bool, true, false, List, [], ◌∷◌, ◌++◌, length, refl, sym, ap, subst, ◌∙◌, inl, inr, arith, ne_eqb}
-use Rattle.std.specs.Prelude.{IsTrue, ◌==◌}
+use Rattle.std.specs.Prelude.{◌==◌}
 use Rattle.std.specs.List.{AllByRecursion, list_any}
 use Rattle.std.proofs.lemmas.Bool.{cases_eq, cases_Bool, true≢false, or_right, or_left, or_cases}
 use Rattle.std.proofs.lemmas.List.Folds.{list_any-append}
@@ -15,7 +15,7 @@ use Rattle.stream_check.specs.declared.fault.Fault.{Fault}
 use Rattle.stream_check.specs.declared.report.Report.{Report}
 use Rattle.stream_check.specs.Setting.{Setting}
 use Rattle.stream_check.specs.Standing.{Standing, standing_of, adds_empty, adds_within}
-use Rattle.stream_check.specs.Verdicts.{Verdict, Good, Bad}
+use Rattle.stream_check.specs.Verdicts.{Good, Bad}
 use Rattle.stream_check.specs.Additions.{published_by}
 use Rattle.stream_check.specs.Finding.{IsGoodAddition}
 use Rattle.stream_check.specs.Judging.{JudgesLine, AreGood, EndsAfter, StreamEnd, joined, JudgesBlocks}
