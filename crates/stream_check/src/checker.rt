@@ -115,6 +115,7 @@ impl Checker {
             },
             Taken::Stopped(used, stop) => {
                 self.ending = Some(stop.ending(self.held.line));
+                gate.when_over(self.stream(), &self.report());
                 Progress {
                     used,
                     turn: Turn::Over,
@@ -146,6 +147,13 @@ impl Checker {
             return;
         }
         self.ending = Some(Ending::ReadFailed(self.held.line));
+    }
+
+    /// The stream whose lines are checked, from 1 on.
+    pub fn stream(&self) -> u64
+        ensures { result ≡ self.now.setting.stream }
+    {
+        self.held.setting.stream()
     }
 
     /// Is nothing more taken?
