@@ -17,26 +17,32 @@ const WAIT: u64 = 1;
 /// How long a stream adds clauses before their count is told, in seconds.
 const INTERVAL: u64 = 10;
 
-/// Tells of one stream, on a sink if there is one, what goes on. A clock that fails leaves out the lines that want the time; after a
-/// write that fails nothing more is told.
+/// Tells of one stream, on its sink, what goes on. A clock that fails leaves out the lines that want the time; after a write that
+/// fails nothing more is told.
+// What it does is cold: a run that isn't watched has a test in its place, and no more.
 #[derive(Drop)]
 struct Teller<C: Clock + Drop, S: Sink + Drop> {
     clock: C,
-    sink: Option<S>,
+    sink: S,
     /// How many clauses were published.
     added: u64,
     /// When their count was told last, or the clock was looked at first.
     counted: Option<Instant>,
+    /// When a hint was looked up again first. None where its waiting isn't told any more.
+    asked: Option<Instant>,
 }
 
 impl<C: Clock + Drop, S: Sink + Drop> Teller<C, S> {
-    fn new(clock: C, sink: Option<S>) -> Teller<C, S> {
-        Teller {
+    /// One that tells on the sink, if there is one.
+    fn over(clock: C, sink: Option<S>) -> Option<Teller<C, S>> {
+        let sink = sink?;
+        Some(Teller {
             clock,
             sink,
             added: 0,
             counted: None,
-        }
+            asked: None,
+        })
     }
 
     /// The time, where the clock tells it.
@@ -45,6 +51,8 @@ impl<C: Clock + Drop, S: Sink + Drop> Teller<C, S> {
     }
 
     /// Counts a clause, and tells at times how many there are.
+    #[cold]
+    #[inline(never)]
     fn count(&mut self, stream: u64) {
         self.added = self.added.saturating_add(1);
         if self.added % PUBLISHES == 0 {
@@ -53,7 +61,6 @@ impl<C: Clock + Drop, S: Sink + Drop> Teller<C, S> {
     }
 
     /// Tells how many clauses the stream has added, where that is long ago.
-    #[inline(never)]
     fn tell_count(&mut self, stream: u64) {
         let Some(now) = self.now() else {
             return;
@@ -66,29 +73,42 @@ impl<C: Clock + Drop, S: Sink + Drop> Teller<C, S> {
             return;
         }
         self.counted = Some(now);
-        if let Some(sink) = &mut self.sink {
-            if !sink.failed() {
-                let _ = write_count(stream, self.added, sink);
-            }
+        if !self.sink.failed() {
+            let _ = write_count(stream, self.added, &mut self.sink);
         }
     }
 
-    /// Tells that the stream waits for an identity.
+    /// Takes the time of a hint's second attempt, and looks at the clock again at later ones.
+    #[cold]
+    #[inline(never)]
+    fn note_attempt(&mut self, stream: u64, id: Id, attempt: u64) {
+        if attempt == 2 {
+            self.asked = self.now();
+        } else if attempt % ATTEMPTS == 0 {
+            self.tell_wait(stream, id);
+        }
+    }
+
+    /// Tells that the stream waits for an identity, where it has for long enough.
     fn tell_wait(&mut self, stream: u64, id: Id) {
-        if let Some(sink) = &mut self.sink {
-            if !sink.failed() {
-                let _ = write_wait(stream, id, sink);
-            }
+        let (Some(asked), Some(now)) = (self.asked, self.now()) else {
+            return;
+        };
+        if now.duration_since(asked).as_secs() < WAIT {
+            return;
+        }
+        self.asked = None;
+        if !self.sink.failed() {
+            let _ = write_wait(stream, id, &mut self.sink);
         }
     }
 
     /// Tells that the stream is over, and how it is judged.
+    #[cold]
     #[inline(never)]
     fn tell_over(&mut self, stream: u64, report: &Report) {
-        if let Some(sink) = &mut self.sink {
-            if !sink.failed() {
-                let _ = write_over(stream, report, sink);
-            }
+        if !self.sink.failed() {
+            let _ = write_over(stream, report, &mut self.sink);
         }
     }
 }
@@ -100,9 +120,7 @@ impl<C: Clock + Drop, S: Sink + Drop> Teller<C, S> {
 #[derive(Drop)]
 pub struct Watch<G: Gate + Drop, C: Clock + Drop, S: Sink + Drop> {
     gate: G,
-    teller: Teller<C, S>,
-    /// When the hint was looked up again first. None where its waiting isn't told any more.
-    asked: Option<Instant>,
+    teller: Option<Teller<C, S>>,
 }
 
 impl<G: Gate + Drop, C: Clock + Drop, S: Sink + Drop> Watch<G, C, S> {
@@ -110,29 +128,7 @@ impl<G: Gate + Drop, C: Clock + Drop, S: Sink + Drop> Watch<G, C, S> {
     pub fn new(gate: G, clock: C, sink: Option<S>) -> Watch<G, C, S> {
         Watch {
             gate,
-            teller: Teller::new(clock, sink),
-            asked: None,
-        }
-    }
-
-    /// Takes the time of a hint's second attempt, and looks at the clock again at later ones.
-    #[inline(never)]
-    fn note_attempt(&mut self, stream: u64, id: Id, attempt: u64) {
-        if attempt == 2 {
-            self.asked = self.teller.now();
-        } else if attempt % ATTEMPTS == 0 {
-            self.note_wait(stream, id);
-        }
-    }
-
-    /// Tells that the stream waits for an identity, where it has for long enough.
-    fn note_wait(&mut self, stream: u64, id: Id) {
-        let (Some(asked), Some(now)) = (self.asked, self.teller.now()) else {
-            return;
-        };
-        if now.duration_since(asked).as_secs() >= WAIT {
-            self.asked = None;
-            self.teller.tell_wait(stream, id);
+            teller: Teller::over(clock, sink),
         }
     }
 }
@@ -140,22 +136,26 @@ impl<G: Gate + Drop, C: Clock + Drop, S: Sink + Drop> Watch<G, C, S> {
 impl<G: Gate + Drop, C: Clock + Drop, S: Sink + Drop> Gate for Watch<G, C, S> {
     #[inline]
     fn before_fetch(&mut self, stream: u64, id: Id, attempt: u64) {
-        if attempt > 1 && self.teller.sink.is_some() {
-            self.note_attempt(stream, id, attempt);
+        if attempt > 1 {
+            if let Some(teller) = &mut self.teller {
+                teller.note_attempt(stream, id, attempt);
+            }
         }
         self.gate.before_fetch(stream, id, attempt);
     }
 
     #[inline]
     fn after_publish(&mut self, stream: u64, id: Id) {
-        if self.teller.sink.is_some() {
-            self.teller.count(stream);
+        if let Some(teller) = &mut self.teller {
+            teller.count(stream);
         }
         self.gate.after_publish(stream, id);
     }
 
     fn when_over(&mut self, stream: u64, report: &Report) {
-        self.teller.tell_over(stream, report);
+        if let Some(teller) = &mut self.teller {
+            teller.tell_over(stream, report);
+        }
         self.gate.when_over(stream, report);
     }
 }
@@ -164,14 +164,14 @@ impl<G: Gate + Drop, C: Clock + Drop, S: Sink + Drop> Gate for Watch<G, C, S> {
 /// for the waits. A call before each fetch would cost each hint some instructions.
 #[derive(Drop)]
 pub struct TurnWatch<C: Clock + Drop, S: Sink + Drop> {
-    teller: Teller<C, S>,
+    teller: Option<Teller<C, S>>,
 }
 
 impl<C: Clock + Drop, S: Sink + Drop> TurnWatch<C, S> {
     /// The gate of one stream, before its first line. Without a sink nothing is told.
     pub fn new(clock: C, sink: Option<S>) -> TurnWatch<C, S> {
         TurnWatch {
-            teller: Teller::new(clock, sink),
+            teller: Teller::over(clock, sink),
         }
     }
 }
@@ -182,12 +182,14 @@ impl<C: Clock + Drop, S: Sink + Drop> Gate for TurnWatch<C, S> {
 
     #[inline]
     fn after_publish(&mut self, stream: u64, _id: Id) {
-        if self.teller.sink.is_some() {
-            self.teller.count(stream);
+        if let Some(teller) = &mut self.teller {
+            teller.count(stream);
         }
     }
 
     fn when_over(&mut self, stream: u64, report: &Report) {
-        self.teller.tell_over(stream, report);
+        if let Some(teller) = &mut self.teller {
+            teller.tell_over(stream, report);
+        }
     }
 }

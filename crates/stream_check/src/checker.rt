@@ -115,13 +115,22 @@ impl Checker {
             },
             Taken::Stopped(used, stop) => {
                 self.ending = Some(stop.ending(self.held.line));
-                gate.when_over(self.stream(), &self.report());
+                self.tell(gate);
                 Progress {
                     used,
                     turn: Turn::Over,
                 }
             }
         }
+    }
+
+    /// Tells the gate how the stream is judged, which is over. Where the compiler knows that this is rare, lines before it are faster.
+    #[cold]
+    #[inline(never)]
+    fn tell<G: Gate>(&self, gate: &mut G)
+        requires { IsSome self.now.ending }
+    {
+        gate.when_over(self.stream(), &self.report());
     }
 
     /// Takes the end of the stream.
