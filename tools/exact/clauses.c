@@ -45,10 +45,7 @@ static size_t far_place(const Clauses *clauses, uint64_t name) {
     return place;
 }
 
-Place clauses_named(const Clauses *clauses, uint64_t name) {
-    if (name < clauses->near_length && clauses->near[name] != 0) return clauses->near[name];
-    return clauses->far_length > 0 ? clauses->far[far_place(clauses, name)].clause : 0;
-}
+Place clauses_named_far(const Clauses *clauses, uint64_t name) { return clauses->far[far_place(clauses, name)].clause; }
 
 static void grow_near(Clauses *clauses, uint64_t name) {
     size_t length = clauses->near_length ? clauses->near_length : FIRST_FAR;

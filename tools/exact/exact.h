@@ -19,7 +19,7 @@ typedef struct {
     int file;
     const char *path;
     bool ended;
-    unsigned char *bytes;               // one more than the capacity
+    unsigned char *bytes;               // some more than the capacity, which are 0
     size_t at, length, capacity;        // unread: those from `at` on
     uint64_t passed;                    // the bytes that came before the first of these
 } Input;
@@ -46,13 +46,13 @@ void write_bytes(const void *bytes, size_t length);
 // words.c: the words of a line, as numbers. A letter is one too, below all others, and so is what is no number.
 #define NO_NUMBER INT64_MIN
 #define TOO_LONG (INT64_MIN + 1)
-#define LETTER(letter) (INT64_MIN + (letter))
+#define LETTER(letter) (INT64_MIN + (letter))       // a to z
 #define LEAST_NUMBER (INT64_MIN + 256)
 
 typedef struct {
     Numbers numbers;
     size_t zeros, first_zero;       // words that are "0": how many, and the place of the first
-    bool strange;                   // some are no numbers
+    bool garbled, strange;          // some are neither numbers nor letters; or are no numbers
     bool plain;                     // single spaces, no zeros before a number
 } Words;
 
@@ -89,7 +89,11 @@ typedef struct {
 static inline Clause *clause_at(const Clauses *clauses, Place place) { return (Clause *)(clauses->row + place); }
 
 Place clauses_add(Clauses *clauses, uint64_t identity, const Literal *literals, size_t length, bool tautology);
-Place clauses_named(const Clauses *clauses, uint64_t name);
+Place clauses_named_far(const Clauses *clauses, uint64_t name);
+static inline Place clauses_named(const Clauses *clauses, uint64_t name) {
+    if (name < clauses->near_length && clauses->near[name] != 0) return clauses->near[name];
+    return clauses->far_length > 0 ? clauses_named_far(clauses, name) : 0;
+}
 void clauses_name(Clauses *clauses, uint64_t name, Place place);
 void clauses_forget_name(Clauses *clauses, uint64_t name);
 void clauses_keep_sets(Clauses *clauses);       // of those that are there, too

@@ -60,19 +60,22 @@ static bool take_or_stop(Filter *filter, const int64_t *numbers, size_t length) 
     return tautology;
 }
 
-// The clause of this name, also where another stream derived it, or 0.
-static Place find(Filter *filter, int64_t name) {
+// The clause of this name, where another stream derived it, or 0.
+static Place find_other(Filter *filter, int64_t name) {
     uint64_t identity = (uint64_t)name;
-    Place place = clauses_named(&filter->clauses, identity);
-    if (place != 0 || filter->others.length == 0 || filter->frat) return place;
-    if (name <= (int64_t)filter->formula.clauses) return 0;
+    if (filter->frat || name <= (int64_t)filter->formula.clauses) return 0;
     Other *other = others_find(&filter->others, owner(filter, identity));
     if (other == NULL) return 0;
-    place = other_clause(other, &filter->clauses, identity);
+    Place place = other_clause(other, &filter->clauses, identity);
     if (place == 0) return 0;
     clauses_name(&filter->clauses, identity, place);
     make_known(filter, place);
     return place;
+}
+
+static inline Place find(Filter *filter, int64_t name) {
+    Place place = clauses_named(&filter->clauses, (uint64_t)name);
+    return place != 0 || filter->others.length == 0 ? place : find_other(filter, name);
 }
 
 static Found try_hints(Filter *filter, const Addition *addition) {
@@ -121,9 +124,9 @@ static void derive(Filter *filter, const Addition *addition) {
 
 // A tautology is of no use, and refused by lrupd.
 void filter_add(Filter *filter, const Addition *addition) {
-    for (size_t k = 0; k < addition->hinted; k++)
-        if (addition->hints[k] < 0)
-            stop("a RAT step (negative hints), which lrupd doesn't check: switch off the techniques that make them");
+    int64_t least = 0;
+    for (size_t k = 0; k < addition->hinted; k++) least = addition->hints[k] < least ? addition->hints[k] : least;
+    if (least < 0) stop("a RAT step (negative hints), which lrupd doesn't check: switch off the techniques that make them");
     bool tautology = take_or_stop(filter, addition->literals, addition->length);
     if (addition->named && clauses_named(&filter->clauses, (uint64_t)addition->name) != 0)
         stop("the identity %lld a second time", (long long)addition->name);

@@ -21,10 +21,10 @@ static inline Literal look_at(const Hints *hints, const Clause *clause, size_t *
     unsigned char *marks = hints->marks;
     Literal unit = CONFLICT;
     for (const Literal *at = clause->literals, *end = at + clause->length; at < end; at++) {
-        if (marks[*at] == TOUCHED) continue;
-        if (marks[*at] == GIVEN) {
+        unsigned char mark = marks[*at];
+        if (mark != OPEN) {
+            *touched += mark == GIVEN;
             marks[*at] = TOUCHED;
-            ++*touched;
             continue;
         }
         if (marks[complement_of(*at)] != OPEN) return SATISFIED;

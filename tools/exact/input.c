@@ -7,13 +7,13 @@
 
 #include "exact.h"
 
-enum { PIECE = 1 << 18 };
+enum { PIECE = 1 << 18, BEYOND = 8 };     // bytes; words.c looks at so many at once
 
 void input_open(Input *input, const char *path) {
     *input = (Input){ .path = path ? path : "standard input", .capacity = PIECE };
     input->file = path ? open(path, O_RDONLY) : STDIN_FILENO;
     if (input->file < 0) stop("%s: %s", path, strerror(errno));
-    input->bytes = grow(NULL, input->capacity + 1);
+    input->bytes = zeroed(input->capacity + BEYOND, 1);
 }
 
 // Room for more bytes after those that are unread.
@@ -26,7 +26,7 @@ static void make_room(Input *input) {
     }
     if (input->length < input->capacity) return;
     input->capacity *= 2;
-    input->bytes = grow(input->bytes, input->capacity + 1);
+    input->bytes = grow(input->bytes, input->capacity + BEYOND);
 }
 
 // More bytes after the unread ones, which may move. False at the end.
@@ -39,6 +39,7 @@ bool input_read(Input *input) {
         ssize_t count = read(input->file, input->bytes + input->length, input->capacity - input->length);
         if (count > 0) {
             input->length += (size_t)count;
+            memset(input->bytes + input->length, 0, BEYOND);
             return true;
         }
         if (count == 0) break;

@@ -50,7 +50,7 @@ void text_run(Filter *filter, Input *input, Form form) {
         words_read(&words, line);
         if (words.numbers.length == 0) continue;
         if (words.numbers.items[0] == LETTER('c') || words.numbers.items[0] == LETTER('o')) continue;
-        if (words.strange && !line_is_text(line)) stop("not text: say the form of a binary proof with --format");
+        if (words.garbled && !line_is_text(line)) stop("not text: say the form of a binary proof with --format");
         step(filter, &words, &line, &form);
     }
     grow(words.numbers.items, 0);

@@ -1,4 +1,6 @@
 // Unverified, as all of this filter. The words of a line of text.
+#include <string.h>
+
 #include "exact.h"
 
 static inline bool is_space(unsigned char byte) { return byte == ' ' || (byte >= '\t' && byte <= '\r'); }
@@ -17,38 +19,69 @@ static int64_t other_word(unsigned char **at) {
     return TOO_LONG;
 }
 
+#if __BYTE_ORDER__ == __ORDER_LITTLE_ENDIAN__
+#define EACH(byte) (UINT64_C(0x0101010101010101) * (byte))
+
+// The digits that begin there, up to seven, without a branch for each: how many, or 8 for more. Of eight bytes those that are no
+// digits are told by their highest bits; then neighbours are put together, to two digits, and those to four and eight.
+static inline unsigned short_number(const unsigned char *at, uint64_t *value) {
+    uint64_t digits;
+    memcpy(&digits, at, sizeof digits);
+    digits ^= EACH('0');
+    uint64_t others = ((digits + EACH(0x7F - 9)) | digits) & EACH(0x80);
+    unsigned length = others ? (unsigned)__builtin_ctzll(others) / 8 : 8;
+    digits <<= length % 8 ? 64 - 8 * length : 0;
+    digits = 10 * digits + (digits >> 8);
+    *value = ((digits & UINT64_C(0x000000FF000000FF)) * UINT64_C(0x000F424000000064) +
+              (digits >> 16 & UINT64_C(0x000000FF000000FF)) * UINT64_C(0x0000271000000001)) >> 32;
+    return length;
+}
+#else
+static inline unsigned short_number(const unsigned char *at, uint64_t *value) { return *value = 0, is_digit(*at) ? 8 : 0; }
+#endif
+
 // A number of at most 18 digits; or what else the word is.
 static inline int64_t word(unsigned char **at, bool *plain) {
-    unsigned char *start = *at + (**at == '-'), *end = start;
-    int64_t value = 0;
-    for (; is_digit(*end) && end - start < DIGITS; end++) value = 10 * value + (*end - '0');
-    if (end == start || !is_space(*end)) return other_word(at);
-    if (*start == '0' && (end - start > 1 || start > *at)) {
+    bool negative = **at == '-';
+    unsigned char *start = *at + negative, *end;
+    uint64_t value;
+    unsigned length = short_number(start, &value);
+    if (length == 8) value = 0;
+    end = length == 8 ? start : start + length;
+    if (length == 8)
+        for (; is_digit(*end); end++) value = 10 * value + (*end - '0');
+    if ((size_t)(end - start) - 1 >= DIGITS || !is_space(*end)) return other_word(at);
+    if (*start == '0' && (end - start > 1 || negative)) {
         *plain = false;
         if (value == 0) return other_word(at), NO_NUMBER;       // the end of a list is spelled "0"
     }
-    value = start > *at ? -value : value;
     *at = end;
-    return value;
+    return negative ? -(int64_t)value : (int64_t)value;
 }
 
 void words_read(Words *words, Line line) {
     unsigned char *at = line.start;
-    words->numbers.length = words->zeros = words->first_zero = 0;
-    words->plain = !is_space(*at);
-    words->strange = false;
+    Numbers numbers = words->numbers;
+    size_t zeros = 0, first_zero = 0;
+    int64_t least = 0;
+    bool plain = !is_space(*at);
+    numbers.length = 0;
     for (;;) {
-        while (is_space(*at) && at < line.end) at++;
+        if (*at <= ' ')
+            while (is_space(*at) && at < line.end) at++;
+        if (at == line.end) {
+            plain = false;      // no words, or a space after the last
+            break;
+        }
+        int64_t value = word(&at, &plain);
+        if (value == 0 && zeros++ == 0) first_zero = numbers.length;
+        if (value < least) least = value;
+        PUSH(&numbers, value);
         if (at == line.end) break;
-        int64_t value = word(&at, &words->plain);
-        if (value == 0 && words->zeros++ == 0) words->first_zero = words->numbers.length;
-        words->strange |= value < LEAST_NUMBER;
-        PUSH(&words->numbers, value);
-        if (at == line.end) return;
-        if (*at != ' ' || at[1] == ' ') words->plain = false;
+        plain = plain && *at == ' ' && at[1] != ' ';
         at++;
     }
-    words->plain = false;       // no words, or a space after the last
+    *words = (Words){ numbers, zeros, first_zero, least == NO_NUMBER, least < LEAST_NUMBER, plain };
 }
 
 void words_check(const Words *words, size_t start, size_t end) {
