@@ -60,13 +60,16 @@ static Place in_order(Hints *hints, const Places *given, Identities *chain, bool
     return 0;
 }
 
-// The next open literal of a clause that is held. Those before the cursor are false, or it is held for them.
+// The next open literal of a clause that is held. Those before the cursor are false, or it is held for them; at a true one the
+// cursor stays.
 static Literal next_open(const Hints *hints, Held *held) {
     const Clause *clause = clause_at(hints->clauses, held->clause);
-    while (held->cursor < clause->length) {
-        Literal literal = clause->literals[held->cursor++];
+    for (; held->cursor < clause->length; held->cursor++) {
+        Literal literal = clause->literals[held->cursor];
         if (hints->marks[literal] != OPEN) continue;
-        return hints->marks[complement_of(literal)] == OPEN ? literal : SATISFIED;
+        if (hints->marks[complement_of(literal)] != OPEN) return SATISFIED;
+        held->cursor++;
+        return literal;
     }
     return CONFLICT;
 }
