@@ -51,9 +51,10 @@ static void install(Propagation *propagation, Place place) {
 
 // A literal to watch in the place of the second one, which is false; or none.
 static inline bool watch_another(Propagation *propagation, Clause *clause, Place place) {
+    const signed char *values = propagation->values;
     for (Literal *at = clause->literals + 2, *end = clause->literals + clause->length; at < end; at++) {
         Literal literal = *at;
-        if (propagation->values[literal] < 0) continue;
+        if (values[literal] < 0) continue;
         *at = clause->literals[1];
         clause->literals[1] = literal;
         watch(propagation, literal, place, clause->literals[0], false);
@@ -62,11 +63,10 @@ static inline bool watch_another(Propagation *propagation, Clause *clause, Place
     return false;
 }
 
-enum { KEPT, GOES, CONFLICT };
+enum { STAYS, GOES, CONFLICT };
 
 // A clause that watches a literal which has become false, and isn't satisfied by the other literal that the watch tells.
-static inline int look_at(Propagation *propagation, Watch *entry, Literal falsified) {
-    Clause *clause = clause_at(propagation->clauses, entry->clause);
+static inline int look_at(Propagation *propagation, Clause *clause, Watch *entry, Literal falsified) {
     Literal first = (Literal)(entry->other >> 1);
     if (clause->flags & DEAD) return GOES;
     if (!(entry->other & 1)) {
@@ -74,12 +74,12 @@ static inline int look_at(Propagation *propagation, Watch *entry, Literal falsif
         clause->literals[0] = first;
         clause->literals[1] = falsified;
         entry->other = 2 * (uint32_t)first;
-        if (propagation->values[first] > 0) return KEPT;
+        if (propagation->values[first] > 0) return STAYS;
         if (watch_another(propagation, clause, entry->clause)) return GOES;
     }
     if (propagation->values[first] < 0) return CONFLICT;
     assign(propagation, first, entry->clause);
-    return KEPT;
+    return STAYS;
 }
 
 // All clauses that watch it: the conflict, or 0.
@@ -87,17 +87,21 @@ static Place visit(Propagation *propagation, Literal falsified) {
     Watches *list = &propagation->watches[falsified];
     Watch *kept = list->items, *at = kept, *end = at + list->length;
     const signed char *values = propagation->values;
+    uint64_t *row = propagation->clauses->row;
     Place conflict = 0;
-    while (at != end && conflict == 0) {
-        Watch entry = *at++;
-        if (values[entry.other >> 1] <= 0) {
-            int what = look_at(propagation, &entry, falsified);
-            if (what == GOES) continue;
-            if (what == CONFLICT) conflict = entry.clause;
+    while (at != end) {
+        *kept = *at++;
+        if (values[kept->other >> 1] > 0) {
+            kept++;
+            continue;
         }
-        *kept++ = entry;
+        int what = look_at(propagation, (Clause *)(row + kept->clause), kept, falsified);
+        if (what == GOES) continue;
+        kept++;
+        if (what == STAYS) continue;
+        conflict = kept[-1].clause;
+        while (at != end) *kept++ = *at++;
     }
-    while (at != end) *kept++ = *at++;
     list->length = (uint32_t)(kept - list->items);
     return conflict;
 }
