@@ -18,8 +18,8 @@ void filter_open(Filter *filter, bool frat) {
     propagation_open(&filter->propagation, &filter->clauses, formula->variables);
     hints_open(&filter->hints, &filter->clauses, formula->variables);
     for (size_t k = 0; k < formula->clauses; k++) {
-        const Literal *literals = formula->literals.items + formula->starts.items[k];
-        size_t length = formula->starts.items[k + 1] - formula->starts.items[k];
+        size_t start = formula->starts.items[k], length = formula->starts.items[k + 1] - start;
+        const Literal *literals = length > 0 ? formula->literals.items + start : NULL;
         Place place = clauses_add(&filter->clauses, k + 1, literals, length, literals_clash(literals, length));
         if (!frat) clauses_name(&filter->clauses, k + 1, place);
         make_known(filter, place);

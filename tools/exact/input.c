@@ -12,7 +12,7 @@ enum { PIECE = 1 << 18, BEYOND = 8 };     // bytes; words.c looks at so many at 
 void input_open(Input *input, const char *path) {
     *input = (Input){ .path = path ? path : "standard input", .capacity = PIECE };
     input->file = path ? open(path, O_RDONLY) : STDIN_FILENO;
-    if (input->file < 0) stop("%s: %s", path, strerror(errno));
+    if (input->file < 0) fail("cannot open", path);
     input->bytes = zeroed(input->capacity + BEYOND, 1);
 }
 
@@ -44,7 +44,7 @@ bool input_read(Input *input) {
         }
         if (count == 0) break;
         if (errno == EAGAIN) poll(&more, 1, -1);
-        else if (errno != EINTR) stop("%s: %s", input->path, strerror(errno));
+        else if (errno != EINTR) fail("cannot read", input->path);
     }
     input->ended = true;
     return false;

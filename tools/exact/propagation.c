@@ -85,6 +85,7 @@ static inline int look_at(Propagation *propagation, Clause *clause, Watch *entry
 // All clauses that watch it: the conflict, or 0.
 static Place visit(Propagation *propagation, Literal falsified) {
     Watches *list = &propagation->watches[falsified];
+    if (list->length == 0) return 0;
     Watch *kept = list->items, *at = kept, *end = at + list->length;
     const signed char *values = propagation->values;
     uint64_t *row = propagation->clauses->row;

@@ -15,7 +15,7 @@ void write_flush(void) {
     used = 0;               // also where this is the end
     while (written < length) {
         ssize_t count = write(STDOUT_FILENO, buffer + written, length - written);
-        if (count < 0 && errno != EINTR) stop("cannot write the stream: %s", strerror(errno));
+        if (count < 0 && errno != EINTR) fail("cannot write the stream:", strerror(errno));
         if (count > 0) written += (size_t)count;
     }
 }
