@@ -120,12 +120,14 @@ typedef struct {
     Literals trail;             // the true ones, in order; at first those that are true for good
     size_t propagated, root;
     Places waiting;             // clauses that nobody has looked for yet
+    bool used;
     Place conflict;             // one without an assumption
     Literals marked;            // variables that were seen
     Places old;                 // positions below `root` that a conflict needs
 } Propagation;
 
 void propagation_open(Propagation *propagation, Clauses *clauses, int variables);
+void propagation_settle(Propagation *propagation);
 bool propagation_chain(Propagation *propagation, const Literals *literals, Identities *chain);
 bool propagation_needs(const Propagation *propagation, Place place);
 void propagation_move(Propagation *propagation, const uint64_t *old);

@@ -203,6 +203,7 @@ static void write_deletion(Filter *filter) {
 
 // Of clauses that are there.
 void filter_delete(Filter *filter, const int64_t *names, size_t length) {
+    if (filter->propagation.used) propagation_settle(&filter->propagation);
     filter->chain.length = 0;
     for (size_t k = 0; k < length; k++) {
         Place place = clauses_named(&filter->clauses, (uint64_t)names[k]);
@@ -225,6 +226,7 @@ static Place take_set(Filter *filter, const int64_t *literals, size_t length) {
 
 void filter_delete_literals(Filter *filter, const int64_t *literals, size_t length) {
     if (filter->clauses.sets == NULL) clauses_keep_sets(&filter->clauses);
+    propagation_settle(&filter->propagation);
     Place place = take_set(filter, literals, length);
     filter->chain.length = 0;
     if (place == 0 || propagation_needs(&filter->propagation, place)) return;

@@ -11,7 +11,7 @@
 static size_t end_of(const Words *words, size_t start) {
     size_t end = start;
     while (end < words->numbers.length && words->numbers.items[end] != 0) end++;
-    if (end == words->numbers.length) stop("no step of FRAT text: a list without 0 at its end");
+    if (end >= words->numbers.length) stop("no step of FRAT text: a list without 0 at its end");
     words_check(words, start, end);
     return end + 1;
 }

@@ -115,7 +115,8 @@ static Place propagate(Propagation *propagation) {
 }
 
 // Takes up the clauses that wait, and what follows from them for good.
-static void settle(Propagation *propagation) {
+void propagation_settle(Propagation *propagation) {
+    propagation->used = true;
     for (size_t k = 0; k < propagation->waiting.length; k++) {
         Place place = propagation->waiting.items[k];
         if (!(clause_at(propagation->clauses, place)->flags & DEAD)) install(propagation, place);
@@ -125,7 +126,7 @@ static void settle(Propagation *propagation) {
     propagation->root = propagation->trail.length;
 }
 
-// Something rests on it for good.
+// Something rests on it for good. Nothing does as long as the hints do.
 bool propagation_needs(const Propagation *propagation, Place place) {
     const Clause *clause = clause_at(propagation->clauses, place);
     if (place == propagation->conflict) return true;
@@ -225,7 +226,7 @@ static void take_back(Propagation *propagation) {
 
 // Hints for the clause of these literals. False where none are found.
 bool propagation_chain(Propagation *propagation, const Literals *literals, Identities *chain) {
-    settle(propagation);
+    propagation_settle(propagation);
     Place conflict = first_reason(propagation, literals);
     if (conflict == 0) conflict = propagation->conflict;
     if (conflict == 0) {
