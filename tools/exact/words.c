@@ -78,7 +78,7 @@ void words_read(Words *words, Line line) {
         if (value < least) least = value;
         PUSH(&numbers, value);
         if (at == line.end) break;
-        plain = plain && *at == ' ' && at[1] != ' ';
+        plain = plain && *at == ' ' && at[1] > ' ';
         at++;
     }
     *words = (Words){ numbers, zeros, first_zero, least == NO_NUMBER, least < LEAST_NUMBER, plain };
