@@ -176,7 +176,7 @@ void filter_import(Filter *filter, int64_t identity, const int64_t *literals, si
 
 static void give_back(Filter *filter) {
     Clauses *clauses = &filter->clauses;
-    if (clauses->dead < DEAD_WORDS || 2 * clauses->dead < clauses->used) return;
+    if (clauses->dead < DEAD_WORDS + (size_t)filter->formula.variables || 2 * clauses->dead < clauses->used) return;
     uint64_t *old = clauses_begin_move(clauses);
     propagation_move(&filter->propagation, old);
     clauses_end_move(clauses, old);

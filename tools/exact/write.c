@@ -1,5 +1,6 @@
 // Unverified, as all of this filter. Writes the stream.
 #include <errno.h>
+#include <poll.h>
 #include <string.h>
 #include <unistd.h>
 
@@ -15,8 +16,9 @@ void write_flush(void) {
     used = 0;               // also where this is the end
     while (written < length) {
         ssize_t count = write(STDOUT_FILENO, buffer + written, length - written);
-        if (count < 0 && errno != EINTR) fail("cannot write the stream:", strerror(errno));
         if (count > 0) written += (size_t)count;
+        else if (count < 0 && errno == EAGAIN) poll(&(struct pollfd){ .fd = STDOUT_FILENO, .events = POLLOUT }, 1, -1);
+        else if (count < 0 && errno != EINTR) fail("cannot write the stream:", strerror(errno));
     }
 }
 
