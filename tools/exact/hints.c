@@ -15,9 +15,28 @@ static inline void give(Hints *hints, Place place, Literal unit) {
     PUSH(&hints->steps, ((Step){ place, complement_of(unit) }));
 }
 
-// The literal of a unit clause, or what else it is. Counts the literals that clauses before it gave, and none but this one
-// needed.
-static inline Literal look_at(const Hints *hints, const Clause *clause, size_t *touched) {
+static void hold(Hints *hints, uint32_t place, int side, Literal literal) {
+    Held *held = &hints->held.items[place];
+    if (hints->heads[literal] == 0) PUSH(&hints->headed, literal);
+    held->watched[side] = literal;
+    held->next[side] = hints->heads[literal];
+    hints->heads[literal] = 2 * place + (uint32_t)side + 1;
+}
+
+// Holds a clause for two open literals. Those before the cursor are false, or these two.
+static void hold_both(Hints *hints, Place clause, Literal first, const Literal *second) {
+    uint32_t place = (uint32_t)hints->held.length;
+    if (place == MOST_HELD) return;
+    size_t cursor = (size_t)(second - clause_at(hints->clauses, clause)->literals) + 1;
+    PUSH(&hints->held, ((Held){ .clause = clause, .cursor = (uint32_t)cursor }));
+    hold(hints, place, 0, first);
+    hold(hints, place, 1, *second);
+}
+
+// The literal of a unit clause, or what else it is; it is held where several literals are open. Counts the literals that clauses
+// before it gave, and none but this one needed.
+static inline Literal look_at(Hints *hints, Place place, size_t *touched) {
+    const Clause *clause = clause_at(hints->clauses, place);
     unsigned char *marks = hints->marks;
     Literal unit = CONFLICT;
     for (const Literal *at = clause->literals, *end = at + clause->length; at < end; at++) {
@@ -28,25 +47,24 @@ static inline Literal look_at(const Hints *hints, const Clause *clause, size_t *
             continue;
         }
         if (marks[complement_of(*at)] != OPEN) return SATISFIED;
-        if (unit != CONFLICT) return SEVERAL;
+        if (unit != CONFLICT) return hold_both(hints, place, unit, at), SEVERAL;
         unit = *at;
     }
     return unit;
 }
 
 // As they are given. They are an exact chain without a hint too many if each is unit, and its literal needed, up to the
-// conflict, which is the last. Those that have several open literals so far are held.
+// conflict, which is the last.
 static Place in_order(Hints *hints, const Places *given, Identities *chain, bool *same) {
     size_t touched = 0;
     for (size_t k = 0; k < given->length; k++) {
         Place place = given->items[k];
-        if (place == 0) {
+        if (place == 0 || clause_at(hints->clauses, place)->flags & TAUTOLOGY) {
             *same = false;
             continue;
         }
-        const Clause *clause = clause_at(hints->clauses, place);
-        Literal unit = clause->flags & TAUTOLOGY ? SATISFIED : look_at(hints, clause, &touched);
-        PUSH(chain, clause->identity);
+        PUSH(chain, clause_at(hints->clauses, place)->identity);
+        Literal unit = look_at(hints, place, &touched);
         if (unit >= 0) {
             give(hints, place, unit);
         } else if (unit == CONFLICT) {
@@ -54,14 +72,12 @@ static Place in_order(Hints *hints, const Places *given, Identities *chain, bool
             return place;
         } else {
             *same = false;
-            if (unit == SEVERAL) PUSH(&hints->held, ((Held){ .clause = place }));
         }
     }
     return 0;
 }
 
-// The next open literal of a clause that is held. Those before the cursor are false, or it is held for them; at a true one the
-// cursor stays.
+// The next open literal of a clause that is held; at a true one the cursor stays.
 static Literal next_open(const Hints *hints, Held *held) {
     const Clause *clause = clause_at(hints->clauses, held->clause);
     for (; held->cursor < clause->length; held->cursor++) {
@@ -72,27 +88,6 @@ static Literal next_open(const Hints *hints, Held *held) {
         return literal;
     }
     return CONFLICT;
-}
-
-static void hold(Hints *hints, uint32_t place, int side, Literal literal) {
-    Held *held = &hints->held.items[place];
-    if (hints->heads[literal] == 0) PUSH(&hints->headed, literal);
-    held->watched[side] = literal;
-    held->next[side] = hints->heads[literal];
-    hints->heads[literal] = 2 * place + (uint32_t)side + 1;
-}
-
-// Holds a clause for two open literals. True where it is the conflict.
-static bool hold_first(Hints *hints, uint32_t place) {
-    Held *held = &hints->held.items[place];
-    Literal first = next_open(hints, held);
-    if (first < 0) return first == CONFLICT;
-    Literal second = next_open(hints, held);
-    if (second == CONFLICT) give(hints, held->clause, first);
-    if (second < 0) return false;
-    hold(hints, place, 0, first);
-    hold(hints, place, 1, second);
-    return false;
 }
 
 // One of its two literals became false: holds it for another one. True where it is the conflict.
@@ -107,10 +102,7 @@ static bool hold_another(Hints *hints, uint32_t place, int side) {
 }
 
 static Place in_any_order(Hints *hints) {
-    size_t next = hints->steps.length;
-    for (uint32_t k = 0; k < hints->held.length; k++)
-        if (hold_first(hints, k)) return hints->held.items[k].clause;
-    for (; next < hints->steps.length; next++)
+    for (size_t next = 0; next < hints->steps.length; next++)
         for (uint32_t entry = hints->heads[hints->steps.items[next].literal]; entry != 0;) {
             uint32_t place = (entry - 1) / 2;
             int side = (entry - 1) % 2;
@@ -145,7 +137,7 @@ Found hints_chain(Hints *hints, const Places *given, Identities *chain) {
     bool same = true;
     chain->length = hints->steps.length = hints->held.length = hints->headed.length = 0;
     Place conflict = in_order(hints, given, chain, &same);
-    if (conflict == 0 && hints->held.length > 0 && hints->held.length < MOST_HELD) conflict = in_any_order(hints);
+    if (conflict == 0 && hints->held.length > 0) conflict = in_any_order(hints);
     if (conflict != 0 && !same) collect(hints, conflict, chain);
     for (size_t k = 0; k < hints->steps.length; k++) hints->marks[hints->steps.items[k].literal] = OPEN;
     for (size_t k = 0; k < hints->headed.length; k++) hints->heads[hints->headed.items[k]] = 0;
