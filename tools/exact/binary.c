@@ -85,7 +85,7 @@ void binary_run(Filter *filter, Input *input, Form form) {
     Numbers list = {0};
     Coding coding = UNDECIDED;
     for (;;) {
-        place_set("byte", input_place(input) + 1);
+        position_set("byte", input_position(input) + 1);
         int letter = input_byte(input);
         if (letter < 0) break;
         if (letter != 'a' && letter != 'd') stop("no step of a binary proof, which begins with a or d");

@@ -11,7 +11,7 @@ enum { LITERALS_OF_A_LINE = 65535, IDENTITIES_OF_A_LINE = 65536, DIGITS = 18 }; 
 typedef struct { int64_t *items; size_t length, capacity; } Numbers;
 
 // main.c: the end, with one line on standard error.
-void place_set(const char *unit, uint64_t number);      // where the proof is bad, if it is
+void position_set(const char *unit, uint64_t number);      // where the proof is read: what a bad step is told by
 _Noreturn void stop(const char *cause, ...) __attribute__((format(printf, 1, 2)));
 
 // input.c: the bytes of a file or a pipe. Before a read that would wait, what is written goes out.
@@ -34,7 +34,7 @@ static inline int input_byte(Input *input) {
     if (input->at == input->length && !input_read(input)) return -1;
     return input->bytes[input->at++];
 }
-static inline uint64_t input_place(const Input *input) { return input->passed + input->at; }
+static inline uint64_t input_position(const Input *input) { return input->passed + input->at; }
 
 // write.c: the stream, on standard output.
 void write_flush(void);

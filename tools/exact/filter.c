@@ -10,9 +10,9 @@ static void make_known(Filter *filter, Place place) {
     if (!filter->frat) clauses_keep_set(&filter->clauses, place);
 }
 
-// With FRAT the formula's clauses have names as the proof tells them, and else by their order.
+// With FRAT the formula's clauses have names as the proof tells them, and else by their order. Of the formula two numbers stay.
 void filter_open(Filter *filter, bool frat) {
-    const Formula *formula = &filter->formula;
+    Formula *formula = &filter->formula;
     filter->frat = frat;
     filter->keeps_identities = filter->streams == 1 || filter->others.length > 0;
     propagation_open(&filter->propagation, &filter->clauses, formula->variables);
@@ -25,6 +25,8 @@ void filter_open(Filter *filter, bool frat) {
         make_known(filter, place);
     }
     if (frat) clauses_keep_sets(&filter->clauses);
+    formula->starts.items = grow(formula->starts.items, 0);
+    formula->literals.items = grow(formula->literals.items, 0);
 }
 
 static uint64_t owner(const Filter *filter, uint64_t identity) {

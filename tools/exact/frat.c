@@ -50,7 +50,7 @@ void frat_run(Filter *filter, Input *input) {
     Words words = {0};
     Line line;
     for (uint64_t number = 1; input_line(input, &line); number++) {
-        place_set("line", number);
+        position_set("line", number);
         words_read(&words, line);
         if (words.numbers.length == 0 || words.numbers.items[0] == LETTER('c')) continue;
         step(filter, &words);

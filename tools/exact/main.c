@@ -17,12 +17,12 @@
 
 #include "exact.h"
 
-static const char *place_unit;
-static uint64_t place_number;
+static const char *position_unit;
+static uint64_t position_number;
 
-void place_set(const char *unit, uint64_t number) {
-    place_unit = unit;
-    place_number = number;
+void position_set(const char *unit, uint64_t number) {
+    position_unit = unit;
+    position_number = number;
 }
 
 // What was written before goes out first.
@@ -33,7 +33,7 @@ _Noreturn void stop(const char *cause, ...) {
     vsnprintf(text, sizeof text, cause, rest);
     va_end(rest);
     write_flush();
-    if (place_unit) fprintf(stderr, "exact: %s %llu: %s\n", place_unit, (unsigned long long)place_number, text);
+    if (position_unit) fprintf(stderr, "exact: %s %llu: %s\n", position_unit, (unsigned long long)position_number, text);
     else fprintf(stderr, "exact: %s\n", text);
     exit(1);
 }
@@ -94,7 +94,7 @@ typedef struct {
     size_t others_length;
     const char *files[2];       // the formula, the proof
     size_t files_length;
-} Words_given;
+} CommandLine;
 
 static char *value_of(char ***words, const char *name) {
     size_t length = strlen(name);
@@ -105,7 +105,7 @@ static char *value_of(char ***words, const char *name) {
     return *++*words;
 }
 
-static void read_word(Words_given *given, char ***words) {
+static void read_word(CommandLine *given, char ***words) {
     char *value;
     if (strcmp(**words, "--help") == 0 || strcmp(**words, "-h") == 0) {
         fputs(usage, stdout);
@@ -123,7 +123,7 @@ static void read_word(Words_given *given, char ***words) {
 static void run(Filter *filter, Input *input, Form form) {
     if (form == UNKNOWN) form = form_of(input, &filter->formula);
     if (form == UNKNOWN) {
-        place_set("byte", 1);
+        position_set("byte", 1);
         stop("the first bytes don't tell the form: say it, --format lrat|drat|frat|binary-lrat|binary-drat");
     }
     filter_open(filter, form == FRAT);
@@ -136,7 +136,7 @@ static void run(Filter *filter, Input *input, Form form) {
 int main(int count, char **words) {
     static Filter filter;
     static Input input;
-    Words_given given = { .stream = 1, .streams = 1, .form = UNKNOWN };
+    CommandLine given = { .stream = 1, .streams = 1, .form = UNKNOWN };
     given.others = zeroed((size_t)count + 1, sizeof *given.others);
     for (char **word = words + 1; word < words + count; word++) read_word(&given, &word);
     if (given.files_length == 0) refuse("no", "FORMULA");

@@ -46,7 +46,7 @@ void text_run(Filter *filter, Input *input, Form form) {
     Words words = {0};
     Line line;
     for (uint64_t number = 1; input_line(input, &line); number++) {
-        place_set("line", number);
+        position_set("line", number);
         words_read(&words, line);
         if (words.numbers.length == 0) continue;
         if (words.numbers.items[0] == LETTER('c') || words.numbers.items[0] == LETTER('o')) continue;
