@@ -64,8 +64,9 @@ exact: c-and-python
 solver-test: build solver
 	@python3 examples/solver/test.py $(PROGRAM) $(SOLVER)
 
-filter-test: build c-and-python
-	@python3 tools/test.py $(PROGRAM)
+# The filter for inexact proofs, with the solvers that are on the PATH, and 10,000 mutated proofs.
+filter-test: build exact
+	@python3 tools/test.py $(PROGRAM) && python3 tools/mutate.py $(PROGRAM)
 
 # A good proof beside hostile streams: what is said of it never changes.
 neighbours: build c-and-python
@@ -94,15 +95,15 @@ pages: c-and-python
 	@python3 gate/style.py
 
 # The whole gate: the pages; every proof from nothing, each edit that must be refused, each test, and the program as two compilers
-# build it; then, with the program that was built there, the examples, the live run, the solver's streams and the filter's, a
-# proof beside hostile streams, each call of the system refused in turn, of the program and of tests, memory given back, and the
-# instructions that lines take. The last line is rt's own, 'N passed, M failed'.
+# build it; then, with the program that was built there, the examples, the live run, the solver's streams and the filter's, mutated
+# proofs, a proof beside hostile streams, each call of the system refused in turn, of the program and of tests, memory given back,
+# and the instructions that lines take. The last line is rt's own, 'N passed, M failed'.
 test: SHELL := /bin/bash
-test: toolchain pages solver
+test: toolchain pages solver exact
 	@set -o pipefail; log=$$(mktemp); trap 'rm -f "$$log"' EXIT; \
 	$(RT) ci | tee "$$log" && sh examples/compare.sh $(PROGRAM) && sh examples/groups.sh $(PROGRAM) && \
 	sh examples/words.sh $(PROGRAM) && sh examples/live.sh $(PROGRAM) && python3 examples/solver/test.py $(PROGRAM) $(SOLVER) && \
-	python3 tools/test.py $(PROGRAM) && python3 examples/neighbours.py $(PROGRAM) && \
+	python3 tools/test.py $(PROGRAM) && python3 tools/mutate.py $(PROGRAM) && python3 examples/neighbours.py $(PROGRAM) && \
 	python3 gate/sweep.py $(PROGRAM) $(RT) && sh gate/leaks.sh $(PROGRAM) && python3 gate/instructions.py $(PROGRAM) && tail -n 1 "$$log"
 
 toolchain:
