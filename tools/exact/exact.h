@@ -10,6 +10,15 @@ enum { LITERALS_OF_A_LINE = 65535, IDENTITIES_OF_A_LINE = 65536, DIGITS = 18 }; 
 
 typedef struct { int64_t *items; size_t length, capacity; } Numbers;
 
+// Room for so many items of a list.
+#define RESERVE(list, count)                                                                \
+    do {                                                                                    \
+        if ((list)->capacity < (count)) {                                                   \
+            (list)->capacity = 2 * (count);                                                 \
+            (list)->items = grow((list)->items, (list)->capacity * sizeof *(list)->items);  \
+        }                                                                                   \
+    } while (0)
+
 // main.c: the end, with one line on standard error.
 void position_set(const char *unit, uint64_t number);      // where the proof is read: what a bad step is told by
 _Noreturn void stop(const char *cause, ...) __attribute__((format(printf, 1, 2)));

@@ -81,9 +81,14 @@ static inline Place find(Filter *filter, int64_t name) {
 }
 
 static Found try_hints(Filter *filter, const Addition *addition) {
-    filter->given.length = 0;
-    for (size_t k = 0; k < addition->hinted; k++) PUSH(&filter->given, find(filter, addition->hints[k]));
-    return hints_chain(&filter->hints, &filter->given, &filter->chain);
+    Places *given = &filter->given;
+    RESERVE(given, addition->hinted);
+    for (size_t k = 0; k < addition->hinted; k++) {
+        given->items[k] = find(filter, addition->hints[k]);
+        if (given->items[k] != 0) __builtin_prefetch(clause_at(&filter->clauses, given->items[k]));
+    }
+    given->length = addition->hinted;
+    return hints_chain(&filter->hints, given, &filter->chain);
 }
 
 // The next one of the stream; or LRAT's own, where the stream is alone, or others cite it.
@@ -100,10 +105,14 @@ static uint64_t new_identity(const Filter *filter, const Addition *addition) {
 }
 
 static void write_addition(Filter *filter, const Addition *addition, Found found) {
-    if (found == SAME_CHAIN && addition->line && !filter->renumbered && addition->length == filter->literals.length) {
+    bool same = found == SAME_CHAIN;
+    if (same && addition->line && !filter->renumbered && addition->length == filter->literals.length) {
         write_bytes(addition->line->start, (size_t)(addition->line->end - addition->line->start) + 1);
         return;
     }
+    if (same) filter->chain.length = 0;
+    for (size_t k = 0; k < (same ? filter->given.length : 0); k++)
+        PUSH(&filter->chain, clause_at(&filter->clauses, filter->given.items[k])->identity);
     write_number(filter->last, ' ');
     write_literals(filter->literals.items, filter->literals.length);
     write_bytes(" ", 1);
@@ -114,7 +123,8 @@ static void derive(Filter *filter, const Addition *addition) {
     Found found = addition->hinted > 0 ? try_hints(filter, addition) : NO_CHAIN;
     if (found == NO_CHAIN && !propagation_chain(&filter->propagation, &filter->literals, &filter->chain))
         stop("no conflict by unit propagation: a RAT step, which lrupd doesn't check, or a clause that doesn't follow");
-    if (filter->chain.length > IDENTITIES_OF_A_LINE || filter->literals.length > LITERALS_OF_A_LINE)
+    size_t hints = found == SAME_CHAIN ? addition->hinted : filter->chain.length;
+    if (hints > IDENTITIES_OF_A_LINE || filter->literals.length > LITERALS_OF_A_LINE)
         stop("longer than a line may be");
     filter->last = new_identity(filter, addition);
     filter->renumbered |= addition->named && addition->name != (int64_t)filter->last;

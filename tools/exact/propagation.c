@@ -128,6 +128,7 @@ void propagation_settle(Propagation *propagation) {
 
 // Something rests on it for good. Nothing does as long as the hints do.
 bool propagation_needs(const Propagation *propagation, Place place) {
+    if (!propagation->used) return false;
     const Clause *clause = clause_at(propagation->clauses, place);
     if (place == propagation->conflict) return true;
     for (unsigned k = 0; k < 2 && k < clause->length; k++) {

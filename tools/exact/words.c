@@ -40,48 +40,73 @@ static inline unsigned short_number(const unsigned char *at, uint64_t *value) {
 static inline unsigned short_number(const unsigned char *at, uint64_t *value) { return *value = 0, is_digit(*at) ? 8 : 0; }
 #endif
 
-// A number of at most 18 digits; or what else the word is.
-static inline int64_t word(unsigned char **at, bool *plain) {
-    bool negative = **at == '-';
-    unsigned char *start = *at + negative, *end;
-    uint64_t value;
-    unsigned length = short_number(start, &value);
-    if (length == 8) value = 0;
-    end = length == 8 ? start : start + length;
-    if (length == 8)
-        for (; is_digit(*end); end++) value = 10 * value + (*end - '0');
-    if ((size_t)(end - start) - 1 >= DIGITS || !is_space(*end)) return other_word(at);
-    if (*start == '0' && (end - start > 1 || negative)) {
-        *plain = false;
-        if (value == 0) return other_word(at), NO_NUMBER;       // the end of a list is spelled "0"
+// How many digits there are, and the number of the first 18 or 19.
+static inline size_t digits(const unsigned char *start, uint64_t *value) {
+    size_t length = short_number(start, value);
+    if (length < 8) return length;
+    *value = 0;
+    for (length = 0; is_digit(start[length]); length++) *value = 10 * *value + (start[length] - '0');
+    return length;
+}
+
+// No branch: signs are hard to foresee.
+static inline int64_t with_sign(uint64_t value, bool negative) {
+    int64_t sign = -(int64_t)negative;
+    return ((int64_t)value ^ sign) - sign;
+}
+
+// A line of numbers as it stands in a stream; false where something else is met.
+static bool read_plain(Words *words, Line line) {
+    unsigned char *at = line.start;
+    int64_t *next = words->numbers.items;
+    words->zeros = 0;
+    for (;; at++) {
+        uint64_t value;
+        bool negative = *at == '-';
+        at += negative;
+        size_t length = digits(at, &value);
+        if (length - 1 >= DIGITS) return false;
+        if (*at == '0') {
+            if (length > 1 || negative) return false;
+            if (words->zeros++ == 0) words->first_zero = (size_t)(next - words->numbers.items);
+        }
+        *next++ = with_sign(value, negative);
+        at += length;
+        if (*at != ' ') break;
     }
-    *at = end;
-    return negative ? -(int64_t)value : (int64_t)value;
+    words->numbers.length = (size_t)(next - words->numbers.items);
+    words->strange = words->garbled = false;
+    return at == line.end;
+}
+
+// A number of at most 18 digits; or what else the word is.
+static inline int64_t word(unsigned char **at) {
+    bool negative = **at == '-';
+    unsigned char *start = *at + negative;
+    uint64_t value;
+    size_t length = digits(start, &value);
+    if (length - 1 >= DIGITS || !is_space(start[length])) return other_word(at);
+    if (*start == '0' && value == 0 && (length > 1 || negative)) return other_word(at), NO_NUMBER;   // the end is spelled "0"
+    *at = start + length;
+    return with_sign(value, negative);
 }
 
 void words_read(Words *words, Line line) {
     unsigned char *at = line.start;
-    Numbers numbers = words->numbers;
-    size_t zeros = 0, first_zero = 0;
-    int64_t least = 0;
-    bool plain = !is_space(*at);
-    numbers.length = 0;
+    RESERVE(&words->numbers, (size_t)(line.end - line.start) / 2 + 1);
+    words->plain = read_plain(words, line);
+    if (words->plain) return;
+    words->numbers.length = words->zeros = words->first_zero = 0;
+    words->strange = words->garbled = false;
     for (;;) {
-        if (*at <= ' ')
-            while (is_space(*at) && at < line.end) at++;
-        if (at == line.end) {
-            plain = false;      // no words, or a space after the last
-            break;
-        }
-        int64_t value = word(&at, &plain);
-        if (value == 0 && zeros++ == 0) first_zero = numbers.length;
-        if (value < least) least = value;
-        PUSH(&numbers, value);
-        if (at == line.end) break;
-        plain = plain && *at == ' ' && at[1] > ' ';
-        at++;
+        while (is_space(*at) && at < line.end) at++;
+        if (at == line.end) return;
+        int64_t value = word(&at);
+        if (value == 0 && words->zeros++ == 0) words->first_zero = words->numbers.length;
+        words->garbled |= value == NO_NUMBER;
+        words->strange |= value < LEAST_NUMBER;
+        words->numbers.items[words->numbers.length++] = value;
     }
-    *words = (Words){ numbers, zeros, first_zero, least == NO_NUMBER, least < LEAST_NUMBER, plain };
 }
 
 void words_check(const Words *words, size_t start, size_t end) {
