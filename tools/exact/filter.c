@@ -186,9 +186,11 @@ void filter_import(Filter *filter, int64_t identity, const int64_t *literals, si
 
 // Deletions.
 
+// The memory of the dead, where it is half of all, and much for what a move goes through.
 static void give_back(Filter *filter) {
     Clauses *clauses = &filter->clauses;
-    if (clauses->dead < DEAD_WORDS + (size_t)filter->formula.variables || 2 * clauses->dead < clauses->used) return;
+    size_t least = DEAD_WORDS + (size_t)filter->formula.variables + clauses->near_length / 4;
+    if (clauses->dead < least || 2 * clauses->dead < clauses->used) return;
     uint64_t *old = clauses_begin_move(clauses);
     propagation_move(&filter->propagation, old);
     clauses_end_move(clauses, old);
