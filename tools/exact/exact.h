@@ -50,7 +50,7 @@ void write_flush(void);
 void write_number(uint64_t number, char after);
 void write_numbers(const uint64_t *numbers, size_t length);     // with "0" and LF
 void write_literals(const Literal *literals, size_t length);    // with "0", and nothing after it
-void write_bytes(const void *bytes, size_t length);
+void write_bytes(const char *bytes, size_t length);             // a line ends with LF
 
 // words.c: the words of a line, as numbers. A letter is one too, below all others, and so is what is no number.
 #define NO_NUMBER INT64_MIN

@@ -107,7 +107,7 @@ static uint64_t new_identity(const Filter *filter, const Addition *addition) {
 static void write_addition(Filter *filter, const Addition *addition, Found found) {
     bool same = found == SAME_CHAIN;
     if (same && addition->line && !filter->renumbered && addition->length == filter->literals.length) {
-        write_bytes(addition->line->start, (size_t)(addition->line->end - addition->line->start) + 1);
+        write_bytes((const char *)addition->line->start, (size_t)(addition->line->end - addition->line->start) + 1);
         return;
     }
     if (same) filter->chain.length = 0;
