@@ -59,7 +59,7 @@ static inline int64_t with_sign(uint64_t value, bool negative) {
 static bool read_plain(Words *words, Line line) {
     unsigned char *at = line.start;
     int64_t *next = words->numbers.items;
-    words->zeros = 0;
+    words->zeros = words->first_zero = 0;
     for (;; at++) {
         uint64_t value;
         bool negative = *at == '-';
