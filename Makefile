@@ -104,7 +104,8 @@ test: toolchain pages solver exact
 	$(RT) ci | tee "$$log" && sh examples/compare.sh $(PROGRAM) && sh examples/groups.sh $(PROGRAM) && \
 	sh examples/words.sh $(PROGRAM) && sh examples/live.sh $(PROGRAM) && python3 examples/solver/test.py $(PROGRAM) $(SOLVER) && \
 	python3 tools/test.py $(PROGRAM) && python3 tools/mutate.py $(PROGRAM) && python3 examples/neighbours.py $(PROGRAM) && \
-	python3 gate/sweep.py $(PROGRAM) $(RT) && sh gate/leaks.sh $(PROGRAM) && python3 gate/instructions.py $(PROGRAM) && tail -n 1 "$$log"
+	python3 gate/sweep.py $(PROGRAM) $(RT) && sh gate/leaks.sh $(PROGRAM) && python3 gate/instructions.py $(PROGRAM) && \
+	tail -n 1 "$$log"
 
 toolchain:
 	@command -v $(RT) > /dev/null || { echo "lrupd needs Rattle's toolchain: no command '$(RT)' is on the PATH"; exit 1; }

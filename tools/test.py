@@ -343,6 +343,9 @@ def what_comes_out(program):
         ("FRAT, an original after an addition", comes_out, FOUR, "o 8 1 2 0\no 6 2 -1 0\na 7 2 0 l 8 6 0\no 5 1 -2 0\no 4 -2 -1 0\n"
          "a 9 0 l 7 5 4 0\n", FIRST + "6 0 5 3 4 0\n", []),
         ("FRAT, a clause that the formula has twice", told_twice),
+        ("binary DRAT, by a number below the formula's last", comes_out, FOUR, b"a" + codes([2]) + b"d" + codes([1, 2]),
+         FIRST + "5 d 1 0\n", []),
+        ("binary LRAT, by a number that is no literal", comes_out, FOUR, b"a" + code(5) + codes([2]) + codes([1, 2]), FIRST, []),
         ("a last line of LRAT without LF", comes_out, FOUR, "5 2 0 1 2 0\n6 0 5 3 4 0", FIRST + "6 0 5 3 4 0\n", []),
     ]
 
