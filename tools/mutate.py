@@ -9,7 +9,8 @@ some formulas, and other streams, do too. The filter is built with $CC or cc and
 soon with status 0 and no word, or with status 1 and one line on standard error. What comes out has to be lines of a stream, by
 their spelling here; and the program, which reads each stream that isn't empty, has to take it to its end, but for identities
 beyond --lines and clauses of streams that aren't there. A mutant that fails is kept in tools/exact/out/mutants. It shows what is
-off; the last line is 'N passed, M failed', and the status is 1 where a run failed.
+off; the last line is 'N passed, M failed', and the status is 1 where a run failed. Where the compiler builds no such program the
+mutants are skipped, and that is told.
 """
 import glob
 import multiprocessing
@@ -30,6 +31,7 @@ EXAMPLES = os.path.join(HERE, "..", "examples")
 OUT = os.path.join(HERE, "exact", "out")
 SANITIZED = os.path.join(OUT, "exact-sanitized")
 KEPT = os.path.join(OUT, "mutants")
+SANITIZE = ["-fsanitize=address,undefined", "-fno-sanitize-recover=all"]
 OPTIONS = {"ASAN_OPTIONS": "exitcode=99", "UBSAN_OPTIONS": "exitcode=99:print_stacktrace=1"}
 SECONDS = 20
 
@@ -50,11 +52,20 @@ LINE = re.compile(rb"(?:" + NUMBER + rb" (?:-?" + NUMBER + rb" )*0 (?:" + NUMBER
 ENDS = re.compile(r"c stream \d+: \d+ added, \d+ deleted, (ended|bad line \d+ \((identity|no room|missing \d+)\))")
 
 
-def build():
+def compiler():
+    """Its words, or None where it has nothing that tells what is undefined."""
+    words = shlex.split(os.environ.get("CC", "cc")) + ["-std=c11", "-O1", "-g"] + SANITIZE
+    with tempfile.TemporaryDirectory() as work:
+        one = os.path.join(work, "one")
+        with open(one + ".c", "w") as file:
+            file.write("int main(void) { return 0; }\n")
+        built = subprocess.run(words + ["-o", one, one + ".c"], stderr=subprocess.DEVNULL).returncode == 0
+        return words if built and subprocess.run([one], stderr=subprocess.DEVNULL).returncode == 0 else None
+
+
+def build(words):
     os.makedirs(OUT, exist_ok=True)
-    compiler = shlex.split(os.environ.get("CC", "cc"))
-    flags = ["-std=c11", "-O1", "-g", "-fsanitize=address,undefined", "-fno-sanitize-recover=all"]
-    subprocess.run(compiler + flags + ["-o", SANITIZED, *sorted(glob.glob(os.path.join(HERE, "exact", "*.c")))], check=True)
+    subprocess.run(words + ["-o", SANITIZED, *sorted(glob.glob(os.path.join(HERE, "exact", "*.c")))], check=True)
 
 
 def in_each_form(name, steps_of):
@@ -240,7 +251,12 @@ def main():
         sys.exit(__doc__)
     program = os.path.abspath(sys.argv[1])
     count, first = [*map(int, sys.argv[2:]), *(10000, 0)[len(sys.argv) - 2:]]
-    build()
+    words = compiler()
+    if words is None:
+        print(f"mutants: skipped, the C compiler doesn't build with {SANITIZE[0]}")
+        print(f"0 passed, 0 failed, {count} skipped")
+        return 0
+    build(words)
     failed = 0
     with multiprocessing.Pool() as workers:
         jobs = ((program, number) for number in range(first, first + count))

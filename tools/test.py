@@ -473,12 +473,11 @@ def parts_of(form):
     return [b"".join(parts[:before + 1]), *parts[before + 1:before + 3]], b"".join(parts[before + 3:])
 
 
-def is_whole(form, cut):
-    """Whether the bytes end with a step, of text maybe without its LF; and FRAT's hints may be left out."""
-    if "binary" in form:
-        return False
-    words = cut.rsplit(b"\n", 1)[-1].split()
-    return not words or form != "LRAT text" and words[-1] == b"0" and (len(words) > 1 or form == "DRAT text")
+def is_whole(form, proof, length):
+    """Whether a step of text ends there, maybe without its LF; and FRAT's hints may be left out."""
+    line = proof[:length].rsplit(b"\n", 1)[-1]
+    without_hints = form.startswith("FRAT") and line.startswith(b"a ") and line.split()[-1] == b"0"
+    return not line or proof[length:length + 1] == b"\n" or without_hints
 
 
 def cut(form, work):
@@ -490,13 +489,11 @@ def cut(form, work):
     for length in range(len(proof) + 1):
         text, said, status = exact(["--format", word, formula], proof[:length])
         whole = sum(end <= length for end in ends[1:])
-        at_end = length in ends or is_whole(form, proof[:length]) or proof[:length + 1].endswith(b" 0\n") or \
-            "binary" not in form and length > ends[-1] and proof[:length].endswith(b" 0")
+        at_end = length in ends if "binary" in form else is_whole(form, proof, length)
         lines = sorted_hints(text)
-        if lines[:whole] != sorted_hints("\n".join(LINES[:whole])) or len(lines) > whole + 1 or text and text[-1] != "\n":
+        if lines[:whole] != sorted_hints("\n".join(LINES[:whole])) or len(lines) > whole + at_end or text and text[-1] != "\n":
             raise Failure(f"cut at {length}: wanted {whole} lines, and not\n{text}")
-        if (status, said.count("\n")) != ((0, 0) if at_end else (1, 1)) or len(lines) > whole and not at_end:
-            raise Failure(f"cut at {length}: status {status}\n{text}{said}")
+        want((status, said.count("\n")), (0, 0) if at_end else (1, 1), f"cut at {length}: the status, and lines on standard error")
 
 
 def read_line(file):
