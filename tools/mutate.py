@@ -9,7 +9,8 @@ some formulas, and other streams, do too. The filter is built with $CC or cc and
 soon with status 0 and no word, or with status 1 and one line on standard error. What comes out has to be lines of a stream, by
 their spelling here; and the program, which reads each stream that isn't empty, has to take it to its end, but for identities
 beyond --lines and clauses of streams that aren't there. A mutant that fails is kept in tools/exact/out/mutants. It shows what is
-off; the last line is 'N passed, M failed', and the status is 1 where a run failed.
+off; the last line is 'N passed, M failed', and the status is 1 where a run failed. Where the compiler builds no such program the
+mutants are skipped, and that is told.
 """
 import glob
 import multiprocessing
@@ -23,19 +24,22 @@ import sys
 import tempfile
 
 sys.dont_write_bytecode = True
-from forms import FORMS, read_formula, read_steps, varint
+from forms import FORMS, Step, read_formula, read_steps, varint
 
 HERE = os.path.dirname(os.path.abspath(__file__))
 EXAMPLES = os.path.join(HERE, "..", "examples")
 OUT = os.path.join(HERE, "exact", "out")
 SANITIZED = os.path.join(OUT, "exact-sanitized")
 KEPT = os.path.join(OUT, "mutants")
+SANITIZE = ["-fsanitize=address,undefined", "-fno-sanitize-recover=all"]
 OPTIONS = {"ASAN_OPTIONS": "exitcode=99", "UBSAN_OPTIONS": "exitcode=99:print_stacktrace=1"}
 SECONDS = 20
 
 # The formula, the stream, and how many of its first lines are mutated.
 BASES = [("four-clause.cnf", "four-clause.lrup", 2), ("pigeonhole.cnf", "pigeonhole.lrup", 12),
          ("pigeonhole.cnf", "pigeonhole.lrup", 60), ("bmc.cnf", "bmc.lrup", 20)]
+LONG = 9000             # the clauses of a long proof, so many that the filter gives memory back
+LONG_ONES = 0.02        # of the mutants
 WORDS = ["lrat", "drat", "frat", "binary-lrat", "binary-drat"]
 HUGE = [1 << 31, (1 << 31) - 1, 1 << 32, (1 << 63) - 1, 1 << 63, 1 << 64, 10 ** 17, 10 ** 18 - 1, 10 ** 18, 10 ** 40,
         16777215, 16777216, 65536, (1 << 57) - 1]
@@ -48,24 +52,45 @@ LINE = re.compile(rb"(?:" + NUMBER + rb" (?:-?" + NUMBER + rb" )*0 (?:" + NUMBER
 ENDS = re.compile(r"c stream \d+: \d+ added, \d+ deleted, (ended|bad line \d+ \((identity|no room|missing \d+)\))")
 
 
-def build():
+def compiler():
+    """Its words, or None where it has nothing that tells what is undefined."""
+    words = shlex.split(os.environ.get("CC", "cc")) + ["-std=c11", "-O1", "-g"] + SANITIZE
+    with tempfile.TemporaryDirectory() as work:
+        one = os.path.join(work, "one")
+        with open(one + ".c", "w") as file:
+            file.write("int main(void) { return 0; }\n")
+        built = subprocess.run(words + ["-o", one, one + ".c"], stderr=subprocess.DEVNULL).returncode == 0
+        return words if built and subprocess.run([one], stderr=subprocess.DEVNULL).returncode == 0 else None
+
+
+def build(words):
     os.makedirs(OUT, exist_ok=True)
-    compiler = shlex.split(os.environ.get("CC", "cc"))
-    flags = ["-std=c11", "-O1", "-g", "-fsanitize=address,undefined", "-fno-sanitize-recover=all"]
-    subprocess.run(compiler + flags + ["-o", SANITIZED, *sorted(glob.glob(os.path.join(HERE, "exact", "*.c")))], check=True)
+    subprocess.run(words + ["-o", SANITIZED, *sorted(glob.glob(os.path.join(HERE, "exact", "*.c")))], check=True)
+
+
+def in_each_form(name, steps_of):
+    """The word of --format, the formula and the steps."""
+    path = os.path.join(EXAMPLES, name)
+    formula = read_formula(path)
+    with open(path, "rb") as file:
+        text = file.read()
+    return [(word, text, make(formula, steps_of(formula))) for word, make in FORMS.values()]
+
+
+def copies(formula):
+    """The formula's clauses again and again, each deleted at once."""
+    steps = []
+    for number in range(LONG):
+        original, identity = number % len(formula), len(formula) + 1 + number
+        steps += [Step("a", identity, formula[original], [original + 1]), Step("d", identity, [], [identity])]
+    return steps
 
 
 def make_proofs():
-    """The word of --format, the formula and the steps, of each base in each form."""
-    proofs = []
+    short = []
     for formula, name, count in BASES:
-        formula = os.path.join(EXAMPLES, formula)
-        steps = read_steps(os.path.join(EXAMPLES, name))[:count]
-        with open(formula, "rb") as file:
-            text = file.read()
-        for word, make in FORMS.values():
-            proofs.append((word, text, make(read_formula(formula), steps)))
-    return proofs
+        short += in_each_form(formula, lambda _: read_steps(os.path.join(EXAMPLES, name))[:count])
+    return short, in_each_form("pigeonhole.cnf", copies)
 
 
 # Mutations: first of steps, then of bytes.
@@ -126,7 +151,8 @@ class Mutant:
 
     def __init__(self, number, proofs, work):
         numbers = random.Random(number)
-        word, formula, steps = numbers.choice(proofs)
+        short, long = proofs
+        word, formula, steps = numbers.choice(long if numbers.random() < LONG_ONES else short)
         proof = mutated_bytes(mutated_steps(steps, numbers), "binary" in word, numbers)
         self.streams = numbers.choice((1, 1, 1, 2, 3))
         self.stream = numbers.randint(1, self.streams)
@@ -134,7 +160,7 @@ class Mutant:
         if numbers.random() < 0.7:
             self.words += ["--format", word if numbers.random() < 0.9 else numbers.choice(WORDS)]
         if self.streams > 1 and numbers.random() < 0.3:
-            other = mutated_bytes(mutated_steps(numbers.choice(proofs)[2], numbers), False, numbers)
+            other = mutated_bytes(mutated_steps(numbers.choice(short)[2], numbers), False, numbers)
             self.words += ["--other", f"{self.stream % self.streams + 1}={self.put(work, 'other', other)}"]
         if numbers.random() < 0.1:
             formula = mutated_bytes(formula, False, numbers)
@@ -173,7 +199,7 @@ def report_of(program, mutant, text, work):
     with open(path, "wb") as file:
         file.write(text)
     streams = [path if number == mutant.stream else "/dev/null" for number in range(1, mutant.streams + 1)]
-    done = subprocess.run([program, "--tries", "0", "--lines", "2000", "--room", "50000", mutant.formula, *streams],
+    done = subprocess.run([program, "--tries", "0", "--lines", "20000", "--room", "100000", mutant.formula, *streams],
                           stdout=subprocess.PIPE, stderr=subprocess.PIPE, text=True, timeout=SECONDS)
     if done.returncode == 4 and "formula" in done.stderr:
         return None     # the program is stricter with formulas
@@ -225,7 +251,12 @@ def main():
         sys.exit(__doc__)
     program = os.path.abspath(sys.argv[1])
     count, first = [*map(int, sys.argv[2:]), *(10000, 0)[len(sys.argv) - 2:]]
-    build()
+    words = compiler()
+    if words is None:
+        print(f"mutants: skipped, the C compiler doesn't build with {SANITIZE[0]}")
+        print(f"0 passed, 0 failed, {count} skipped")
+        return 0
+    build(words)
     failed = 0
     with multiprocessing.Pool() as workers:
         jobs = ((program, number) for number in range(first, first + count))

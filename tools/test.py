@@ -223,6 +223,29 @@ def told_twice(work):
     want((text, said, status), (f"1 d {deletion} 0\n6 2 0 {addition} 2 0\n", "", 0), "what came out")
 
 
+def bad_other(line, work):
+    """Where it is read it isn't LRAT text with rising identities of the formula's literals."""
+    other = written(f"{line}\n8 2 0 1 2 0\n", work, "other")
+    stops(FOUR, FIRST + "7 1 -2 0 8 0\n", "line 2: in ", FIRST, ONE_OF_TWO + ["--other", f"2={other}"], work)
+
+
+def another(program, work):
+    """Clauses of another stream, so many that the filter gives their memory back."""
+    formula, count = written(FOUR, work), 9000
+    theirs = "".join(f"{6 + 2 * number} 1 2 0 1 0\n" for number in range(count)) + f"{6 + 2 * count} 2 0 1 2 0\n"
+    ours = "".join(f"{5 + 2 * number} 1 2 0 {6 + 2 * number} 0\n" for number in range(count))
+    ours += f"{5 + 2 * count} 0 {6 + 2 * count} 3 4 0\n"
+    other = written(theirs, work, "other")
+    text, said, status = exact(ONE_OF_TWO + ["--other", f"2={other}", formula], ours)
+    want((text, said, status), (ours, "", 0), "what came out")
+    check(program, formula, [(written(text, work, "exact"), count + 1), (other, count + 1)])
+
+
+def summary(work):
+    text, said, status = exact(["--help"])
+    want((text[:7], said, status), ("usage: ", "", 0), "the summary")
+
+
 TOLD = "o 9 -1 -2 0\no 20 2 1 0\no 7 2 -1 0\no 1 1 -2 0\n"     # the four clauses, in another order
 ONE_OF_TWO = ["--stream", "1", "--streams", "2"]
 
@@ -262,6 +285,8 @@ def refusals():
         ("a formula that is too short", "p cnf 2 5\n1 2 0\n", FIRST, "exact: ", "", []),
         ("a formula with a variable too many", "p cnf 1 1\n1 2 0\n", FIRST, "exact: ", "", []),
         ("a stream above their number", FOUR, FIRST, "the streams are 1 to N", "", ["--stream", "3", "--streams", "2"]),
+        ("an option without a stream's number", FOUR, FIRST, "no T=STREAM", "", ["--other", "x=/dev/null"]),
+        ("an option without a file", FOUR, FIRST, "no T=STREAM", "", ["--other", "2="]),
         ("a clause of another's file that isn't there", "p cnf 2 1\n1 2 0\n", "2 1 2 0 1 0\n4 1 0 3 0\n", "line 2: no conflict",
          "2 1 2 0 1 0\n", ONE_OF_TWO + ["--other", "2=/dev/null"]),
     ]
@@ -278,6 +303,8 @@ def refusals_of_frat():
         ("FRAT, a variable that isn't there", FOUR, late + "a 11 -1 3 0\n", "line 6: a variable", FIRST, []),
         ("FRAT, a negative hint", FOUR, late + "a 11 1 0 l -7 0\n", "line 6: a RAT step", FIRST, []),
         ("FRAT, a clause that doesn't follow", "p cnf 2 1\n1 2 0\n", "o 1 1 2 0\na 2 1 0\n", "line 2: no conflict", "", []),
+        ("FRAT, a new identity twice", FOUR, late + "r 10 9 0\n", "line 6: the identity 9", FIRST, []),
+        ("FRAT, an identity without a new one", FOUR, late + "r 10 0\n", "line 6: ", FIRST, []),
         ("FRAT, another letter", FOUR, late + "x 11 0\n", "line 6: ", FIRST, []),
         ("FRAT, a line of LRAT", FOUR, late + "6 0 5 3 4 0\n", "line 6: ", FIRST, []),
         ("FRAT, hints without a letter", FOUR, late + "a 11 0 10 1 9 0\n", "line 6: ", FIRST, []),
@@ -305,12 +332,13 @@ def refusals_in_binary():
          "byte 8: a RAT step", FIRST, lrat),
         ("binary LRAT, an identity twice", FOUR, five + five, "byte 8: the identity 5", FIRST, lrat),
         ("binary LRAT, an end before the hints", FOUR, five + b"a" + code(6) + b"\0", "byte 8: ", FIRST, lrat),
+        ("binary, no step after a deletion", FOUR, b"d" + codes([1, 2]) + b"x\0", "--format", "", []),
         ("binary, of which the first bytes tell nothing", FOUR, b"a" + varint(5) + codes([2]) + codes([1, 2]), "--format", "", []),
     ]
 
 
 def what_comes_out(program):
-    unit = "6 d 5 0\n"
+    unit, five = "6 d 5 0\n", b"a" + code(5) + codes([2]) + codes([1, 2])
     loosely = [
         ("FRAT, hints that aren't there", FOUR, TOLD + "a 10 2 0 l 33 34 0\na 11 0 l 0\n", FIRST + "6 0 3 4 5 0\n", []),
         ("FRAT, no hints", FOUR, TOLD + "a 10 2 0\na 12 0\n", FIRST + "6 0 3 4 5 0\n", []),
@@ -345,9 +373,16 @@ def what_comes_out(program):
         ("FRAT, a clause that the formula has twice", told_twice),
         ("binary DRAT, by a number below the formula's last", comes_out, FOUR, b"a" + codes([2]) + b"d" + codes([1, 2]),
          FIRST + "5 d 1 0\n", []),
-        ("binary LRAT, by a number that is no literal", comes_out, FOUR, b"a" + code(5) + codes([2]) + codes([1, 2]), FIRST, []),
+        ("binary DRAT, a deletion first", comes_out, FOUR, b"d" + codes([-2, 1]) + b"a" + codes([2]), "1 d 3 0\n" + FIRST, []),
+        ("binary LRAT, a deletion first", comes_out, FOUR, b"d" + codes([9]) + five, FIRST, []),
+        ("FRAT, new identities", comes_out, FOUR, TOLD + "a 10 2 0 l 20 7 0\nr 10 30 1 9 9 1 77 78 0\na 12 0 l 30 9 1 0\n",
+         FIRST + "6 0 5 3 4 0\n", []),
+        ("comments in the formula", comes_out, "c p cnf\nc\n" + FOUR.replace("\n-1 2", "\nc 1 0\n-1 2"), FIRST, FIRST, []),
+        ("binary LRAT, by a number that is no literal", comes_out, FOUR, five, FIRST, []),
         ("a last line of LRAT without LF", comes_out, FOUR, "5 2 0 1 2 0\n6 0 5 3 4 0", FIRST + "6 0 5 3 4 0\n", []),
-    ]
+        ("a summary", summary),
+        ("another's stream", another, program),
+    ] + [(f"another's stream, {line}", bad_other, line) for line in ("6 3 0 1 0", "6 x 0 1 0", "6 2 1")]
 
 
 # Limits.
@@ -438,12 +473,11 @@ def parts_of(form):
     return [b"".join(parts[:before + 1]), *parts[before + 1:before + 3]], b"".join(parts[before + 3:])
 
 
-def is_whole(form, cut):
-    """Whether the bytes end with a step, of text maybe without its LF; and FRAT's hints may be left out."""
-    if "binary" in form:
-        return False
-    words = cut.rsplit(b"\n", 1)[-1].split()
-    return not words or form != "LRAT text" and words[-1] == b"0" and (len(words) > 1 or form == "DRAT text")
+def is_whole(form, proof, length):
+    """Whether a step of text ends there, maybe without its LF; and FRAT's hints may be left out."""
+    line = proof[:length].rsplit(b"\n", 1)[-1]
+    without_hints = form.startswith("FRAT") and line.startswith(b"a ") and line.split()[-1] == b"0"
+    return not line or proof[length:length + 1] == b"\n" or without_hints
 
 
 def cut(form, work):
@@ -455,13 +489,11 @@ def cut(form, work):
     for length in range(len(proof) + 1):
         text, said, status = exact(["--format", word, formula], proof[:length])
         whole = sum(end <= length for end in ends[1:])
-        at_end = length in ends or is_whole(form, proof[:length]) or proof[:length + 1].endswith(b" 0\n") or \
-            "binary" not in form and length > ends[-1] and proof[:length].endswith(b" 0")
+        at_end = length in ends if "binary" in form else is_whole(form, proof, length)
         lines = sorted_hints(text)
-        if lines[:whole] != sorted_hints("\n".join(LINES[:whole])) or len(lines) > whole + 1 or text and text[-1] != "\n":
+        if lines[:whole] != sorted_hints("\n".join(LINES[:whole])) or len(lines) > whole + at_end or text and text[-1] != "\n":
             raise Failure(f"cut at {length}: wanted {whole} lines, and not\n{text}")
-        if (status, said.count("\n")) != ((0, 0) if at_end else (1, 1)) or len(lines) > whole and not at_end:
-            raise Failure(f"cut at {length}: status {status}\n{text}{said}")
+        want((status, said.count("\n")), (0, 0) if at_end else (1, 1), f"cut at {length}: the status, and lines on standard error")
 
 
 def read_line(file):
