@@ -6,12 +6,13 @@ PREFIX ?= /usr/local
 PROGRAM := crates/lrupd/out/lrupd
 LOG := crates/lrupd/out/build.log
 SOLVER := examples/solver/out/solver
+EXACT := tools/exact/out/exact
 FORMULA ?= examples/bmc.cnf
 STREAMS ?= $(addprefix examples/bmc-four.,1 2 3 4)
 OPTIONS ?= --tries 1000000
 
-.PHONY: run build install examples live demo solver solver-test filter-test neighbours sweep leaks instructions audit pages test \
-    toolchain c-and-python
+.PHONY: run build install examples live demo solver exact solver-test filter-test neighbours sweep leaks instructions audit pages \
+    test toolchain c-and-python
 
 # Builds the proved program and runs it on an example, or on files of one's own:
 #     make run FORMULA=path/to/formula.cnf STREAMS="path/to/stream1 path/to/stream2"
@@ -27,11 +28,12 @@ build: toolchain
 	@set -o pipefail; cd crates/lrupd && $(RT) run -- "$(abspath examples/four-clause.cnf)" "$(abspath examples/four-clause.lrup)" \
 	2>&1 | sh $(abspath gate/progress.sh) $(abspath $(LOG)) || { cat $(abspath $(LOG)); exit 1; }
 
-# The program and its manual page, below PREFIX.
-install: build
+# The program, and the filter as lrup-exact, with their manual pages, below PREFIX.
+install: build exact
 	install -d "$(DESTDIR)$(PREFIX)/bin" "$(DESTDIR)$(PREFIX)/share/man/man1"
 	install -m 755 $(PROGRAM) "$(DESTDIR)$(PREFIX)/bin/lrupd"
-	install -m 644 docs/lrupd.1 "$(DESTDIR)$(PREFIX)/share/man/man1/lrupd.1"
+	install -m 755 $(EXACT) "$(DESTDIR)$(PREFIX)/bin/lrup-exact"
+	install -m 644 docs/lrupd.1 docs/lrup-exact.1 "$(DESTDIR)$(PREFIX)/share/man/man1"
 
 # What the program writes on standard output and standard error, and its status, on the examples and on some hundred small runs;
 # two groups of streams, checked apart; and whether README, USING, the manual page and --help say the same.
@@ -51,14 +53,20 @@ demo: build solver
 # The solver of the demo: an example, and not verified.
 solver: c-and-python
 	@mkdir -p $(dir $(SOLVER))
-	@$(CC) -std=c11 -O2 -Wall -Wextra -pthread -o $(SOLVER) examples/solver/*.c
+	@$(CC) -std=c11 -O2 -Wall -Wextra -pthread -I tools/exact -o $(SOLVER) examples/solver/*.c tools/exact/formula.c
+
+# The filter that makes streams of other solvers' proofs: not verified, and not trusted.
+exact: c-and-python
+	@mkdir -p $(dir $(EXACT))
+	@$(CC) -std=c11 -O2 -Wall -Wextra -o $(EXACT) tools/exact/*.c
 
 # The solver's streams, and those that the filter for inexact proofs makes.
 solver-test: build solver
 	@python3 examples/solver/test.py $(PROGRAM) $(SOLVER)
 
-filter-test: build c-and-python
-	@python3 tools/test.py $(PROGRAM)
+# The filter for inexact proofs, with the solvers that are on the PATH, and 10,000 mutated proofs.
+filter-test: build exact
+	@python3 tools/test.py $(PROGRAM) && python3 tools/mutate.py $(PROGRAM)
 
 # A good proof beside hostile streams: what is said of it never changes.
 neighbours: build c-and-python
@@ -87,16 +95,17 @@ pages: c-and-python
 	@python3 gate/style.py
 
 # The whole gate: the pages; every proof from nothing, each edit that must be refused, each test, and the program as two compilers
-# build it; then, with the program that was built there, the examples, the live run, the solver's streams and the filter's, a
-# proof beside hostile streams, each call of the system refused in turn, of the program and of tests, memory given back, and the
-# instructions that lines take. The last line is rt's own, 'N passed, M failed'.
+# build it; then, with the program that was built there, the examples, the live run, the solver's streams and the filter's, mutated
+# proofs, a proof beside hostile streams, each call of the system refused in turn, of the program and of tests, memory given back,
+# and the instructions that lines take. The last line is rt's own, 'N passed, M failed'.
 test: SHELL := /bin/bash
-test: toolchain pages solver
+test: toolchain pages solver exact
 	@set -o pipefail; log=$$(mktemp); trap 'rm -f "$$log"' EXIT; \
 	$(RT) ci | tee "$$log" && sh examples/compare.sh $(PROGRAM) && sh examples/groups.sh $(PROGRAM) && \
 	sh examples/words.sh $(PROGRAM) && sh examples/live.sh $(PROGRAM) && python3 examples/solver/test.py $(PROGRAM) $(SOLVER) && \
-	python3 tools/test.py $(PROGRAM) && python3 examples/neighbours.py $(PROGRAM) && \
-	python3 gate/sweep.py $(PROGRAM) $(RT) && sh gate/leaks.sh $(PROGRAM) && python3 gate/instructions.py $(PROGRAM) && tail -n 1 "$$log"
+	python3 tools/test.py $(PROGRAM) && python3 tools/mutate.py $(PROGRAM) && python3 examples/neighbours.py $(PROGRAM) && \
+	python3 gate/sweep.py $(PROGRAM) $(RT) && sh gate/leaks.sh $(PROGRAM) && python3 gate/instructions.py $(PROGRAM) && \
+	tail -n 1 "$$log"
 
 toolchain:
 	@command -v $(RT) > /dev/null || { echo "lrupd needs Rattle's toolchain: no command '$(RT)' is on the PATH"; exit 1; }

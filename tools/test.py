@@ -5,38 +5,77 @@
 
 The recorded streams of examples/, with their hints shuffled, doubled and missing, with comments and loose spaces, have to come
 out as good streams of as many additions; so have those of several solvers with an import for each clause of another one that
-they cite, and CaDiCaL's DRAT text in proofs/. It shows what is off; the last line is 'N passed, M failed', and the status is 1
-where a run failed.
+they cite, the recorded streams in each other form, and CaDiCaL's DRAT text in proofs/. Then what a few lines come to, what is
+refused and where, limits from both sides, cut proofs, pipes that stay open, and outputs that fail. Where they are on the PATH,
+CaDiCaL and CryptoMiniSat run beside the filter and the program, by the commands that USING has. It shows what is off; the last
+line is 'N passed, M failed', and ', K skipped' where solvers aren't there. The status is 1 where a run failed.
 """
 import os
 import random
+import select
+import shutil
+import signal
 import subprocess
 import sys
 import tempfile
 
+sys.dont_write_bytecode = True
+from forms import FORMS, Step, code, codes, read_formula, read_steps, varint
+
 HERE = os.path.dirname(os.path.abspath(__file__))
-FILTER = os.path.join(HERE, "exact")
-EXAMPLES = os.path.join(HERE, "..", "examples")
+ROOT = os.path.dirname(HERE)
+FILTER = os.path.join(HERE, "exact", "out", "exact")
+EXAMPLES = os.path.join(ROOT, "examples")
+GENERATOR = os.path.join(EXAMPLES, "solver", "generate.py")
+USING = os.path.join(ROOT, "docs", "USING.md")
 FOUR = "p cnf 2 4\n1 2 0\n-1 2 0\n1 -2 0\n-1 -2 0\n"
+UNITS = "p cnf 3 4\n1 0\n-1 2 0\n-2 3 0\n-3 -2 0\n"
+FIRST = "5 2 0 1 2 0\n"
 
 
 class Failure(Exception):
     pass
 
 
+class Skipped(Exception):
+    pass
+
+
 def want(found, wanted, what):
     if found != wanted:
-        raise Failure(f"{what}: wanted\n{wanted}\nand not\n{found}")
+        raise Failure(f"{what}: wanted\n{str(wanted)[:2000]}\nand not\n{str(found)[:2000]}")
 
 
 def example(name):
     return os.path.join(EXAMPLES, name)
 
 
-def exact(words, given=None):
+def exact(words, given=b""):
     """What comes out, what is said on standard error, and the status."""
-    done = subprocess.run([sys.executable, FILTER] + words, input=given, capture_output=True, text=True, timeout=300)
-    return done.stdout, done.stderr, done.returncode
+    given = given if isinstance(given, bytes) else given.encode()
+    done = subprocess.run([FILTER] + words, input=given, capture_output=True, timeout=300)
+    return done.stdout.decode(), done.stderr.decode(), done.returncode
+
+
+def written(text, work, name="formula.cnf"):
+    path = os.path.join(work, name)
+    with open(path, "w") as file:
+        file.write(text)
+    return path
+
+
+def check(program, formula, streams, options=()):
+    """Each stream has to end, with the additions wanted of it; the formula to be refuted."""
+    done = subprocess.run([program, "--tries", "1000000", *options, formula] + [path for path, _ in streams],
+                          stdout=subprocess.PIPE, text=True, timeout=300)
+    *lines, verdict = done.stdout.splitlines()
+    for number, (line, (_, wanted)) in enumerate(zip(lines, streams), 1):
+        if not line.startswith(f"c stream {number}: {wanted} added, ") or not line.endswith(" deleted, ended"):
+            raise Failure(f"wanted {wanted} additions, and not\n{line}")
+    want((verdict, done.returncode), ("s UNSATISFIABLE", 0), "the verdict")
+
+
+# The recorded streams, with inexact hints.
 
 
 def additions_of(path):
@@ -89,17 +128,6 @@ def mangle(path, seed, keep, out):
             file.write(numbers.choice(("\n", " \n", "\r\n", "\n\nc more\n")))
 
 
-def check(program, formula, streams, options=()):
-    """Each stream has to end, with the additions wanted of it; the formula to be refuted."""
-    done = subprocess.run([program, "--tries", "1000000", *options, formula] + [path for path, _ in streams],
-                          stdout=subprocess.PIPE, text=True, timeout=300)
-    *lines, verdict = done.stdout.splitlines()
-    for number, (line, (_, wanted)) in enumerate(zip(lines, streams), 1):
-        if not line.startswith(f"c stream {number}: {wanted} added, ") or not line.endswith(" deleted, ended"):
-            raise Failure(f"wanted {wanted} additions, and not\n{line}")
-    want((verdict, done.returncode), ("s UNSATISFIABLE", 0), "the verdict")
-
-
 def imports_in(text):
     return [line.split() for line in text.splitlines() if " i " in line]
 
@@ -107,8 +135,7 @@ def imports_in(text):
 def mangled(program, formula, names, seed, imports, work):
     """With imports the filter sees one stream alone, and without them all."""
     count, formula = len(names), example(formula)
-    with open(formula) as file:
-        clauses = int(next(line for line in file if line.startswith("p ")).split()[3])
+    clauses = len(read_formula(formula))
     streams = []
     for number, name in enumerate(names, 1):
         source, loose, out = example(name), os.path.join(work, f"loose{number}"), os.path.join(work, f"exact{number}")
@@ -124,92 +151,560 @@ def mangled(program, formula, names, seed, imports, work):
         want((said, status), ("", 0), name)
         with open(source) as file:
             want(imports_in(text), imports_in(file.read()), f"the imports of {name}")
-        with open(out, "w") as file:
-            file.write(text)
-        streams.append((out, additions_of(example(name))))
+        streams.append((written(text, work, out), additions_of(example(name))))
     check(program, formula, streams)
 
 
 def without_hints(program, formula, proof, stream, count, work):
     text, said, status = exact(["--stream", str(stream), "--streams", str(count), formula, proof])
     want((said, status), ("", 0), proof)
-    out = os.path.join(work, "exact")
-    with open(out, "w") as file:
-        file.write(text)
+    out = written(text, work, "exact")
     with open(proof) as file:
         added = sum(not line.startswith("d") for line in file)
     check(program, formula, [(out, added) if number == stream else ("/dev/null", 0) for number in range(1, count + 1)])
 
 
-def written(text, work):
-    path = os.path.join(work, "formula.cnf")
-    with open(path, "w") as file:
-        file.write(text)
-    return path
+def in_form(program, formula, name, form, told, work):
+    """A recorded stream in another form, as the only stream and as the second of three."""
+    word, make = FORMS[form]
+    formula, stream = example(formula), example(name)
+    proof = b"".join(make(read_formula(formula), read_steps(stream)))
+    for number, count in ((1, 1), (2, 3)):
+        options = ["--stream", str(number), "--streams", str(count)] + ["--format", word] * told
+        text, said, status = exact(options + [formula], proof)
+        if not told and form.startswith("binary") and status == 1 and said.count("\n") == 1 and "--format" in said:
+            continue        # it may ask for the form
+        want((said, status), ("", 0), "what the filter says")
+        out = written(text, work, "exact")
+        check(program, formula, [(out, additions_of(stream)) if other == number else ("/dev/null", 0)
+                                 for other in range(1, count + 1)])
+
+
+# A few lines.
 
 
 def stops(formula, proof, cause, lines, words, work):
-    """At the line that has the cause; those before it are out."""
+    """At the line or the byte that has the cause; the lines before it are out."""
     text, said, status = exact(words + [written(formula, work)], proof)
     want((text, status), (lines, 1), "what came out")
-    if cause not in said or said.count("\n") != 1:
+    if not said.startswith("exact: ") or cause not in said or said.count("\n") != 1:
         raise Failure(f"wanted a word on '{cause}', and not\n{said}")
 
 
-def comes_out(proof, lines, words, work):
-    want(exact(words + [written(FOUR, work)], proof), (lines, "", 0), "what came out")
+def comes_out(formula, proof, lines, words, work):
+    want(exact(words + [written(formula, work)], proof), (lines, "", 0), "what came out")
 
 
-def live(work):
-    """A line comes out while the pipe is open."""
-    command = [sys.executable, FILTER, written(FOUR, work)]
-    with subprocess.Popen(command, stdin=subprocess.PIPE, stdout=subprocess.PIPE, text=True) as running:
-        for step, line in (("2 0\n", "5 2 0 1 2 0\n"), ("d 1 2 0\n", "5 d 1 0\n"), ("0\n", "6 0 5 3 4 0\n")):
-            running.stdin.write(step)
-            running.stdin.flush()
-            found = running.stdout.readline().split(" ")
-            want((found[0], sorted(found)), (line.split(" ")[0], sorted(line.split(" "))), "a live line")
+def sorted_hints(text):
+    """Each line, with its hints in order."""
+    lines = [line.split() for line in text.splitlines()]
+    heads = [words.index("0", 1) for words in lines]
+    return [(words[:end], sorted(words[end:])) for words, end in zip(lines, heads)]
 
 
-def runs_of_few_lines():
-    first, one_of_two = "5 2 0 1 2 0\n", ["--stream", "1", "--streams", "2"]
-    runs = [
-        ("a RAT step with hints", FOUR, "5 2 0 1 2 0\n6 1 0 -3 4 0\n", "line 2: a RAT step", first, []),
+def comes_out_with(program, formula, proof, lines, words, work):
+    """These lines, with hints in an order that the program takes."""
+    formula = written(formula, work)
+    text, said, status = exact(words + [formula], proof)
+    want((sorted_hints(text), said, status), (sorted_hints(lines), "", 0), "what came out")
+    stream, count = int(words[1]) if "--stream" in words else 1, int(words[3]) if "--stream" in words else 1
+    streams = [written(text, work, "exact") if number == stream else "/dev/null" for number in range(1, count + 1)]
+    done = subprocess.run([program, formula, *streams], stdout=subprocess.PIPE, text=True, timeout=300)
+    deleted = text.count(" d ")
+    added = len(text.splitlines()) - deleted
+    want(done.stdout.splitlines()[stream - 1], f"c stream {stream}: {added} added, {deleted} deleted, ended", "the report")
+
+
+def told_twice(work):
+    """Two `o` lines of a clause that the formula has twice name both: one is deleted, and the other there."""
+    formula = written("p cnf 2 5\n1 2 0\n-1 2 0\n1 -2 0\n-1 -2 0\n2 1 0\n", work)
+    text, said, status = exact([formula], "o 3 1 2 0\no 8 2 1 0\no 4 -1 2 0\nd 8 2 1 0\na 9 2 0 l 3 4 0\n")
+    deletion, addition = ("1", "5") if text.startswith("1 d 1 ") else ("5", "1")
+    want((text, said, status), (f"1 d {deletion} 0\n6 2 0 {addition} 2 0\n", "", 0), "what came out")
+
+
+def bad_other(line, work):
+    """Where it is read it isn't LRAT text with rising identities of the formula's literals."""
+    other = written(f"{line}\n8 2 0 1 2 0\n", work, "other")
+    stops(FOUR, FIRST + "7 1 -2 0 8 0\n", "line 2: in ", FIRST, ONE_OF_TWO + ["--other", f"2={other}"], work)
+
+
+def another(program, work):
+    """Clauses of another stream, so many that the filter gives their memory back."""
+    formula, count = written(FOUR, work), 9000
+    theirs = "".join(f"{6 + 2 * number} 1 2 0 1 0\n" for number in range(count)) + f"{6 + 2 * count} 2 0 1 2 0\n"
+    ours = "".join(f"{5 + 2 * number} 1 2 0 {6 + 2 * number} 0\n" for number in range(count))
+    ours += f"{5 + 2 * count} 0 {6 + 2 * count} 3 4 0\n"
+    other = written(theirs, work, "other")
+    text, said, status = exact(ONE_OF_TWO + ["--other", f"2={other}", formula], ours)
+    want((text, said, status), (ours, "", 0), "what came out")
+    check(program, formula, [(written(text, work, "exact"), count + 1), (other, count + 1)])
+
+
+def summary(work):
+    text, said, status = exact(["--help"])
+    want((text[:7], said, status), ("usage: ", "", 0), "the summary")
+
+
+TOLD = "o 9 -1 -2 0\no 20 2 1 0\no 7 2 -1 0\no 1 1 -2 0\n"     # the four clauses, in another order
+ONE_OF_TWO = ["--stream", "1", "--streams", "2"]
+
+
+def refusals():
+    """Of LRAT, DRUP and DRAT text."""
+    return [
+        ("a RAT step with hints", FOUR, FIRST + "6 1 0 -3 4 0\n", "line 2: a RAT step", FIRST, []),
         ("a RAT step without hints", "p cnf 2 1\n1 2 0\n", "1 2 0\n1 0\n",
          "line 2: no conflict by unit propagation: a RAT step", "2 1 2 0 1 0\n", []),
-        ("both kinds", FOUR, "5 2 0 1 2 0\n0\n", "line 2: a step of DRUP or DRAT text", first, []),
-        ("not text", FOUR, "a\x02\x04\x00", "line 1: not text", "", []),
+        ("both kinds", FOUR, FIRST + "0\n", "line 2: a step of DRUP or DRAT text", FIRST, []),
+        ("not text", FOUR, FIRST + "a\x02\x04\x00", "line 2: ", FIRST, []),
         ("a variable that isn't there", FOUR, "3 0\n", "line 1: a variable", "", []),
         ("an identity of the formula's", FOUR, "4 2 0 1 2 0\n", "line 1: the identity 4", "", []),
-        ("an import of its own", FOUR, f"{first}5 i 2 0\n", "line 2: an import of 5, which is no clause", first, []),
+        ("an identity twice", FOUR, FIRST + FIRST, "line 2: the identity 5", FIRST, []),
+        ("an identity below the one before", FOUR, "7 2 0 1 2 0\n6 0 7 3 4 0\n", "line 2: the identity 6", "7 2 0 1 2 0\n", []),
+        ("an import of its own", FOUR, FIRST + "5 i 2 0\n", "line 2: an import of 5, which is no clause", FIRST, []),
         ("an import of nothing", FOUR, "0 i 2 0\n", "line 1: an import of 0, which is no clause", "", []),
         ("an import of another clause", FOUR, "1 i 1 2 1 0\n1 i 1 0\n",
          "line 2: the literals of the import aren't those of the clause 1", "1 i 1 2 1 0\n", []),
         ("two imports that differ", FOUR, "6 i 1 2 0\n6 i 2 0\n",
-         "line 2: the literals of the import aren't those of the clause 6", "6 i 1 2 0\n", one_of_two),
+         "line 2: the literals of the import aren't those of the clause 6", "6 i 1 2 0\n", ONE_OF_TWO),
         ("an import of what was deleted", FOUR, "5 d 1 0\n1 i 1 2 0\n",
          "line 2: an import of 1, which was deleted", "1 d 1 0\n", []),
         ("an import of another's that was deleted", FOUR, "6 i 1 2 0\n5 d 6 0\n6 i 1 2 0\n",
-         "line 3: an import of 6, which was deleted", "6 i 1 2 0\n1 d 6 0\n", one_of_two),
-        ("an import with a variable that isn't there", FOUR, "6 i 3 0\n", "line 1: a variable", "", one_of_two),
-        ("an import after other numbers", FOUR, "9 2 0 1 2 0\n6 i -2 0\n", "line 2: an import, and", first, one_of_two),
-        ("an import in DRUP", FOUR, "2 0\n6 i -2 0\n", "line 2: a step of LRAT text", first, one_of_two),
+         "line 3: an import of 6, which was deleted", "6 i 1 2 0\n1 d 6 0\n", ONE_OF_TWO),
+        ("an import with a variable that isn't there", FOUR, "6 i 3 0\n", "line 1: a variable", "", ONE_OF_TWO),
+        ("an import after other numbers", FOUR, "9 2 0 1 2 0\n6 i -2 0\n", "line 2: an import, and", FIRST, ONE_OF_TWO),
+        ("an import in DRUP", FOUR, "2 0\n6 i -2 0\n", "line 2: a step of LRAT text", FIRST, ONE_OF_TWO),
+        ("a step without its end", FOUR, FIRST + "6 0 5 3 4\n", "line 2: ", FIRST, []),
+        ("a deletion without its end", FOUR, FIRST + "6 d 5\n", "line 2: ", FIRST, []),
+        ("three lists", FOUR, "5 2 0 1 2 0 3 0\n", "line 1: ", "", []),
+        ("a word that is no number", FOUR, FIRST + "6 x 0 5 3 4 0\n", "line 2: ", FIRST, []),
+        ("a hint that is no number", FOUR, FIRST + "6 0 5 3 +4 0\n", "line 2: ", FIRST, []),
+        ("a zero with a sign", FOUR, "5 2 -0 0 1 2 0\n", "line 1: ", "", []),
+        ("no header", "1 2 0\n", "", "no header", "", []),
+        ("a formula that is too short", "p cnf 2 5\n1 2 0\n", FIRST, "exact: ", "", []),
+        ("a formula with a variable too many", "p cnf 1 1\n1 2 0\n", FIRST, "exact: ", "", []),
+        ("a stream above their number", FOUR, FIRST, "the streams are 1 to N", "", ["--stream", "3", "--streams", "2"]),
+        ("an option without a stream's number", FOUR, FIRST, "no T=STREAM", "", ["--other", "x=/dev/null"]),
+        ("an option without a file", FOUR, FIRST, "no T=STREAM", "", ["--other", "2="]),
+        ("a clause of another's file that isn't there", "p cnf 2 1\n1 2 0\n", "2 1 2 0 1 0\n4 1 0 3 0\n", "line 2: no conflict",
+         "2 1 2 0 1 0\n", ONE_OF_TWO + ["--other", "2=/dev/null"]),
     ]
-    runs = [(name, stops, *arguments) for name, *arguments in runs]
-    return runs + [
-        ("other numbers", comes_out, "c x\no proof DRUP\n 70  2 0 2 1 2 0\n70 d 1 99 0\n\n71 0 4 3 70 0\n",
+
+
+def refusals_of_frat():
+    late = TOLD + "a 10 2 0 l 20 7 0\n"
+    return [
+        ("FRAT, no clause of the formula's", FOUR, "o 9 1 2 0\no 3 1 0\n", "line 2: ", "", []),
+        ("FRAT, a clause more often than the formula has it", FOUR, "o 9 1 2 0\no 3 2 1 0\n", "line 2: ", "", []),
+        ("FRAT, a derived clause as one of the formula's", FOUR, late + "o 11 2 0\n", "line 6: ", FIRST, []),
+        ("FRAT, an identity twice", FOUR, late + "a 10 0 l 10 1 9 0\n", "line 6: the identity 10", FIRST, []),
+        ("FRAT, an identity of the formula's twice", FOUR, late + "a 9 0 l 10 1 9 0\n", "line 6: the identity 9", FIRST, []),
+        ("FRAT, a variable that isn't there", FOUR, late + "a 11 -1 3 0\n", "line 6: a variable", FIRST, []),
+        ("FRAT, a negative hint", FOUR, late + "a 11 1 0 l -7 0\n", "line 6: a RAT step", FIRST, []),
+        ("FRAT, a clause that doesn't follow", "p cnf 2 1\n1 2 0\n", "o 1 1 2 0\na 2 1 0\n", "line 2: no conflict", "", []),
+        ("FRAT, a new identity twice", FOUR, late + "r 10 9 0\n", "line 6: the identity 9", FIRST, []),
+        ("FRAT, an identity without a new one", FOUR, late + "r 10 0\n", "line 6: ", FIRST, []),
+        ("FRAT, another letter", FOUR, late + "x 11 0\n", "line 6: ", FIRST, []),
+        ("FRAT, a line of LRAT", FOUR, late + "6 0 5 3 4 0\n", "line 6: ", FIRST, []),
+        ("FRAT, hints without a letter", FOUR, late + "a 11 0 10 1 9 0\n", "line 6: ", FIRST, []),
+        ("FRAT, hints without an end", FOUR, late + "a 11 0 l 10 1 9\n", "line 6: ", FIRST, []),
+        ("FRAT, no identity", FOUR, late + "a\n", "line 6: ", FIRST, []),
+        ("FRAT, a word that is no number", FOUR, late + "a 11 0 l 10 y 9 0\n", "line 6: ", FIRST, []),
+    ]
+
+
+def refusals_in_binary():
+    """With the byte where the step begins, counted from 1."""
+    drat, lrat = ["--format", "binary-drat"], ["--format", "binary-lrat"]
+    two, five = b"a" + codes([2]), b"a" + code(5) + codes([2]) + codes([1, 2])
+    return [
+        ("binary, another letter", FOUR, two + b"b\0", "byte 4: ", FIRST, drat),
+        ("binary, a variable that isn't there", FOUR, two + b"a" + codes([3]), "byte 4: a variable", FIRST, drat),
+        ("binary, a zero with a sign", FOUR, two + b"a\1\0", "byte 4: ", FIRST, drat),
+        ("binary, an end within a number", FOUR, two + b"a\x80", "byte 4: ", FIRST, drat),
+        ("binary, an end within a clause", FOUR, two + b"a\4", "byte 4: ", FIRST, drat),
+        ("binary, a number without an end", FOUR, two + b"a" + b"\xff" * 1000, "byte 4: ", FIRST, drat),
+        ("binary, a variable beyond 64 bits", FOUR, two + b"a" + codes([(1 << 64) + 1]), "byte 4: ", FIRST, drat),
+        ("binary, a clause that doesn't follow", "p cnf 2 1\n1 2 0\n", b"a" + codes([1, 2]) + b"a" + codes([1]),
+         "byte 5: no conflict", "2 1 2 0 1 0\n", drat),
+        ("binary LRAT, a negative hint", FOUR, five + b"a" + code(6) + codes([1]) + codes([-3, 4]),
+         "byte 8: a RAT step", FIRST, lrat),
+        ("binary LRAT, an identity twice", FOUR, five + five, "byte 8: the identity 5", FIRST, lrat),
+        ("binary LRAT, an end before the hints", FOUR, five + b"a" + code(6) + b"\0", "byte 8: ", FIRST, lrat),
+        ("binary, no step after a deletion", FOUR, b"d" + codes([1, 2]) + b"x\0", "--format", "", []),
+        ("binary, of which the first bytes tell nothing", FOUR, b"a" + varint(5) + codes([2]) + codes([1, 2]), "--format", "", []),
+    ]
+
+
+def what_comes_out(program):
+    unit, five = "6 d 5 0\n", b"a" + code(5) + codes([2]) + codes([1, 2])
+    loosely = [
+        ("FRAT, hints that aren't there", FOUR, TOLD + "a 10 2 0 l 33 34 0\na 11 0 l 0\n", FIRST + "6 0 3 4 5 0\n", []),
+        ("FRAT, no hints", FOUR, TOLD + "a 10 2 0\na 12 0\n", FIRST + "6 0 3 4 5 0\n", []),
+        ("FRAT, an identity again after a deletion that is left out", FOUR, TOLD + "a 10 2 0\nd 10 2 0\na 10 0\n",
+         FIRST + "6 0 3 4 5 0\n", []),
+        ("FRAT, an identity again after its deletion", FOUR, TOLD + "a 10 2 0 l 20 7 0\nd 20 1 2 0\na 20 0 l 10 1 9 0\n",
+         FIRST + "5 d 1 0\n6 0 3 4 5 0\n", []),
+        ("FRAT, no originals", FOUR, "a 10 2 0\nd 4 1 2 0\na 12 0 l 10 0\nf 12 0\n", FIRST + "6 0 3 4 5 0\n", []),
+        ("a unit that is deleted", FOUR, "2 0\nd 2 0\n0\n", FIRST + "6 0 3 4 5 0\n", []),
+        ("a unit that is deleted, binary", FOUR, b"a" + codes([2]) + b"d" + codes([2]) + b"a\0", FIRST + "6 0 3 4 5 0\n",
+         ["--format", "binary-drat"]),
+        ("a reason that is deleted", UNITS, "d -1 2 0\n0\n", "5 0 1 2 3 4 0\n", []),
+        ("a unit of the formula that is deleted", UNITS, "d 1 0\n3 0\n0\n", "5 3 0 1 2 3 0\n6 0 1 2 4 5 0\n", []),
+        ("a reason that is deleted, after a clause", UNITS, "1 2 3 0\nd 2 -1 0\n0\n", "5 1 2 3 0 1 0\n6 0 1 2 3 4 0\n", []),
+        ("a unit that is deleted, LRAT without hints", FOUR, "5 2 0 0\n6 -2 1 0 0\n" + unit + "7 0 0\n",
+         FIRST + "6 -2 1 0 3 0\n7 0 3 4 5 0\n", []),
+        ("a deletion of nothing", FOUR, "d 1 0\nd 1 2 -1 0\n2 0\n", FIRST, []),
+        ("a deletion in another order", FOUR, "2 0\nd 2 1 0\n0\n", FIRST + "5 d 1 0\n6 0 3 4 5 0\n", []),
+        ("a literal twice", FOUR, "2 2 0\n", FIRST, []),
+        ("CR LF", FOUR, "2 0\r\nd 1 2 0\r\n", FIRST + "5 d 1 0\n", []),
+        ("no LF at the end", FOUR, "2 0\n0", FIRST + "6 0 3 4 5 0\n", []),
+        ("no step at all", FOUR, "", "", []),
+        ("other numbers", FOUR, "c x\no proof DRUP\n 70  2 0 2 1 2 0\n70 d 1 99 0\n\n71 0 4 3 70 0\n",
          "6 2 0 2 1 0\n6 d 1 0\n8 0 6 4 3 0\n", ["--stream", "2", "--streams", "2"]),
-        ("imports", comes_out, "1  i 2 1 0\n5 2 0 2 1 1 0\n6 i -2 -2 0\n7 0 6 1 5 0\n11 0 5 6 0\n",
-         "1 i 2 1 0\n5 2 0 2 1 0\n6 i -2 -2 0\n7 0 6 5 0\n11 0 5 6 0\n", one_of_two),
-        ("a tautology, which is of no use", comes_out, "1 -1 0\n2 0\n", first, []),
-        ("a pipe", live),
+    ]
+    return [(name, comes_out_with, program, *rest) for name, *rest in loosely] + [
+        ("imports", comes_out, FOUR, "1  i 2 1 0\n5 2 0 2 1 1 0\n6 i -2 -2 0\n7 0 6 1 5 0\n11 0 5 6 0\n",
+         "1 i 2 1 0\n5 2 0 2 1 0\n6 i -2 -2 0\n7 0 6 5 0\n11 0 5 6 0\n", ONE_OF_TWO),
+        ("a tautology, which is of no use", comes_out, FOUR, "1 -1 0\n2 0\n", FIRST, []),
+        ("FRAT, in another order", comes_out, FOUR, TOLD + "a 10 2 0 l 20 7 0\nd 20 1 2 0\na 12 0 l 10 1 9 0\nf 12 0\n",
+         FIRST + "5 d 1 0\n6 0 5 3 4 0\n", []),
+        ("FRAT, as the second of three", comes_out, FOUR, TOLD + "a 10 2 0 l 20 7 0\na 12 0 l 10 1 9 0\nf 10 2 0\n",
+         "6 2 0 1 2 0\n9 0 6 3 4 0\n", ["--stream", "2", "--streams", "3"]),
+        ("FRAT, an original after an addition", comes_out, FOUR, "o 8 1 2 0\no 6 2 -1 0\na 7 2 0 l 8 6 0\no 5 1 -2 0\no 4 -2 -1 0\n"
+         "a 9 0 l 7 5 4 0\n", FIRST + "6 0 5 3 4 0\n", []),
+        ("FRAT, a clause that the formula has twice", told_twice),
+        ("binary DRAT, by a number below the formula's last", comes_out, FOUR, b"a" + codes([2]) + b"d" + codes([1, 2]),
+         FIRST + "5 d 1 0\n", []),
+        ("binary DRAT, a deletion first", comes_out, FOUR, b"d" + codes([-2, 1]) + b"a" + codes([2]), "1 d 3 0\n" + FIRST, []),
+        ("binary LRAT, a deletion first", comes_out, FOUR, b"d" + codes([9]) + five, FIRST, []),
+        ("FRAT, new identities", comes_out, FOUR, TOLD + "a 10 2 0 l 20 7 0\nr 10 30 1 9 9 1 77 78 0\na 12 0 l 30 9 1 0\n",
+         FIRST + "6 0 5 3 4 0\n", []),
+        ("comments in the formula", comes_out, "c p cnf\nc\n" + FOUR.replace("\n-1 2", "\nc 1 0\n-1 2"), FIRST, FIRST, []),
+        ("binary LRAT, by a number that is no literal", comes_out, FOUR, five, FIRST, []),
+        ("a last line of LRAT without LF", comes_out, FOUR, "5 2 0 1 2 0\n6 0 5 3 4 0", FIRST + "6 0 5 3 4 0\n", []),
+        ("a summary", summary),
+        ("another's stream", another, program),
+    ] + [(f"another's stream, {line}", bad_other, line) for line in ("6 3 0 1 0", "6 x 0 1 0", "6 2 1")]
+
+
+# Limits.
+
+
+def longest(program, count, work):
+    """A clause of so many literals."""
+    literals = range(1, count + 1)
+    written(f"p cnf {count + 1} 2\n{' '.join(map(str, literals))} {count + 1} 0\n-{count + 1} 0\n", work)
+    line = f"3 {' '.join(map(str, literals))} 0 2 1 0\n"
+    for words, proof in ((["lrat"], line), (["drat"], line[2:-7] + "\n"), (["binary-drat"], b"a" + codes(literals))):
+        one_line(program, "--format", words + [os.path.join(work, "formula.cnf")], proof, line, count <= 65535, work)
+
+
+def one_line(program, option, words, proof, line, fits, work):
+    text, said, status = exact([option] + words, proof)
+    if not fits:
+        want((text, status, said.count("\n")), ("", 1, 1), "what came out")
+        return
+    want((text, said, status), (line, "", 0), "what came out")
+    check_report(program, words[-1], text, "c stream 1: 1 added, 0 deleted, ended", work)
+
+
+def check_report(program, formula, text, wanted, work):
+    done = subprocess.run([program, formula, written(text, work, "exact")], stdout=subprocess.PIPE, text=True, timeout=300)
+    want(done.stdout.splitlines()[:1], [wanted], "the report")
+
+
+def longest_chain(program, count, work):
+    """The empty clause from so many clauses."""
+    last = count - 1
+    clauses = ["1 0"] + [f"-{variable} {variable + 1} 0" for variable in range(1, last)] + [f"-{last} 0"]
+    formula = written("\n".join([f"p cnf {last} {count}", *clauses, ""]), work)
+    hints = " ".join(map(str, range(1, count + 1)))
+    for proof in (f"{count + 1} 0 {hints} 0\n", f"{count + 1} 0 0\n"):
+        text, said, status = exact([formula], proof)
+        if count > 65536:
+            want((text, status, said.count("\n")), ("", 1, 1), "what came out")
+        else:
+            want((len(text.split()), said, status), (count + 3, "", 0), "the words of the line")
+            check_report(program, formula, text, "c stream 1: 1 added, 0 deleted, ended", work)
+
+
+def many_deletions(program, count, work):
+    """More than one line may have."""
+    formula = written(f"p cnf 2 {count + 4}\n" + "1 2 0\n" * count + FOUR.split("\n", 1)[1], work)
+    identities = " ".join(map(str, range(1, count + 1)))
+    text, said, status = exact([formula], f"{count + 5} d {identities} 0\n{count + 5} 2 0 {count + 1} {count + 2} 0\n")
+    want((said, status), ("", 0), "what the filter says")
+    if max(len(line.split()) for line in text.splitlines()) > 65536 + 3:
+        raise Failure("a line has more identities than a line may have")
+    check_report(program, formula, text, f"c stream 1: 1 added, {count} deleted, ended", work)
+
+
+def largest(program, work):
+    """Variables and identities."""
+    most, formula = 16777215, "p cnf {0} 2\n1 {0} 0\n-1 {0} 0\n"
+    path = written(formula.format(most), work)
+    for words, make in ((["drat"], lambda literal: f"{literal} 0\n"), (["binary-drat"], lambda literal: b"a" + codes([literal]))):
+        one_line(program, "--format", words + [path], make(most), f"3 {most} 0 1 2 0\n", True, work)
+        for literal in (most + 1, -most - 1, 1 << 31, -1 << 31, (1 << 32) + 1, 1 << 62, -1 << 62):
+            one_line(program, "--format", words + [path], make(literal), "", False, work)
+
+
+def largest_identity(digits, fits, work):
+    """As one stream has it, whose name may have 18 digits."""
+    name, formula = int("9" * digits), written(FOUR, work)
+    binary = [b"a" + coding(name) + codes([2]) + coding(1) + coding(2) + b"\0" for coding in (code, varint)]
+    for word, proof in (("lrat", f"{name} 2 0 1 2 0\n"), ("binary-lrat", binary[0]), ("binary-lrat", binary[1])):
+        text, said, status = exact(["--format", word, formula], proof)
+        wanted = (f"{name} 2 0 1 2 0\n", "", 0) if fits else ("", said, 1)
+        want((text, said, status), wanted, "what came out")
+        want(said.count("\n"), 0 if fits else 1, "lines on standard error")
+
+
+# Proofs that are cut, pipes that stay open, outputs that fail, wrong words.
+
+
+STEPS = [Step("a", 5, [2], [1, 2]), Step("d", 5, [], [1]), Step("a", 6, [], [5, 3, 4])]
+LINES = ["5 2 0 1 2 0", "5 d 1 0", "6 0 3 4 5 0"]
+
+
+def parts_of(form):
+    """What is written of the three steps, each with what comes before it; and what follows."""
+    _, make = FORMS[form]
+    parts = make(read_formula(example("four-clause.cnf")), STEPS)
+    before = len([part for part in parts if part.startswith(b"o ")])
+    return [b"".join(parts[:before + 1]), *parts[before + 1:before + 3]], b"".join(parts[before + 3:])
+
+
+def is_whole(form, proof, length):
+    """Whether a step of text ends there, maybe without its LF; and FRAT's hints may be left out."""
+    line = proof[:length].rsplit(b"\n", 1)[-1]
+    without_hints = form.startswith("FRAT") and line.startswith(b"a ") and line.split()[-1] == b"0"
+    return not line or proof[length:length + 1] == b"\n" or without_hints
+
+
+def cut(form, work):
+    """At each byte. What is whole comes out, and where more follows that is told."""
+    word, _ = FORMS[form]
+    parts, rest = parts_of(form)
+    proof, formula = b"".join(parts) + rest, written(FOUR, work)
+    ends = [len(b"".join(parts[:count])) for count in range(4)]
+    for length in range(len(proof) + 1):
+        text, said, status = exact(["--format", word, formula], proof[:length])
+        whole = sum(end <= length for end in ends[1:])
+        at_end = length in ends if "binary" in form else is_whole(form, proof, length)
+        lines = sorted_hints(text)
+        if lines[:whole] != sorted_hints("\n".join(LINES[:whole])) or len(lines) > whole + at_end or text and text[-1] != "\n":
+            raise Failure(f"cut at {length}: wanted {whole} lines, and not\n{text}")
+        want((status, said.count("\n")), (0, 0) if at_end else (1, 1), f"cut at {length}: the status, and lines on standard error")
+
+
+def read_line(file):
+    """One that comes soon."""
+    ready, _, _ = select.select([file], [], [], 20)
+    if not ready:
+        raise Failure("no line came while the pipe was open")
+    return file.readline().decode()
+
+
+def live(form, options, work):
+    """A line comes out while the pipe is open."""
+    parts, rest = parts_of(form)
+    command = [FILTER, *options, written(FOUR, work)]
+    with subprocess.Popen(command, stdin=subprocess.PIPE, stdout=subprocess.PIPE, bufsize=0) as running:
+        try:
+            for part, line in zip(parts, LINES):
+                for half in (part[:len(part) // 2], part[len(part) // 2:]):
+                    running.stdin.write(half)
+                want(sorted_hints(read_line(running.stdout)), sorted_hints(line), "a live line")
+            running.stdin.write(rest)
+            running.stdin.close()
+            want((running.stdout.read(), running.wait(20)), (b"", 0), "the end")
+        finally:
+            running.kill()
+
+
+def fails(out, proof, work):
+    """A stream that can't be written: one line, and status 1."""
+    command = [FILTER, written(FOUR, work)]
+    with open(out, "wb") as file:
+        done = subprocess.run(command, input=proof.encode(), stdout=file, stderr=subprocess.PIPE, timeout=60)
+    want((done.returncode, done.stderr.count(b"\n"), done.stderr[:7]), (1, 1, b"exact: "), "the status and the lines")
+
+
+def full(proof, work):
+    if not os.path.exists("/dev/full"):
+        raise Skipped("there is no /dev/full")
+    fails("/dev/full", proof, work)
+
+
+def left(work):
+    """A reader that goes away."""
+    pipe = os.path.join(work, "pipe")
+    os.mkfifo(pipe)
+    reader = os.open(pipe, os.O_RDONLY | os.O_NONBLOCK)
+    writer = os.open(pipe, os.O_WRONLY)
+    os.close(reader)
+    done = subprocess.run([FILTER, written(FOUR, work)], input=b"2 0\n" * 100000, stdout=writer, stderr=subprocess.PIPE, timeout=60)
+    os.close(writer)
+    want((done.returncode, done.stderr.count(b"\n"), done.stderr[:7]), (1, 1, b"exact: "), "the status and the lines")
+
+
+def unreadable(words, work):
+    """One line, and status 1."""
+    formula = written(FOUR, work)
+    text, said, status = exact([word.format(formula=formula, work=work) for word in words])
+    want((text, status, said.count("\n"), said[:7]), ("", 1, 1, "exact: "), f"what is said of {words}")
+
+
+def usage(words, work):
+    formula = written(FOUR, work)
+    text, said, status = exact([word.format(formula=formula) for word in words])
+    want((text, status, "usage: " in said), ("", 2, True), f"what is said of {words}")
+
+
+def limits(program):
+    return [
+        ("65,535 literals", longest, program, 65535),
+        ("65,536 literals", longest, program, 65536),
+        ("65,536 hints", longest_chain, program, 65536),
+        ("65,537 hints", longest_chain, program, 65537),
+        ("65,536 deletions in one line", many_deletions, program, 65536),
+        ("65,537 deletions in one line", many_deletions, program, 65537),
+        ("the largest variable", largest, program),
+        ("an identity of 18 digits", largest_identity, 18, True),
+        ("an identity of 19 digits", largest_identity, 19, False),
+        ("an identity of 30 digits", largest_identity, 30, False),
     ]
 
 
-def main():
-    if len(sys.argv) != 2:
-        sys.exit(__doc__)
-    program = os.path.abspath(sys.argv[1])
+def pipes_and_files():
+    runs = []
+    for form, (word, _) in FORMS.items():
+        runs.append((f"{form}, cut", cut, form))
+        runs.append((f"{form}, a pipe", live, form, ["--format", word]))
+        if not form.startswith("binary"):
+            runs.append((f"{form}, a pipe, the form found out", live, form, []))
+    runs += [("a full output", full, "2 0\n0\n"), ("a full output, soon", full, "2 0\n" * 100000),
+             ("a reader that goes away", left)]
+    for words in (["{work}/none"], ["{work}"], ["{formula}", "{work}/none"], ["{formula}", "{work}"],
+                  ["--other", "2={work}/none", "{formula}"]):
+        runs.append((" ".join(words), unreadable, words))
+    for words in ([], ["--help-me", "{formula}"], ["--format", "dimacs", "{formula}"], ["{formula}", "-", "-"], ["--stream"],
+                  ["--stream", "x", "{formula}"], ["{formula}", "--format"]):
+        runs.append((" ".join(["exact", *words]), usage, words))
+    return runs
+
+
+# The solvers that people have, beside the filter and the program.
+
+
+CADICAL = """\
+cadical -q formula.cnf proof > answer &
+lrupd formula.cnf <(tools/exact/out/exact --format binary-drat formula.cnf proof)
+"""
+CADICAL_TWICE = """\
+cadical -q formula.cnf proof1 > answer1 &
+cadical -q --seed=2 formula.cnf proof2 > answer2 &
+lrupd formula.cnf <(tools/exact/out/exact --stream 1 --streams 2 --format binary-drat formula.cnf proof1) \\
+    <(tools/exact/out/exact --stream 2 --streams 2 --format binary-drat formula.cnf proof2)
+"""
+CRYPTOMINISAT = """\
+cryptominisat5 --verb 0 formula.cnf proof > answer &
+lrupd formula.cnf <(tools/exact/out/exact formula.cnf proof)
+"""
+CRYPTOMINISAT_TWICE = """\
+cryptominisat5 --verb 0 formula.cnf proof1 > answer1 &
+cryptominisat5 --verb 0 --random 2 formula.cnf proof2 > answer2 &
+lrupd formula.cnf <(tools/exact/out/exact --stream 1 --streams 2 formula.cnf proof1) \\
+    <(tools/exact/out/exact --stream 2 --streams 2 formula.cnf proof2)
+"""
+BOTH = """\
+cadical -q formula.cnf proof1 > answer1 &
+cryptominisat5 --verb 0 formula.cnf proof2 > answer2 &
+lrupd formula.cnf <(tools/exact/out/exact --stream 1 --streams 2 --format binary-drat formula.cnf proof1) \\
+    <(tools/exact/out/exact --stream 2 --streams 2 formula.cnf proof2)
+"""
+COMMANDS = [("CaDiCaL", CADICAL), ("two of CaDiCaL", CADICAL_TWICE), ("CryptoMiniSat", CRYPTOMINISAT),
+            ("two of CryptoMiniSat", CRYPTOMINISAT_TWICE), ("CaDiCaL and CryptoMiniSat", BOTH)]
+
+
+def wanted_on_path(commands):
+    for solver in ("cadical", "cryptominisat5"):
+        if solver in commands and not shutil.which(solver):
+            raise Skipped(f"there is no {solver} on the PATH")
+
+
+def make_formula(words, work):
+    path = os.path.join(work, "formula.cnf")
+    if words.endswith(".cnf"):
+        shutil.copy(example(words), path)
+        return path
+    with open(path, "w") as out:
+        subprocess.run([sys.executable, GENERATOR] + words.split(), stdout=out, check=True)
+    return path
+
+
+def in_bash(program, commands, work):
+    """What the commands print, in a folder that has the repository's tools."""
+    os.symlink(HERE, os.path.join(work, "tools"))
+    os.symlink(program, os.path.join(work, "lrupd"))
+    for pipe in ("proof", "proof1", "proof2"):
+        os.mkfifo(os.path.join(work, pipe))
+    path = os.pathsep.join([work, os.environ["PATH"]])
+    with subprocess.Popen(["bash", "-c", commands], cwd=work, env={**os.environ, "PATH": path}, stdout=subprocess.PIPE,
+                          stderr=subprocess.PIPE, text=True, start_new_session=True) as running:
+        try:
+            return (*running.communicate(timeout=120), running.returncode)
+        finally:
+            if running.returncode is None:
+                os.killpg(running.pid, signal.SIGKILL)
+
+
+def beside(program, commands, words, work):
+    """Each stream ends, and the formula is refuted."""
+    wanted_on_path(commands)
+    make_formula(words, work)
+    report, said, status = in_bash(program, commands, work)
+    *lines, verdict = report.splitlines() or [""]
+    want((verdict, said, status), ("s UNSATISFIABLE", "", 0), "the verdict")
+    want([line.endswith(", ended") for line in lines], [True] * commands.count("tools/exact"), "streams that ended")
+
+
+def in_using(commands, work):
+    """These are the commands that USING has."""
+    with open(USING) as file:
+        if "".join("    " + line for line in commands.splitlines(True)) not in file.read():
+            raise Failure(f"docs/USING.md doesn't have\n{commands}")
+
+
+def while_it_runs(commands, words, work):
+    """The filter's first line comes while the solver runs: it writes more than the pipes hold, and nobody reads on."""
+    wanted_on_path(commands)
+    formula, proof = make_formula(words, work), os.path.join(work, "proof")
+    os.mkfifo(proof)
+    solver = commands.splitlines()[0].split(" > ")[0].split()
+    form = ["--format", "binary-drat"] * (solver[0] == "cadical")
+    with subprocess.Popen(solver, cwd=work, stdout=subprocess.DEVNULL) as running, \
+            subprocess.Popen([FILTER, *form, formula, proof], stdout=subprocess.PIPE, bufsize=0) as filtering:
+        try:
+            line = read_line(filtering.stdout)
+            want((line[-3:], running.poll()), (" 0\n", None), "a line, while the solver runs")
+        finally:
+            filtering.kill()
+            running.kill()
+
+
+def solvers(program):
+    formulas = ("random 150 1", "pigeons 7", "order 15", "bmc.cnf")
+    runs = [(f"{name}, {words}", beside, program, commands, words) for name, commands in COMMANDS for words in formulas]
+    runs += [(f"USING, {name}", in_using, commands) for name, commands in COMMANDS]
+    return runs + [("CaDiCaL writes while it runs", while_it_runs, CADICAL, "random 200 3"),
+                   ("CryptoMiniSat writes while it runs", while_it_runs, CRYPTOMINISAT, "random 200 3")]
+
+
+def recorded(program):
     runs = []
     for seed, (formula, *names) in enumerate((
             ("four-clause.cnf", "four-clause.lrup"),
@@ -224,16 +719,32 @@ def main():
     for formula, name in ((example("pigeonhole.cnf"), "pigeonhole.drat"), (os.path.join(proofs, "random.cnf"), "random.drat")):
         for stream, count in ((1, 1), (2, 3)):
             runs.append((name, without_hints, program, formula, os.path.join(proofs, name), stream, count))
-    runs += runs_of_few_lines()
-    failed = 0
+    for formula, name in (("four-clause.cnf", "four-clause.lrup"), ("pigeonhole.cnf", "pigeonhole.lrup"), ("bmc.cnf", "bmc.lrup")):
+        for form in FORMS:
+            for told in (True, False):
+                told_how = "" if told else ", the form found out"
+                runs.append((f"{name}, {form}{told_how}", in_form, program, formula, name, form, told))
+    return runs
+
+
+def main():
+    if len(sys.argv) != 2:
+        sys.exit(__doc__)
+    program = os.path.abspath(sys.argv[1])
+    refused = [(name, stops, *rest) for name, *rest in refusals() + refusals_of_frat() + refusals_in_binary()]
+    failed = skipped = 0
+    runs = recorded(program) + refused + what_comes_out(program) + limits(program) + pipes_and_files() + solvers(program)
     for name, function, *arguments in runs:
         with tempfile.TemporaryDirectory() as work:
             try:
                 function(*arguments, work)
-            except (Failure, OSError, subprocess.SubprocessError) as failure:
+            except Skipped as cause:
+                skipped += 1
+                print(f"{name}: skipped, {cause}")
+            except (Failure, OSError, ValueError, subprocess.SubprocessError) as failure:
                 failed += 1
                 print(f"{name}: {failure}")
-    print(f"{len(runs) - failed} passed, {failed} failed")
+    print(f"{len(runs) - failed - skipped} passed, {failed} failed" + f", {skipped} skipped" * (skipped > 0))
     return 1 if failed else 0
 
 

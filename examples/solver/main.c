@@ -102,6 +102,18 @@ static void run_all(Portfolio *portfolio) {
     for (int k = 0; k < portfolio->solvers; k++) thrd_join(threads[k], NULL);
 }
 
+static bool is_satisfied(const Formula *formula, const signed char *values) {
+    for (size_t clause = 0; clause < formula->clauses; clause++) {
+        bool satisfied = false;
+        for (size_t k = formula->starts.items[clause]; k < formula->starts.items[clause + 1]; k++) {
+            Literal literal = formula->literals.items[k];
+            satisfied |= values[variable_of(literal)] == (literal & 1 ? -1 : 1);
+        }
+        if (!satisfied) return false;
+    }
+    return true;
+}
+
 static void tell(const Portfolio *portfolio, double time) {
     unsigned long bytes = 0, imported = 0;
     for (int k = 0; k < portfolio->solvers; k++) {
@@ -114,7 +126,7 @@ static void tell(const Portfolio *portfolio, double time) {
     printf("c %lu bytes in %.2f s\n", bytes, time);
     puts(portfolio->answer == SATISFIABLE ? "s SATISFIABLE" : "s UNSATISFIABLE");
     if (portfolio->answer != SATISFIABLE) return;
-    if (!formula_satisfied(&portfolio->formula, portfolio->model)) fail("the assignment satisfies", "nothing");
+    if (!is_satisfied(&portfolio->formula, portfolio->model)) fail("the assignment satisfies", "nothing");
     for (int k = 0; k < portfolio->formula.variables; k++)
         printf("v %d\n", portfolio->model[k] > 0 ? k + 1 : -(k + 1));
     puts("v 0");

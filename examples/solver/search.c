@@ -165,12 +165,9 @@ static Clause *install(Solver *solver, Clause *clause) {
 static Clause *install_formula(Solver *solver) {
     const Formula *formula = &solver->portfolio->formula;
     for (size_t k = 0; k < formula->clauses; k++) {
-        const Literal *literals = formula->literals.items + formula->starts[k];
-        size_t length = formula->starts[k + 1] - formula->starts[k];
-        bool tautology = false;
-        for (size_t place = 1; place < length; place++)
-            tautology |= literals[place] == complement_of(literals[place - 1]);
-        if (tautology) continue;
+        const Literal *literals = formula->literals.items + formula->starts.items[k];
+        size_t length = formula->starts.items[k + 1] - formula->starts.items[k];
+        if (literals_clash(literals, length)) continue;
         Clause *conflict = install(solver, new_clause(k + 1, 0, literals, length));
         if (conflict != NULL) return conflict;
     }

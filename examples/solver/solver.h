@@ -7,42 +7,7 @@
 #include <stddef.h>
 #include <stdint.h>
 
-// 2 v is the literal of the variable v, counted from 0, and 2 v + 1 its complement.
-typedef int Literal;
-
-static inline Literal complement_of(Literal literal) { return literal ^ 1; }
-static inline int variable_of(Literal literal) { return literal >> 1; }
-static inline int as_written(Literal literal) {
-    return literal & 1 ? -(variable_of(literal) + 1) : variable_of(literal) + 1;
-}
-
-// Lists that grow.
-typedef struct { Literal *items; size_t length, capacity; } Literals;
-typedef struct { uint64_t *items; size_t length, capacity; } Identities;
-
-#define PUSH(list, item)                                                                    \
-    do {                                                                                    \
-        if ((list)->length == (list)->capacity) {                                           \
-            (list)->capacity = (list)->capacity ? 2 * (list)->capacity : 8;                 \
-            (list)->items = grow((list)->items, (list)->capacity * sizeof *(list)->items);  \
-        }                                                                                   \
-        (list)->items[(list)->length++] = (item);                                           \
-    } while (0)
-
-void *grow(void *memory, size_t bytes);         // main.c: realloc, or the end
-void *zeroed(size_t count, size_t bytes);       // main.c: calloc, or the end
-_Noreturn void fail(const char *cause, const char *object);
-
-// formula.c: the clauses in the order of the file, so that clause k has the identity k + 1. Literals are sorted, each once.
-typedef struct {
-    int variables;
-    size_t clauses;
-    size_t *starts;         // clause k is literals.items[starts[k]] up to starts[k + 1]
-    Literals literals;
-} Formula;
-
-void formula_read(Formula *formula, const char *path);
-bool formula_satisfied(const Formula *formula, const signed char *values);
+#include "formula.h"
 
 // proof.c: the stream of one solver.
 typedef struct {

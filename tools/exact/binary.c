@@ -1,0 +1,97 @@
+// Unverified, as all of this filter. DRAT and LRAT in their binary forms. A number has seven bits in a byte, the lowest first, and
+// the eighth where more follow; a literal is twice its variable, and one more if negative. Lists end with 0.
+//
+//     a literals                 an addition of DRAT          a id literals hints     of LRAT
+//     d literals                 a deletion of DRAT           d ids                   of LRAT
+#include "exact.h"
+
+enum { MOST_SHIFT = 56 };
+
+// An identity of LRAT is written as a literal by some, and as it is by others.
+typedef enum { UNDECIDED, PLAIN, DOUBLED } Coding;
+
+static uint64_t number(Input *input) {
+    uint64_t value = 0;
+    for (unsigned shift = 0; shift <= MOST_SHIFT; shift += 7) {
+        int byte = input_byte(input);
+        if (byte < 0) stop("the proof ends within a step");
+        value |= (uint64_t)(byte & 127) << shift;
+        if (byte < 128) return value;
+    }
+    stop("a number that is too large");
+}
+
+static int64_t as_literal(uint64_t number) {
+    if (number >> 1 == 0 || number >> 1 > LAST_IDENTITY) stop("a number that is no literal and no identity");
+    return number & 1 ? -(int64_t)(number >> 1) : (int64_t)(number >> 1);
+}
+
+// Up to 0.
+static void numbers(Input *input, Numbers *list) {
+    for (uint64_t found; (found = number(input)) != 0;) PUSH(list, (int64_t)found);
+}
+
+static void decode(Numbers *list, size_t start, size_t end, Coding coding) {
+    for (size_t k = start; k < end; k++) {
+        if (coding != PLAIN) list->items[k] = as_literal((uint64_t)list->items[k]);
+        else if (list->items[k] > (int64_t)LAST_IDENTITY) stop("a number that is too large");
+    }
+}
+
+static void drat_step(Filter *filter, Input *input, int letter, Numbers *list) {
+    numbers(input, list);
+    decode(list, 0, list->length, DOUBLED);
+    if (letter == 'd') filter_delete_literals(filter, list->items, list->length);
+    else filter_add(filter, &(Addition){ .literals = list->items, .length = list->length });
+}
+
+static bool has_odd(const Numbers *list, size_t start) {
+    for (size_t k = start; k < list->length; k++)
+        if (list->items[k] & 1) return true;
+    return false;
+}
+
+// A solver's first clause has an identity above the formula's, and there are no negative ones among hints that do: so mostly the
+// first addition decides, and of a deletion before it an odd number does.
+static Coding coding_of(const Filter *filter, const Numbers *list, size_t hints, bool addition) {
+    int64_t first = addition ? list->items[0] : 0, formula = (int64_t)filter->formula.clauses;
+    if (first & 1 || has_odd(list, hints)) return PLAIN;
+    if (!addition) return UNDECIDED;
+    return first > formula && first / 2 <= formula ? PLAIN : DOUBLED;
+}
+
+static void lrat_step(Filter *filter, Input *input, int letter, Numbers *list, Coding *coding) {
+    bool addition = letter == 'a';
+    size_t hints = 0;
+    if (addition) {
+        PUSH(list, (int64_t)number(input));
+        numbers(input, list);
+        hints = list->length;
+    }
+    numbers(input, list);
+    if (*coding == UNDECIDED) *coding = coding_of(filter, list, hints, addition);
+    if (*coding == UNDECIDED) return;       // leaving a deletion out is never wrong
+    decode(list, 0, addition, *coding);
+    decode(list, addition, hints, DOUBLED);
+    decode(list, hints, list->length, *coding);
+    if (addition)
+        filter_add(filter, &(Addition){ .named = true, .name = list->items[0], .literals = list->items + 1, .length = hints - 1,
+                                        .hints = list->items + hints, .hinted = list->length - hints });
+    else
+        filter_delete(filter, list->items, list->length);
+}
+
+void binary_run(Filter *filter, Input *input, Form form) {
+    Numbers list = {0};
+    Coding coding = UNDECIDED;
+    for (;;) {
+        position_set("byte", input_position(input) + 1);
+        int letter = input_byte(input);
+        if (letter < 0) break;
+        if (letter != 'a' && letter != 'd') stop("no step of a binary proof, which begins with a or d");
+        list.length = 0;
+        if (form == BINARY_DRAT) drat_step(filter, input, letter, &list);
+        else lrat_step(filter, input, letter, &list, &coding);
+    }
+    grow(list.items, 0);
+}

@@ -1,0 +1,79 @@
+// Unverified, as all of this filter. Finds out the form of a proof by its first bytes, and reads no further than it needs.
+#include "exact.h"
+
+static bool is_space(int byte) { return byte == ' ' || (byte >= '\t' && byte <= '\r'); }
+static bool is_blank(int byte) { return is_space(byte) && byte != '\n'; }
+
+static size_t skip_spaces(Input *input, size_t at) {
+    while (is_space(input_ahead(input, at))) at++;
+    return at;
+}
+
+static size_t skip_line(Input *input, size_t at) {
+    int byte;
+    while ((byte = input_ahead(input, at)) != '\n' && byte != -1) at++;
+    return at + (byte == '\n');
+}
+
+// From there to the end of the line: only numbers, or the letter of FRAT's hints, at least one, and "0" last.
+static bool numbers_follow(Input *input, size_t at) {
+    bool ends = false;
+    for (;;) {
+        int byte = input_ahead(input, at);
+        if (byte == '\n' || byte == -1) return ends;
+        if (is_space(byte)) {
+            at++;
+            continue;
+        }
+        ends = byte == '0' && (input_ahead(input, at + 1) == -1 || is_space(input_ahead(input, at + 1)));
+        if (byte == '-') byte = input_ahead(input, ++at);
+        if (byte == 'l' || (byte >= '0' && byte <= '9')) at++;
+        else return false;
+        while ((byte = input_ahead(input, at)) >= '0' && byte <= '9') at++;
+        if (byte != -1 && !is_space(byte)) return false;
+    }
+}
+
+static uint64_t number_ahead(Input *input, size_t *at) {
+    uint64_t value = 0;
+    int byte = 128;
+    for (unsigned shift = 0; byte & 128; shift += 7) {
+        byte = input_ahead(input, (*at)++);
+        if (byte == -1 || shift > 56) return 0;
+        value |= (uint64_t)(byte & 127) << shift;
+    }
+    return value;
+}
+
+// The first addition of DRAT begins with a literal of the formula, and that of LRAT with an identity above the formula's, as it
+// is or twice. A number may be both. Deletions before it decide where they name what is no literal.
+static Form binary_form(Input *input, const Formula *formula) {
+    uint64_t last_literal = 2 * (uint64_t)formula->variables + 1, found;
+    for (size_t at = 0;;) {
+        int letter = input_ahead(input, at++);
+        if (letter == 'a') {
+            found = number_ahead(input, &at);
+            if (found <= formula->clauses) return BINARY_DRAT;
+            return found > last_literal ? BINARY_LRAT : UNKNOWN;
+        }
+        if (letter != 'd') return UNKNOWN;
+        while ((found = number_ahead(input, &at)) != 0)
+            if (found > last_literal) return BINARY_LRAT;
+    }
+}
+
+// Of LRAT, DRUP and DRAT text the steps decide which it is.
+Form form_of(Input *input, const Formula *formula) {
+    int first = input_ahead(input, 0);
+    if ((first == 'a' || first == 'd') && !(is_blank(input_ahead(input, 1)) && numbers_follow(input, 1)))
+        return binary_form(input, formula);
+    for (size_t at = 0;;) {
+        at = skip_spaces(input, at);
+        int letter = input_ahead(input, at);
+        bool alone = letter != -1 && is_space(input_ahead(input, at + 1));
+        if (alone && (letter == 'a' || letter == 'f' || letter == 'r')) return FRAT;
+        if (alone && letter == 'o' && numbers_follow(input, at + 1)) return FRAT;
+        if (!alone || (letter != 'c' && letter != 'o')) return TEXT;
+        at = skip_line(input, at);
+    }
+}

@@ -1,0 +1,274 @@
+// Unverified, as all of this filter. What each step of a proof comes to: a line of the stream, none, or the end.
+#include "exact.h"
+
+enum { DEAD_WORDS = 1 << 15 };      // so many at least are given back
+
+// One that is a tautology is never unit.
+static void make_known(Filter *filter, Place place) {
+    if (clause_at(&filter->clauses, place)->flags & TAUTOLOGY) return;
+    PUSH(&filter->propagation.waiting, place);
+    if (!filter->frat) clauses_keep_set(&filter->clauses, place);
+}
+
+// With FRAT the formula's clauses have names as the proof tells them, and else by their order. Of the formula two numbers stay.
+void filter_open(Filter *filter, bool frat) {
+    Formula *formula = &filter->formula;
+    filter->frat = frat;
+    filter->keeps_identities = filter->streams == 1 || filter->others.length > 0;
+    propagation_open(&filter->propagation, &filter->clauses, formula->variables);
+    hints_open(&filter->hints, &filter->clauses, formula->variables);
+    for (size_t k = 0; k < formula->clauses; k++) {
+        size_t start = formula->starts.items[k], length = formula->starts.items[k + 1] - start;
+        const Literal *literals = length > 0 ? formula->literals.items + start : NULL;
+        Place place = clauses_add(&filter->clauses, k + 1, literals, length, literals_clash(literals, length));
+        if (!frat) clauses_name(&filter->clauses, k + 1, place);
+        make_known(filter, place);
+    }
+    if (frat) clauses_keep_sets(&filter->clauses);
+    formula->starts.items = grow(formula->starts.items, 0);
+    formula->literals.items = grow(formula->literals.items, 0);
+}
+
+static uint64_t owner(const Filter *filter, uint64_t identity) {
+    return (identity - filter->formula.clauses - 1) % filter->streams + 1;
+}
+
+// The literals of a step, each once, and marked. False where the formula doesn't have one of the variables.
+static bool take(Filter *filter, const int64_t *numbers, size_t length, bool *tautology) {
+    unsigned char *marks = filter->hints.marks;
+    int64_t variables = filter->formula.variables;
+    Literals *literals = &filter->literals;
+    *tautology = false;
+    for (size_t k = 0; k < length; k++) {
+        int64_t number = numbers[k];
+        if (number > variables || number < -variables) return false;
+        Literal literal = number > 0 ? 2 * ((Literal)number - 1) : 2 * (-(Literal)number - 1) + 1;
+        if (marks[literal] != OPEN) continue;
+        marks[literal] = TOUCHED;
+        *tautology |= marks[complement_of(literal)] != OPEN;
+        PUSH(literals, literal);
+    }
+    return true;
+}
+
+static void release(Filter *filter) {
+    for (size_t k = 0; k < filter->literals.length; k++) filter->hints.marks[filter->literals.items[k]] = OPEN;
+    filter->literals.length = 0;
+}
+
+static bool take_or_stop(Filter *filter, const int64_t *numbers, size_t length) {
+    bool tautology;
+    if (!take(filter, numbers, length, &tautology)) stop("a variable that the formula doesn't have");
+    return tautology;
+}
+
+// The clause of this name, where another stream derived it, or 0.
+static Place find_other(Filter *filter, int64_t name) {
+    uint64_t identity = (uint64_t)name;
+    if (filter->frat || name <= (int64_t)filter->formula.clauses) return 0;
+    Other *other = others_find(&filter->others, owner(filter, identity));
+    if (other == NULL) return 0;
+    Place place = other_clause(other, &filter->clauses, identity);
+    if (place == 0) return 0;
+    clauses_name(&filter->clauses, identity, place);
+    make_known(filter, place);
+    return place;
+}
+
+static inline Place find(Filter *filter, int64_t name) {
+    Place place = clauses_named(&filter->clauses, (uint64_t)name);
+    return place != 0 || filter->others.length == 0 ? place : find_other(filter, name);
+}
+
+static Found try_hints(Filter *filter, const Addition *addition) {
+    Places *given = &filter->given;
+    RESERVE(given, addition->hinted);
+    for (size_t k = 0; k < addition->hinted; k++) {
+        given->items[k] = find(filter, addition->hints[k]);
+        if (given->items[k] != 0) __builtin_prefetch(clause_at(&filter->clauses, given->items[k]));
+    }
+    given->length = addition->hinted;
+    return hints_chain(&filter->hints, given, &filter->chain);
+}
+
+// The next one of the stream; or LRAT's own, where the stream is alone, or others cite it.
+static uint64_t new_identity(const Filter *filter, const Addition *addition) {
+    int64_t formula = (int64_t)filter->formula.clauses, name = addition->name;
+    if (addition->named && filter->keeps_identities && !filter->frat) {
+        if (name <= formula || name <= (int64_t)filter->last || owner(filter, (uint64_t)name) != filter->stream)
+            stop("the identity %lld isn't the stream's own, or not above the one before", (long long)name);
+        return (uint64_t)name;
+    }
+    uint64_t identity = filter->last ? filter->last + filter->streams : (uint64_t)formula + filter->stream;
+    if (identity > LAST_IDENTITY) stop("an identity of more than %d digits", DIGITS);
+    return identity;
+}
+
+static void write_addition(Filter *filter, const Addition *addition, Found found) {
+    bool same = found == SAME_CHAIN;
+    if (same && addition->line && !filter->renumbered && addition->length == filter->literals.length) {
+        write_bytes((const char *)addition->line->start, (size_t)(addition->line->end - addition->line->start) + 1);
+        return;
+    }
+    if (same) filter->chain.length = 0;
+    for (size_t k = 0; k < (same ? filter->given.length : 0); k++)
+        PUSH(&filter->chain, clause_at(&filter->clauses, filter->given.items[k])->identity);
+    write_number(filter->last, ' ');
+    write_literals(filter->literals.items, filter->literals.length);
+    write_bytes(" ", 1);
+    write_numbers(filter->chain.items, filter->chain.length);
+}
+
+static void derive(Filter *filter, const Addition *addition) {
+    Found found = addition->hinted > 0 ? try_hints(filter, addition) : NO_CHAIN;
+    if (found == NO_CHAIN && !propagation_chain(&filter->propagation, &filter->literals, &filter->chain))
+        stop("no conflict by unit propagation: a RAT step, which lrupd doesn't check, or a clause that doesn't follow");
+    size_t hints = found == SAME_CHAIN ? addition->hinted : filter->chain.length;
+    if (hints > IDENTITIES_OF_A_LINE || filter->literals.length > LITERALS_OF_A_LINE)
+        stop("longer than a line may be");
+    filter->last = new_identity(filter, addition);
+    filter->renumbered |= addition->named && addition->name != (int64_t)filter->last;
+    Place place = clauses_add(&filter->clauses, filter->last, filter->literals.items, filter->literals.length, false);
+    if (addition->named) clauses_name(&filter->clauses, (uint64_t)addition->name, place);
+    make_known(filter, place);
+    write_addition(filter, addition, found);
+}
+
+// A tautology is of no use, and refused by lrupd.
+void filter_add(Filter *filter, const Addition *addition) {
+    int64_t least = 0;
+    for (size_t k = 0; k < addition->hinted; k++) least = addition->hints[k] < least ? addition->hints[k] : least;
+    if (least < 0) stop("a RAT step (negative hints), which lrupd doesn't check: switch off the techniques that make them");
+    bool tautology = take_or_stop(filter, addition->literals, addition->length);
+    if (addition->named && clauses_named(&filter->clauses, (uint64_t)addition->name) != 0)
+        stop("the identity %lld a second time", (long long)addition->name);
+    if (!tautology) derive(filter, addition);
+    release(filter);
+}
+
+// The literals that are marked are those of the clause.
+static bool same_literals(const Filter *filter, const Clause *clause) {
+    if (clause->length != filter->literals.length) return false;
+    for (unsigned k = 0; k < clause->length; k++)
+        if (filter->hints.marks[clause->literals[k]] == OPEN) return false;
+    return true;
+}
+
+// The clause is known from now on.
+void filter_import(Filter *filter, int64_t identity, const int64_t *literals, size_t length) {
+    int64_t formula = (int64_t)filter->formula.clauses;
+    if (identity < 1 || (identity > formula && owner(filter, (uint64_t)identity) == filter->stream))
+        stop("an import of %lld, which is no clause of the formula or of another stream", (long long)identity);
+    bool tautology = take_or_stop(filter, literals, length);
+    if (length > LITERALS_OF_A_LINE) stop("longer than a line may be");
+    if (identity > formula && filter->renumbered && !filter->keeps_identities)
+        stop("an import, and the proof's identities aren't those of its stream");
+    filter->keeps_identities |= identity > formula;
+    Place place = find(filter, identity);
+    if (clauses_named(&filter->dropped, (uint64_t)identity) != 0 || (place == 0 && identity <= formula))
+        stop("an import of %lld, which was deleted", (long long)identity);
+    if (place == 0) {
+        place = clauses_add(&filter->clauses, (uint64_t)identity, filter->literals.items, filter->literals.length, tautology);
+        clauses_name(&filter->clauses, (uint64_t)identity, place);
+        make_known(filter, place);
+    } else if (!same_literals(filter, clause_at(&filter->clauses, place))) {
+        stop("the literals of the import aren't those of the clause %lld", (long long)identity);
+    }
+    release(filter);
+    write_number((uint64_t)identity, ' ');
+    write_bytes("i ", 2);
+    for (size_t k = 0; k < length; k++) {
+        if (literals[k] < 0) write_bytes("-", 1);
+        write_number((uint64_t)(literals[k] < 0 ? -literals[k] : literals[k]), ' ');
+    }
+    write_bytes("0\n", 2);
+}
+
+// Deletions.
+
+// The memory of the dead, where it is half of all, and much for what a move goes through.
+static void give_back(Filter *filter) {
+    Clauses *clauses = &filter->clauses;
+    size_t least = DEAD_WORDS + (size_t)filter->formula.variables + clauses->near_length / 4;
+    if (clauses->dead < least || 2 * clauses->dead < clauses->used) return;
+    uint64_t *old = clauses_begin_move(clauses);
+    propagation_move(&filter->propagation, old);
+    clauses_end_move(clauses, old);
+}
+
+// One that literals rest on for good may be needed again, and stays.
+static void delete(Filter *filter, Place place) {
+    uint64_t identity = clause_at(&filter->clauses, place)->identity;
+    clauses_delete(&filter->clauses, place);
+    PUSH(&filter->chain, identity);
+    if (identity <= filter->formula.clauses || owner(filter, identity) == filter->stream) return;
+    if (clauses_named(&filter->dropped, identity) == 0) clauses_name(&filter->dropped, identity, 1);
+}
+
+static void write_deletion(Filter *filter) {
+    for (size_t start = 0; start < filter->chain.length; start += IDENTITIES_OF_A_LINE) {
+        size_t left = filter->chain.length - start;
+        write_number(filter->last ? filter->last : 1, ' ');
+        write_bytes("d ", 2);
+        write_numbers(filter->chain.items + start, left < IDENTITIES_OF_A_LINE ? left : IDENTITIES_OF_A_LINE);
+    }
+    give_back(filter);
+}
+
+// Of clauses that are there. FRAT may use a name again.
+void filter_delete(Filter *filter, const int64_t *names, size_t length) {
+    if (filter->propagation.used) propagation_settle(&filter->propagation);
+    filter->chain.length = 0;
+    for (size_t k = 0; k < length; k++) {
+        Place place = clauses_named(&filter->clauses, (uint64_t)names[k]);
+        if (place == 0) continue;
+        bool needed = propagation_needs(&filter->propagation, place);
+        if (!needed || filter->frat) clauses_forget_name(&filter->clauses, (uint64_t)names[k]);
+        if (!needed) delete(filter, place);
+    }
+    write_deletion(filter);
+}
+
+// The clause of these literals that isn't taken already, or 0.
+static Place take_set(Filter *filter, const int64_t *literals, size_t length) {
+    bool tautology;
+    Place place = 0;
+    if (take(filter, literals, length, &tautology))
+        place = clauses_take_set(&filter->clauses, filter->literals.items, filter->literals.length, filter->hints.marks);
+    release(filter);
+    return place;
+}
+
+void filter_delete_literals(Filter *filter, const int64_t *literals, size_t length) {
+    if (filter->clauses.sets == NULL) clauses_keep_sets(&filter->clauses);
+    propagation_settle(&filter->propagation);
+    Place place = take_set(filter, literals, length);
+    filter->chain.length = 0;
+    if (place == 0 || propagation_needs(&filter->propagation, place)) return;
+    delete(filter, place);
+    write_deletion(filter);
+}
+
+// What FRAT alone has.
+
+void filter_original(Filter *filter, int64_t name, const int64_t *literals, size_t length) {
+    if (clauses_named(&filter->clauses, (uint64_t)name) != 0) stop("the identity %lld a second time", (long long)name);
+    Place place = take_set(filter, literals, length);
+    if (place == 0) stop("an original clause that the formula doesn't have, or not so often");
+    clauses_name(&filter->clauses, (uint64_t)name, place);
+}
+
+// Pairs of an old name and a new one, all at once.
+void filter_rename(Filter *filter, const int64_t *pairs, size_t length) {
+    Places *given = &filter->given;
+    given->length = 0;
+    for (size_t k = 0; k + 1 < length; k += 2) {
+        PUSH(given, clauses_named(&filter->clauses, (uint64_t)pairs[k]));
+        clauses_forget_name(&filter->clauses, (uint64_t)pairs[k]);
+    }
+    for (size_t k = 0; k < given->length; k++) {
+        int64_t name = pairs[2 * k + 1];
+        if (clauses_named(&filter->clauses, (uint64_t)name) != 0) stop("the identity %lld a second time", (long long)name);
+        if (given->items[k] != 0) clauses_name(&filter->clauses, (uint64_t)name, given->items[k]);
+    }
+}

@@ -1,0 +1,154 @@
+// Unverified, and nothing here is trusted: lrupd checks what comes out as it checks any stream. Makes a stream for lrupd of a proof
+// whose hints are missing, or not exact.
+//
+//     exact [--stream S --streams N] [--other T=STREAM]... [--format FORM] FORMULA [PROOF]
+//
+// PROOF, or standard input, is LRAT, DRUP, DRAT or FRAT text, or binary LRAT or DRAT. The stream goes to standard output, with
+// the identities of stream S of N (1 of 1). The hints that are given are tried first, in any order. Where they don't do, a chain is
+// looked for by unit propagation among all clauses that the proof has at that point. A clause of another stream has an import in
+// the proof, or is read where it is cited, as --other 2=proof2.
+#include <errno.h>
+#include <signal.h>
+#include <stdarg.h>
+#include <stdio.h>
+#include <stdlib.h>
+#include <string.h>
+#include <unistd.h>
+
+#include "exact.h"
+
+static const char *position_unit;
+static uint64_t position_number;
+
+void position_set(const char *unit, uint64_t number) {
+    position_unit = unit;
+    position_number = number;
+}
+
+// What was written before goes out first.
+_Noreturn void stop(const char *cause, ...) {
+    char text[256];
+    va_list rest;
+    va_start(rest, cause);
+    vsnprintf(text, sizeof text, cause, rest);
+    va_end(rest);
+    write_flush();
+    if (position_unit) fprintf(stderr, "exact: %s %llu: %s\n", position_unit, (unsigned long long)position_number, text);
+    else fprintf(stderr, "exact: %s\n", text);
+    exit(1);
+}
+
+_Noreturn void fail(const char *cause, const char *object) {
+    write_flush();
+    fprintf(stderr, "exact: %s %s\n", cause, object);
+    exit(1);
+}
+
+void *grow(void *memory, size_t bytes) {
+    if (bytes == 0) {
+        free(memory);
+        return NULL;
+    }
+    memory = realloc(memory, bytes);
+    if (memory == NULL) fail("out of", "memory");
+    return memory;
+}
+
+void *zeroed(size_t count, size_t bytes) {
+    void *memory = calloc(count > 0 ? count : 1, bytes);
+    if (memory == NULL) fail("out of", "memory");
+    return memory;
+}
+
+// The command line.
+
+static const char usage[] =
+    "usage: exact [--stream S --streams N] [--other T=STREAM]... [--format FORM] FORMULA [PROOF]\n"
+    "FORM is lrat, drat, frat, binary-lrat or binary-drat; without it the first bytes of the proof tell the form.\n";
+
+static _Noreturn void refuse(const char *cause, const char *word) {
+    fprintf(stderr, "%sexact: error: %s %s\n", usage, cause, word);
+    exit(2);
+}
+
+static Form form_named(const char *word) {
+    static const char *const names[] = { [LRAT] = "lrat", [DRAT] = "drat", [FRAT] = "frat", [BINARY_LRAT] = "binary-lrat",
+                                         [BINARY_DRAT] = "binary-drat" };
+    for (Form form = LRAT; form <= BINARY_DRAT; form++)
+        if (strcmp(word, names[form]) == 0) return form;
+    refuse("no form of a proof:", word);
+}
+
+static uint64_t number_of(const char *word) {
+    uint64_t number = 0;
+    const char *at = word;
+    while (*at >= '0' && *at <= '9' && at - word < 9) number = 10 * number + (uint64_t)(*at++ - '0');
+    if (at == word || *at != 0) refuse("no number of a stream:", word);
+    return number;
+}
+
+typedef struct {
+    uint64_t stream, streams;
+    Form form;
+    char **others;              // ends with NULL
+    size_t others_length;
+    const char *files[2];       // the formula, the proof
+    size_t files_length;
+} CommandLine;
+
+static char *value_of(char ***words, const char *name) {
+    size_t length = strlen(name);
+    if (strncmp(**words, name, length) != 0) return NULL;
+    if ((**words)[length] == '=') return **words + length + 1;
+    if ((**words)[length] != 0) return NULL;
+    if ((*words)[1] == NULL) refuse("no value after", name);
+    return *++*words;
+}
+
+static void read_word(CommandLine *given, char ***words) {
+    char *value;
+    if (strcmp(**words, "--help") == 0 || strcmp(**words, "-h") == 0) {
+        fputs(usage, stdout);
+        exit(fflush(stdout) == 0 ? 0 : 1);
+    }
+    if ((value = value_of(words, "--stream")) != NULL) given->stream = number_of(value);
+    else if ((value = value_of(words, "--streams")) != NULL) given->streams = number_of(value);
+    else if ((value = value_of(words, "--other")) != NULL) given->others[given->others_length++] = value;
+    else if ((value = value_of(words, "--format")) != NULL) given->form = form_named(value);
+    else if (***words == '-') refuse("no such option:", **words);
+    else if (given->files_length == 2) refuse("one word too many:", **words);
+    else given->files[given->files_length++] = **words;
+}
+
+static void run(Filter *filter, Input *input, Form form) {
+    if (form == UNKNOWN) form = form_of(input, &filter->formula);
+    if (form == UNKNOWN) {
+        position_set("byte", 1);
+        stop("the first bytes don't tell the form: say it, --format lrat|drat|frat|binary-lrat|binary-drat");
+    }
+    filter_open(filter, form == FRAT);
+    if (form == FRAT) frat_run(filter, input);
+    else if (form == BINARY_LRAT || form == BINARY_DRAT) binary_run(filter, input, form);
+    else text_run(filter, input, form);
+    write_flush();
+}
+
+int main(int count, char **words) {
+    static Filter filter;
+    static Input input;
+    CommandLine given = { .stream = 1, .streams = 1, .form = UNKNOWN };
+    given.others = zeroed((size_t)count + 1, sizeof *given.others);
+    for (char **word = words + 1; word < words + count; word++) read_word(&given, &word);
+    if (given.files_length == 0) refuse("no", "FORMULA");
+    if (given.stream < 1 || given.stream > given.streams) fail("the streams are 1 to", "N");
+    signal(SIGPIPE, SIG_IGN);       // a reader that went away is told as a write that failed
+    input_open(&input, given.files[1]);
+    formula_read(&filter.formula, given.files[0]);
+    for (size_t k = 0; k < given.others_length; k++) others_open(&filter.others, given.others[k], filter.formula.variables);
+    filter.stream = given.stream;
+    filter.streams = given.streams;
+    run(&filter, &input, given.form);
+    if (close(STDOUT_FILENO) != 0) fail("cannot write the stream:", strerror(errno));
+    free(given.others);
+    return 0;
+}

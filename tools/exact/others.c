@@ -1,0 +1,64 @@
+// Unverified, as all of this filter. Other solvers' streams, LRAT text, read as far as their clauses are cited.
+#include <stdlib.h>
+
+#include "exact.h"
+
+enum { DEAD_WORDS = 1 << 15, MOST_DIGITS = 9 };
+
+// "T=STREAM"
+void others_open(Others *others, const char *word, int variables) {
+    Other other = { .variables = variables };
+    const char *at = word;
+    while (*at >= '0' && *at <= '9' && at - word < MOST_DIGITS) other.number = 10 * other.number + (uint64_t)(*at++ - '0');
+    if (at == word || *at != '=' || at[1] == 0) fail("no T=STREAM:", word);
+    input_open(&other.input, at + 1);
+    PUSH(others, other);
+}
+
+Other *others_find(const Others *others, uint64_t number) {
+    for (size_t k = others->length; k-- > 0;)       // the last one said
+        if (others->items[k].number == number) return &others->items[k];
+    return NULL;
+}
+
+static void keep(Other *other, const Words *words) {
+    const int64_t *numbers = words->numbers.items;
+    Literals *literals = &other->literals;
+    literals->length = 0;
+    for (size_t k = 1; k < words->first_zero; k++) {
+        if (numbers[k] > other->variables || numbers[k] < -other->variables)
+            stop("in %s a variable that the formula doesn't have, or no number", other->input.path);
+        PUSH(literals, (Literal)(numbers[k] > 0 ? 2 * (numbers[k] - 1) : 2 * (-numbers[k] - 1) + 1));
+    }
+    if (numbers[0] <= (int64_t)other->last || words->zeros == 0 || words->first_zero == 0)
+        stop("in %s no step of LRAT text, or an identity that isn't above the one before", other->input.path);
+    other->last = (uint64_t)numbers[0];
+    size_t length = literals_sort(literals->items, literals->length);
+    bool tautology = literals_clash(literals->items, length);
+    Place place = clauses_add(&other->clauses, other->last, literals->items, length, tautology);
+    clauses_name(&other->clauses, other->last, place);
+}
+
+static void read_to(Other *other, uint64_t identity) {
+    Line line;
+    while (other->last < identity && input_line(&other->input, &line)) {
+        words_read(&other->words, line);
+        const Numbers *numbers = &other->words.numbers;
+        if (numbers->length < 2 || numbers->items[0] == LETTER('c')) continue;
+        if (numbers->items[1] != LETTER('d') && numbers->items[1] != LETTER('i')) keep(other, &other->words);
+    }
+}
+
+// Its clause, once, handed over to these; 0 where it has none of this identity.
+Place other_clause(Other *other, Clauses *clauses, uint64_t identity) {
+    read_to(other, identity);
+    Place place = clauses_named(&other->clauses, identity);
+    if (place == 0) return 0;
+    const Clause *clause = clause_at(&other->clauses, place);
+    Place taken = clauses_add(clauses, identity, clause->literals, clause->length, clause->flags & TAUTOLOGY);
+    clauses_forget_name(&other->clauses, identity);
+    clauses_delete(&other->clauses, place);
+    if (other->clauses.dead > DEAD_WORDS && 2 * other->clauses.dead > other->clauses.used)
+        clauses_end_move(&other->clauses, clauses_begin_move(&other->clauses));
+    return taken;
+}

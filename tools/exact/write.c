@@ -1,0 +1,67 @@
+// Unverified, as all of this filter. Writes the stream, whole lines at a time.
+#include <errno.h>
+#include <poll.h>
+#include <string.h>
+#include <unistd.h>
+
+#include "exact.h"
+
+enum { LONGEST = 24, PIECE = 1 << 16 };     // of a number, with what stands beside it; bytes
+
+static char *buffer;
+static size_t used, whole, capacity;        // whole: up to the end of the last line
+
+// The lines that are whole go out; of one that isn't the beginning stays.
+void write_flush(void) {
+    size_t written = 0, length = whole;
+    whole = 0;              // also where this is the end
+    while (written < length) {
+        ssize_t count = write(STDOUT_FILENO, buffer + written, length - written);
+        if (count > 0) written += (size_t)count;
+        else if (count < 0 && errno == EAGAIN) poll(&(struct pollfd){ .fd = STDOUT_FILENO, .events = POLLOUT }, 1, -1);
+        else if (count < 0 && errno != EINTR) fail("cannot write the stream:", strerror(errno));
+    }
+    used -= length;
+    if (length > 0 && used > 0) memmove(buffer, buffer + length, used);
+}
+
+static void make_room(size_t bytes) {
+    write_flush();
+    while (capacity - used < bytes) {
+        capacity = capacity ? 2 * capacity : PIECE;
+        buffer = grow(buffer, capacity);
+    }
+}
+
+// The digits are copied with some bytes after them: a length that is known takes fewer steps.
+static inline void put_number(uint64_t number, bool negative, char after) {
+    char digits[2 * LONGEST], *end = digits + LONGEST, *at = end;
+    *--at = after;
+    do *--at = (char)('0' + number % 10); while ((number /= 10) > 0);
+    if (negative) *--at = '-';
+    if (capacity - used < LONGEST) make_room(LONGEST);
+    memcpy(buffer + used, at, LONGEST);
+    used += (size_t)(end - at);
+}
+
+void write_number(uint64_t number, char after) { put_number(number, false, after); }
+
+void write_numbers(const uint64_t *numbers, size_t length) {
+    for (size_t k = 0; k < length; k++) put_number(numbers[k], false, ' ');
+    put_number(0, false, '\n');
+    whole = used;
+}
+
+void write_literals(const Literal *literals, size_t length) {
+    for (size_t k = 0; k < length; k++)
+        put_number((uint64_t)variable_of(literals[k]) + 1, literals[k] & 1, ' ');
+    write_bytes("0", 1);
+}
+
+// At least one.
+void write_bytes(const char *bytes, size_t length) {
+    if (capacity - used < length) make_room(length);
+    memcpy(buffer + used, bytes, length);
+    used += length;
+    if (bytes[length - 1] == '\n') whole = used;
+}
