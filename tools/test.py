@@ -342,6 +342,10 @@ def what_comes_out(program):
     loosely = [
         ("FRAT, hints that aren't there", FOUR, TOLD + "a 10 2 0 l 33 34 0\na 11 0 l 0\n", FIRST + "6 0 3 4 5 0\n", []),
         ("FRAT, no hints", FOUR, TOLD + "a 10 2 0\na 12 0\n", FIRST + "6 0 3 4 5 0\n", []),
+        ("FRAT, an identity again after a deletion that is left out", FOUR, TOLD + "a 10 2 0\nd 10 2 0\na 10 0\n",
+         FIRST + "6 0 3 4 5 0\n", []),
+        ("FRAT, an identity again after its deletion", FOUR, TOLD + "a 10 2 0 l 20 7 0\nd 20 1 2 0\na 20 0 l 10 1 9 0\n",
+         FIRST + "5 d 1 0\n6 0 3 4 5 0\n", []),
         ("FRAT, no originals", FOUR, "a 10 2 0\nd 4 1 2 0\na 12 0 l 10 0\nf 12 0\n", FIRST + "6 0 3 4 5 0\n", []),
         ("a unit that is deleted", FOUR, "2 0\nd 2 0\n0\n", FIRST + "6 0 3 4 5 0\n", []),
         ("a unit that is deleted, binary", FOUR, b"a" + codes([2]) + b"d" + codes([2]) + b"a\0", FIRST + "6 0 3 4 5 0\n",

@@ -215,15 +215,16 @@ static void write_deletion(Filter *filter) {
     give_back(filter);
 }
 
-// Of clauses that are there.
+// Of clauses that are there. FRAT may use a name again.
 void filter_delete(Filter *filter, const int64_t *names, size_t length) {
     if (filter->propagation.used) propagation_settle(&filter->propagation);
     filter->chain.length = 0;
     for (size_t k = 0; k < length; k++) {
         Place place = clauses_named(&filter->clauses, (uint64_t)names[k]);
-        if (place == 0 || propagation_needs(&filter->propagation, place)) continue;
-        clauses_forget_name(&filter->clauses, (uint64_t)names[k]);
-        delete(filter, place);
+        if (place == 0) continue;
+        bool needed = propagation_needs(&filter->propagation, place);
+        if (!needed || filter->frat) clauses_forget_name(&filter->clauses, (uint64_t)names[k]);
+        if (!needed) delete(filter, place);
     }
     write_deletion(filter);
 }
