@@ -1,7 +1,7 @@
 #!/bin/sh
 # Four solvers at work, as they were recorded: each writes its lines into a pipe of its own, one after the other at a steady
 # pace, and the program checks them all meanwhile. Its report comes as the last solver ends, after some five seconds. Then two
-# pipes with --watch: a bad line in the one is told while the other is open. The status is 1 where the report isn't that in
+# pipes with --watch: a bad line in the one is told while both are open. The status is 1 where the report isn't that in
 # bmc-four.out, where anything is on standard error without the flag, or where the line doesn't come.
 #
 #     sh examples/live.sh crates/lrupd/out/lrupd
@@ -58,16 +58,16 @@ told() {
     echo "$1"
 }
 
-# A bad line in the first of two pipes is told while the second is open, which ends only then.
+# A bad line in the first of two pipes is told while both are open.
 mkfifo "$work/bad" "$work/open"
 "$program" --watch "$here/four-clause.cnf" "$work/bad" "$work/open" > "$work/out" 2> "$work/err" &
 checker=$!
 started="$started $checker"
-echo 'no line' > "$work/bad"
-exec 3> "$work/open"
-echo "one stream is bad, the other one open"
+exec 3> "$work/bad" 4> "$work/open"
+echo 'no line' >&3
+echo "one stream is bad, both are open"
 told 'lrupd: stream 1: 0 added, 0 deleted, bad line 1 (spelling)'
-exec 3>&-
+exec 3>&- 4>&-
 status=0
 wait $checker || status=$?
 cat "$work/out"

@@ -134,11 +134,11 @@ fn each_end_is_told_once(rt: HostRuntime) -> Result<(), Fail> {
     Ok(())
 }
 
-/// A text that comes at once, and whose end comes only when something was written on a tape, where there is one.
+/// A text that comes at once, and whose end comes only when something was written on a tape.
 #[derive(Drop)]
 struct Late<'a> {
     text: &'a [u8],
-    tape: Option<&'a Tape>,
+    tape: &'a Tape,
     /// Whether it waited in vain.
     late: &'a AtomicBool,
 }
@@ -166,11 +166,8 @@ impl Source for Late<'_> {
 
 impl Late<'_> {
     fn wait(&self) {
-        let Some(tape) = self.tape else {
-            return;
-        };
         for _ in 0..TURNS {
-            if tape.writes() > 0 {
+            if self.tape.writes() > 0 {
                 return;
             }
             thread::yield_now();
@@ -179,7 +176,7 @@ impl Late<'_> {
     }
 }
 
-/// A stream whose line is bad, and one that is open until that was told.
+/// A stream whose line is bad, and one with good lines, both open until that was told.
 fn bad_and_open<'a>(
     alloc: Global,
     tape: &'a Tape,
@@ -190,12 +187,12 @@ fn bad_and_open<'a>(
     let mut readers = Vec::new(alloc);
     readers.push(Late {
         text: b"6 6\n5 2 0 1 2 0\n",
-        tape: None,
+        tape,
         late,
     })?;
     readers.push(Late {
         text: b"6 -2 0 3 4 0\n",
-        tape: Some(tape),
+        tape,
         late,
     })?;
     Ok(readers)
