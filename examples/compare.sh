@@ -362,6 +362,32 @@ refused 'formula refused: bad header' 4 --assume "$absent" "$work/refused" "$wor
 refused 'cannot open stream 1' 5 --assume "$here/assumed.cube" "$work/formula" "$absent"
 usage 'assumptions twice' --assume "$work/cube" --assume "$work/cube" "$work/formula" "$work/one"
 
+# What is told while it goes on. On standard output and of the status it changes nothing.
+
+want 'c stream 1: 0 added, 0 deleted, bad line 1 (spelling)\nc stream 2: 0 added, 0 deleted, ended\ns UNKNOWN\n' \
+    'lrupd: stream 1: 0 added, 0 deleted, bad line 1 (spelling)\nlrupd: stream 2: 0 added, 0 deleted, ended\n'
+echo > "$work/stream1"
+run 'two streams by turns, watched' 3 --watch --serial "$work/formula" "$work/stream1" /dev/null
+for options in '' '--serial'; do
+    want 'c stream 1: 2 added, 0 deleted, ended\ns UNSATISFIABLE\n' 'lrupd: stream 1: 2 added, 0 deleted, ended\n'
+    run "one stream, watched $options" 0 --watch $options "$work/formula" "$work/two"
+    want 'c stream 1: 2 added, 0 deleted, ended\ns UNSATISFIABLE\n' ''
+    lrupd --watch $options "$work/formula" "$work/two" > "$work/out" 2> /dev/full
+    judge "a full standard error, watched $options" 0 $?
+done
+refused 'cannot open stream 2' 5 --watch "$work/formula" "$work/one" "$absent"
+usage 'watched twice' --watch --watch "$work/formula" "$work/one"
+set --
+while [ $# -lt 64 ]; do set -- "$@" "$work/one"; done
+lrupd "$work/formula" "$@" > "$work/report"
+want '' ''
+cp "$work/report" "$work/wanted-out"
+sed -n 's/^c stream/lrupd: stream/p' "$work/report" | sort > "$work/wanted-err"
+lrupd --watch "$work/formula" "$@" > "$work/out" 2> "$work/told"
+status=$?
+sort "$work/told" > "$work/err"
+judge '64 streams, watched' 3 $status
+
 # Runs that take much memory, and have it: the marks of 16,000,000 variables, a set of 1,100,000 dropped identities, and a row with
 # the room of 16,000,000 literals.
 

@@ -1,7 +1,8 @@
 #!/bin/sh
 # Four solvers at work, as they were recorded: each writes its lines into a pipe of its own, one after the other at a steady
-# pace, and the program checks them all meanwhile. Its report comes as the last solver ends, after some five seconds. The
-# status is 1 where it isn't the report in bmc-four.out.
+# pace, and the program checks them all meanwhile. Its report comes as the last solver ends, after some five seconds. Then two
+# pipes with --watch: a bad line in the one is told while both are open. The status is 1 where the report isn't that in
+# bmc-four.out, where anything is on standard error without the flag, or where the line doesn't come.
 #
 #     sh examples/live.sh crates/lrupd/out/lrupd
 
@@ -38,12 +39,43 @@ for number in 1 2 3 4; do
 done
 echo "four solvers are at work"
 status=0
-"$program" --tries 1000000 "$here/bmc.cnf" "$work/1" "$work/2" "$work/3" "$work/4" > "$work/out" || status=$?
+"$program" --tries 1000000 "$here/bmc.cnf" "$work/1" "$work/2" "$work/3" "$work/4" > "$work/out" 2> "$work/err" || status=$?
 cat "$work/out"
 
-if [ $status = 0 ] && cmp -s "$work/out" "$here/bmc-four.out"; then
+if [ $status != 0 ] || ! cmp -s "$work/out" "$here/bmc-four.out" || [ -s "$work/err" ]; then
+    echo "not as wanted: status $status, another report than $here/bmc-four.out, or something on standard error"
+    exit 1
+fi
+
+# told LINE: standard error has the line within ten seconds.
+told() {
+    looks=0
+    until grep -qxF "$1" "$work/err"; do
+        looks=$((looks + 1))
+        [ $looks -lt 100 ] || { echo "not as wanted: nobody tells $1"; exit 1; }
+        sleep 0.1
+    done
+    echo "$1"
+}
+
+# A bad line in the first of two pipes is told while both are open.
+mkfifo "$work/bad" "$work/open"
+"$program" --watch "$here/four-clause.cnf" "$work/bad" "$work/open" > "$work/out" 2> "$work/err" &
+checker=$!
+started="$started $checker"
+exec 3> "$work/bad" 4> "$work/open"
+echo 'no line' >&3
+echo "one stream is bad, both are open"
+told 'lrupd: stream 1: 0 added, 0 deleted, bad line 1 (spelling)'
+exec 3>&- 4>&-
+status=0
+wait $checker || status=$?
+cat "$work/out"
+told 'lrupd: stream 2: 0 added, 0 deleted, ended'
+
+if [ $status = 3 ] && [ "$(sed -n 's/^c/lrupd:/p' "$work/out")" = "$(cat "$work/err")" ]; then
     echo "as wanted"
 else
-    echo "not as wanted: status $status, or another report than $here/bmc-four.out"
+    echo "not as wanted: status $status, or another report than what was told"
     exit 1
 fi

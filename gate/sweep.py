@@ -69,7 +69,8 @@ class Machine:
                         ROOT / "gate" / "refuse.c"], check=True)
 
     def run(self, words, refuse="", out=None, limit=LIMIT):
-        """The answer, whether a call was refused, and the seconds that it took."""
+        """The answer, whether a call was refused, and the seconds that it took. What `--watch` tells is compared with the report, and
+        isn't in the answer where it is right."""
         self.mark.unlink(missing_ok=True)
         surroundings = {"LD_PRELOAD": str(self.shim), "REFUSE": refuse, "MARK": str(self.mark), "PATH": os.environ["PATH"]}
         began = time.monotonic()
@@ -80,6 +81,8 @@ class Machine:
                 answer = Answer(done.returncode, (done.stdout or b"").decode(), done.stderr.decode())
             except subprocess.TimeoutExpired:
                 answer = Answer(None, "", f"no end in {limit} seconds")
+        if "--watch" in words:
+            answer = without_told_ends(answer)
         return answer, self.mark.exists(), time.monotonic() - began
 
     @functools.cache
@@ -92,6 +95,16 @@ class Machine:
         answer, _, _ = self.run(words)
         ended = rf"(c stream {number}: .*), ended\n"
         return answer._replace(out=re.sub(ended, rf"\1, read failed at line {line}\n", answer.out))
+
+
+def without_told_ends(answer):
+    """Without the lines that tell how each stream ended, where they say what the report does; one that is cut may say less."""
+    lines = answer.err.splitlines(keepends=True)
+    told = {line for line in lines if line.startswith("lrupd: stream ")}
+    reported = {re.sub("^c", "lrupd:", line) for line in answer.out.splitlines(keepends=True) if line.startswith("c stream ")}
+    if told == reported or answer.status == 7 and told > reported:
+        return answer._replace(err="".join(line for line in lines if line not in told))
+    return answer
 
 
 def is_cut(answer, ample):
@@ -236,6 +249,7 @@ def inputs(folder):
         yield Input("a drop after a deletion" + kind, [*serial, FOUR_CLAUSE, drops_after], 1,
                     dropped("1 added, 1 deleted, out of memory at line 2"))
         yield Input("row 1" + kind, [*serial, FOUR_CLAUSE, row_one], 1)
+        yield Input("a dropped clause, watched" + kind, [*serial, "--watch", FOUR_CLAUSE, dropping], 1, at_once)
         # So many tries take a third of a second, where the other stream fails.
         few = serial or ["--tries", "5000", "--lines", "100", "--room", "100"]
         yield Input("imports" + kind, [*few, FOUR_CLAUSE, importing, other_importing], 2)

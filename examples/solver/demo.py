@@ -3,17 +3,26 @@
 
     demo.py PROGRAM SOLVER [FORMULA]
 
-Shows once a second how many lines each stream has, then what the solvers say, the report, and how long after the solvers'
-last byte it came. Without FORMULA it is random 3-SAT that takes some ten seconds. The status is the program's.
+Shows once a second how many lines each stream has, and what lrupd tells meanwhile; then what the solvers say, the report, and
+how long after the solvers' last byte it came. Without FORMULA it is random 3-SAT that takes some ten seconds. The status is the
+program's.
 """
 import os
 import subprocess
 import sys
 import tempfile
+import threading
 import time
 
 STREAMS = 4
-OPTIONS = ["--tries", "1000000", "--lines", "500000", "--room", "10000000"]
+OPTIONS = ["--tries", "1000000", "--lines", "500000", "--room", "10000000", "--watch"]
+
+
+def show(lines, begin, times):
+    """Shows each line as it comes, with the seconds since the beginning, and keeps when it came."""
+    for line in lines:
+        times.append(time.monotonic())
+        print("%5.1f s  %s" % (times[-1] - begin, line.rstrip("\n")), flush=True)
 
 
 def main():
@@ -33,14 +42,22 @@ def main():
             os.mkfifo(pipe)
         print("solver --progress formula.cnf proof1 proof2 proof3 proof4 &")
         print("lrupd", *OPTIONS, "formula.cnf proof1 proof2 proof3 proof4", flush=True)
+        times = []
+        begin = time.monotonic()
         with subprocess.Popen([solver, "--progress", formula] + pipes, stdout=subprocess.PIPE, text=True) as solvers, \
-                subprocess.Popen([program] + OPTIONS + [formula] + pipes, stdout=subprocess.PIPE, text=True) as checker:
+                subprocess.Popen([program] + OPTIONS + [formula] + pipes,
+                                 stdout=subprocess.PIPE, stderr=subprocess.PIPE, text=True) as checker:
+            shows = threading.Thread(target=show, args=(checker.stderr, begin, times))
+            shows.start()
             said = solvers.stdout.readline()    # comes when all streams are closed
             last_byte = time.monotonic()
             said += solvers.stdout.read()
             report = checker.stdout.read()
             waited = time.monotonic() - last_byte
+            shows.join()
         print("\nThe solvers:", "".join(line for line in said.splitlines(True) if line[0] != "v"), sep="\n")
+        early = sum(moment < last_byte for moment in times)
+        print("Of %d lines that lrupd told, %d came before the last byte." % (len(times), early))
         print("The report, %.3f s after the last byte:" % waited, report, sep="\n")
         print("status", checker.returncode)
         return checker.returncode

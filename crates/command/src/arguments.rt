@@ -12,7 +12,8 @@ ghost use Rattle.command.specs.Commands.{Takes, WasRead, change, files_view};
 
 use crate::fault::CommandFault;
 use crate::files::Files;
-use crate::program::{command, say};
+use crate::program::{command_watched, say};
+use crate::watching::WatchSinks;
 use lrup_text::{Sink, write_all};
 use std::alloc::{AllocError, Global};
 use std::env::Args;
@@ -22,12 +23,13 @@ use std::sync::Wait;
 use std::thread::Threads;
 use std::time::Clock;
 
-/// Runs `command` with the program's arguments, of which the first is its name, and gives the exit status. Where the system
+/// Runs `command_watched` with the program's arguments, of which the first is its name, and gives the exit status. Where the system
 /// gives none, `err` gets the cause: out of memory, with status 6, or an argument that isn't UTF-8, with status 2.
 pub fn command_with_arguments<
     T: Threads + Wait + Sync,
     C: Clock + Sync,
     F: Files,
+    M: WatchSinks,
     O: Sink,
     E: Sink,
 >(
@@ -36,6 +38,7 @@ pub fn command_with_arguments<
     alloc: Global,
     arguments: io::Result<Args>,
     files: &mut F,
+    watchers: &M,
     out: &mut O,
     err: &mut E,
 ) -> ExitCode
@@ -72,20 +75,21 @@ pub fn command_with_arguments<
 {
     match arguments {
         Ok(arguments) => {
-            let status = with_words(threads, clock, alloc, arguments, files, out, err);
+            let status = with_words(threads, clock, alloc, arguments, files, watchers, out, err);
             ExitCode::from(status)
         }
         Err(error) => ExitCode::from(refuse(error.kind(), err)),
     }
 }
 
-/// Runs `command` with the words of the arguments after the first.
-fn with_words<T: Threads + Wait + Sync, C: Clock + Sync, F: Files, O: Sink, E: Sink>(
+/// Runs `command_watched` with the words of the arguments after the first.
+fn with_words<T: Threads + Wait + Sync, C: Clock + Sync, F: Files, M: WatchSinks, O: Sink, E: Sink>(
     threads: &T,
     clock: &C,
     alloc: Global,
     arguments: Args,
     files: &mut F,
+    watchers: &M,
     out: &mut O,
     err: &mut E,
 ) -> u8
@@ -112,7 +116,7 @@ fn with_words<T: Threads + Wait + Sync, C: Clock + Sync, F: Files, O: Sink, E: S
     let Ok(words) = words_of(alloc, &arguments) else {
         return say(&CommandFault::Memory, err);
     };
-    command(threads, clock, alloc, &words, files, out, err)
+    command_watched(threads, clock, alloc, &words, files, watchers, out, err)
 }
 
 /// The arguments after the program's name.

@@ -14,15 +14,18 @@ ghost use Rattle.command.specs.Faults.{of_cube_file};
 
 use crate::fault::CommandFault;
 use crate::files::{Files, OpenFault};
+use crate::watching::WatchSinks;
 use command_line::read_words;
-use lrup_model::{Cube, Formula, Id};
+use lrup_model::{Cube, Formula};
 use lrup_text::{Source, read_cube};
-use portfolio::{Options, Outcome, Pause, SerialOutcome, Verdict, run, run_serial};
+use portfolio::{
+    Options, Outcome, Pause, SerialOutcome, TurnWatch, Verdict, Watch, run, run_serial,
+};
 use std::alloc::{AllocError, Global};
 use std::sync::Wait;
 use std::thread::Threads;
 use std::time::Clock;
-use stream_check::{Gate, Report};
+use stream_check::Report;
 
 /// How many bytes of a file are read at a time, at most.
 const PIECE: usize = 1 << 16;
@@ -36,13 +39,15 @@ pub struct Found {
     pub verdict: Verdict,
 }
 
-/// Reads the words, the formula, the assumed literals and the streams that they name, and checks the streams. It blocks while a file does.
-pub fn check_words<T: Threads + Wait + Sync, C: Clock + Sync, F: Files>(
+/// Reads the words, the formula, the assumed literals and the streams that they name, and checks the streams. It blocks while a file
+/// does.
+pub fn check_words<T: Threads + Wait + Sync, C: Clock + Sync, F: Files, M: WatchSinks>(
     threads: &T,
     clock: &C,
     alloc: Global,
     words: &[&str],
     files: &mut F,
+    watchers: &M,
 ) -> Result<Found, CommandFault>
     ensures outcome { let view = files_view (F.tells files.old) (F.may_refuse files.old)
         F.Input.Source.left F.Input.Source.has_failed (F.opens files.old) F.Input.Source.reads in
@@ -73,6 +78,7 @@ pub fn check_words<T: Threads + Wait + Sync, C: Clock + Sync, F: Files>(
         &cube,
         options,
         line.serial,
+        line.watch.then_some(watchers),
         readers,
     )
 }
@@ -235,8 +241,8 @@ fn open_streams<F: Files>(
     Ok(readers)
 }
 
-/// Checks the streams, by turns on this thread or each in two threads of its own.
-fn check_streams<T: Threads + Wait + Sync, C: Clock + Sync, R: Source + Send + Drop>(
+/// Checks the streams, by turns on this thread or each in two threads of its own. Where there are sinks, it is told what goes on.
+fn check_streams<T: Threads + Wait + Sync, C: Clock + Sync, R: Source + Send + Drop, M: WatchSinks>(
     threads: &T,
     clock: &C,
     alloc: Global,
@@ -244,6 +250,7 @@ fn check_streams<T: Threads + Wait + Sync, C: Clock + Sync, R: Source + Send + D
     cube: &Cube,
     options: Options,
     serial: bool,
+    watchers: Option<&M>,
     readers: Vec<R>,
 ) -> Result<Found, CommandFault>
     requires running { AllByRecursion (λ r. R.has_failed r ≡ false) readers.items }
@@ -254,19 +261,25 @@ fn check_streams<T: Threads + Wait + Sync, C: Clock + Sync, R: Source + Send + D
         (IsRunCause serial (layout_of options formula.now (length readers.items))) }
 {
     if serial {
-        check_serially(threads, alloc, formula, cube, options, readers)
+        check_serially(
+            threads, clock, alloc, formula, cube, options, watchers, readers,
+        )
     } else {
-        check_in_threads(threads, clock, alloc, formula, cube, options, readers)
+        check_in_threads(
+            threads, clock, alloc, formula, cube, options, watchers, readers,
+        )
     }
 }
 
 /// Checks the streams on this thread, by turns.
-fn check_serially<W: Wait, R: Source + Drop>(
+fn check_serially<W: Wait, C: Clock + Sync, R: Source + Drop, M: WatchSinks>(
     wait: &W,
+    clock: &C,
     alloc: Global,
     formula: &Formula,
     cube: &Cube,
     options: Options,
+    watchers: Option<&M>,
     readers: Vec<R>,
 ) -> Result<Found, CommandFault>
     requires running { AllByRecursion (λ r. R.has_failed r ≡ false) readers.items }
@@ -276,7 +289,7 @@ fn check_serially<W: Wait, R: Source + Drop>(
     ensures cause { IfErr result
         (IsRunCause true (layout_of options formula.now (length readers.items))) }
 {
-    let gates = vec![in alloc; NoPause; readers.len()]?;
+    let gates = turn_gates(alloc, clock, watchers, readers.len())?;
     let outcome = run_serial(wait, alloc, formula, cube, options, readers, gates)?;
     let SerialOutcome {
         reports,
@@ -287,13 +300,19 @@ fn check_serially<W: Wait, R: Source + Drop>(
 }
 
 /// Checks the streams, each in two threads of its own.
-fn check_in_threads<T: Threads + Wait + Sync, C: Clock + Sync, R: Source + Send + Drop>(
+fn check_in_threads<
+    T: Threads + Wait + Sync,
+    C: Clock + Sync,
+    R: Source + Send + Drop,
+    M: WatchSinks,
+>(
     threads: &T,
     clock: &C,
     alloc: Global,
     formula: &Formula,
     cube: &Cube,
     options: Options,
+    watchers: Option<&M>,
     readers: Vec<R>,
 ) -> Result<Found, CommandFault>
     requires running { AllByRecursion (λ r. R.has_failed r ≡ false) readers.items }
@@ -303,7 +322,7 @@ fn check_in_threads<T: Threads + Wait + Sync, C: Clock + Sync, R: Source + Send 
     ensures cause { IfErr result
         (IsRunCause false (layout_of options formula.now (length readers.items))) }
 {
-    let gates = pauses(alloc, clock, readers.len())?;
+    let gates = thread_gates(alloc, clock, watchers, readers.len())?;
     let outcome = run(threads, alloc, formula, cube, options, readers, gates)?;
     let Outcome {
         reports,
@@ -314,23 +333,43 @@ fn check_in_threads<T: Threads + Wait + Sync, C: Clock + Sync, R: Source + Send 
     Ok(Found { reports, verdict })
 }
 
-/// A gate for each of so many streams.
-fn pauses<C: Clock + Sync>(
+/// A gate for each of so many streams that are checked in threads. Each tells on a sink of its own, where there are sinks.
+fn thread_gates<'a, C: Clock + Sync, M: WatchSinks>(
     alloc: Global,
-    clock: &C,
+    clock: &'a C,
+    watchers: Option<&M>,
     count: usize,
-) -> Result<Vec<Pause<&C>>, AllocError>
+) -> Result<Vec<Watch<Pause<&'a C>, &'a C, M::Watcher>>, AllocError>
     ensures { IfOk result (λ gates. vec_len gates ≡ count) }
 {
-    (0..count).map(|_| Pause::new(clock)).collect(alloc)
+    let mut gates = Vec::with_capacity(alloc, count)?;
+    for _gate in 0..count {
+        let pause = Pause::new(clock);
+        gates.push_reserved(Watch::new(pause, clock, sink_of(watchers)));
+    }
+    Ok(gates)
 }
 
-/// The gate of a stream that is checked on one thread. It never waits, since no other stream publishes meanwhile.
-#[derive(Clone, Copy)]
-struct NoPause;
+/// Such gates of streams that are checked by turns.
+fn turn_gates<'a, C: Clock + Sync, M: WatchSinks>(
+    alloc: Global,
+    clock: &'a C,
+    watchers: Option<&M>,
+    count: usize,
+) -> Result<Vec<TurnWatch<&'a C, M::Watcher>>, AllocError>
+    ensures { IfOk result (λ gates. vec_len gates ≡ count) }
+{
+    let mut gates = Vec::with_capacity(alloc, count)?;
+    for _gate in 0..count {
+        gates.push_reserved(TurnWatch::new(clock, sink_of(watchers)));
+    }
+    Ok(gates)
+}
 
-impl Gate for NoPause {
-    fn before_fetch(&mut self, _stream: u64, _id: Id, _attempt: u64) {}
-
-    fn after_publish(&mut self, _stream: u64, _id: Id) {}
+/// A sink, where there are any.
+fn sink_of<M: WatchSinks>(watchers: Option<&M>) -> Option<M::Watcher> {
+    match watchers {
+        None => None,
+        Some(watchers) => Some(watchers.sink()),
+    }
 }

@@ -6,7 +6,9 @@ mod checking;
 mod fault;
 mod files;
 mod program;
+mod watching;
 
 pub use arguments::command_with_arguments;
 pub use files::{Files, OpenFault};
-pub use program::command;
+pub use program::{command, command_watched};
+pub use watching::WatchSinks;

@@ -10,6 +10,7 @@ ghost use Rattle.command.specs.Faults.{status_of, text_of};
 use crate::checking::{Found, check_words};
 use crate::fault::CommandFault;
 use crate::files::Files;
+use crate::watching::{Unwatched, WatchSinks};
 use lrup_text::{Sink, WriteFault};
 use portfolio::{Verdict, write_report};
 use std::alloc::Global;
@@ -64,7 +65,51 @@ pub fn command<T: Threads + Wait + Sync, C: Clock + Sync, F: Files, O: Sink, E: 
     // So does a report that wasn't written.
     ensures unwritten { IsTrue (O.has_failed out.new) ↔ (result ≡ 7) }
 {
-    match check_words(threads, clock, alloc, words, files) {
+    command_watched(threads, clock, alloc, words, files, &Unwatched, out, err)
+}
+
+/// Runs `lrupd` as `command` does. Where the words have `--watch`, it is told what goes on while streams are checked, on a sink for
+/// each stream.
+pub fn command_watched<
+    T: Threads + Wait + Sync,
+    C: Clock + Sync,
+    F: Files,
+    M: WatchSinks,
+    O: Sink,
+    E: Sink,
+>(
+    threads: &T,
+    clock: &C,
+    alloc: Global,
+    words: &[&str],
+    files: &mut F,
+    watchers: &M,
+    out: &mut O,
+    err: &mut E,
+) -> u8
+    requires out { O.has_failed out.old ≡ false }
+    requires err { E.has_failed err.old ≡ false }
+    // What a user relies on: with status 0 the bytes that were read of FORMULA are a text of a formula that no assignment satisfies.
+    ensures sound { let read = WasRead _ (F.opens files.old)
+        F.Input.Source.reads (F.tells files.old) in
+        result ≡ 0 → NameUnsatisfiable read (texts words.now) }
+    // With status 8 no assignment makes it and every literal of the assumed ones' file true.
+    ensures sound_under { let read = WasRead _ (F.opens files.old)
+        F.Input.Source.reads (F.tells files.old) in
+        result ≡ 8 → NameUnsatisfiableUnder read (texts words.now) }
+    // A report of what the words and the files come to, or none and the cause; what goes out; and the status.
+    ensures ends { let view = files_view (F.tells files.old) (F.may_refuse files.old)
+        F.Input.Source.left F.Input.Source.has_failed (F.opens files.old) F.Input.Source.reads in
+        let output = change (O.written out.old) (O.written out.new) (O.has_failed out.new) in
+        let errors = change (E.written err.old) (E.written err.new) (E.has_failed err.new) in
+        EndsWithReport _ view (texts words.now) output errors result
+        ⊎ EndsWithFault _ view (texts words.now) output errors result }
+    // Words with a fault have a status of their own, unless memory ran out.
+    ensures usage { HaveFault (texts words.now) → (result ≡ 2) ⊎ (result ≡ 6) }
+    // So does a report that wasn't written.
+    ensures unwritten { IsTrue (O.has_failed out.new) ↔ (result ≡ 7) }
+{
+    match check_words(threads, clock, alloc, words, files, watchers) {
         Ok(found) => report(&found, out, err),
         Err(fault) => say(&fault, err),
     }

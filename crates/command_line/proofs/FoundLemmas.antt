@@ -102,16 +102,19 @@ other : {A : Type 0} → false ≡ true → A
 other e = cc
 
 tries_parses : Parses (codes "tries") (parser.Unsigned 0 1000000)
-tries_parses = ((λ _. refl, (other, (other, (other, (other, (other, (other, tt))))))), (λ _. refl, (other, (other, (other, (other, (other, (other, (other, tt)))))))))
+tries_parses = ((λ _. refl, (other, (other, (other, (other, (other, (other, (other, tt)))))))), (λ _. refl, (other, (other, (other, (other, (other, (other, (other, (other, tt))))))))))
 
 lines_parses : Parses (codes "lines") (parser.Unsigned 0 268435456)
-lines_parses = ((other, (λ _. refl, (other, (other, (other, (other, (other, tt))))))), (other, (λ _. refl, (other, (other, (other, (other, (other, (other, tt)))))))))
+lines_parses = ((other, (λ _. refl, (other, (other, (other, (other, (other, (other, tt)))))))), (other, (λ _. refl, (other, (other, (other, (other, (other, (other, (other, tt))))))))))
 
 room_parses : Parses (codes "room") (parser.Unsigned 0 268435456)
-room_parses = ((other, (other, (λ _. refl, (other, (other, (other, (other, tt))))))), (other, (other, (λ _. refl, (other, (other, (other, (other, (other, tt)))))))))
+room_parses = ((other, (other, (λ _. refl, (other, (other, (other, (other, (other, tt)))))))), (other, (other, (λ _. refl, (other, (other, (other, (other, (other, (other, tt))))))))))
 
 serial_parses : Parses (codes "serial") parser.Bool
-serial_parses = ((other, (other, (other, (other, (λ _. refl, (other, (other, tt))))))), (other, (other, (other, (other, (λ _. refl, (other, (other, (other, tt)))))))))
+serial_parses = ((other, (other, (other, (other, (λ _. refl, (other, (other, (other, tt)))))))), (other, (other, (other, (other, (λ _. refl, (other, (other, (other, (other, tt))))))))))
+
+watch_parses : Parses (codes "watch") parser.Bool
+watch_parses = ((other, (other, (other, (other, (other, (λ _. refl, (other, (other, tt)))))))), (other, (other, (other, (other, (other, (λ _. refl, (other, (other, (other, tt))))))))))
 
 up_to : (d : Command) (f : Found) (name : Text) (most : ℕ) → IsProgram d → ValuesPass d f → (name ≡ [] → ⊥) → Parses name (parser.Unsigned 0 most) → HasUpTo most name (rows_of f)
 up_to d f name most is pass named parses text found = (text_passed d f name (parser.Unsigned 0 most) is pass named parses refl text found).1
@@ -123,8 +126,8 @@ is_truth text e = go (bytes_eq text (codes "true")) refl e
     go true same e = inl ((bytes_eq-Decides text (codes "true")).0 same)
     go false same e = inr ((bytes_eq-Decides text (codes "false")).0 e)
 
-truth : (d : Command) (f : Found) → IsProgram d → ValuesPass d f → HasTruth (codes "serial") (rows_of f)
-truth d f is pass text found = is_truth text (text_passed d f (codes "serial") parser.Bool is pass (named _ _) serial_parses refl text found).1
+truth : (d : Command) (f : Found) (name : Text) → IsProgram d → ValuesPass d f → (name ≡ [] → ⊥) → Parses name parser.Bool → HasTruth name (rows_of f)
+truth d f name is pass named parses text found = is_truth text (text_passed d f name parser.Bool is pass named parses refl text found).1
 
 -- ---- the arguments that are required
 
@@ -164,10 +167,10 @@ filled d f id is pass named takes_one used =
         (entry.1, found, elim held.filled [ inl lt ↦ lt | inr or ↦ absurd (none or) ])
 
 formula_takes : EachArgument (TakesOne (codes "FORMULA"))
-formula_takes = ((other, (other, (other, (other, (other, (λ _. (λ e. cc, λ e. absurd (omega arith)), (other, tt))))))), (other, (other, (other, (other, (other, (λ _. (λ e. cc, λ e. absurd (omega arith)), (other, (other, tt)))))))))
+formula_takes = ((other, (other, (other, (other, (other, (other, (λ _. (λ e. cc, λ e. absurd (omega arith)), (other, tt)))))))), (other, (other, (other, (other, (other, (other, (λ _. (λ e. cc, λ e. absurd (omega arith)), (other, (other, tt))))))))))
 
 stream_takes : EachArgument (TakesOne (codes "STREAM"))
-stream_takes = ((other, (other, (other, (other, (other, (other, (λ _. (λ e. cc, λ e. absurd (omega arith)), tt))))))), (other, (other, (other, (other, (other, (other, (λ _. (λ e. cc, λ e. absurd (omega arith)), (other, tt)))))))))
+stream_takes = ((other, (other, (other, (other, (other, (other, (other, (λ _. (λ e. cc, λ e. absurd (omega arith)), tt)))))))), (other, (other, (other, (other, (other, (other, (other, (λ _. (λ e. cc, λ e. absurd (omega arith)), (other, tt))))))))))
 
 -- ---- all of it
 
@@ -185,7 +188,8 @@ are_found words c d f is after whole pass good found =
         tries = up_to d f (codes "tries") 1000000 program pass (named _ _) tries_parses;
         lines = up_to d f (codes "lines") 268435456 program pass (named _ _) lines_parses;
         room = up_to d f (codes "room") 268435456 program pass (named _ _) room_parses;
-        serial = truth d f program pass;
+        serial = truth d f (codes "serial") program pass (named _ _) serial_parses;
+        watch = truth d f (codes "watch") program pass (named _ _) watch_parses;
         formula = ap is_some (sym (first_value-rows f (codes "FORMULA"))) ∙ has_first f (codes "FORMULA") formula.0 formula.1 formula.2;
         streams = (
           raw_values stream.0,

@@ -133,9 +133,10 @@ stream_row streams = record {
   reading = AsWritten;
 }
 
-abbrev serial_row : Row
-serial_row = record {
-  id = codes "serial";
+-- a flag that isn't given
+abbrev flag_row : Text → Row
+flag_row name = record {
+  id = name;
   values = codes "false" ∷ [];
   count = None;
   source = Some source.DefaultValue;
@@ -144,7 +145,7 @@ serial_row = record {
 
 -- what is found in them
 pub plain_rows : (formula first : Text) (rest : List Text) → is_plain formula ≡ true → list_all is_plain (first ∷ rest) ≡ true
-    → matches_of lrupd (formula ∷ first ∷ rest) ≡ formula_row formula ∷ stream_row (first ∷ rest) ∷ serial_row ∷ []
+    → matches_of lrupd (formula ∷ first ∷ rest) ≡ formula_row formula ∷ stream_row (first ∷ rest) ∷ flag_row (codes "serial") ∷ flag_row (codes "watch") ∷ []
 plain_rows formula first rest plain all = ap (λ (w : Walk). finished rules w.held) (walk_all formula first rest plain all)
 
 -- ---- they have no fault
@@ -245,7 +246,7 @@ no_path : {A B : Type 0} (f : A → B) (o : Option A) → option_map f o ≡ Non
 no_path f None none = refl
 no_path f (Some x) none = absurd (let no : Some (f x) ≡ None = none in cc)
 
-defaults : (formula first : Text) (rest : List Text) (rows : List Row) → rows ≡ formula_row formula ∷ stream_row (first ∷ rest) ∷ serial_row ∷ []
+defaults : (formula first : Text) (rest : List Text) (rows : List Row) → rows ≡ formula_row formula ∷ stream_row (first ∷ rest) ∷ flag_row (codes "serial") ∷ flag_row (codes "watch") ∷ []
     → (given : CommandLine) → IsSaidBy rows given → HasDefaults formula (first ∷ rest) given
 defaults formula first rest rows are given said = record {
   formula = sym (value_of formula given.formula.now (sym (ap (first_of (codes "FORMULA")) are) ∙ said.formula));
@@ -255,6 +256,7 @@ defaults formula first rest rows are given said = record {
   room = said.room ∙ ap (number_of (codes "room") 1048576) are;
   assume = no_path (λ path. path.now) given.assume (said.assume ∙ ap (first_of (codes "assume")) are);
   serial = said.serial ∙ ap (is_set (codes "serial")) are;
+  watch = said.watch ∙ ap (is_set (codes "watch")) are;
 }
 
 pub plain_words : PlainWords

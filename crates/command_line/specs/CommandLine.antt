@@ -28,10 +28,10 @@ assume_rule = record (new_rule (codes "assume")) {
   value_names = 1;
 }
 
--- the flag `--serial`
-abbrev pub serial_rule : Rule
-serial_rule = record (new_rule (codes "serial")) {
-  long = Some (codes "serial");
+-- a flag `--name`
+abbrev pub flag_rule : Text → Rule
+flag_rule name = record (new_rule name) {
+  long = Some name;
   action = Some SetTrue;
   parser = Some parser.Bool;
 }
@@ -59,7 +59,8 @@ lrupd = record {
     rules = number_rule (codes "tries") 1000000
         ∷ number_rule (codes "lines") 268435456
         ∷ number_rule (codes "room") 268435456
-        ∷ assume_rule ∷ serial_rule ∷ formula_rule ∷ stream_rule ∷ [];
+        ∷ assume_rule ∷ flag_rule (codes "serial") ∷ flag_rule (codes "watch")
+        ∷ formula_rule ∷ stream_rule ∷ [];
   };
   subs = [];
 }
@@ -96,6 +97,7 @@ pub record IsSaidBy (rows : List Row) (given : CommandLine) : Type 0 where
   pub small_room : given.room ≤ 268435456
   pub assume : option_map (λ path. path.now) given.assume ≡ first_of (codes "assume") rows
   pub serial : given.serial ≡ is_set (codes "serial") rows
+  pub watch : given.watch ≡ is_set (codes "watch") rows
   pub formula : first_of (codes "FORMULA") rows ≡ Some given.formula.now
   pub streams : all_of (codes "STREAM") rows ≡ Some given.streams
   pub one : 0 < length given.streams

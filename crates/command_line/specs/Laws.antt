@@ -19,6 +19,7 @@ pub record HasDefaults (first : Text) (rest : List Text) (given : CommandLine) :
   pub room : given.room ≡ 1048576
   pub assume : given.assume ≡ None
   pub serial : given.serial ≡ false
+  pub watch : given.watch ≡ false
 
 -- Words of which none begins with a hyphen are a formula and its streams in order, whatever they
 -- are.

@@ -47,6 +47,7 @@ pub record AreWhole (rows : List Row) : Type 0 where
   pub lines : HasUpTo 268435456 (codes "lines") rows
   pub room : HasUpTo 268435456 (codes "room") rows
   pub serial : HasTruth (codes "serial") rows
+  pub watch : HasTruth (codes "watch") rows
   pub formula : IsSome (first_of (codes "FORMULA") rows)
   pub streams : (paths : List Text) × (all_of (codes "STREAM") rows ≡ Some paths)
       × (0 < length paths)

@@ -1,7 +1,7 @@
 //! What `clap` is told of the command line.
 ghost use Rattle.std.specs.Prelude.{◌≡◌, IfOk, false};
 ghost use Rattle.clap.specs.Words.{app_of, rule_of};
-ghost use Rattle.command_line.specs.CommandLine.{assume_rule, formula_rule, lrupd, number_rule, serial_rule};
+ghost use Rattle.command_line.specs.CommandLine.{assume_rule, flag_rule, formula_rule, lrupd, number_rule};
 ghost use Rattle.command_line.specs.CommandLine.{stream_rule};
 ghost use Rattle.command_line.specs.Matches.{with_numbers, without_arguments};
 
@@ -25,7 +25,8 @@ pub fn program<'a>(alloc: Global) -> Result<Command<'a>, AllocError>
 {
     let command = with_numbers(alloc)?;
     let command = command.arg(assume(alloc))?;
-    let command = command.arg(serial(alloc))?;
+    let command = command.arg(flag(alloc, "serial", help::SERIAL))?;
+    let command = command.arg(flag(alloc, "watch", help::WATCH))?;
     let command = command.arg(formula(alloc))?;
     command.arg(stream(alloc))
 }
@@ -74,16 +75,16 @@ fn assume<'a>(alloc: Global) -> Arg<'a>
         .help(help::ASSUME)
 }
 
-/// The flag `--serial`.
-fn serial<'a>(alloc: Global) -> Arg<'a>
-    ensures rule { rule_of result ≡ serial_rule }
+/// The flag `--name`.
+fn flag<'a>(alloc: Global, name: &'a str, help: &'a str) -> Arg<'a>
+    ensures rule { rule_of result ≡ flag_rule name.now }
     ensures local { result.global ≡ false }
 {
-    Arg::new(alloc, "serial")
-        .long("serial")
+    Arg::new(alloc, name)
+        .long(name)
         .action(ArgAction::SetTrue)
         .value_parser(ValueParser::Bool)
-        .help(help::SERIAL)
+        .help(help)
 }
 
 /// The word FORMULA.

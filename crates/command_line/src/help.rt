@@ -50,6 +50,12 @@ pub const SERIAL: &str = "\
 Check all streams on one thread, a line of each by turns, so that runs
 over the same files are alike. Without it each stream has its threads.";
 
+/// Of `--watch`.
+pub const WATCH: &str = "\
+Say on standard error what goes on while streams are checked: that one is
+over, and how it is judged; that one has waited a second for a clause; every
+ten seconds how many clauses each has added. With --serial none waits.";
+
 /// What follows the options.
 pub const EXAMPLE: &str = "\
 The clauses and literals of the formula, the identities and the room of all

@@ -26,6 +26,8 @@ pub struct CommandLine<'a> {
     pub assume: Option<&'a str>,
     /// Whether one thread checks all streams by turns.
     pub serial: bool,
+    /// Whether it is told, while streams are checked, what goes on.
+    pub watch: bool,
     /// The path of the formula.
     pub formula: &'a str,
     /// The paths of the streams.
@@ -147,6 +149,7 @@ fn command_line<'a>(alloc: Global, matches: &ArgMatches<'a>) -> Result<CommandLi
         room: number_of(matches, "room", 1_048_576),
         assume: assume_of(matches),
         serial: is_set(matches, "serial"),
+        watch: is_set(matches, "watch"),
         formula: formula_of(matches),
         streams: streams_of(alloc, matches)?,
     })

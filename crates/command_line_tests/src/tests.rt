@@ -6,13 +6,14 @@ use std::test::Fail;
 
 mod asked;
 
-/// The numbers of a command line, and its flag.
+/// The numbers of a command line, and its flags.
 #[derive(Clone, Copy, Debug, PartialEq, Eq)]
 struct Options {
     tries: u64,
     lines: u64,
     room: u64,
     serial: bool,
+    watch: bool,
 }
 
 /// Those of words without an option.
@@ -21,6 +22,7 @@ const DEFAULTS: Options = Options {
     lines: 65_536,
     room: 1_048_576,
     serial: false,
+    watch: false,
 };
 
 /// The words give these options, `f` and `s`.
@@ -47,6 +49,7 @@ fn assert_paths(
         lines: given.lines,
         room: given.room,
         serial: given.serial,
+        watch: given.watch,
     };
     assert_eq!(rt; options, want, "{words:?}");
     assert_eq!(rt; given.formula, formula, "{words:?}");
@@ -111,6 +114,7 @@ fn each_option_has_its_own_number(rt: HostRuntime) -> Result<(), Fail> {
         lines: 2,
         room: 3,
         serial: true,
+        watch: true,
     };
     assert_options(&rt, alloc, &["--tries", "7", "f", "s"], tries)?;
     assert_options(&rt, alloc, &["--tries=7", "f", "s"], tries)?;
@@ -120,7 +124,7 @@ fn each_option_has_its_own_number(rt: HostRuntime) -> Result<(), Fail> {
         &rt,
         alloc,
         &[
-            "--room", "3", "--lines", "2", "--tries", "1", "--serial", "f", "s",
+            "--room", "3", "--watch", "--lines", "2", "--tries", "1", "--serial", "f", "s",
         ],
         all,
     )
@@ -219,7 +223,8 @@ fn unknown_options_are_refused(rt: HostRuntime) -> Result<(), Fail> {
         &["f", "s", "-t"],
         "unexpected argument '-t' found",
     )?;
-    assert_usage(&rt, alloc, &["--serial=1", "f", "s"], "--serial")
+    assert_usage(&rt, alloc, &["--serial=1", "f", "s"], "--serial")?;
+    assert_usage(&rt, alloc, &["--watch=1", "f", "s"], "--watch")
 }
 
 #[test]
@@ -232,7 +237,8 @@ fn an_option_stands_once(rt: HostRuntime) -> Result<(), Fail> {
         &["--tries", "1", "--tries", "1", "f", "s"],
         twice,
     )?;
-    assert_usage(&rt, alloc, &["--serial", "f", "s", "--serial"], twice)
+    assert_usage(&rt, alloc, &["--serial", "f", "s", "--serial"], twice)?;
+    assert_usage(&rt, alloc, &["--watch", "--watch", "f", "s"], twice)
 }
 
 #[test]
@@ -280,6 +286,31 @@ fn options_stand_anywhere_before_two_hyphens(rt: HostRuntime) -> Result<(), Fail
     )
 }
 
+/// Each flag is its own.
+#[test]
+fn flags_stand_beside_each_other(rt: HostRuntime) -> Result<(), Fail> {
+    let alloc = rt.alloc();
+    let watch = Options {
+        watch: true,
+        ..DEFAULTS
+    };
+    let both = Options {
+        serial: true,
+        ..watch
+    };
+    assert_options(&rt, alloc, &["--watch", "f", "s"], watch)?;
+    assert_options(&rt, alloc, &["f", "s", "--watch"], watch)?;
+    assert_options(&rt, alloc, &["--watch", "f", "--serial", "s"], both)?;
+    assert_paths(
+        &rt,
+        alloc,
+        &["f", "--", "--watch"],
+        DEFAULTS,
+        "f",
+        &["--watch"],
+    )
+}
+
 #[test]
 fn streams_keep_their_order(rt: HostRuntime) -> Result<(), Fail> {
     let alloc = rt.alloc();
@@ -322,6 +353,7 @@ fn help_says_what_each_option_is(rt: HostRuntime) -> Result<(), Fail> {
         "--assume <FILE>\n",
         "'s UNSATISFIABLE UNDER ASSUMPTIONS'.",
         "--serial\n",
+        "--watch\n",
         "\n  lrupd --tries 1000000 big.cnf solver1.lrup solver2.lrup\n",
     ];
     for part in parts {

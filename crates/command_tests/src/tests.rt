@@ -19,6 +19,7 @@ mod faults;
 mod readings;
 mod rows;
 mod told;
+mod watched;
 
 /// Stops the test where two values differ: an assertion that is proved once for all tests.
 fn same<T: PartialEq + fmt::Debug + Drop>(rt: &impl Abort, value: T, wanted: T) {

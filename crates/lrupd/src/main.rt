@@ -1,11 +1,12 @@
-//! `lrupd [--tries N] [--lines N] [--room N] [--assume FILE] [--serial] FORMULA STREAM...`: checks the proofs of SAT solvers that
-//! share their clauses, while the solvers write them.
+//! `lrupd [--tries N] [--lines N] [--room N] [--assume FILE] [--serial] [--watch] FORMULA STREAM...`: checks the proofs of SAT
+//! solvers that share their clauses, while the solvers write them.
 #![tactic(auto)]
 
-use command::{Files, OpenFault, command_with_arguments};
+use command::{Files, OpenFault, WatchSinks, command_with_arguments};
 use lrup_text::{Reading, Writing};
 use std::env;
 use std::fs::File;
+use std::io::Stderr;
 use std::process::ExitCode;
 
 /// The machine's files. None tells its bytes before it is read, and each may be refused.
@@ -28,10 +29,25 @@ impl Files for MachineFiles<'_> {
     }
 }
 
+/// Sinks over the machine's standard error. Each line is one write, so that those of several streams don't mix.
+#[derive(Clone, Copy)]
+struct StandardError {
+    err: Stderr,
+}
+
+impl WatchSinks for StandardError {
+    type Watcher = Writing<Stderr>;
+
+    fn sink(&self) -> Writing<Stderr> {
+        Writing::new(self.err)
+    }
+}
+
 fn main(rt: HostRuntime) -> ExitCode {
     let mut files = MachineFiles { rt: &rt };
     let mut out = Writing::new(rt.stdout());
     let mut err = Writing::new(rt.stderr());
+    let watchers = StandardError { err: rt.stderr() };
     let arguments = env::args(&rt);
     command_with_arguments(
         &rt,
@@ -39,6 +55,7 @@ fn main(rt: HostRuntime) -> ExitCode {
         rt.alloc(),
         arguments,
         &mut files,
+        &watchers,
         &mut out,
         &mut err,
     )

@@ -1,16 +1,15 @@
 -- The text of a report by the parts that are written one after the other.
-use Rattle.std.proofs.Common.{◌≡◌, ℕ, ◌+◌, ◌<◌, ◌≤◌, List, [], ◌∷◌, ◌++◌, length, take, drop, get_or, sym, ◌∙◌, ap, arith}
-use Rattle.std.specs.Prelude.{codes}
+use Rattle.std.proofs.Common.{◌≡◌, ℕ, ◌+◌, ◌<◌, ◌≤◌, List, [], ◌∷◌, ◌++◌, length, take, drop, get_or, Option, sym, ◌∙◌, ap, subst, arith}
+use Rattle.std.specs.Prelude.{IsErr, Result, codes}
 use Rattle.std.specs.Fmt.{decimal}
 use Rattle.std.proofs.lemmas.List.{append_assoc, append-nil, take_more, take_all, take-append-drop, length-take-le}
+use Rattle.lrup_text.specs.Writing.{Breaks, WritesText}
+use Rattle.lrup_text.specs.WritingLemmas.{at_err}
 use Rattle.stream_check.specs.declared.report.Report.{Report}
 use Rattle.portfolio.specs.declared.outcome.Verdict.{Verdict}
-use Rattle.portfolio.specs.ReportText.{ending_text, report_text, stream_line, stream_lines, verdict_line}
+use Rattle.portfolio.specs.ReportText.{ending_text, line_after, report_text, stream_line, stream_lines, verdict_line}
 
 -- the numbers of a stream's line, each with the text before it
-abbrev pub stream_part : ℕ → List ℕ
-stream_part s = codes "c stream " ++ decimal s
-
 abbrev pub added_part : Report → List ℕ
 added_part r = codes ": " ++ decimal r.added
 
@@ -20,10 +19,10 @@ deleted_part r = codes " added, " ++ decimal r.deleted
 by_parts : (a b c d e f g h i : List ℕ) → (((((((a ++ b) ++ c) ++ d) ++ e) ++ f) ++ g) ++ h) ++ i ≡ (((((a ++ b) ++ (c ++ d)) ++ (e ++ f)) ++ g) ++ h) ++ i
 by_parts a b c d e f g h i = simp append_assoc
 
-pub stream_line-parts : (s : ℕ) (r : Report)
-    → stream_line s r ≡ ((((stream_part s ++ added_part r) ++ deleted_part r) ++ codes " deleted, ") ++ ending_text r.ending) ++ codes "\n"
-stream_line-parts s r =
-    by_parts (codes "c stream ") (decimal s) (codes ": ") (decimal r.added) (codes " added, ") (decimal r.deleted)
+pub line_after-parts : (words : List ℕ) (s : ℕ) (r : Report)
+    → line_after words s r ≡ (((((words ++ decimal s) ++ added_part r) ++ deleted_part r) ++ codes " deleted, ") ++ ending_text r.ending) ++ codes "\n"
+line_after-parts words s r =
+    by_parts words (decimal s) (codes ": ") (decimal r.added) (codes " added, ") (decimal r.deleted)
     (codes " deleted, ") (ending_text r.ending) (codes "\n")
 
 lines_append : (s : ℕ) (xs ys : List Report) → stream_lines s (xs ++ ys) ≡ stream_lines s xs ++ stream_lines (s + length xs) ys
@@ -58,3 +57,15 @@ lines_split rs verdict k d inside =
 -- all lines
 pub lines_all : (rs : List Report) (k : ℕ) → length rs ≤ k → stream_lines 1 rs ≡ stream_lines 1 (take k rs)
 lines_all rs k all = ap (stream_lines 1) (sym (take_all k rs all))
+
+-- ---- a line by itself
+
+-- a beginning of a text that went out, where nothing was held before
+pub breaks_from_empty : {E : Type 0} (r : Result (Unit {0}) E) {a b : Option (List ℕ)} {h z : List ℕ} → h ≡ [] → IsErr r → Breaks a b h z → WritesText r a b z
+breaks_from_empty r {a} {b} {h} {z} empty err broken =
+    let from : Breaks a b [] z = subst (λ (x : List ℕ). Breaks a b x z) empty broken in
+    at_err r _ _ err (from.went, from.rest, from.is, from.appends)
+
+-- words, a number, more words, another number, and what ends the line
+pub numbers-parts : (words first between second rest : List ℕ) → words ++ first ++ between ++ second ++ rest ≡ ((words ++ first) ++ (between ++ second)) ++ rest
+numbers-parts words first between second rest = simp append_assoc

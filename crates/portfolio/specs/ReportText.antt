@@ -15,12 +15,16 @@ ending_text (endings.Bad line fault) =
 ending_text (endings.ReadFailed line) = codes "read failed at line " ++ decimal line
 ending_text (endings.Memory line) = codes "out of memory at line " ++ decimal line
 
--- the line of a stream, from 1 on, ended by LF
-abbrev pub stream_line : ℕ → Report → List ℕ
-stream_line s r =
-    codes "c stream " ++ decimal s ++ codes ": " ++ decimal r.added ++ codes " added, "
+-- what is said of a stream, from 1 on, after these words, ended by LF
+abbrev pub line_after : List ℕ → ℕ → Report → List ℕ
+line_after words s r =
+    words ++ decimal s ++ codes ": " ++ decimal r.added ++ codes " added, "
     ++ decimal r.deleted ++ codes " deleted, "
     ++ ending_text r.ending ++ codes "\n"
+
+-- the line of a stream in a report
+abbrev pub stream_line : ℕ → Report → List ℕ
+stream_line s r = line_after (codes "c stream ") s r
 
 -- the lines of the streams, counted on from s
 abbrev pub stream_lines : ℕ → List Report → List ℕ
@@ -35,3 +39,19 @@ verdict_line verdicts.Unknown = codes "s UNKNOWN\n"
 -- a line for each stream in order, and the verdict's line
 abbrev pub report_text : List Report → Verdict → List ℕ
 report_text reports verdict = stream_lines 1 reports ++ verdict_line verdict
+
+-- While a run goes on
+
+-- what is said when a stream is over
+abbrev pub over_line : ℕ → Report → List ℕ
+over_line s r = line_after (codes "lrupd: stream ") s r
+
+-- what is said when a stream has waited for the clause of an identity
+abbrev pub wait_line : ℕ → ℕ → List ℕ
+wait_line s id =
+    codes "lrupd: stream " ++ decimal s ++ codes ": waits for " ++ decimal id ++ codes "\n"
+
+-- what is said of how many clauses a stream has added so far
+abbrev pub count_line : ℕ → ℕ → List ℕ
+count_line s added =
+    codes "lrupd: stream " ++ decimal s ++ codes ": " ++ decimal added ++ codes " added\n"

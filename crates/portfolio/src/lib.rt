@@ -7,6 +7,7 @@ mod pause;
 mod report_text;
 mod serial;
 mod threads;
+mod watch;
 mod worker;
 
 pub use options::Options;
@@ -15,3 +16,4 @@ pub use pause::Pause;
 pub use report_text::write_report;
 pub use serial::run_serial;
 pub use threads::run;
+pub use watch::{TurnWatch, Watch};

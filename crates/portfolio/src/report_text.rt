@@ -3,9 +3,10 @@ ghost use Rattle.std.specs.Prelude.{◌≡◌, ◌++◌, false, is_err};
 ghost use Rattle.std.specs.Fmt.{decimal};
 ghost use Rattle.lrup_text.specs.Writing.{PutsAll, WritesText};
 ghost use Rattle.stream_check.specs.Faults.{fault_text};
-ghost use Rattle.portfolio.specs.ReportText.{ending_text, report_text, stream_line, verdict_line};
+ghost use Rattle.portfolio.specs.ReportText.{count_line, ending_text, line_after, over_line, report_text, verdict_line, wait_line};
 
 use crate::outcome::Verdict;
+use lrup_model::Id;
 use lrup_text::{Sink, WriteBuffer, WriteFault};
 use stream_check::{Ending, Fault, Report};
 
@@ -22,7 +23,7 @@ pub fn write_report<W: Sink>(
 {
     let mut buffer = WriteBuffer::new();
     for (i, report) in reports.iter().enumerate() {
-        put_stream(&mut buffer, i as u64 + 1, report, sink)?;
+        put_stream(&mut buffer, b"c stream ", i as u64 + 1, report, sink)?;
     }
     buffer.put(verdict_text(verdict), sink)?;
     buffer.flush(sink)
@@ -38,24 +39,65 @@ fn verdict_text(verdict: Verdict) -> &'static [u8]
     }
 }
 
-/// Puts the line of a stream.
+/// Puts what is said of a stream, after some words.
 fn put_stream<W: Sink>(
     buffer: &mut WriteBuffer,
+    words: &[u8],
     stream: u64,
     report: &Report,
     sink: &mut W,
 ) -> Result<(), WriteFault>
     requires { W.has_failed sink.old ≡ false }
     ensures puts { PutsAll result (W.written sink.old) (W.written sink.new)
-        buffer.old buffer.new (stream_line stream report.now) }
+        buffer.old buffer.new (line_after words.now stream report.now) }
     ensures failed { W.has_failed sink.new ≡ is_err result }
 {
-    put_numbered(buffer, b"c stream ", stream, sink)?;
+    put_numbered(buffer, words, stream, sink)?;
     put_numbered(buffer, b": ", report.added, sink)?;
     put_numbered(buffer, b" added, ", report.deleted, sink)?;
     buffer.put(b" deleted, ", sink)?;
     put_ending(buffer, report.ending, sink)?;
     buffer.put(b"\n", sink)
+}
+
+/// Writes how a stream is judged that is over, by one write where the sink takes all.
+pub fn write_over<W: Sink>(stream: u64, report: &Report, sink: &mut W) -> Result<(), WriteFault>
+    requires { W.has_failed sink.old ≡ false }
+    ensures text { WritesText result (W.written sink.old) (W.written sink.new)
+        (over_line stream report.now) }
+    ensures failed { W.has_failed sink.new ≡ is_err result }
+{
+    let mut buffer = WriteBuffer::new();
+    put_stream(&mut buffer, b"lrupd: stream ", stream, report, sink)?;
+    buffer.flush(sink)
+}
+
+/// Writes that a stream has waited for the clause of an identity, likewise.
+pub fn write_wait<W: Sink>(stream: u64, id: Id, sink: &mut W) -> Result<(), WriteFault>
+    requires { W.has_failed sink.old ≡ false }
+    ensures text { WritesText result (W.written sink.old) (W.written sink.new)
+        (wait_line stream id) }
+    ensures failed { W.has_failed sink.new ≡ is_err result }
+{
+    let mut buffer = WriteBuffer::new();
+    put_numbered(&mut buffer, b"lrupd: stream ", stream, sink)?;
+    put_numbered(&mut buffer, b": waits for ", id, sink)?;
+    buffer.put(b"\n", sink)?;
+    buffer.flush(sink)
+}
+
+/// Writes how many clauses a stream has added so far, likewise.
+pub fn write_count<W: Sink>(stream: u64, added: u64, sink: &mut W) -> Result<(), WriteFault>
+    requires { W.has_failed sink.old ≡ false }
+    ensures text { WritesText result (W.written sink.old) (W.written sink.new)
+        (count_line stream added) }
+    ensures failed { W.has_failed sink.new ≡ is_err result }
+{
+    let mut buffer = WriteBuffer::new();
+    put_numbered(&mut buffer, b"lrupd: stream ", stream, sink)?;
+    put_numbered(&mut buffer, b": ", added, sink)?;
+    buffer.put(b" added\n", sink)?;
+    buffer.flush(sink)
 }
 
 /// Puts how a stream ended.

@@ -95,6 +95,8 @@ impl<R: Source + Drop, G: Gate + Drop> Worker<R, G> {
     {
         for _ in wait.forever() {
             if !self.read() {
+                self.gate
+                    .when_over(self.checker.stream(), &self.checker.report());
                 return;
             }
             if self.feed(map) != Turn::More {

@@ -29,6 +29,8 @@ mod readings;
 mod rows;
 mod serial;
 mod threads;
+mod watched_runs;
+mod watching;
 
 /// Stops the test where two values differ: an assertion that is proved once for all tests.
 fn same<T: PartialEq + fmt::Debug + Drop>(rt: &impl Abort, value: T, wanted: T) {
@@ -53,7 +55,7 @@ impl Gate for Open {
 }
 
 /// What gates were told, in order: a call is the gate's own number, and the stream, the identity and the attempt that it was
-/// told, where 0 stands for a publish.
+/// told, where attempt 0 stands for a publish, and identity 0 for the end of the stream.
 #[derive(Drop)]
 struct Calls {
     count: AtomicU64,
@@ -126,6 +128,10 @@ impl Gate for Notes<'_> {
 
     fn after_publish(&mut self, stream: u64, id: Id) {
         self.calls.note([self.gate, stream, id, 0]);
+    }
+
+    fn when_over(&mut self, stream: u64, _report: &Report) {
+        self.calls.note([self.gate, stream, 0, 0]);
     }
 }
 

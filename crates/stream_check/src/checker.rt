@@ -115,12 +115,22 @@ impl Checker {
             },
             Taken::Stopped(used, stop) => {
                 self.ending = Some(stop.ending(self.held.line));
+                self.tell(gate);
                 Progress {
                     used,
                     turn: Turn::Over,
                 }
             }
         }
+    }
+
+    /// Tells the gate how the stream is judged, which is over. Where the compiler knows that this is rare, lines before it are faster.
+    #[cold]
+    #[inline(never)]
+    fn tell<G: Gate>(&self, gate: &mut G)
+        requires { IsSome self.now.ending }
+    {
+        gate.when_over(self.stream(), &self.report());
     }
 
     /// Takes the end of the stream.
@@ -146,6 +156,13 @@ impl Checker {
             return;
         }
         self.ending = Some(Ending::ReadFailed(self.held.line));
+    }
+
+    /// The stream whose lines are checked, from 1 on.
+    pub fn stream(&self) -> u64
+        ensures { result ≡ self.now.setting.stream }
+    {
+        self.held.setting.stream()
     }
 
     /// Is nothing more taken?

@@ -1,4 +1,5 @@
 //! What stands between a checker's steps.
+use crate::report::Report;
 use lrup_model::Id;
 
 /// What a run does between the steps of a checker: it may wait, count, or let another thread go first. Each identity is
@@ -9,4 +10,8 @@ pub trait Gate {
 
     /// Comes after each publish that answered Done.
     fn after_publish(&mut self, stream: u64, id: Id);
+
+    /// Comes once, when the stream is over: at its end, at its first bad line, where a read failed or where memory ran out. There is
+    /// no fetch and no publish after it, and what is said of the stream stays.
+    fn when_over(&mut self, _stream: u64, _report: &Report) {}
 }

@@ -141,7 +141,21 @@ fn judge<W: Wait, G: Gate, M: ClauseMap>(
         blocks report) }
 {
     let has_failed = check_received(wait, checker, gate, receiver, items, bytes, map)?;
-    Some(close(checker, has_failed))
+    Some(settle(checker, gate, has_failed))
+}
+
+/// Takes the end of the stream, or a read that failed, and says how the stream is judged; to the gate too, where it wasn't over before.
+fn settle<G: Gate>(checker: &mut Checker, gate: &mut G, has_failed: bool) -> Report
+    ensures { (bytes : List ℕ) (blocks : List History) (free : ℕ)
+        → Leaves checker.old.setting bytes blocks (state_of checker.old free)
+        → JudgesBlocks checker.old.setting bytes (end_of has_failed) blocks result }
+{
+    let was_over = checker.is_over();
+    let report = close(checker, has_failed);
+    if !was_over {
+        gate.when_over(checker.stream(), &report);
+    }
+    report
 }
 
 /// Takes the end of the stream, or a read that failed, and says how the stream is judged.

@@ -361,6 +361,8 @@ fn serial_takes_lines_by_turns(rt: HostRuntime) -> Result<(), Fail> {
         [1, 1, 5, 1],
         [1, 1, 6, 1],
         [1, 1, 7, 0],
+        [2, 2, 0, 0],
+        [1, 1, 0, 0],
     ];
     for most in [1, 2, usize::MAX] {
         let calls = calls_of(&rt, rt.alloc(), defaults(), &CITING, most, SAYS_CITING)?;
@@ -383,7 +385,14 @@ c stream 2: 0 added, 0 deleted, ended
 s UNKNOWN
 ",
     )?;
-    let wanted = [[1, 1, 6, 1], [1, 1, 6, 2], [1, 1, 6, 3], [1, 1, 6, 4]];
+    let wanted = [
+        [1, 1, 6, 1],
+        [1, 1, 6, 2],
+        [1, 1, 6, 3],
+        [1, 1, 6, 4],
+        [1, 1, 0, 0],
+        [2, 2, 0, 0],
+    ];
     same(&rt, calls.as_slice(), wanted.as_slice());
     Ok(())
 }

@@ -29,7 +29,7 @@ fn gates_of<G: Copy>(alloc: Global, gate: G, count: usize) -> Result<Vec<G>, All
 }
 
 /// How often a gate looks before it gives up.
-const TURNS: u64 = 10_000_000;
+pub(super) const TURNS: u64 = 10_000_000;
 
 /// Waits until the flag is set, and says whether it was in time.
 pub(super) fn waits_for(flag: &AtomicBool) -> bool {
@@ -208,7 +208,7 @@ fn eight_threads_are_at_work_at_once(rt: HostRuntime) -> Result<(), Fail> {
 }
 
 /// The lines of 64 streams, each of which publishes one clause.
-fn sixty_four_lines(alloc: Global) -> Result<Vec<String>, Fail> {
+pub(super) fn sixty_four_lines(alloc: Global) -> Result<Vec<String>, Fail> {
     let mut lines = Vec::new(alloc);
     for id in 5..69u64 {
         lines.push(format!(in alloc; "{id} 2 0 1 2 0\n")?)?;
@@ -217,7 +217,10 @@ fn sixty_four_lines(alloc: Global) -> Result<Vec<String>, Fail> {
 }
 
 /// Each stream is the text of one of these lines.
-fn readers_of_lines<'a>(alloc: Global, lines: &'a [String]) -> Result<Vec<Pieces<'a>>, Fail>
+pub(super) fn readers_of_lines<'a>(
+    alloc: Global,
+    lines: &'a [String],
+) -> Result<Vec<Pieces<'a>>, Fail>
     ensures { IfOk result (λ readers. AllByRecursion (λ r. r.failed ≡ false) readers.items) }
 {
     let mut texts = Vec::new(alloc);
@@ -243,7 +246,7 @@ fn sixty_four_streams(rt: HostRuntime) -> Result<(), Fail> {
 }
 
 /// Three readers, of which the second fails in its second line.
-fn second_fails(alloc: Global) -> Result<Vec<Pieces<'static>>, AllocError>
+pub(super) fn second_fails(alloc: Global) -> Result<Vec<Pieces<'static>>, AllocError>
     ensures { IfOk result (λ readers. AllByRecursion (λ r. r.failed ≡ false) readers.items) }
 {
     let mut readers = Vec::new(alloc);
@@ -306,8 +309,16 @@ fn run_missing<T: Threads + Wait + Sync + Abort, G: Gate + Send + Drop>(
 fn a_vacant_hint_is_tried_again(rt: HostRuntime) -> Result<(), Fail> {
     let calls = Calls::new(rt.alloc(), 20)?;
     run_missing(&rt, rt.alloc(), notes_of(rt.alloc(), &calls, 2)?)?;
-    let wanted = [[1, 1, 6, 1], [1, 1, 6, 2], [1, 1, 6, 3], [1, 1, 6, 4]];
-    same(&rt, calls.all(rt.alloc())?.as_slice(), wanted.as_slice());
+    let wanted = [
+        [1, 1, 6, 1],
+        [1, 1, 6, 2],
+        [1, 1, 6, 3],
+        [1, 1, 6, 4],
+        [1, 1, 0, 0],
+    ];
+    same(&rt, calls.of(rt.alloc(), 1)?.as_slice(), wanted.as_slice());
+    let over = [[2, 2, 0, 0]];
+    same(&rt, calls.of(rt.alloc(), 2)?.as_slice(), over.as_slice());
     Ok(())
 }
 
@@ -338,7 +349,7 @@ fn calls_apart<T: Threads + Wait + Sync + Abort>(
     Ok(())
 }
 
-/// Each stream has its own gate, which is told of each fetch and each publish of that stream, in order.
+/// Each stream has its own gate, which is told of each fetch and each publish of that stream, in order, and once that it is over.
 #[test]
 fn gates_are_told_of_their_streams(rt: HostRuntime) -> Result<(), Fail> {
     let calls = Calls::new(rt.alloc(), 20)?;
@@ -351,9 +362,10 @@ fn gates_are_told_of_their_streams(rt: HostRuntime) -> Result<(), Fail> {
         [1, 1, 3, 1],
         [1, 1, 4, 1],
         [1, 1, 7, 0],
+        [1, 1, 0, 0],
     ];
-    let second = [[2, 2, 3, 1], [2, 2, 4, 1], [2, 2, 6, 0]];
-    same(&rt, calls.all(rt.alloc())?.len(), 10);
+    let second = [[2, 2, 3, 1], [2, 2, 4, 1], [2, 2, 6, 0], [2, 2, 0, 0]];
+    same(&rt, calls.all(rt.alloc())?.len(), 12);
     same(&rt, calls.of(rt.alloc(), 1)?.as_slice(), first.as_slice());
     same(&rt, calls.of(rt.alloc(), 2)?.as_slice(), second.as_slice());
     Ok(())

@@ -28,6 +28,7 @@ returns c =
       small_room = subst (λ (n : ℕ). n ≤ 268435456) (sym c.number_of-3.ensures) room;
       assume = c.assume_of.ensures;
       serial = c.is_set.ensures;
+      watch = c.is_set-2.ensures;
       formula = c.formula_of.ensures;
       streams = streams;
       one = same_length c.requires.streams.1 streams c.requires.streams.2;

@@ -19,8 +19,8 @@ returns-clause-judged g c =
         bytes = took.0;
         has_failed = has_failed;
         marked = took.3;
-        judged = λ fresh. subst (λ (d : Setting). JudgesBlocks d took.0 (end_of has_failed) took.1 c.close.result) setting
-            (c.close.ensures took.0 took.1 free
+        judged = λ fresh. subst (λ (d : Setting). JudgesBlocks d took.0 (end_of has_failed) took.1 c.settle.result) setting
+            (c.settle.ensures took.0 took.1 free
             (subst (λ (d : Setting). Leaves d took.0 took.1 (state_of checker free)) (sym setting) (took.4 [] [] fresh)));
       },
     )

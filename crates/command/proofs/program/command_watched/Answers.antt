@@ -2,7 +2,7 @@ use Rattle.std.proofs.Common.{◌≡◌, ◌∙◌, Bool, true, false, refl, sym
 use Rattle.portfolio.specs.declared.outcome.Verdict.{Verdict}
 use Rattle.portfolio.specs.declared.outcome.Verdict.TheVariants.{Unsatisfiable, UnsatisfiableUnder, Unknown}
 use Rattle.command.specs.Commands.{report_status}
-use Rattle.command.proofs.program.command.Goals as goal
+use Rattle.command.proofs.program.command_watched.Goals as goal
 
 -- the verdict of a report with this status
 zero_is : (failed : Bool) (verdict : Verdict) → report_status failed verdict ≡ 0 → verdict ≡ Unsatisfiable

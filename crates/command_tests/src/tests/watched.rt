@@ -1,0 +1,127 @@
+//! Runs that tell what goes on, on sinks of the tests' own.
+ghost use Rattle.std.specs.Prelude.{None, false};
+
+use super::{FOUR, assert_ends, same, shelf_of};
+use command::{WatchSinks, command_watched};
+use lrup_text::{Sink, WriteFault};
+use std::alloc::Global;
+use std::process::Abort;
+use std::sync::Wait;
+use std::sync::atomic::{AtomicU64, Ordering};
+use std::test::Fail;
+use std::thread::Threads;
+use std::time::Clock;
+use test_support::Paper;
+
+/// How many sinks were made, and how many lines and writes they took.
+#[derive(Drop)]
+pub(super) struct Told {
+    sinks: AtomicU64,
+    lines: AtomicU64,
+    writes: AtomicU64,
+}
+
+impl Told {
+    pub(super) fn new() -> Told {
+        Told {
+            sinks: AtomicU64::new(0),
+            lines: AtomicU64::new(0),
+            writes: AtomicU64::new(0),
+        }
+    }
+
+    fn counts(&self) -> (u64, u64, u64) {
+        let sinks = self.sinks.load(Ordering::SeqCst);
+        let lines = self.lines.load(Ordering::SeqCst);
+        (sinks, lines, self.writes.load(Ordering::SeqCst))
+    }
+}
+
+/// A sink that counts what it takes.
+#[derive(Clone, Copy)]
+pub(super) struct Ear<'a> {
+    pub(super) told: &'a Told,
+}
+
+impl Sink for Ear<'_> {
+    ghost written = { λ _. None };
+
+    ghost has_failed = { λ _. false };
+
+    fn write(&mut self, bytes: &[u8]) -> Result<usize, WriteFault> {
+        let lines = bytes.iter().filter(|byte| **byte == b'\n').count();
+        self.told.lines.fetch_add(lines as u64, Ordering::SeqCst);
+        self.told.writes.fetch_add(1, Ordering::SeqCst);
+        Ok(bytes.len())
+    }
+
+    fn failed(&self) -> bool {
+        false
+    }
+}
+
+impl<'a> WatchSinks for Ear<'a> {
+    type Watcher = Ear<'a>;
+
+    fn sink(&self) -> Ear<'a> {
+        self.told.sinks.fetch_add(1, Ordering::SeqCst);
+        *self
+    }
+}
+
+/// A stream that ends, and one with a bad line.
+const STREAMS: [&str; 2] = ["5 2 0 1 2 0\n", "6 6\n"];
+
+const REPORT: &str = "c stream 1: 1 added, 0 deleted, ended
+c stream 2: 0 added, 0 deleted, bad line 1 (spelling)
+s UNKNOWN
+";
+
+/// The words that are tried, and how many streams are watched.
+const WORDS: [(&[&str], u64); 4] = [
+    (&["f", "1", "2"], 0),
+    (&["--serial", "f", "1", "2"], 0),
+    (&["--watch", "f", "1", "2"], 2),
+    (&["--watch", "--serial", "f", "1", "2"], 2),
+];
+
+/// The run of these words ends as ever, and so many streams are told of, by one write each.
+fn tells<T: Threads + Wait + Sync + Clock + Abort>(
+    rt: &T,
+    alloc: Global,
+    words: &[&str],
+    watched: u64,
+) -> Result<(), Fail> {
+    let told = Told::new();
+    let mut files = shelf_of(alloc, FOUR, &STREAMS)?;
+    let mut out = Paper::new(alloc, 7, 0);
+    let mut err = Paper::new(alloc, 7, 0);
+    let ear = Ear { told: &told };
+    let status = command_watched(rt, rt, alloc, words, &mut files, &ear, &mut out, &mut err);
+    let wrote = (out.bytes.as_slice(), err.bytes.len(), status);
+    same(rt, (words, wrote), (words, (REPORT.as_bytes(), 0, 3)));
+    same(
+        rt,
+        (words, told.counts()),
+        (words, (watched, watched, watched)),
+    );
+    Ok(())
+}
+
+#[test]
+fn with_the_flag_each_stream_is_told_of(rt: HostRuntime) -> Result<(), Fail> {
+    for (words, watched) in WORDS {
+        tells(&rt, rt.alloc(), words, watched)?;
+    }
+    Ok(())
+}
+
+/// Without sinks of the caller's nothing is told, with the flag or without.
+#[test]
+fn without_sinks_nothing_is_told(rt: HostRuntime) -> Result<(), Fail> {
+    for (words, _watched) in WORDS {
+        let mut files = shelf_of(rt.alloc(), FOUR, &STREAMS)?;
+        assert_ends(&rt, rt.alloc(), words, &mut files, (REPORT, "", 3));
+    }
+    Ok(())
+}

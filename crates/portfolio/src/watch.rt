@@ -1,0 +1,195 @@
+//! The gates of streams that may be watched.
+use crate::report_text::{write_count, write_over, write_wait};
+use lrup_model::Id;
+use lrup_text::Sink;
+use std::time::{Clock, Instant};
+use stream_check::{Gate, Report};
+
+/// The clock is looked at after so many publishes: a power of two, so that no division is made.
+const PUBLISHES: u64 = 64;
+
+/// It is looked at again after so many attempts of a hint, likewise.
+const ATTEMPTS: u64 = 1_024;
+
+/// How long a hint is looked up before it is told, in seconds.
+const WAIT: u64 = 1;
+
+/// How long a stream adds clauses before their count is told, in seconds.
+const INTERVAL: u64 = 10;
+
+/// Tells of one stream, on its sink, what goes on. A clock that fails leaves out the lines that want the time; after a write that
+/// fails nothing more is told.
+// What it does is cold: a run that isn't watched has a test in its place, and no more.
+#[derive(Drop)]
+struct Teller<C: Clock + Drop, S: Sink + Drop> {
+    clock: C,
+    sink: S,
+    /// How many clauses were published.
+    added: u64,
+    /// When their count was told last, or the clock was looked at first.
+    counted: Option<Instant>,
+    /// When a hint was looked up again first. None where its waiting isn't told any more.
+    asked: Option<Instant>,
+}
+
+impl<C: Clock + Drop, S: Sink + Drop> Teller<C, S> {
+    /// One that tells on the sink, if there is one.
+    fn over(clock: C, sink: Option<S>) -> Option<Teller<C, S>> {
+        let sink = sink?;
+        Some(Teller {
+            clock,
+            sink,
+            added: 0,
+            counted: None,
+            asked: None,
+        })
+    }
+
+    /// The time, where the clock tells it.
+    fn now(&self) -> Option<Instant> {
+        Instant::now(&self.clock).ok()
+    }
+
+    /// Counts a clause, and tells at times how many there are.
+    #[cold]
+    #[inline(never)]
+    fn count(&mut self, stream: u64) {
+        self.added = self.added.saturating_add(1);
+        if self.added % PUBLISHES == 0 {
+            self.tell_count(stream);
+        }
+    }
+
+    /// Tells how many clauses the stream has added, where that is long ago.
+    fn tell_count(&mut self, stream: u64) {
+        let Some(now) = self.now() else {
+            return;
+        };
+        let Some(counted) = self.counted else {
+            self.counted = Some(now);
+            return;
+        };
+        if now.duration_since(counted).as_secs() < INTERVAL {
+            return;
+        }
+        self.counted = Some(now);
+        if !self.sink.failed() {
+            let _ = write_count(stream, self.added, &mut self.sink);
+        }
+    }
+
+    /// Takes the time of a hint's second attempt, and looks at the clock again at later ones.
+    #[cold]
+    #[inline(never)]
+    fn note_attempt(&mut self, stream: u64, id: Id, attempt: u64) {
+        if attempt == 2 {
+            self.asked = self.now();
+        } else if attempt % ATTEMPTS == 0 {
+            self.tell_wait(stream, id);
+        }
+    }
+
+    /// Tells that the stream waits for an identity, where it has for long enough.
+    fn tell_wait(&mut self, stream: u64, id: Id) {
+        let (Some(asked), Some(now)) = (self.asked, self.now()) else {
+            return;
+        };
+        if now.duration_since(asked).as_secs() < WAIT {
+            return;
+        }
+        self.asked = None;
+        if !self.sink.failed() {
+            let _ = write_wait(stream, id, &mut self.sink);
+        }
+    }
+
+    /// Tells that the stream is over, and how it is judged.
+    #[cold]
+    #[inline(never)]
+    fn tell_over(&mut self, stream: u64, report: &Report) {
+        if !self.sink.failed() {
+            let _ = write_over(stream, report, &mut self.sink);
+        }
+    }
+}
+
+/// A gate that tells on a sink, while a stream is checked, what goes on: that the stream is over, and how it is judged; that a hint
+/// has been looked up again for a second; and every ten seconds how many clauses were added, if there are more. For its waiting it
+/// holds another gate. Without a sink it is that gate: so a run has one type of gate, watched or not, and its checkers are compiled
+/// once, with what they call in place.
+#[derive(Drop)]
+pub struct Watch<G: Gate + Drop, C: Clock + Drop, S: Sink + Drop> {
+    gate: G,
+    teller: Option<Teller<C, S>>,
+}
+
+impl<G: Gate + Drop, C: Clock + Drop, S: Sink + Drop> Watch<G, C, S> {
+    /// The gate of one stream, before its first line. Without a sink nothing is told.
+    pub fn new(gate: G, clock: C, sink: Option<S>) -> Watch<G, C, S> {
+        Watch {
+            gate,
+            teller: Teller::over(clock, sink),
+        }
+    }
+}
+
+impl<G: Gate + Drop, C: Clock + Drop, S: Sink + Drop> Gate for Watch<G, C, S> {
+    #[inline]
+    fn before_fetch(&mut self, stream: u64, id: Id, attempt: u64) {
+        if attempt > 1 {
+            if let Some(teller) = &mut self.teller {
+                teller.note_attempt(stream, id, attempt);
+            }
+        }
+        self.gate.before_fetch(stream, id, attempt);
+    }
+
+    #[inline]
+    fn after_publish(&mut self, stream: u64, id: Id) {
+        if let Some(teller) = &mut self.teller {
+            teller.count(stream);
+        }
+        self.gate.after_publish(stream, id);
+    }
+
+    fn when_over(&mut self, stream: u64, report: &Report) {
+        if let Some(teller) = &mut self.teller {
+            teller.tell_over(stream, report);
+        }
+        self.gate.when_over(stream, report);
+    }
+}
+
+/// The gate of a stream that is checked by turns, and never waits, since no other stream publishes meanwhile. It tells likewise, but
+/// for the waits. A call before each fetch would cost each hint some instructions.
+#[derive(Drop)]
+pub struct TurnWatch<C: Clock + Drop, S: Sink + Drop> {
+    teller: Option<Teller<C, S>>,
+}
+
+impl<C: Clock + Drop, S: Sink + Drop> TurnWatch<C, S> {
+    /// The gate of one stream, before its first line. Without a sink nothing is told.
+    pub fn new(clock: C, sink: Option<S>) -> TurnWatch<C, S> {
+        TurnWatch {
+            teller: Teller::over(clock, sink),
+        }
+    }
+}
+
+impl<C: Clock + Drop, S: Sink + Drop> Gate for TurnWatch<C, S> {
+    #[inline]
+    fn before_fetch(&mut self, _stream: u64, _id: Id, _attempt: u64) {}
+
+    #[inline]
+    fn after_publish(&mut self, stream: u64, _id: Id) {
+        if let Some(teller) = &mut self.teller {
+            teller.count(stream);
+        }
+    }
+
+    fn when_over(&mut self, stream: u64, report: &Report) {
+        if let Some(teller) = &mut self.teller {
+            teller.tell_over(stream, report);
+        }
+    }
+}
