@@ -60,15 +60,11 @@ rows() {
         on { gsub(/^\| | \|$/, ""); print }'
 }
 rows README.md '| Status | Meaning |' | sed 's/ | / /' > "$work/readme-statuses"
-rows docs/USING.md '| Status | Meaning |' | sed 's/ | / /' > "$work/using-statuses"
 rows docs/USING.md '| Fault | Meaning | Usual cause |' | sed 's/ | .*/ /' > "$work/using-faults"
 rows README.md '| Option | Default | |' > "$work/readme-options"
-rows docs/USING.md '| Option | Meaning |' | sed 's/^\(--[a-z]*\)[^|]* | /\1 /' > "$work/using-options"
 
 agree 'options: help, manual page' "$work/help-options" "$work/manual-options"
-agree 'options: help, USING' "$work/help-options" "$work/using-options"
 agree 'statuses: README, manual page' "$work/readme-statuses" "$work/manual-statuses"
-begins 'statuses: README, USING' "$work/readme-statuses" "$work/using-statuses"
 begins 'faults: USING, manual page' "$work/using-faults" "$work/manual-faults"
 
 # Of each option README has the default, and sentences of the help, or what stands before a comma or a colon of one.
