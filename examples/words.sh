@@ -60,24 +60,22 @@ rows() {
         on { gsub(/^\| | \|$/, ""); print }'
 }
 rows README.md '| Status | Meaning |' | sed 's/ | / /' > "$work/readme-statuses"
-rows docs/USING.md '| Status | Meaning |' | sed 's/ | / /' > "$work/using-statuses"
 rows docs/USING.md '| Fault | Meaning | Usual cause |' | sed 's/ | .*/ /' > "$work/using-faults"
 rows README.md '| Option | Default | |' > "$work/readme-options"
-rows docs/USING.md '| Option | Meaning |' | sed 's/^\(--[a-z]*\)[^|]* | /\1 /' > "$work/using-options"
 
 agree 'options: help, manual page' "$work/help-options" "$work/manual-options"
-agree 'options: help, USING' "$work/help-options" "$work/using-options"
 agree 'statuses: README, manual page' "$work/readme-statuses" "$work/manual-statuses"
-begins 'statuses: README, USING' "$work/readme-statuses" "$work/using-statuses"
 begins 'faults: USING, manual page' "$work/using-faults" "$work/manual-faults"
 
-# Of each option README has the default, and sentences of the help.
-awk -F ' *[|] *' 'NR == FNR { split($0, word, " "); said[word[1]] = $0 " "; options++; next }
+# Of each option README has the default, and sentences of the help, or what stands before a comma or a colon of one.
+awk -F ' *[|] *' 'NR == FNR { split($0, word, " "); said[word[1]] = $0 " "; sub(/^[^ ]+ /, ". ", said[word[1]]); options++; next }
     { split($1, word, " "); name = word[1]; rows++
       if ($2 != "" && !index(said[name], ", default " $2 ". ")) { print name ": another default than " $2; bad = 1 }
-      count = split($3, sentence, /\. */)
-      for (i = 1; i < count; i++)
-          if (!index(said[name], " " sentence[i] ". ")) { print name ": not in the help: " sentence[i]; bad = 1 } }
+      count = split($3, sentence, /\. /)
+      for (i = 1; i <= count; i++) {
+          at = index(said[name], ". " sentence[i])
+          if (sentence[i] == "" || at == 0 || substr(said[name], at + 2 + length(sentence[i]), 2) !~ /^[.,:] $/) {
+              print name ": not in the help: " sentence[i]; bad = 1 } } }
     END { exit bad || rows == 0 || rows != options }' "$work/help-options" "$work/readme-options" ||
     { echo 'options: README, help: the words differ'; failed=1; }
 
