@@ -276,6 +276,8 @@ def refusals():
         ("an import after other numbers", FOUR, "9 2 0 1 2 0\n6 i -2 0\n", "line 2: an import, and", FIRST, ONE_OF_TWO),
         ("an import in DRUP", FOUR, "2 0\n6 i -2 0\n", "line 2: a step of LRAT text", FIRST, ONE_OF_TWO),
         ("a step without its end", FOUR, FIRST + "6 0 5 3 4\n", "line 2: ", FIRST, []),
+        ("a step that is cut", FOUR, FIRST + "6 0 5 3", "line 2: the proof ends within a step", FIRST, []),
+        ("a clause that is cut", FOUR, "2 0\n-1", "line 2: the proof ends within a step", FIRST, []),
         ("a deletion without its end", FOUR, FIRST + "6 d 5\n", "line 2: ", FIRST, []),
         ("three lists", FOUR, "5 2 0 1 2 0 3 0\n", "line 1: ", "", []),
         ("a word that is no number", FOUR, FIRST + "6 x 0 5 3 4 0\n", "line 2: ", FIRST, []),
@@ -309,6 +311,7 @@ def refusals_of_frat():
         ("FRAT, a line of LRAT", FOUR, late + "6 0 5 3 4 0\n", "line 6: ", FIRST, []),
         ("FRAT, hints without a letter", FOUR, late + "a 11 0 10 1 9 0\n", "line 6: ", FIRST, []),
         ("FRAT, hints without an end", FOUR, late + "a 11 0 l 10 1 9\n", "line 6: ", FIRST, []),
+        ("FRAT, a step that is cut", FOUR, late + "a 11 0 l 10 1", "line 6: the proof ends within a step", FIRST, []),
         ("FRAT, no identity", FOUR, late + "a\n", "line 6: ", FIRST, []),
         ("FRAT, a word that is no number", FOUR, late + "a 11 0 l 10 y 9 0\n", "line 6: ", FIRST, []),
     ]

@@ -33,7 +33,7 @@ typedef struct {
     uint64_t passed;                    // the bytes that came before the first of these
 } Input;
 
-typedef struct { unsigned char *start, *end; } Line;    // the byte at the end is LF
+typedef struct { unsigned char *start, *end; bool ends; } Line;    // the byte at the end is LF; one that ends has it in the file
 
 void input_open(Input *input, const char *path);        // NULL: standard input
 bool input_read(Input *input);
@@ -67,6 +67,7 @@ typedef struct {
 
 void words_read(Words *words, Line line);
 void words_check(const Words *words, size_t start, size_t end);     // stops where one is no number
+void words_check_whole(const Words *words, Line line);             // stops where the proof ends within a step
 bool line_is_text(Line line);
 
 // clauses.c: clauses in one row, by places in it, the names that the proof has for them, and deletion by literals.

@@ -53,6 +53,7 @@ void frat_run(Filter *filter, Input *input) {
         position_set("line", number);
         words_read(&words, line);
         if (words.numbers.length == 0 || words.numbers.items[0] == LETTER('c')) continue;
+        words_check_whole(&words, line);
         step(filter, &words);
     }
     grow(words.numbers.items, 0);

@@ -51,6 +51,7 @@ void text_run(Filter *filter, Input *input, Form form) {
         if (words.numbers.length == 0) continue;
         if (words.numbers.items[0] == LETTER('c') || words.numbers.items[0] == LETTER('o')) continue;
         if (words.garbled && !line_is_text(line)) stop("not text: say the form of a binary proof with --format");
+        words_check_whole(&words, line);
         step(filter, &words, &line, &form);
     }
     grow(words.numbers.items, 0);

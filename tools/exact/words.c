@@ -116,6 +116,11 @@ void words_check(const Words *words, size_t start, size_t end) {
     }
 }
 
+// Each step ends with 0.
+void words_check_whole(const Words *words, Line line) {
+    if (!line.ends && words->numbers.items[words->numbers.length - 1] != 0) stop("the proof ends within a step");
+}
+
 bool line_is_text(Line line) {
     for (unsigned char *at = line.start; at < line.end; at++)
         if (*at == 0 || *at > 127) return false;
