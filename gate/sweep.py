@@ -82,7 +82,7 @@ class Machine:
             except subprocess.TimeoutExpired:
                 answer = Answer(None, "", f"no end in {limit} seconds")
         if "--watch" in words:
-            answer = without_told_ends(answer)
+            answer = without_told_ends(answer, refuse)
         return answer, self.mark.exists(), time.monotonic() - began
 
     @functools.cache
@@ -97,14 +97,15 @@ class Machine:
         return answer._replace(out=re.sub(ended, rf"\1, read failed at line {line}\n", answer.out))
 
 
-def without_told_ends(answer):
-    """Without the lines that tell how each stream ended, where they say what the report does; one that is cut may say less."""
+def without_told_ends(answer, refuse):
+    """Without the lines that tell how each stream ended, where they say what the report does; else no answer. A report that is cut
+    may say less, and so may what is told where a write fails."""
     lines = answer.err.splitlines(keepends=True)
     told = {line for line in lines if line.startswith("lrupd: stream ")}
     reported = {re.sub("^c", "lrupd:", line) for line in answer.out.splitlines(keepends=True) if line.startswith("c stream ")}
-    if told == reported or answer.status == 7 and told > reported:
+    if told == reported or answer.status == 7 and told > reported or refuse.startswith("write") and told < reported:
         return answer._replace(err="".join(line for line in lines if line not in told))
-    return answer
+    return Answer(None, answer.out, f"told {sorted(told)}")
 
 
 def is_cut(answer, ample):
@@ -196,7 +197,7 @@ def sweep(machine, given, kind, how):
             wrong.append(f"{given.name}, {refuse}, {seconds:.1f} s: {answer}")
         if number == MOST:
             return number, [*wrong, f"{given.name}, more calls than may be: {refuse}"]
-    if answer != ample:
+    if answer != ample or answer.status is None:
         wrong.append(f"{given.name}, nothing refused: {answer}")
     if number == 1 and are_due(kind, ample, given):
         wrong.append(f"{given.name}, nothing of this kind is ever refused: {refuse}")
