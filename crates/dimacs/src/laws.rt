@@ -25,6 +25,6 @@ pub fn one_fault()
 
 /// No text is that of two formulas: the order of the literals is fixed too.
 pub fn one_formula()
-    ensures { (bytes : List ℕ) (one other : Cnf) → IsFormulaText bytes one → IsFormulaText bytes other
-        → one ≡ other }
+    ensures { (bytes : List ℕ) (one other : Cnf)
+        → IsFormulaText bytes one → IsFormulaText bytes other → one ≡ other }
 {}

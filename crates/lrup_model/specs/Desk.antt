@@ -35,8 +35,8 @@ pub record PlainDeskMoves (old new : PlainDesk) (es : History) : Type 0 where
 pub plain_desk_none : (d : PlainDesk) → PlainDeskMoves d d []
 plain_desk_none d = record { same = refl; index = refl; moves = plain_moves_none (map_of d) (stream_at d) }
 
-pub plain_desk_append : (a b c : PlainDesk) (es fs : History) → PlainDeskMoves a b es → PlainDeskMoves b c fs
-    → PlainDeskMoves a c (es ++ fs)
+pub plain_desk_append : (a b c : PlainDesk) (es fs : History)
+    → PlainDeskMoves a b es → PlainDeskMoves b c fs → PlainDeskMoves a c (es ++ fs)
 plain_desk_append a b c es fs h k = record {
   same = k.same ∙ h.same;
   index = k.index ∙ h.index;

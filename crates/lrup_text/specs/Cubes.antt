@@ -69,14 +69,15 @@ IsCubeFault vars bytes Spelling = IsTextFault IsCubeLine bytes Spelling
 IsCubeFault vars bytes TooLong = IsTextFault IsCubeLine bytes TooLong
 IsCubeFault vars bytes Range =
     (literals : List ℤ) × IsLiteralsText literals bytes × ¬ IsCubeOver vars literals
-IsCubeFault vars bytes Memory = (literals : List ℤ) × IsLiteralsText literals bytes × IsCubeOver vars literals
+IsCubeFault vars bytes Memory =
+    (literals : List ℤ) × IsLiteralsText literals bytes × IsCubeOver vars literals
 
 -- Laws
 
 -- the text of literals is no misspelled one, and none that is too long
 abbrev pub TextHasNoFault : Type 0
-TextHasNoFault = (literals : List ℤ) (bytes : List ℕ) (fault : CubeFault) → IsLiteralsText literals bytes
-    → ¬ IsTextFault IsCubeLine bytes fault
+TextHasNoFault = (literals : List ℤ) (bytes : List ℕ) (fault : CubeFault)
+    → IsLiteralsText literals bytes → ¬ IsTextFault IsCubeLine bytes fault
 
 -- the text of a cube over variables of at most 18 digits is a text of its literals
 abbrev pub CubeTextIsRead : Type 0

@@ -37,5 +37,6 @@ ReaderLeaves old piece (Fault fault) new = new ≡ Err fault
 -- what the end of the stream is, and the reader after it
 abbrev pub ReaderEnds : ReaderState → End → ReaderState → Type 0
 ReaderEnds old ends.Clean new = (old ≡ Ok []) × (new ≡ old)
-ReaderEnds (Ok read) (ends.Fault fault) new = ¬ (read ≡ []) × (fault ≡ Truncated) × (new ≡ Err fault)
+ReaderEnds (Ok read) (ends.Fault fault) new =
+    ¬ (read ≡ []) × (fault ≡ Truncated) × (new ≡ Err fault)
 ReaderEnds (Err given) (ends.Fault fault) new = (fault ≡ given) × (new ≡ Err given)

@@ -71,7 +71,8 @@ pending_at places.Literal m =
 pending_at places.List m = list_front m.deletes m.lead (literals_read m)
 pending_at places.Item m = item_front m ++ space ∷ []
 pending_at places.Number m = item_front m ++ space ∷ decimal m.number
-pending_at places.LineEnd m = end_front m.imports m.deletes m.lead (literals_read m) (identities_read m)
+pending_at places.LineEnd m =
+    end_front m.imports m.deletes m.lead (literals_read m) (identities_read m)
 
 abbrev pub pending : PartialLine → List ℕ
 pending m = pending_at m.place m
@@ -123,7 +124,8 @@ pub record FitsDigits (number digits : ℕ) : Type 0 where
 -- what is kept between two bytes
 pub record IsPartialLine (m : PartialLine) : Type 0 where
   pub room : HasRoom m.literals.items m.identities.items
-  pub kept : CanStandInLine m.lead m.literals.items m.literal_count m.identities.items m.identity_count
+  pub kept : CanStandInLine m.lead m.literals.items m.literal_count
+      m.identities.items m.identity_count
   pub number : FitsDigits m.number m.digits
   pub roomy : IsRoomy m.place m
   pub tracks : Tracks (pending m) (spot_at m.place m)

@@ -108,7 +108,8 @@ SharedStays = (f : Cnf) (terms : Terms) (set : ℕ → Bool) (h : History) (stre
 -- what the lines of some bytes cite or delete, those of all bytes that begin with them do
 abbrev pub BeginningsCite : Type 0
 BeginningsCite = (bytes more : List ℕ) (id : ℕ)
-    → (Cites bytes id → Cites (bytes ++ more) id) × (SomeLineDeletes bytes id → SomeLineDeletes (bytes ++ more) id)
+    → (Cites bytes id → Cites (bytes ++ more) id)
+    × (SomeLineDeletes bytes id → SomeLineDeletes (bytes ++ more) id)
 
 -- So where the streams keep what they share in all bytes that their readers have left at first, they keep it in those that were
 -- needed.

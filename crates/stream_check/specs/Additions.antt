@@ -20,8 +20,8 @@ AtConflict [] published es v = (es ≡ published ∷ []) × (v ≡ Good)
 AtConflict (h ∷ hints) published es v = Fails (faults.Excess h) es v
 
 -- what a found clause does: a conflict, one more false literal for the hints that are left, or neither
-abbrev pub AtClause : List ℤ → Clause → ℕ → List ℕ → Event → History → LineVerdict → (List ℤ → Type 0)
-    → Type 0
+abbrev pub AtClause : List ℤ → Clause → ℕ → List ℕ → Event → History → LineVerdict
+    → (List ℤ → Type 0) → Type 0
 AtClause n d h hints published es v Next =
     (IsConflict n d × AtConflict hints published es v)
     ⊎ (((l : ℤ) × IsUnit n d l × Next (n ++ neg_ℤ l ∷ []))
@@ -35,7 +35,8 @@ AtReply (events.live d) n h hints published es v Next = AtClause n d h hints pub
 AtReply events.retired n h hints published es v Next = Fails (faults.Retired h) es v
 
 -- The hints one after the other, where n are the literals that are false: each is first sought among the dropped ones, then fetched, then tried.
-abbrev pub JudgesHints : Setting → (ℕ → Bool) → Event → List ℤ → List ℕ → History → LineVerdict → Type 0
+abbrev pub JudgesHints : Setting → (ℕ → Bool) → Event → List ℤ → List ℕ → History → LineVerdict
+    → Type 0
 JudgesHints c gone published n [] es v = Fails faults.NoConflict es v
 JudgesHints c gone published n (h ∷ hints) es v =
     Test (gone h ≡ false) (faults.Dropped h) es v
@@ -47,7 +48,8 @@ abbrev pub published_by : Setting → ℕ → List ℤ → Event
 published_by c id lits = events.publish c.stream id (distinct lits) publishing.Done
 
 -- an addition's events and its verdict, after the lines that left this standing
-abbrev pub JudgesAddition : Setting → Standing → ℕ → List ℤ → List ℕ → History → LineVerdict → Type 0
+abbrev pub JudgesAddition : Setting → Standing → ℕ → List ℤ → List ℕ → History → LineVerdict
+    → Type 0
 JudgesAddition c st id lits hints es v =
     Test (Owns c.layout c.stream id × (st.last < id)) faults.Identity es v
     (Test (AllByRecursion (λ l. nat_abs l ≤ c.layout.vars) lits) faults.Literal es v

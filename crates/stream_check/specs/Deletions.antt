@@ -41,7 +41,8 @@ DeletesAt foreign c gone earlier id es v Next = DropsThen gone earlier id es v N
 DeletesAt outside c gone earlier id es v Next = FailsAt earlier id es v
 
 -- a deletion's events and its verdict, where some of its identities were taken earlier
-abbrev pub JudgesIdentities : Setting → (ℕ → Bool) → List ℕ → List ℕ → History → LineVerdict → Type 0
+abbrev pub JudgesIdentities : Setting → (ℕ → Bool) → List ℕ → List ℕ → History → LineVerdict
+    → Type 0
 JudgesIdentities c gone earlier [] es v = (es ≡ []) × (v ≡ Good)
 JudgesIdentities c gone earlier (id ∷ ids) es v =
     DeletesAt (side_of c id) c gone earlier id es v

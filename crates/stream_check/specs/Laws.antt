@@ -211,8 +211,8 @@ EarlyEvents = (c : Setting) (st : Standing) (line : StreamLine) (es front : Hist
 
 -- in a line a vacant fetch is the last event, or the same identity is fetched again
 abbrev pub VacantTriesAgain : Type 0
-VacantTriesAgain = (c : Setting) (st : Standing) (line : StreamLine) (es : History) (v : LineVerdict)
-    → JudgesLine c st line es v → TriesAgain es
+VacantTriesAgain = (c : Setting) (st : Standing) (line : StreamLine) (es : History)
+    (v : LineVerdict) → JudgesLine c st line es v → TriesAgain es
 
 -- a line without the vacant fetches of the hints that it found is judged alike
 abbrev pub ReducedLine : Type 0
