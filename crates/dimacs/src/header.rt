@@ -34,7 +34,7 @@ fn skip_separators(line: &[u8]) -> &[u8]
 
 /// The bytes before the next separator, and those from it on.
 fn split_run(text: &[u8]) -> (&[u8], &[u8])
-    ensures first_run { result.0.now ≡ first_run text.now }
+    ensures run { result.0.now ≡ first_run text.now }
     ensures after { result.1.now ≡ after_run text.now }
 {
     let mut end = 0;
