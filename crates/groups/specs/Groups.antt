@@ -25,6 +25,17 @@ AreClosedReaders p set told =
     (s : ℕ) (telling : Telling) → IsTrue (set s) → IsOfStream told s telling
     → (bytes : List ℕ) × (telling.entry ≡ Some bytes) × CiteWithin p set bytes
 
+-- Readings
+
+-- one reading of a stream that has these bytes and this end: all of it, or a beginning after which no more was needed
+abbrev pub IsReadingTo : Stop → List ℕ → List ℕ → StreamEnd → Type 0
+IsReadingTo at_end bytes whole end = (whole ≡ bytes) × (end ≡ ended)
+IsReadingTo at_failure bytes whole end = (whole ≡ bytes) × (end ≡ failed)
+IsReadingTo (early unneeded) bytes whole end = (more : List ℕ) × (whole ≡ bytes ++ more)
+
+abbrev pub IsReadingOf : List ℕ → StreamEnd → Stream → Type 0
+IsReadingOf whole end stream = IsReadingTo stream.stop stream.bytes whole end
+
 -- Groups
 
 -- no report of the set tells that memory ran out
@@ -53,6 +64,30 @@ AreIsolated f terms told Judged reports =
     (streams : List Stream) → AreTold told streams → Judged streams
     → (set : ℕ → Bool) → IsClosed terms.layout set streams → NoneOutOfMemory set reports
     → IsGroup f terms set streams reports
+
+-- a report that stream s may have alone, where these are its bytes and its end
+pub record IsReportAlone (f : Cnf) (terms : Terms) (s : ℕ) (whole : List ℕ) (end : StreamEnd)
+    (report : Report) : Type 0 where
+  pub streams : List Stream
+  pub reports : List Report
+  pub stream : Stream
+  pub alone : IsAlone f terms s streams reports
+  pub at : IsOfStream streams s stream
+  pub reads : IsReadingOf whole end stream
+  pub says : IsOfStream reports s report
+
+-- Each stream that is a closed set by itself, and whose report doesn't tell that memory ran out, has the one report that it may
+-- have alone: for every list of streams that the readers told and by which they are judged, and for all bytes and any end of
+-- which the stream is a reading, every report that it may have alone with these bytes and this end is its report.
+abbrev pub HaveReportsAlone : Cnf → Terms → List Telling → (List Stream → Type 0) → List Report
+    → Type 0
+HaveReportsAlone f terms told Judged reports =
+    (streams : List Stream) → AreTold told streams → Judged streams
+    → (s : ℕ) (stream : Stream) (report : Report)
+    → IsOfStream streams s stream → IsOfStream reports s report
+    → IsClosed terms.layout (one s) streams → ¬ IsOfMemory report
+    → (whole : List ℕ) (end : StreamEnd) → IsReadingOf whole end stream
+    → (other : Report) → IsReportAlone f terms s whole end other → other ≡ report
 
 -- A run in which the other streams are empty
 
@@ -87,12 +122,3 @@ pub record IsRun (f : Cnf) (terms : Terms) (told : List Telling)
   pub history : History
   pub legal : IsLegal f terms.layout history
   pub judged : AreJudgedIn terms (λ s. true) history 1 streams reports
-
--- one reading of a stream that has these bytes and this end: all of it, or a beginning after which no more was needed
-abbrev pub IsReadingTo : Stop → List ℕ → List ℕ → StreamEnd → Type 0
-IsReadingTo at_end bytes whole end = (whole ≡ bytes) × (end ≡ ended)
-IsReadingTo at_failure bytes whole end = (whole ≡ bytes) × (end ≡ failed)
-IsReadingTo (early unneeded) bytes whole end = (more : List ℕ) × (whole ≡ bytes ++ more)
-
-abbrev pub IsReadingOf : List ℕ → StreamEnd → Stream → Type 0
-IsReadingOf whole end stream = IsReadingTo stream.stop stream.bytes whole end

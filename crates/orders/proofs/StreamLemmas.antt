@@ -22,7 +22,7 @@ use Rattle.runs.specs.Headline.{IsJudgedBy, AreJudgedIn}
 use Rattle.runs.specs.Closed.{IsOfStream, IsOwnedWithin, CiteWithin}
 use Rattle.runs.specs.StreamLemmas.{told_count}
 use Rattle.orders.specs.Lines.{IsOrder}
-use Rattle.orders.specs.Laws.{JudgedBlocks, LinesOrdered, ClosedOrdered, AllClosed, RunSerializable}
+use Rattle.orders.specs.Laws.{JudgedBlocks, LinesOrdered, ClosedOrdered, AllClosed, AllOrdered, RunSerializable}
 use Rattle.orders.proofs.OrderLemmas.{streams_in, streams_are, are_streams, own_each}
 
 -- One stream's blocks
@@ -290,7 +290,10 @@ judged_members terms set h s (stream ∷ streams) [] judged = absurd judged
 judged_members terms set h s (stream ∷ streams) (report ∷ reports) judged =
     ((λ member. judged.0 refl), judged_members terms set h (s + 1) streams reports judged.1)
 
-pub run_serializable : ClosedOrdered → RunSerializable
-run_serializable closed_ordered f terms h passes told reports fits count one streams are_told judged set closed stays =
-    closed_ordered f terms set h streams reports fits (told_count told streams are_told ∙ count) one.legal
-    (judged_members terms set h 1 streams reports judged) closed stays
+pub run_serializable : ClosedOrdered → AllOrdered → RunSerializable
+run_serializable closed_ordered all_ordered f terms h passes told reports fits count one streams are_told judged =
+    let many = told_count told streams are_told ∙ count in (
+      (λ set closed stays. closed_ordered f terms set h streams reports fits many one.legal
+      (judged_members terms set h 1 streams reports judged) closed stays),
+      (λ stays. all_ordered f terms h streams reports fits many one.legal judged stays),
+    )

@@ -287,8 +287,10 @@ all_ordered law closed_ordered all_closed f terms h streams reports fits count l
     let order : IsOrdered f terms (λ s. true) streams reports
     = closed_ordered f terms (λ s. true) h streams reports fits count legal judged (all_closed terms.layout streams) stays in (
       order,
-      reports_tell law terms order.blocks publishes_empty adds_empty (λ report. report.empty) (λ s. empty_tells (setting_of terms s))
-          streams reports count order.within order.judged,
-      reports_tell law terms order.blocks (publishes_within terms.cube) (adds_within terms.cube) (λ report. report.within) (λ s. within_tells (setting_of terms s))
-          streams reports count order.within order.judged,
+      record {
+        empty = reports_tell law terms order.blocks publishes_empty adds_empty (λ report. report.empty) (λ s. empty_tells (setting_of terms s))
+            streams reports count order.within order.judged;
+        within = reports_tell law terms order.blocks (publishes_within terms.cube) (adds_within terms.cube) (λ report. report.within) (λ s. within_tells (setting_of terms s))
+            streams reports count order.within order.judged;
+      },
     )

@@ -1,10 +1,10 @@
 -- Laws of the order of lines. Each is the contract of a function of laws.
 use Rattle.std.specs.Prelude.{◌≡◌, ◌↔◌, ◌++◌, ℕ, Bool, true, IsTrue, List, length}
-use Rattle.std.specs.List.{AllByRecursion, list_any}
+use Rattle.std.specs.List.{AllByRecursion}
 use Rattle.lrup_model.specs.Formula.{Cnf}
 use Rattle.lrup_model.specs.Layout.{LayoutValue, Fits, IsStream}
 use Rattle.lrup_model.specs.Event as events
-use Rattle.lrup_model.specs.Event.{Event, History, own, publishes_empty}
+use Rattle.lrup_model.specs.Event.{Event, History, own}
 use Rattle.lrup_model.specs.State.{state}
 use Rattle.lrup_model.specs.History.{IsLegal}
 use Rattle.lrup_model.specs.Pass.{View}
@@ -17,9 +17,9 @@ use Rattle.stream_check.specs.Judging.{joined, StreamEnd, JudgesBlocks}
 use Rattle.runs.specs.Streams.{Stream, Block, events_in, Telling, Terms, AreTold, IsOrdered}
 use Rattle.runs.specs.Headline.{HaveOneHistory, AreJudgedIn}
 use Rattle.runs.specs.Closed.{IsClosed}
-use Rattle.orders.specs.Lines.{IsLineBlock, IsOrder, publishes_within}
+use Rattle.orders.specs.Lines.{IsLineBlock, IsOrder}
 use Rattle.orders.specs.Premises.{FindsKept, FoundStays, FindsUnretired, OwnersAloneMeetRetired, Cites, SomeLineDeletes, KeepShared, ReadersKeepShared}
-use Rattle.orders.specs.Serializable.{IsSerializable}
+use Rattle.orders.specs.Serializable.{ComeToVerdict, IsSerializable}
 
 -- The lines of a stream
 
@@ -79,10 +79,7 @@ AllOrdered = (f : Cnf) (terms : Terms) (h : History) (streams : List Stream) (re
     → IsLegal f terms.layout h → AreJudgedIn terms (λ s. true) h 1 streams reports
     → FoundStays f terms.layout (λ s. true) h
     → (order : IsOrdered f terms (λ s. true) streams reports)
-    × (list_any (λ report. report.empty) reports ≡ list_any publishes_empty
-    (events_in order.blocks))
-    × (list_any (λ report. report.within) reports ≡ list_any (publishes_within terms.cube)
-    (events_in order.blocks))
+    × ComeToVerdict terms.cube (events_in order.blocks) reports
 
 -- The premise
 

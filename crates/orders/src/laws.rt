@@ -98,4 +98,5 @@ pub fn run_serializable()
     ensures { RunSerializable }
 {
     closed_ordered();
+    all_ordered();
 }
