@@ -8,7 +8,7 @@ ghost use Rattle.lrup_model.specs.Layout.{IsStream};
 ghost use Rattle.lrup_model.specs.Plain.{PlainMoves, free_at, plain_place};
 ghost use Rattle.stream_check.specs.Checker.{IsReadyAt};
 ghost use Rattle.stream_check.specs.Judging.{joined};
-ghost use Rattle.groups.specs.Groups.{AreIsolated};
+ghost use Rattle.groups.specs.Groups.{AreIsolated, HaveReportsAlone};
 ghost use Rattle.portfolio.specs.Outcomes.{IsLayoutFault, layout_of, terms_of, verdict_of};
 ghost use Rattle.stream_check.specs.Setting.{max_tries};
 ghost use Rattle.lrup_text.specs.ReadOut.{source_view};
@@ -20,7 +20,7 @@ ghost use Rattle.portfolio.specs.Working.{WorksOn};
 use crate::options::Options;
 use crate::outcome::{RunFault, SerialOutcome, Verdict};
 use crate::worker::Worker;
-use groups::laws::serial_isolated;
+use groups::laws::{isolated_alone, serial_isolated};
 use lrup_model::{Cube, Formula, Layout, PlainMap};
 use lrup_text::Source;
 use std::alloc::{AllocError, Global};
@@ -45,7 +45,7 @@ pub fn run_serial<W: Wait, R: Source + Drop, G: Gate + Drop>(
     requires running { AllByRecursion (λ r. R.has_failed r ≡ false) readers.items }
     // `Layout` is answered exactly where these numbers have no layout, whatever is read.
     ensures layout { IsLayoutFault result (layout_of options formula.now (length readers.items)) }
-    ensures alone { (stream : ℕ) → result ≢ Err (RunFault.Spawn stream) }
+    ensures no_spawn { (stream : ℕ) → result ≢ Err (RunFault.Spawn stream) }
     ensures no_ring { (stream : ℕ) → result ≢ Err (RunFault.Ring stream) }
     // Each stream is what its reader told, and what the reader's reads gave, and the reports have an
     // order of lines.
@@ -61,6 +61,12 @@ pub fn run_serial<W: Wait, R: Source + Drop, G: Gate + Drop>(
         (tellings (source_view R.left R.has_failed R.reads) readers.items outcome.readers.items)
         (λ streams. IsOrdered formula.now terms (λ s. true) streams outcome.reports.items)
         outcome.reports.items) }
+    // A stream that is a closed set by itself has the one report that it may have alone.
+    ensures alone { let terms = terms_of options cube.now formula.now (length readers.items) in
+        IfOk result (λ outcome. HaveReportsAlone formula.now terms
+        (tellings (source_view R.left R.has_failed R.reads) readers.items outcome.readers.items)
+        (λ streams. IsOrdered formula.now terms (λ s. true) streams outcome.reports.items)
+        outcome.reports.items) }
     ensures verdict { IfOk result (λ outcome.
         outcome.verdict ≡ verdict_of outcome.reports.items) }
     // What a user relies on.
@@ -70,6 +76,7 @@ pub fn run_serial<W: Wait, R: Source + Drop, G: Gate + Drop>(
         → IsUnsatisfiableUnder formula.now cube.now) }
 {
     serial_isolated();
+    isolated_alone();
     let layout = options.layout(formula, readers.len())?;
     let mut map = PlainMap::open(alloc, formula, &layout)?;
     let mut workers = workers_of(alloc, &layout, cube, options.tries(), readers, gates)?;

@@ -11,13 +11,13 @@ ghost use Rattle.runs.specs.Readings.{AreRead};
 ghost use Rattle.runs.specs.Headline.{AreJudgedIn, HaveOneHistory, WereJudged, seen_by};
 ghost use Rattle.portfolio.specs.Outcomes.{IsLayoutFault, layout_of, terms_of, verdict_of};
 ghost use Rattle.runs.specs.Streams.{IsReadOut, StandsOnStreams, tellings};
-ghost use Rattle.groups.specs.Groups.{AreIsolated};
+ghost use Rattle.groups.specs.Groups.{AreIsolated, HaveReportsAlone};
 ghost use Rattle.orders.specs.Serializable.{IsSerializable};
 
 use crate::options::Options;
 use crate::outcome::{Outcome, RunFault, Verdict};
 use clause_store::{Pass, Store};
-use groups::laws::run_isolated;
+use groups::laws::{isolated_alone, run_isolated};
 use lrup_model::{Cube, Formula};
 use lrup_text::Source;
 use orders::laws::run_serializable;
@@ -73,8 +73,14 @@ pub fn run<T: Threads + Wait + Sync, R: Source + Send + Drop, G: Gate + Send + D
         (tellings (source_view R.left R.has_failed R.reads) readers.items outcome.readers.items)
         (λ streams. AreJudgedIn terms (λ s. true) (seen_by (views outcome.passes.items)) 1
         streams outcome.reports.items) outcome.reports.items) }
+    // A stream that is a closed set by itself has the one report that it may have alone.
+    ensures alone { let terms = terms_of options cube.now formula.now (length readers.items) in
+        IfOk result (λ outcome. HaveReportsAlone formula.now terms
+        (tellings (source_view R.left R.has_failed R.reads) readers.items outcome.readers.items)
+        (λ streams. AreJudgedIn terms (λ s. true) (seen_by (views outcome.passes.items)) 1
+        streams outcome.reports.items) outcome.reports.items) }
     // The lines are serializable: those of each closed set of streams have an order, where what
-    // they found live of one another isn't left retired.
+    // they found live of one another isn't left retired; and all together have the verdict.
     ensures serializable { let terms = terms_of options cube.now formula.now
         (length readers.items) in
         IfOk result (λ outcome. IsSerializable formula.now terms
@@ -89,6 +95,7 @@ pub fn run<T: Threads + Wait + Sync, R: Source + Send + Drop, G: Gate + Send + D
         → IsUnsatisfiableUnder formula.now cube.now) }
 {
     run_isolated();
+    isolated_alone();
     run_serializable();
     let layout = options.layout(formula, readers.len())?;
     let (store, passes) = Store::open(alloc, formula, layout)?;

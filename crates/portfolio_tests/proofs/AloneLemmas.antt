@@ -19,12 +19,12 @@ use Rattle.portfolio.specs.Outcomes.{OptionsValue, terms_of}
 use Rattle.runs.specs.StreamLemmas.{same_at}
 use Rattle.lrup_text.specs.ReadOut.{SourceView}
 use Rattle.runs.specs.Readings.{AreRead}
-use Rattle.runs.specs.Streams.{Stream, Telling, telling_of, tellings, AreTold}
+use Rattle.runs.specs.Streams.{Stream, Telling, Terms, telling_of, tellings, AreTold}
 use Rattle.runs.specs.Closed.{IsOfStream, IsOwnedWithin, CiteWithin}
-use Rattle.groups.specs.Groups.{one, AreIsolated}
-use Rattle.groups.specs.Laws.{ReadersClosed, ToldIsReading, AloneHasOneReport}
+use Rattle.groups.specs.Groups.{one, AreIsolated, HaveReportsAlone}
+use Rattle.groups.specs.Laws.{ReadersClosed, ToldIsReading}
 use Rattle.test_support.specs.Worked.{four}
-use Rattle.portfolio_tests.specs.Alone.{first_bytes, usual, layout_of_two, two_terms, IsReportAlone}
+use Rattle.portfolio_tests.specs.Alone.{first_bytes, usual, layout_of_two, two_terms, IsOnlyReport}
 
 -- Places
 
@@ -55,52 +55,50 @@ first_told view (first ∷ firsts) (last ∷ lasts) (stream ∷ streams) bytes r
 first_told view _ _ _ bytes read entry fine = absurd read
 
 -- the terms of such a run are those of two streams over the four clauses
-pub of_two : (options : OptionsValue) (cube : CubeValue) (f : Cnf) (count : ℕ) (told : List Telling)
-    (Judged : List Stream → Type 0) (reports : List Report)
-    → options ≡ usual → cube ≡ [] → f ≡ four → count ≡ 2
-    → AreIsolated f (terms_of options cube f count) told Judged reports → AreIsolated four two_terms told Judged reports
-of_two options cube f count told Judged reports same none formula two isolated =
-    subst (λ n. AreIsolated four (terms_of usual [] four n) told Judged reports) two
-    (subst (λ g. AreIsolated g (terms_of usual [] g count) told Judged reports) formula
-    (subst (λ k. AreIsolated f (terms_of usual k f count) told Judged reports) none
-    (subst (λ o. AreIsolated f (terms_of o cube f count) told Judged reports) same isolated)))
+pub of_two : (Holds : Cnf → Terms → Type 0) (options : OptionsValue) (cube : CubeValue) (f : Cnf) (count : ℕ)
+    → options ≡ usual → cube ≡ [] → f ≡ four → count ≡ 2 → Holds f (terms_of options cube f count) → Holds four two_terms
+of_two Holds options cube f count same none formula two holds =
+    subst (λ n. Holds four (terms_of usual [] four n)) two
+    (subst (λ g. Holds g (terms_of usual [] g count)) formula
+    (subst (λ k. Holds f (terms_of usual k f count)) none
+    (subst (λ o. Holds f (terms_of o cube f count)) same holds)))
 
--- A report of stream 1 is one that it may have alone, where the reports of the run are isolated.
+-- A report of stream 1 is the one that it may have alone, by what a run promises.
 pub report_alone : ReadersClosed → ToldIsReading → {S : Type 0} (view : SourceView S) (firsts lasts : List S) (bytes : List ℕ)
     (Judged : List Stream → Type 0) (reports : List Report) (report : Report) (streams : List Stream)
     → AreIsolated four two_terms (tellings view firsts lasts) Judged reports
+    → HaveReportsAlone four two_terms (tellings view firsts lasts) Judged reports
     → AreTold (tellings view firsts lasts) streams → AreRead S view.reads firsts lasts streams → Judged streams
     → CiteWithin layout_of_two (one 1) bytes
     → IsOfStream (map view.left firsts) 1 (Some bytes) → IsOfStream (map view.has_failed lasts) 1 false
-    → IsOfStream reports 1 report → ¬ IsOfMemory report → IsReportAlone bytes report
-report_alone closes reads view firsts lasts bytes Judged reports report streams isolated told read judged cites entry fine says memory =
+    → IsOfStream reports 1 report → ¬ IsOfMemory report → IsOnlyReport bytes report
+report_alone closes reads view firsts lasts bytes Judged reports report streams isolated only told read judged cites entry fine says memory =
     let tells = tellings view firsts lasts in
     let first = first_told view firsts lasts streams bytes read entry fine in
+    let closed = closes layout_of_two (one 1) tells streams told
+    (λ s other member at.
+    let same = same_at tells 1 other first.telling (subst (λ n. IsOfStream tells n other) (only_one s member) at) first.telling_at in
+    (bytes, ap (λ (t : Telling). t.entry) same ∙ first.entry, cites)) in
+    let is_reading = reads tells streams 1 first.telling first.stream bytes told first.telling_at first.at first.entry first.running in
     record {
-      streams = streams;
-      reports = reports;
-      stream = first.stream;
-      alone = isolated streams told judged (one 1)
-          (closes layout_of_two (one 1) tells streams told
-          (λ s other member at.
-          let same = same_at tells 1 other first.telling (subst (λ n. IsOfStream tells n other) (only_one s member) at) first.telling_at in
-          (bytes, ap (λ (t : Telling). t.entry) same ∙ first.entry, cites)))
-          (λ s other member at. subst (λ r. ¬ IsOfMemory r)
-          (same_at reports 1 report other says (subst (λ n. IsOfStream reports n other) (only_one s member) at)) memory);
-      at = first.at;
-      reads = reads tells streams 1 first.telling first.stream bytes told first.telling_at first.at first.entry first.running;
-      says = says;
+      alone = record {
+        streams = streams;
+        reports = reports;
+        stream = first.stream;
+        alone = isolated streams told judged (one 1) closed
+            (λ s other member at. subst (λ r. ¬ IsOfMemory r)
+            (same_at reports 1 report other says (subst (λ n. IsOfStream reports n other) (only_one s member) at)) memory);
+        at = first.at;
+        reads = is_reading;
+        says = says;
+      };
+      only = only streams told judged 1 first.stream report first.at says closed memory bytes ended is_reading;
     }
 
 -- two facts of a value that is there give a third
 pub if_both : {T E : Type 0} {A B C : T → Type 0} (result : Result T E) → IfOk result A → IfOk result B → ((x : T) → A x → B x → C x) → IfOk result C
 if_both (Ok x) a b gives = gives x a b
 if_both (Err e) a b gives = tt
-
--- Two such reports are equal.
-pub reports_alike : AloneHasOneReport → (bytes : List ℕ) (report other : Report) → IsReportAlone bytes report → IsReportAlone bytes other → report ≡ other
-reports_alike law bytes report other a b =
-    law four two_terms 1 bytes ended a.streams b.streams a.reports b.reports a.stream b.stream report other a.alone b.alone a.at b.at a.reads b.reads a.says b.says
 
 -- The lines of the first stream, and of one that imports alone
 

@@ -1,12 +1,11 @@
 -- The row 'a neighbour': its first stream, and what two runs say of it (this project's own).
-use Rattle.std.specs.Prelude.{ℕ, List, [], codes}
+use Rattle.std.specs.Prelude.{◌≡◌, ℕ, List, [], codes}
 use Rattle.lrup_model.specs.Layout.{LayoutValue}
 use Rattle.stream_check.specs.declared.report.Report.{Report}
 use Rattle.stream_check.specs.Judging.{ended}
 use Rattle.portfolio.specs.Outcomes.{OptionsValue, layout_of, terms_of}
-use Rattle.runs.specs.Streams.{Stream, Terms}
-use Rattle.runs.specs.Closed.{IsOfStream}
-use Rattle.groups.specs.Groups.{IsAlone, IsReadingOf}
+use Rattle.runs.specs.Streams.{Terms}
+use Rattle.groups.specs.Groups.{IsReportAlone}
 use Rattle.test_support.specs.Worked.{four}
 
 -- the first stream's bytes
@@ -24,12 +23,7 @@ layout_of_two = layout_of usual four 2
 abbrev pub two_terms : Terms
 two_terms = terms_of usual [] four 2
 
--- the report is one that stream 1 may have alone, where it has these bytes and ends after them
-pub record IsReportAlone (bytes : List ℕ) (report : Report) : Type 0 where
-  pub streams : List Stream
-  pub reports : List Report
-  pub stream : Stream
-  pub alone : IsAlone four two_terms 1 streams reports
-  pub at : IsOfStream streams 1 stream
-  pub reads : IsReadingOf bytes ended stream
-  pub says : IsOfStream reports 1 report
+-- the report is one that stream 1 may have alone, where it has these bytes and ends after them, and the only one
+pub record IsOnlyReport (bytes : List ℕ) (report : Report) : Type 0 where
+  pub alone : IsReportAlone four two_terms 1 bytes ended report
+  pub only : (other : Report) → IsReportAlone four two_terms 1 bytes ended other → other ≡ report

@@ -4,10 +4,10 @@ ghost use Rattle.std.specs.List.{AllByRecursion};
 ghost use Rattle.stream_check.specs.Laws.{IsOfMemory};
 ghost use Rattle.runs.specs.Closed.{CiteWithin, IsOfStream};
 ghost use Rattle.groups.specs.Groups.{one};
-ghost use Rattle.portfolio_tests.specs.Alone.{first_bytes, layout_of_two, usual, IsReportAlone};
+ghost use Rattle.portfolio_tests.specs.Alone.{first_bytes, layout_of_two, usual, IsOnlyReport};
 
 use super::{BOTH, By, Open, bad_line, defaults, ended, readers_of, reports_of, same};
-use groups::laws::{alone_has_one_report, readers_closed, told_is_reading};
+use groups::laws::{readers_closed, told_is_reading};
 use lrup_model::Cube;
 use lrup_text::Source;
 use lrup_text::laws::a_stream_is_cut_in_one_way;
@@ -65,7 +65,7 @@ fn said_by_threads<T: Threads + Wait + Sync>(
     neighbour: &str,
 ) -> Result<Report, Fail>
     requires { CiteWithin layout_of_two (one 1) first.now }
-    ensures { IfOk result (λ report. ¬ IsOfMemory report → IsReportAlone first.now report) }
+    ensures { IfOk result (λ report. ¬ IsOfMemory report → IsOnlyReport first.now report) }
 {
     readers_closed();
     told_is_reading();
@@ -92,7 +92,7 @@ fn said_by_turns<W: Wait>(
     neighbour: &str,
 ) -> Result<Report, Fail>
     requires { CiteWithin layout_of_two (one 1) first.now }
-    ensures { IfOk result (λ report. ¬ IsOfMemory report → IsReportAlone first.now report) }
+    ensures { IfOk result (λ report. ¬ IsOfMemory report → IsOnlyReport first.now report) }
 {
     readers_closed();
     told_is_reading();
@@ -111,14 +111,14 @@ fn said_by_turns<W: Wait>(
     first_report(&outcome.reports, &outcome.readers)
 }
 
-/// What is said of the row's first stream beside this neighbour: a report that it may have alone.
+/// What is said of the row's first stream beside this neighbour: the report that it may have alone.
 fn said_beside<T: Threads + Wait + Sync>(
     rt: &T,
     alloc: Global,
     by: By,
     neighbour: &str,
 ) -> Result<Report, Fail>
-    ensures { IfOk result (λ report. ¬ IsOfMemory report → IsReportAlone first_bytes report) }
+    ensures { IfOk result (λ report. ¬ IsOfMemory report → IsOnlyReport first_bytes report) }
 {
     match by {
         By::Threads => said_by_threads(rt, alloc, FIRST, neighbour),
@@ -136,7 +136,6 @@ fn said_in_two_runs<T: Threads + Wait + Sync>(
     ensures { IfOk result (λ said.
         ¬ IsOfMemory said.0 → ¬ IsOfMemory said.1 → said.0 ≡ said.1) }
 {
-    alone_has_one_report();
     let first = said_beside(rt, alloc, one_run.0, one_run.1)?;
     let second = said_beside(rt, alloc, other_run.0, other_run.1)?;
     Ok((first, second))

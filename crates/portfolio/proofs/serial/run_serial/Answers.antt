@@ -92,6 +92,9 @@ returns-clause-isolated g c =
     c.serial_isolated.ensures f terms (tellings view readers out.readers.items) out.reports.items fits
     (told_as_many view readers out.readers.items _ (returns-clause-ordered g c).judged.1)
 
+pub returns-clause-alone : goal.returns-clause-alone
+returns-clause-alone g c = c.isolated_alone.ensures _ _ _ _ _ (returns-clause-isolated g c)
+
 pub returns-clause-sound : goal.returns-clause-sound
 returns-clause-sound g c unsatisfiable =
     let ordered = returns-clause-ordered g c in

@@ -135,6 +135,9 @@ returns-in-Ok-clause-isolated g c =
     c.run_isolated.ensures f terms (seen_by vs) vs (tellings view readers out.readers.items) out.reports.items
     fits (told_as_many view readers out.readers.items _ (returns-in-Ok-clause-reports g c).judged.2) (returns-in-Ok-clause-history g c)
 
+pub returns-in-Ok-clause-alone : goal.returns-in-Ok-clause-alone
+returns-in-Ok-clause-alone g c = c.isolated_alone.ensures _ _ _ _ _ (returns-in-Ok-clause-isolated g c)
+
 pub returns-in-Ok-clause-serializable : goal.returns-in-Ok-clause-serializable
 returns-in-Ok-clause-serializable g c =
     let f = c.args.formula.now in
