@@ -2,7 +2,7 @@
 use Rattle.std.proofs.Common.{◌≡◌, ◌≤◌, ◌<◌, ◌^◌, ℕ, ℤ, zero, suc, ◌+◌, ◌-◌, Bool, true, false, Option, List, [], ◌∷◌, ◌++◌, length, map, Some, None, pos, negsuc, refl, sym, ap, subst, ◌∙◌, inl, inr, arith}
 use Rattle.std.specs.Fmt.{digits}
 use Rattle.std.proofs.lemmas.Bool.Decides.{eqb_tells}
-use Rattle.std.specs.Prelude.{IsTrue, slice_get, codes, ◌==◌, Result, Ok, Err, IfOk}
+use Rattle.std.specs.Prelude.{IsTrue, slice_get, codes, ◌==◌, ◌↔◌, Result, Ok, Err, IfOk, if◌then◌else◌}
 use Rattle.lrup_model.specs.Layout.{LayoutValue, Owns, owner}
 use Rattle.lrup_model.specs.declared.layout.Owner.{Owner}
 use Rattle.lrup_model.specs.declared.layout.Owner.TheVariants as owners
@@ -11,20 +11,24 @@ use Rattle.lrup_text.specs.Lines.{StreamLine, Addition, Deletion, Import, Cut, H
 use Rattle.lrup_text.specs.Laws.{OneCut}
 use Rattle.stream_check.specs.declared.report.Report.{Report}
 use Rattle.stream_check.specs.Judging.{ended}
-use Rattle.std.specs.List.{AllByRecursion}
+use Rattle.std.specs.List.{AllByRecursion, list_any}
 use Rattle.stream_check.specs.Laws.{IsOfMemory, cited_by}
 use Rattle.lrup_model.specs.Cube.{CubeValue}
 use Rattle.lrup_model.specs.Formula.{Cnf}
-use Rattle.portfolio.specs.Outcomes.{OptionsValue, terms_of}
+use Rattle.lrup_model.specs.Event.{publishes_empty}
+use Rattle.portfolio.specs.declared.outcome.Verdict.{Verdict}
+use Rattle.portfolio.specs.declared.outcome.Verdict.TheVariants.{Unsatisfiable, UnsatisfiableUnder, Unknown}
+use Rattle.portfolio.specs.Outcomes.{OptionsValue, terms_of, verdict_of}
+use Rattle.orders.specs.Serializable.{ComeToVerdict}
 use Rattle.runs.specs.StreamLemmas.{same_at}
 use Rattle.lrup_text.specs.ReadOut.{SourceView}
 use Rattle.runs.specs.Readings.{AreRead}
-use Rattle.runs.specs.Streams.{Stream, Telling, Terms, telling_of, tellings, AreTold}
+use Rattle.runs.specs.Streams.{Stream, Telling, Terms, telling_of, tellings, AreTold, IsOrdered, events_in}
 use Rattle.runs.specs.Closed.{IsOfStream, IsOwnedWithin, CiteWithin}
 use Rattle.groups.specs.Groups.{one, AreIsolated, HaveReportsAlone}
 use Rattle.groups.specs.Laws.{ReadersClosed, ToldIsReading}
 use Rattle.test_support.specs.Worked.{four}
-use Rattle.portfolio_tests.specs.Alone.{first_bytes, usual, layout_of_two, two_terms, IsOnlyReport}
+use Rattle.portfolio_tests.specs.Alone.{first_bytes, usual, layout_of_two, two_terms, HasOrder, IsOnlyReport}
 
 -- Places
 
@@ -94,6 +98,24 @@ report_alone closes reads view firsts lasts bytes Judged reports report streams 
       };
       only = only streams told judged 1 first.stream report first.at says closed memory bytes ended is_reading;
     }
+
+-- The verdict of an order of lines
+
+says_so : (verdict : Verdict) (a b c : Bool) → a ≡ c → verdict ≡ (if a then Unsatisfiable else if b then UnsatisfiableUnder else Unknown) → (verdict ≡ Unsatisfiable) ↔ IsTrue c
+says_so verdict true b true same is = ((λ e. refl), λ t. is)
+says_so verdict true b false same is = absurd (let no : true ≡ false = same in cc)
+says_so verdict false b true same is = absurd (let no : false ≡ true = same in cc)
+says_so verdict false true false same is = ((λ e. absurd (let no : UnsatisfiableUnder ≡ Unsatisfiable = sym is ∙ e in cc)), λ t. absurd (let no : false ≡ true = t in cc))
+says_so verdict false false false same is = ((λ e. absurd (let no : Unknown ≡ Unsatisfiable = sym is ∙ e in cc)), λ t. absurd (let no : false ≡ true = t in cc))
+
+pub has_order : (streams : List Stream) (reports : List Report) (verdict : Verdict)
+    → (order : IsOrdered four two_terms (λ s. true) streams reports) × ComeToVerdict two_terms.cube (events_in order.blocks) reports
+    → verdict ≡ verdict_of reports → HasOrder verdict
+has_order streams reports verdict (order, comes) is = record {
+  lines = order.blocks;
+  legal = order.legal;
+  says = says_so verdict (list_any (λ report. report.empty) reports) (list_any (λ report. report.within) reports) (list_any publishes_empty (events_in order.blocks)) comes.empty is;
+}
 
 -- two facts of a value that is there give a third
 pub if_both : {T E : Type 0} {A B C : T → Type 0} (result : Result T E) → IfOk result A → IfOk result B → ((x : T) → A x → B x → C x) → IfOk result C

@@ -1,10 +1,15 @@
 -- The row 'a neighbour': its first stream, and what two runs say of it (this project's own).
-use Rattle.std.specs.Prelude.{◌≡◌, ℕ, List, [], codes}
+use Rattle.std.specs.Prelude.{◌≡◌, ◌↔◌, ℕ, IsTrue, List, [], codes}
+use Rattle.std.specs.List.{list_any}
 use Rattle.lrup_model.specs.Layout.{LayoutValue}
+use Rattle.lrup_model.specs.Event.{publishes_empty}
+use Rattle.lrup_model.specs.History.{IsLegal}
 use Rattle.stream_check.specs.declared.report.Report.{Report}
 use Rattle.stream_check.specs.Judging.{ended}
 use Rattle.portfolio.specs.Outcomes.{OptionsValue, layout_of, terms_of}
-use Rattle.runs.specs.Streams.{Terms}
+use Rattle.portfolio.specs.declared.outcome.Verdict.{Verdict}
+use Rattle.portfolio.specs.declared.outcome.Verdict.TheVariants.{Unsatisfiable}
+use Rattle.runs.specs.Streams.{Block, Terms, events_in}
 use Rattle.groups.specs.Groups.{IsReportAlone}
 use Rattle.test_support.specs.Worked.{four}
 
@@ -27,3 +32,9 @@ two_terms = terms_of usual [] four 2
 pub record IsOnlyReport (bytes : List ℕ) (report : Report) : Type 0 where
   pub alone : IsReportAlone four two_terms 1 bytes ended report
   pub only : (other : Report) → IsReportAlone four two_terms 1 bytes ended other → other ≡ report
+
+-- a legal history of whole lines publishes the empty clause exactly where this is the verdict 'unsatisfiable'
+pub record HasOrder (verdict : Verdict) : Type 0 where
+  pub lines : List Block
+  pub legal : IsLegal four layout_of_two (events_in lines)
+  pub says : (verdict ≡ Unsatisfiable) ↔ IsTrue (list_any publishes_empty (events_in lines))

@@ -4,14 +4,18 @@ ghost use Rattle.std.specs.List.{AllByRecursion};
 ghost use Rattle.stream_check.specs.Laws.{IsOfMemory};
 ghost use Rattle.runs.specs.Closed.{CiteWithin, IsOfStream};
 ghost use Rattle.groups.specs.Groups.{one};
-ghost use Rattle.portfolio_tests.specs.Alone.{first_bytes, layout_of_two, usual, IsOnlyReport};
+ghost use Rattle.runs.specs.Headline.{seen_by};
+ghost use Rattle.clause_store.specs.Passes.{views};
+ghost use Rattle.orders.specs.Premises.{FoundStays};
+ghost use Rattle.test_support.specs.Worked.{four};
+ghost use Rattle.portfolio_tests.specs.Alone.{first_bytes, layout_of_two, usual, HasOrder, IsOnlyReport};
 
 use super::{BOTH, By, Open, bad_line, defaults, ended, readers_of, reports_of, same};
 use groups::laws::{readers_closed, told_is_reading};
 use lrup_model::Cube;
 use lrup_text::Source;
 use lrup_text::laws::a_stream_is_cut_in_one_way;
-use portfolio::{Options, run, run_serial};
+use portfolio::{Options, Outcome, Verdict, run, run_serial};
 use std::alloc::Global;
 use std::process::Abort;
 use std::sync::Wait;
@@ -109,6 +113,32 @@ fn said_by_turns<W: Wait>(
         gates,
     )?;
     first_report(&outcome.reports, &outcome.readers)
+}
+
+/// A run of two streams with threads. That its verdict is the one of an order of the lines, where no stream found live what is
+/// retired in the end, follows from its contract alone.
+fn run_in_threads<'a, T: Threads + Wait + Sync>(
+    rt: &T,
+    alloc: Global,
+    first: &'a str,
+    neighbour: &'a str,
+) -> Result<Outcome<Pieces<'a>>, Fail>
+    ensures { IfOk result (λ outcome. let history = seen_by (views outcome.passes.items) in
+        FoundStays four layout_of_two (λ s. true) history → HasOrder outcome.verdict) }
+{
+    let formula = four_clauses(alloc)?;
+    let readers = two_readers(alloc, first, neighbour)?;
+    let gates = vec![in alloc; Open; readers.len()]?;
+    let outcome = run(
+        rt,
+        alloc,
+        &formula,
+        &Cube::empty(alloc),
+        usual_options(),
+        readers,
+        gates,
+    )?;
+    Ok(outcome)
 }
 
 /// What is said of the row's first stream beside this neighbour: the report that it may have alone.
