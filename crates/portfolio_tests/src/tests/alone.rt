@@ -211,3 +211,16 @@ fn reports_of_an_import(rt: HostRuntime) -> Result<(), Fail> {
     }
     Ok(())
 }
+
+/// A refutation, and a beginning of it.
+#[test]
+fn the_verdict_is_that_of_an_order(rt: HostRuntime) -> Result<(), Fail> {
+    for (first, wanted) in [
+        (FIRST, Verdict::Unsatisfiable),
+        ("5 2 0 1 2 0\n", Verdict::Unknown),
+    ] {
+        let outcome = run_in_threads(&rt, rt.alloc(), first, "6 -2 0 3 4 0\n")?;
+        same(&rt, (first, outcome.verdict), (first, wanted));
+    }
+    Ok(())
+}
