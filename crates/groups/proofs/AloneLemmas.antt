@@ -8,11 +8,13 @@ use Rattle.lrup_model.specs.Formula.{Cnf}
 use Rattle.lrup_model.specs.Event.{History, stream_of, own}
 use Rattle.lrup_text.specs.Laws.{EveryCut, BeginningCut}
 use Rattle.lrup_model.specs.ListLemmas.{All-front}
+use Rattle.lrup_text.specs.declared.device.StreamEnd.{StreamEnd}
+use Rattle.lrup_text.specs.declared.device.StreamEnd.TheVariants as ends
 use Rattle.stream_check.specs.declared.report.Report.{Report}
 use Rattle.stream_check.specs.Setting.{Setting}
-use Rattle.stream_check.specs.Judging.{StreamEnd, ended, failed, JudgesBlocks, Judges}
+use Rattle.stream_check.specs.Judging.{JudgesBlocks, Judges}
 use Rattle.stream_check.specs.Laws.{cited_by, OverStays, AloneDecides}
-use Rattle.runs.specs.Streams.{Stop, at_end, at_failure, early, Stream, JudgesTo, Terms, setting_of}
+use Rattle.runs.specs.Streams.{Stop, read_out, early, Stream, JudgesTo, Terms, setting_of}
 use Rattle.runs.specs.Closed.{IsOfStream, IsOwnedWithin}
 use Rattle.groups.specs.Groups.{one, IsAlone, IsReadingTo, IsReadingOf}
 use Rattle.groups.specs.Laws.{AloneHasOneReport, BeginningsWithin}
@@ -21,14 +23,12 @@ use Rattle.groups.proofs.Places.{judged_at}
 -- however much of a stream was read, all of it is judged so
 judged_whole : OverStays → (c : Setting) (stop : Stop) (bytes whole : List ℕ) (end : StreamEnd) (blocks : List History) (report : Report)
     → IsReadingTo stop bytes whole end → JudgesTo stop c bytes blocks report → JudgesBlocks c whole end blocks report
-judged_whole law c at_end bytes whole end blocks report is j =
+judged_whole law c (read_out stop) bytes whole end blocks report is j =
     subst (λ b. JudgesBlocks c b end blocks report) (sym is.0) (subst (λ e. JudgesBlocks c bytes e blocks report) (sym is.1) j)
-judged_whole law c at_failure bytes whole end blocks report is j =
-    subst (λ b. JudgesBlocks c b end blocks report) (sym is.0) (subst (λ e. JudgesBlocks c bytes e blocks report) (sym is.1) j)
-judged_whole law c (early unneeded) bytes whole ended blocks report is j =
-    subst (λ b. JudgesBlocks c b ended blocks report) (sym is.1) (law c bytes is.0 blocks report (j.1, j.2)).0
-judged_whole law c (early unneeded) bytes whole failed blocks report is j =
-    subst (λ b. JudgesBlocks c b failed blocks report) (sym is.1) (law c bytes is.0 blocks report (j.1, j.2)).1
+judged_whole law c (early unneeded) bytes whole ends.Ended blocks report is j =
+    subst (λ b. JudgesBlocks c b ends.Ended blocks report) (sym is.1) (law c bytes is.0 blocks report (j.1, j.2)).0
+judged_whole law c (early unneeded) bytes whole ends.Failed blocks report is j =
+    subst (λ b. JudgesBlocks c b ends.Failed blocks report) (sym is.1) (law c bytes is.0 blocks report (j.1, j.2)).1
 
 pub me : (s : ℕ) → IsTrue (one s s)
 me s = eq-eqb s s refl

@@ -14,11 +14,12 @@ use Rattle.lrup_model.specs.HistoryLemmas.{own-mine, own-other}
 use Rattle.lrup_model.specs.RestrictionLemmas.{among-members, own-among, restriction_legal}
 use Rattle.lrup_model.specs.ListLemmas.{All-map}
 use Rattle.lrup_text.specs.Lines.{StreamLine}
+use Rattle.lrup_text.specs.declared.device.StreamEnd.TheVariants as ends
 use Rattle.stream_check.specs.declared.report.Report.{Report}
 use Rattle.stream_check.specs.Setting.{Setting}
-use Rattle.stream_check.specs.Judging.{joined, ended, failed}
+use Rattle.stream_check.specs.Judging.{joined}
 use Rattle.stream_check.specs.Laws.{cited_by, FetchesOnly, CitedFetched}
-use Rattle.runs.specs.Streams.{Stop, at_end, at_failure, early, Stream, JudgesTo, Terms, setting_of}
+use Rattle.runs.specs.Streams.{Stop, read_out, early, Stream, JudgesTo, Terms, setting_of}
 use Rattle.runs.specs.Headline.{IsJudgedBy, AreJudgedIn}
 use Rattle.runs.specs.Closed.{IsOwnedWithin, CiteWithin, IsClosed}
 use Rattle.groups.specs.Laws.{ClosedIsGroup}
@@ -90,12 +91,10 @@ cites_pass p set lines some within =
 fetches_within : CitedFetched → (p : LayoutValue) (set : ℕ → Bool) (c : Setting) (stop : Stop) (bytes : List ℕ) (blocks : List History) (report : Report)
     → 0 < p.streams → CiteWithin p set bytes → JudgesTo stop c bytes blocks report → AllByRecursion (FetchesOnly (is_within p (inside p set))) (joined blocks)
 unfolding CitePass
-fetches_within law p set c at_end bytes blocks report some cites j =
-    law c bytes ended blocks report cites.lines cites.rest (is_within p (inside p set)) j cites.cut (cites_pass p set cites.lines some cites.within)
-fetches_within law p set c at_failure bytes blocks report some cites j =
-    law c bytes failed blocks report cites.lines cites.rest (is_within p (inside p set)) j cites.cut (cites_pass p set cites.lines some cites.within)
+fetches_within law p set c (read_out end) bytes blocks report some cites j =
+    law c bytes end blocks report cites.lines cites.rest (is_within p (inside p set)) j cites.cut (cites_pass p set cites.lines some cites.within)
 fetches_within law p set c (early unneeded) bytes blocks report some cites j =
-    law c bytes ended blocks report cites.lines cites.rest (is_within p (inside p set)) j.1 cites.cut (cites_pass p set cites.lines some cites.within)
+    law c bytes ends.Ended blocks report cites.lines cites.rest (is_within p (inside p set)) j.1 cites.cut (cites_pass p set cites.lines some cites.within)
 
 -- The history
 

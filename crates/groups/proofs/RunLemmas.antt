@@ -7,11 +7,13 @@ use Rattle.lrup_model.specs.Formula.{Cnf}
 use Rattle.lrup_model.specs.Layout.{LayoutValue, Fits}
 use Rattle.lrup_model.specs.Event.{History}
 use Rattle.lrup_model.specs.History.{IsLegal}
+use Rattle.lrup_text.specs.declared.device.StreamEnd.{StreamEnd}
+use Rattle.lrup_text.specs.declared.device.StreamEnd.TheVariants as ends
 use Rattle.stream_check.specs.declared.report.Report.{Report}
 use Rattle.stream_check.specs.Setting.{Setting}
-use Rattle.stream_check.specs.Judging.{StreamEnd, ended, failed, JudgesBlocks, Judges}
+use Rattle.stream_check.specs.Judging.{JudgesBlocks, Judges}
 use Rattle.stream_check.specs.Laws.{AloneDecides, DecidedBeforeFailure, IsOfMemory, IsOfFailure}
-use Rattle.runs.specs.Streams.{Stop, at_end, at_failure, early, Stream, Telling, read_to, StopsSo, IsTold, AreTold, JudgesTo, Terms, setting_of}
+use Rattle.runs.specs.Streams.{Stop, read_out, early, Stream, Telling, read_to, StopsSo, IsTold, AreTold, JudgesTo, Terms, setting_of}
 use Rattle.runs.specs.Closed.{IsOfStream, CiteWithin}
 use Rattle.runs.specs.StreamLemmas.{told_count, told_from, told_begins, same_at}
 use Rattle.groups.specs.Groups.{one, IsAlone, IsRun, IsReadingTo}
@@ -42,10 +44,10 @@ readers_closed law p set told streams are_told closed s stream member at =
     told_within law p set was.telling known.0 stream was.is_told known.1 known.2
 
 told_reads : (left : Option (List ℕ)) (stop : Stop) (whole bytes : List ℕ)
-    → Consumes (Some whole) left (read_to stop bytes) → StopsSo stop left false → IsReadingTo stop bytes whole ended
+    → Consumes (Some whole) left (read_to stop bytes) → StopsSo stop left false → IsReadingTo stop bytes whole ends.Ended
 told_reads None stop whole bytes took stops = absurd took
-told_reads (Some left) at_end whole bytes took stops = (took ∙ ap (λ l. bytes ++ l) stops.0 ∙ append-nil bytes, refl)
-told_reads (Some left) at_failure whole bytes took stops = absurd (let no : false ≡ true = stops in cc)
+told_reads (Some left) (read_out ends.Ended) whole bytes took stops = (took ∙ ap (λ l. bytes ++ l) stops.0 ∙ append-nil bytes, refl)
+told_reads (Some left) (read_out ends.Failed) whole bytes took stops = absurd (let no : false ≡ true = stops in cc)
 told_reads (Some left) (early unneeded) whole bytes took stops = (unneeded ++ left, took ∙ append_assoc bytes unneeded left)
 
 pub told_is_reading : ToldIsReading
@@ -56,9 +58,9 @@ told_is_reading told streams s telling stream whole are_told here at entry fine 
     (subst (StopsSo stream.stop telling.left) fine is.stops)
 
 failure_reads : (left : List ℕ) (stop : Stop) (whole bytes : List ℕ)
-    → whole ++ left ≡ read_to stop bytes ++ left → StopsSo stop (Some left) true → IsReadingTo stop bytes whole failed
-failure_reads left at_end whole bytes took stops = absurd (let no : true ≡ false = stops.1 in cc)
-failure_reads left at_failure whole bytes took stops = (append_cancel_right whole bytes left took, refl)
+    → whole ++ left ≡ read_to stop bytes ++ left → StopsSo stop (Some left) true → IsReadingTo stop bytes whole ends.Failed
+failure_reads left (read_out ends.Ended) whole bytes took stops = absurd (let no : true ≡ false = stops.1 in cc)
+failure_reads left (read_out ends.Failed) whole bytes took stops = (append_cancel_right whole bytes left took, refl)
 failure_reads left (early unneeded) whole bytes took stops = absurd (let no : true ≡ false = stops in cc)
 
 pub failed_is_reading : FailedIsReading
@@ -132,8 +134,7 @@ run_alone law f terms s told reports stream report fits a at says cites memory =
 
 reading_within : BeginningsWithin → (p : LayoutValue) (set : ℕ → Bool) (stop : Stop) (bytes whole : List ℕ) (end : StreamEnd)
     → IsReadingTo stop bytes whole end → CiteWithin p set whole → CiteWithin p set bytes
-reading_within law p set at_end bytes whole end is cites = subst (CiteWithin p set) is.0 cites
-reading_within law p set at_failure bytes whole end is cites = subst (CiteWithin p set) is.0 cites
+reading_within law p set (read_out stop) bytes whole end is cites = subst (CiteWithin p set) is.0 cites
 reading_within law p set (early unneeded) bytes whole end is cites = law p set bytes is.0 (subst (CiteWithin p set) is.1 cites)
 
 pub same_reading_agrees : BeginningsWithin → ClosedIsGroup → AloneHasOneReport → SameReadingAgrees
@@ -148,20 +149,20 @@ same_reading_agrees within group alone f terms s whole end told other_told repor
     at there reads also says too
 
 judged_to : DecidedBeforeFailure → (c : Setting) (stop : Stop) (bytes whole : List ℕ) (left : Option (List ℕ)) (has_failed : Bool) (blocks : List History) (report : Report)
-    → Consumes (Some whole) left (read_to stop bytes) → StopsSo stop left has_failed → ¬ IsOfFailure report → JudgesTo stop c bytes blocks report → JudgesBlocks c whole ended blocks report
+    → Consumes (Some whole) left (read_to stop bytes) → StopsSo stop left has_failed → ¬ IsOfFailure report → JudgesTo stop c bytes blocks report → JudgesBlocks c whole ends.Ended blocks report
 judged_to law c stop bytes whole None has_failed blocks report took stops machine j = absurd took
-judged_to law c at_end bytes whole (Some left) has_failed blocks report took stops machine j =
-    subst (λ b. JudgesBlocks c b ended blocks report) (sym (took ∙ ap (λ l. bytes ++ l) stops.0 ∙ append-nil bytes)) j
-judged_to law c at_failure bytes whole (Some left) has_failed blocks report took stops machine j =
-    subst (λ b. JudgesBlocks c b ended blocks report) (sym took) (law c bytes left ended blocks report machine j)
+judged_to law c (read_out ends.Ended) bytes whole (Some left) has_failed blocks report took stops machine j =
+    subst (λ b. JudgesBlocks c b ends.Ended blocks report) (sym (took ∙ ap (λ l. bytes ++ l) stops.0 ∙ append-nil bytes)) j
+judged_to law c (read_out ends.Failed) bytes whole (Some left) has_failed blocks report took stops machine j =
+    subst (λ b. JudgesBlocks c b ends.Ended blocks report) (sym took) (law c bytes left ends.Ended blocks report machine j)
 judged_to law c (early unneeded) bytes whole (Some left) has_failed blocks report took stops machine j =
-    subst (λ b. JudgesBlocks c b ended blocks report) (sym (took ∙ append_assoc bytes unneeded left)) (law c bytes (unneeded ++ left) ended blocks report machine j.2)
+    subst (λ b. JudgesBlocks c b ends.Ended blocks report) (sym (took ∙ append_assoc bytes unneeded left)) (law c bytes (unneeded ++ left) ends.Ended blocks report machine j.2)
 
 -- a legal history judges all these bytes so
 record IsJudgedWhole (f : Cnf) (terms : Terms) (s : ℕ) (whole : List ℕ) (report : Report) : Type 0 where
   history : History
   legal : IsLegal f terms.layout history
-  judges : Judges (setting_of terms s) whole ended history report
+  judges : Judges (setting_of terms s) whole ends.Ended history report
 
 whole_judged : BeginningsWithin → ClosedIsGroup → DecidedBeforeFailure
     → (f : Cnf) (terms : Terms) (s : ℕ) (whole : List ℕ) (told : List Telling) (telling : Telling) (reports : List Report) (report : Report)
@@ -194,4 +195,4 @@ same_bytes_agree within group decides decided f terms s whole told other_told te
     fits cites a b here entry there known says too memory failure none never =
     let mine = whole_judged within group decided f terms s whole told telling reports report fits cites a here entry says memory failure in
     let theirs = whole_judged within group decided f terms s whole other_told other_telling other_reports other_report fits cites b there known too none never in
-    (decides f terms.layout (setting_of terms s) whole ended mine.history theirs.history report other_report mine.legal theirs.legal mine.judges theirs.judges memory none).1
+    (decides f terms.layout (setting_of terms s) whole ends.Ended mine.history theirs.history report other_report mine.legal theirs.legal mine.judges theirs.judges memory none).1

@@ -7,10 +7,11 @@ use Rattle.lrup_model.specs.Event.{History, stream_of}
 use Rattle.lrup_model.specs.History.{IsLegal}
 use Rattle.stream_check.specs.declared.report.Ending.TheVariants as endings
 use Rattle.stream_check.specs.declared.report.Report.{Report}
-use Rattle.stream_check.specs.Judging.{StreamEnd, ended, failed}
+use Rattle.lrup_text.specs.declared.device.StreamEnd.{StreamEnd}
+use Rattle.lrup_text.specs.declared.device.StreamEnd.TheVariants as ends
 use Rattle.stream_check.specs.Laws.{IsOfMemory}
 use Rattle.runs.specs.Closed.{IsOfStream, CiteWithin, IsClosed}
-use Rattle.runs.specs.Streams.{Stop, at_end, at_failure, early, Stream, Telling, Terms, AreTold}
+use Rattle.runs.specs.Streams.{Stop, read_out, early, Stream, Telling, Terms, AreTold}
 use Rattle.runs.specs.Headline.{AreJudgedIn}
 
 -- one stream, as a set
@@ -29,8 +30,7 @@ AreClosedReaders p set told =
 
 -- one reading of a stream that has these bytes and this end: all of it, or a beginning after which no more was needed
 abbrev pub IsReadingTo : Stop → List ℕ → List ℕ → StreamEnd → Type 0
-IsReadingTo at_end bytes whole end = (whole ≡ bytes) × (end ≡ ended)
-IsReadingTo at_failure bytes whole end = (whole ≡ bytes) × (end ≡ failed)
+IsReadingTo (read_out stop) bytes whole end = (whole ≡ bytes) × (end ≡ stop)
 IsReadingTo (early unneeded) bytes whole end = (more : List ℕ) × (whole ≡ bytes ++ more)
 
 abbrev pub IsReadingOf : List ℕ → StreamEnd → Stream → Type 0
@@ -93,7 +93,7 @@ HaveReportsAlone f terms told Judged reports =
 
 -- no bytes, read to the end
 abbrev pub empty_stream : Stream
-empty_stream = record { bytes = []; stop = at_end }
+empty_stream = record { bytes = []; stop = read_out ends.Ended }
 
 -- what is said of them
 abbrev pub empty_report : Report

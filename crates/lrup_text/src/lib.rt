@@ -13,7 +13,7 @@ mod reader;
 mod writer;
 
 pub use cube::{CubeFault, read_cube};
-pub use device::{ReadFault, Reading, Sink, Source, WriteFault, Writing};
+pub use device::{ReadFault, Reading, Sink, Source, StreamEnd, WriteFault, Writing};
 use machine::{MOST_IDENTITIES, MOST_LITERALS, MOST_NUMBER};
 pub use reader::{End, Fed, LineReader, ReaderTurn};
 use thiserror::Error;

@@ -6,11 +6,12 @@ use Rattle.lrup_model.specs.Event.{Event, History}
 use Rattle.lrup_model.specs.ListLemmas.{All-append}
 use Rattle.lrup_text.specs.Lines.{StreamLine, Deletion, IsWithinLimits, line_text, HasNoLine}
 use Rattle.lrup_text.specs.Laws.{OneFirstLine}
+use Rattle.lrup_text.specs.declared.device.StreamEnd.{StreamEnd}
 use Rattle.stream_check.specs.declared.report.Report.{Report}
 use Rattle.stream_check.specs.Setting.{Setting}
 use Rattle.stream_check.specs.Standing.{Standing, standing_of, deleted_by}
 use Rattle.stream_check.specs.Verdicts.{LineVerdict, Good, Bad}
-use Rattle.stream_check.specs.Judging.{JudgesLine, AreGood, EndsAfter, StreamEnd, joined}
+use Rattle.stream_check.specs.Judging.{JudgesLine, AreGood, EndsAfter, joined}
 use Rattle.stream_check.specs.Reducing.{IsEarly}
 use Rattle.stream_check.specs.Laws.{EarlyEvents, VacantTriesAgain}
 use Rattle.stream_check.specs.ReportLemmas.{split_first, joined-append}

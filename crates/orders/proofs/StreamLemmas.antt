@@ -12,12 +12,14 @@ use Rattle.lrup_model.specs.OwnerLemmas.{IsOwned, owned}
 use Rattle.lrup_model.specs.Laws.{FindsWithin}
 use Rattle.lrup_text.specs.Lines.{StreamLine}
 use Rattle.lrup_text.specs.Laws.{EveryCut}
+use Rattle.lrup_text.specs.declared.device.StreamEnd.{StreamEnd}
+use Rattle.lrup_text.specs.declared.device.StreamEnd.TheVariants as ends
 use Rattle.stream_check.specs.declared.report.Report.{Report}
 use Rattle.stream_check.specs.Setting.{Setting}
-use Rattle.stream_check.specs.Judging.{joined, StreamEnd, ended, failed, JudgesBlocks}
+use Rattle.stream_check.specs.Judging.{joined, JudgesBlocks}
 use Rattle.stream_check.specs.Reducing.{reduced}
 use Rattle.stream_check.specs.Laws.{cited_by, FetchesOnly, CitedFetched, ReducedStream}
-use Rattle.runs.specs.Streams.{Stop, at_end, at_failure, early, Stream, JudgesTo, JudgesStream, Block, blocks_of, IsBlockWithin, AreJudged, Terms, setting_of}
+use Rattle.runs.specs.Streams.{Stop, read_out, early, Stream, JudgesTo, JudgesStream, Block, blocks_of, IsBlockWithin, AreJudged, Terms, setting_of}
 use Rattle.runs.specs.Headline.{IsJudgedBy, AreJudgedIn}
 use Rattle.runs.specs.Closed.{IsOfStream, IsOwnedWithin, CiteWithin}
 use Rattle.runs.specs.StreamLemmas.{told_count}
@@ -30,16 +32,14 @@ use Rattle.orders.proofs.OrderLemmas.{streams_in, streams_are, are_streams, own_
 -- some end for which the stream is judged by these blocks
 pub some_end : (stop : Stop) (c : Setting) (bytes : List ℕ) (blocks : List History) (report : Report)
     → JudgesTo stop c bytes blocks report → (end : StreamEnd) × JudgesBlocks c bytes end blocks report
-some_end at_end c bytes blocks report judged = (ended, judged)
-some_end at_failure c bytes blocks report judged = (failed, judged)
-some_end (early unneeded) c bytes blocks report judged = (ended, judged.1)
+some_end (read_out end) c bytes blocks report judged = (end, judged)
+some_end (early unneeded) c bytes blocks report judged = (ends.Ended, judged.1)
 
 reduced_judged : ReducedStream → (stop : Stop) (c : Setting) (bytes : List ℕ) (blocks : List History) (report : Report)
     → JudgesTo stop c bytes blocks report → JudgesTo stop c bytes (map reduced blocks) report
-reduced_judged law at_end c bytes blocks report judged = law c bytes ended blocks report judged
-reduced_judged law at_failure c bytes blocks report judged = law c bytes failed blocks report judged
+reduced_judged law (read_out end) c bytes blocks report judged = law c bytes end blocks report judged
 reduced_judged law (early unneeded) c bytes blocks report judged =
-    (judged.0, law c bytes ended blocks report judged.1, law c bytes failed blocks report judged.2)
+    (judged.0, law c bytes ends.Ended blocks report judged.1, law c bytes ends.Failed blocks report judged.2)
 
 module _ (terms : Terms) (set : ℕ → Bool) (h : History) where
   -- if the stream is of the set, these blocks are its own events, and it is judged by them

@@ -11,6 +11,7 @@ use Rattle.lrup_model.specs.Event as events
 use Rattle.lrup_model.specs.Event.{Event, History, Reply, publishes_empty}
 use Rattle.lrup_model.specs.declared.clause_map.Retired.{Retired}
 use Rattle.lrup_text.specs.Lines.{StreamLine, Addition, Deletion, Import}
+use Rattle.lrup_text.specs.declared.device.StreamEnd.{StreamEnd}
 use Rattle.stream_check.specs.declared.fault.Fault.{Fault}
 use Rattle.stream_check.specs.declared.report.Report.{Report}
 use Rattle.stream_check.specs.Setting.{Setting}
@@ -18,7 +19,7 @@ use Rattle.stream_check.specs.Standing.{Standing, standing_of, adds_empty, adds_
 use Rattle.stream_check.specs.Verdicts.{Good, Bad}
 use Rattle.stream_check.specs.Additions.{published_by}
 use Rattle.stream_check.specs.Finding.{IsGoodAddition}
-use Rattle.stream_check.specs.Judging.{JudgesLine, AreGood, EndsAfter, StreamEnd, joined, JudgesBlocks}
+use Rattle.stream_check.specs.Judging.{JudgesLine, AreGood, EndsAfter, joined, JudgesBlocks}
 use Rattle.stream_check.specs.Laws.{GoodExactlyIf}
 use Rattle.stream_check.specs.ReportLemmas.{said_empty, said_within, joined-append}
 use Rattle.runs.specs.Streams.{Stream, JudgesStream, Block, blocks_of, events_in, IsBlockWithin, AreJudged, Terms, setting_of, IsOrdered}

@@ -10,10 +10,11 @@ use Rattle.lrup_model.specs.History.{IsLegal}
 use Rattle.lrup_model.specs.Pass.{View}
 use Rattle.lrup_model.specs.Laws.{FindsWithin}
 use Rattle.lrup_text.specs.Lines.{StreamLine, Cut}
+use Rattle.lrup_text.specs.declared.device.StreamEnd.{StreamEnd}
 use Rattle.stream_check.specs.declared.report.Report.{Report}
 use Rattle.stream_check.specs.Setting.{Setting}
 use Rattle.stream_check.specs.Standing.{deleted_by}
-use Rattle.stream_check.specs.Judging.{joined, StreamEnd, JudgesBlocks}
+use Rattle.stream_check.specs.Judging.{joined, JudgesBlocks}
 use Rattle.runs.specs.Streams.{Stream, Block, events_in, Telling, Terms, AreTold, IsOrdered}
 use Rattle.runs.specs.Headline.{HaveOneHistory, AreJudgedIn}
 use Rattle.runs.specs.Closed.{IsClosed}

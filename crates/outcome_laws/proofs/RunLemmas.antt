@@ -5,11 +5,11 @@ use Rattle.std.proofs.lemmas.Option.{slice_get-map}
 use Rattle.lrup_model.specs.Event.{History}
 use Rattle.lrup_model.specs.Formula.{Cnf}
 use Rattle.stream_check.specs.declared.report.Report.{Report}
-use Rattle.stream_check.specs.Judging.{ended, failed}
+use Rattle.lrup_text.specs.declared.device.StreamEnd.TheVariants as ends
 use Rattle.stream_check.specs.Setting.{Setting}
 use Rattle.runs.specs.Closed.{IsOfStream}
 use Rattle.runs.specs.Headline.{AreJudgedIn}
-use Rattle.runs.specs.Streams.{Stop, at_end, at_failure, early, Stream, Telling, JudgesTo, Terms, setting_of}
+use Rattle.runs.specs.Streams.{Stop, read_out, early, Stream, Telling, JudgesTo, Terms, setting_of}
 use Rattle.groups.specs.Groups.{IsRun}
 use Rattle.groups.specs.Laws.{SameBytesAgree}
 use Rattle.outcome_laws.specs.Outcomes.{bare_setting, bare_terms, bare_report}
@@ -17,9 +17,8 @@ use Rattle.outcome_laws.specs.Laws.{NoCubeJudgesAlike, SameBytesSayTheSame}
 
 judges_bare : NoCubeJudgesAlike → (stop : Stop) (c : Setting) (bytes : List ℕ) (blocks : List History) (report : Report)
     → JudgesTo stop c bytes blocks report → JudgesTo stop (bare_setting c) bytes blocks (bare_report report)
-judges_bare law at_end c bytes blocks report j = law c bytes ended blocks report j
-judges_bare law at_failure c bytes blocks report j = law c bytes failed blocks report j
-judges_bare law (early unneeded) c bytes blocks report j = (j.0, law c bytes ended blocks report j.1, law c bytes failed blocks report j.2)
+judges_bare law (read_out end) c bytes blocks report j = law c bytes end blocks report j
+judges_bare law (early unneeded) c bytes blocks report j = (j.0, law c bytes ends.Ended blocks report j.1, law c bytes ends.Failed blocks report j.2)
 
 judged_bare : NoCubeJudgesAlike → (terms : Terms) (set : ℕ → Bool) (h : History) (s : ℕ) (streams : List Stream) (reports : List Report)
     → AreJudgedIn terms set h s streams reports → AreJudgedIn (bare_terms terms) set h s streams (map bare_report reports)

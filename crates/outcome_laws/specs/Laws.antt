@@ -3,8 +3,9 @@ use Rattle.std.specs.Prelude.{◌≡◌, ◌⊎◌, ℕ, List, length, Some}
 use Rattle.lrup_model.specs.Event.{History}
 use Rattle.lrup_model.specs.Formula.{Cnf}
 use Rattle.lrup_model.specs.Layout.{Fits}
+use Rattle.lrup_text.specs.declared.device.StreamEnd.{StreamEnd}
 use Rattle.stream_check.specs.declared.report.Report.{Report}
-use Rattle.stream_check.specs.Judging.{StreamEnd, JudgesBlocks}
+use Rattle.stream_check.specs.Judging.{JudgesBlocks}
 use Rattle.stream_check.specs.Laws.{IsOfMemory, IsOfFailure}
 use Rattle.stream_check.specs.Setting.{Setting}
 use Rattle.runs.specs.Closed.{IsOfStream, CiteWithin}

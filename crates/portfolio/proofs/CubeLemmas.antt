@@ -15,6 +15,8 @@ use Rattle.lrup_model.specs.State.{State, opening, after}
 use Rattle.lrup_model.specs.History.{LegalFrom, IsLegal, IsPublishable}
 use Rattle.lrup_model.specs.declared.clause_map.Published.TheVariants as publishing
 use Rattle.lrup_text.specs.Lines.{StreamLine, Addition, Deletion, Import}
+use Rattle.lrup_text.specs.declared.device.StreamEnd.{StreamEnd}
+use Rattle.lrup_text.specs.declared.device.StreamEnd.TheVariants as ends
 use Rattle.stream_check.specs.declared.fault.Fault.TheVariants as faults
 use Rattle.stream_check.specs.declared.report.Report.{Report}
 use Rattle.stream_check.specs.Setting.{Setting}
@@ -22,9 +24,9 @@ use Rattle.stream_check.specs.Standing.{Standing, adds_within, is_within}
 use Rattle.stream_check.specs.CubeLemmas.{is_within-decides}
 use Rattle.stream_check.specs.Verdicts.{Good}
 use Rattle.stream_check.specs.Additions.{published_by}
-use Rattle.stream_check.specs.Judging.{JudgesLine, AreGood, joined, StreamEnd, ended, failed, JudgesBlocks}
+use Rattle.stream_check.specs.Judging.{JudgesLine, AreGood, joined, JudgesBlocks}
 use Rattle.stream_check.specs.ReportLemmas.{said_within}
-use Rattle.runs.specs.Streams.{Stop, at_end, at_failure, early, Stream, JudgesTo, JudgesStream, Block, blocks_of, events_in, AreJudged, IsOrdered, Terms, setting_of}
+use Rattle.runs.specs.Streams.{Stop, read_out, early, Stream, JudgesTo, JudgesStream, Block, blocks_of, events_in, AreJudged, IsOrdered, Terms, setting_of}
 use Rattle.runs.specs.Headline.{AreJudgedIn}
 use Rattle.orders.specs.Lines.{publishes_within}
 use Rattle.portfolio.specs.declared.outcome.Verdict.{Verdict}
@@ -70,9 +72,8 @@ within_is_published c bytes end blocks report judged is =
 
 stream_publishes : (c : Setting) (stop : Stop) (bytes : List ℕ) (blocks : List History) (report : Report)
     → JudgesTo stop c bytes blocks report → IsTrue report.within → IsTrue (list_any (publishes_within c.cube) (joined blocks))
-stream_publishes c at_end bytes blocks report judged is = within_is_published c bytes ended blocks report judged is
-stream_publishes c at_failure bytes blocks report judged is = within_is_published c bytes failed blocks report judged is
-stream_publishes c (early unneeded) bytes blocks report judged is = within_is_published c bytes ended blocks report judged.1 is
+stream_publishes c (read_out end) bytes blocks report judged is = within_is_published c bytes end blocks report judged is
+stream_publishes c (early unneeded) bytes blocks report judged is = within_is_published c bytes ends.Ended blocks report judged.1 is
 
 -- ---- the formula under the cube
 

@@ -6,13 +6,12 @@ ghost use Rattle.lrup_model.specs.Layout.{IsStream};
 ghost use Rattle.lrup_text.specs.ReadOut.{source_view};
 ghost use Rattle.stream_check.specs.Checker.{Ends, IsReadyAt, ReportsEnd, report_at};
 ghost use Rattle.stream_check.specs.Judging.{joined};
-ghost use Rattle.stream_jobs.specs.Judged.{end_of};
 ghost use Rattle.stream_check.specs.Setting.{max_tries};
 ghost use Rattle.runs.specs.Streams.{terms_at};
 ghost use Rattle.portfolio.specs.Working.{IsStarted, WorksOn};
 
 use lrup_model::{ClauseMap, Cube, Layout};
-use lrup_text::Source;
+use lrup_text::{Source, StreamEnd};
 use std::alloc::{AllocError, Global};
 use std::marker::Model;
 use std::sync::Wait;
@@ -121,7 +120,7 @@ impl<R: Source + Drop, G: Gate + Drop> Worker<R, G> {
         }
         match self.reader.read(&mut self.buffer) {
             Ok(0) => {
-                close(&mut self.checker, false);
+                close(&mut self.checker, StreamEnd::Ended);
                 false
             }
             Ok(count) => {
@@ -130,7 +129,7 @@ impl<R: Source + Drop, G: Gate + Drop> Worker<R, G> {
                 true
             }
             Err(_) => {
-                close(&mut self.checker, true);
+                close(&mut self.checker, StreamEnd::Failed);
                 false
             }
         }
@@ -170,13 +169,12 @@ impl<R: Source + Drop, G: Gate + Drop> Worker<R, G> {
 }
 
 /// Takes the end of the stream, or a read that failed.
-fn close(checker: &mut Checker, has_failed: bool)
-    ensures ends { Ends (end_of has_failed) checker.old checker.new }
-    ensures reports { ReportsEnd (end_of has_failed) checker.old checker.new }
+fn close(checker: &mut Checker, end: StreamEnd)
+    ensures ends { Ends end checker.old checker.new }
+    ensures reports { ReportsEnd end checker.old checker.new }
 {
-    if has_failed {
-        checker.read_failed();
-    } else {
-        checker.end();
+    match end {
+        StreamEnd::Ended => checker.end(),
+        StreamEnd::Failed => checker.read_failed(),
     }
 }

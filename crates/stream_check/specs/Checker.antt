@@ -11,6 +11,7 @@ use Rattle.lrup_text.specs.Lines.{StreamLine, Cut, LineText}
 use Rattle.lrup_text.specs.Faults.{IsRefused}
 use Rattle.lrup_model.specs.Distinct.{distinct}
 use Rattle.propagate.specs.Marks.{Propagation}
+use Rattle.lrup_text.specs.declared.device.StreamEnd.{StreamEnd}
 use Rattle.stream_check.specs.declared.fault.Fault.{Fault}
 use Rattle.stream_check.specs.declared.fault.Fault.TheVariants as faults
 use Rattle.stream_check.specs.declared.report.Ending.{Ending}
@@ -23,7 +24,7 @@ use Rattle.stream_check.specs.Setting.{Setting}
 use Rattle.stream_check.specs.Standing.{capped, Standing, Tally, is_among}
 use Rattle.stream_check.specs.Verdicts.{LineVerdict, Bad}
 use Rattle.stream_check.specs.Additions.{JudgesHints, JudgesAddition, published_by}
-use Rattle.stream_check.specs.Judging.{StreamEnd, ending_at, JudgesBlocks}
+use Rattle.stream_check.specs.Judging.{ending_at, JudgesBlocks}
 use Rattle.stream_check.specs.Leaving.{Holding, CheckerState, Going, Over, Leaves}
 use Rattle.stream_check.specs.Checking.{IsPlaceOf}
 use Rattle.stream_check.specs.CheckerValue.{CheckerValue}

@@ -7,10 +7,11 @@ ghost use Rattle.stream_check.specs.Checker.{IsNew, IsReadyAt, LeavesOn, checker
 ghost use Rattle.stream_check.specs.Judging.{joined, JudgesBlocks};
 ghost use Rattle.stream_check.specs.Leaving.{Leaves};
 ghost use Rattle.stream_check.specs.Setting.{max_tries};
-ghost use Rattle.stream_jobs.specs.Judged.{JudgesAtMark, end_of};
+ghost use Rattle.stream_jobs.specs.Judged.{JudgesAtMark};
 ghost use Rattle.stream_ring.specs.Items.{EndsAtMark};
 
 use lrup_model::{ClauseMap, Cube, Layout};
+use lrup_text::StreamEnd;
 use rtrb::Consumer;
 use std::alloc::{AllocError, Global};
 use std::sync::{OnceLock, OnceToken, Wait};
@@ -140,18 +141,18 @@ fn judge<W: Wait, G: Gate, M: ClauseMap>(
         × JudgesAtMark checker.old (M.place map.old).room (received receiver.new.consumer)
         blocks report) }
 {
-    let has_failed = check_received(wait, checker, gate, receiver, items, bytes, map)?;
-    Some(settle(checker, gate, has_failed))
+    let end = check_received(wait, checker, gate, receiver, items, bytes, map)?;
+    Some(settle(checker, gate, end))
 }
 
 /// Takes the end of the stream, or a read that failed, and says how the stream is judged; to the gate too, where it wasn't over before.
-fn settle<G: Gate>(checker: &mut Checker, gate: &mut G, has_failed: bool) -> Report
+fn settle<G: Gate>(checker: &mut Checker, gate: &mut G, end: StreamEnd) -> Report
     ensures { (bytes : List ℕ) (blocks : List History) (free : ℕ)
         → Leaves checker.old.setting bytes blocks (checker_state checker.old free)
-        → JudgesBlocks checker.old.setting bytes (end_of has_failed) blocks result }
+        → JudgesBlocks checker.old.setting bytes end blocks result }
 {
     let was_over = checker.is_over();
-    let report = close(checker, has_failed);
+    let report = close(checker, end);
     if !was_over {
         gate.when_over(checker.stream(), &report);
     }
@@ -159,20 +160,19 @@ fn settle<G: Gate>(checker: &mut Checker, gate: &mut G, has_failed: bool) -> Rep
 }
 
 /// Takes the end of the stream, or a read that failed, and says how the stream is judged.
-fn close(checker: &mut Checker, has_failed: bool) -> Report
+fn close(checker: &mut Checker, end: StreamEnd) -> Report
     ensures { (bytes : List ℕ) (blocks : List History) (free : ℕ)
         → Leaves checker.old.setting bytes blocks (checker_state checker.old free)
-        → JudgesBlocks checker.old.setting bytes (end_of has_failed) blocks result }
+        → JudgesBlocks checker.old.setting bytes end blocks result }
 {
-    if has_failed {
-        checker.read_failed();
-        return checker.report();
+    match end {
+        StreamEnd::Ended => checker.end(),
+        StreamEnd::Failed => checker.read_failed(),
     }
-    checker.end();
     checker.report()
 }
 
-/// Checks what is received, up to the mark. Did the read fail? None where no mark came.
+/// Checks what is received, up to the mark, and says which end that tells. None where no mark came.
 fn check_received<W: Wait, G: Gate, M: ClauseMap>(
     wait: &W,
     checker: &mut Checker,
@@ -181,7 +181,7 @@ fn check_received<W: Wait, G: Gate, M: ClauseMap>(
     items: &mut [u16],
     bytes: &mut [u8],
     map: &mut M,
-) -> Option<bool>
+) -> Option<StreamEnd>
     requires ready { IsReadyAt checker.old (M.place map.old) }
     requires some { 0 < length items.old }
     requires room { length items.old ≡ length bytes.old }
@@ -190,17 +190,17 @@ fn check_received<W: Wait, G: Gate, M: ClauseMap>(
     ensures setting { checker.new.setting ≡ checker.old.setting }
     ensures took { let old = checker_state checker.old (M.place map.old).room in
         let new = checker_state checker.new (M.place map.new).room in
-        IfSome result (λ failed. (fed : List ℕ) × (blocks : List History)
+        IfSome result (λ end. (fed : List ℕ) × (blocks : List History)
         × M.moves map.old map.new (joined blocks)
-        × EndsAtMark fed failed (received receiver.new.consumer)
+        × EndsAtMark fed end (received receiver.new.consumer)
         × LeavesOn checker.old.setting old fed blocks new) }
 {
     for _ in wait.forever() {
         match receiver.receive(wait, items, bytes) {
             Received::Bytes(count) => take_all(checker, gate, map, &bytes[..count]),
-            Received::Mark(count, failed) => {
+            Received::Mark(count, end) => {
                 take_all(checker, gate, map, &bytes[..count]);
-                return Some(failed);
+                return Some(end);
             }
             Received::Gone => return None,
         }
