@@ -14,7 +14,7 @@ use Rattle.lrup_model.specs.declared.layout.LayoutFault.{LayoutFault}
 use Rattle.dimacs.specs.FormulaFault.{IsFormulaFault}
 use Rattle.dimacs.specs.FormulaText.{IsFormulaText}
 use Rattle.dimacs.specs.declared.fault.DimacsFault.TheVariants as formulas
-use Rattle.lrup_text.specs.declared.device.StreamEnd.TheVariants as ends
+use Rattle.lrup_text.specs.declared.device.StreamEnd.TheVariants as stream_ends
 use Rattle.lrup_text.specs.ReadOut.{ReadOut, SourceView}
 use Rattle.lrup_text.specs.Reads.{GaveAll, ReadsOf}
 use Rattle.lrup_text.specs.Cubes.{IsCubeFault, IsCubeText}
@@ -164,7 +164,7 @@ pub record IsOutcome (R : Type 0) (files : FilesView R) (words : List Text) (rep
 pub record HasBrokenOff {R : Type 0} (reading : SourceView R) (first : R) : Type 0 where
   pub bytes : List ℕ
   pub after : R
-  pub read : ReadOut R reading.reads ends.Failed first bytes after
+  pub read : ReadOut R reading.reads stream_ends.Failed first bytes after
   pub failed : reading.has_failed after ≡ true
   pub told : ForSome (reading.left first) (λ all. (rest : List ℕ) × (all ≡ bytes ++ rest))
 

@@ -9,7 +9,7 @@ use Rattle.lrup_model.specs.Event.{History, stream_of, own}
 use Rattle.lrup_text.specs.Laws.{EveryCut, BeginningCut}
 use Rattle.lrup_model.specs.ListLemmas.{All-front}
 use Rattle.lrup_text.specs.declared.device.StreamEnd.{StreamEnd}
-use Rattle.lrup_text.specs.declared.device.StreamEnd.TheVariants as ends
+use Rattle.lrup_text.specs.declared.device.StreamEnd.TheVariants as stream_ends
 use Rattle.stream_check.specs.declared.report.Report.{Report}
 use Rattle.stream_check.specs.Setting.{Setting}
 use Rattle.stream_check.specs.Judging.{JudgesBlocks, Judges}
@@ -25,10 +25,10 @@ judged_whole : OverStays → (c : Setting) (stop : Stop) (bytes whole : List ℕ
     → IsReadingTo stop bytes whole end → JudgesTo stop c bytes blocks report → JudgesBlocks c whole end blocks report
 judged_whole law c (read_out stop) bytes whole end blocks report is j =
     subst (λ b. JudgesBlocks c b end blocks report) (sym is.0) (subst (λ e. JudgesBlocks c bytes e blocks report) (sym is.1) j)
-judged_whole law c (early unneeded) bytes whole ends.Ended blocks report is j =
-    subst (λ b. JudgesBlocks c b ends.Ended blocks report) (sym is.1) (law c bytes is.0 blocks report (j.1, j.2)).0
-judged_whole law c (early unneeded) bytes whole ends.Failed blocks report is j =
-    subst (λ b. JudgesBlocks c b ends.Failed blocks report) (sym is.1) (law c bytes is.0 blocks report (j.1, j.2)).1
+judged_whole law c (early unneeded) bytes whole stream_ends.Ended blocks report is j =
+    subst (λ b. JudgesBlocks c b stream_ends.Ended blocks report) (sym is.1) (law c bytes is.0 blocks report (j.1, j.2)).0
+judged_whole law c (early unneeded) bytes whole stream_ends.Failed blocks report is j =
+    subst (λ b. JudgesBlocks c b stream_ends.Failed blocks report) (sym is.1) (law c bytes is.0 blocks report (j.1, j.2)).1
 
 pub me : (s : ℕ) → IsTrue (one s s)
 me s = eq-eqb s s refl

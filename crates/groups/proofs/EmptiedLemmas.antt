@@ -5,7 +5,7 @@ use Rattle.std.specs.List.{AllByRecursion}
 use Rattle.std.proofs.lemmas.Bool.{cases_Bool, cond-true, cond-false, true≢false}
 use Rattle.lrup_model.specs.Event.{History, stream_of, own}
 use Rattle.lrup_model.specs.HistoryLemmas.{own-none}
-use Rattle.lrup_text.specs.declared.device.StreamEnd.TheVariants as ends
+use Rattle.lrup_text.specs.declared.device.StreamEnd.TheVariants as stream_ends
 use Rattle.stream_check.specs.declared.report.Report.{Report}
 use Rattle.stream_check.specs.Setting.{Setting}
 use Rattle.stream_check.specs.Standing.{standing_of, tally_of}
@@ -20,9 +20,9 @@ use Rattle.groups.specs.Laws.{OthersEmpty}
 fresh : Setting → Holding
 fresh c = record { tally = tally_of c []; standing = standing_of c []; pending = []; line = 1 }
 
-nothing_judged : FreshLeft → EndJudged → (c : Setting) → JudgesBlocks c [] ends.Ended [] empty_report
+nothing_judged : FreshLeft → EndJudged → (c : Setting) → JudgesBlocks c [] stream_ends.Ended [] empty_report
 unfolding fresh
-nothing_judged first last c = last c [] [] (fresh c) ends.Ended (first c (fresh c) (record { tally = refl; standing = record { last = refl; free = refl; gone = λ id. refl }; pending = refl; line = refl }))
+nothing_judged first last c = last c [] [] (fresh c) stream_ends.Ended (first c (fresh c) (record { tally = refl; standing = record { last = refl; free = refl; gone = λ id. refl }; pending = refl; line = refl }))
 
 others_call : (set : ℕ → Bool) (s : ℕ) (h : History) → set s ≡ false → AllByRecursion (λ e. IsTrue (set (stream_of e))) h → AllByRecursion (λ e. stream_of e ≡ s → ⊥) h
 others_call set s [] out all = tt

@@ -14,7 +14,7 @@ use Rattle.lrup_model.specs.HistoryLemmas.{own-mine, own-other}
 use Rattle.lrup_model.specs.RestrictionLemmas.{among-members, own-among, restriction_legal}
 use Rattle.lrup_model.specs.ListLemmas.{All-map}
 use Rattle.lrup_text.specs.Lines.{StreamLine}
-use Rattle.lrup_text.specs.declared.device.StreamEnd.TheVariants as ends
+use Rattle.lrup_text.specs.declared.device.StreamEnd.TheVariants as stream_ends
 use Rattle.stream_check.specs.declared.report.Report.{Report}
 use Rattle.stream_check.specs.Setting.{Setting}
 use Rattle.stream_check.specs.Judging.{joined}
@@ -94,7 +94,7 @@ unfolding CitePass
 fetches_within law p set c (read_out end) bytes blocks report some cites j =
     law c bytes end blocks report cites.lines cites.rest (is_within p (inside p set)) j cites.cut (cites_pass p set cites.lines some cites.within)
 fetches_within law p set c (early unneeded) bytes blocks report some cites j =
-    law c bytes ends.Ended blocks report cites.lines cites.rest (is_within p (inside p set)) j.1 cites.cut (cites_pass p set cites.lines some cites.within)
+    law c bytes stream_ends.Ended blocks report cites.lines cites.rest (is_within p (inside p set)) j.1 cites.cut (cites_pass p set cites.lines some cites.within)
 
 -- The history
 

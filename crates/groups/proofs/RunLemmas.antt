@@ -8,7 +8,7 @@ use Rattle.lrup_model.specs.Layout.{LayoutValue, Fits}
 use Rattle.lrup_model.specs.Event.{History}
 use Rattle.lrup_model.specs.History.{IsLegal}
 use Rattle.lrup_text.specs.declared.device.StreamEnd.{StreamEnd}
-use Rattle.lrup_text.specs.declared.device.StreamEnd.TheVariants as ends
+use Rattle.lrup_text.specs.declared.device.StreamEnd.TheVariants as stream_ends
 use Rattle.stream_check.specs.declared.report.Report.{Report}
 use Rattle.stream_check.specs.Setting.{Setting}
 use Rattle.stream_check.specs.Judging.{JudgesBlocks, Judges}
@@ -44,10 +44,10 @@ readers_closed law p set told streams are_told closed s stream member at =
     told_within law p set was.telling known.0 stream was.is_told known.1 known.2
 
 told_reads : (left : Option (List ℕ)) (stop : Stop) (whole bytes : List ℕ)
-    → Consumes (Some whole) left (read_to stop bytes) → StopsSo stop left false → IsReadingTo stop bytes whole ends.Ended
+    → Consumes (Some whole) left (read_to stop bytes) → StopsSo stop left false → IsReadingTo stop bytes whole stream_ends.Ended
 told_reads None stop whole bytes took stops = absurd took
-told_reads (Some left) (read_out ends.Ended) whole bytes took stops = (took ∙ ap (λ l. bytes ++ l) stops.0 ∙ append-nil bytes, refl)
-told_reads (Some left) (read_out ends.Failed) whole bytes took stops = absurd (let no : false ≡ true = stops in cc)
+told_reads (Some left) (read_out stream_ends.Ended) whole bytes took stops = (took ∙ ap (λ l. bytes ++ l) stops.0 ∙ append-nil bytes, refl)
+told_reads (Some left) (read_out stream_ends.Failed) whole bytes took stops = absurd (let no : false ≡ true = stops in cc)
 told_reads (Some left) (early unneeded) whole bytes took stops = (unneeded ++ left, took ∙ append_assoc bytes unneeded left)
 
 pub told_is_reading : ToldIsReading
@@ -58,9 +58,9 @@ told_is_reading told streams s telling stream whole are_told here at entry fine 
     (subst (StopsSo stream.stop telling.left) fine is.stops)
 
 failure_reads : (left : List ℕ) (stop : Stop) (whole bytes : List ℕ)
-    → whole ++ left ≡ read_to stop bytes ++ left → StopsSo stop (Some left) true → IsReadingTo stop bytes whole ends.Failed
-failure_reads left (read_out ends.Ended) whole bytes took stops = absurd (let no : true ≡ false = stops.1 in cc)
-failure_reads left (read_out ends.Failed) whole bytes took stops = (append_cancel_right whole bytes left took, refl)
+    → whole ++ left ≡ read_to stop bytes ++ left → StopsSo stop (Some left) true → IsReadingTo stop bytes whole stream_ends.Failed
+failure_reads left (read_out stream_ends.Ended) whole bytes took stops = absurd (let no : true ≡ false = stops.1 in cc)
+failure_reads left (read_out stream_ends.Failed) whole bytes took stops = (append_cancel_right whole bytes left took, refl)
 failure_reads left (early unneeded) whole bytes took stops = absurd (let no : true ≡ false = stops in cc)
 
 pub failed_is_reading : FailedIsReading
@@ -149,20 +149,20 @@ same_reading_agrees within group alone f terms s whole end told other_told repor
     at there reads also says too
 
 judged_to : DecidedBeforeFailure → (c : Setting) (stop : Stop) (bytes whole : List ℕ) (left : Option (List ℕ)) (has_failed : Bool) (blocks : List History) (report : Report)
-    → Consumes (Some whole) left (read_to stop bytes) → StopsSo stop left has_failed → ¬ IsOfFailure report → JudgesTo stop c bytes blocks report → JudgesBlocks c whole ends.Ended blocks report
+    → Consumes (Some whole) left (read_to stop bytes) → StopsSo stop left has_failed → ¬ IsOfFailure report → JudgesTo stop c bytes blocks report → JudgesBlocks c whole stream_ends.Ended blocks report
 judged_to law c stop bytes whole None has_failed blocks report took stops machine j = absurd took
-judged_to law c (read_out ends.Ended) bytes whole (Some left) has_failed blocks report took stops machine j =
-    subst (λ b. JudgesBlocks c b ends.Ended blocks report) (sym (took ∙ ap (λ l. bytes ++ l) stops.0 ∙ append-nil bytes)) j
-judged_to law c (read_out ends.Failed) bytes whole (Some left) has_failed blocks report took stops machine j =
-    subst (λ b. JudgesBlocks c b ends.Ended blocks report) (sym took) (law c bytes left ends.Ended blocks report machine j)
+judged_to law c (read_out stream_ends.Ended) bytes whole (Some left) has_failed blocks report took stops machine j =
+    subst (λ b. JudgesBlocks c b stream_ends.Ended blocks report) (sym (took ∙ ap (λ l. bytes ++ l) stops.0 ∙ append-nil bytes)) j
+judged_to law c (read_out stream_ends.Failed) bytes whole (Some left) has_failed blocks report took stops machine j =
+    subst (λ b. JudgesBlocks c b stream_ends.Ended blocks report) (sym took) (law c bytes left stream_ends.Ended blocks report machine j)
 judged_to law c (early unneeded) bytes whole (Some left) has_failed blocks report took stops machine j =
-    subst (λ b. JudgesBlocks c b ends.Ended blocks report) (sym (took ∙ append_assoc bytes unneeded left)) (law c bytes (unneeded ++ left) ends.Ended blocks report machine j.2)
+    subst (λ b. JudgesBlocks c b stream_ends.Ended blocks report) (sym (took ∙ append_assoc bytes unneeded left)) (law c bytes (unneeded ++ left) stream_ends.Ended blocks report machine j.2)
 
 -- a legal history judges all these bytes so
 record IsJudgedWhole (f : Cnf) (terms : Terms) (s : ℕ) (whole : List ℕ) (report : Report) : Type 0 where
   history : History
   legal : IsLegal f terms.layout history
-  judges : Judges (setting_of terms s) whole ends.Ended history report
+  judges : Judges (setting_of terms s) whole stream_ends.Ended history report
 
 whole_judged : BeginningsWithin → ClosedIsGroup → DecidedBeforeFailure
     → (f : Cnf) (terms : Terms) (s : ℕ) (whole : List ℕ) (told : List Telling) (telling : Telling) (reports : List Report) (report : Report)
@@ -195,4 +195,4 @@ same_bytes_agree within group decides decided f terms s whole told other_told te
     fits cites a b here entry there known says too memory failure none never =
     let mine = whole_judged within group decided f terms s whole told telling reports report fits cites a here entry says memory failure in
     let theirs = whole_judged within group decided f terms s whole other_told other_telling other_reports other_report fits cites b there known too none never in
-    (decides f terms.layout (setting_of terms s) whole ends.Ended mine.history theirs.history report other_report mine.legal theirs.legal mine.judges theirs.judges memory none).1
+    (decides f terms.layout (setting_of terms s) whole stream_ends.Ended mine.history theirs.history report other_report mine.legal theirs.legal mine.judges theirs.judges memory none).1

@@ -8,7 +8,7 @@ use Rattle.lrup_model.specs.History.{IsLegal}
 use Rattle.stream_check.specs.declared.report.Ending.TheVariants as endings
 use Rattle.stream_check.specs.declared.report.Report.{Report}
 use Rattle.lrup_text.specs.declared.device.StreamEnd.{StreamEnd}
-use Rattle.lrup_text.specs.declared.device.StreamEnd.TheVariants as ends
+use Rattle.lrup_text.specs.declared.device.StreamEnd.TheVariants as stream_ends
 use Rattle.stream_check.specs.Laws.{IsOfMemory}
 use Rattle.runs.specs.Closed.{IsOfStream, CiteWithin, IsClosed}
 use Rattle.runs.specs.Streams.{Stop, read_out, early, Stream, Telling, Terms, AreTold}
@@ -93,7 +93,7 @@ HaveReportsAlone f terms told Judged reports =
 
 -- no bytes, read to the end
 abbrev pub empty_stream : Stream
-empty_stream = record { bytes = []; stop = read_out ends.Ended }
+empty_stream = record { bytes = []; stop = read_out stream_ends.Ended }
 
 -- what is said of them
 abbrev pub empty_report : Report

@@ -7,7 +7,7 @@ use Rattle.lrup_model.specs.History.{IsLegal}
 use Rattle.lrup_model.specs.Pass.{View}
 use Rattle.stream_check.specs.declared.report.Report.{Report}
 use Rattle.lrup_text.specs.declared.device.StreamEnd.{StreamEnd}
-use Rattle.lrup_text.specs.declared.device.StreamEnd.TheVariants as ends
+use Rattle.lrup_text.specs.declared.device.StreamEnd.TheVariants as stream_ends
 use Rattle.stream_check.specs.Laws.{IsOfMemory, IsOfFailure}
 use Rattle.runs.specs.Streams.{Stream, Telling, Terms, AreTold, StandsOnStreams, IsOrdered}
 use Rattle.runs.specs.Headline.{HaveOneHistory, AreJudgedIn}
@@ -116,7 +116,8 @@ abbrev pub ToldIsReading : Type 0
 ToldIsReading = (told : List Telling) (streams : List Stream) (s : ℕ) (telling : Telling)
     (stream : Stream) (whole : List ℕ)
     → AreTold told streams → IsOfStream told s telling → IsOfStream streams s stream
-    → telling.entry ≡ Some whole → telling.has_failed ≡ false → IsReadingOf whole ends.Ended stream
+    → telling.entry ≡ Some whole → telling.has_failed ≡ false
+    → IsReadingOf whole stream_ends.Ended stream
 
 -- a reader that failed told all bytes before those that it has left then
 abbrev pub FailedIsReading : Type 0
@@ -124,7 +125,7 @@ FailedIsReading = (told : List Telling) (streams : List Stream) (s : ℕ) (telli
     (stream : Stream) (whole left : List ℕ)
     → AreTold told streams → IsOfStream told s telling → IsOfStream streams s stream
     → telling.entry ≡ Some (whole ++ left) → telling.left ≡ Some left → telling.has_failed ≡ true
-    → IsReadingOf whole ends.Failed stream
+    → IsReadingOf whole stream_ends.Failed stream
 
 -- In two runs of one formula, by the same terms, a stream that cites within itself has one report where the readers told the
 -- same bytes and end of it, unless memory ran out: whatever the other streams are, and whichever runs have threads.

@@ -13,7 +13,7 @@ use Rattle.lrup_model.specs.Laws.{FindsWithin}
 use Rattle.lrup_text.specs.Lines.{StreamLine}
 use Rattle.lrup_text.specs.Laws.{EveryCut}
 use Rattle.lrup_text.specs.declared.device.StreamEnd.{StreamEnd}
-use Rattle.lrup_text.specs.declared.device.StreamEnd.TheVariants as ends
+use Rattle.lrup_text.specs.declared.device.StreamEnd.TheVariants as stream_ends
 use Rattle.stream_check.specs.declared.report.Report.{Report}
 use Rattle.stream_check.specs.Setting.{Setting}
 use Rattle.stream_check.specs.Judging.{joined, JudgesBlocks}
@@ -33,13 +33,13 @@ use Rattle.orders.proofs.OrderLemmas.{streams_in, streams_are, are_streams, own_
 pub some_end : (stop : Stop) (c : Setting) (bytes : List ℕ) (blocks : List History) (report : Report)
     → JudgesTo stop c bytes blocks report → (end : StreamEnd) × JudgesBlocks c bytes end blocks report
 some_end (read_out end) c bytes blocks report judged = (end, judged)
-some_end (early unneeded) c bytes blocks report judged = (ends.Ended, judged.1)
+some_end (early unneeded) c bytes blocks report judged = (stream_ends.Ended, judged.1)
 
 reduced_judged : ReducedStream → (stop : Stop) (c : Setting) (bytes : List ℕ) (blocks : List History) (report : Report)
     → JudgesTo stop c bytes blocks report → JudgesTo stop c bytes (map reduced blocks) report
 reduced_judged law (read_out end) c bytes blocks report judged = law c bytes end blocks report judged
 reduced_judged law (early unneeded) c bytes blocks report judged =
-    (judged.0, law c bytes ends.Ended blocks report judged.1, law c bytes ends.Failed blocks report judged.2)
+    (judged.0, law c bytes stream_ends.Ended blocks report judged.1, law c bytes stream_ends.Failed blocks report judged.2)
 
 module _ (terms : Terms) (set : ℕ → Bool) (h : History) where
   -- if the stream is of the set, these blocks are its own events, and it is judged by them

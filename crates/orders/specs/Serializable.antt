@@ -26,5 +26,6 @@ IsSerializable f terms told h reports = (streams : List Stream)
     → AreTold told streams → AreJudgedIn terms (λ s. true) h 1 streams reports
     → ((set : ℕ → Bool) → IsClosed terms.layout set streams → FoundStays f terms.layout set h
     → IsOrdered f terms set streams reports)
-    × (FoundStays f terms.layout (λ s. true) h → (order : IsOrdered f terms (λ s. true) streams reports)
+    × (FoundStays f terms.layout (λ s. true) h
+    → (order : IsOrdered f terms (λ s. true) streams reports)
     × ComeToVerdict terms.cube (events_in order.blocks) reports)

@@ -16,7 +16,7 @@ use Rattle.lrup_model.specs.History.{LegalFrom, IsLegal, IsPublishable}
 use Rattle.lrup_model.specs.declared.clause_map.Published.TheVariants as publishing
 use Rattle.lrup_text.specs.Lines.{StreamLine, Addition, Deletion, Import}
 use Rattle.lrup_text.specs.declared.device.StreamEnd.{StreamEnd}
-use Rattle.lrup_text.specs.declared.device.StreamEnd.TheVariants as ends
+use Rattle.lrup_text.specs.declared.device.StreamEnd.TheVariants as stream_ends
 use Rattle.stream_check.specs.declared.fault.Fault.TheVariants as faults
 use Rattle.stream_check.specs.declared.report.Report.{Report}
 use Rattle.stream_check.specs.Setting.{Setting}
@@ -73,7 +73,7 @@ within_is_published c bytes end blocks report judged is =
 stream_publishes : (c : Setting) (stop : Stop) (bytes : List ℕ) (blocks : List History) (report : Report)
     → JudgesTo stop c bytes blocks report → IsTrue report.within → IsTrue (list_any (publishes_within c.cube) (joined blocks))
 stream_publishes c (read_out end) bytes blocks report judged is = within_is_published c bytes end blocks report judged is
-stream_publishes c (early unneeded) bytes blocks report judged is = within_is_published c bytes ends.Ended blocks report judged.1 is
+stream_publishes c (early unneeded) bytes blocks report judged is = within_is_published c bytes stream_ends.Ended blocks report judged.1 is
 
 -- ---- the formula under the cube
 

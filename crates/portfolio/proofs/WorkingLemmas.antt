@@ -8,7 +8,7 @@ use Rattle.std.proofs.lemmas.List.{take-take, drop-drop}
 use Rattle.lrup_model.specs.Event.{History}
 use Rattle.lrup_text.specs.Lines.{StreamLine}
 use Rattle.lrup_text.specs.declared.device.StreamEnd.{StreamEnd}
-use Rattle.lrup_text.specs.declared.device.StreamEnd.TheVariants as ends
+use Rattle.lrup_text.specs.declared.device.StreamEnd.TheVariants as stream_ends
 use Rattle.stream_check.specs.declared.report.Ending.{Ending}
 use Rattle.stream_check.specs.declared.report.Ending.TheVariants as endings
 use Rattle.stream_check.specs.declared.report.Report.{Report}
@@ -36,24 +36,24 @@ not_over over ending is going = none_of ending (λ some. let yes : over ≡ true
 
 -- ---- a report that is right for either end tells of neither
 
-ends_not_ended : (c : Setting) (lines : List StreamLine) (rest : List ℕ) (blocks : List History) (report : Report) → EndsAfter c lines rest ends.Failed blocks report → report.ending ≡ endings.Ended → ⊥
+ends_not_ended : (c : Setting) (lines : List StreamLine) (rest : List ℕ) (blocks : List History) (report : Report) → EndsAfter c lines rest stream_ends.Failed blocks report → report.ending ≡ endings.Ended → ⊥
 ends_not_ended c lines rest blocks report (inl line) e = let f = sym e ∙ ap (λ (r : Report). r.ending) line.says in cc
 ends_not_ended c lines rest blocks report (inr (inl text)) e = let f = sym e ∙ ap (λ (r : Report). r.ending) text.says in cc
 ends_not_ended c lines rest blocks report (inr (inr (inl memory))) e = let f = sym e ∙ ap (λ (r : Report). r.ending) memory.says in cc
 ends_not_ended c lines rest blocks report (inr (inr (inr ending))) e = let f = sym e ∙ ap (λ (r : Report). r.ending) ending.says in cc
 
-end_not_failed : (rest : List ℕ) (n line : ℕ) → ending_at ends.Ended rest n ≡ endings.ReadFailed line → ⊥
+end_not_failed : (rest : List ℕ) (n line : ℕ) → ending_at stream_ends.Ended rest n ≡ endings.ReadFailed line → ⊥
 end_not_failed [] n line e = cc
 end_not_failed (byte ∷ bytes) n line e = cc
 
-ends_not_failed : (c : Setting) (lines : List StreamLine) (rest : List ℕ) (blocks : List History) (report : Report) (n : ℕ) → EndsAfter c lines rest ends.Ended blocks report → report.ending ≡ endings.ReadFailed n → ⊥
+ends_not_failed : (c : Setting) (lines : List StreamLine) (rest : List ℕ) (blocks : List History) (report : Report) (n : ℕ) → EndsAfter c lines rest stream_ends.Ended blocks report → report.ending ≡ endings.ReadFailed n → ⊥
 ends_not_failed c lines rest blocks report n (inl line) e = let f = sym e ∙ ap (λ (r : Report). r.ending) line.says in cc
 ends_not_failed c lines rest blocks report n (inr (inl text)) e = let f = sym e ∙ ap (λ (r : Report). r.ending) text.says in cc
 ends_not_failed c lines rest blocks report n (inr (inr (inl memory))) e = let f = sym e ∙ ap (λ (r : Report). r.ending) memory.says in cc
 ends_not_failed c lines rest blocks report n (inr (inr (inr ending))) e = end_not_failed rest _ n (sym (ap (λ (r : Report). r.ending) ending.says) ∙ e)
 
 stops_reading : (c : Setting) (bytes : List ℕ) (blocks : List History) (report : Report) (ending : Ending) → report.ending ≡ ending
-    → JudgesBlocks c bytes ends.Ended blocks report → JudgesBlocks c bytes ends.Failed blocks report → StopsReading ending
+    → JudgesBlocks c bytes stream_ends.Ended blocks report → JudgesBlocks c bytes stream_ends.Failed blocks report → StopsReading ending
 stops_reading c bytes blocks report endings.Ended is at_end at_failure = ends_not_ended c at_failure.lines at_failure.rest at_failure.back report at_failure.ends is
 stops_reading c bytes blocks report (endings.Bad line fault) is at_end at_failure = tt
 stops_reading c bytes blocks report (endings.ReadFailed line) is at_end at_failure = ends_not_failed c at_end.lines at_end.rest at_end.back report line at_end.ends is

@@ -10,7 +10,7 @@ use Rattle.lrup_text.specs.Grammar.{space}
 use Rattle.lrup_text.specs.Lines.{StreamLine, Addition, Deletion, Import, Cut, HasNoLine, line_text}
 use Rattle.lrup_text.specs.Laws.{OneCut}
 use Rattle.stream_check.specs.declared.report.Report.{Report}
-use Rattle.lrup_text.specs.declared.device.StreamEnd.TheVariants as ends
+use Rattle.lrup_text.specs.declared.device.StreamEnd.TheVariants as stream_ends
 use Rattle.std.specs.List.{AllByRecursion, list_any}
 use Rattle.stream_check.specs.Laws.{IsOfMemory, cited_by}
 use Rattle.lrup_model.specs.Cube.{CubeValue}
@@ -96,7 +96,7 @@ report_alone closes reads view firsts lasts bytes Judged reports report streams 
         reads = is_reading;
         says = says;
       };
-      only = only streams told judged 1 first.stream report first.at says closed memory bytes ends.Ended is_reading;
+      only = only streams told judged 1 first.stream report first.at says closed memory bytes stream_ends.Ended is_reading;
     }
 
 -- The verdict of an order of lines

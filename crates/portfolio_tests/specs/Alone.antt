@@ -5,7 +5,7 @@ use Rattle.lrup_model.specs.Layout.{LayoutValue}
 use Rattle.lrup_model.specs.Event.{publishes_empty}
 use Rattle.lrup_model.specs.History.{IsLegal}
 use Rattle.stream_check.specs.declared.report.Report.{Report}
-use Rattle.lrup_text.specs.declared.device.StreamEnd.TheVariants as ends
+use Rattle.lrup_text.specs.declared.device.StreamEnd.TheVariants as stream_ends
 use Rattle.portfolio.specs.Outcomes.{OptionsValue, layout_of, terms_of}
 use Rattle.portfolio.specs.declared.outcome.Verdict.{Verdict}
 use Rattle.portfolio.specs.declared.outcome.Verdict.TheVariants.{Unsatisfiable}
@@ -30,8 +30,9 @@ two_terms = terms_of usual [] four 2
 
 -- the report is one that stream 1 may have alone, where it has these bytes and ends after them, and the only one
 pub record IsOnlyReport (bytes : List ℕ) (report : Report) : Type 0 where
-  pub alone : IsReportAlone four two_terms 1 bytes ends.Ended report
-  pub only : (other : Report) → IsReportAlone four two_terms 1 bytes ends.Ended other → other ≡ report
+  pub alone : IsReportAlone four two_terms 1 bytes stream_ends.Ended report
+  pub only : (other : Report) → IsReportAlone four two_terms 1 bytes stream_ends.Ended other
+      → other ≡ report
 
 -- a legal history of whole lines publishes the empty clause exactly where this is the verdict 'unsatisfiable'
 pub record HasOrder (verdict : Verdict) : Type 0 where

@@ -9,7 +9,7 @@ use Rattle.lrup_model.specs.Event.{History, stream_of}
 use Rattle.lrup_model.specs.History.{IsLegal}
 use Rattle.lrup_text.specs.ReadOut.{EndsSo, SourceView}
 use Rattle.lrup_text.specs.declared.device.StreamEnd.{StreamEnd}
-use Rattle.lrup_text.specs.declared.device.StreamEnd.TheVariants as ends
+use Rattle.lrup_text.specs.declared.device.StreamEnd.TheVariants as stream_ends
 use Rattle.stream_check.specs.declared.report.Ending.{Ending}
 use Rattle.stream_check.specs.declared.report.Ending.TheVariants as endings
 use Rattle.stream_check.specs.declared.report.Report.{Report}
@@ -80,8 +80,8 @@ StopsReading (endings.Memory line) = Unit {0}
 abbrev pub JudgesTo : Stop → Setting → List ℕ → List History → Report → Type 0
 JudgesTo (read_out end) c bytes blocks report = JudgesBlocks c bytes end blocks report
 JudgesTo (early unneeded) c bytes blocks report =
-    StopsReading report.ending × JudgesBlocks c bytes ends.Ended blocks report
-    × JudgesBlocks c bytes ends.Failed blocks report
+    StopsReading report.ending × JudgesBlocks c bytes stream_ends.Ended blocks report
+    × JudgesBlocks c bytes stream_ends.Failed blocks report
 
 -- the stream is judged by these blocks of events, as its stop wants
 abbrev pub JudgesStream : Setting → Stream → List History → Report → Type 0

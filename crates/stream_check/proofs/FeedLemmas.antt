@@ -12,11 +12,11 @@ use Rattle.lrup_text.specs.Grammar.{space, letter_d, letter_i, clause_text, list
 use Rattle.lrup_text.specs.Lines.{StreamLine, Addition, Deletion, Import, Cut, IsPending, HasNoLine, LineText, line_text}
 use Rattle.lrup_text.specs.Feeding as feeding
 use Rattle.lrup_text.specs.Feeding.{ReaderState}
-use Rattle.lrup_text.specs.declared.reader.End.TheVariants as finals
+use Rattle.lrup_text.specs.declared.reader.End.TheVariants as ends
 use Rattle.lrup_text.specs.declared.LineFault.TheVariants as texts
 use Rattle.lrup_text.specs.declared.LineFault.{LineFault}
 use Rattle.lrup_text.specs.declared.device.StreamEnd.{StreamEnd}
-use Rattle.lrup_text.specs.declared.device.StreamEnd.TheVariants as ends
+use Rattle.lrup_text.specs.declared.device.StreamEnd.TheVariants as stream_ends
 use Rattle.stream_check.specs.Laws.{FreshLeft}
 use Rattle.stream_check.specs.declared.fault.Fault.TheVariants as faults
 use Rattle.stream_check.specs.declared.report.Ending.TheVariants as endings
@@ -124,8 +124,8 @@ stops_at line stop ending text is (inr refused) = inr (line, refused.0, is ∙ a
 -- The end of the stream, or a failed read
 
 either_report : (c : Setting) (bytes : List ℕ) (blocks : List History) (end : StreamEnd) (report : Report) → Leaves c bytes blocks (Over report) → JudgesBlocks c bytes end blocks report
-either_report c bytes blocks ends.Ended report over = over.0
-either_report c bytes blocks ends.Failed report over = over.1
+either_report c bytes blocks stream_ends.Ended report over = over.0
+either_report c bytes blocks stream_ends.Failed report over = over.1
 
 -- a checker that is over stays as it is
 pub ends_over : (end : StreamEnd) (v : CheckerValue) (ending : Ending) → v.ending ≡ Some ending → Ends end v v
@@ -154,16 +154,16 @@ reports_now end old new none tally ending bytes blocks free leaves =
 
 -- the end of the lines, where a line is open and where none is
 
-pub ended_clean : (r : ReaderState) (line : ℕ) → r ≡ Ok [] → ending_at ends.Ended (read_of r) line ≡ endings.Ended
-ended_clean r line reads = ap (λ (s : ReaderState). ending_at ends.Ended (read_of s) line) reads
+pub ended_clean : (r : ReaderState) (line : ℕ) → r ≡ Ok [] → ending_at stream_ends.Ended (read_of r) line ≡ endings.Ended
+ended_clean r line reads = ap (λ (s : ReaderState). ending_at stream_ends.Ended (read_of s) line) reads
 
-ended_open : (read : List ℕ) (line : ℕ) (fault : LineFault) → (read ≡ [] → ⊥) → fault ≡ texts.Truncated → ending_at ends.Ended read line ≡ endings.Bad line (faults.Text fault)
+ended_open : (read : List ℕ) (line : ℕ) (fault : LineFault) → (read ≡ [] → ⊥) → fault ≡ texts.Truncated → ending_at stream_ends.Ended read line ≡ endings.Bad line (faults.Text fault)
 ended_open [] line fault unread is = absurd (unread refl)
 ended_open (byte ∷ bytes) line fault unread is = ap (λ (f : LineFault). endings.Bad line (faults.Text f)) (sym is)
 
-pub ended_fault : (r new : ReaderState) (line : ℕ) (fault : LineFault) → r ≡ Ok (read_of r) → feeding.ReaderEnds r (finals.Fault fault) new → ending_at ends.Ended (read_of r) line ≡ endings.Bad line (faults.Text fault)
+pub ended_fault : (r new : ReaderState) (line : ℕ) (fault : LineFault) → r ≡ Ok (read_of r) → feeding.ReaderEnds r (ends.Fault fault) new → ending_at stream_ends.Ended (read_of r) line ≡ endings.Bad line (faults.Text fault)
 ended_fault r new line fault reads at_end =
-    let left = subst (λ (s : ReaderState). feeding.ReaderEnds s (finals.Fault fault) new) reads at_end in
+    let left = subst (λ (s : ReaderState). feeding.ReaderEnds s (ends.Fault fault) new) reads at_end in
     ended_open (read_of r) line fault left.0 left.1
 
 -- Before the first byte

@@ -16,7 +16,7 @@ use Rattle.lrup_text.specs.declared.LineFault.TheVariants as texts
 use Rattle.lrup_text.specs.Lines.{StreamLine, Addition, Deletion, Import, Cut, LineText, IsPending}
 use Rattle.lrup_text.specs.Faults.{IsRefused}
 use Rattle.lrup_text.specs.declared.device.StreamEnd.{StreamEnd}
-use Rattle.lrup_text.specs.declared.device.StreamEnd.TheVariants as ends
+use Rattle.lrup_text.specs.declared.device.StreamEnd.TheVariants as stream_ends
 use Rattle.stream_check.specs.declared.fault.Fault.{Fault}
 use Rattle.stream_check.specs.declared.fault.Fault.TheVariants as faults
 use Rattle.stream_check.specs.declared.report.Ending.{Ending}
@@ -115,7 +115,7 @@ IsOfFailure report = (line : ℕ) × (report.ending ≡ endings.ReadFailed line)
 abbrev pub DecidedBeforeFailure : Type 0
 DecidedBeforeFailure = (c : Setting) (bytes more : List ℕ) (end : StreamEnd) (blocks : List History)
     (report : Report)
-    → ¬ IsOfFailure report → JudgesBlocks c bytes ends.Failed blocks report
+    → ¬ IsOfFailure report → JudgesBlocks c bytes stream_ends.Failed blocks report
     → JudgesBlocks c (bytes ++ more) end blocks report
 
 -- Where a checker may be fed

@@ -3,6 +3,7 @@ ghost use Rattle.std.specs.Prelude.{◌≡◌, ◌↔◌, ◌≤◌, ◌<◌, Is
 ghost use Rattle.lrup_model.specs.Event.{History};
 ghost use Rattle.lrup_model.specs.Layout.{IsStream};
 ghost use Rattle.stream_check.specs.Setting.{max_tries};
+ghost use Rattle.lrup_text.specs.declared.device.StreamEnd.TheVariants as stream_ends;
 ghost use Rattle.stream_check.specs.Judging.{joined};
 ghost use Rattle.stream_check.specs.Checker.{checker_state, report_at, IsReadyAt, LeavesOn, AreBlocksOf, Turns, StaysOver, IsNew, Ends, ReportsEnd};
 
@@ -135,8 +136,8 @@ impl Checker {
 
     /// Takes the end of the stream.
     pub fn end(&mut self)
-        ensures ends { Ends StreamEnd.Ended self.old self.new }
-        ensures reports { ReportsEnd StreamEnd.Ended self.old self.new }
+        ensures ends { Ends stream_ends.Ended self.old self.new }
+        ensures reports { ReportsEnd stream_ends.Ended self.old self.new }
     {
         if self.ending.is_some() {
             return;
@@ -149,8 +150,8 @@ impl Checker {
 
     /// Records a read failure.
     pub fn read_failed(&mut self)
-        ensures ends { Ends StreamEnd.Failed self.old self.new }
-        ensures reports { ReportsEnd StreamEnd.Failed self.old self.new }
+        ensures ends { Ends stream_ends.Failed self.old self.new }
+        ensures reports { ReportsEnd stream_ends.Failed self.old self.new }
     {
         if self.ending.is_some() {
             return;

@@ -5,7 +5,7 @@ use native.Mathlib.Numerals.{unary_clauses}
 use Rattle.std.proofs.Math.Seq.{take-suc, take-append_seam}
 use Rattle.std.proofs.lemmas.List.{map-append, length-map, length-take-le, length-append}
 use Rattle.lrup_text.specs.declared.device.StreamEnd.{StreamEnd}
-use Rattle.lrup_text.specs.declared.device.StreamEnd.TheVariants as ends
+use Rattle.lrup_text.specs.declared.device.StreamEnd.TheVariants as stream_ends
 use Rattle.stream_ring.specs.Items.{EndsAtMark, IsSentOf, mark_of, end_told, byte_of}
 
 head_below : (x : ℕ) (xs : List ℕ) → All (λ b. b < 256) (x ∷ xs) → x < 256
@@ -88,12 +88,12 @@ ends_there past items new rest n count end some fits m are at f =
     )
 
 mark_is : (end : StreamEnd) → 256 ≤ mark_of end
-mark_is ends.Ended = omega arith
-mark_is ends.Failed = omega arith
+mark_is stream_ends.Ended = omega arith
+mark_is stream_ends.Failed = omega arith
 
 mark_tells : (end : StreamEnd) → end_told (mark_of end) ≡ end
-mark_tells ends.Ended = refl
-mark_tells ends.Failed = refl
+mark_tells stream_ends.Ended = refl
+mark_tells stream_ends.Failed = refl
 
 pub came_by : (items received known : List ℕ) → received ++ known ≡ items → (bytes came : List ℕ) (sent end : StreamEnd)
     → IsSentOf bytes sent items → EndsAtMark came end received → (came ≡ bytes) × (end ≡ sent)

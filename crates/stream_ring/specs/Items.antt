@@ -2,17 +2,17 @@
 use Rattle.std.specs.Prelude.{◌≡◌, ℕ, ◌<◌, ◌≤◌, ◌%◌, List, [], ◌∷◌, ◌++◌, All, map, nat_eq, if◌then◌else◌}
 use Rattle.std.specs.Io.KnownBytes.{Consumes}
 use Rattle.lrup_text.specs.declared.device.StreamEnd.{StreamEnd}
-use Rattle.lrup_text.specs.declared.device.StreamEnd.TheVariants as ends
+use Rattle.lrup_text.specs.declared.device.StreamEnd.TheVariants as stream_ends
 use Rattle.lrup_text.specs.ReadOut.{EndsSo, ReadOut, SourceView}
 
 -- the mark of a stream that ended, and of one whose read failed
 abbrev pub mark_of : StreamEnd → ℕ
-mark_of ends.Ended = 256
-mark_of ends.Failed = 257
+mark_of stream_ends.Ended = 256
+mark_of stream_ends.Failed = 257
 
 -- the end that a mark tells
 abbrev pub end_told : ℕ → StreamEnd
-end_told mark = if nat_eq mark 257 then ends.Failed else ends.Ended
+end_told mark = if nat_eq mark 257 then stream_ends.Failed else stream_ends.Ended
 
 -- the byte of an item
 abbrev pub byte_of : ℕ → ℕ

@@ -2,7 +2,7 @@
 ghost use Rattle.std.specs.Prelude.{◌≡◌, ◌<◌, ◌≤◌, ℕ, List, [], ◌++◌, ◌∷◌, false, length, take, map, All, IfOk};
 ghost use Rattle.rtrb.specs.Ring.{sent, received, SameProducer, SameConsumer, IsPair};
 ghost use Rattle.lrup_text.specs.ReadOut.{EndsSo, source_view};
-ghost use Rattle.stream_ring.specs.Items.{EndsAtMark, IsSentOf, SendsAll, byte_of};
+ghost use Rattle.stream_ring.specs.Items.{EndsAtMark, IsSentOf, SendsAll, byte_of, end_told};
 
 use crate::blocks::{narrow, widen};
 use crossbeam_utils::Backoff;
@@ -241,12 +241,18 @@ impl Receiver {
         if last < END {
             return Received::Bytes(count);
         }
-        let end = if last == FAILURE {
-            StreamEnd::Failed
-        } else {
-            StreamEnd::Ended
-        };
-        Received::Mark(count - 1, end)
+        Received::Mark(count - 1, end_of(last))
+    }
+}
+
+/// The end that a mark tells.
+fn end_of(mark: u16) -> StreamEnd
+    ensures { result ≡ end_told mark }
+{
+    if mark == FAILURE {
+        StreamEnd::Failed
+    } else {
+        StreamEnd::Ended
     }
 }
 

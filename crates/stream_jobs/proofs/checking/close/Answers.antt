@@ -1,0 +1,18 @@
+use Rattle.std.proofs.Common.{sym, subst}
+use Rattle.lrup_text.specs.declared.device.StreamEnd.{StreamEnd}
+use Rattle.lrup_text.specs.declared.device.StreamEnd.TheVariants as stream_ends
+use Rattle.stream_check.specs.Checker.{ReportsEnd}
+use Rattle.stream_jobs.proofs.JudgingLemmas.{closes}
+use Rattle.stream_jobs.proofs.checking.close.Goals as goal
+use Rattle.stream_jobs.proofs.checking.close.Goals.{in-Ended, in-Failed}
+
+pub returns : goal.returns
+returns c =
+    let old = c.args.checker.now in
+    let reports : ReportsEnd c.args.end old c.match-end.checker = elim c.match-end.branch [
+      | in-Ended w ↦ subst (λ (e : StreamEnd). ReportsEnd e old c.match-end.checker) (sym w.in-Ended.is)
+          (subst (ReportsEnd stream_ends.Ended old) (sym w.checker-is) w.end.ensures.reports)
+      | in-Failed w ↦ subst (λ (e : StreamEnd). ReportsEnd e old c.match-end.checker) (sym w.in-Failed.is)
+          (subst (ReportsEnd stream_ends.Failed old) (sym w.checker-is) w.read_failed.ensures.reports)
+    ] in
+    closes c.args.end old c.match-end.checker c.report.result reports c.report.ensures
