@@ -33,9 +33,6 @@ judged_whole law c (early unneeded) bytes whole stream_ends.Failed blocks report
 pub me : (s : ℕ) → IsTrue (one s s)
 me s = eq-eqb s s refl
 
-pub only : (s t : ℕ) → IsTrue (one s t) → t ≡ s
-only s t member = elim (eqb_tells t s) [ inl same ↦ same.1 | inr other ↦ absurd (let no : true ≡ false = sym member ∙ other.0 in cc) ]
-
 pub own-one : (s : ℕ) (h : History) → AllByRecursion (λ e. IsTrue (one s (stream_of e))) h → own h s ≡ h
 own-one s [] all = refl
 own-one s (e ∷ h) all = cond-true (eqb (stream_of e) s) (e ∷ own h s) (own h s) all.0 ∙ ap (λ (k : History). e ∷ k) (own-one s h all.1)

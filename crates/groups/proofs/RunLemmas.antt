@@ -17,10 +17,11 @@ use Rattle.runs.specs.Streams.{Stop, read_out, early, Stream, Telling, read_to, 
 use Rattle.runs.specs.Closed.{IsOfStream, CiteWithin}
 use Rattle.runs.specs.StreamLemmas.{told_count, told_from, told_begins, same_at}
 use Rattle.groups.specs.Groups.{one, IsAlone, IsRun, IsReadingTo}
-use Rattle.groups.specs.Laws.{BeginningsWithin, ReadersClosed, ClosedIsGroup, OrderedIsGroup, AloneHasOneReport, RunIsolated, SerialIsolated, IsolatedAlone, ThreadsRun, SerialRun, ToldIsReading, FailedIsReading, SameReadingAgrees, SameBytesAgree}
+use Rattle.groups.specs.Laws.{BeginningsWithin, ReadersClosed, ClosedIsGroup, OrderedIsGroup, AloneHasOneReport, RunIsolated, SerialIsolated, ThreadsRun, SerialRun, ToldIsReading, FailedIsReading, SameReadingAgrees, SameBytesAgree}
 use Rattle.groups.proofs.Places.{has_place, judged_count, judged_at, judged_fewer}
 use Rattle.groups.proofs.OrderLemmas.{ordered_judged}
-use Rattle.groups.proofs.AloneLemmas.{me, only, own-one}
+use Rattle.groups.specs.ReportLemmas.{only}
+use Rattle.groups.proofs.AloneLemmas.{me, own-one}
 
 -- What a reader told
 
@@ -83,15 +84,6 @@ run_isolated law f terms h passes told reports fits count one streams are_told j
 pub serial_isolated : OrderedIsGroup → SerialIsolated
 serial_isolated law f terms told reports fits count streams are_told ordered set closed memory =
     law f terms (λ s. true) set streams reports fits (told_count told streams are_told ∙ count) (λ s member. refl) ordered closed memory
-
-pub isolated_alone : AloneHasOneReport → IsolatedAlone
-isolated_alone law f terms told Judged reports isolated streams are_told judged s stream report at says closed memory whole end reads other alone =
-    let group = isolated streams are_told judged (one s) closed
-    (λ t r member there.
-    let here = subst (λ n. IsOfStream reports n r) (only s t member) there in
-    subst (λ (x : Report). ¬ IsOfMemory x) (same_at reports s report r says here) memory) in
-    law f terms s whole end alone.streams streams alone.reports reports alone.stream stream other report alone.alone group
-    alone.at at alone.reads reads alone.says says
 
 pub threads_run : ThreadsRun
 threads_run f terms h passes told reports count one stands = record {

@@ -12,7 +12,7 @@ use Rattle.stream_check.specs.Laws.{IsOfMemory, IsOfFailure}
 use Rattle.runs.specs.Streams.{Stream, Telling, Terms, AreTold, StandsOnStreams, IsOrdered}
 use Rattle.runs.specs.Headline.{HaveOneHistory, AreJudgedIn}
 use Rattle.runs.specs.Closed.{IsOfStream, CiteWithin, IsClosed}
-use Rattle.groups.specs.Groups.{one, AreClosedReaders, NoneOutOfMemory, IsGroup, IsAlone, AreIsolated, HaveReportsAlone, empty_stream, empty_report, with_others, IsRun, IsReadingOf}
+use Rattle.groups.specs.Groups.{one, AreClosedReaders, NoneOutOfMemory, IsGroup, IsAlone, AreIsolated, empty_stream, empty_report, with_others, IsRun, IsReadingOf}
 
 -- Closed sets
 
@@ -90,12 +90,6 @@ SerialIsolated = (f : Cnf) (terms : Terms) (told : List Telling) (reports : List
     → Fits terms.layout f → length told ≡ terms.layout.streams
     → AreIsolated f terms told
     (λ streams. IsOrdered f terms (λ s. true) streams reports) reports
-
--- where reports are isolated, each stream that is alone has the one report that it may have alone
-abbrev pub IsolatedAlone : Type 0
-IsolatedAlone = (f : Cnf) (terms : Terms) (told : List Telling) (Judged : List Stream → Type 0)
-    (reports : List Report)
-    → AreIsolated f terms told Judged reports → HaveReportsAlone f terms told Judged reports
 
 -- a run with threads, and one on one thread, is a run
 abbrev pub ThreadsRun : Type 0

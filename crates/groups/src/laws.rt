@@ -1,5 +1,5 @@
 //! Laws of groups. Each function does nothing; its contract is the law, which holds of every formula, layout, set and run.
-ghost use Rattle.groups.specs.Laws.{BeginningsWithin, ReadersClosed, ClosedIsGroup, OrderedIsGroup, OrderedRestricts, OthersEmpty, AloneHasOneReport, RunIsolated, SerialIsolated, IsolatedAlone, ThreadsRun, SerialRun, ToldIsReading, FailedIsReading, SameReadingAgrees, SameBytesAgree};
+ghost use Rattle.groups.specs.Laws.{BeginningsWithin, ReadersClosed, ClosedIsGroup, OrderedIsGroup, OrderedRestricts, OthersEmpty, AloneHasOneReport, RunIsolated, SerialIsolated, ThreadsRun, SerialRun, ToldIsReading, FailedIsReading, SameReadingAgrees, SameBytesAgree};
 
 use lrup_text::laws::{a_beginning_is_cut_alike, every_stream_is_cut};
 use stream_check::laws::{
@@ -70,13 +70,6 @@ pub fn serial_isolated()
     ensures { SerialIsolated }
 {
     ordered_is_group();
-}
-
-/// Where reports are isolated, a stream that is a closed set by itself has the one report that it may have alone.
-pub fn isolated_alone()
-    ensures { IsolatedAlone }
-{
-    alone_has_one_report();
 }
 
 /// What a run with threads promises of its reports.

@@ -20,7 +20,7 @@ ghost use Rattle.portfolio.specs.Working.{WorksOn};
 use crate::options::Options;
 use crate::outcome::{RunFault, SerialOutcome, Verdict};
 use crate::worker::Worker;
-use groups::laws::{isolated_alone, serial_isolated};
+use groups::laws::{alone_has_one_report, serial_isolated};
 use lrup_model::{Cube, Formula, Layout, PlainMap};
 use lrup_text::Source;
 use std::alloc::{AllocError, Global};
@@ -76,7 +76,7 @@ pub fn run_serial<W: Wait, R: Source + Drop, G: Gate + Drop>(
         → IsUnsatisfiableUnder formula.now cube.now) }
 {
     serial_isolated();
-    isolated_alone();
+    alone_has_one_report();
     let layout = options.layout(formula, readers.len())?;
     let mut map = PlainMap::open(alloc, formula, &layout)?;
     let mut workers = workers_of(alloc, &layout, cube, options.tries(), readers, gates)?;

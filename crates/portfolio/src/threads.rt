@@ -17,7 +17,7 @@ ghost use Rattle.orders.specs.Serializable.{IsSerializable};
 use crate::options::Options;
 use crate::outcome::{Outcome, RunFault, Verdict};
 use clause_store::{Pass, Store};
-use groups::laws::{isolated_alone, run_isolated};
+use groups::laws::{alone_has_one_report, run_isolated};
 use lrup_model::{Cube, Formula};
 use lrup_text::Source;
 use orders::laws::run_serializable;
@@ -95,7 +95,7 @@ pub fn run<T: Threads + Wait + Sync, R: Source + Send + Drop, G: Gate + Send + D
         → IsUnsatisfiableUnder formula.now cube.now) }
 {
     run_isolated();
-    isolated_alone();
+    alone_has_one_report();
     run_serializable();
     let layout = options.layout(formula, readers.len())?;
     let (store, passes) = Store::open(alloc, formula, layout)?;

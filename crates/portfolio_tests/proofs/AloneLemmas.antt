@@ -26,14 +26,12 @@ use Rattle.runs.specs.Readings.{AreRead}
 use Rattle.runs.specs.Streams.{Stream, Telling, Terms, telling_of, tellings, AreTold, IsOrdered, events_in}
 use Rattle.runs.specs.Closed.{IsOfStream, IsOwnedWithin, CiteWithin}
 use Rattle.groups.specs.Groups.{one, AreIsolated, HaveReportsAlone}
+use Rattle.groups.specs.ReportLemmas.{only}
 use Rattle.groups.specs.Laws.{ReadersClosed, ToldIsReading}
 use Rattle.test_support.specs.Worked.{four}
 use Rattle.portfolio_tests.specs.Alone.{first_bytes, usual, layout_of_two, two_terms, HasOrder, IsOnlyReport}
 
 -- Places
-
-only_one : (s : ℕ) → IsTrue (one 1 s) → s ≡ 1
-only_one s member = elim (eqb_tells s 1) [ inl same ↦ same.1 | inr other ↦ absurd (let no : true ≡ false = sym member ∙ other.0 in cc) ]
 
 -- the first stream, and what its reader told, which hasn't failed
 record IsFirst (told : List Telling) (streams : List Stream) (bytes : List ℕ) : Type 0 where
@@ -81,7 +79,7 @@ report_alone closes reads view firsts lasts bytes Judged reports report streams 
     let first = first_told view firsts lasts streams bytes read entry fine in
     let closed = closes layout_of_two (one 1) tells streams told
     (λ s other member at.
-    let same = same_at tells 1 other first.telling (subst (λ n. IsOfStream tells n other) (only_one s member) at) first.telling_at in
+    let same = same_at tells 1 other first.telling (subst (λ n. IsOfStream tells n other) (only 1 s member) at) first.telling_at in
     (bytes, ap (λ (t : Telling). t.entry) same ∙ first.entry, cites)) in
     let is_reading = reads tells streams 1 first.telling first.stream bytes told first.telling_at first.at first.entry first.running in
     record {
@@ -91,7 +89,7 @@ report_alone closes reads view firsts lasts bytes Judged reports report streams 
         stream = first.stream;
         alone = isolated streams told judged (one 1) closed
             (λ s other member at. subst (λ r. ¬ IsOfMemory r)
-            (same_at reports 1 report other says (subst (λ n. IsOfStream reports n other) (only_one s member) at)) memory);
+            (same_at reports 1 report other says (subst (λ n. IsOfStream reports n other) (only 1 s member) at)) memory);
         at = first.at;
         reads = is_reading;
         says = says;

@@ -1,6 +1,7 @@
 use Rattle.std.proofs.Common.{◌≡◌, ℕ, ◌∙◌, length, map, drop, refl, sym, ap, ap₂, subst, arith}
 use Rattle.lrup_model.specs.Layout.{LayoutValue, IsFault, Fits}
 use Rattle.lrup_text.specs.ReadOut.{source_view}
+use Rattle.groups.specs.ReportLemmas.{reports_alone}
 use Rattle.portfolio.specs.Outcomes.{layout_of, terms_of}
 use Rattle.runs.specs.StreamLemmas.{told_as_many}
 use Rattle.runs.specs.Streams.{tellings, terms_at}
@@ -93,7 +94,7 @@ returns-clause-isolated g c =
     (told_as_many view readers out.readers.items _ (returns-clause-ordered g c).judged.1)
 
 pub returns-clause-alone : goal.returns-clause-alone
-returns-clause-alone g c = c.isolated_alone.ensures _ _ _ _ _ (returns-clause-isolated g c)
+returns-clause-alone g c = reports_alone c.alone_has_one_report.ensures _ _ _ _ _ (returns-clause-isolated g c)
 
 pub returns-clause-sound : goal.returns-clause-sound
 returns-clause-sound g c unsatisfiable =

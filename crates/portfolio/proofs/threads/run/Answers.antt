@@ -6,6 +6,7 @@ use Rattle.portfolio.specs.Outcomes.{layout_of, terms_of}
 use Rattle.runs.specs.StreamLemmas.{told_as_many}
 use Rattle.runs.specs.Streams.{Terms, tellings, terms_at}
 use Rattle.stream_threads.specs.Jobs.{IsFirstFault, fault_stream}
+use Rattle.groups.specs.ReportLemmas.{reports_alone}
 use Rattle.portfolio.proofs.CubeLemmas.{sound_under_run}
 use Rattle.portfolio.proofs.HeadlineLemmas.{no_fault, not_layout, AreOpened, are_opened, are_ready, all_can_begin, ready_count, finish_of, finish_count, one_history, judged_by, judged_so, were_judged, sound_run}
 use Rattle.portfolio.proofs.threads.run.Goals as goal
@@ -136,7 +137,7 @@ returns-in-Ok-clause-isolated g c =
     fits (told_as_many view readers out.readers.items _ (returns-in-Ok-clause-reports g c).judged.2) (returns-in-Ok-clause-history g c)
 
 pub returns-in-Ok-clause-alone : goal.returns-in-Ok-clause-alone
-returns-in-Ok-clause-alone g c = c.isolated_alone.ensures _ _ _ _ _ (returns-in-Ok-clause-isolated g c)
+returns-in-Ok-clause-alone g c = reports_alone c.alone_has_one_report.ensures _ _ _ _ _ (returns-in-Ok-clause-isolated g c)
 
 pub returns-in-Ok-clause-serializable : goal.returns-in-Ok-clause-serializable
 returns-in-Ok-clause-serializable g c =
