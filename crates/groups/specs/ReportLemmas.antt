@@ -18,10 +18,12 @@ only s t member = elim (eqb_tells t s) [ inl same ↦ same.1 | inr other ↦ abs
 pub reports_alone : AloneHasOneReport → (f : Cnf) (terms : Terms) (told : List Telling)
     (Judged : List Stream → Type 0) (reports : List Report)
     → AreIsolated f terms told Judged reports → HaveReportsAlone f terms told Judged reports
-reports_alone law f terms told Judged reports isolated streams are_told judged s stream report at says closed memory whole end reads other alone =
+reports_alone law f terms told Judged reports isolated
+    streams are_told judged s stream report at says closed memory whole end reads other alone =
     let group = isolated streams are_told judged (one s) closed
     (λ t r member there.
     let here = subst (λ n. IsOfStream reports n r) (only s t member) there in
     subst (λ (x : Report). ¬ IsOfMemory x) (same_at reports s report r says here) memory) in
-    law f terms s whole end alone.streams streams alone.reports reports alone.stream stream other report alone.alone group
+    law f terms s whole end alone.streams streams alone.reports reports
+    alone.stream stream other report alone.alone group
     alone.at at alone.reads reads alone.says says
