@@ -583,7 +583,7 @@ its members are. That a `Formula` of the code is seen as that of a text is a cla
 Which bytes the streams have, `AreRead` says: those that reads gave, from the reader that was handed in, up to one that gave none, or
 one that failed. The machine's readers say nothing of what a read does; as for files above, `run` is proved for those too of which
 `reads` is an account of the reads, and can't see it. That a closed set of one stream has one report, whatever the others do, is a
-law beside `isolated` (`alone_has_one_report` of `groups`), not a part of it."""
+law beside `isolated` (`alone_has_one_report` of `run_laws`), not a part of it."""
 
 
 def parts():

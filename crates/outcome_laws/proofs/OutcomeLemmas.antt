@@ -13,8 +13,8 @@ use Rattle.stream_check.specs.declared.report.Report.{Report}
 use Rattle.runs.specs.Closed.{IsOfStream}
 use Rattle.runs.specs.Streams.{Telling, Terms, StandsOnStreams, tellings}
 use Rattle.runs.specs.StreamLemmas.{told_as_many, told_count, telling_at}
-use Rattle.groups.specs.Groups.{IsRun}
-use Rattle.groups.specs.Laws.{SerialRun}
+use Rattle.run_laws.specs.Groups.{IsRun}
+use Rattle.run_laws.specs.GroupLaws.{SerialRun}
 use Rattle.portfolio.specs.Outcomes.{OptionsValue, layout_of}
 use Rattle.portfolio.specs.ReportText.{ending_text, stream_line}
 use Rattle.command.specs.Commands.{AreReported, FilesView, IsFormulaAt, IsOutcome, Text, layout_at, options_of, terms_given}

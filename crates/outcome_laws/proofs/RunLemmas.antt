@@ -10,8 +10,8 @@ use Rattle.stream_check.specs.Setting.{Setting}
 use Rattle.runs.specs.Closed.{IsOfStream}
 use Rattle.runs.specs.Headline.{AreJudgedIn}
 use Rattle.runs.specs.Streams.{Stop, read_out, early, Stream, Telling, JudgesTo, Terms, setting_of}
-use Rattle.groups.specs.Groups.{IsRun}
-use Rattle.groups.specs.Laws.{SameBytesAgree}
+use Rattle.run_laws.specs.Groups.{IsRun}
+use Rattle.run_laws.specs.GroupLaws.{SameBytesAgree}
 use Rattle.outcome_laws.specs.Outcomes.{bare_setting, bare_terms, bare_report}
 use Rattle.outcome_laws.specs.Laws.{NoCubeJudgesAlike, SameBytesSayTheSame}
 

@@ -10,7 +10,7 @@ use Rattle.stream_check.specs.Laws.{IsOfMemory, IsOfFailure}
 use Rattle.stream_check.specs.Setting.{Setting}
 use Rattle.runs.specs.Closed.{IsOfStream, CiteWithin}
 use Rattle.runs.specs.Streams.{Telling, Terms}
-use Rattle.groups.specs.Groups.{one, IsRun}
+use Rattle.run_laws.specs.Groups.{one, IsRun}
 use Rattle.portfolio.specs.ReportText.{stream_line}
 use Rattle.portfolio.specs.declared.outcome.Verdict.{Verdict}
 use Rattle.command_line.specs.CommandLine.{IsCommandLineOf}

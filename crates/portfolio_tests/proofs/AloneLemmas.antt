@@ -19,15 +19,15 @@ use Rattle.lrup_model.specs.Event.{publishes_empty}
 use Rattle.portfolio.specs.declared.outcome.Verdict.{Verdict}
 use Rattle.portfolio.specs.declared.outcome.Verdict.TheVariants.{Unsatisfiable, UnsatisfiableUnder, Unknown}
 use Rattle.portfolio.specs.Outcomes.{OptionsValue, terms_of, verdict_of}
-use Rattle.orders.specs.Serializable.{ComeToVerdict}
+use Rattle.run_laws.specs.Serializable.{ComeToVerdict}
 use Rattle.runs.specs.StreamLemmas.{same_at}
 use Rattle.lrup_text.specs.ReadOut.{SourceView}
 use Rattle.runs.specs.Readings.{AreRead}
 use Rattle.runs.specs.Streams.{Stream, Telling, Terms, telling_of, tellings, AreTold, IsOrdered, events_in}
 use Rattle.runs.specs.Closed.{IsOfStream, IsOwnedWithin, CiteWithin}
-use Rattle.groups.specs.Groups.{one, AreIsolated, HaveReportsAlone}
-use Rattle.groups.specs.ReportLemmas.{only}
-use Rattle.groups.specs.Laws.{ReadersClosed, ToldIsReading}
+use Rattle.run_laws.specs.Groups.{one, AreIsolated, HaveReportsAlone}
+use Rattle.run_laws.specs.ReportLemmas.{only}
+use Rattle.run_laws.specs.GroupLaws.{ReadersClosed, ToldIsReading}
 use Rattle.test_support.specs.Worked.{four}
 use Rattle.portfolio_tests.specs.Alone.{first_bytes, usual, layout_of_two, two_terms, HasOrder, IsOnlyReport}
 

@@ -10,7 +10,7 @@ use Rattle.portfolio.specs.Outcomes.{OptionsValue, layout_of, terms_of}
 use Rattle.portfolio.specs.declared.outcome.Verdict.{Verdict}
 use Rattle.portfolio.specs.declared.outcome.Verdict.TheVariants.{Unsatisfiable}
 use Rattle.runs.specs.Streams.{Block, Terms, events_in}
-use Rattle.groups.specs.Groups.{IsReportAlone}
+use Rattle.run_laws.specs.Groups.{IsReportAlone}
 use Rattle.test_support.specs.Worked.{four}
 
 -- the first stream's bytes

@@ -3,15 +3,15 @@ ghost use Rattle.std.specs.Prelude.{◌≡◌, [], Some, false, codes, length, m
 ghost use Rattle.std.specs.List.{AllByRecursion};
 ghost use Rattle.stream_check.specs.Laws.{IsOfMemory};
 ghost use Rattle.runs.specs.Closed.{CiteWithin, IsOfStream};
-ghost use Rattle.groups.specs.Groups.{one};
+ghost use Rattle.run_laws.specs.Groups.{one};
 ghost use Rattle.runs.specs.Headline.{seen_by};
 ghost use Rattle.clause_store.specs.Passes.{views};
-ghost use Rattle.orders.specs.Premises.{FoundStays};
+ghost use Rattle.run_laws.specs.Premises.{FoundStays};
 ghost use Rattle.test_support.specs.Worked.{four};
 ghost use Rattle.portfolio_tests.specs.Alone.{first_bytes, layout_of_two, usual, HasOrder, IsOnlyReport};
 
 use super::{BOTH, By, Open, bad_line, defaults, ended, readers_of, reports_of, same};
-use groups::laws::{readers_closed, told_is_reading};
+use run_laws::groups::{readers_closed, told_is_reading};
 use lrup_model::Cube;
 use lrup_text::Source;
 use lrup_text::laws::a_stream_is_cut_in_one_way;

@@ -1,7 +1,7 @@
 use Rattle.std.proofs.Common.{◌≡◌, ℕ, ◌∙◌, length, map, drop, refl, sym, ap, ap₂, subst, arith}
 use Rattle.lrup_model.specs.Layout.{LayoutValue, IsFault, Fits}
 use Rattle.lrup_text.specs.ReadOut.{source_view}
-use Rattle.groups.specs.ReportLemmas.{reports_alone}
+use Rattle.run_laws.specs.ReportLemmas.{reports_alone}
 use Rattle.portfolio.specs.Outcomes.{layout_of, terms_of}
 use Rattle.runs.specs.StreamLemmas.{told_as_many}
 use Rattle.runs.specs.Streams.{tellings, terms_at}

@@ -6,7 +6,7 @@ use Rattle.portfolio.specs.Outcomes.{layout_of, terms_of}
 use Rattle.runs.specs.StreamLemmas.{told_as_many}
 use Rattle.runs.specs.Streams.{Terms, tellings, terms_at}
 use Rattle.stream_threads.specs.Jobs.{IsFirstFault, fault_stream}
-use Rattle.groups.specs.ReportLemmas.{reports_alone}
+use Rattle.run_laws.specs.ReportLemmas.{reports_alone}
 use Rattle.portfolio.proofs.CubeLemmas.{sound_under_run}
 use Rattle.portfolio.proofs.HeadlineLemmas.{no_fault, not_layout, AreOpened, are_opened, are_ready, all_can_begin, ready_count, finish_of, finish_count, one_history, judged_by, judged_so, were_judged, sound_run}
 use Rattle.portfolio.proofs.threads.run.Goals as goal

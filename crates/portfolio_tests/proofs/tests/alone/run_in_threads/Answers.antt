@@ -1,4 +1,4 @@
-use Rattle.orders.specs.Serializable.{IsSerializable}
+use Rattle.run_laws.specs.Serializable.{IsSerializable}
 use Rattle.portfolio_tests.proofs.AloneLemmas.{of_two, has_order}
 use Rattle.portfolio_tests.proofs.tests.alone.run_in_threads.Goals as goal
 
