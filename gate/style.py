@@ -3,8 +3,9 @@
 
     python3 gate/style.py
 
-It lists names in backticks, in the documents, that don't exist; lines of clauses and of definitions beyond 100 columns; and lemmas
-that are stated twice. The last line has the counts, and the status is 1 where one of them isn't 0.
+It lists names in backticks, in the documents, that don't exist; lines of clauses and of definitions beyond 100 columns; lemmas
+that are stated twice; names that mean one thing in one crate and another in another; and where the picture of the crates isn't
+what crates.txt says. The last line has the counts, and the status is 1 where one of them isn't 0.
 
 A name in backticks is looked for in the code, the definitions and proofs, the scripts, and the names of files; of `Type::call`
 and `Module.name` the pair. Where several words stand in backticks, a name is one with an underscore, a capital within or `::`, an
@@ -143,6 +144,55 @@ def repeated_statements():
             yield "stated " + str(len(told)) + " times: " + ", ".join(told)
 
 
+# Names with two meanings.
+
+
+def definitions(path):
+    """The names that a file of definitions declares, each with the number of its line and its text without comments."""
+    head = re.compile(r"(?:abbrev |unfoldable )?(?:pub )?(?:record |data )?([^\W\d][^\s:({]*)(?: [({].*[)}])*(?: :|$)")
+    name, text, at = None, [], 0
+    for number, line in enumerate(path.read_text().splitlines() + ["-- end"], 1):
+        begins = head.match(line) if not re.match(r" |--|use |pub use |module |.* =", line.split(" : ")[0]) else None
+        if name and (begins or not line or line.startswith("--")):
+            yield name, at, " ".join(text)
+            name = None
+        if begins:
+            name, text, at = begins[1], [], number
+        if name:
+            text += line.split(" -- ")[0].split()
+
+
+def names_with_two_meanings():
+    """Those of definitions and laws that two crates declare, or two files of one, in other words."""
+    places = defaultdict(list)
+    for path in files(r"crates/\w+/specs/\w+\.antt"):
+        for name, number, text in definitions(path):
+            places[name].append((text, f"{shown(path)}:{number}"))
+    for name, found in places.items():
+        if len({text for text, _ in found}) > 1:
+            yield f"{name} has {len(found)} meanings: " + ", ".join(place for _, place in found)
+
+
+# The picture of the crates.
+
+
+def wrong_arrows():
+    """The arrows that the picture in ARCHITECTURE lacks, or has beyond them: one from each crate but those of tests to each that
+    it uses, where no other that it uses stands between the two."""
+    listed = dict(line.split(":") for line in (ROOT / "crates.txt").read_text().splitlines() if ":" in line)
+    below = crates_below()
+    wanted = set()
+    for crate in (crate for crate in listed if not crate.endswith(("_tests", "_support"))):
+        uses = [name for name in listed[crate].split() if name in listed]
+        wanted |= {(crate, name) for name in uses if not any(name in below[other] - {other} for other in uses)}
+    page = ROOT / "docs" / "ARCHITECTURE.md"
+    picture = re.search(r"^```mermaid$(.*?)^```$", page.read_text(), re.M | re.S)
+    drawn = set(re.findall(r"^ *(\w+) --> (\w+)$", picture[1], re.M)) if picture else set()
+    for what, arrows in (("lacks", wanted - drawn), ("has, and crates.txt doesn't,", drawn - wanted)):
+        for crate, name in sorted(arrows):
+            yield f"{shown(page)}: the picture {what} {crate} --> {name}"
+
+
 # Names in backticks.
 
 
@@ -251,7 +301,8 @@ def main():
     if sys.argv[1:]:
         sys.exit(__doc__)
     checks = [("names in backticks that don't exist", unknown_names), ("lines of clauses too wide", wide_clauses),
-              ("lines of definitions too wide", wide_definitions), ("statements of lemmas more than once", repeated_statements)]
+              ("lines of definitions too wide", wide_definitions), ("statements of lemmas more than once", repeated_statements),
+              ("names with two meanings", names_with_two_meanings), ("arrows that are wrong", wrong_arrows)]
     counts = []
     for what, check in checks:
         found = list(check())

@@ -8,12 +8,12 @@ use Rattle.lrup_model.specs.Plain.{Plain, formula_of, plain_place, PlainMoves}
 use Rattle.stream_check.specs.CheckerValue.{CheckerValue}
 use Rattle.stream_check.specs.Checker.{IsNew, IsReadyAt}
 use Rattle.stream_check.specs.Laws.{ReadyNew, ReadyBeside}
-use Rattle.checker_support.specs.Opened.{IsOpened}
+use Rattle.checker_support.specs.Opened.{IsPlainOpened}
 
 -- a new checker at a map that was just opened
 pub ready_opened : ReadyNew
     → (layout : LayoutValue) (cube : CubeValue) (stream tries : ℕ) (v : CheckerValue) (m : Plain)
-    → IsOpened m → layout ≡ m.layout → IsNew layout cube stream tries v
+    → IsPlainOpened m → layout ≡ m.layout → IsNew layout cube stream tries v
     → IsReadyAt v (plain_place m stream)
 ready_opened law layout cube stream tries v m opened same new =
     law (formula_of m) m.layout cube stream tries v (plain_place m stream)

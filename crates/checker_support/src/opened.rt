@@ -4,7 +4,7 @@ ghost use Rattle.lrup_model.specs.Layout.{IsStream};
 ghost use Rattle.lrup_model.specs.Plain.{formula_of, plain_place};
 ghost use Rattle.test_support.specs.Worked.{four};
 ghost use Rattle.stream_check.specs.Checker.{IsNew, IsReadyAt};
-ghost use Rattle.checker_support.specs.Opened.{IsOpened};
+ghost use Rattle.checker_support.specs.Opened.{IsPlainOpened};
 
 use lrup_model::{Cube, Formula, Layout, PlainMap};
 use std::alloc::Global;
@@ -15,7 +15,7 @@ use test_support::four_clauses;
 
 /// The map of the four clauses, with so many identities and so much room for each stream.
 pub fn open_map(alloc: Global, streams: u64, lines: u64, room: u64) -> Result<PlainMap, Fail>
-    ensures opened { IfOk result IsOpened }
+    ensures opened { IfOk result IsPlainOpened }
     ensures formula { IfOk result (λ map. formula_of map ≡ four) }
     ensures streams { IfOk result (λ map. map.layout.streams ≡ streams) }
     ensures room { IfOk result (λ map. map.free ≡ replicate streams room) }
@@ -27,7 +27,7 @@ pub fn open_map(alloc: Global, streams: u64, lines: u64, room: u64) -> Result<Pl
 
 /// The map of a formula, at this layout.
 pub fn open_formula(alloc: Global, formula: &Formula, layout: &Layout) -> Result<PlainMap, Fail>
-    ensures opened { IfOk result IsOpened }
+    ensures opened { IfOk result IsPlainOpened }
     ensures formula { IfOk result (λ map. formula_of map ≡ formula.now) }
     ensures layout { IfOk result (λ map. map.layout ≡ layout.now) }
     ensures room { IfOk result (λ map.
@@ -42,7 +42,7 @@ pub fn open_formula(alloc: Global, formula: &Formula, layout: &Layout) -> Result
 
 /// A checker of this stream, before its first byte.
 pub fn checker_at(alloc: Global, map: &PlainMap, stream: u64, tries: u64) -> Result<Checker, Fail>
-    requires { IsOpened map.now }
+    requires { IsPlainOpened map.now }
     ensures stream { IfOk result (λ _. IsStream map.now.layout stream) }
     ensures new { IfOk result (λ checker. IsNew map.now.layout [] stream tries checker) }
     ensures ready { IfOk result (λ checker. IsReadyAt checker (plain_place map.now stream)) }
@@ -58,7 +58,7 @@ pub fn checker_under(
     stream: u64,
     tries: u64,
 ) -> Result<Checker, Fail>
-    requires { IsOpened map.now }
+    requires { IsPlainOpened map.now }
     ensures stream { IfOk result (λ _. IsStream map.now.layout stream) }
     ensures new { IfOk result (λ checker. IsNew map.now.layout cube.now stream tries checker) }
     ensures ready { IfOk result (λ checker. IsReadyAt checker (plain_place map.now stream)) }

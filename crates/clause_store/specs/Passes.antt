@@ -5,10 +5,9 @@ use Rattle.idwords.specs.declared.row.Row.{Row}
 use Rattle.idwords.specs.Seats.{SeatValue}
 use Rattle.idwords.specs.Spelling.{LieWithin}
 use Rattle.lrup_model.specs.Layout.{LayoutValue, row_words}
-use Rattle.lrup_model.specs.Event.{History, Event}
+use Rattle.lrup_model.specs.Event.{History}
 use Rattle.lrup_model.specs.Formula.{Cnf}
 use Rattle.lrup_model.specs.Pass.{View, IsFair}
-use Rattle.idwords.specs.Steps as steps
 
 -- the store's row, by its name, and the layout that it was opened with
 pub record StoreValue : Type 0 where
@@ -47,10 +46,6 @@ AreFair vs = AllByRecursion IsFair vs
 -- all have seen one history
 abbrev pub HaveMet : List View → Type 0
 HaveMet vs = (h : History) × AllByRecursion (λ v. v.seen ≡ h) vs
-
--- the pass moved by one call, which is the last that it has seen, and is fair
-abbrev pub Calls : View → View → Event → Type 0
-Calls old new e = steps.Calls old new e
 
 abbrev pub pass_value : SeatValue → PassValue
 pass_value s = record { row = s.table; view = s.view }

@@ -4,10 +4,11 @@ ghost use Rattle.lrup_model.specs.Event as events;
 ghost use Rattle.lrup_model.specs.History.{IsPublishable};
 ghost use Rattle.lrup_model.specs.Layout.{Fits, IsIdentity, IsStream, Owns};
 ghost use Rattle.lrup_model.specs.Pass.{Meets, pass_place};
-ghost use Rattle.lrup_model.specs.Place.{IsKnown, text_of};
+ghost use Rattle.lrup_model.specs.Place.{IsKnown, clip_clause};
 ghost use Rattle.lrup_model.specs.Replies.{IsFetched, reply_of};
 ghost use Rattle.lrup_model.specs.State.{state, absent, IsLive};
-ghost use Rattle.clause_store.specs.Passes.{AreOf, Calls, IsOpened, PassValue, store_of};
+ghost use Rattle.clause_store.specs.Passes.{AreOf, IsOpened, PassValue, store_of};
+ghost use Rattle.idwords.specs.Steps.{Calls};
 
 use crate::pass::{Pass, passes_of};
 use idwords::{LIVE, RETIRED, Row, len, lit, start, state as state_in};
@@ -101,7 +102,8 @@ impl Store {
         requires store { store_of pass.old ≡ self.now }
         requires known { IsKnown (pass_place pass.old.view) clip.now }
         requires within { k < clip.now.len }
-        ensures value { slice_get (text_of (pass_place pass.old.view) clip.now) k ≡ Some result }
+        ensures value {
+            slice_get (clip_clause (pass_place pass.old.view) clip.now) k ≡ Some result }
         ensures same { pass.new ≡ pass.old }
     {
         let place = place_of(clip, k / 2);
@@ -115,9 +117,9 @@ impl Store {
         requires store { store_of pass.old ≡ self.now }
         requires known { IsKnown (pass_place pass.old.view) clip.now }
         requires within { 2 * i < clip.now.len }
-        ensures first { slice_get (text_of (pass_place pass.old.view) clip.now) (2 * i)
+        ensures first { slice_get (clip_clause (pass_place pass.old.view) clip.now) (2 * i)
             ≡ Some result.0 }
-        ensures second { slice_get (text_of (pass_place pass.old.view) clip.now) (2 * i + 1)
+        ensures second { slice_get (clip_clause (pass_place pass.old.view) clip.now) (2 * i + 1)
             ≡ result.1 }
         ensures same { pass.new ≡ pass.old }
     {

@@ -5,11 +5,11 @@ use Rattle.lrup_model.specs.Formula.{Cnf}
 use Rattle.clause_store.specs.Passes.{StoreValue, PassValue, store_of}
 
 -- the pass is of this store, and of this formula
-abbrev pub IsAt : Cnf → StoreValue → PassValue → Type 0
-IsAt f store p = (store_of p ≡ store) × (p.view.caller.formula ≡ f)
+abbrev pub IsPassAt : Cnf → StoreValue → PassValue → Type 0
+IsPassAt f store p = (store_of p ≡ store) × (p.view.caller.formula ≡ f)
 
-abbrev pub AreAt : Cnf → StoreValue → List PassValue → Type 0
-AreAt f store ps = AllByRecursion (IsAt f store) ps
+abbrev pub ArePassesAt : Cnf → StoreValue → List PassValue → Type 0
+ArePassesAt f store ps = AllByRecursion (IsPassAt f store) ps
 
 -- the race's formula: the empty clause alone, from which every clause follows
 abbrev pub raced : Cnf

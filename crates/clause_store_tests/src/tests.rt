@@ -8,7 +8,7 @@ ghost use Rattle.lrup_model.specs.Pass.{pass_place};
 ghost use Rattle.lrup_model.specs.Place.{IsKnown};
 ghost use Rattle.test_support.specs.Worked.{four};
 ghost use Rattle.clause_store.specs.Passes.{store_of, AreOf};
-ghost use Rattle.clause_store_tests.specs.Worked.{IsAt, AreAt, raced};
+ghost use Rattle.clause_store_tests.specs.Worked.{IsPassAt, ArePassesAt, raced};
 
 use clause_store::{Desk, Pass, Store};
 use lrup_model::{
@@ -39,7 +39,7 @@ fn holds(rt: &impl Abort, fact: bool)
 
 /// A store of four clauses for two streams with so many identities and so much room each, and their passes.
 fn open_two(alloc: Global, identities: u64, room: u64) -> Result<(Store, Pass, Pass), Fail>
-    ensures { IfOk result (λ opened. AreAt four opened.0 (opened.1 ∷ opened.2 ∷ [])) }
+    ensures { IfOk result (λ opened. ArePassesAt four opened.0 (opened.1 ∷ opened.2 ∷ [])) }
 {
     let formula = four_clauses(alloc)?;
     let layout = Layout::new(2, 4, 8, 2, identities, room)?;
@@ -78,8 +78,8 @@ fn look(store: &Store, pass: &mut Pass, id: Id) -> Option<Found>
 
 /// The clip of a live clause.
 fn live(store: &Store, pass: &mut Pass, id: Id) -> Option<Clip>
-    requires { IsAt four store.now pass.old }
-    ensures at { IsAt four store.now pass.new }
+    requires { IsPassAt four store.now pass.old }
+    ensures at { IsPassAt four store.now pass.new }
     ensures known { IfSome result (λ clip. IsKnown (pass_place pass.new.view) clip) }
 {
     if !store.covers(id) {
@@ -93,9 +93,9 @@ fn live(store: &Store, pass: &mut Pass, id: Id) -> Option<Clip>
 
 /// Publishes a clause under an identity of the pass's own.
 fn publish(store: &Store, pass: &mut Pass, id: Id, clause: &[Lit]) -> Option<Published>
-    requires at { IsAt four store.now pass.old }
+    requires at { IsPassAt four store.now pass.old }
     requires clause { IsPublishable four clause.now }
-    ensures { IsAt four store.now pass.new }
+    ensures { IsPassAt four store.now pass.new }
 {
     if !store.owns(pass, id) || store.room(pass) < clause.len() as u64 {
         return None;
@@ -105,8 +105,8 @@ fn publish(store: &Store, pass: &mut Pass, id: Id, clause: &[Lit]) -> Option<Pub
 
 /// Retires the clause of an identity of the pass's own.
 fn retire(store: &Store, pass: &mut Pass, id: Id) -> Option<Retired>
-    requires { IsAt four store.now pass.old }
-    ensures { IsAt four store.now pass.new }
+    requires { IsPassAt four store.now pass.old }
+    ensures { IsPassAt four store.now pass.new }
 {
     if !store.owns(pass, id) {
         return None;
@@ -116,9 +116,9 @@ fn retire(store: &Store, pass: &mut Pass, id: Id) -> Option<Retired>
 
 /// Publishes a clause, and hands the pass back.
 fn published(store: &Store, mut pass: Pass, id: Id, clause: &[Lit]) -> (Pass, Option<Published>)
-    requires at { IsAt four store.now pass }
+    requires at { IsPassAt four store.now pass }
     requires clause { IsPublishable four clause.now }
-    ensures { IsAt four store.now result.0 }
+    ensures { IsPassAt four store.now result.0 }
 {
     let answer = publish(store, &mut pass, id, clause);
     (pass, answer)
@@ -133,24 +133,24 @@ fn publish_by<R: Threads>(
     id: Id,
     clause: &[Lit],
 ) -> (Pass, Option<Published>)
-    requires at { IsAt four store.now pass }
+    requires at { IsPassAt four store.now pass }
     requires clause { IsPublishable four clause.now }
-    ensures { IsAt four store.now result.0 }
+    ensures { IsPassAt four store.now result.0 }
 {
     if !apart {
         return published(store, pass, id, clause);
     }
     let there = || -> (Pass, Option<Published>)
-        requires { IsAt four store.now pass × IsPublishable four clause.now }
-        ensures { IsAt four store.entry.now result.0 }
+        requires { IsPassAt four store.now pass × IsPublishable four clause.now }
+        ensures { IsPassAt four store.entry.now result.0 }
     { published(store, pass, id, clause) };
     join(rt, there, || ()).0
 }
 
 /// Retires a clause, and hands the pass back.
 fn withdrawn(store: &Store, mut pass: Pass, id: Id) -> (Pass, Option<Retired>)
-    requires { IsAt four store.now pass }
-    ensures { IsAt four store.now result.0 }
+    requires { IsPassAt four store.now pass }
+    ensures { IsPassAt four store.now result.0 }
 {
     let answer = retire(store, &mut pass, id);
     (pass, answer)
@@ -164,15 +164,15 @@ fn retire_by<R: Threads>(
     pass: Pass,
     id: Id,
 ) -> (Pass, Option<Retired>)
-    requires { IsAt four store.now pass }
-    ensures { IsAt four store.now result.0 }
+    requires { IsPassAt four store.now pass }
+    ensures { IsPassAt four store.now result.0 }
 {
     if !apart {
         return withdrawn(store, pass, id);
     }
     let there = || -> (Pass, Option<Retired>)
-        requires { IsAt four store.now pass }
-        ensures { IsAt four store.entry.now result.0 }
+        requires { IsPassAt four store.now pass }
+        ensures { IsPassAt four store.entry.now result.0 }
     { withdrawn(store, pass, id) };
     join(rt, there, || ()).0
 }
@@ -185,10 +185,10 @@ fn publish_in_turn<R: Threads + Abort>(
     mut a: Pass,
     b: Pass,
 ) -> (Pass, Pass)
-    requires first { IsAt four store.now a }
-    requires second { IsAt four store.now b }
-    ensures first { IsAt four store.now result.0 }
-    ensures second { IsAt four store.now result.1 }
+    requires first { IsPassAt four store.now a }
+    requires second { IsPassAt four store.now b }
+    ensures first { IsPassAt four store.now result.0 }
+    ensures second { IsPassAt four store.now result.1 }
 {
     same(rt, look(store, &mut a, 6), Some(Found::Vacant));
     let (mut b, answer) = publish_by(rt, apart, store, b, 6, &[lit(-2)]);
@@ -206,9 +206,9 @@ fn retire_in_turn<R: Threads + Abort>(
     mut a: Pass,
     b: Pass,
 ) -> Result<Pass, Fail>
-    requires first { IsAt four store.now a }
-    requires second { IsAt four store.now b }
-    ensures { IfOk result (λ pass. IsAt four store.now pass) }
+    requires first { IsPassAt four store.now a }
+    requires second { IsPassAt four store.now b }
+    ensures { IfOk result (λ pass. IsPassAt four store.now pass) }
 {
     let clip = live(store, &mut a, 6).ok_or("6 isn't live")?;
     holds(rt, reads_back(store, &mut a, &clip, &[lit(-2)]));
@@ -275,8 +275,8 @@ fn reads_back(store: &Store, pass: &mut Pass, clip: &Clip, clause: &[Lit]) -> bo
 
 /// Is the clause live under this identity, with its literals in this order?
 fn is_kept(store: &Store, pass: &mut Pass, id: Id, clause: &[Lit]) -> bool
-    requires { IsAt four store.now pass.old }
-    ensures { IsAt four store.now pass.new }
+    requires { IsPassAt four store.now pass.old }
+    ensures { IsPassAt four store.now pass.new }
 {
     match live(store, pass, id) {
         Some(clip) => reads_back(store, pass, &clip, clause),
@@ -391,8 +391,8 @@ fn at_desk(
     other: Id,
     turns: u32,
 ) -> (Pass, (Option<Published>, Option<Lit>))
-    requires { IsAt four store.now pass }
-    ensures { IsAt four store.now result.0 }
+    requires { IsPassAt four store.now pass }
+    ensures { IsPassAt four store.now result.0 }
 {
     let mut desk = Desk::new(store, pass);
     let found = publish_and_read(&mut desk, own, other, turns);
@@ -436,22 +436,22 @@ fn at_two_desks<R: Threads>(
     owned: (Id, Id),
     turns: u32,
 ) -> ((Pass, Pass), [(Option<Published>, Option<Lit>); 2])
-    requires first { IsAt four store.now passes.0 }
-    requires second { IsAt four store.now passes.1 }
-    ensures first { IsAt four store.now result.0.0 }
-    ensures second { IsAt four store.now result.0.1 }
+    requires first { IsPassAt four store.now passes.0 }
+    requires second { IsPassAt four store.now passes.1 }
+    ensures first { IsPassAt four store.now result.0.0 }
+    ensures second { IsPassAt four store.now result.0.1 }
 {
     let (a, b) = passes;
     let (own, other) = owned;
     let ((a, one), (b, two)) = join(
         rt,
         || -> (Pass, (Option<Published>, Option<Lit>))
-            requires { IsAt four store.now a }
-            ensures { IsAt four store.entry.now result.0 }
+            requires { IsPassAt four store.now a }
+            ensures { IsPassAt four store.entry.now result.0 }
         { at_desk(store, a, own, other, turns) },
         || -> (Pass, (Option<Published>, Option<Lit>))
-            requires { IsAt four store.now b }
-            ensures { IsAt four store.entry.now result.0 }
+            requires { IsPassAt four store.now b }
+            ensures { IsPassAt four store.entry.now result.0 }
         { at_desk(store, b, other, own, turns) },
     );
     ((a, b), [one, two])
@@ -489,7 +489,7 @@ fn open_race(
     identities: u64,
     room: u64,
 ) -> Result<(Store, Vec<Pass>), Fail>
-    ensures { IfOk result (λ opened. AreAt raced opened.0 opened.1.items) }
+    ensures { IfOk result (λ opened. ArePassesAt raced opened.0 opened.1.items) }
 {
     let formula = refuted(alloc)?;
     let layout = Layout::new(40_001, 1, 0, streams, identities, room)?;
@@ -511,8 +511,8 @@ fn raced_literals(id: Id) -> (Lit, Lit)
 
 /// Publishes an identity's clause in the race: none, one or both of its literals, by turns.
 fn publish_raced(store: &Store, pass: &mut Pass, id: Id) -> Option<Published>
-    requires { IsAt raced store.now pass.old }
-    ensures { IsAt raced store.now pass.new }
+    requires { IsPassAt raced store.now pass.old }
+    ensures { IsPassAt raced store.now pass.new }
 {
     if id < 2 || 40_001 < id || !store.owns(pass, id) || store.room(pass) < 2 {
         return None;
@@ -527,8 +527,8 @@ fn publish_raced(store: &Store, pass: &mut Pass, id: Id) -> Option<Published>
 
 /// Retires the clause of an identity of the race.
 fn retire_raced(store: &Store, pass: &mut Pass, id: Id) -> Option<Retired>
-    requires { IsAt raced store.now pass.old }
-    ensures { IsAt raced store.now pass.new }
+    requires { IsPassAt raced store.now pass.old }
+    ensures { IsPassAt raced store.now pass.new }
 {
     if !store.owns(pass, id) {
         return None;
@@ -593,8 +593,8 @@ fn arrives(there: &AtomicU64, wanted: u64) -> bool {
 
 /// Publishes the clauses of a stream of the race, one after the other, and at each looks at the same one of all streams.
 fn race<R: Abort>(rt: &R, store: &Store, started: &AtomicU64, pass: &mut Pass)
-    requires { IsAt raced store.now pass.old }
-    ensures { IsAt raced store.now pass.new }
+    requires { IsPassAt raced store.now pass.old }
+    ensures { IsPassAt raced store.now pass.new }
 {
     assert!(rt; arrives(started, 4), "one thread only");
     let own = pass.stream();
@@ -611,7 +611,7 @@ fn race<R: Abort>(rt: &R, store: &Store, started: &AtomicU64, pass: &mut Pass)
 
 /// Four passes race, each in a thread of its own.
 fn race_all<R: Threads + Abort + Sync>(rt: &R, store: &Store, passes: &mut [Pass])
-    requires { AreAt raced store.now passes.old }
+    requires { ArePassesAt raced store.now passes.old }
     ensures { AreOf store.now passes.new }
 {
     let started = AtomicU64::new(0);

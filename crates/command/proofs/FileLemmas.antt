@@ -6,7 +6,7 @@ use Rattle.lrup_text.specs.Reads.{GaveAll}
 use Rattle.lrup_text.specs.Cubes.{IsCubeFault}
 use Rattle.lrup_text.specs.declared.cube.CubeFault.{CubeFault}
 use Rattle.lrup_text.specs.declared.cube.CubeFault.TheVariants as cubes
-use Rattle.dimacs.specs.FormulaFault.{IsFaultOf}
+use Rattle.dimacs.specs.FormulaFault.{IsFormulaFault}
 use Rattle.dimacs.specs.declared.fault.DimacsFault.{DimacsFault}
 use Rattle.dimacs.specs.declared.fault.DimacsFault.TheVariants as formulas
 use Rattle.command.specs.Commands.{AreAssumed, FilesView, IsAssumeCause, IsFailedRead, IsFileCause, IsReadCause, Text, WasReadIn, WasUnread}
@@ -74,7 +74,7 @@ cube_file_cause R files vars path faults.Unwritten cause = absurd cause
 
 -- why what was read is no formula, or no text of literals
 pub text_cause : (R : Type 0) (files : FilesView R) (path : Text) (bytes : List ℕ) → WasReadIn R files path bytes
-    → (fault : DimacsFault) → (fault ≢ formulas.Memory → IsFaultOf bytes fault) → IsReadCause R files path (of_formula fault)
+    → (fault : DimacsFault) → (fault ≢ formulas.Memory → IsFormulaFault bytes fault) → IsReadCause R files path (of_formula fault)
 text_cause R files path bytes was formulas.NoHeader is = (λ e. cc, (bytes, was, is (λ e. cc)))
 text_cause R files path bytes was formulas.BadHeader is = (λ e. cc, (bytes, was, is (λ e. cc)))
 text_cause R files path bytes was (formulas.BadNumber line) is = (λ e. cc, (bytes, was, is (λ e. cc)))

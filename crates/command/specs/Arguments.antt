@@ -6,8 +6,8 @@ use Rattle.std.specs.declared.io.ErrorKind.{ErrorKind}
 use Rattle.std.specs.declared.io.ErrorKind.TheVariants as kinds
 use Rattle.std.specs.declared.string.String.{String}
 use Rattle.std.specs.declared.vec.IntoIter.{IntoIter}
-use Rattle.command.specs.Commands.{IsUntouched, SinkChange, Takes, Text}
-use Rattle.command.specs.Faults.{status_of, text_of}
+use Rattle.command.specs.Commands.{IsUntouched, SinkChange, SinkTook, Text}
+use Rattle.command.specs.Faults.{status_of, error_text}
 use Rattle.command.specs.declared.fault.CommandFault.TheVariants as faults
 use Rattle.command.specs.declared.files.OpenFault.{OpenFault}
 use Rattle.command.specs.declared.files.OpenFault.TheVariants as opens
@@ -23,7 +23,7 @@ not_utf8 = codes "error: invalid UTF-8 was detected in one or more arguments\n"
 -- what is said where the system gives no arguments, and the status: memory ran out, or one of
 -- them isn't UTF-8
 abbrev pub refusal_text : ErrorKind → List ℕ
-refusal_text kinds.OutOfMemory = text_of faults.Memory
+refusal_text kinds.OutOfMemory = error_text faults.Memory
 refusal_text kind = not_utf8
 
 abbrev pub refusal_status : ErrorKind → ℕ
@@ -34,7 +34,7 @@ refusal_status kind = 2
 pub record EndsWithoutArguments (kind : ErrorKind) (out err : SinkChange)
     (status : ℕ) : Type 0 where
   pub untouched : IsUntouched out
-  pub said : Takes err (refusal_text kind)
+  pub said : SinkTook err (refusal_text kind)
   pub status_is : status ≡ refusal_status kind
 
 -- why the system didn't open a file

@@ -11,8 +11,8 @@ use Rattle.lrup_model.specs.Formula.{Cnf}
 use Rattle.lrup_model.specs.History.{IsLegal}
 use Rattle.lrup_model.specs.Layout.{LayoutValue, IsFault, IsStream}
 use Rattle.lrup_model.specs.declared.layout.LayoutFault.{LayoutFault}
-use Rattle.dimacs.specs.FormulaFault.{IsFaultOf as IsFormulaFault}
-use Rattle.dimacs.specs.FormulaText.{IsTextOf}
+use Rattle.dimacs.specs.FormulaFault.{IsFormulaFault}
+use Rattle.dimacs.specs.FormulaText.{IsFormulaText}
 use Rattle.dimacs.specs.declared.fault.DimacsFault.TheVariants as formulas
 use Rattle.lrup_text.specs.ReadOut.{ReadOut, SourceView}
 use Rattle.lrup_text.specs.Reads.{GaveAll, ReadsOf}
@@ -28,7 +28,7 @@ use Rattle.portfolio.specs.declared.outcome.Verdict.{Verdict}
 use Rattle.portfolio.specs.declared.outcome.Verdict.TheVariants.{Unsatisfiable, UnsatisfiableUnder, Unknown}
 use Rattle.command_line.specs.CommandLine.{AskFor, HaveFault, IsCommandLineOf}
 use Rattle.command_line.specs.declared.words.CommandLine.{CommandLine}
-use Rattle.command.specs.Faults.{status_of, text_of}
+use Rattle.command.specs.Faults.{status_of, error_text}
 use Rattle.command.specs.declared.fault.CommandFault.{CommandFault}
 use Rattle.command.specs.declared.fault.CommandFault.TheVariants as faults
 
@@ -50,7 +50,7 @@ pub record WasRead (R : Type 0) (opens : Text → R → Type 0) (reads : ReadsOf
 abbrev pub NameUnsatisfiable : (Text → List ℕ → Type 0) → List Text → Type 0
 NameUnsatisfiable Read words =
     (formula : Text) × (assume : Option Text) × (bytes : List ℕ) × (f : Cnf)
-    × AskFor words formula assume × Read formula bytes × IsTextOf bytes f × IsUnsatisfiable f
+    × AskFor words formula assume × Read formula bytes × IsFormulaText bytes f × IsUnsatisfiable f
 
 -- what was read of the files of the assumed literals, over the variables 1 to vars; without a path there are none
 abbrev pub AreAssumed : (Text → List ℕ → Type 0) → ℕ → Option Text → CubeValue → Type 0
@@ -63,7 +63,7 @@ AreAssumed Read vars (Some path) cube =
 abbrev pub NameUnsatisfiableUnder : (Text → List ℕ → Type 0) → List Text → Type 0
 NameUnsatisfiableUnder Read words =
     (formula : Text) × (assume : Option Text) × (bytes : List ℕ) × (f : Cnf) × (cube : CubeValue)
-    × AskFor words formula assume × Read formula bytes × IsTextOf bytes f
+    × AskFor words formula assume × Read formula bytes × IsFormulaText bytes f
     × AreAssumed Read f.vars assume cube × IsUnsatisfiableUnder f cube
 
 -- the options of a command line
@@ -124,7 +124,7 @@ WasReadIn R files = WasRead R files.opens files.reading.reads files.tells
 
 -- the formula whose text was read of the file at a path
 abbrev pub IsFormulaAt : (R : Type 0) → FilesView R → Text → Cnf → Type 0
-IsFormulaAt R files path f = (bytes : List ℕ) × WasReadIn R files path bytes × IsTextOf bytes f
+IsFormulaAt R files path f = (bytes : List ℕ) × WasReadIn R files path bytes × IsFormulaText bytes f
 
 -- the path that is lent, if any
 abbrev pub path_of : Option (Bor Text) → Option Text
@@ -261,8 +261,8 @@ TakesUnlessFailed false before after text = Appends before after text
 TakesUnlessFailed true before after text =
     (went rest : List ℕ) × (text ≡ went ++ rest) × Appends before after went
 
-abbrev pub Takes : SinkChange → List ℕ → Type 0
-Takes sink text = TakesUnlessFailed sink.failed sink.before sink.after text
+abbrev pub SinkTook : SinkChange → List ℕ → Type 0
+SinkTook sink text = TakesUnlessFailed sink.failed sink.before sink.after text
 
 -- nothing went out to the sink
 pub record IsUntouched (sink : SinkChange) : Type 0 where
@@ -281,7 +281,7 @@ report_status false verdict = verdict_status verdict
 
 -- what standard error says then
 abbrev pub SaysOfReport : Bool → SinkChange → Type 0
-SaysOfReport true err = Takes err (text_of faults.Unwritten)
+SaysOfReport true err = SinkTook err (error_text faults.Unwritten)
 SaysOfReport false err = IsUntouched err
 
 -- The program ends with a report.
@@ -290,7 +290,7 @@ pub record EndsWithReport (R : Type 0) (files : FilesView R) (words : List Text)
   pub reports : List Report
   pub verdict : Verdict
   pub outcome : IsOutcome R files words reports verdict
-  pub printed : Takes out (report_text reports verdict)
+  pub printed : SinkTook out (report_text reports verdict)
   pub said : SaysOfReport out.failed err
   pub status_is : status ≡ report_status out.failed verdict
 
@@ -300,5 +300,5 @@ pub record EndsWithFault (R : Type 0) (files : FilesView R) (words : List Text)
   pub fault : CommandFault
   pub cause : IsCause R files words fault
   pub untouched : IsUntouched out
-  pub said : Takes err (text_of fault)
+  pub said : SinkTook err (error_text fault)
   pub status_is : status ≡ status_of fault

@@ -5,7 +5,7 @@ use Rattle.command_line.specs.declared.words.WordsFault.{WordsFault}
 use Rattle.command_line.specs.declared.words.WordsFault.TheVariants as words
 use Rattle.dimacs.specs.declared.fault.DimacsFault.{DimacsFault}
 use Rattle.dimacs.specs.declared.fault.DimacsFault.TheVariants as formulas
-use Rattle.lrup_model.specs.Layout.{fault_text}
+use Rattle.lrup_model.specs.Layout.{layout_fault_text}
 use Rattle.lrup_model.specs.declared.layout.LayoutFault.{LayoutFault}
 use Rattle.lrup_model.specs.declared.layout.LayoutFault.TheVariants as layouts
 use Rattle.lrup_text.specs.declared.cube.CubeFault.{CubeFault}
@@ -94,19 +94,19 @@ cause_text (faults.Refused fault) = formula_fault_text fault
 cause_text faults.CubeUnread = codes "cannot read assumptions"
 cause_text (faults.CubeRefused fault) = cube_fault_text fault
 cause_text (faults.NotOpened stream) = codes "cannot open stream " ++ decimal stream
-cause_text (faults.Layout fault) = fault_text fault
+cause_text (faults.Layout fault) = layout_fault_text fault
 cause_text (faults.NotStarted stream) = codes "worker " ++ decimal stream ++ codes " not started"
 cause_text (faults.Ring stream) = codes "ring of stream " ++ decimal stream
 cause_text faults.Memory = codes "out of memory"
 cause_text faults.Unwritten = codes "cannot write report"
 
 -- a line of the program's
-abbrev pub line_of : List ℕ → List ℕ
-line_of cause = codes "lrupd: " ++ cause ++ codes "\n"
+abbrev pub error_line : List ℕ → List ℕ
+error_line cause = codes "lrupd: " ++ cause ++ codes "\n"
 
-abbrev pub text_of : CommandFault → List ℕ
-text_of (faults.Usage text) = text
-text_of fault = line_of (cause_text fault)
+abbrev pub error_text : CommandFault → List ℕ
+error_text (faults.Usage text) = text
+error_text fault = error_line (cause_text fault)
 
 -- a text, a number if there is one, and the rest
 abbrev pub cause_bytes : List ℕ → Option ℕ → List ℕ → List ℕ

@@ -8,7 +8,7 @@ ghost use Rattle.command_line.specs.CommandLine.{HaveFault};
 ghost use Rattle.command.specs.Arguments.{EndsWithoutArguments, not_utf8, refusal_status, refusal_text};
 ghost use Rattle.command.specs.Arguments.{words_after_name};
 ghost use Rattle.command.specs.Commands.{EndsWithFault, EndsWithReport, NameUnsatisfiable, NameUnsatisfiableUnder};
-ghost use Rattle.command.specs.Commands.{Takes, WasRead, change, files_view};
+ghost use Rattle.command.specs.Commands.{SinkTook, WasRead, change, files_view};
 
 use crate::fault::CommandFault;
 use crate::files::Files;
@@ -140,7 +140,7 @@ fn words_of<'a>(alloc: Global, arguments: &'a [String]) -> Result<Vec<&'a str>, 
 /// Says why the system gave no arguments, and gives the status.
 fn refuse<E: Sink>(kind: io::ErrorKind, err: &mut E) -> u8
     requires err { E.has_failed err.old ≡ false }
-    ensures said { Takes (change (E.written err.old) (E.written err.new) (E.has_failed err.new))
+    ensures said { SinkTook (change (E.written err.old) (E.written err.new) (E.has_failed err.new))
         (refusal_text kind) }
     ensures status { result ≡ refusal_status kind }
 {
@@ -153,7 +153,7 @@ fn refuse<E: Sink>(kind: io::ErrorKind, err: &mut E) -> u8
 /// Says that an argument isn't UTF-8, and gives the status.
 fn say_not_utf8<E: Sink>(err: &mut E) -> u8
     requires err { E.has_failed err.old ≡ false }
-    ensures said { Takes (change (E.written err.old) (E.written err.new) (E.has_failed err.new))
+    ensures said { SinkTook (change (E.written err.old) (E.written err.new) (E.has_failed err.new))
         not_utf8 }
     ensures status { result ≡ 2 }
 {

@@ -32,7 +32,7 @@ const PIECE: usize = 1 << 16;
 
 /// What a run found.
 #[derive(Drop)]
-pub struct Found {
+pub struct RunResult {
     /// What is said of each stream, in order.
     pub reports: Vec<Report>,
     /// What the reports come to.
@@ -48,7 +48,7 @@ pub fn check_words<T: Threads + Wait + Sync, C: Clock + Sync, F: Files, M: Watch
     words: &[&str],
     files: &mut F,
     watchers: &M,
-) -> Result<Found, CommandFault>
+) -> Result<RunResult, CommandFault>
     ensures outcome { let view = files_view (F.tells files.old) (F.may_refuse files.old)
         F.Input.Source.left F.Input.Source.has_failed (F.opens files.old) F.Input.Source.reads in
         IfOk result (λ found.
@@ -252,7 +252,7 @@ fn check_streams<T: Threads + Wait + Sync, C: Clock + Sync, R: Source + Send + D
     serial: bool,
     watchers: Option<&M>,
     readers: Vec<R>,
-) -> Result<Found, CommandFault>
+) -> Result<RunResult, CommandFault>
     requires running { AllByRecursion (λ r. R.has_failed r ≡ false) readers.items }
     ensures checked { let terms = terms_of options cube.now formula.now (length readers.items) in
         IfOk result (λ found. AreChecked (source_view R.left R.has_failed R.reads) serial
@@ -281,7 +281,7 @@ fn check_serially<W: Wait, C: Clock + Sync, R: Source + Drop, M: WatchSinks>(
     options: Options,
     watchers: Option<&M>,
     readers: Vec<R>,
-) -> Result<Found, CommandFault>
+) -> Result<RunResult, CommandFault>
     requires running { AllByRecursion (λ r. R.has_failed r ≡ false) readers.items }
     ensures checked { let terms = terms_of options cube.now formula.now (length readers.items) in
         IfOk result (λ found. AreChecked (source_view R.left R.has_failed R.reads) true
@@ -296,7 +296,7 @@ fn check_serially<W: Wait, C: Clock + Sync, R: Source + Drop, M: WatchSinks>(
         verdict,
         readers: _,
     } = outcome;
-    Ok(Found { reports, verdict })
+    Ok(RunResult { reports, verdict })
 }
 
 /// Checks the streams, each in two threads of its own.
@@ -314,7 +314,7 @@ fn check_in_threads<
     options: Options,
     watchers: Option<&M>,
     readers: Vec<R>,
-) -> Result<Found, CommandFault>
+) -> Result<RunResult, CommandFault>
     requires running { AllByRecursion (λ r. R.has_failed r ≡ false) readers.items }
     ensures checked { let terms = terms_of options cube.now formula.now (length readers.items) in
         IfOk result (λ found. AreChecked (source_view R.left R.has_failed R.reads) false
@@ -330,7 +330,7 @@ fn check_in_threads<
         passes: _,
         readers: _,
     } = outcome;
-    Ok(Found { reports, verdict })
+    Ok(RunResult { reports, verdict })
 }
 
 /// A gate for each of so many streams that are checked in threads. Each tells on a sink of its own, where there are sinks.

@@ -1,9 +1,9 @@
 //! Why there is no report, what is said of it, and the status.
 ghost use Rattle.std.specs.Prelude.{◌≡◌, [], Some, false, is_err};
 ghost use Rattle.lrup_text.specs.Writing.{PutsAll, WritesText};
-ghost use Rattle.lrup_model.specs.Layout.{fault_text as layout_text};
-ghost use Rattle.command.specs.Faults.{cause_bytes, cause_text, cube_fault_text, formula_fault_text, line_of};
-ghost use Rattle.command.specs.Faults.{status_of, text_of};
+ghost use Rattle.lrup_model.specs.Layout.{layout_fault_text};
+ghost use Rattle.command.specs.Faults.{cause_bytes, cause_text, cube_fault_text, formula_fault_text, error_line};
+ghost use Rattle.command.specs.Faults.{status_of, error_text};
 ghost use Rattle.stream_check.specs.Faults.{number_text};
 
 use crate::files::OpenFault;
@@ -150,7 +150,7 @@ impl CommandFault {
     pub fn write<W: Sink>(&self, sink: &mut W) -> Result<(), WriteFault>
         requires running { W.has_failed sink.old ≡ false }
         ensures text { WritesText result (W.written sink.old) (W.written sink.new)
-            (text_of self.now) }
+            (error_text self.now) }
         ensures failed { W.has_failed sink.new ≡ is_err result }
     {
         match self {
@@ -251,7 +251,7 @@ fn cube_cause(fault: CubeFault) -> Cause<'static>
 
 /// Why there is no layout.
 fn layout_cause(fault: LayoutFault) -> Cause<'static>
-    ensures { cause_bytes result.text.now result.number result.rest.now ≡ layout_text fault }
+    ensures { cause_bytes result.text.now result.number result.rest.now ≡ layout_fault_text fault }
 {
     match fault {
         LayoutFault::TooManyVariables | LayoutFault::TooManyClauses => {
@@ -266,7 +266,7 @@ fn layout_cause(fault: LayoutFault) -> Cause<'static>
 fn write_line<W: Sink>(cause: &Cause<'_>, sink: &mut W) -> Result<(), WriteFault>
     requires running { W.has_failed sink.old ≡ false }
     ensures text { WritesText result (W.written sink.old) (W.written sink.new)
-        (line_of (cause_bytes cause.now.text.now cause.now.number cause.now.rest.now)) }
+        (error_line (cause_bytes cause.now.text.now cause.now.number cause.now.rest.now)) }
     ensures failed { W.has_failed sink.new ≡ is_err result }
 {
     let mut buffer = WriteBuffer::new();

@@ -4,10 +4,10 @@ ghost use Rattle.clap.specs.Walk.{texts};
 ghost use Rattle.portfolio.specs.ReportText.{report_text};
 ghost use Rattle.command_line.specs.CommandLine.{HaveFault};
 ghost use Rattle.command.specs.Commands.{EndsWithFault, EndsWithReport, NameUnsatisfiable, NameUnsatisfiableUnder, SaysOfReport, files_view};
-ghost use Rattle.command.specs.Commands.{Takes, WasRead, change, report_status};
-ghost use Rattle.command.specs.Faults.{status_of, text_of};
+ghost use Rattle.command.specs.Commands.{SinkTook, WasRead, change, report_status};
+ghost use Rattle.command.specs.Faults.{status_of, error_text};
 
-use crate::checking::{Found, check_words};
+use crate::checking::{RunResult, check_words};
 use crate::fault::CommandFault;
 use crate::files::Files;
 use crate::watching::{Unwatched, WatchSinks};
@@ -116,10 +116,11 @@ pub fn command_watched<
 }
 
 /// Writes the report of what was found, and gives the status.
-fn report<O: Sink, E: Sink>(found: &Found, out: &mut O, err: &mut E) -> u8
+fn report<O: Sink, E: Sink>(found: &RunResult, out: &mut O, err: &mut E) -> u8
     requires out { O.has_failed out.old ≡ false }
     requires err { E.has_failed err.old ≡ false }
-    ensures printed { Takes (change (O.written out.old) (O.written out.new) (O.has_failed out.new))
+    ensures printed {
+        SinkTook (change (O.written out.old) (O.written out.new) (O.has_failed out.new))
         (report_text found.now.reports.items found.now.verdict) }
     ensures said { SaysOfReport (O.has_failed out.new)
         (change (E.written err.old) (E.written err.new) (E.has_failed err.new)) }
@@ -138,8 +139,8 @@ fn report<O: Sink, E: Sink>(found: &Found, out: &mut O, err: &mut E) -> u8
 /// Says why there is no report, or not all of it, and gives the status, whether that could be written or not.
 pub fn say<E: Sink>(fault: &CommandFault, err: &mut E) -> u8
     requires err { E.has_failed err.old ≡ false }
-    ensures said { Takes (change (E.written err.old) (E.written err.new) (E.has_failed err.new))
-        (text_of fault.now) }
+    ensures said { SinkTook (change (E.written err.old) (E.written err.new) (E.has_failed err.new))
+        (error_text fault.now) }
     ensures status { result ≡ status_of fault.now }
 {
     let _ = fault.write(err);

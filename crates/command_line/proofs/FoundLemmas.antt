@@ -27,7 +27,7 @@ use Rattle.clap.specs.declared.parser.matches.Found.{Found}
 use Rattle.clap.proofs.CallerLemmas.{entry_by_id}
 use Rattle.clap.proofs.WalkLemmas.{find_row, first_value-rows, one_text-rows, raw_values-rows, simple_arg}
 use Rattle.command_line.specs.CommandLine.{lrupd}
-use Rattle.command_line.specs.Matches.{AreFound, HasTruth, HasUpTo}
+use Rattle.command_line.specs.Matches.{AreRowsOf, HasTruth, HasUpTo}
 use Rattle.command_line.proofs.FaultLemmas.{given, simple, simple_and_free}
 use Rattle.command_line.proofs.ProgramLemmas.{EachArgument, IsProgram, argument_has, is_program, program_simple}
 
@@ -175,7 +175,7 @@ stream_takes = ((other, (other, (other, (other, (other, (other, (other, (λ _. (
 -- ---- all of it
 
 are_found : (words : List Text) (c d : Command) (f : Found) → app_of c ≡ lrupd → BuildsOrBreaks c d → (is_broken d ≡ true → ⊥) → ValuesPass d f
-    → fault_of lrupd words ≡ [] → rows_of f ≡ matches_of lrupd words → AreFound words (rows_of f)
+    → fault_of lrupd words ≡ [] → rows_of f ≡ matches_of lrupd words → AreRowsOf words (rows_of f)
 are_found words c d f is after whole pass good found =
     let program = is_program c d is after whole in
     let both = given words good in
@@ -216,7 +216,7 @@ fails_by words c r is kinds =
 pub finds : (words : List Text) (c d : Command) (r : Result ArgMatches Error) → app_of c ≡ lrupd → BuildsOrBreaks c d
     → (is_broken d ≡ true → IsErrAnd r (λ e. kind_of e ≡ OutOfMemory))
     → IfOk r (λ m. BuildsTo c d × ((out-Command d).has_globals ≡ false → IsParsed d (found_of m) (has_subcommand m)) × HasMatchesOf (app_of c) words m)
-    → FailsBy (fault_of lrupd words) r → IfOk r (λ m. AreFound words (rows_of (found_of m)))
+    → FailsBy (fault_of lrupd words) r → IfOk r (λ m. AreRowsOf words (rows_of (found_of m)))
 finds words c d (Err e) is after fails ok kinds = tt
 finds words c d (Ok m) is after fails ok kinds =
     let program = is_program c d is after fails in

@@ -17,7 +17,7 @@ use Rattle.clap.proofs.WalkLemmas.{both}
 use Rattle.clap.specs.declared.builder.value_parser.Reading.TheVariants.{AsWritten}
 use Rattle.clap.specs.declared.parser.matches.ValueSource.TheVariants as source
 use Rattle.clap.proofs.OnLiterals.{clap_on_literals}
-use Rattle.command_line.specs.CommandLine.{IsSaidBy, is_set, lrupd, number_of, stream_rule}
+use Rattle.command_line.specs.CommandLine.{IsSaidBy, is_set, lrupd, option_number, stream_rule}
 use Rattle.command_line.specs.Laws.{HasDefaults, PlainWords, is_plain}
 use Rattle.command_line.specs.declared.words.CommandLine.{CommandLine}
 
@@ -251,9 +251,9 @@ defaults : (formula first : Text) (rest : List Text) (rows : List Row) → rows 
 defaults formula first rest rows are given said = record {
   formula = sym (value_of formula given.formula.now (sym (ap (first_of (codes "FORMULA")) are) ∙ said.formula));
   streams = sym (value_of (first ∷ rest) given.streams (sym (ap (all_of (codes "STREAM")) are) ∙ said.streams));
-  tries = said.tries ∙ ap (number_of (codes "tries") 1000) are;
-  lines = said.lines ∙ ap (number_of (codes "lines") 65536) are;
-  room = said.room ∙ ap (number_of (codes "room") 1048576) are;
+  tries = said.tries ∙ ap (option_number (codes "tries") 1000) are;
+  lines = said.lines ∙ ap (option_number (codes "lines") 65536) are;
+  room = said.room ∙ ap (option_number (codes "room") 1048576) are;
   assume = no_path (λ path. path.now) given.assume (said.assume ∙ ap (first_of (codes "assume")) are);
   serial = said.serial ∙ ap (is_set (codes "serial")) are;
   watch = said.watch ∙ ap (is_set (codes "watch")) are;

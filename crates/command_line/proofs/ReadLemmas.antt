@@ -5,7 +5,7 @@ use Rattle.std.specs.Prelude.{unwrap_or}
 use Rattle.std.specs.Option.{ForSome, option_map_or}
 use Rattle.std.specs.Str.Parse.{ParsesUnsigned, digits_value, without_leading_plus}
 use Rattle.clap.specs.Words.{IsUnsignedIn, ReadsOne, Row, Text, one_of}
-use Rattle.command_line.specs.CommandLine.{number_of}
+use Rattle.command_line.specs.CommandLine.{option_number}
 use Rattle.command_line.specs.Matches.{HasNumber, HasUpTo, IsNumber}
 
 -- a text that is a number of 64 bits reads as this number, and none as the default
@@ -24,7 +24,7 @@ pub up_to_is_number : (most : ℕ) (name : Text) (rows : List Row) → HasUpTo m
 up_to_is_number most name rows up_to text is = ((up_to text is).0, (up_to text is).1)
 
 -- the number of an option is at most `most`, as its default is
-pub number_within : (most : ℕ) (name : Text) (default : ℕ) (rows : List Row) → HasUpTo most name rows → default ≤ most → number_of name default rows ≤ most
+pub number_within : (most : ℕ) (name : Text) (default : ℕ) (rows : List Row) → HasUpTo most name rows → default ≤ most → option_number name default rows ≤ most
 number_within most name default rows up_to small = go (one_of name rows) up_to
   where
     go : (found : Option Text) → ForSome found (IsUnsignedIn 0 most) → option_map_or (λ t. digits_value 10 (without_leading_plus t)) found default ≤ most

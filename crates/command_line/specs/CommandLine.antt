@@ -75,8 +75,8 @@ pub record AskFor (words : List Text) (formula : Text) (assume : Option Text) : 
 -- ---- what the words say, by the rows that are found in them
 
 -- the number that an option has, or `default` where the words don't have the option
-abbrev pub number_of : Text → ℕ → List Row → ℕ
-number_of name default rows =
+abbrev pub option_number : Text → ℕ → List Row → ℕ
+option_number name default rows =
     option_map_or (λ text. digits_value 10 (without_leading_plus text)) (one_of name rows) default
 
 -- the words have the flag
@@ -89,11 +89,11 @@ HaveFault words = fault_of lrupd words ≢ []
 
 -- What the rows say, field by field.
 pub record IsSaidBy (rows : List Row) (given : CommandLine) : Type 0 where
-  pub tries : given.tries ≡ number_of (codes "tries") 1000 rows
+  pub tries : given.tries ≡ option_number (codes "tries") 1000 rows
   pub few_tries : given.tries ≤ 1000000
-  pub lines : given.lines ≡ number_of (codes "lines") 65536 rows
+  pub lines : given.lines ≡ option_number (codes "lines") 65536 rows
   pub few_lines : given.lines ≤ 268435456
-  pub room : given.room ≡ number_of (codes "room") 1048576 rows
+  pub room : given.room ≡ option_number (codes "room") 1048576 rows
   pub small_room : given.room ≤ 268435456
   pub assume : option_map (λ path. path.now) given.assume ≡ first_of (codes "assume") rows
   pub serial : given.serial ≡ is_set (codes "serial") rows
@@ -108,6 +108,6 @@ pub record IsCommandLineOf (words : List Text) (given : CommandLine) : Type 0 wh
   pub said : IsSaidBy (matches_of lrupd words) given
 
 -- Why there is none: the words have a fault, or memory ran out.
-abbrev pub IsFaultOf : List Text → WordsFault → Type 0
-IsFaultOf words (Usage text) = HaveFault words
-IsFaultOf words Memory = ⊤
+abbrev pub IsWordsFault : List Text → WordsFault → Type 0
+IsWordsFault words (Usage text) = HaveFault words
+IsWordsFault words Memory = ⊤

@@ -53,7 +53,7 @@ pub record AreWhole (rows : List Row) : Type 0 where
       × (0 < length paths)
 
 -- the rows are those of the words, which have no fault
-pub record AreFound (words : List Text) (rows : List Row) : Type 0 where
+pub record AreRowsOf (words : List Text) (rows : List Row) : Type 0 where
   pub good : fault_of lrupd words ≡ []
   pub found : rows ≡ matches_of lrupd words
   pub whole : AreWhole rows

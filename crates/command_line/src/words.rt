@@ -2,8 +2,8 @@
 ghost use Rattle.std.specs.Prelude.{◌≡◌, IfErr, IfOk, IsSome, Some, codes, option_map};
 ghost use Rattle.clap.specs.Walk.{rows_of, texts};
 ghost use Rattle.clap.specs.Words.{FailsBy, all_of, fault_of, first_of, found_of};
-ghost use Rattle.command_line.specs.CommandLine.{IsCommandLineOf, IsFaultOf, IsSaidBy, is_set, lrupd, number_of};
-ghost use Rattle.command_line.specs.Matches.{AreFound, AreWhole, HasNumber, HasTruth, IsFaultFrom};
+ghost use Rattle.command_line.specs.CommandLine.{IsCommandLineOf, IsWordsFault, IsSaidBy, is_set, lrupd, option_number};
+ghost use Rattle.command_line.specs.Matches.{AreRowsOf, AreWhole, HasNumber, HasTruth, IsFaultFrom};
 
 use crate::arguments::program;
 use clap::error::ErrorKind;
@@ -113,7 +113,7 @@ impl From<AllocError> for WordsFault {
 /// Reads the words after the program's name.
 pub fn read_words<'a>(alloc: Global, words: &'a [&str]) -> Result<CommandLine<'a>, WordsFault>
     ensures ok { IfOk result (IsCommandLineOf (texts words.now)) }
-    ensures fault { IfErr result (IsFaultOf (texts words.now)) }
+    ensures fault { IfErr result (IsWordsFault (texts words.now)) }
 {
     match matches_in(alloc, words) {
         Ok(matches) => Ok(command_line(alloc, &matches)?),
@@ -123,7 +123,7 @@ pub fn read_words<'a>(alloc: Global, words: &'a [&str]) -> Result<CommandLine<'a
 
 /// What `clap` finds in the words after the program's name.
 fn matches_in<'a>(alloc: Global, words: &'a [&str]) -> Result<ArgMatches<'a>, ClapError>
-    ensures ok { IfOk result (λ matches. AreFound (texts words.now) (rows_of (found_of matches))) }
+    ensures ok { IfOk result (λ matches. AreRowsOf (texts words.now) (rows_of (found_of matches))) }
     ensures faults { FailsBy (fault_of lrupd (texts words.now)) result }
 {
     let mut program = program(alloc)?;
@@ -131,9 +131,9 @@ fn matches_in<'a>(alloc: Global, words: &'a [&str]) -> Result<ArgMatches<'a>, Cl
 }
 
 /// The number that an option has, or its default.
-fn number_of(matches: &ArgMatches<'_>, name: &str, default: u64) -> u64
+fn option_number(matches: &ArgMatches<'_>, name: &str, default: u64) -> u64
     requires { HasNumber name.now (rows_of (found_of matches.now)) }
-    ensures { result ≡ number_of name.now default (rows_of (found_of matches.now)) }
+    ensures { result ≡ option_number name.now default (rows_of (found_of matches.now)) }
 {
     matches.get_one::<u64>(name).unwrap_or(default)
 }
@@ -144,9 +144,9 @@ fn command_line<'a>(alloc: Global, matches: &ArgMatches<'a>) -> Result<CommandLi
     ensures { IfOk result (IsSaidBy (rows_of (found_of matches.now))) }
 {
     Ok(CommandLine {
-        tries: number_of(matches, "tries", 1_000),
-        lines: number_of(matches, "lines", 65_536),
-        room: number_of(matches, "room", 1_048_576),
+        tries: option_number(matches, "tries", 1_000),
+        lines: option_number(matches, "lines", 65_536),
+        room: option_number(matches, "room", 1_048_576),
         assume: assume_of(matches),
         serial: is_set(matches, "serial"),
         watch: is_set(matches, "watch"),

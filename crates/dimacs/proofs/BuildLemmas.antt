@@ -10,7 +10,7 @@ use Rattle.dimacs.specs.Numerals.{number_of}
 use Rattle.lrup_model.specs.DistinctLemmas.{distinct-push_same, distinct-push_other}
 use Rattle.lrup_model.specs.ListLemmas.{All-push}
 use Rattle.lrup_model.specs.ClauseLemmas.{All-from_Has, All-Has}
-use Rattle.dimacs.specs.FormulaTokens.{IsWritten, IsRead, IsSetOf, AreSetsOf, AreClauses, ended}
+use Rattle.dimacs.specs.FormulaTokens.{IsWritten, TokensSpell, IsSetOf, AreSetsOf, AreClauses, ended}
 use Rattle.dimacs.specs.FormulaFault.{StandsAt, HasBadNumber, HasLargeVariable, HasMoreClauses, HasLongClause, EndsOpen, EndsEarly}
 use Rattle.dimacs.specs.Places.{IsBuilt, AddsLiteral, AddsClause, IsFirstToken}
 use Rattle.dimacs.proofs.SetLemmas.{Has-push}
@@ -30,7 +30,7 @@ numbers_push tokens t numbers z before new =
     ∙ ap (λ (x : Option ℤ). somes numbers ++ x ∷ []) new
     ∙ sym (map-append (λ (y : ℤ). Some y) numbers (z ∷ []))
 
-read_none : (vars count : ℕ) → IsRead vars count [] [] []
+read_none : (vars count : ℕ) → TokensSpell vars count [] [] []
 read_none vars count = record {
   numbers = refl;
   closed_within = tt;
@@ -39,7 +39,7 @@ read_none vars count = record {
   begun_count = λ some. absurd (omega arith);
 }
 
-read_literal : (vars count : ℕ) (tokens : List Token) (t : Token) (closed : List (List ℤ)) (begun : List ℤ) (l : ℤ) → IsRead vars count tokens closed begun → number_of t.text ≡ Some l → IsLiteral vars l → length begun < max_clause_literals → length closed < count → IsRead vars count (tokens ++ t ∷ []) closed (begun ++ l ∷ [])
+read_literal : (vars count : ℕ) (tokens : List Token) (t : Token) (closed : List (List ℤ)) (begun : List ℤ) (l : ℤ) → TokensSpell vars count tokens closed begun → number_of t.text ≡ Some l → IsLiteral vars l → length begun < max_clause_literals → length closed < count → TokensSpell vars count (tokens ++ t ∷ []) closed (begun ++ l ∷ [])
 read_literal vars count tokens t closed begun l read is literal short room = record {
   numbers = numbers_push tokens t (flat_map ended closed ++ begun) l read.numbers is ∙ ap somes (append_assoc (flat_map ended closed) begun (l ∷ []));
   closed_within = read.closed_within;
@@ -51,7 +51,7 @@ read_literal vars count tokens t closed begun l read is literal short room = rec
   begun_count = λ some. room;
 }
 
-read_end : (vars count : ℕ) (tokens : List Token) (t : Token) (closed : List (List ℤ)) (begun : List ℤ) → IsRead vars count tokens closed begun → number_of t.text ≡ Some (pos 0) → length closed < count → IsRead vars count (tokens ++ t ∷ []) (closed ++ begun ∷ []) []
+read_end : (vars count : ℕ) (tokens : List Token) (t : Token) (closed : List (List ℤ)) (begun : List ℤ) → TokensSpell vars count tokens closed begun → number_of t.text ≡ Some (pos 0) → length closed < count → TokensSpell vars count (tokens ++ t ∷ []) (closed ++ begun ∷ []) []
 read_end vars count tokens t closed begun read is room = record {
   numbers =
       numbers_push tokens t (flat_map ended closed ++ begun) (pos 0) read.numbers is
@@ -159,7 +159,7 @@ ends_clause vars count all left f clause written remaining h =
 
 -- ## the end, and the faults
 
-read_whole : (vars count : ℕ) (all left : List Token) (f : Cnf) (clause : List ℤ) (written remaining : ℕ) → (h : Reads vars count all left f clause written remaining) → left ≡ [] → IsRead vars count all h.built.closed h.built.begun
+read_whole : (vars count : ℕ) (all left : List Token) (f : Cnf) (clause : List ℤ) (written remaining : ℕ) → (h : Reads vars count all left f clause written remaining) → left ≡ [] → TokensSpell vars count all h.built.closed h.built.begun
 read_whole vars count all left f clause written remaining h none =
     let whole : all ≡ h.before = h.split ∙ ap (λ (x : List Token). h.before ++ x) none ∙ append-nil h.before in
     rw whole h.built.read
@@ -173,7 +173,7 @@ clauses_read vars count all left f g clause written remaining h none same no_lit
       written = built.closed;
       vars_are = built.vars_are;
       count_is = omega (arith, h.remaining_is);
-      read = subst (λ (x : List ℤ). IsRead vars count all built.closed x) begun_none whole;
+      read = subst (λ (x : List ℤ). TokensSpell vars count all built.closed x) begun_none whole;
       sets = built.sets;
     })
 
@@ -190,7 +190,7 @@ ends_early vars count all left f clause written remaining h none no_literal some
     let built = h.built in
     let begun_none : built.begun ≡ [] = nil_from_length built.begun (omega (arith, built.written_is)) in record {
       closed = built.closed;
-      read = subst (λ (x : List ℤ). IsRead vars count all built.closed x) begun_none (read_whole vars count all left f clause written remaining h none);
+      read = subst (λ (x : List ℤ). TokensSpell vars count all built.closed x) begun_none (read_whole vars count all left f clause written remaining h none);
       fault = omega (arith, h.remaining_is, length-sets built.closed f.clauses built.sets);
     }
 

@@ -7,7 +7,7 @@ use Rattle.lrup_model.specs.Clause.{Clause}
 use Rattle.lrup_model.specs.Formula.{Cnf}
 use Rattle.dimacs.specs.Lines.{Line, Token, lines_of, all_tokens}
 use Rattle.dimacs.specs.FormulaTokens.{InBodyOf, IsWritten, AreSetsOf, AreClauses, ended}
-use Rattle.dimacs.specs.FormulaText.{IsTextOf}
+use Rattle.dimacs.specs.FormulaText.{IsFormulaText}
 use Rattle.dimacs.proofs.TextLemmas.{body_of_text}
 use Rattle.dimacs.proofs.LawLemmas.{one_header, somes-injective}
 
@@ -59,5 +59,5 @@ in_lines (header ∷ lines) f g h k =
     let there : AreClauses g h.vars h.count (all_tokens lines) = rw (same.0, same.1) k.later in
     same_clauses f g h.vars h.count (all_tokens lines) h.later there
 
-pub one_formula : (bytes : List ℕ) (f g : Cnf) → IsTextOf bytes f → IsTextOf bytes g → f ≡ g
+pub one_formula : (bytes : List ℕ) (f g : Cnf) → IsFormulaText bytes f → IsFormulaText bytes g → f ≡ g
 one_formula bytes f g h k = in_lines (lines_of bytes) f g (body_of_text bytes f h) (body_of_text bytes g k)

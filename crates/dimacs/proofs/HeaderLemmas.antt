@@ -9,45 +9,45 @@ use Rattle.dimacs.specs.Lines.{is_separator, runs}
 use Rattle.dimacs.specs.Numerals.{is_count, value}
 use Rattle.dimacs.specs.FormulaTokens.{IsHeader}
 use Rattle.dimacs.specs.FormulaFault.{SaysTooMuch}
-use Rattle.dimacs.specs.Places.{run, after_run, with_run, IsAtToken, ReadsCount}
-use Rattle.dimacs.proofs.LineLemmas.{run-begun, run-ended, run-nil, after_run-begun, after_run-ended, after_run-nil, runs_begun, IsRun, IsRun-run}
+use Rattle.dimacs.specs.Places.{first_run, after_run, with_run, IsAtToken, ReadsCount}
+use Rattle.dimacs.proofs.LineLemmas.{first_run-begun, first_run-ended, first_run-nil, after_run-begun, after_run-ended, after_run-nil, runs_begun, IsRun, IsRun-run}
 
-pub run_more : (text : List ℕ) (k : ℕ) → k < length text → is_separator (get_or text k 0) ≡ false → run text ≡ take k text ++ run (drop k text) → run text ≡ take (k + 1) text ++ run (drop (k + 1) text)
+pub run_more : (text : List ℕ) (k : ℕ) → k < length text → is_separator (get_or text k 0) ≡ false → first_run text ≡ take k text ++ first_run (drop k text) → first_run text ≡ take (k + 1) text ++ first_run (drop (k + 1) text)
 run_more text k lt begins e =
     e
-    ∙ ap (λ (x : List ℕ). take k text ++ run x) (drop_more text k 0 lt)
-    ∙ ap (λ (x : List ℕ). take k text ++ x) (run-begun (get_or text k 0) (drop (k + 1) text) begins)
-    ∙ sym (append_assoc (take k text) (get_or text k 0 ∷ []) (run (drop (k + 1) text)))
-    ∙ ap (λ (x : List ℕ). x ++ run (drop (k + 1) text)) (sym (take_more text k 0 lt))
+    ∙ ap (λ (x : List ℕ). take k text ++ first_run x) (drop_more text k 0 lt)
+    ∙ ap (λ (x : List ℕ). take k text ++ x) (first_run-begun (get_or text k 0) (drop (k + 1) text) begins)
+    ∙ sym (append_assoc (take k text) (get_or text k 0 ∷ []) (first_run (drop (k + 1) text)))
+    ∙ ap (λ (x : List ℕ). x ++ first_run (drop (k + 1) text)) (sym (take_more text k 0 lt))
 
 pub left_more : (text : List ℕ) (k : ℕ) → k < length text → is_separator (get_or text k 0) ≡ false → after_run text ≡ after_run (drop k text) → after_run text ≡ after_run (drop (k + 1) text)
 left_more text k lt begins e =
     e ∙ ap after_run (drop_more text k 0 lt) ∙ after_run-begun (get_or text k 0) (drop (k + 1) text) begins
 
 -- the run ends at this place
-pub ended_within : (text : List ℕ) (k : ℕ) → k < length text → is_separator (get_or text k 0) ≡ true → (run (drop k text) ≡ []) × (after_run (drop k text) ≡ drop k text)
+pub ended_within : (text : List ℕ) (k : ℕ) → k < length text → is_separator (get_or text k 0) ≡ true → (first_run (drop k text) ≡ []) × (after_run (drop k text) ≡ drop k text)
 ended_within text k lt separates =
     let e = drop_more text k 0 lt in
-    (ap run e ∙ run-ended (get_or text k 0) (drop (k + 1) text) separates, ap after_run e ∙ after_run-ended (get_or text k 0) (drop (k + 1) text) separates ∙ sym e)
+    (ap first_run e ∙ first_run-ended (get_or text k 0) (drop (k + 1) text) separates, ap after_run e ∙ after_run-ended (get_or text k 0) (drop (k + 1) text) separates ∙ sym e)
 
-pub ended_past : (text : List ℕ) (k : ℕ) → length text ≤ k → (run (drop k text) ≡ []) × (after_run (drop k text) ≡ drop k text)
+pub ended_past : (text : List ℕ) (k : ℕ) → length text ≤ k → (first_run (drop k text) ≡ []) × (after_run (drop k text) ≡ drop k text)
 ended_past text k past =
     let e = drop_all k text past in
-    (ap run e ∙ run-nil, ap after_run e ∙ after_run-nil ∙ sym e)
+    (ap first_run e ∙ first_run-nil, ap after_run e ∙ after_run-nil ∙ sym e)
 
-run_is : (bs : List ℕ) → IsRun bs → run bs ≡ bs
-run_is [] h = run-nil
-run_is (b ∷ bs) h = run-begun b bs h.0 ∙ ap (λ (x : List ℕ). b ∷ x) (run_is bs h.1)
+run_is : (bs : List ℕ) → IsRun bs → first_run bs ≡ bs
+run_is [] h = first_run-nil
+run_is (b ∷ bs) h = first_run-begun b bs h.0 ∙ ap (λ (x : List ℕ). b ∷ x) (run_is bs h.1)
 
-pub run-run : (bs : List ℕ) → run (run bs) ≡ run bs
-run-run bs = run_is (run bs) (IsRun-run bs)
+pub first_run-run : (bs : List ℕ) → first_run (first_run bs) ≡ first_run bs
+first_run-run bs = run_is (first_run bs) (IsRun-run bs)
 
-pub runs-at_token : (bs : List ℕ) → IsAtToken bs → runs bs ≡ with_run (run bs) (runs (after_run bs))
-runs-at_token [] place = ap (λ (x : List ℕ). with_run x (runs (after_run []))) (sym run-nil)
+pub runs-at_token : (bs : List ℕ) → IsAtToken bs → runs bs ≡ with_run (first_run bs) (runs (after_run bs))
+runs-at_token [] place = ap (λ (x : List ℕ). with_run x (runs (after_run []))) (sym first_run-nil)
 runs-at_token (b ∷ bs) place =
     runs_begun b bs place
-    ∙ ap (λ (x : List ℕ). (b ∷ run bs) ∷ runs x) (sym (after_run-begun b bs place))
-    ∙ ap (λ (x : List ℕ). with_run x (runs (after_run (b ∷ bs)))) (sym (run-begun b bs place))
+    ∙ ap (λ (x : List ℕ). (b ∷ first_run bs) ∷ runs x) (sym (after_run-begun b bs place))
+    ∙ ap (λ (x : List ℕ). with_run x (runs (after_run (b ∷ bs)))) (sym (first_run-begun b bs place))
 
 header_of : (v c : List ℕ) (later : List (List ℕ)) → is_count v ≡ true → is_count c ≡ true → IsHeader (codes "p" ∷ codes "cnf" ∷ with_run v (with_run c [])) (value v) (value c)
 header_of [] c later no_vars counts = cc

@@ -8,10 +8,10 @@ use Rattle.dimacs.specs.declared.fault.DimacsFault.{DimacsFault}
 use Rattle.dimacs.specs.declared.fault.DimacsFault.TheVariants.{NoHeader, BadHeader, BadNumber, VariableRange, OpenClause, TooFew, TooMany, Limit, Memory}
 use Rattle.dimacs.specs.Lines.{Line, Token, lines_of, all_tokens}
 use Rattle.dimacs.specs.Numerals.{number_of}
-use Rattle.dimacs.specs.FormulaTokens.{IsHeader, InBodyOf, IsWritten, IsRead, AreClauses, ended}
-use Rattle.dimacs.specs.FormulaFault.{BeginsHeader, StandsAt, IsBodyFault, IsHeaderFault, IsFaultOf}
+use Rattle.dimacs.specs.FormulaTokens.{IsHeader, InBodyOf, IsWritten, TokensSpell, AreClauses, ended}
+use Rattle.dimacs.specs.FormulaFault.{BeginsHeader, StandsAt, IsBodyFault, IsHeaderFault, IsFormulaFault}
 use Rattle.dimacs.proofs.TallyLemmas.{tally, tally_on, Tally, tally-append, further_by_one, longer_by_one, tally_read, numbers}
-use Rattle.dimacs.specs.FormulaText.{IsTextOf}
+use Rattle.dimacs.specs.FormulaText.{IsFormulaText}
 use Rattle.dimacs.proofs.TextLemmas.{body_of_text}
 use Rattle.dimacs.proofs.BuildLemmas.{length-sets}
 
@@ -65,7 +65,7 @@ pub record IsFine (vars count : ℕ) (token : Token) (closed : List (List ℤ)) 
   pub room : length closed ≡ count → ⊥
   pub short : 0 < nat_abs number → length begun < max_clause_literals
 
-pub fine : (vars count : ℕ) (all : List Token) (closed' : List (List ℤ)) (begun' : List ℤ) (t : Token) (before after : List Token) (closed : List (List ℤ)) (begun : List ℤ) → IsRead vars count all closed' begun' → all ≡ before ++ t ∷ after → IsRead vars count before closed begun → IsFine vars count t closed begun
+pub fine : (vars count : ℕ) (all : List Token) (closed' : List (List ℤ)) (begun' : List ℤ) (t : Token) (before after : List Token) (closed : List (List ℤ)) (begun : List ℤ) → TokensSpell vars count all closed' begun' → all ≡ before ++ t ∷ after → TokensSpell vars count before closed begun → IsFine vars count t closed begun
 fine vars count all closed' begun' t before after closed begun whole split read =
     let e : somes (numbers closed' begun') ≡ somes (numbers closed begun) ++ number_of t.text ∷ numbers_of after =
     sym whole.numbers ∙ ap numbers_of split ∙ map-append (λ (u : Token). number_of u.text) before (t ∷ after) ∙ ap (λ (x : List (Option ℤ)). x ++ number_of t.text ∷ numbers_of after) read.numbers in
@@ -91,7 +91,7 @@ fine vars count all closed' begun' t before after closed begun whole split read 
           omega (arith, longer_by_one t0.ended_clauses t0.begun t0.longest cut.number cut.rest some, longest_on, here.literals_are, there.short);
     }
 
-pub fine_at : (vars count : ℕ) (all : List Token) (closed' : List (List ℤ)) (begun' : List ℤ) (t : Token) (closed : List (List ℤ)) (begun : List ℤ) → IsRead vars count all closed' begun' → StandsAt t vars count all closed begun → IsFine vars count t closed begun
+pub fine_at : (vars count : ℕ) (all : List Token) (closed' : List (List ℤ)) (begun' : List ℤ) (t : Token) (closed : List (List ℤ)) (begun : List ℤ) → TokensSpell vars count all closed' begun' → StandsAt t vars count all closed begun → IsFine vars count t closed begun
 fine_at vars count all closed' begun' t closed begun whole place =
     fine vars count all closed' begun' t place.before place.after closed begun whole place.whole place.read
 
@@ -106,7 +106,7 @@ somes-injective (x ∷ xs) (y ∷ ys) e =
     let below = somes-injective xs ys tail in cc
 
 -- two readings have as many clauses, and as many literals after them
-pub one_reading : (vars count : ℕ) (all : List Token) (closed closed' : List (List ℤ)) (begun begun' : List ℤ) → IsRead vars count all closed begun → IsRead vars count all closed' begun' → (length closed ≡ length closed') × (length begun ≡ length begun')
+pub one_reading : (vars count : ℕ) (all : List Token) (closed closed' : List (List ℤ)) (begun begun' : List ℤ) → TokensSpell vars count all closed begun → TokensSpell vars count all closed' begun' → (length closed ≡ length closed') × (length begun ≡ length begun')
 one_reading vars count all closed closed' begun begun' one other =
     let same = somes-injective (numbers closed begun) (numbers closed' begun') (sym one.numbers ∙ other.numbers) in
     let t = ap (tally 0 0 0) same in
@@ -187,5 +187,5 @@ in_lines (header ∷ lines) f fault text faulty =
     no_body_fault fault f text.vars text.count (all_tokens lines) text.later there)
     faulty
 
-pub formula_or_fault : (bytes : List ℕ) (f : Cnf) (fault : DimacsFault) → IsTextOf bytes f → IsFaultOf bytes fault → ⊥
+pub formula_or_fault : (bytes : List ℕ) (f : Cnf) (fault : DimacsFault) → IsFormulaText bytes f → IsFormulaFault bytes fault → ⊥
 formula_or_fault bytes f fault text faulty = in_lines (lines_of bytes) f fault (body_of_text bytes f text) faulty

@@ -8,7 +8,7 @@ use Rattle.std.proofs.lemmas.List.Splits.{slice_split_at, slice_split_none}
 use Rattle.std.proofs.lemmas.Bool.{or_parts, cases_Bool, ne_eqb, both_ways}
 use Rattle.std.proofs.Math.Nat.{eq-zero-or-pos}
 use Rattle.dimacs.specs.Lines.{Line, Token, ends_line, is_separator, is_empty, runs, lines_from, tokens_of, all_tokens}
-use Rattle.dimacs.specs.Places.{lines_at_start, lines_inside, lines_at, tokens_at, run, after_run, IsAtToken}
+use Rattle.dimacs.specs.Places.{lines_at_start, lines_inside, lines_at, tokens_at, first_run, after_run, IsAtToken}
 
 -- ## a separator
 
@@ -103,13 +103,13 @@ IsClean ((b ∷ bs) ∷ parts) = is_separator b ≡ true
 no_line_end : (b : ℕ) → is_separator b ≡ false → ends_line b ≡ false
 no_line_end b e = (or_parts (b == 32 || b == 9 || b == 13) (b == 10) e).1
 
-split_onto_at : (b : ℕ) (bs : List ℕ) (t : Bool) → is_separator b ≡ t → slice_split ends_line bs ≡ onto (run bs) (slice_split ends_line (after_run bs)) → slice_split ends_line (b ∷ bs) ≡ onto (run (b ∷ bs)) (slice_split ends_line (after_run (b ∷ bs)))
-unfolding run after_run onto
+split_onto_at : (b : ℕ) (bs : List ℕ) (t : Bool) → is_separator b ≡ t → slice_split ends_line bs ≡ onto (first_run bs) (slice_split ends_line (after_run bs)) → slice_split ends_line (b ∷ bs) ≡ onto (first_run (b ∷ bs)) (slice_split ends_line (after_run (b ∷ bs)))
+unfolding first_run after_run onto
 split_onto_at b bs true e below = rw e refl
 split_onto_at b bs false e below = rw (e, no_line_end b e) (ap (onto_first b) below)
 
-split_onto : (bs : List ℕ) → slice_split ends_line bs ≡ onto (run bs) (slice_split ends_line (after_run bs))
-unfolding run after_run onto
+split_onto : (bs : List ℕ) → slice_split ends_line bs ≡ onto (first_run bs) (slice_split ends_line (after_run bs))
+unfolding first_run after_run onto
 split_onto [] = refl
 split_onto (b ∷ bs) = split_onto_at b bs (is_separator b) refl (split_onto bs)
 
@@ -131,12 +131,12 @@ unfolding after_run
 clean_after_run [] = tt
 clean_after_run (b ∷ bs) = clean_at b bs (is_separator b) refl (clean_after_run bs)
 
-pub IsRun-run : (bs : List ℕ) → IsRun (run bs)
-unfolding run
+pub IsRun-run : (bs : List ℕ) → IsRun (first_run bs)
+unfolding first_run
 IsRun-run [] = tt
 IsRun-run (b ∷ bs) =
     let below = IsRun-run bs in
-    let at : (t : Bool) → is_separator b ≡ t → IsRun (cond t [] (b ∷ run bs)) = λ t. elim t as (λ u. is_separator b ≡ u → IsRun (cond u [] (b ∷ run bs))) [ true ↦ λ e. tt | false ↦ λ e. (e, below) ] in
+    let at : (t : Bool) → is_separator b ≡ t → IsRun (cond t [] (b ∷ first_run bs)) = λ t. elim t as (λ u. is_separator b ≡ u → IsRun (cond u [] (b ∷ first_run bs))) [ true ↦ λ e. tt | false ↦ λ e. (e, below) ] in
     at (is_separator b) refl
 
 split_run : (bs part : List ℕ) → IsRun bs → slice_split is_separator (bs ++ part) ≡ onto bs (slice_split is_separator part)
@@ -170,54 +170,54 @@ first_token n b bs (part ∷ parts) h clean =
     ∙ ap (λ (x : List (List ℕ)). tokens_of (record { number = n; tokens = x }) ++ all_tokens (lines_from (n + 1) parts)) (runs_run b bs part parts h clean)
     ∙ ap (λ (x : List Token). record { line = n; text = b ∷ bs } ∷ x) (sym (inside_tokens n part parts))
 
-pub run-begun : (b : ℕ) (bs : List ℕ) → is_separator b ≡ false → run (b ∷ bs) ≡ b ∷ run bs
-unfolding run
-run-begun b bs e = rw e refl
+pub first_run-begun : (b : ℕ) (bs : List ℕ) → is_separator b ≡ false → first_run (b ∷ bs) ≡ b ∷ first_run bs
+unfolding first_run
+first_run-begun b bs e = rw e refl
 
 pub after_run-begun : (b : ℕ) (bs : List ℕ) → is_separator b ≡ false → after_run (b ∷ bs) ≡ after_run bs
 unfolding after_run
 after_run-begun b bs e = rw e refl
 
-pub run-ended : (b : ℕ) (bs : List ℕ) → is_separator b ≡ true → run (b ∷ bs) ≡ []
-unfolding run
-run-ended b bs e = rw e refl
+pub first_run-ended : (b : ℕ) (bs : List ℕ) → is_separator b ≡ true → first_run (b ∷ bs) ≡ []
+unfolding first_run
+first_run-ended b bs e = rw e refl
 
 pub after_run-ended : (b : ℕ) (bs : List ℕ) → is_separator b ≡ true → after_run (b ∷ bs) ≡ b ∷ bs
 unfolding after_run
 after_run-ended b bs e = rw e refl
 
-pub run-nil : run [] ≡ []
-unfolding run
-run-nil = refl
+pub first_run-nil : first_run [] ≡ []
+unfolding first_run
+first_run-nil = refl
 
 pub after_run-nil : after_run [] ≡ []
 unfolding after_run
 after_run-nil = refl
 
 -- a token has begun
-pub tokens_at-token : (n b : ℕ) (bs : List ℕ) → is_separator b ≡ false → tokens_at n (b ∷ bs) ≡ record { line = n; text = b ∷ run bs } ∷ tokens_at n (after_run bs)
+pub tokens_at-token : (n b : ℕ) (bs : List ℕ) → is_separator b ≡ false → tokens_at n (b ∷ bs) ≡ record { line = n; text = b ∷ first_run bs } ∷ tokens_at n (after_run bs)
 unfolding tokens_at lines_at
 tokens_at-token n b bs e =
-    let whole = split_onto (b ∷ bs) ∙ ap (λ (x : List ℕ). onto x (slice_split ends_line (after_run (b ∷ bs)))) (run-begun b bs e) ∙ ap (λ (x : List ℕ). onto (b ∷ run bs) (slice_split ends_line x)) (after_run-begun b bs e) in
+    let whole = split_onto (b ∷ bs) ∙ ap (λ (x : List ℕ). onto x (slice_split ends_line (after_run (b ∷ bs)))) (first_run-begun b bs e) ∙ ap (λ (x : List ℕ). onto (b ∷ first_run bs) (slice_split ends_line x)) (after_run-begun b bs e) in
     ap (λ (x : List (List ℕ)). all_tokens (lines_inside n x)) whole
-    ∙ first_token n b (run bs) (slice_split ends_line (after_run bs)) (e, IsRun-run bs) (clean_after_run bs)
+    ∙ first_token n b (first_run bs) (slice_split ends_line (after_run bs)) (e, IsRun-run bs) (clean_after_run bs)
 
 pub tokens_at-nil : (n : ℕ) → tokens_at n [] ≡ []
 unfolding tokens_at
 tokens_at-nil n = ap all_tokens (lines_at-nil n)
 
-pub ends_from_run : (b : ℕ) (bs : List ℕ) → run (b ∷ bs) ≡ [] → is_separator b ≡ true
+pub ends_from_run : (b : ℕ) (bs : List ℕ) → first_run (b ∷ bs) ≡ [] → is_separator b ≡ true
 ends_from_run b bs h =
-    ⊎_elim (λ yes. yes) (λ no. let e : b ∷ run bs ≡ [] = sym (run-begun b bs no) ∙ h in cc) (cases_Bool (is_separator b))
+    ⊎_elim (λ yes. yes) (λ no. let e : b ∷ first_run bs ≡ [] = sym (first_run-begun b bs no) ∙ h in cc) (cases_Bool (is_separator b))
 
 -- ## a line from its first token on
 
-run_and_after : (bs : List ℕ) → run bs ++ after_run bs ≡ bs
-unfolding run after_run
+run_and_after : (bs : List ℕ) → first_run bs ++ after_run bs ≡ bs
+unfolding first_run after_run
 run_and_after [] = refl
 run_and_after (b ∷ bs) =
     let below = run_and_after bs in
-    elim (is_separator b) as (λ t. cond t [] (b ∷ run bs) ++ cond t (b ∷ bs) (after_run bs) ≡ b ∷ bs) [ true ↦ refl | false ↦ ap (λ (x : List ℕ). b ∷ x) below ]
+    elim (is_separator b) as (λ t. cond t [] (b ∷ first_run bs) ++ cond t (b ∷ bs) (after_run bs) ≡ b ∷ bs) [ true ↦ refl | false ↦ ap (λ (x : List ℕ). b ∷ x) below ]
 
 clean_rest : (bs : List ℕ) → IsClean (after_run bs ∷ [])
 unfolding after_run
@@ -227,9 +227,9 @@ clean_rest (b ∷ bs) =
     let at : (t : Bool) → is_separator b ≡ t → IsClean (cond t (b ∷ bs) (after_run bs) ∷ []) = λ t. elim t as (λ u. is_separator b ≡ u → IsClean (cond u (b ∷ bs) (after_run bs) ∷ [])) [ true ↦ λ e. e | false ↦ λ e. below ] in
     at (is_separator b) refl
 
-pub runs_begun : (b : ℕ) (bs : List ℕ) → is_separator b ≡ false → runs (b ∷ bs) ≡ (b ∷ run bs) ∷ runs (after_run bs)
+pub runs_begun : (b : ℕ) (bs : List ℕ) → is_separator b ≡ false → runs (b ∷ bs) ≡ (b ∷ first_run bs) ∷ runs (after_run bs)
 runs_begun b bs e =
-    ap (λ (x : List ℕ). runs (b ∷ x)) (sym (run_and_after bs)) ∙ runs_run b (run bs) (after_run bs) [] (e, IsRun-run bs) (clean_rest bs)
+    ap (λ (x : List ℕ). runs (b ∷ x)) (sym (run_and_after bs)) ∙ runs_run b (first_run bs) (after_run bs) [] (e, IsRun-run bs) (clean_rest bs)
 
 is_empty-runs : (b : ℕ) (bs : List ℕ) → is_separator b ≡ false → is_empty (runs (b ∷ bs)) ≡ false
 is_empty-runs b bs e = ap is_empty (runs_begun b bs e)

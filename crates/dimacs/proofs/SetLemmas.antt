@@ -8,7 +8,7 @@ use Rattle.std.specs.Int.{bit_at, bit_not}
 use Rattle.std.specs.Int.RustNames.{bit_or}
 use Rattle.std.proofs.Common.{bit_and, w64, eqb, eq-eqb}
 use Rattle.std.proofs.lemmas.Nat.Bits.{shr_and_one, bit_at-zero, bit_at_set_same, bit_at_set_other, bit_at_clear_same, bit_at_clear_other}
-use Rattle.dimacs.specs.Marks.{IsMarked, MarksAre}
+use Rattle.dimacs.specs.Marks.{IsBitSet, MarksAre}
 use Rattle.dimacs.specs.Places.{AddsLiteral}
 
 pub Has-push : (c : List ℤ) (l m : ℤ) → Has (c ++ l ∷ []) m ↔ (Has c m ⊎ (l ≡ m))
@@ -29,15 +29,15 @@ EachOnce-push (x ∷ c) l each other = (
 
 -- ## marks
 
-pub IsMarked-read : (words : List ℕ) (p : ℕ) → (eqb (bit_and (get_or words (p / 64) 0 / 2 ^ (p % 64)) 1) 1 ≡ true) ↔ IsMarked words p
-unfolding IsMarked
+pub IsMarked-read : (words : List ℕ) (p : ℕ) → (eqb (bit_and (get_or words (p / 64) 0 / 2 ^ (p % 64)) 1) 1 ≡ true) ↔ IsBitSet words p
+unfolding IsBitSet
 IsMarked-read words p =
     let e = shr_and_one (get_or words (p / 64) 0) (p % 64) in
     (λ h. sym e ∙ eqb-true _ 1 h, λ h. eq-eqb _ 1 (e ∙ h))
 
 -- a bit more, at place k of word i
-pub IsMarked-set : (words : List ℕ) (i k p : ℕ) → i < length words → k < 64 → IsMarked (set words i (bit_or (get_or words i 0) (1 * 2 ^ k % 2 ^ 64))) p ↔ (IsMarked words p ⊎ ((p / 64 ≡ i) × (p % 64 ≡ k)))
-unfolding IsMarked
+pub IsMarked-set : (words : List ℕ) (i k p : ℕ) → i < length words → k < 64 → IsBitSet (set words i (bit_or (get_or words i 0) (1 * 2 ^ k % 2 ^ 64))) p ↔ (IsBitSet words p ⊎ ((p / 64 ≡ i) × (p % 64 ≡ k)))
+unfolding IsBitSet
 IsMarked-set words i k p within small =
     ⊎_elim
     (λ here.
@@ -57,8 +57,8 @@ IsMarked-set words i k p within small =
     (cases_eq (p / 64) i)
 
 -- a bit less
-pub IsMarked-cleared : (words : List ℕ) (i k p : ℕ) → i < length words → k < 64 → IsMarked (set words i (bit_and (get_or words i 0) (bit_not w64 (1 * 2 ^ k % 2 ^ 64)))) p ↔ (IsMarked words p × ((p / 64 ≡ i) × (p % 64 ≡ k) → ⊥))
-unfolding IsMarked
+pub IsMarked-cleared : (words : List ℕ) (i k p : ℕ) → i < length words → k < 64 → IsBitSet (set words i (bit_and (get_or words i 0) (bit_not w64 (1 * 2 ^ k % 2 ^ 64)))) p ↔ (IsBitSet words p × ((p / 64 ≡ i) × (p % 64 ≡ k) → ⊥))
+unfolding IsBitSet
 IsMarked-cleared words i k p within small =
     ⊎_elim
     (λ here.
@@ -77,16 +77,16 @@ IsMarked-cleared words i k p within small =
     (cases_eq (p / 64) i)
 
 -- words that were there or are 0 have no more marks
-IsMarked-fewer : (old new : List ℕ) → ((k : ℕ) → (get_or new k 0 ≡ get_or old k 0) ⊎ (get_or new k 0 ≡ 0)) → (p : ℕ) → IsMarked new p → IsMarked old p
-unfolding IsMarked
+IsMarked-fewer : (old new : List ℕ) → ((k : ℕ) → (get_or new k 0 ≡ get_or old k 0) ⊎ (get_or new k 0 ≡ 0)) → (p : ℕ) → IsBitSet new p → IsBitSet old p
+unfolding IsBitSet
 IsMarked-fewer old new same p h =
     ⊎_elim
     (λ e. ap (λ (m : ℕ). bit_at m (p % 64)) (sym e) ∙ h)
     (λ e. absurd (omega (arith, ap (λ (m : ℕ). bit_at m (p % 64)) e, h, bit_at-zero (p % 64))))
     (same (p / 64))
 
-pub none_marked : (p : ℕ) → IsMarked [] p → ⊥
-unfolding IsMarked
+pub none_marked : (p : ℕ) → IsBitSet [] p → ⊥
+unfolding IsBitSet
 none_marked p h = omega (arith, h, bit_at-zero (p % 64))
 
 pub MarksAre-none : MarksAre [] []
@@ -96,7 +96,7 @@ pub MarksAre-fewer : (old new : List ℕ) → ((k : ℕ) → (get_or new k 0 ≡
 MarksAre-fewer old new same marks =
     λ l. (λ h. (marks l).0 (IsMarked-fewer old new same (code_of l) h), λ none. absurd none)
 
-pub MarksAre-push : (old new : List ℕ) (c : List ℤ) (l : ℤ) → ((m : ℤ) → IsMarked new (code_of m) ↔ (IsMarked old (code_of m) ⊎ (m ≡ l))) → MarksAre old c → MarksAre new (c ++ l ∷ [])
+pub MarksAre-push : (old new : List ℕ) (c : List ℤ) (l : ℤ) → ((m : ℤ) → IsBitSet new (code_of m) ↔ (IsBitSet old (code_of m) ⊎ (m ≡ l))) → MarksAre old c → MarksAre new (c ++ l ∷ [])
 MarksAre-push old new c l added h =
     λ m. (
       λ yes. (Has-push c l m).1 (⊎_elim (λ before. inl ((h m).0 before)) (λ e. inr (sym e)) ((added m).0 yes)),
@@ -126,12 +126,12 @@ AddsLiteral-none c l each has = record {
 
 -- no literal is marked but those that are left
 abbrev pub LeavesMarks : List ℕ → List ℤ → Type 0
-LeavesMarks words left = (l : ℤ) → IsMarked words (code_of l) → Has left l
+LeavesMarks words left = (l : ℤ) → IsBitSet words (code_of l) → Has left l
 
 pub LeavesMarks-none : (words : List ℕ) → LeavesMarks words [] → MarksAre words []
 LeavesMarks-none words h = λ l. (h l, λ none. absurd none)
 
-pub LeavesMarks-more : (old new : List ℕ) (later : List ℤ) (l : ℤ) (p : ℕ) → p ≡ code_of l → ((q : ℕ) → IsMarked new q ↔ (IsMarked old q × (q ≡ p → ⊥))) → LeavesMarks old (l ∷ later) → LeavesMarks new later
+pub LeavesMarks-more : (old new : List ℕ) (later : List ℤ) (l : ℤ) (p : ℕ) → p ≡ code_of l → ((q : ℕ) → IsBitSet new q ↔ (IsBitSet old q × (q ≡ p → ⊥))) → LeavesMarks old (l ∷ later) → LeavesMarks new later
 LeavesMarks-more old new later l p is cleared h =
     λ m yes.
     let still = (cleared (code_of m)).0 yes in

@@ -5,7 +5,7 @@ use Rattle.std.proofs.lemmas.List.{append_assoc}
 use Rattle.lrup_model.specs.Literal.{IsLiteral}
 use Rattle.lrup_model.specs.Formula.{max_clause_literals}
 use Rattle.dimacs.specs.Lines.{Token}
-use Rattle.dimacs.specs.FormulaTokens.{IsWritten, IsRead, ended}
+use Rattle.dimacs.specs.FormulaTokens.{IsWritten, TokensSpell, ended}
 
 -- clauses ended, literals of the clause begun, and the most literals of any clause
 pub record Tally : Type 0 where
@@ -89,7 +89,7 @@ tally_clauses vars n l (c ∷ closed) all few =
 abbrev pub numbers : List (List ℤ) → List ℤ → List ℤ
 numbers closed begun = flat_map ended closed ++ begun
 
-pub tally_read : (vars count : ℕ) (tokens : List Token) (closed : List (List ℤ)) (begun : List ℤ) → IsRead vars count tokens closed begun → Comes (tally 0 0 0 (numbers closed begun)) (length closed) (length begun)
+pub tally_read : (vars count : ℕ) (tokens : List Token) (closed : List (List ℤ)) (begun : List ℤ) → TokensSpell vars count tokens closed begun → Comes (tally 0 0 0 (numbers closed begun)) (length closed) (length begun)
 tally_read vars count tokens closed begun read =
     let first = tally_clauses vars 0 0 closed read.closed_within (omega arith) in
     let t = tally 0 0 0 (flat_map ended closed) in

@@ -14,7 +14,7 @@ use Rattle.lrup_model.specs.ListLemmas.{All-append, All-map}
 use Rattle.lrup_model.specs.Literal.{IsLiteral, max_variable}
 use Rattle.dimacs.specs.Lines.{Line, Token, is_comment, is_empty, runs, lines_from, lines_of, tokens_of, all_tokens, token_lines}
 use Rattle.dimacs.specs.Numerals.{is_digit, all_digits, value_after, value, is_numeral, is_zero, negative_of, number_of}
-use Rattle.dimacs.specs.FormulaText.{IsTextOf}
+use Rattle.dimacs.specs.FormulaText.{IsFormulaText}
 use Rattle.dimacs.specs.FormulaTokens.{IsCount, IsHeader, InBodyOf, InBody, IsWritten, IsSetOf, AreSetsOf, AreClauses, ended}
 use Rattle.dimacs.proofs.NumeralLemmas.{value_after-le}
 use Rattle.dimacs.proofs.TokenLemmas.{negative}
@@ -243,7 +243,7 @@ all_written vars (w ∷ written) literals sizes =
 
 -- ## both directions
 
-body_from : (bytes : List ℕ) (f : Cnf) (lines : List Line) → map (λ (l : Line). l.tokens) lines ≡ token_lines bytes → IsTextOf bytes f → InBodyOf lines (AreClauses f)
+body_from : (bytes : List ℕ) (f : Cnf) (lines : List Line) → map (λ (l : Line). l.tokens) lines ≡ token_lines bytes → IsFormulaText bytes f → InBodyOf lines (AreClauses f)
 body_from bytes f [] are h = let e = h.header in cc
 body_from bytes f (header ∷ lines) are h =
     let whole = are ∙ h.header in
@@ -273,7 +273,7 @@ body_from bytes f (header ∷ lines) are h =
       };
     }
 
-text_from : (bytes : List ℕ) (f : Cnf) (lines : List Line) → map (λ (l : Line). l.tokens) lines ≡ token_lines bytes → InBodyOf lines (AreClauses f) → IsTextOf bytes f
+text_from : (bytes : List ℕ) (f : Cnf) (lines : List Line) → map (λ (l : Line). l.tokens) lines ≡ token_lines bytes → InBodyOf lines (AreClauses f) → IsFormulaText bytes f
 text_from bytes f [] are h = absurd h
 text_from bytes f (header ∷ lines) are h =
     let body = h.later in
@@ -294,8 +294,8 @@ text_from bytes f (header ∷ lines) are h =
       clauses = distinct_sets body.written f.clauses body.sets;
     }
 
-pub body_of_text : (bytes : List ℕ) (f : Cnf) → IsTextOf bytes f → InBody bytes (AreClauses f)
+pub body_of_text : (bytes : List ℕ) (f : Cnf) → IsFormulaText bytes f → InBody bytes (AreClauses f)
 body_of_text bytes f h = body_from bytes f (lines_of bytes) (token_lines_are bytes) h
 
-pub text_of_body : (bytes : List ℕ) (f : Cnf) → InBody bytes (AreClauses f) → IsTextOf bytes f
+pub text_of_body : (bytes : List ℕ) (f : Cnf) → InBody bytes (AreClauses f) → IsFormulaText bytes f
 text_of_body bytes f h = text_from bytes f (lines_of bytes) (token_lines_are bytes) h

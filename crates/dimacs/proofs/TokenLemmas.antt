@@ -6,8 +6,8 @@ use Rattle.memchr.specs.Find.{IsFirstByte, is_byte}
 use Rattle.lrup_model.specs.Literal.{IsLiteral, max_variable}
 use Rattle.dimacs.specs.Lines.{is_separator, runs, all_tokens}
 use Rattle.dimacs.specs.Numerals.{is_numeral, is_zero, value, number_of}
-use Rattle.dimacs.specs.Places.{lines_at, tokens_at, run, after_run, IsCapped, IsAtToken}
-use Rattle.dimacs.proofs.LineLemmas.{tokens_at-token, tokens_at-nil, after_run-begun, run-begun, lines_at-line, after_run-nil, after_run-ended, ends_from_run}
+use Rattle.dimacs.specs.Places.{lines_at, tokens_at, first_run, after_run, IsCapped, IsAtToken}
+use Rattle.dimacs.proofs.LineLemmas.{tokens_at-token, tokens_at-nil, after_run-begun, first_run-begun, lines_at-line, after_run-nil, after_run-ended, ends_from_run}
 use Rattle.dimacs.proofs.NumeralLemmas.{length-after_run}
 
 pub tokens_from_lines : (n m : ℕ) (xs ys : List ℕ) → lines_at n xs ≡ lines_at m ys → tokens_at n xs ≡ tokens_at m ys
@@ -15,7 +15,7 @@ unfolding tokens_at
 tokens_from_lines n m xs ys e = ap all_tokens e
 
 -- old tokens, in line n from a place on that is after separators and comments
-pub token_taken : (n m : ℕ) (old rest : List ℕ) (b : ℕ) (after : List ℕ) → lines_at n rest ≡ lines_at m old → IsAtToken rest → rest ≡ b ∷ after → tokens_at m old ≡ record { line = n; text = b ∷ run after } ∷ tokens_at n (after_run after)
+pub token_taken : (n m : ℕ) (old rest : List ℕ) (b : ℕ) (after : List ℕ) → lines_at n rest ≡ lines_at m old → IsAtToken rest → rest ≡ b ∷ after → tokens_at m old ≡ record { line = n; text = b ∷ first_run after } ∷ tokens_at n (after_run after)
 token_taken n m old rest b after same place whole =
     let begins : is_separator b ≡ false = rw whole at place in
     tokens_from_lines m n old rest (sym same) ∙ ap (tokens_at n) whole ∙ tokens_at-token n b after begins
@@ -69,25 +69,25 @@ digits_of b after rest digits whole is =
     (λ (other : b ≡ 45 → ⊥). inr (other, is ∙ ap (λ t. cond t (drop 1 rest) rest) (ne_eqb b 45 other)))
     (cases_eq b 45)
 
-pub number_of-none : (b : ℕ) (after rest digits : List ℕ) → rest ≡ b ∷ after → IsAtToken rest → (b ≡ 48 → ⊥) → IsDigitsOf b after rest digits → is_numeral (run digits) ≡ false → number_of (b ∷ run after) ≡ None
+pub number_of-none : (b : ℕ) (after rest digits : List ℕ) → rest ≡ b ∷ after → IsAtToken rest → (b ≡ 48 → ⊥) → IsDigitsOf b after rest digits → is_numeral (first_run digits) ≡ false → number_of (b ∷ first_run after) ≡ None
 number_of-none b after rest digits whole place other which none =
     let begins : is_separator b ≡ false = rw whole at place in
     ⊎_elim
-    (λ minus. ap (λ (x : ℕ). number_of (x ∷ run after)) minus.0 ∙ not_negative (run after) (ap (λ (x : List ℕ). is_numeral (run x)) (sym minus.1) ∙ none))
-    (λ plain. not_positive b (run after) (ne_eqb b 48 other) (ne_eqb b 45 plain.0) (ap is_numeral (sym (run-begun b after begins)) ∙ ap (λ (x : List ℕ). is_numeral (run x)) (sym whole ∙ sym plain.1) ∙ none))
+    (λ minus. ap (λ (x : ℕ). number_of (x ∷ first_run after)) minus.0 ∙ not_negative (first_run after) (ap (λ (x : List ℕ). is_numeral (first_run x)) (sym minus.1) ∙ none))
+    (λ plain. not_positive b (first_run after) (ne_eqb b 48 other) (ne_eqb b 45 plain.0) (ap is_numeral (sym (first_run-begun b after begins)) ∙ ap (λ (x : List ℕ). is_numeral (first_run x)) (sym whole ∙ sym plain.1) ∙ none))
     which
 
-pub number_of-some : (b : ℕ) (after rest digits : List ℕ) → rest ≡ b ∷ after → IsAtToken rest → (b ≡ 48 → ⊥) → IsDigitsOf b after rest digits → is_numeral (run digits) ≡ true → number_of (b ∷ run after) ≡ Some (cond (b == 45) (neg_ℤ (pos (value (run digits)))) (pos (value (run digits))))
+pub number_of-some : (b : ℕ) (after rest digits : List ℕ) → rest ≡ b ∷ after → IsAtToken rest → (b ≡ 48 → ⊥) → IsDigitsOf b after rest digits → is_numeral (first_run digits) ≡ true → number_of (b ∷ first_run after) ≡ Some (cond (b == 45) (neg_ℤ (pos (value (first_run digits)))) (pos (value (first_run digits))))
 number_of-some b after rest digits whole place other which some =
     let begins : is_separator b ≡ false = rw whole at place in
     ⊎_elim
     (λ minus.
     rw (eq-eqb b 45 minus.0)
-    (ap (λ (x : ℕ). number_of (x ∷ run after)) minus.0 ∙ negative (run after) (ap (λ (x : List ℕ). is_numeral (run x)) (sym minus.1) ∙ some) ∙ ap (λ (x : List ℕ). Some (neg_ℤ (pos (value (run x))))) (sym minus.1)))
+    (ap (λ (x : ℕ). number_of (x ∷ first_run after)) minus.0 ∙ negative (first_run after) (ap (λ (x : List ℕ). is_numeral (first_run x)) (sym minus.1) ∙ some) ∙ ap (λ (x : List ℕ). Some (neg_ℤ (pos (value (first_run x))))) (sym minus.1)))
     (λ plain.
-    let same : run digits ≡ b ∷ run after = ap run (plain.1 ∙ whole) ∙ run-begun b after begins in
+    let same : first_run digits ≡ b ∷ first_run after = ap first_run (plain.1 ∙ whole) ∙ first_run-begun b after begins in
     rw (ne_eqb b 45 plain.0)
-    (positive b (run after) (ne_eqb b 48 other) (ap is_numeral (sym same) ∙ some) ∙ ap (λ (x : List ℕ). Some (pos (value x))) (sym same)))
+    (positive b (first_run after) (ne_eqb b 48 other) (ap is_numeral (sym same) ∙ some) ∙ ap (λ (x : List ℕ). Some (pos (value x))) (sym same)))
     which
 
 pub after_run_digits : (b : ℕ) (after rest digits : List ℕ) → rest ≡ b ∷ after → IsAtToken rest → IsDigitsOf b after rest digits → after_run digits ≡ after_run after
@@ -119,6 +119,6 @@ within_range t n m vars few kept within some =
 pub line_taken : (n m : ℕ) (old rest : List ℕ) (found : Option ℕ) (end : ℕ) → lines_at n rest ≡ lines_at m old → IsAtToken rest → 0 < length rest → IsFirstByte (is_byte 10) rest found → end ≡ unwrap_or found (length rest) → lines_at m old ≡ record { number = n; tokens = runs (take end rest) } ∷ lines_at n (drop end rest)
 line_taken n m old rest found end same place some first is = sym same ∙ lines_at-line n rest found end place some first is
 
-pub after_run_at_end : (bs : List ℕ) → run bs ≡ [] → after_run bs ≡ bs
+pub after_run_at_end : (bs : List ℕ) → first_run bs ≡ [] → after_run bs ≡ bs
 after_run_at_end [] none = after_run-nil
 after_run_at_end (b ∷ bs) none = after_run-ended b bs (ends_from_run b bs none)

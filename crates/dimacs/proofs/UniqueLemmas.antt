@@ -7,8 +7,8 @@ use Rattle.dimacs.specs.declared.fault.DimacsFault.{DimacsFault}
 use Rattle.dimacs.specs.declared.fault.DimacsFault.TheVariants.{NoHeader, BadHeader, BadNumber, VariableRange, OpenClause, TooFew, TooMany, Limit, Memory}
 use Rattle.dimacs.specs.Lines.{Line, Token, lines_of, all_tokens}
 use Rattle.dimacs.specs.Numerals.{number_of}
-use Rattle.dimacs.specs.FormulaTokens.{InBodyOf, IsRead}
-use Rattle.dimacs.specs.FormulaFault.{HasNoHeader, HasBadHeader, HasLargeHeader, StandsAt, IsBodyFault, IsHeaderFault, IsFaultOf}
+use Rattle.dimacs.specs.FormulaTokens.{InBodyOf, TokensSpell}
+use Rattle.dimacs.specs.FormulaFault.{HasNoHeader, HasBadHeader, HasLargeHeader, StandsAt, IsBodyFault, IsHeaderFault, IsFormulaFault}
 use Rattle.dimacs.proofs.LawLemmas.{IsFine, fine, fine_at, one_reading, one_header, begins, no_header_fault}
 
 -- ## which fault a token has
@@ -55,7 +55,7 @@ record AtToken (fault : DimacsFault) (vars count : ℕ) (all : List Token) : Typ
 record AtEnd (fault : DimacsFault) (vars count : ℕ) (all : List Token) : Type 0 where
   closed : List (List ℤ)
   begun : List ℤ
-  read : IsRead vars count all closed begun
+  read : TokensSpell vars count all closed begun
   is : ((fault ≡ OpenClause) × (0 < length begun)) ⊎ ((fault ≡ TooFew) × (length begun ≡ 0))
 
 of_body : (fault : DimacsFault) (vars count : ℕ) (all : List Token) → IsBodyFault fault vars count all → AtToken fault vars count all ⊎ AtEnd fault vars count all
@@ -98,7 +98,7 @@ two_tokens : (a b : DimacsFault) (vars count : ℕ) (all : List Token) → AtTok
 two_tokens a b vars count all one other =
     ⊎_elim
     (λ here.
-    let read : IsRead vars count one.place.before other.closed other.begun = rw here.0 other.place.read in
+    let read : TokensSpell vars count one.place.before other.closed other.begun = rw here.0 other.place.read in
     let lengths = one_reading vars count one.place.before one.closed other.closed one.begun other.begun one.place.read read in
     fault_is a vars count one.token (length one.closed) (length one.begun) one.place.read.begun_count one.is
     ∙ ap (λ (t : Token). fault_at vars count t.line (number_of t.text) (length one.closed)) here.1
@@ -182,7 +182,7 @@ two_bodies a b (header ∷ lines) h k =
     let there : IsBodyFault b h.vars h.count (all_tokens lines) = rw (same.0, same.1) k.later in
     one_body_fault a b h.vars h.count (all_tokens lines) h.later there
 
-pub one_fault : (bytes : List ℕ) (a b : DimacsFault) → IsFaultOf bytes a → IsFaultOf bytes b → a ≡ b
+pub one_fault : (bytes : List ℕ) (a b : DimacsFault) → IsFormulaFault bytes a → IsFormulaFault bytes b → a ≡ b
 one_fault bytes a b h k =
     let lines = lines_of bytes in
     ⊎_elim

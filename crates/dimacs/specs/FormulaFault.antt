@@ -8,7 +8,7 @@ use Rattle.dimacs.specs.declared.fault.DimacsFault.{DimacsFault}
 use Rattle.dimacs.specs.declared.fault.DimacsFault.TheVariants.{NoHeader, BadHeader, BadNumber, VariableRange, OpenClause, TooFew, TooMany, Limit, Memory}
 use Rattle.dimacs.specs.Lines.{Line, Token, lines_of}
 use Rattle.dimacs.specs.Numerals.{number_of}
-use Rattle.dimacs.specs.FormulaTokens.{IsHeader, IsRead, InBody}
+use Rattle.dimacs.specs.FormulaTokens.{IsHeader, TokensSpell, InBody}
 
 -- the line begins with the token `p`
 abbrev pub BeginsHeader : List (List ℕ) → Type 0
@@ -41,7 +41,7 @@ pub record StandsAt (token : Token) (vars count : ℕ) (tokens : List Token) (cl
   pub before : List Token
   pub after : List Token
   pub whole : tokens ≡ before ++ token ∷ after
-  pub read : IsRead vars count before closed begun
+  pub read : TokensSpell vars count before closed begun
 
 pub record HasBadNumber (line vars count : ℕ) (tokens : List Token) : Type 0 where
   pub text : List ℕ
@@ -84,12 +84,12 @@ pub record HasLongClause (vars count : ℕ) (tokens : List Token) : Type 0 where
 pub record EndsOpen (vars count : ℕ) (tokens : List Token) : Type 0 where
   pub closed : List (List ℤ)
   pub begun : List ℤ
-  pub read : IsRead vars count tokens closed begun
+  pub read : TokensSpell vars count tokens closed begun
   pub fault : 0 < length begun
 
 pub record EndsEarly (vars count : ℕ) (tokens : List Token) : Type 0 where
   pub closed : List (List ℤ)
-  pub read : IsRead vars count tokens closed []
+  pub read : TokensSpell vars count tokens closed []
   pub fault : length closed < count
 
 -- the first fault of the tokens after a header that has none
@@ -112,5 +112,5 @@ IsHeaderFault Limit lines = HasLargeHeader lines
 IsHeaderFault _ lines = ⊥
 
 -- the first fault of the file; out of memory is no file's fault
-abbrev pub IsFaultOf : List ℕ → DimacsFault → Type 0
-IsFaultOf bytes fault = IsHeaderFault fault (lines_of bytes) ⊎ InBody bytes (IsBodyFault fault)
+abbrev pub IsFormulaFault : List ℕ → DimacsFault → Type 0
+IsFormulaFault bytes fault = IsHeaderFault fault (lines_of bytes) ⊎ InBody bytes (IsBodyFault fault)

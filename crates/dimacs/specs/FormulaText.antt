@@ -10,7 +10,7 @@ use Rattle.dimacs.specs.Lines.{token_lines}
 -- The bytes are a text of the formula. The first line of tokens is the header, and the tokens of the
 -- others are the literals of the clauses as they are written, each clause with a 0 after it. The
 -- formula has each literal of a clause once.
-pub record IsTextOf (bytes : List ℕ) (f : Cnf) : Type 0 where
+pub record IsFormulaText (bytes : List ℕ) (f : Cnf) : Type 0 where
   pub lines : List (List (List ℕ))
   pub header : token_lines bytes
       ≡ (codes "p" ∷ codes "cnf" ∷ decimal f.vars ∷ decimal (length f.clauses) ∷ []) ∷ lines

@@ -50,7 +50,7 @@ ended literals = literals ++ pos 0 ∷ []
 
 -- These tokens have no fault: they spell the clauses of closed, each with its 0, and then the literals of begun, whose
 -- clause has not ended.
-pub record IsRead (vars count : ℕ) (tokens : List Token) (closed : List (List ℤ))
+pub record TokensSpell (vars count : ℕ) (tokens : List Token) (closed : List (List ℤ))
     (begun : List ℤ) : Type 0 where
   pub numbers : map (λ (t : Token). number_of t.text) tokens
       ≡ map (λ (z : ℤ). Some z) (flat_map ended closed ++ begun)
@@ -78,5 +78,5 @@ pub record AreClauses (f : Cnf) (vars count : ℕ) (tokens : List Token) : Type 
   pub written : List (List ℤ)
   pub vars_are : f.vars ≡ vars
   pub count_is : length f.clauses ≡ count
-  pub read : IsRead vars count tokens written []
+  pub read : TokensSpell vars count tokens written []
   pub sets : AreSetsOf written f.clauses

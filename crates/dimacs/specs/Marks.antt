@@ -5,12 +5,12 @@ use Rattle.lrup_model.specs.Literal.{code_of}
 use Rattle.lrup_model.specs.Clause.{Has}
 
 -- the mark at this place is set
-unfoldable pub IsMarked : List ℕ → ℕ → Type 0
-IsMarked words place = bit_at (slice_index words (place / 64)) (place % 64) ≡ 1
+unfoldable pub IsBitSet : List ℕ → ℕ → Type 0
+IsBitSet words place = bit_at (slice_index words (place / 64)) (place % 64) ≡ 1
 
 -- just the clause's literals are marked
 abbrev pub MarksAre : List ℕ → List ℤ → Type 0
-MarksAre words clause = (l : ℤ) → IsMarked words (code_of l) ↔ Has clause l
+MarksAre words clause = (l : ℤ) → IsBitSet words (code_of l) ↔ Has clause l
 
 -- the number of words that has a place for each literal
 abbrev pub all_words : ℕ

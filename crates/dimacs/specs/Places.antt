@@ -6,7 +6,7 @@ use Rattle.dimacs.specs.declared.tokens.Next.{Next}
 use Rattle.dimacs.specs.declared.tokens.Next.TheVariants.{End, Bad, Range, Zero, Literal}
 use Rattle.dimacs.specs.Lines.{Line, Token, ends_line, is_separator, is_empty, runs, lines_from, all_tokens}
 use Rattle.dimacs.specs.Numerals.{is_numeral, is_count, value, number_of}
-use Rattle.dimacs.specs.FormulaTokens.{IsHeader, IsRead, IsSetOf, AreSetsOf}
+use Rattle.dimacs.specs.FormulaTokens.{IsHeader, TokensSpell, IsSetOf, AreSetsOf}
 use Rattle.dimacs.specs.FormulaFault.{IsHeaderFault}
 use Rattle.dimacs.specs.declared.fault.DimacsFault.{DimacsFault}
 use Rattle.lrup_model.specs.Clause.{Has, EachOnce}
@@ -30,9 +30,9 @@ unfoldable pub tokens_at : ℕ → List ℕ → List Token
 tokens_at n bytes = all_tokens (lines_at n bytes)
 
 -- the bytes up to the next separator, and those from it on
-unfoldable pub run : List ℕ → List ℕ
-run [] = []
-run (b ∷ bs) = if is_separator b then [] else b ∷ run bs
+unfoldable pub first_run : List ℕ → List ℕ
+first_run [] = []
+first_run (b ∷ bs) = if is_separator b then [] else b ∷ first_run bs
 
 unfoldable pub after_run : List ℕ → List ℕ
 after_run [] = []
@@ -44,8 +44,8 @@ IsCapped n m = (n ≡ m) ⊎ ((max_variable < n) × (max_variable < m))
 
 -- the text begins with a numeral, up to the next separator: what is kept of its number, and what is left after it
 pub record ReadsNumeral (text : List ℕ) (n : ℕ) (rest : List ℕ) : Type 0 where
-  pub numeral : is_numeral (run text) ≡ true
-  pub number : IsCapped n (value (run text))
+  pub numeral : is_numeral (first_run text) ≡ true
+  pub number : IsCapped n (value (first_run text))
   pub positive : 0 < n
   pub rest_is : rest ≡ after_run text
 
@@ -76,7 +76,7 @@ pub record IsBuilt (vars count : ℕ) (tokens : List Token) (f : Cnf) (clause : 
     (written : ℕ) : Type 0 where
   pub closed : List (List ℤ)
   pub begun : List ℤ
-  pub read : IsRead vars count tokens closed begun
+  pub read : TokensSpell vars count tokens closed begun
   pub vars_are : f.vars ≡ vars
   pub sets : AreSetsOf closed f.clauses
   pub set : IsSetOf begun clause
@@ -104,13 +104,13 @@ abbrev pub IsFirstToken : List ℕ → ℕ → List Token → List Token → Typ
 IsFirstToken text line old new = old ≡ record { line = line; text = text } ∷ new
 
 -- what stands next among the tokens, of a formula of so many variables, and which tokens are left after it
-abbrev pub Finds : ℕ → ℕ → List Token → List Token → Next → Type 0
-Finds vars line old new End = old ≡ []
-Finds vars line old new Bad = (text : List ℕ) × (later : List Token)
+abbrev pub FindsNext : ℕ → ℕ → List Token → List Token → Next → Type 0
+FindsNext vars line old new End = old ≡ []
+FindsNext vars line old new Bad = (text : List ℕ) × (later : List Token)
     × IsFirstToken text line old later × (number_of text ≡ None)
-Finds vars line old new Range = (text : List ℕ) × (later : List Token)
+FindsNext vars line old new Range = (text : List ℕ) × (later : List Token)
     × IsFirstToken text line old later × (z : ℤ) × (number_of text ≡ Some z) × (vars < nat_abs z)
-Finds vars line old new Zero =
+FindsNext vars line old new Zero =
     (text : List ℕ) × IsFirstToken text line old new × (number_of text ≡ Some (pos 0))
-Finds vars line old new (Literal l) =
+FindsNext vars line old new (Literal l) =
     (text : List ℕ) × IsFirstToken text line old new × (number_of text ≡ Some l) × IsLiteral vars l

@@ -2,7 +2,7 @@
 ghost use Rattle.std.specs.Prelude.{◌≡◌, false, MatchOption, MatchResult};
 ghost use Rattle.dimacs.specs.Lines.{runs};
 ghost use Rattle.dimacs.specs.Numerals.{is_count};
-ghost use Rattle.dimacs.specs.Places.{run, after_run, with_run, IsAtToken, ReadsCount, IsSmallHeader, IsLineFault};
+ghost use Rattle.dimacs.specs.Places.{first_run, after_run, with_run, IsAtToken, ReadsCount, IsSmallHeader, IsLineFault};
 
 use crate::fault::DimacsFault;
 use crate::tokens::{MAX_VARIABLE, is_separator, numeral};
@@ -34,7 +34,7 @@ fn skip_separators(line: &[u8]) -> &[u8]
 
 /// The bytes before the next separator, and those from it on.
 fn split_run(text: &[u8]) -> (&[u8], &[u8])
-    ensures run { result.0.now ≡ run text.now }
+    ensures run { result.0.now ≡ first_run text.now }
     ensures after { result.1.now ≡ after_run text.now }
 {
     let mut end = 0;
@@ -47,14 +47,14 @@ fn split_run(text: &[u8]) -> (&[u8], &[u8])
 /// The first token of a line and what stands after it; an empty one where there is none.
 fn next_run(line: &[u8]) -> (&[u8], &[u8])
     ensures runs { runs line.now ≡ with_run result.0.now (runs result.1.now) }
-    ensures whole { run result.0.now ≡ result.0.now }
+    ensures whole { first_run result.0.now ≡ result.0.now }
 {
     split_run(skip_separators(line))
 }
 
 /// The number of a token that spells one, without a sign. One above `MAX_VARIABLE` is given as another one above it.
 fn count(text: &[u8]) -> Option<u32>
-    requires { run text.now ≡ text.now }
+    requires { first_run text.now ≡ text.now }
     ensures { MatchOption result (is_count text.now ≡ false) (ReadsCount text.now) }
 {
     if text == b"0".as_slice() {

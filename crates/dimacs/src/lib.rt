@@ -3,8 +3,8 @@
 #![tactic(auto)]
 
 ghost use Rattle.std.specs.Prelude.{◌≢◌, IfOk, IfErr};
-ghost use Rattle.dimacs.specs.FormulaText.{IsTextOf};
-ghost use Rattle.dimacs.specs.FormulaFault.{IsFaultOf};
+ghost use Rattle.dimacs.specs.FormulaText.{IsFormulaText};
+ghost use Rattle.dimacs.specs.FormulaFault.{IsFormulaFault};
 ghost use Rattle.dimacs.specs.declared.fault.DimacsFault.TheVariants.{Memory};
 
 mod body;
@@ -24,8 +24,8 @@ use std::alloc::Global;
 /// nothing of the file. The time is linear in the file, however long clauses and numbers are. Beside the file and the formula
 /// this takes at most some 13 MB, for the clause that is being read.
 pub fn parse(alloc: Global, bytes: &[u8]) -> Result<Formula, DimacsFault>
-    ensures formula { IfOk result (λ f. IsTextOf bytes.now f) }
-    ensures fault { IfErr result (λ fault. fault ≢ Memory → IsFaultOf bytes.now fault) }
+    ensures formula { IfOk result (λ f. IsFormulaText bytes.now f) }
+    ensures fault { IfErr result (λ fault. fault ≢ Memory → IsFormulaFault bytes.now fault) }
 {
     let mut tokens = tokens::Tokens::new(bytes);
     let Some(line) = tokens.next_line() else {

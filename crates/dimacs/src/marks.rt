@@ -1,7 +1,7 @@
 //! A mark for each literal: a bit, 4 MB for all of them.
 ghost use Rattle.std.specs.Prelude.{◌≡◌, ◌↔◌, ◌⊎◌, ◌*◌, ◌<◌, ◌≤◌, ℕ, ℤ, [], IsTrue, OnOk, OnErr, length};
 ghost use Rattle.lrup_model.specs.Literal.{code_of};
-ghost use Rattle.dimacs.specs.Marks.{IsMarked, MarksAre, all_words};
+ghost use Rattle.dimacs.specs.Marks.{IsBitSet, MarksAre, all_words};
 
 use lrup_model::Lit;
 use std::alloc::AllocError;
@@ -19,14 +19,14 @@ fn place(l: Lit) -> usize
 
 fn is_marked(words: &[u64], place: usize) -> bool
     requires { place < 64 * length words.now }
-    ensures { IsTrue result ↔ IsMarked words.now place }
+    ensures { IsTrue result ↔ IsBitSet words.now place }
 {
     words[place / 64] >> (place % 64) & 1 == 1
 }
 
 fn mark(words: &mut [u64], place: usize)
     requires { place < 64 * length words.old }
-    ensures { (p : ℕ) → IsMarked words.new p ↔ (IsMarked words.old p ⊎ (p ≡ place)) }
+    ensures { (p : ℕ) → IsBitSet words.new p ↔ (IsBitSet words.old p ⊎ (p ≡ place)) }
 {
     let i = place / 64;
     words[i] = words[i] | 1 << (place % 64);
@@ -34,7 +34,7 @@ fn mark(words: &mut [u64], place: usize)
 
 fn unmark(words: &mut [u64], place: usize)
     requires { place < 64 * length words.old }
-    ensures { (p : ℕ) → IsMarked words.new p ↔ (IsMarked words.old p × (p ≡ place → ⊥)) }
+    ensures { (p : ℕ) → IsBitSet words.new p ↔ (IsBitSet words.old p × (p ≡ place → ⊥)) }
 {
     let i = place / 64;
     words[i] = words[i] & !(1 << (place % 64));
@@ -43,7 +43,7 @@ fn unmark(words: &mut [u64], place: usize)
 /// Is the literal marked?
 pub fn has_mark(words: &[u64], l: Lit) -> bool
     requires { all_words ≤ length words.now }
-    ensures { IsTrue result ↔ IsMarked words.now (code_of l) }
+    ensures { IsTrue result ↔ IsBitSet words.now (code_of l) }
 {
     is_marked(words, place(l))
 }
@@ -51,8 +51,8 @@ pub fn has_mark(words: &[u64], l: Lit) -> bool
 /// Marks one literal more.
 pub fn set_mark(words: &mut [u64], l: Lit)
     requires { all_words ≤ length words.old }
-    ensures { (m : ℤ) → IsMarked words.new (code_of m)
-        ↔ (IsMarked words.old (code_of m) ⊎ (m ≡ l)) }
+    ensures { (m : ℤ) → IsBitSet words.new (code_of m)
+        ↔ (IsBitSet words.old (code_of m) ⊎ (m ≡ l)) }
 {
     mark(words, place(l));
 }

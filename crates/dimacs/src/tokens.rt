@@ -1,7 +1,7 @@
 //! Lines, comments and tokens, read once from the left.
 ghost use Rattle.std.specs.Prelude.{neg_ℤ, pos, ◌↔◌, true, false, MatchOption, IsTrue, ◌≡◌, ◌+◌, ◌-◌, ◌<◌, ◌≤◌, ◌^◌, [], ◌∷◌, length, drop, if◌then◌else◌};
 ghost use Rattle.dimacs.specs.Lines.{lines_of, runs, is_separator as separates};
-ghost use Rattle.dimacs.specs.Places.{lines_at, lines_at_start, tokens_at, run, after_run, IsAtToken, ReadsNumeral, Finds};
+ghost use Rattle.dimacs.specs.Places.{lines_at, lines_at_start, tokens_at, first_run, after_run, IsAtToken, ReadsNumeral, FindsNext};
 ghost use Rattle.dimacs.specs.Numerals.{is_numeral, all_digits, is_digit as counts};
 ghost use Rattle.lrup_model.specs.Literal.{max_variable};
 
@@ -50,7 +50,7 @@ fn is_digit(byte: u8) -> bool
 
 /// Whether no token goes on here.
 fn ends_token(rest: &[u8]) -> bool
-    ensures { IsTrue result ↔ (run rest.now ≡ []) }
+    ensures { IsTrue result ↔ (first_run rest.now ≡ []) }
 {
     match rest.split_first() {
         Some((&byte, _)) => is_separator(byte),
@@ -66,8 +66,8 @@ pub(crate) const MAX_VARIABLE: u32 = Lit::MAX_VARIABLE;
 #[inline(never)]
 fn skip_digits(text: &[u8]) -> Option<&[u8]>
     ensures { MatchOption result
-        (all_digits (run text.now) ≡ false)
-        (λ rest. (all_digits (run text.now) ≡ true) × (rest.now ≡ after_run text.now)) }
+        (all_digits (first_run text.now) ≡ false)
+        (λ rest. (all_digits (first_run text.now) ≡ true) × (rest.now ≡ after_run text.now)) }
 {
     let mut rest = text;
     while let Some((&byte, after)) = rest.split_first() {
@@ -85,7 +85,7 @@ fn skip_digits(text: &[u8]) -> Option<&[u8]>
 /// Reads a number that begins with a digit from 1 to 9, up to the end of its token, and gives what is left. A number above
 /// `MAX_VARIABLE` is given as any number above it. None where the token has any other spelling.
 pub(crate) fn numeral(text: &[u8]) -> Option<(u32, &[u8])>
-    ensures { MatchOption result (is_numeral (run text.now) ≡ false)
+    ensures { MatchOption result (is_numeral (first_run text.now) ≡ false)
         (λ r. ReadsNumeral text.now r.0 r.1.now) }
 {
     let Some((&first, mut rest)) = text.split_first() else {
@@ -174,7 +174,7 @@ impl<'a> Tokens<'a> {
     /// Takes the next token, of a formula of `vars` variables.
     pub fn next(&mut self, vars: u32) -> Next
         requires { vars ≤ max_variable }
-        ensures { Finds vars self.new.line
+        ensures { FindsNext vars self.new.line
             (tokens_at self.old.line self.old.rest.now) (tokens_at self.new.line self.new.rest.now)
             result }
     {

@@ -5,7 +5,7 @@ use Rattle.std.specs.List.{AllByRecursion}
 use Rattle.std.proofs.lemmas.Fmt.{decimal_digit, first_decimal}
 use Rattle.lrup_model.specs.Formula.{Cnf}
 use Rattle.lrup_model.specs.Literal.{IsLiteral, max_variable}
-use Rattle.dimacs.specs.FormulaText.{IsTextOf}
+use Rattle.dimacs.specs.FormulaText.{IsFormulaText}
 
 -- no number is printed with a zero in front of it
 count_begins : (n b : ℕ) (bs : List ℕ) → n < 2 ^ 64 → decimal n ≢ 48 ∷ b ∷ bs
@@ -28,19 +28,19 @@ clauses_begin vars ((z ∷ clause) ∷ written) b bs tokens few all e =
     let first : signed_decimal z ≡ 48 ∷ b ∷ bs = cc in
     number_begins z b bs (omega (arith, few, all.0.0.1)) first
 
-pub zero_in_clause : (f : Cnf) → ¬ IsTextOf (codes "p cnf 1 1\n01 0\n") f
+pub zero_in_clause : (f : Cnf) → ¬ IsFormulaText (codes "p cnf 1 1\n01 0\n") f
 zero_in_clause f h =
     let header = h.header in
     let lines : h.lines ≡ (codes "01" ∷ codes "0" ∷ []) ∷ [] = cc in
     clauses_begin f.vars h.written 49 [] (codes "0" ∷ []) h.few_variables h.literals (sym (ap (flat_map (λ line. line)) lines) ∙ h.tokens)
 
-pub zero_in_header : (f : Cnf) → ¬ IsTextOf (codes "p cnf 01 0\n") f
+pub zero_in_header : (f : Cnf) → ¬ IsFormulaText (codes "p cnf 01 0\n") f
 zero_in_header f h =
     let header = h.header in
     let vars : decimal f.vars ≡ codes "01" = cc in
     count_begins f.vars 49 [] (omega (arith, h.few_variables)) vars
 
-pub text_of_two_lines : IsTextOf (codes "p cnf 2 1\n1\n2 0\n") (record { vars = 2; clauses = (pos 1 ∷ pos 2 ∷ []) ∷ [] })
+pub text_of_two_lines : IsFormulaText (codes "p cnf 2 1\n1\n2 0\n") (record { vars = 2; clauses = (pos 1 ∷ pos 2 ∷ []) ∷ [] })
 text_of_two_lines = record {
   lines = (codes "1" ∷ []) ∷ (codes "2" ∷ codes "0" ∷ []) ∷ [];
   header = let one = decimal_digit 1 (omega arith) in let two = decimal_digit 2 (omega arith) in cc;
@@ -54,7 +54,7 @@ text_of_two_lines = record {
 }
 
 -- the comment's tokens are none
-pub text_of_comment : IsTextOf (codes "p cnf 2 1\n1\nc 1 0\n2 0\n") (record { vars = 2; clauses = (pos 1 ∷ pos 2 ∷ []) ∷ [] })
+pub text_of_comment : IsFormulaText (codes "p cnf 2 1\n1\nc 1 0\n2 0\n") (record { vars = 2; clauses = (pos 1 ∷ pos 2 ∷ []) ∷ [] })
 text_of_comment =
     let h = text_of_two_lines in
     record {

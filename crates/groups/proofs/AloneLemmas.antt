@@ -13,7 +13,7 @@ use Rattle.stream_check.specs.Setting.{Setting}
 use Rattle.stream_check.specs.Judging.{StreamEnd, ended, failed, JudgesBlocks, Judges}
 use Rattle.stream_check.specs.Laws.{cited_by, OverStays, AloneDecides}
 use Rattle.runs.specs.Streams.{Stop, at_end, at_failure, early, Stream, JudgesTo, Terms, setting_of}
-use Rattle.runs.specs.Closed.{IsAt, IsWithin}
+use Rattle.runs.specs.Closed.{IsOfStream, IsOwnedWithin}
 use Rattle.groups.specs.Groups.{one, IsAlone, IsReadingTo, IsReadingOf}
 use Rattle.groups.specs.Laws.{AloneHasOneReport, BeginningsWithin}
 use Rattle.groups.proofs.Places.{judged_at}
@@ -43,7 +43,7 @@ own-one s (e ∷ h) all = cond-true (eqb (stream_of e) s) (e ∷ own h s) (own h
 -- the group of one stream is a judgement of all its bytes
 alone_judged : OverStays → (f : Cnf) (terms : Terms) (s : ℕ) (streams : List Stream) (reports : List Report)
     (whole : List ℕ) (end : StreamEnd) (stream : Stream) (report : Report)
-    → (g : IsAlone f terms s streams reports) → IsAt streams s stream → IsReadingOf whole end stream → IsAt reports s report
+    → (g : IsAlone f terms s streams reports) → IsOfStream streams s stream → IsReadingOf whole end stream → IsOfStream reports s report
     → Judges (setting_of terms s) whole end g.history report
 alone_judged law f terms s streams reports whole end stream report g at reads says =
     let j = judged_at terms (one s) g.history streams reports g.judged s stream report (me s) at says in
@@ -70,6 +70,6 @@ beginnings_within every alike p set bytes more cites =
       lines = front.0;
       rest = front.1;
       cut = front.2;
-      within = All-front (λ line. AllByRecursion (IsWithin p set) (cited_by line)) front.0 others.0
-          (subst (AllByRecursion (λ line. AllByRecursion (IsWithin p set) (cited_by line))) others.1 cites.within);
+      within = All-front (λ line. AllByRecursion (IsOwnedWithin p set) (cited_by line)) front.0 others.0
+          (subst (AllByRecursion (λ line. AllByRecursion (IsOwnedWithin p set) (cited_by line))) others.1 cites.within);
     }

@@ -20,7 +20,7 @@ use Rattle.stream_check.specs.Judging.{joined, ended, failed}
 use Rattle.stream_check.specs.Laws.{cited_by, FetchesOnly, CitedFetched}
 use Rattle.runs.specs.Streams.{Stop, at_end, at_failure, early, Stream, JudgesTo, Terms, setting_of}
 use Rattle.runs.specs.Headline.{IsJudgedBy, AreJudgedIn}
-use Rattle.runs.specs.Closed.{IsWithin, CiteWithin, IsClosed}
+use Rattle.runs.specs.Closed.{IsOwnedWithin, CiteWithin, IsClosed}
 use Rattle.groups.specs.Laws.{ClosedIsGroup}
 use Rattle.groups.proofs.Places.{has_place, judged_count, judged_at}
 
@@ -53,7 +53,7 @@ owned_by set owners.Outside = true
 is_within : LayoutValue → (ℕ → Bool) → ℕ → Bool
 is_within p set id = owned_by set (owner p id)
 
-within_owner : (p : LayoutValue) (set : ℕ → Bool) (id : ℕ) (o : Owner) → 0 < p.streams → owner p id ≡ o → IsWithin p set id → IsTrue (owned_by (inside p set) o)
+within_owner : (p : LayoutValue) (set : ℕ → Bool) (id : ℕ) (o : Owner) → 0 < p.streams → owner p id ≡ o → IsOwnedWithin p set id → IsTrue (owned_by (inside p set) o)
 unfolding owned_by
 within_owner p set id owners.Formula some is within = refl
 within_owner p set id (owners.Stream t) some is within =
@@ -61,7 +61,7 @@ within_owner p set id (owners.Stream t) some is within =
     is_inside p set t (within t is) (o.first, o.last)
 within_owner p set id owners.Outside some is within = refl
 
-passes : (p : LayoutValue) (set : ℕ → Bool) (id : ℕ) → 0 < p.streams → IsWithin p set id → IsTrue (is_within p (inside p set) id)
+passes : (p : LayoutValue) (set : ℕ → Bool) (id : ℕ) → 0 < p.streams → IsOwnedWithin p set id → IsTrue (is_within p (inside p set) id)
 unfolding is_within
 passes p set id some within = within_owner p set id (owner p id) some refl within
 
@@ -79,11 +79,11 @@ CitePass : (ℕ → Bool) → List StreamLine → Type 0
 CitePass test lines = AllByRecursion (λ line. AllByRecursion (λ id. IsTrue (test id)) (cited_by line)) lines
 
 cites_pass : (p : LayoutValue) (set : ℕ → Bool) (lines : List StreamLine) → 0 < p.streams
-    → AllByRecursion (λ line. AllByRecursion (IsWithin p set) (cited_by line)) lines → CitePass (is_within p (inside p set)) lines
+    → AllByRecursion (λ line. AllByRecursion (IsOwnedWithin p set) (cited_by line)) lines → CitePass (is_within p (inside p set)) lines
 unfolding CitePass
 cites_pass p set lines some within =
-    All-map (λ line. AllByRecursion (IsWithin p set) (cited_by line)) (λ line. AllByRecursion (λ id. IsTrue (is_within p (inside p set) id)) (cited_by line))
-    (λ line all. All-map (IsWithin p set) (λ id. IsTrue (is_within p (inside p set) id)) (λ id w. passes p set id some w) (cited_by line) all)
+    All-map (λ line. AllByRecursion (IsOwnedWithin p set) (cited_by line)) (λ line. AllByRecursion (λ id. IsTrue (is_within p (inside p set) id)) (cited_by line))
+    (λ line all. All-map (IsOwnedWithin p set) (λ id. IsTrue (is_within p (inside p set) id)) (λ id w. passes p set id some w) (cited_by line) all)
     lines within
 
 -- what a stream that cites within the set fetches is within it

@@ -6,9 +6,9 @@ use Rattle.lrup_model.specs.Event.{History, own}
 use Rattle.stream_check.specs.declared.report.Report.{Report}
 use Rattle.runs.specs.Streams.{Stream, Terms, setting_of}
 use Rattle.runs.specs.Headline.{IsJudgedBy, AreJudgedIn}
-use Rattle.runs.specs.Closed.{IsAt}
+use Rattle.runs.specs.Closed.{IsOfStream}
 
-pub has_place : {X : Type 0} (xs : List X) (s : ℕ) → 0 < s → s ≤ length xs → (x : X) × IsAt xs s x
+pub has_place : {X : Type 0} (xs : List X) (s : ℕ) → 0 < s → s ≤ length xs → (x : X) × IsOfStream xs s x
 has_place xs s first last =
     elim (slice_get_cases xs (s - 1)).1 [
       | inl has ↦ (has.0, (first, has.2))
@@ -44,7 +44,7 @@ judged_from terms set h s (t ∷ ts) (r ∷ rs) judged (suc k) stream report mem
 
 -- stream s of the set is judged by its own events
 pub judged_at : (terms : Terms) (set : ℕ → Bool) (h : History) (streams : List Stream) (reports : List Report) → AreJudgedIn terms set h 1 streams reports
-    → (s : ℕ) (stream : Stream) (report : Report) → IsTrue (set s) → IsAt streams s stream → IsAt reports s report
+    → (s : ℕ) (stream : Stream) (report : Report) → IsTrue (set s) → IsOfStream streams s stream → IsOfStream reports s report
     → IsJudgedBy (setting_of terms s) stream (own h s) report
 judged_at terms set h streams reports judged s stream report member at says =
     let first = at.0 in

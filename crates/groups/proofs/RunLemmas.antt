@@ -12,7 +12,7 @@ use Rattle.stream_check.specs.Setting.{Setting}
 use Rattle.stream_check.specs.Judging.{StreamEnd, ended, failed, JudgesBlocks, Judges}
 use Rattle.stream_check.specs.Laws.{AloneDecides, DecidedBeforeFailure, IsOfMemory, IsOfFailure}
 use Rattle.runs.specs.Streams.{Stop, at_end, at_failure, early, Stream, Telling, read_to, StopsSo, IsTold, AreTold, JudgesTo, Terms, setting_of}
-use Rattle.runs.specs.Closed.{IsAt, CiteWithin}
+use Rattle.runs.specs.Closed.{IsOfStream, CiteWithin}
 use Rattle.runs.specs.StreamLemmas.{told_count, told_from, told_begins, same_at}
 use Rattle.groups.specs.Groups.{one, IsAlone, IsRun, IsReadingTo}
 use Rattle.groups.specs.Laws.{BeginningsWithin, ReadersClosed, ClosedIsGroup, OrderedIsGroup, AloneHasOneReport, RunIsolated, SerialIsolated, ThreadsRun, SerialRun, ToldIsReading, FailedIsReading, SameReadingAgrees, SameBytesAgree}
@@ -24,7 +24,7 @@ use Rattle.groups.proofs.AloneLemmas.{me, only, own-one}
 
 -- what a reader of known place told
 told_at : (told : List Telling) (streams : List Stream) (s : ℕ) (telling : Telling) (stream : Stream)
-    → AreTold told streams → IsAt told s telling → IsAt streams s stream → IsTold telling stream
+    → AreTold told streams → IsOfStream told s telling → IsOfStream streams s stream → IsTold telling stream
 told_at told streams s telling stream are_told here at =
     let was = told_from told streams (s - 1) stream are_told at.1 in
     subst (λ (t : Telling). IsTold t stream) (same_at told s was.telling telling (here.0, was.at) here) was.is_told
@@ -109,16 +109,16 @@ serial_run f terms told reports count stands =
 -- a stream that cites within itself is alone
 run_alone : ClosedIsGroup → (f : Cnf) (terms : Terms) (s : ℕ) (told : List Telling) (reports : List Report)
     (stream : Stream) (report : Report) → Fits terms.layout f → (a : IsRun f terms told reports)
-    → IsAt a.streams s stream → IsAt reports s report → CiteWithin terms.layout (one s) stream.bytes → ¬ IsOfMemory report
+    → IsOfStream a.streams s stream → IsOfStream reports s report → CiteWithin terms.layout (one s) stream.bytes → ¬ IsOfMemory report
     → IsAlone f terms s a.streams reports
 run_alone law f terms s told reports stream report fits a at says cites memory =
     law f terms (one s) a.history a.streams reports fits a.count a.legal
     (judged_fewer terms (λ t. true) (one s) a.history (λ t member. refl) 1 a.streams reports a.judged)
     (λ t other member there.
-    let here = subst (λ n. IsAt a.streams n other) (only s t member) there in
+    let here = subst (λ n. IsOfStream a.streams n other) (only s t member) there in
     subst (λ (x : Stream). CiteWithin terms.layout (one s) x.bytes) (same_at a.streams s stream other at here) cites)
     (λ t other member there.
-    let here = subst (λ n. IsAt reports n other) (only s t member) there in
+    let here = subst (λ n. IsOfStream reports n other) (only s t member) there in
     subst (λ (r : Report). ¬ IsOfMemory r) (same_at reports s report other says here) memory)
 
 reading_within : BeginningsWithin → (p : LayoutValue) (set : ℕ → Bool) (stop : Stop) (bytes whole : List ℕ) (end : StreamEnd)
@@ -157,7 +157,7 @@ record IsJudgedWhole (f : Cnf) (terms : Terms) (s : ℕ) (whole : List ℕ) (rep
 whole_judged : BeginningsWithin → ClosedIsGroup → DecidedBeforeFailure
     → (f : Cnf) (terms : Terms) (s : ℕ) (whole : List ℕ) (told : List Telling) (telling : Telling) (reports : List Report) (report : Report)
     → Fits terms.layout f → CiteWithin terms.layout (one s) whole → IsRun f terms told reports
-    → IsAt told s telling → telling.entry ≡ Some whole → IsAt reports s report → ¬ IsOfMemory report → ¬ IsOfFailure report
+    → IsOfStream told s telling → telling.entry ≡ Some whole → IsOfStream reports s report → ¬ IsOfMemory report → ¬ IsOfFailure report
     → IsJudgedWhole f terms s whole report
 whole_judged within group decided f terms s whole told telling reports report fits cites a here entry says memory machine =
     let many = judged_count terms (λ t. true) a.history 1 a.streams reports a.judged in

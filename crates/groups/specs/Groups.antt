@@ -9,7 +9,7 @@ use Rattle.stream_check.specs.declared.report.Ending.TheVariants as endings
 use Rattle.stream_check.specs.declared.report.Report.{Report}
 use Rattle.stream_check.specs.Judging.{StreamEnd, ended, failed}
 use Rattle.stream_check.specs.Laws.{IsOfMemory}
-use Rattle.runs.specs.Closed.{IsAt, CiteWithin, IsClosed}
+use Rattle.runs.specs.Closed.{IsOfStream, CiteWithin, IsClosed}
 use Rattle.runs.specs.Streams.{Stop, at_end, at_failure, early, Stream, Telling, Terms, AreTold}
 use Rattle.runs.specs.Headline.{AreJudgedIn}
 
@@ -22,7 +22,7 @@ one s = λ t. t == s
 -- each reader of the set's streams has known bytes left at first, and all of them cite within the set
 abbrev pub AreClosedReaders : LayoutValue → (ℕ → Bool) → List Telling → Type 0
 AreClosedReaders p set told =
-    (s : ℕ) (telling : Telling) → IsTrue (set s) → IsAt told s telling
+    (s : ℕ) (telling : Telling) → IsTrue (set s) → IsOfStream told s telling
     → (bytes : List ℕ) × (telling.entry ≡ Some bytes) × CiteWithin p set bytes
 
 -- Groups
@@ -30,7 +30,7 @@ AreClosedReaders p set told =
 -- no report of the set tells that memory ran out
 abbrev pub NoneOutOfMemory : (ℕ → Bool) → List Report → Type 0
 NoneOutOfMemory set reports =
-    (s : ℕ) (report : Report) → IsTrue (set s) → IsAt reports s report → ¬ IsOfMemory report
+    (s : ℕ) (report : Report) → IsTrue (set s) → IsOfStream reports s report → ¬ IsOfMemory report
 
 -- The reports of a set of streams are those of the set alone: a legal history, with events of its streams and of no others,
 -- judges each of them so, and none tells that memory ran out.

@@ -10,7 +10,7 @@ use Rattle.stream_check.specs.Judging.{StreamEnd, ended, failed}
 use Rattle.stream_check.specs.Laws.{IsOfMemory, IsOfFailure}
 use Rattle.runs.specs.Streams.{Stream, Telling, Terms, AreTold, StandsOnStreams, IsOrdered}
 use Rattle.runs.specs.Headline.{HaveOneHistory, AreJudgedIn}
-use Rattle.runs.specs.Closed.{IsAt, CiteWithin, IsClosed}
+use Rattle.runs.specs.Closed.{IsOfStream, CiteWithin, IsClosed}
 use Rattle.groups.specs.Groups.{one, AreClosedReaders, NoneOutOfMemory, IsGroup, IsAlone, AreIsolated, empty_stream, empty_report, with_others, IsRun, IsReadingOf}
 
 -- Closed sets
@@ -68,9 +68,9 @@ AloneHasOneReport = (f : Cnf) (terms : Terms) (s : ℕ) (whole : List ℕ) (end 
     (streams others : List Stream) (reports other_reports : List Report) (stream other : Stream)
     (report other_report : Report)
     → IsAlone f terms s streams reports → IsAlone f terms s others other_reports
-    → IsAt streams s stream → IsAt others s other → IsReadingOf whole end stream
+    → IsOfStream streams s stream → IsOfStream others s other → IsReadingOf whole end stream
     → IsReadingOf whole end other
-    → IsAt reports s report → IsAt other_reports s other_report → report ≡ other_report
+    → IsOfStream reports s report → IsOfStream other_reports s other_report → report ≡ other_report
 
 -- Runs
 
@@ -108,14 +108,14 @@ SerialRun = (f : Cnf) (terms : Terms) (told : List Telling) (reports : List Repo
 abbrev pub ToldIsReading : Type 0
 ToldIsReading = (told : List Telling) (streams : List Stream) (s : ℕ) (telling : Telling)
     (stream : Stream) (whole : List ℕ)
-    → AreTold told streams → IsAt told s telling → IsAt streams s stream
+    → AreTold told streams → IsOfStream told s telling → IsOfStream streams s stream
     → telling.entry ≡ Some whole → telling.has_failed ≡ false → IsReadingOf whole ended stream
 
 -- a reader that failed told all bytes before those that it has left then
 abbrev pub FailedIsReading : Type 0
 FailedIsReading = (told : List Telling) (streams : List Stream) (s : ℕ) (telling : Telling)
     (stream : Stream) (whole left : List ℕ)
-    → AreTold told streams → IsAt told s telling → IsAt streams s stream
+    → AreTold told streams → IsOfStream told s telling → IsOfStream streams s stream
     → telling.entry ≡ Some (whole ++ left) → telling.left ≡ Some left → telling.has_failed ≡ true
     → IsReadingOf whole failed stream
 
@@ -127,9 +127,9 @@ SameReadingAgrees = (f : Cnf) (terms : Terms) (s : ℕ) (whole : List ℕ) (end 
     (report other_report : Report)
     → Fits terms.layout f → CiteWithin terms.layout (one s) whole
     → (a : IsRun f terms told reports) (b : IsRun f terms other_told other_reports)
-    → IsAt a.streams s stream → IsAt b.streams s other → IsReadingOf whole end stream
+    → IsOfStream a.streams s stream → IsOfStream b.streams s other → IsReadingOf whole end stream
     → IsReadingOf whole end other
-    → IsAt reports s report → IsAt other_reports s other_report
+    → IsOfStream reports s report → IsOfStream other_reports s other_report
     → ¬ IsOfMemory report → ¬ IsOfMemory other_report → report ≡ other_report
 
 -- So it has where both readers have the same bytes left at first, unless memory ran out or a read failed.
@@ -139,9 +139,9 @@ SameBytesAgree = (f : Cnf) (terms : Terms) (s : ℕ) (whole : List ℕ) (told ot
     (report other_report : Report)
     → Fits terms.layout f → CiteWithin terms.layout (one s) whole
     → IsRun f terms told reports → IsRun f terms other_told other_reports
-    → IsAt told s telling → telling.entry ≡ Some whole
-    → IsAt other_told s other_telling → other_telling.entry ≡ Some whole
-    → IsAt reports s report → IsAt other_reports s other_report
+    → IsOfStream told s telling → telling.entry ≡ Some whole
+    → IsOfStream other_told s other_telling → other_telling.entry ≡ Some whole
+    → IsOfStream reports s report → IsOfStream other_reports s other_report
     → ¬ IsOfMemory report → ¬ IsOfFailure report → ¬ IsOfMemory other_report
     → ¬ IsOfFailure other_report
     → report ≡ other_report

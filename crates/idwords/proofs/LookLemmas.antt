@@ -13,7 +13,7 @@ use Rattle.lrup_model.specs.State.{State, Slot, absent, live, retired, after, st
 use Rattle.lrup_model.specs.History.{IsAllowed}
 use Rattle.lrup_model.specs.Place.{Kept, literals_in}
 use Rattle.lrup_model.specs.Pass.{Spelling, kept_in, Spells, IsSpelt}
-use Rattle.idwords.specs.Words.{state_of, identity_word, word_of, LiesAt, ShowsKept, reply_in}
+use Rattle.idwords.specs.Words.{word_state, identity_word, word_of, LiesAt, ShowsKept, reply_in}
 use Rattle.idwords.specs.Spelling.{top_after, event_spelling, spelling_of}
 use Rattle.idwords.specs.Rule.{Part, part_stream, Keeps}
 use Rattle.idwords.specs.Steps.{Calls, Looks}
@@ -71,15 +71,15 @@ slot_answers m s id absent is = is
 slot_answers m s id (live c) is = is
 slot_answers m s id (retired c) is = subst (λ (x : Slot). Rattle.lrup_model.specs.State.IsRetired x) (sym is) tt
 
-reply_one : (o : Option Kept) (word : ℕ) → state_of word ≡ 1 → reply_in o word ≡ events.live (literals_in o)
+reply_one : (o : Option Kept) (word : ℕ) → word_state word ≡ 1 → reply_in o word ≡ events.live (literals_in o)
 reply_one o word is =
-    cond-false (eqb (state_of word) 0) events.vacant (cond (eqb (state_of word) 1) (events.live (literals_in o)) events.retired) (ne_eqb (state_of word) 0 (λ nil. omega arith))
-    ∙ cond-true (eqb (state_of word) 1) (events.live (literals_in o)) events.retired (eq-eqb (state_of word) 1 is)
+    cond-false (eqb (word_state word) 0) events.vacant (cond (eqb (word_state word) 1) (events.live (literals_in o)) events.retired) (ne_eqb (word_state word) 0 (λ nil. omega arith))
+    ∙ cond-true (eqb (word_state word) 1) (events.live (literals_in o)) events.retired (eq-eqb (word_state word) 1 is)
 
-reply_two : (o : Option Kept) (word : ℕ) → state_of word ≡ 2 → reply_in o word ≡ events.retired
+reply_two : (o : Option Kept) (word : ℕ) → word_state word ≡ 2 → reply_in o word ≡ events.retired
 reply_two o word is =
-    cond-false (eqb (state_of word) 0) events.vacant (cond (eqb (state_of word) 1) (events.live (literals_in o)) events.retired) (ne_eqb (state_of word) 0 (λ nil. omega arith))
-    ∙ cond-false (eqb (state_of word) 1) (events.live (literals_in o)) events.retired (ne_eqb (state_of word) 1 (λ one. omega arith))
+    cond-false (eqb (word_state word) 0) events.vacant (cond (eqb (word_state word) 1) (events.live (literals_in o)) events.retired) (ne_eqb (word_state word) 0 (λ nil. omega arith))
+    ∙ cond-false (eqb (word_state word) 1) (events.live (literals_in o)) events.retired (ne_eqb (word_state word) 1 (λ one. omega arith))
 
 pub reply_slot : (slot : Slot) (o : Option Kept) → Spells slot o → reply_in o (word_of slot o) ≡ slot_reply slot
 reply_slot absent o spells = refl

@@ -11,7 +11,7 @@ use Rattle.lrup_model.specs.Place.{Kept}
 use Rattle.lrup_model.specs.Pass.{Spelling, kept_in, Spells}
 use Rattle.lrup_model.specs.HistoryLemmas.{run-own, legal-front}
 use Rattle.lrup_model.specs.OwnerLemmas.{owned}
-use Rattle.idwords.specs.Words.{state_of, word_of, LiesAt}
+use Rattle.idwords.specs.Words.{word_state, word_of, LiesAt}
 use Rattle.idwords.specs.Spelling.{spelling_of}
 use Rattle.idwords.specs.Rule.{Part, part_stream, Keeps, Stands}
 use Rattle.idwords.proofs.SpellingLemmas.{IsLodged, lodged, own_kept}
@@ -27,13 +27,13 @@ absent_word (live c) (Some kept) spells nil = absurd (omega arith)
 absent_word (retired c) None spells nil = absurd spells
 absent_word (retired c) (Some kept) spells nil = absurd (omega arith)
 
-pub live_word : (slot : Slot) (o : Option Kept) → Spells slot o → state_of (word_of slot o) ≡ 1 → IsLive slot
+pub live_word : (slot : Slot) (o : Option Kept) → Spells slot o → word_state (word_of slot o) ≡ 1 → IsLive slot
 live_word absent o spells one = absurd (omega arith)
 live_word (live c) o spells one = tt
 live_word (retired c) None spells one = absurd spells
 live_word (retired c) (Some kept) spells one = absurd (omega (arith, state-identity_word 2 (length kept.literals) kept.start (omega arith)))
 
-pub other_word : (slot : Slot) (o : Option Kept) → Spells slot o → state_of (word_of slot o) ≢ 1 → ¬ IsLive slot
+pub other_word : (slot : Slot) (o : Option Kept) → Spells slot o → word_state (word_of slot o) ≢ 1 → ¬ IsLive slot
 other_word absent o spells other = λ is. is
 other_word (live c) None spells other = absurd spells
 other_word (live c) (Some kept) spells other = absurd (other (state-identity_word 1 (length kept.literals) kept.start (omega arith)))

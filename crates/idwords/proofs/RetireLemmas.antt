@@ -12,7 +12,7 @@ use Rattle.lrup_model.specs.Place.{Kept}
 use Rattle.lrup_model.specs.Pass.{Spelling, kept_in, IsSpelt}
 use Rattle.lrup_model.specs.HistoryLemmas.{put-same, put-other}
 use Rattle.lrup_model.specs.declared.clause_map.Retired.TheVariants as retiring
-use Rattle.idwords.specs.Words.{state_of, word_of, LiesAt}
+use Rattle.idwords.specs.Words.{word_state, word_of, LiesAt}
 use Rattle.idwords.specs.Spelling.{top_after, spelling_of}
 use Rattle.idwords.specs.Rule.{Part, part_stream, Keeps}
 use Rattle.idwords.specs.Steps.{Finds, Retires}
@@ -34,7 +34,7 @@ finds v seat id owns more words views kept here small =
     let same_words : slice_set words id (slice_index words id) ≡ words = set-get_or words id 0 in
     let all : IsSpelt f log (spelling_of f p log) = spelt f p log kept.legal.events in
     let log_word = kept.slots id (own_identity v more words views seat kept here id owns) in
-    elim (cases_eq (state_of (slice_index words id)) 1) [
+    elim (cases_eq (word_state (slice_index words id)) 1) [
       | inl one ↦
           let same_views : set views seat (v ∷ []) ≡ views = set_again views seat (v ∷ []) here in (
             v,
@@ -45,7 +45,7 @@ finds v seat id owns more words views kept here small =
       | inr other ↦
           let e : Event = events.retire (part_stream v) id retiring.NotLive in
           let none : ¬ IsLive (state f log id) =
-          other_word (state f log id) (kept_in (spelling_of f p log) id) (all.slots id) (subst (λ (n : ℕ). state_of n ≢ 1) log_word other) in
+          other_word (state f log id) (kept_in (spelling_of f p log) id) (all.slots id) (subst (λ (n : ℕ). word_state n ≢ 1) log_word other) in
           let plain : IsPlain f p log e = record { state = λ j. refl; spelling = refl; size = refl } in
           let done = plain_step v more words views seat e v.draft kept here refl none owns plain stands.draft (omega arith) in
           let w : Part = advanced v more e v.draft in (
@@ -67,7 +67,7 @@ finds v seat id owns more words views kept here small =
 
 -- the exchange of a retire
 pub retires : (v : Part) (seat id old : ℕ) → Owns v.view.caller.layout (part_stream v) id
-    → old ≡ word_of (state v.view.caller.formula v.view.mine id) (kept_in v.view.spelt id) → state_of old ≡ 1
+    → old ≡ word_of (state v.view.caller.formula v.view.mine id) (kept_in v.view.spelt id) → word_state old ≡ 1
     → OwnStep v seat id (λ n. either (eqb n old) (old + 1) n) (λ n w. Retires id v w)
 retires v seat id old owns is one more words views kept here small =
     let f = v.view.caller.formula in
@@ -82,7 +82,7 @@ retires v seat id old owns is one more words views kept here small =
     let all : IsSpelt f log (spelling_of f p log) = spelt f p log kept.legal.events in
     let o : Option Kept = kept_in (spelling_of f p log) id in
     let log_word : old ≡ word_of (state f log id) o = sym found ∙ kept.slots id identity in
-    let alive : IsLive (state f log id) = live_word (state f log id) o (all.slots id) (ap state_of (sym log_word) ∙ one) in
+    let alive : IsLive (state f log id) = live_word (state f log id) o (all.slots id) (ap word_state (sym log_word) ∙ one) in
     let new : List ℕ = slice_set words id (old + 1) in
     let same : spelling_of f p log ++ [] ≡ spelling_of f p log = append-nil (spelling_of f p log) in
     let serves : Serves f p log words e new = record {

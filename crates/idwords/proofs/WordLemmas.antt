@@ -11,11 +11,11 @@ use Rattle.lrup_model.specs.Place.{Kept}
 use Rattle.lrup_model.specs.Pass.{Spells}
 use Rattle.lrup_model.specs.Literal.{IsLiteral, IsCode, code_of, max_variable}
 use Rattle.lrup_model.specs.LiteralLaws.{IsCode-code_of, code_of-injective}
-use Rattle.idwords.specs.Words.{identity_word, state_of, length_of, start_of, word_of, words_for, pair_of, literal_word, half_of, packed, StandAt, LiesAt, ShowsKept}
+use Rattle.idwords.specs.Words.{identity_word, word_state, length_of, start_of, word_of, words_for, pair_of, literal_word, half_of, packed, StandAt, LiesAt, ShowsKept}
 
 -- The parts of a word
 
-pub state-identity_word : (state len start : ℕ) → state < 4 → state_of (identity_word state len start) ≡ state
+pub state-identity_word : (state len start : ℕ) → state < 4 → word_state (identity_word state len start) ≡ state
 state-identity_word state len start small = omega arith
 
 pub length-identity_word : (state len start : ℕ) → state < 4 → len < 1048576 → length_of (identity_word state len start) ≡ len

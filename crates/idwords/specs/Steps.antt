@@ -12,7 +12,7 @@ use Rattle.lrup_model.specs.declared.clause_map.Published.{Published}
 use Rattle.lrup_model.specs.declared.clause_map.Published.TheVariants as publishing
 use Rattle.lrup_model.specs.declared.clause_map.Retired.TheVariants as retiring
 use Rattle.lrup_model.specs.Literal.{code_of, max_variable, IsCode}
-use Rattle.idwords.specs.Words.{state_of, word_of, words_for, pair_of, literal_word, half_of, ShowsKept, reply_in}
+use Rattle.idwords.specs.Words.{word_state, word_of, words_for, pair_of, literal_word, half_of, ShowsKept, reply_in}
 use Rattle.idwords.specs.Spelling.{LieWithin}
 use Rattle.idwords.specs.Rule.{Part, part_stream}
 
@@ -81,8 +81,8 @@ pub record FindsNone (id : ℕ) (v w : Part) : Type 0 where
 -- the look of a retire: a word that isn't live ends it, and at a live one nothing has happened yet
 pub record Finds (id : ℕ) (v : Part) (word : ℕ) (w : Part) : Type 0 where
   pub own : word ≡ word_of (state v.view.caller.formula v.view.mine id) (kept_in v.view.spelt id)
-  pub live : state_of word ≡ 1 → w ≡ v
-  pub none : state_of word ≢ 1 → FindsNone id v w
+  pub live : word_state word ≡ 1 → w ≡ v
+  pub none : word_state word ≢ 1 → FindsNone id v w
 
 -- a retire of a live clause
 pub record Retires (id : ℕ) (v w : Part) : Type 0 where

@@ -11,8 +11,8 @@ use Rattle.lrup_model.specs.Literal.{code_of}
 abbrev pub identity_word : ℕ → ℕ → ℕ → ℕ
 identity_word state len start = state + 4 * len + 4194304 * start
 
-abbrev pub state_of : ℕ → ℕ
-state_of word = word % 4
+abbrev pub word_state : ℕ → ℕ
+word_state word = word % 4
 
 abbrev pub length_of : ℕ → ℕ
 length_of word = word / 4 % 1048576
@@ -66,13 +66,13 @@ LiesAt words place c = StandAt words place (packed c)
 
 -- the word shows the clause that is kept for the identity: its length and its start
 abbrev pub ShowsKept : Option Kept → ℕ → Type 0
-ShowsKept None word = state_of word ≡ 0
-ShowsKept (Some kept) word = (0 < state_of word) × (state_of word < 3)
+ShowsKept None word = word_state word ≡ 0
+ShowsKept (Some kept) word = (0 < word_state word) × (word_state word < 3)
     × (length_of word ≡ length kept.literals) × (start_of word ≡ kept.start)
 
 -- the reply that an identity's word spells, where its clause is kept so
 abbrev pub reply_in : Option Kept → ℕ → Reply
 reply_in kept word =
-    if state_of word == 0 then vacant
-    else if state_of word == 1 then live (literals_in kept)
+    if word_state word == 0 then vacant
+    else if word_state word == 1 then live (literals_in kept)
     else retired

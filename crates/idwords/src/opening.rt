@@ -1,6 +1,6 @@
 //! The words of the row at the opening.
 ghost use Rattle.std.specs.Prelude.{◌≡◌, ◌+◌, ◌^◌, ◌<◌, ◌++◌, IfOk, OnOk};
-ghost use Rattle.lrup_model.specs.Formula.{IsCnf, literals_of};
+ghost use Rattle.lrup_model.specs.Formula.{IsCnf, formula_literals};
 ghost use Rattle.lrup_model.specs.Layout.{Fits};
 ghost use Rattle.idwords.specs.Words.{packed};
 ghost use Rattle.idwords.specs.Rule.{IsPlan};
@@ -31,7 +31,7 @@ pub(crate) fn all_words(
 
 /// The words of the formula's identities; the literals of the first clause lie from this place on.
 fn add_clauses(words: &mut Vec<u64>, formula: &Formula, first: u64) -> Result<(), AllocError>
-    requires { first + literals_of formula.now < 2 ^ 41 }
+    requires { first + formula_literals formula.now < 2 ^ 41 }
     ensures words { OnOk result
         (words.new.items ≡ words.old.items ++ clause_words first formula.now.clauses) }
     ensures formula { IsCnf formula.now }

@@ -4,7 +4,7 @@
 //! second, if there is one, in its upper.
 ghost use Rattle.std.specs.Prelude.{◌≡◌, ◌^◌, ◌<◌, IfSome};
 ghost use Rattle.lrup_model.specs.Literal.{max_variable, code_of, IsCode};
-ghost use Rattle.idwords.specs.Words.{identity_word, state_of, length_of, start_of, half_of, literal_word};
+ghost use Rattle.idwords.specs.Words.{identity_word, word_state, length_of, start_of, half_of, literal_word};
 
 use lrup_model::Lit;
 
@@ -20,7 +20,7 @@ pub const RETIRED: u64 = 2;
 /// The state of an identity's word: `VACANT`, `LIVE` or `RETIRED`.
 #[inline]
 pub fn state(word: u64) -> u64
-    ensures { result ≡ state_of word }
+    ensures { result ≡ word_state word }
 {
     word & 3
 }

@@ -3,7 +3,7 @@ ghost use Rattle.std.specs.Prelude.{◌≡◌, [], IfOk, IsTrue};
 ghost use Rattle.lrup_model.specs.History.{IsPublishable};
 ghost use Rattle.lrup_model.specs.Layout.{Fits};
 ghost use Rattle.test_support.specs.Worked.{four};
-ghost use Rattle.idwords_tests.specs.Worked.{IsAt};
+ghost use Rattle.idwords_tests.specs.Worked.{IsSeatAt};
 
 use idwords::{LIVE, RETIRED, Row, Seat, len, start, state};
 use lrup_model::{Formula, Layout, Lit, Owner, Published, Retired};
@@ -30,7 +30,7 @@ fn holds(rt: &impl Abort, fact: bool)
 fn open_one(alloc: Global, formula: &Formula, layout: &Layout) -> Result<(Row, Seat), Fail>
     requires fits { Fits layout.now formula.now }
     requires streams { layout.now.streams ≡ 1 }
-    ensures { IfOk result (λ opened. IsAt formula.now opened.0 layout.now 1 opened.1) }
+    ensures { IfOk result (λ opened. IsSeatAt formula.now opened.0 layout.now 1 opened.1) }
 {
     let (row, mut seats) = Row::open(alloc, formula, layout)?;
     let seat = seats.pop().ok_or("no seat")?;
@@ -42,8 +42,8 @@ fn open_two(alloc: Global, formula: &Formula, layout: &Layout) -> Result<(Row, S
     requires formula { formula.now ≡ four }
     requires fits { Fits layout.now formula.now }
     requires streams { layout.now.streams ≡ 2 }
-    ensures first { IfOk result (λ opened. IsAt four opened.0 layout.now 1 opened.1) }
-    ensures second { IfOk result (λ opened. IsAt four opened.0 layout.now 2 opened.2) }
+    ensures first { IfOk result (λ opened. IsSeatAt four opened.0 layout.now 1 opened.1) }
+    ensures second { IfOk result (λ opened. IsSeatAt four opened.0 layout.now 2 opened.2) }
 {
     let (row, mut seats) = Row::open(alloc, formula, layout)?;
     let second = seats.pop().ok_or("no seat")?;
@@ -70,8 +70,8 @@ fn has_words(row: &Row, layout: &Layout, seat: &mut Seat, words: &[u64]) -> bool
 
 /// What the word of an identity is.
 fn look(row: &Row, layout: &Layout, seat: &mut Seat, stream: u64, id: u64) -> Option<u64>
-    requires { IsAt four row.now layout.now stream seat.old }
-    ensures { IsAt four row.now layout.now stream seat.new }
+    requires { IsSeatAt four row.now layout.now stream seat.old }
+    ensures { IsSeatAt four row.now layout.now stream seat.new }
 {
     if !layout.covers(id) {
         return None;
@@ -88,9 +88,9 @@ fn publish(
     id: u64,
     clause: &[Lit],
 ) -> Option<Published>
-    requires at { IsAt four row.now layout.now stream seat.old }
+    requires at { IsSeatAt four row.now layout.now stream seat.old }
     requires clause { IsPublishable four clause.now }
-    ensures { IsAt four row.now layout.now stream seat.new }
+    ensures { IsSeatAt four row.now layout.now stream seat.new }
 {
     if layout.owner(id) != Owner::Stream(stream) || seat.room() < clause.len() as u64 {
         return None;
@@ -108,8 +108,8 @@ fn publish(
 
 /// Retires the clause of an identity of the stream's own.
 fn retire(row: &Row, layout: &Layout, seat: &mut Seat, stream: u64, id: u64) -> Option<Retired>
-    requires { IsAt four row.now layout.now stream seat.old }
-    ensures { IsAt four row.now layout.now stream seat.new }
+    requires { IsSeatAt four row.now layout.now stream seat.old }
+    ensures { IsSeatAt four row.now layout.now stream seat.new }
 {
     if layout.owner(id) != Owner::Stream(stream) {
         return None;
@@ -237,8 +237,8 @@ fn two_streams_take_turns(rt: HostRuntime) -> Result<(), Fail> {
 
 /// The first literal of an identity's clause, where it is live.
 fn first_literal(row: &Row, layout: &Layout, seat: &mut Seat, stream: u64, id: u64) -> Option<i64>
-    requires { IsAt four row.now layout.now stream seat.old }
-    ensures { IsAt four row.now layout.now stream seat.new }
+    requires { IsSeatAt four row.now layout.now stream seat.old }
+    ensures { IsSeatAt four row.now layout.now stream seat.new }
 {
     let found = look(row, layout, seat, stream, id)?;
     if state(found) != LIVE || len(found) == 0 || layout.row_words() <= start(found) {
@@ -261,9 +261,9 @@ fn publish_apart(
     id: u64,
     clause: &[Lit],
 ) -> (Seat, Option<Published>)
-    requires at { IsAt four row.now layout.now stream seat }
+    requires at { IsSeatAt four row.now layout.now stream seat }
     requires clause { IsPublishable four clause.now }
-    ensures { IsAt four row.now layout.now stream result.0 }
+    ensures { IsSeatAt four row.now layout.now stream result.0 }
 {
     let answer = publish(row, layout, &mut seat, stream, id, clause);
     (seat, answer)
@@ -281,12 +281,12 @@ fn two_threads_use_one_row(rt: HostRuntime) -> Result<(), Fail> {
     let ((mut first, one), (mut second, other)) = join(
         &rt,
         || -> (Seat, Option<Published>)
-            requires { IsAt four row.now layout.now 1 first × IsPublishable four two }
-            ensures { IsAt four row.entry.now layout.entry.now 1 result.0 }
+            requires { IsSeatAt four row.now layout.now 1 first × IsPublishable four two }
+            ensures { IsSeatAt four row.entry.now layout.entry.now 1 result.0 }
         { publish_apart(row, layout, first, 1, 5, &two) },
         || -> (Seat, Option<Published>)
-            requires { IsAt four row.now layout.now 2 second × IsPublishable four not_two }
-            ensures { IsAt four row.entry.now layout.entry.now 2 result.0 }
+            requires { IsSeatAt four row.now layout.now 2 second × IsPublishable four not_two }
+            ensures { IsSeatAt four row.entry.now layout.entry.now 2 result.0 }
         { publish_apart(row, layout, second, 2, 6, &not_two) },
     );
     same(&rt, one, Some(Published::Done));

@@ -12,7 +12,7 @@ use Rattle.lrup_model.specs.Literal.{IsLiteral, IsCode, code_of, literal_of, max
 use Rattle.lrup_model.specs.LiteralLaws.{code_of-injective, code_of-literal_of, parity, literal_of-even, literal_of-odd}
 use Rattle.lrup_model.specs.Clause.{Has}
 use Rattle.lrup_model.specs.ClauseLemmas.{Has-at, All-Has, All-from_Has}
-use Rattle.lrup_model.specs.Cube.{IsCubeOf, IsOver, AreCubeCodes}
+use Rattle.lrup_model.specs.Cube.{IsCubeOf, IsCubeOver, AreCubeCodes}
 
 -- A clause's literal is an element of its list.
 
@@ -85,7 +85,7 @@ variable_of code = elim (parity code) [
     abs_neg (suc v) = refl
 
 -- the last code has the greatest variable
-pub greatest : (codes : List ℕ) (n : ℕ) → AreCubeCodes codes → 0 < length codes → IsOver n (map literal_of codes) ↔ (get_or codes (length codes - 1) 0 / 2 ≤ n)
+pub greatest : (codes : List ℕ) (n : ℕ) → AreCubeCodes codes → 0 < length codes → IsCubeOver n (map literal_of codes) ↔ (get_or codes (length codes - 1) 0 / 2 ≤ n)
 greatest codes n are some =
     let last : ℕ = length codes - 1 in
     let inside : last < length codes = omega arith in (

@@ -9,15 +9,15 @@ use Rattle.std.proofs.lemmas.List.Folds.{sum_by-replicate}
 use Rattle.std.proofs.lemmas.Bool.{cases_lt}
 use Rattle.std.proofs.Math.Seq.{take-append_seam}
 use Rattle.lrup_model.specs.Clause.{Clause, IsClause}
-use Rattle.lrup_model.specs.Formula.{Cnf, IsCnf, IsFormulaClause, literals_of, clause_at}
+use Rattle.lrup_model.specs.Formula.{Cnf, IsCnf, IsFormulaClause, formula_literals, clause_at}
 use Rattle.lrup_model.specs.Entailment.{Assignment, Satisfies, SatisfiesAll, Follows}
 use Rattle.lrup_model.specs.Layout.{LayoutValue, IsLayout, Fits, last_identity}
 use Rattle.lrup_model.specs.State as slots
 use Rattle.lrup_model.specs.State.{State, opening}
 use Rattle.lrup_model.specs.Place.{Kept}
 use Rattle.lrup_model.specs.Plain as plain
-use Rattle.lrup_model.specs.Plain.{Stored, Plain, formula_of, state_of, stored_at, StoresClause, slot_of, clause_of}
-use Rattle.lrup_model.specs.PlainInside.{stored_in, plain_of, LiesWithin, IsSound, flat, entries_from}
+use Rattle.lrup_model.specs.Plain.{Stored, Plain, formula_of, plain_state, stored_at, StoresClause, slot_of, clause_of}
+use Rattle.lrup_model.specs.PlainInside.{stored_in, plain_of, LiesWithin, IsPlainSound, flat, entries_from}
 use Rattle.lrup_model.specs.declared.plain_map.Entry.{Entry}
 use Rattle.lrup_model.specs.declared.plain_map.Entry.TheVariants.{Vacant, Live}
 use Rattle.lrup_model.proofs.PieceLemmas.{slice_range-append, slice_range-end}
@@ -148,7 +148,7 @@ opened_formula f p n free fits =
     ∙ clauses_stored 0 f.clauses in
     ap (λ (cs : List Clause). record { vars = p.vars; clauses = cs }) clauses ∙ ap (λ v. record { vars = v; clauses = f.clauses }) fits.vars
 
-pub opened_state : (f : Cnf) (p : LayoutValue) (n : ℕ) (free : List ℕ) → state_of (plain_of p (Vacant ∷ (entries_from 0 f.clauses ++ replicate n Vacant)) (flat f.clauses) free) ≡ opening f
+pub opened_state : (f : Cnf) (p : LayoutValue) (n : ℕ) (free : List ℕ) → plain_state (plain_of p (Vacant ∷ (entries_from 0 f.clauses ++ replicate n Vacant)) (flat f.clauses) free) ≡ opening f
 opened_state f p n free = fun_ext (λ id. ap (λ (xs : List Stored). slot_of (get_or xs id plain.vacant)) (opened_entries f n) ∙ opened_slot f n id)
 
 vacant_within : (all n : ℕ) → AllByRecursion (LiesWithin all) (replicate n Vacant)
@@ -185,10 +185,10 @@ live_from plain.vacant c is = absurd (cc)
 live_from (plain.live kept) c is = (kept, refl)
 live_from (plain.retired kept) c is = absurd (cc)
 
-pub opened_sound : (f : Cnf) (p : LayoutValue) (n capacity : ℕ) → IsCnf f → IsLayout p → Fits p f → n ≡ last_identity p - length f.clauses → literals_of f + p.streams * p.room ≤ capacity
-    → IsSound p (Vacant ∷ (entries_from 0 f.clauses ++ replicate n Vacant)) (flat f.clauses) (replicate p.streams p.room) capacity
+pub opened_sound : (f : Cnf) (p : LayoutValue) (n capacity : ℕ) → IsCnf f → IsLayout p → Fits p f → n ≡ last_identity p - length f.clauses → formula_literals f + p.streams * p.room ≤ capacity
+    → IsPlainSound p (Vacant ∷ (entries_from 0 f.clauses ++ replicate n Vacant)) (flat f.clauses) (replicate p.streams p.room) capacity
 opened_sound f p n capacity cnf is fits rest enough =
-    let size : length (flat f.clauses) ≡ literals_of f = length-flat f.clauses in
+    let size : length (flat f.clauses) ≡ formula_literals f = length-flat f.clauses in
     let rooms : sum (replicate p.streams p.room) ≡ p.streams * p.room = sum_by-replicate (λ x. x) p.streams p.room in
     let entries : length (entries_from 0 f.clauses ++ replicate n Vacant) ≡ length f.clauses + n =
     length-append (entries_from 0 f.clauses) (replicate n Vacant) ∙ ap (λ k. k + length (replicate n Vacant)) (length-entries_from 0 f.clauses) ∙ ap (λ k. length f.clauses + k) (length-replicate n Vacant) in
@@ -208,11 +208,11 @@ opened_sound f p n capacity cnf is fits rest enough =
 
 -- an opened map, by what it is made of
 abbrev pub IsOpened : Cnf → LayoutValue → ℕ → List Entry → List ℤ → List ℕ → Type 0
-IsOpened f p capacity es ls free = IsSound p es ls free capacity × (formula_of (plain_of p es ls free) ≡ f) × (state_of (plain_of p es ls free) ≡ opening f)
+IsOpened f p capacity es ls free = IsPlainSound p es ls free capacity × (formula_of (plain_of p es ls free) ≡ f) × (plain_state (plain_of p es ls free) ≡ opening f)
 
 -- the same, where the lists are known by equations
 pub opened : (f : Cnf) (p : LayoutValue) (n capacity : ℕ) (first kept all : List Entry) (ls : List ℤ) (free : List ℕ) → IsCnf f → IsLayout p → Fits p f
-    → n ≡ last_identity p - length f.clauses → literals_of f + p.streams * p.room ≤ capacity
+    → n ≡ last_identity p - length f.clauses → formula_literals f + p.streams * p.room ≤ capacity
     → first ≡ Vacant ∷ [] → kept ≡ first ++ entries_from 0 f.clauses → all ≡ kept ++ replicate n Vacant → ls ≡ flat f.clauses → free ≡ replicate p.streams p.room
     → IsOpened f p capacity all ls free
 opened f p n capacity first kept all ls free cnf is fits rest enough one some whole literals rooms =

@@ -11,13 +11,13 @@ use Rattle.lrup_model.specs.Clause.{Clause, IsClause}
 use Rattle.lrup_model.specs.Formula.{Cnf}
 use Rattle.lrup_model.specs.Entailment.{Follows, IsDerived}
 use Rattle.lrup_model.specs.Layout.{LayoutValue, Owns, last_identity}
-use Rattle.lrup_model.specs.Place.{Kept, ClipValue, IsKnown, AllFollow, text_of}
+use Rattle.lrup_model.specs.Place.{Kept, ClipValue, IsKnown, AllFollow, clip_clause}
 use Rattle.lrup_model.specs.Plain as plain
 use Rattle.lrup_model.specs.Plain.{Stored, Plain, formula_of, IsFormulaLive, StoresClause, kept_of, slot_of, stored_at, plain_place, AfterPublish, AfterRetire}
 use Rattle.lrup_model.specs.History.{IsPublishable}
 use Rattle.lrup_model.specs.declared.clause_map.Published.TheVariants as publishing
 use Rattle.lrup_model.specs.declared.clause_map.Retired.TheVariants as retiring
-use Rattle.lrup_model.specs.PlainInside.{stored_in, plain_of, LiesWithin, IsSound}
+use Rattle.lrup_model.specs.PlainInside.{stored_in, plain_of, LiesWithin, IsPlainSound}
 use Rattle.lrup_model.specs.declared.plain_map.Entry.{Entry}
 use Rattle.lrup_model.specs.declared.plain_map.Entry.TheVariants.{Vacant, Live, Retired}
 use Rattle.lrup_model.proofs.PieceLemmas.{slice_range-append, slice_range-end}
@@ -71,10 +71,10 @@ sum-less free i n within fits =
     let step : sum (set free i (get_or free i 0 - n)) + get_or free i 0 ≡ sum free + (get_or free i 0 - n) = sum_by-set (λ x. x) free i (get_or free i 0 - n) 0 within in
     omega arith
 
-pub sound_more : (p : LayoutValue) (es : List Entry) (ls c : List ℤ) (free : List ℕ) (capacity more i id : ℕ) → IsSound p es ls free capacity
+pub sound_more : (p : LayoutValue) (es : List Entry) (ls c : List ℤ) (free : List ℕ) (capacity more i id : ℕ) → IsPlainSound p es ls free capacity
     → p.clauses < id → i < length free → length c ≤ get_or free i 0 → capacity ≤ more
     → IsClause p.vars c → Follows (formula_of (plain_of p es ls free)) c
-    → IsSound p (set es id (Live (length ls) (length c))) (ls ++ c) (set free i (get_or free i 0 - length c)) more
+    → IsPlainSound p (set es id (Live (length ls) (length c))) (ls ++ c) (set free i (get_or free i 0 - length c)) more
 sound_more p es ls c free capacity more i id sound derived within fits grows clause follows =
     let left : sum (set free i (get_or free i 0 - length c)) + length c ≡ sum free = sum-less free i (length c) within fits in
     let all : length (ls ++ c) ≡ length ls + length c = length-append ls c in
@@ -114,9 +114,9 @@ pub view_retired : (p : LayoutValue) (es : List Entry) (ls : List ℤ) (free : L
     ≡ record { layout = p; stored = set (map (stored_in ls) es) id (plain.retired (record { start = start; literals = slice_range ls start (start + len) })); free = free }
 view_retired p es ls free id start len = ap (λ (xs : List Stored). record { layout = p; stored = xs; free = free }) (stored_retired ls es id start len)
 
-pub sound_retired : (p : LayoutValue) (es : List Entry) (ls : List ℤ) (free : List ℕ) (capacity id start len : ℕ) → IsSound p es ls free capacity
+pub sound_retired : (p : LayoutValue) (es : List Entry) (ls : List ℤ) (free : List ℕ) (capacity id start len : ℕ) → IsPlainSound p es ls free capacity
     → p.clauses < id → id < length es → get_or es id Vacant ≡ Live start len
-    → IsSound p (set es id (Retired start len)) ls free capacity
+    → IsPlainSound p (set es id (Retired start len)) ls free capacity
 sound_retired p es ls free capacity id start len sound derived within here =
     let lies : LiesWithin (length ls) (Live start len) = subst (LiesWithin (length ls)) here (All-from_recursion (LiesWithin (length ls)) es sound.within id Vacant within) in
     let text = slice_range ls start (start + len) in
@@ -178,12 +178,12 @@ stored_is : (ls : List ℤ) (es : List Entry) (id : ℕ) (e : Entry) → id < le
 stored_is ls es id e within read = get_or-map (stored_in ls) es id Vacant plain.vacant within ∙ ap (stored_in ls) (sym (get_or_read es id e within read Vacant))
 
 pub retire_done : (v : Plain) (p : LayoutValue) (es : List Entry) (ls : List ℤ) (free : List ℕ) (capacity s id start len : ℕ) (e : Entry)
-    → plain_of p es ls free ≡ v → IsSound p es ls free capacity → Owns v.layout s id
+    → plain_of p es ls free ≡ v → IsPlainSound p es ls free capacity → Owns v.layout s id
     → e ≡ get_or es id e → e ≡ Live start len
-    → IsSound p (set es id (Retired start len)) ls free capacity × AfterRetire v (plain_of p (set es id (Retired start len)) ls free) id retiring.Done
+    → IsPlainSound p (set es id (Retired start len)) ls free capacity × AfterRetire v (plain_of p (set es id (Retired start len)) ls free) id retiring.Done
 retire_done v p es ls free capacity s id start len e view sound =
     subst (λ (w : Plain). Owns w.layout s id → e ≡ get_or es id e → e ≡ Live start len
-    → IsSound p (set es id (Retired start len)) ls free capacity × AfterRetire w (plain_of p (set es id (Retired start len)) ls free) id retiring.Done) view
+    → IsPlainSound p (set es id (Retired start len)) ls free capacity × AfterRetire w (plain_of p (set es id (Retired start len)) ls free) id retiring.Done) view
     (λ owns read is.
     let mine = owned p s id sound.limits.some_stream owns in
     let within : id < length es = within_count p es id sound.count mine.identity in
@@ -198,16 +198,16 @@ retire_done v p es ls free capacity s id start len e view sound =
     ))
 
 pub publish_done : (v : Plain) (p : LayoutValue) (es : List Entry) (ls c more : List ℤ) (free : List ℕ) (capacity grown i id n left : ℕ) (e : Entry)
-    → plain_of p es ls free ≡ v → IsSound p es ls free capacity → Owns v.layout (i + 1) id
+    → plain_of p es ls free ≡ v → IsPlainSound p es ls free capacity → Owns v.layout (i + 1) id
     → IsPublishable (formula_of v) c → length c ≤ get_or v.free i 0
     → e ≡ get_or es id e → e ≡ Vacant → more ≡ ls ++ c → n ≡ length ls → left ≡ get_or free i left → capacity ≤ grown
-    → IsSound p (set es id (Live n (length c))) more (set free i (left - length c)) grown
+    → IsPlainSound p (set es id (Live n (length c))) more (set free i (left - length c)) grown
     × AfterPublish v (plain_of p (set es id (Live n (length c))) more (set free i (left - length c))) i id c publishing.Done
 publish_done v p es ls c more free capacity grown i id n left e view sound =
     subst (λ (w : Plain). Owns w.layout (i + 1) id
     → IsPublishable (formula_of w) c → length c ≤ get_or w.free i 0
     → e ≡ get_or es id e → e ≡ Vacant → more ≡ ls ++ c → n ≡ length ls → left ≡ get_or free i left → capacity ≤ grown
-    → IsSound p (set es id (Live n (length c))) more (set free i (left - length c)) grown
+    → IsPlainSound p (set es id (Live n (length c))) more (set free i (left - length c)) grown
     × AfterPublish w (plain_of p (set es id (Live n (length c))) more (set free i (left - length c))) i id c publishing.Done) view
     (λ owns clause fits read is grows from room bigger.
     let mine = owned p (i + 1) id sound.limits.some_stream owns in
@@ -222,10 +222,10 @@ publish_done v p es ls c more free capacity grown i id n left e view sound =
 -- a literal of a known clause lies in the list
 pub known_literal : (v : Plain) (p : LayoutValue) (es : List Entry) (ls : List ℤ) (free : List ℕ) (clip : ClipValue) (k : ℕ)
     → plain_of p es ls free ≡ v → AllByRecursion (LiesWithin (length ls)) es → IsKnown (plain_place v 1) clip → k < clip.len
-    → (clip.start + k < length ls) × (slice_get (text_of (plain_place v 1) clip) k ≡ Some (get_or ls (clip.start + k) (pos 0)))
+    → (clip.start + k < length ls) × (slice_get (clip_clause (plain_place v 1) clip) k ≡ Some (get_or ls (clip.start + k) (pos 0)))
 known_literal v p es ls free clip k view within known lt =
-    subst (λ (w : Plain). IsKnown (plain_place w 1) clip → (clip.start + k < length ls) × (slice_get (text_of (plain_place w 1) clip) k ≡ Some (get_or ls (clip.start + k) (pos 0)))) view
-    (λ here. literal_lies ls es clip.id k clip.start (text_of (plain_place (plain_of p es ls free) 1) clip) within here.kept (omega (arith, lt, here.len))) known
+    subst (λ (w : Plain). IsKnown (plain_place w 1) clip → (clip.start + k < length ls) × (slice_get (clip_clause (plain_place w 1) clip) k ≡ Some (get_or ls (clip.start + k) (pos 0)))) view
+    (λ here. literal_lies ls es clip.id k clip.start (clip_clause (plain_place (plain_of p es ls free) 1) clip) within here.kept (omega (arith, lt, here.len))) known
 
 kept_follows : (f : Cnf) (x : Stored) (kept : Kept) → StoresClause f x → kept_of x ≡ Some kept → IsDerived f kept.literals
 kept_follows f plain.vacant kept stores there = absurd (nothing_kept there)
@@ -238,7 +238,7 @@ stores_all f (x ∷ xs) zero all = all.0
 stores_all f (x ∷ xs) (suc id) all = stores_all f xs id all.1
 
 -- every clause that is kept follows, and the formula's are live
-pub sound_follows : (v : Plain) (p : LayoutValue) (es : List Entry) (ls : List ℤ) (free : List ℕ) (capacity : ℕ) → plain_of p es ls free ≡ v → IsSound p es ls free capacity
+pub sound_follows : (v : Plain) (p : LayoutValue) (es : List Entry) (ls : List ℤ) (free : List ℕ) (capacity : ℕ) → plain_of p es ls free ≡ v → IsPlainSound p es ls free capacity
     → AllFollow (plain_place v 1) × IsFormulaLive v
 sound_follows v p es ls free capacity view sound =
     subst (λ (w : Plain). AllFollow (plain_place w 1) × IsFormulaLive w) view (

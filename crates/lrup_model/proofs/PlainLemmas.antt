@@ -26,7 +26,7 @@ use Rattle.lrup_model.specs.declared.clause_map.Fetched.TheVariants as fetched
 use Rattle.lrup_model.specs.declared.clause_map.Retired.{Retired}
 use Rattle.lrup_model.specs.declared.clause_map.Retired.TheVariants as retiring
 use Rattle.lrup_model.specs.HistoryLemmas.{owned_above, spent_one}
-use Rattle.lrup_model.specs.Plain.{Stored, vacant, live, retired, Plain, slot_of, kept_of, clause_of, stored_at, formula_of, state_of, free_at, plain_place, IsFormulaLive, PlainMoves, AfterPublish, AfterRetire, fetched_of}
+use Rattle.lrup_model.specs.Plain.{Stored, vacant, live, retired, Plain, slot_of, kept_of, clause_of, stored_at, formula_of, plain_state, free_at, plain_place, IsFormulaLive, PlainMoves, AfterPublish, AfterRetire, fetched_of}
 use Rattle.lrup_model.specs.declared.clause_map.Published.{Published}
 use Rattle.lrup_model.specs.declared.clause_map.Published.TheVariants as publishing
 
@@ -37,9 +37,9 @@ at_set : (xs : List Stored) (id j : ℕ) (v : Stored) (b : Bool) → eqb j id �
 at_set xs id j v true e h = ap slot_of (get_or-set_at xs id j v vacant (eqb-true j id e) h)
 at_set xs id j v false e h = ap slot_of (get_or-set_other xs id j v vacant (eqb-false j id e))
 
-pub state_of-set : (m : Plain) (id : ℕ) (v : Stored) (free : List ℕ) → id < length m.stored
-    → state_of (record { layout = m.layout; stored = set m.stored id v; free = free }) ≡ put (state_of m) id (slot_of v)
-state_of-set m id v free h = fun_ext (λ j. at_set m.stored id j v (eqb j id) refl h)
+pub plain_state-set : (m : Plain) (id : ℕ) (v : Stored) (free : List ℕ) → id < length m.stored
+    → plain_state (record { layout = m.layout; stored = set m.stored id v; free = free }) ≡ put (plain_state m) id (slot_of v)
+plain_state-set m id v free h = fun_ext (λ j. at_set m.stored id j v (eqb j id) refl h)
 
 clauses-set : (xs : List Stored) (n id : ℕ) (v : Stored) → n < id → map clause_of (take n (drop 1 (set xs id v))) ≡ map clause_of (take n (drop 1 xs))
 clauses-set xs n zero v h = absurd (omega (arith, h))
@@ -93,8 +93,8 @@ pub nothing_kept : {kept : Kept} → None ≡ Some kept → ⊥
 nothing_kept h = cc
 
 -- nothing changes
-stays : (m : Plain) (s : ℕ) (e : Event) → stream_of e ≡ s → size_of e ≡ 0 → after (state_of m) e ≡ state_of m
-    → Answers (state_of m) e → IsAllowed (formula_of m) m.layout e → PlainMoves m m s (e ∷ [])
+stays : (m : Plain) (s : ℕ) (e : Event) → stream_of e ≡ s → size_of e ≡ 0 → after (plain_state m) e ≡ plain_state m
+    → Answers (plain_state m) e → IsAllowed (formula_of m) m.layout e → PlainMoves m m s (e ∷ [])
 stays m s e by size same answers allowed = record {
   layout = refl;
   formula = refl;
@@ -107,7 +107,7 @@ stays m s e by size same answers allowed = record {
   follow = λ all. all;
 }
 
-pub moves_taken : (m : Plain) (s id : ℕ) (c : Clause) → Owns m.layout s id → IsPublishable (formula_of m) c → state_of m id ≢ slots.absent
+pub moves_taken : (m : Plain) (s id : ℕ) (c : Clause) → Owns m.layout s id → IsPublishable (formula_of m) c → plain_state m id ≢ slots.absent
     → PlainMoves m m s (events.publish s id c publishing.Taken ∷ [])
 moves_taken m s id c owns clause taken = stays m s (events.publish s id c publishing.Taken) refl refl refl taken (owns, clause)
 
@@ -126,7 +126,7 @@ moves_done m s id start c first last derived within owns clause empty fits =
       formula = formula_of-set m id v free derived;
       callers = (refl, tt);
       answers = (ap slot_of empty, (owns, clause), tt);
-      state = state_of-set m id v free within;
+      state = plain_state-set m id v free within;
       room = omega (arith, spent_one s (events.publish s id c publishing.Done) refl, room_left m.free (s - 1) (length c) (omega (arith, first, last)) fits);
       others = λ t positive other. get_or-set_other m.free (s - 1) (t - 1) _ 0 (omega (arith, first, positive, other));
       spelt = keeps-set m id v free within (λ kept old. absurd (nothing_kept (subst (λ w. kept_of w ≡ Some kept) empty old)));
@@ -151,7 +151,7 @@ moves_publish old new i id c publishing.Taken owns clause fits after =
     subst (λ (n : Plain). PlainMoves old n (i + 1) (events.publish (i + 1) id c publishing.Taken ∷ [])) (sym after.1)
     (moves_taken old (i + 1) id c owns clause (λ none. after.0 (vacant_from (stored_at old id) none)))
 
-retired_state : (m : Plain) (id : ℕ) (kept : Kept) → stored_at m id ≡ live kept → retire_slot (state_of m id) ≡ slots.retired kept.literals
+retired_state : (m : Plain) (id : ℕ) (kept : Kept) → stored_at m id ≡ live kept → retire_slot (plain_state m id) ≡ slots.retired kept.literals
 retired_state m id kept here = ap (λ (x : Stored). retire_slot (slot_of x)) here
 
 -- a retire, by its answer
@@ -165,7 +165,7 @@ moves_retire old new s id retiring.Done owns after =
       formula = formula_of-set old id v old.free derived;
       callers = (refl, tt);
       answers = (subst (λ (x : Stored). IsLive (slot_of x)) (sym after.2) tt, owns, tt);
-      state = state_of-set old id v old.free after.0 ∙ ap (put (state_of old) id) (sym (retired_state old id kept after.2));
+      state = plain_state-set old id v old.free after.0 ∙ ap (put (plain_state old) id) (sym (retired_state old id kept after.2));
       room = omega (arith, spent_one s (events.retire s id retiring.Done) refl);
       others = λ t positive other. refl;
       spelt = keeps-set old id v old.free after.0 (λ k there. sym (ap kept_of after.2) ∙ there);

@@ -16,8 +16,8 @@ abbrev pub IsCubeOf : List ℤ → CubeValue → Type 0
 IsCubeOf literals cube = (l : ℤ) → Has cube l ↔ Has literals l
 
 -- a cube over the variables 1 to vars
-abbrev pub IsOver : ℕ → CubeValue → Type 0
-IsOver vars cube = AllByRecursion (IsLiteral vars) cube
+abbrev pub IsCubeOver : ℕ → CubeValue → Type 0
+IsCubeOver vars cube = AllByRecursion (IsLiteral vars) cube
 
 -- the complement of each literal of the clause is in the cube
 abbrev pub Within : Clause → CubeValue → Type 0
@@ -59,7 +59,7 @@ UnderEveryCube = (f : Cnf) (cube : CubeValue) → IsUnsatisfiable f → IsUnsati
 pub record SameCube (literals : List ℤ) (cube : CubeValue) : Type 0 where
   pub within : (c : Clause) → Within c cube ↔ Within c literals
   pub refutes : (f : Cnf) → IsUnsatisfiableUnder f cube ↔ IsUnsatisfiableUnder f literals
-  pub over : (vars : ℕ) → IsOver vars cube ↔ IsOver vars literals
+  pub over : (vars : ℕ) → IsCubeOver vars cube ↔ IsCubeOver vars literals
 
 abbrev pub CubesAreSets : Type 0
 CubesAreSets = (literals : List ℤ) (cube : CubeValue) → IsCubeOf literals cube

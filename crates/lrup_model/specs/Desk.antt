@@ -6,7 +6,7 @@ use Rattle.lrup_model.specs.Event.{History}
 use Rattle.lrup_model.specs.Place.{Place, Tells}
 use Rattle.lrup_model.specs.Plain.{Plain, plain_place, PlainMoves}
 use Rattle.lrup_model.specs.declared.plain_map.PlainDesk.{PlainDesk}
-use Rattle.lrup_model.specs.PlainLaws.{moves_none, moves_append, moves_tells}
+use Rattle.lrup_model.specs.PlainLaws.{plain_moves_none, plain_moves_append, plain_moves_tells}
 
 -- the desk's stream, from 1 on
 abbrev pub stream_at : PlainDesk → ℕ
@@ -22,27 +22,27 @@ pub record IsDesk (map : MutBor Plain) (s : ℕ) (d : PlainDesk) : Type 0 where
   pub same : d.map.ghost_name ≡ map.ghost_name
   pub stream : stream_at d ≡ s
 
-abbrev pub desk_place : PlainDesk → Place
-desk_place d = plain_place (map_of d) (stream_at d)
+abbrev pub plain_desk_place : PlainDesk → Place
+plain_desk_place d = plain_place (map_of d) (stream_at d)
 
 -- the desk stays at the same map, which moved by these events of its stream
-pub record DeskMoves (old new : PlainDesk) (es : History) : Type 0 where
+pub record PlainDeskMoves (old new : PlainDesk) (es : History) : Type 0 where
   pub same : new.map.ghost_name ≡ old.map.ghost_name
   pub index : new.index ≡ old.index
   pub moves : PlainMoves (map_of old) (map_of new) (stream_at old) es
 
 -- The laws of a place, for a desk.
-pub desk_none : (d : PlainDesk) → DeskMoves d d []
-desk_none d = record { same = refl; index = refl; moves = moves_none (map_of d) (stream_at d) }
+pub plain_desk_none : (d : PlainDesk) → PlainDeskMoves d d []
+plain_desk_none d = record { same = refl; index = refl; moves = plain_moves_none (map_of d) (stream_at d) }
 
-pub desk_append : (a b c : PlainDesk) (es fs : History) → DeskMoves a b es → DeskMoves b c fs
-    → DeskMoves a c (es ++ fs)
-desk_append a b c es fs h k = record {
+pub plain_desk_append : (a b c : PlainDesk) (es fs : History)
+    → PlainDeskMoves a b es → PlainDeskMoves b c fs → PlainDeskMoves a c (es ++ fs)
+plain_desk_append a b c es fs h k = record {
   same = k.same ∙ h.same;
   index = k.index ∙ h.index;
-  moves = moves_append (map_of a) (map_of b) (map_of c) (stream_at a) es fs h.moves (subst (λ i. PlainMoves (map_of b) (map_of c) (i + 1) fs) h.index k.moves);
+  moves = plain_moves_append (map_of a) (map_of b) (map_of c) (stream_at a) es fs h.moves (subst (λ i. PlainMoves (map_of b) (map_of c) (i + 1) fs) h.index k.moves);
 }
 
-pub desk_tells : (a b : PlainDesk) (es : History) → DeskMoves a b es
-    → Tells (desk_place a) (desk_place b) es
-desk_tells a b es h = subst (λ i. Tells (desk_place a) (plain_place (map_of b) (i + 1)) es) (sym h.index) (moves_tells (map_of a) (map_of b) (stream_at a) es h.moves)
+pub plain_desk_tells : (a b : PlainDesk) (es : History) → PlainDeskMoves a b es
+    → Tells (plain_desk_place a) (plain_desk_place b) es
+plain_desk_tells a b es h = subst (λ i. Tells (plain_desk_place a) (plain_place (map_of b) (i + 1)) es) (sym h.index) (plain_moves_tells (map_of a) (map_of b) (stream_at a) es h.moves)

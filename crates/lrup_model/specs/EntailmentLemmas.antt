@@ -111,10 +111,10 @@ empty_refutes f follows a sat = (follows.holds a sat).1
 -- Every clause of a legal state follows
 
 -- the slot's clause, if any, is one that follows
-abbrev pub ClauseFollows : Cnf → Slot → Type 0
-ClauseFollows f absent = Unit {0}
-ClauseFollows f (live c) = IsClause f.vars c × Follows f c
-ClauseFollows f (retired c) = IsClause f.vars c × Follows f c
+abbrev pub SlotFollows : Cnf → Slot → Type 0
+SlotFollows f absent = Unit {0}
+SlotFollows f (live c) = IsClause f.vars c × Follows f c
+SlotFollows f (retired c) = IsClause f.vars c × Follows f c
 
 -- a clause of the formula
 pub formula_sound : (f : Cnf) (id : ℕ) → IsCnf f → 0 < id → id ≤ length f.clauses
@@ -125,31 +125,31 @@ formula_sound f id cnf positive within =
       record { holds = λ a sat. All-from_recursion (Satisfies a) f.clauses sat (id - 1) [] inside },
     )
 
-pub opening_sound : (f : Cnf) (id : ℕ) → IsCnf f → ClauseFollows f (opening f id)
+pub opening_sound : (f : Cnf) (id : ℕ) → IsCnf f → SlotFollows f (opening f id)
 opening_sound f id cnf =
     elim (cases_lt 0 id) [
       | inl positive ↦ elim (cases_lt (length f.clauses) id) [
-        | inl above ↦ subst (ClauseFollows f) (sym (opening-above f id above)) tt
-        | inr within ↦ subst (ClauseFollows f) (sym (opening-formula f id positive within)) (formula_sound f id cnf positive within)
+        | inl above ↦ subst (SlotFollows f) (sym (opening-above f id above)) tt
+        | inr within ↦ subst (SlotFollows f) (sym (opening-formula f id positive within)) (formula_sound f id cnf positive within)
       ]
-      | inr nil ↦ subst (ClauseFollows f) (sym (opening-none f id nil)) tt
+      | inr nil ↦ subst (SlotFollows f) (sym (opening-none f id nil)) tt
     ]
 
-retired_sound : (f : Cnf) (slot : Slot) → ClauseFollows f slot → ClauseFollows f (retire_slot slot)
+retired_sound : (f : Cnf) (slot : Slot) → SlotFollows f slot → SlotFollows f (retire_slot slot)
 retired_sound f absent sound = sound
 retired_sound f (live c) sound = sound
 retired_sound f (retired c) sound = sound
 
-put_sound : (f : Cnf) (m : State) (j : ℕ) (slot : Slot) (id : ℕ) → ClauseFollows f (m id)
-    → ClauseFollows f slot → ClauseFollows f (put m j slot id)
+put_sound : (f : Cnf) (m : State) (j : ℕ) (slot : Slot) (id : ℕ) → SlotFollows f (m id)
+    → SlotFollows f slot → SlotFollows f (put m j slot id)
 put_sound f m j slot id old new =
     elim (cases_eq id j) [
-      | inl same ↦ subst (ClauseFollows f) (sym (put-same m j slot id same)) new
-      | inr other ↦ subst (ClauseFollows f) (sym (put-other m j slot id other)) old
+      | inl same ↦ subst (SlotFollows f) (sym (put-same m j slot id same)) new
+      | inr other ↦ subst (SlotFollows f) (sym (put-other m j slot id other)) old
     ]
 
 pub after_sound : (f : Cnf) (p : LayoutValue) (m : State) (e : Event) → IsAllowed f p e
-    → ((id : ℕ) → ClauseFollows f (m id)) → (id : ℕ) → ClauseFollows f (after m e id)
+    → ((id : ℕ) → SlotFollows f (m id)) → (id : ℕ) → SlotFollows f (after m e id)
 after_sound f p m (events.fetch s j r) allowed sound id = sound id
 after_sound f p m (events.publish s j c publishing.Done) allowed sound id = put_sound f m j (live c) id (sound id) (allowed.1.clause, allowed.1.follows)
 after_sound f p m (events.publish s j c publishing.Taken) allowed sound id = sound id
@@ -157,11 +157,11 @@ after_sound f p m (events.retire s j retiring.Done) allowed sound id = put_sound
 after_sound f p m (events.retire s j retiring.NotLive) allowed sound id = sound id
 
 pub run_sound : (f : Cnf) (p : LayoutValue) (m : State) (h : History) → LegalFrom f p m h
-    → ((id : ℕ) → ClauseFollows f (m id)) → (id : ℕ) → ClauseFollows f (run m h id)
+    → ((id : ℕ) → SlotFollows f (m id)) → (id : ℕ) → SlotFollows f (run m h id)
 run_sound f p m [] legal sound id = sound id
 run_sound f p m (e ∷ h) legal sound id = run_sound f p (after m e) h legal.2 (after_sound f p m e legal.1 sound) id
 
-pub clause_of_sound : (f : Cnf) (slot : Slot) (c : Clause) → ClauseFollows f slot → HasClause slot c
+pub clause_of_sound : (f : Cnf) (slot : Slot) (c : Clause) → SlotFollows f slot → HasClause slot c
     → IsClause f.vars c × Follows f c
 clause_of_sound f absent c sound has = absurd has
 clause_of_sound f (live d) c sound has = subst (λ (x : Clause). IsClause f.vars x × Follows f x) has sound

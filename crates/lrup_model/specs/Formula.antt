@@ -31,5 +31,5 @@ abbrev pub clause_at : Cnf → ℕ → Clause
 clause_at f i = slice_index_or f.clauses (i - 1) []
 
 -- the literals of all clauses, repeats inside a clause not counted
-abbrev pub literals_of : Cnf → ℕ
-literals_of f = sum_by length f.clauses
+abbrev pub formula_literals : Cnf → ℕ
+formula_literals f = sum_by length f.clauses

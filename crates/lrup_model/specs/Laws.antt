@@ -10,7 +10,7 @@ use Rattle.lrup_model.specs.Event.{Event, Reply, History, stream_of, own, spent,
 use Rattle.lrup_model.specs.State.{State, Slot, absent, live, retired, opening, run, state, AreVacantAbove}
 use Rattle.lrup_model.specs.History.{LegalFrom, IsLegal, IsPublishable}
 use Rattle.lrup_model.specs.Propagation.{Accepts}
-use Rattle.lrup_model.specs.Place.{Caller, IsCaller, Kept, Place, ClipValue, text_of, IsKnown, Tells, AllFollow, KeepsSpelt}
+use Rattle.lrup_model.specs.Place.{Caller, IsCaller, Kept, Place, ClipValue, clip_clause, IsKnown, Tells, AllFollow, KeepsSpelt}
 use Rattle.lrup_model.specs.Replies.{AnswersOwn, AnswersFormula}
 use Rattle.lrup_model.specs.Pass.{View, Spelling, kept_in, IsSpelt, IsFair, PassMoves, pass_place, Meets, MeetsInTurn, AreMet, AllSaw, opened}
 
@@ -136,12 +136,12 @@ PublishedStay = (f : Cnf) (p : LayoutValue) (m : State) (h : History) → LegalF
 -- a clip that is known at a place stays known, with the same literals, whatever calls follow
 abbrev pub KnownStays : Type 0
 KnownStays = (a b : Place) (es : History) (clip : ClipValue) → Tells a b es → IsKnown a clip
-    → IsKnown b clip × (text_of b clip ≡ text_of a clip)
+    → IsKnown b clip × (clip_clause b clip ≡ clip_clause a clip)
 
 -- the clause of a clip that is known at a place, all whose clauses follow, is a clause that follows from the formula
 abbrev pub KnownFollows : Type 0
 KnownFollows = (p : Place) (clip : ClipValue) → AllFollow p → IsKnown p clip
-    → IsDerived p.caller.formula (text_of p clip)
+    → IsDerived p.caller.formula (clip_clause p clip)
 
 -- no calls lie between a pass and itself
 abbrev pub PassRests : Type 0

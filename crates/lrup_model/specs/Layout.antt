@@ -1,7 +1,7 @@
 -- The numbers of a run and who owns an identity. Identities by residue, and the limits, are this project's own.
 use Rattle.std.specs.Prelude.{◌≡◌, ◌⊎◌, ◌+◌, ◌-◌, ◌*◌, ◌%◌, ◌≤◌, ◌<◌, ℕ, List, length, if◌then◌else◌, nat_eq, nat_le, codes}
 use Rattle.lrup_model.specs.Literal.{max_variable}
-use Rattle.lrup_model.specs.Formula.{Cnf, max_clauses, literals_of}
+use Rattle.lrup_model.specs.Formula.{Cnf, max_clauses, formula_literals}
 use Rattle.lrup_model.specs.declared.layout.Owner.{Owner}
 use Rattle.lrup_model.specs.declared.layout.Owner.TheVariants as owners
 use Rattle.lrup_model.specs.declared.layout.LayoutFault.{LayoutFault}
@@ -56,7 +56,7 @@ pub record IsLayout (p : LayoutValue) : Type 0 where
 pub record Fits (p : LayoutValue) (f : Cnf) : Type 0 where
   pub vars : p.vars ≡ f.vars
   pub clauses : p.clauses ≡ length f.clauses
-  pub literals : p.literals ≡ literals_of f
+  pub literals : p.literals ≡ formula_literals f
 
 -- one of 1 to the last
 abbrev pub IsIdentity : LayoutValue → ℕ → Type 0
@@ -88,8 +88,8 @@ IsFault p faults.RowTooLong = (p.vars ≤ max_variable) × (p.clauses ≤ max_cl
     × (p.streams ≤ max_streams) × (max_row_words < row_words p)
 
 -- the text of a fault
-abbrev pub fault_text : LayoutFault → List ℕ
-fault_text faults.TooManyVariables = codes "formula refused: limit"
-fault_text faults.TooManyClauses = codes "formula refused: limit"
-fault_text faults.BadStreamCount = codes "stream count"
-fault_text faults.RowTooLong = codes "row too long"
+abbrev pub layout_fault_text : LayoutFault → List ℕ
+layout_fault_text faults.TooManyVariables = codes "formula refused: limit"
+layout_fault_text faults.TooManyClauses = codes "formula refused: limit"
+layout_fault_text faults.BadStreamCount = codes "stream count"
+layout_fault_text faults.RowTooLong = codes "row too long"

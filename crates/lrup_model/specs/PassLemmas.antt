@@ -11,7 +11,7 @@ use Rattle.lrup_model.specs.Event.{Event, Reply, History, stream_of, own, spent}
 use Rattle.lrup_model.specs.State.{State, Slot, absent, live, retired, IsRetired, Answers, opening, run, state}
 use Rattle.lrup_model.specs.History.{IsLegal}
 use Rattle.lrup_model.specs.Running.{run-append, own-append, spent-append, callers-append}
-use Rattle.lrup_model.specs.Place.{Caller, IsCaller, Kept, Place, ClipValue, literals_in, text_of, IsKnown, Tells, AllFollow, KeepsSpelt}
+use Rattle.lrup_model.specs.Place.{Caller, IsCaller, Kept, Place, ClipValue, literals_in, clip_clause, IsKnown, Tells, AllFollow, KeepsSpelt}
 use Rattle.lrup_model.specs.Replies.{AnswersOwn, AnswersFormula}
 use Rattle.lrup_model.specs.Pass.{View, Spelling, kept_in, Spells, IsSpelt, IsFair, PassMoves, pass_place, Meets, MeetsInTurn, AreMet, AllSaw, opened}
 use Rattle.lrup_model.specs.Laws.{Advances, HasClause, learned, stepped}
@@ -75,10 +75,10 @@ kept_from start c = Some (record { start = start; literals = c })
 
 -- a clip stays known while what is kept for it stays
 pub known_stays : (a b : Place) (es : History) (clip : ClipValue) → Tells a b es → IsKnown a clip
-    → IsKnown b clip × (text_of b clip ≡ text_of a clip)
+    → IsKnown b clip × (clip_clause b clip ≡ clip_clause a clip)
 known_stays a b es clip tells known =
-    let kept : b.spelt clip.id ≡ kept_from clip.start (text_of a clip) = tells.spelt clip.id (record { start = clip.start; literals = text_of a clip }) known.kept in
-    let text : text_of b clip ≡ text_of a clip = ap literals_in kept in (
+    let kept : b.spelt clip.id ≡ kept_from clip.start (clip_clause a clip) = tells.spelt clip.id (record { start = clip.start; literals = clip_clause a clip }) known.kept in
+    let text : clip_clause b clip ≡ clip_clause a clip = ap literals_in kept in (
       record {
         kept = kept ∙ ap (kept_from clip.start) (sym text);
         len = known.len ∙ ap length (sym text);
@@ -87,8 +87,8 @@ known_stays a b es clip tells known =
     )
 
 pub known_follows : (p : Place) (clip : ClipValue) → AllFollow p → IsKnown p clip
-    → IsDerived p.caller.formula (text_of p clip)
-known_follows p clip all known = all.each clip.id (record { start = clip.start; literals = text_of p clip }) known.kept
+    → IsDerived p.caller.formula (clip_clause p clip)
+known_follows p clip all known = all.each clip.id (record { start = clip.start; literals = clip_clause p clip }) known.kept
 
 -- What is spelt
 

@@ -44,13 +44,13 @@ literals_in None = []
 literals_in (Some kept) = kept.literals
 
 -- the literals of the clause that is kept for the clip's identity
-abbrev pub text_of : Place → ClipValue → Clause
-text_of p clip = literals_in (p.spelt clip.id)
+abbrev pub clip_clause : Place → ClipValue → Clause
+clip_clause p clip = literals_in (p.spelt clip.id)
 
 -- the start and the length kept for the identity are the clip's own
 pub record IsKnown (p : Place) (clip : ClipValue) : Type 0 where
-  pub kept : p.spelt clip.id ≡ Some (record { start = clip.start; literals = text_of p clip })
-  pub len : clip.len ≡ length (text_of p clip)
+  pub kept : p.spelt clip.id ≡ Some (record { start = clip.start; literals = clip_clause p clip })
+  pub len : clip.len ≡ length (clip_clause p clip)
 
 -- every clause that is kept follows from the formula
 pub record AllFollow (p : Place) : Type 0 where

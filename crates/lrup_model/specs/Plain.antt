@@ -54,8 +54,8 @@ formula_of m = record {
   clauses = map clause_of (take m.layout.clauses (drop 1 m.stored));
 }
 
-abbrev pub state_of : Plain → State
-state_of m = λ id. slot_of (stored_at m id)
+abbrev pub plain_state : Plain → State
+plain_state m = λ id. slot_of (stored_at m id)
 
 -- what is left of a stream's room, for streams from 1 on
 abbrev pub free_at : Plain → ℕ → ℕ
@@ -70,7 +70,7 @@ IsFormulaLive m =
 abbrev pub plain_place : Plain → ℕ → Place
 plain_place m s = record {
   caller = record { formula = formula_of m; layout = m.layout; stream = s };
-  own = state_of m;
+  own = plain_state m;
   room = free_at m s;
   spelt = λ id. kept_of (stored_at m id);
 }
@@ -80,8 +80,8 @@ pub record PlainMoves (old new : Plain) (s : ℕ) (es : History) : Type 0 where
   pub layout : new.layout ≡ old.layout
   pub formula : formula_of new ≡ formula_of old
   pub callers : AllByRecursion (λ e. stream_of e ≡ s) es
-  pub answers : LegalFrom (formula_of old) old.layout (state_of old) es
-  pub state : state_of new ≡ run (state_of old) es
+  pub answers : LegalFrom (formula_of old) old.layout (plain_state old) es
+  pub state : plain_state new ≡ run (plain_state old) es
   pub room : free_at new s + spent s es ≡ free_at old s
   pub others : (t : ℕ) → 0 < t → t ≢ s → free_at new t ≡ free_at old t
   pub spelt : KeepsSpelt (λ id. kept_of (stored_at old id)) (λ id. kept_of (stored_at new id))

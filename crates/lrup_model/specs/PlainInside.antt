@@ -26,7 +26,7 @@ LiesWithin n (entries.Live start len) = start + len ≤ n
 LiesWithin n (entries.Retired start len) = start + len ≤ n
 
 -- capacity is what the list of literals has memory for: no publish takes more
-pub record IsSound (p : LayoutValue) (es : List Entry) (ls : List ℤ) (free : List ℕ)
+pub record IsPlainSound (p : LayoutValue) (es : List Entry) (ls : List ℤ) (free : List ℕ)
     (capacity : ℕ) : Type 0 where
   pub limits : IsLayout p
   pub count : length es ≡ last_identity p + 1

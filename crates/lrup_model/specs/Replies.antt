@@ -4,14 +4,14 @@ use Rattle.lrup_model.specs.Formula.{clause_at}
 use Rattle.lrup_model.specs.Layout.{Owns}
 use Rattle.lrup_model.specs.Event.{Reply, vacant, live, retired, fetch}
 use Rattle.lrup_model.specs.State.{Answers}
-use Rattle.lrup_model.specs.Place.{Place, Kept, text_of, IsKnown}
+use Rattle.lrup_model.specs.Place.{Place, Kept, clip_clause, IsKnown}
 use Rattle.lrup_model.specs.declared.clause_map.Fetched.{Fetched}
 use Rattle.lrup_model.specs.declared.clause_map.Fetched.TheVariants as fetched
 
 -- the reply that the answer stands for at the place
 abbrev pub reply_of : Place → Fetched → Reply
 reply_of p fetched.Vacant = vacant
-reply_of p (fetched.Live clip) = live (text_of p clip)
+reply_of p (fetched.Live clip) = live (clip_clause p clip)
 reply_of p fetched.Retired = retired
 
 -- a live clause comes under its clip, which is known; a retired one is kept, and of a vacant identity nothing is

@@ -4,7 +4,7 @@ ghost use Rattle.lrup_model.specs.Layout.{IsIdentity, Owns};
 ghost use Rattle.lrup_model.specs.State.{IsLive, absent};
 ghost use Rattle.lrup_model.specs.Event.{History, fetch, publish, retire};
 ghost use Rattle.lrup_model.specs.History.{IsPublishable};
-ghost use Rattle.lrup_model.specs.Place.{Place, Tells, IsKnown, AllFollow, text_of};
+ghost use Rattle.lrup_model.specs.Place.{Place, Tells, IsKnown, AllFollow, clip_clause};
 ghost use Rattle.lrup_model.specs.Replies.{IsFetched, AnswersOwn, AnswersFormula, reply_of};
 
 use crate::Id;
@@ -145,7 +145,7 @@ pub trait ClauseMap {
     fn literal(&mut self, clip: &Clip, k: u32) -> Lit
         requires known { IsKnown (place self.old) clip.now }
         requires within { k < clip.now.len }
-        ensures value { slice_get (text_of (place self.old) clip.now) k ≡ Some result }
+        ensures value { slice_get (clip_clause (place self.old) clip.now) k ≡ Some result }
         ensures event { moves self.old self.new [] }
         ensures stays { place self.new ≡ place self.old };
 
@@ -155,8 +155,8 @@ pub trait ClauseMap {
     fn pair(&mut self, clip: &Clip, i: u32) -> (Lit, Option<Lit>)
         requires known { IsKnown (place self.old) clip.now }
         requires within { 2 * i < clip.now.len }
-        ensures first { slice_get (text_of (place self.old) clip.now) (2 * i) ≡ Some result.0 }
-        ensures second { slice_get (text_of (place self.old) clip.now) (2 * i + 1) ≡ result.1 }
+        ensures first { slice_get (clip_clause (place self.old) clip.now) (2 * i) ≡ Some result.0 }
+        ensures second { slice_get (clip_clause (place self.old) clip.now) (2 * i + 1) ≡ result.1 }
         ensures event { moves self.old self.new [] }
         ensures stays { place self.new ≡ place self.old }
     {

@@ -3,7 +3,7 @@ ghost use Rattle.std.specs.Prelude.{◌≡◌, ◌↔◌, ◌≤◌, ℕ, [], Is
 ghost use Rattle.std.specs.List.{All};
 ghost use Rattle.lrup_model.specs.Literal.{literal_of, IsCode, max_variable};
 ghost use Rattle.lrup_model.specs.Clause.{Has};
-ghost use Rattle.lrup_model.specs.Cube.{IsCubeOf, IsOver, Within};
+ghost use Rattle.lrup_model.specs.Cube.{IsCubeOf, IsCubeOver, Within};
 
 use crate::lit::Lit;
 use std::alloc::{AllocError, Global};
@@ -78,7 +78,7 @@ impl Cube {
 
     /// The greatest variable of the cube's literals, or 0 where there are none.
     pub fn vars(&self) -> u32
-        ensures { (n : ℕ) → IsOver n self.now ↔ (result ≤ n) }
+        ensures { (n : ℕ) → IsCubeOver n self.now ↔ (result ≤ n) }
     {
         match self.codes.as_slice().last() {
             Some(code) => *code >> 1,

@@ -1,7 +1,7 @@
 //! Formulas in conjunctive normal form.
 ghost use Rattle.std.specs.Prelude.{◌≡◌, ◌↔◌, ◌+◌, ◌-◌, ◌≤◌, ◌<◌, [], ◌∷◌, ◌++◌, IsTrue, OnOk, OnErr, length, slice_index, slice_index_or, slice_range};
 ghost use Rattle.lrup_model.specs.Literal.{max_variable};
-ghost use Rattle.lrup_model.specs.Formula.{IsCnf, IsFormulaClause, clause_at, literals_of, max_clauses};
+ghost use Rattle.lrup_model.specs.Formula.{IsCnf, IsFormulaClause, clause_at, formula_literals, max_clauses};
 ghost use Rattle.lrup_model.specs.Pieces.{pieces, AreEnds};
 
 use crate::lit::Lit;
@@ -98,7 +98,7 @@ impl Formula {
 
     /// The number of literals of all clauses.
     pub fn literals(&self) -> usize
-        ensures { result ≡ literals_of self.now }
+        ensures { result ≡ formula_literals self.now }
     {
         self.literals.as_slice().len()
     }

@@ -1,7 +1,7 @@
 //! The numbers of a run, and who owns an identity.
 ghost use Rattle.std.specs.Prelude.{◌≡◌, ◌↔◌, ◌+◌, ◌*◌, ◌≤◌, ◌<◌, IsTrue, IfOk, IfErr, Some};
 ghost use Rattle.lrup_model.specs.Formula.{max_clauses};
-ghost use Rattle.lrup_model.specs.Layout.{layout_value, IsLayout, IsFault, fault_text, Fits, IsIdentity, owner, last_identity, row_words, max_streams, max_row_words};
+ghost use Rattle.lrup_model.specs.Layout.{layout_value, IsLayout, IsFault, layout_fault_text, Fits, IsIdentity, owner, last_identity, row_words, max_streams, max_row_words};
 
 use crate::formula::Formula;
 use crate::lit::Lit;
@@ -34,7 +34,7 @@ pub enum LayoutFault {
 }
 
 impl fmt::Display for LayoutFault {
-    ghost output = { λ fault. Some (fault_text fault) };
+    ghost output = { λ fault. Some (layout_fault_text fault) };
 
     fn fmt<W: fmt::Write>(&self, f: &mut fmt::Formatter<W>) -> fmt::Result {
         f.write_str(match self {

@@ -1,13 +1,13 @@
 //! The clause map of one thread.
 ghost use Rattle.std.specs.Prelude.{◌≡◌, ◌+◌, ◌-◌, ◌^◌, ◌≤◌, ◌<◌, Some, [], length, IfOk, slice_get, slice_index, replicate, ◌++◌, vec_len, vec_capacity};
 ghost use Rattle.lrup_model.specs.Layout.{IsLayout, Fits, IsStream, Owns, last_identity};
-ghost use Rattle.lrup_model.specs.Formula.{literals_of};
+ghost use Rattle.lrup_model.specs.Formula.{formula_literals};
 ghost use Rattle.lrup_model.specs.State.{opening};
 ghost use Rattle.lrup_model.specs.PlainInside.{flat, entries_from};
 ghost use Rattle.lrup_model.specs.Desk.{IsDesk};
-ghost use Rattle.lrup_model.specs.Plain.{stored_at, formula_of, state_of, plain_place, fetched_of, IsFormulaLive, AfterPublish, AfterRetire};
+ghost use Rattle.lrup_model.specs.Plain.{stored_at, formula_of, plain_state, plain_place, fetched_of, IsFormulaLive, AfterPublish, AfterRetire};
 ghost use Rattle.lrup_model.specs.History.{IsPublishable};
-ghost use Rattle.lrup_model.specs.Place.{IsKnown, AllFollow, text_of};
+ghost use Rattle.lrup_model.specs.Place.{IsKnown, AllFollow, clip_clause};
 
 use crate::Id;
 use crate::clause_map::{ClauseMap, Clip, Fetched, Published, Retired};
@@ -40,11 +40,11 @@ impl Model for PlainMap {
 
     ghost Value = { Plain };
 
-    ghost use Rattle.lrup_model.specs.PlainInside.{plain_of, IsSound};
+    ghost use Rattle.lrup_model.specs.PlainInside.{plain_of, IsPlainSound};
 
     ghost view = { λ m. plain_of m.layout m.entries.items m.literals.items m.free.items };
 
-    ghost invariant = { λ m. IsSound m.layout m.entries.items m.literals.items m.free.items (vec_capacity m.literals) };
+    ghost invariant = { λ m. IsPlainSound m.layout m.entries.items m.literals.items m.free.items (vec_capacity m.literals) };
 }
 
 const _: () = prove!(size_of::<Entry>() == 12);
@@ -70,7 +70,7 @@ impl PlainMap {
     fn literal_of(&self, clip: &Clip, k: u32) -> Lit
         requires known { IsKnown (plain_place self.now 1) clip.now }
         requires within { k < clip.now.len }
-        ensures { slice_get (text_of (plain_place self.now 1) clip.now) k ≡ Some result }
+        ensures { slice_get (clip_clause (plain_place self.now 1) clip.now) k ≡ Some result }
     {
         self.literals[clip.start() as usize + k as usize]
     }
@@ -115,7 +115,7 @@ impl PlainMap {
         requires { Fits layout.now formula.now }
         ensures layout { IfOk result (λ map. map.layout ≡ layout.now) }
         ensures formula { IfOk result (λ map. formula_of map ≡ formula.now) }
-        ensures state { IfOk result (λ map. state_of map ≡ opening formula.now) }
+        ensures state { IfOk result (λ map. plain_state map ≡ opening formula.now) }
         ensures room { IfOk result
             (λ map. map.free ≡ replicate layout.now.streams layout.now.room) }
     {
@@ -180,8 +180,8 @@ fn rooms(alloc: Global, layout: &Layout) -> Result<Vec<u64>, AllocError>
 fn keep_clauses(formula: &Formula, entries: &mut Vec<Entry>, literals: &mut Vec<Lit>)
     requires none { literals.old.items ≡ [] }
     requires entries { vec_len entries.old + length formula.now.clauses ≤ vec_capacity entries.old }
-    requires literals { literals_of formula.now ≤ vec_capacity literals.old }
-    requires small { literals_of formula.now < 2 ^ 32 }
+    requires literals { formula_literals formula.now ≤ vec_capacity literals.old }
+    requires small { formula_literals formula.now < 2 ^ 32 }
     ensures entries { entries.new.items ≡ entries.old.items ++ entries_from 0 formula.now.clauses }
     ensures literals { literals.new.items ≡ flat formula.now.clauses }
     ensures count { vec_len entries.new ≡ vec_len entries.old + length formula.now.clauses }
@@ -226,11 +226,11 @@ impl Drop for PlainDesk<'_> {
 }
 
 impl ClauseMap for PlainDesk<'_> {
-    ghost use Rattle.lrup_model.specs.Desk.{desk_place, DeskMoves, desk_none, desk_append, desk_tells};
+    ghost use Rattle.lrup_model.specs.Desk.{plain_desk_place, PlainDeskMoves, plain_desk_none, plain_desk_append, plain_desk_tells};
 
-    ghost place = { desk_place };
+    ghost place = { plain_desk_place };
 
-    ghost moves = { DeskMoves };
+    ghost moves = { PlainDeskMoves };
 
     fn stream(&self) -> u64 {
         self.index as u64 + 1
@@ -264,9 +264,9 @@ impl ClauseMap for PlainDesk<'_> {
         self.map.retire_at(self.index, id)
     }
 
-    ghost moves_none = { desk_none };
+    ghost moves_none = { plain_desk_none };
 
-    ghost moves_append = { desk_append };
+    ghost moves_append = { plain_desk_append };
 
-    ghost moves_tells = { desk_tells };
+    ghost moves_tells = { plain_desk_tells };
 }

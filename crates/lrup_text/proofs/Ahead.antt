@@ -11,7 +11,7 @@ use Rattle.lrup_text.specs.declared.machine.PartialLine.{PartialLine}
 use Rattle.lrup_text.specs.Grammar.{IsDigit, SpellsNumber, SpellsLiteral, space, minus}
 use Rattle.lrup_text.specs.Kernel.{ReadsLiterals, ReadsItems, numbers_text}
 use Rattle.lrup_text.specs.Lines.{IsStreamNumber, IsStreamLiteral}
-use Rattle.lrup_text.specs.Reading.{Reads, ReadsAhead, pending, pending_at, spot_at, IsRoomy, literals_text, items_text, clause_front, list_front, literals_of, identities_of}
+use Rattle.lrup_text.specs.Reading.{IsPartialLine, ReadsAhead, pending, pending_at, spot_at, IsRoomy, literals_text, items_text, clause_front, list_front, literals_read, identities_read}
 use Rattle.lrup_text.specs.Rests.{Spot, BeforeLiteral, AfterMinus, InLiteral, BeforeItem, InItem, Tracks}
 use Rattle.lrup_text.proofs.Steps.{tracks_more, item_digit, number_digit, number_space, body_minus, body_digit, minus_digit, literal_digit, literal_space}
 use Rattle.lrup_text.proofs.Bytes.{clause_more}
@@ -81,24 +81,24 @@ count_is : {X : Type 0} (old new more : List X) (first count : ℕ) → first �
 count_is old new more first count first_in count_in is =
     omega (arith, length-take-le count new count_in, length-take-le first old first_in, ap length is, length-append (take first old) more)
 
-pub items_ahead : (m : PartialLine) (v : Vec ℕ Global) (count used last : ℕ) (ids piece : List ℕ) → Reads m → m.place ≡ places.Item → v.items ≡ ids → length ids ≡ 65536 → last ≤ length piece
+pub items_ahead : (m : PartialLine) (v : Vec ℕ Global) (count used last : ℕ) (ids piece : List ℕ) → IsPartialLine m → m.place ≡ places.Item → v.items ≡ ids → length ids ≡ 65536 → last ≤ length piece
     → ReadsItems (take last piece) 0 m.identities.items m.identity_count ids count used → ReadsAhead m piece used (record m { identities = v; identity_count = count })
 unfolding pending_at spot_at IsRoomy items_text
 items_ahead m v count used last ids piece h at items size inside found =
     let next : PartialLine = record m { identities = v; identity_count = count; place = places.Item } in
-    let front = list_front m.deletes m.lead (literals_of m) in
+    let front = list_front m.deletes m.lead (literals_read m) in
     let few : m.identity_count ≤ length m.identities.items = omega (arith, h.room.identities, h.kept.few_identities) in
-    let lists : identities_of next ≡ identities_of m ++ found.more = ap (take count) items ∙ found.ids in
+    let lists : identities_read next ≡ identities_read m ++ found.more = ap (take count) items ∙ found.ids in
     let counted : count ≡ m.identity_count + length found.more = count_is m.identities.items ids found.more m.identity_count count few found.few found.ids in
-    let texts : items_text (identities_of next) ≡ items_text (identities_of m) ++ items_text found.more =
-    ap items_text lists ∙ texts_append (λ n. space ∷ decimal n) (identities_of m) found.more in
-    let here = (front ++ items_text (identities_of m)) ++ space ∷ [] in
+    let texts : items_text (identities_read next) ≡ items_text (identities_read m) ++ items_text found.more =
+    ap items_text lists ∙ texts_append (λ n. space ∷ decimal n) (identities_read m) found.more in
+    let here = (front ++ items_text (identities_read m)) ++ space ∷ [] in
     let grown : pending next ≡ here ++ numbers_text found.more =
     ap (λ t. (front ++ t) ++ space ∷ []) texts
-    ∙ ap (λ t. t ++ space ∷ []) (sym (append_assoc front (items_text (identities_of m)) (items_text found.more)))
-    ∙ append_assoc (front ++ items_text (identities_of m)) (items_text found.more) (space ∷ [])
-    ∙ ap (λ t. (front ++ items_text (identities_of m)) ++ t) (sym (spaces_move found.more []) ∙ ap (λ t. space ∷ t) (append-nil (numbers_text found.more)))
-    ∙ sym (append_assoc (front ++ items_text (identities_of m)) (space ∷ []) (numbers_text found.more)) in
+    ∙ ap (λ t. t ++ space ∷ []) (sym (append_assoc front (items_text (identities_read m)) (items_text found.more)))
+    ∙ append_assoc (front ++ items_text (identities_read m)) (items_text found.more) (space ∷ [])
+    ∙ ap (λ t. (front ++ items_text (identities_read m)) ++ t) (sym (spaces_move found.more []) ∙ ap (λ t. space ∷ t) (append-nil (numbers_text found.more)))
+    ∙ sym (append_assoc (front ++ items_text (identities_read m)) (space ∷ []) (numbers_text found.more)) in
     let tracks : Tracks here (BeforeItem m.deletes m.identity_count) = subst (λ p. Tracks (pending_at p m) (spot_at p m)) at h.tracks in
     let bytes : take used piece ≡ numbers_text found.more = sym (take-take used last piece (omega (arith, found.inside, length-take-le last piece inside))) ∙ found.is in
     let result : ReadsAhead m piece used next = record {
@@ -110,7 +110,7 @@ items_ahead m v count used last ids piece h at items size inside found =
           few_literals = h.kept.few_literals;
           few_identities = omega (arith, found.few, size);
           literals = h.kept.literals;
-          identities = subst (AllByRecursion IsStreamNumber) (sym lists) (All-append IsStreamNumber (identities_of m) found.more h.kept.identities found.each);
+          identities = subst (AllByRecursion IsStreamNumber) (sym lists) (All-append IsStreamNumber (identities_read m) found.more h.kept.identities found.each);
         };
         number = h.number;
         roomy = subst (λ p. IsRoomy p m) at h.roomy;
@@ -120,19 +120,19 @@ items_ahead m v count used last ids piece h at items size inside found =
     } in
     subst (λ p. ReadsAhead m piece used (record next { place = p })) (sym at) result
 
-pub literals_ahead : (m : PartialLine) (v : Vec ℤ Global) (count used last : ℕ) (lits : List ℤ) (piece : List ℕ) → Reads m → m.place ≡ places.Body → v.items ≡ lits → length lits ≡ 65535 → last ≤ length piece
+pub literals_ahead : (m : PartialLine) (v : Vec ℤ Global) (count used last : ℕ) (lits : List ℤ) (piece : List ℕ) → IsPartialLine m → m.place ≡ places.Body → v.items ≡ lits → length lits ≡ 65535 → last ≤ length piece
     → ReadsLiterals (take last piece) 0 m.literals.items m.literal_count lits count used → ReadsAhead m piece used (record m { literals = v; literal_count = count })
 unfolding pending_at spot_at IsRoomy literals_text
 literals_ahead m v count used last lits piece h at items size inside found =
     let next : PartialLine = record m { literals = v; literal_count = count; place = places.Body } in
     let few : m.literal_count ≤ length m.literals.items = omega (arith, h.room.literals, h.kept.few_literals) in
-    let lists : literals_of next ≡ literals_of m ++ found.more = ap (take count) items ∙ found.lits in
+    let lists : literals_read next ≡ literals_read m ++ found.more = ap (take count) items ∙ found.lits in
     let counted : count ≡ m.literal_count + length found.more = count_is m.literals.items lits found.more m.literal_count count few found.few found.lits in
-    let texts : literals_text (literals_of next) ≡ literals_text (literals_of m) ++ literals_text found.more =
-    ap literals_text lists ∙ texts_append (λ z. signed_decimal z ++ space ∷ []) (literals_of m) found.more in
-    let here = clause_front m.imports m.lead (literals_of m) in
+    let texts : literals_text (literals_read next) ≡ literals_text (literals_read m) ++ literals_text found.more =
+    ap literals_text lists ∙ texts_append (λ z. signed_decimal z ++ space ∷ []) (literals_read m) found.more in
+    let here = clause_front m.imports m.lead (literals_read m) in
     let grown : pending next ≡ here ++ literals_text found.more =
-    clause_more m.imports m.lead (literals_of m) (literals_of next) (literals_text found.more) texts in
+    clause_more m.imports m.lead (literals_read m) (literals_read next) (literals_text found.more) texts in
     let tracks : Tracks here (BeforeLiteral m.imports m.literal_count) = subst (λ p. Tracks (pending_at p m) (spot_at p m)) at h.tracks in
     let bytes : take used piece ≡ literals_text found.more = sym (take-take used last piece (omega (arith, found.inside, length-take-le last piece inside))) ∙ found.is in
     let result : ReadsAhead m piece used next = record {
@@ -144,7 +144,7 @@ literals_ahead m v count used last lits piece h at items size inside found =
           few_literals = omega (arith, found.few, size);
           few_identities = h.kept.few_identities;
           identities = h.kept.identities;
-          literals = subst (AllByRecursion IsStreamLiteral) (sym lists) (All-append IsStreamLiteral (literals_of m) found.more h.kept.literals found.each);
+          literals = subst (AllByRecursion IsStreamLiteral) (sym lists) (All-append IsStreamLiteral (literals_read m) found.more h.kept.literals found.each);
         };
         number = h.number;
         roomy = subst (λ p. IsRoomy p m) at h.roomy;
@@ -155,5 +155,5 @@ literals_ahead m v count used last lits piece h at items size inside found =
     subst (λ p. ReadsAhead m piece used (record next { place = p })) (sym at) result
 
 -- nothing was read
-pub nothing_ahead : (m : PartialLine) (piece : List ℕ) → Reads m → ReadsAhead m piece 0 m
+pub nothing_ahead : (m : PartialLine) (piece : List ℕ) → IsPartialLine m → ReadsAhead m piece 0 m
 nothing_ahead m piece h = record { bound = omega arith; reads = h; is = sym (append-nil (pending m)) }

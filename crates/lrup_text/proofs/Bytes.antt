@@ -15,7 +15,7 @@ use Rattle.lrup_text.specs.Grammar.{space, minus, zero_digit, letter_d, letter_i
 use Rattle.lrup_text.specs.Faults.{Decides}
 use Rattle.lrup_text.specs.Lines.{IsWithinLimits, IsStreamNumber, IsStreamLiteral, LineText, line_text}
 use Rattle.lrup_text.specs.Rests.{Spot, InLead, AfterImport, BeforeLiteral, AfterMinus, InLiteral, BeforeList, BeforeItem, InItem, AtEnd, Tracks, Moves, Blocks, Allows}
-use Rattle.lrup_text.specs.Reading.{FitsDigits, IsKept, Reads, pending_at, spot_at, pending, IsRoomy, clause_front, list_front, item_front, end_front, literal_front, literals_of, identities_of, literals_text, items_text, line_so_far, line_of_parts}
+use Rattle.lrup_text.specs.Reading.{FitsDigits, CanStandInLine, IsPartialLine, pending_at, spot_at, pending, IsRoomy, clause_front, list_front, item_front, end_front, literal_front, literals_read, identities_read, literals_text, items_text, line_so_far, line_of_parts}
 use Rattle.lrup_text.proofs.Decisions.{decides_spelling, decides_long, decides_rat}
 use Rattle.lrup_text.proofs.Rests.{list_is_clause}
 use Rattle.lrup_text.proofs.Numerals.{decimal_one, decimal_byte, power_more, power_below}
@@ -64,10 +64,10 @@ use Rattle.lrup_text.proofs.Steps.{
 }
 
 -- what a place holds, at the place
-tracks_at : (m : PartialLine) (place : Place) → m.place ≡ place → Reads m → Tracks (pending_at place m) (spot_at place m)
+tracks_at : (m : PartialLine) (place : Place) → m.place ≡ place → IsPartialLine m → Tracks (pending_at place m) (spot_at place m)
 tracks_at m place e h = subst (λ p. Tracks (pending_at p m) (spot_at p m)) e h.tracks
 
-bounded_at : (m : PartialLine) (place : Place) → Reads m → IsRoomy place m → IsBounded (spot_at place m)
+bounded_at : (m : PartialLine) (place : Place) → IsPartialLine m → IsRoomy place m → IsBounded (spot_at place m)
 unfolding spot_at IsRoomy
 bounded_at m places.Start h roomy = tt
 bounded_at m places.Lead h roomy = h.number.few
@@ -81,10 +81,10 @@ bounded_at m places.Number h roomy = (h.number.few, roomy.0)
 bounded_at m places.LineEnd h roomy = tt
 
 -- the counts are within the limits
-pub bounded : (m : PartialLine) → Reads m → IsBounded (spot_at m.place m)
+pub bounded : (m : PartialLine) → IsPartialLine m → IsBounded (spot_at m.place m)
 bounded m h = bounded_at m m.place h h.roomy
 
-module _ (m : PartialLine) (place : Place) (at : m.place ≡ place) (reads : Reads m) (b : ℕ) where
+module _ (m : PartialLine) (place : Place) (at : m.place ≡ place) (reads : IsPartialLine m) (b : ℕ) where
   pub spelling_at : ((signed : Bool) → Blocks signed (spot_at place m) b) → Decides (pending m) b Spelling
   spelling_at blocks =
       decides_spelling (pending m) (spot_at m.place m) b reads.tracks (bounded m reads) (subst (λ p. (signed : Bool) → Blocks signed (spot_at p m) b) (sym at) blocks)
@@ -93,7 +93,7 @@ module _ (m : PartialLine) (place : Place) (at : m.place ≡ place) (reads : Rea
   long_at exceeds = decides_long (pending m) (spot_at m.place m) b reads.tracks (bounded m reads) (subst (λ p. Exceeds (spot_at p m) b) (sym at) exceeds)
 
 -- the same line elsewhere, after one more byte
-module _ (m next : PartialLine) (place : Place) (at : m.place ≡ place) (reads : Reads m) (b : ℕ) where
+module _ (m next : PartialLine) (place : Place) (at : m.place ≡ place) (reads : IsPartialLine m) (b : ℕ) where
   pub tracks_next : pending next ≡ pending_at place m ++ b ∷ [] → Moves (spot_at place m) b (spot_at next.place next) → Tracks (pending next) (spot_at next.place next)
   tracks_next is moves =
       subst (λ t. Tracks t (spot_at next.place next)) (sym is) (tracks_more (pending_at place m) (spot_at place m) (spot_at next.place next) b (tracks_at m place at reads) moves)
@@ -161,7 +161,7 @@ line_end true deletes lead lits ids =
     ∙ ap (λ t. decimal lead ++ space ∷ letter_i ∷ t) (ap (λ t. space ∷ t) (literals_end lits (line_feed ∷ [])) ∙ sym (list_is_clause (map signed_decimal lits)))
 line_end false deletes lead lits ids = list_end deletes lead lits ids
 
-pub line_fits : (imports deletes : Bool) (lead : ℕ) (lits : List ℤ) (n : ℕ) (ids : List ℕ) (j : ℕ) → IsKept lead lits n ids j → n ≤ length lits → j ≤ length ids
+pub line_fits : (imports deletes : Bool) (lead : ℕ) (lits : List ℤ) (n : ℕ) (ids : List ℕ) (j : ℕ) → CanStandInLine lead lits n ids j → n ≤ length lits → j ≤ length ids
     → IsWithinLimits (line_of_parts imports deletes lead (take n lits) (take j ids))
 line_fits true deletes lead lits n ids j h n_in j_in =
     (h.lead, record { count = omega (arith, length-take-le n lits n_in, h.few_literals); each = h.literals })
@@ -180,9 +180,9 @@ clause_more false lead lits longer x is = ap (λ t. decimal lead ++ space ∷ t)
 
 -- After the byte the line goes on.
 abbrev pub GoesOn : PartialLine → ℕ → PartialLine → Type 0
-GoesOn m b next = Reads next × (pending next ≡ pending m ++ b ∷ [])
+GoesOn m b next = IsPartialLine next × (pending next ≡ pending m ++ b ∷ [])
 
-module _ (m : PartialLine) (b : ℕ) (h : Reads m) where
+module _ (m : PartialLine) (b : ℕ) (h : IsPartialLine m) where
   -- Start
 
   pub start_goes_on : m.place ≡ places.Start → 49 ≤ b → b ≤ 57 → GoesOn m b (record m { number = b - 48; digits = 1; place = places.Lead })
@@ -243,8 +243,8 @@ module _ (m : PartialLine) (b : ℕ) (h : Reads m) where
   import_space_goes_on at e =
       let next : PartialLine = record m { place = places.Body } in
       let roomy : (m.identity_count ≡ 0) × (m.literal_count ≡ 0) × (m.imports ≡ true) = subst (λ p. IsRoomy p m) at h.roomy in
-      let empty : literals_of m ≡ [] = ap (λ n. take n m.literals.items) roomy.1 in
-      let front : pending next ≡ decimal m.lead ++ space ∷ letter_i ∷ space ∷ [] = ap (λ i. clause_front i m.lead (literals_of m)) roomy.2 ∙ ap (clause_front true m.lead) empty in
+      let empty : literals_read m ≡ [] = ap (λ n. take n m.literals.items) roomy.1 in
+      let front : pending next ≡ decimal m.lead ++ space ∷ letter_i ∷ space ∷ [] = ap (λ i. clause_front i m.lead (literals_read m)) roomy.2 ∙ ap (clause_front true m.lead) empty in
       let is : pending next ≡ (decimal m.lead ++ space ∷ letter_i ∷ []) ++ b ∷ [] =
       front ∙ ap (λ x. decimal m.lead ++ space ∷ letter_i ∷ x ∷ []) (sym e) ∙ sym (append_assoc (decimal m.lead) (space ∷ letter_i ∷ []) (b ∷ [])) in (
         record {
@@ -269,8 +269,8 @@ module _ (m : PartialLine) (b : ℕ) (h : Reads m) where
   unfolding pending_at spot_at IsRoomy
   body_hints_goes_on at e adds =
       let next : PartialLine = record m { deletes = false; place = places.List } in
-      let is : pending next ≡ clause_front m.imports m.lead (literals_of m) ++ b ∷ [] =
-      ap (λ i. clause_front i m.lead (literals_of m) ++ zero_digit ∷ []) (sym adds) ∙ ap (λ x. clause_front m.imports m.lead (literals_of m) ++ x ∷ []) (sym e) in (
+      let is : pending next ≡ clause_front m.imports m.lead (literals_read m) ++ b ∷ [] =
+      ap (λ i. clause_front i m.lead (literals_read m) ++ zero_digit ∷ []) (sym adds) ∙ ap (λ x. clause_front m.imports m.lead (literals_read m) ++ x ∷ []) (sym e) in (
         record {
           room = h.room;
           kept = h.kept;
@@ -287,9 +287,9 @@ module _ (m : PartialLine) (b : ℕ) (h : Reads m) where
   unfolding pending_at spot_at IsRoomy
   body_end_goes_on at e imports =
       let next : PartialLine = record m { place = places.LineEnd } in
-      let is : pending next ≡ clause_front m.imports m.lead (literals_of m) ++ b ∷ [] =
-      ap (λ i. end_front i m.deletes m.lead (literals_of m) (identities_of m)) imports
-      ∙ ap (λ i. clause_front i m.lead (literals_of m) ++ zero_digit ∷ []) (sym imports) ∙ ap (λ x. clause_front m.imports m.lead (literals_of m) ++ x ∷ []) (sym e) in (
+      let is : pending next ≡ clause_front m.imports m.lead (literals_read m) ++ b ∷ [] =
+      ap (λ i. end_front i m.deletes m.lead (literals_read m) (identities_read m)) imports
+      ∙ ap (λ i. clause_front i m.lead (literals_read m) ++ zero_digit ∷ []) (sym imports) ∙ ap (λ x. clause_front m.imports m.lead (literals_read m) ++ x ∷ []) (sym e) in (
         record {
           room = h.room;
           kept = h.kept;
@@ -303,9 +303,9 @@ module _ (m : PartialLine) (b : ℕ) (h : Reads m) where
       )
 
   -- what was read of a line that has no literals and is no import yet
-  lead_front : m.imports ≡ false → m.literal_count ≡ 0 → clause_front m.imports m.lead (literals_of m) ≡ decimal m.lead ++ space ∷ []
+  lead_front : m.imports ≡ false → m.literal_count ≡ 0 → clause_front m.imports m.lead (literals_read m) ≡ decimal m.lead ++ space ∷ []
   unfolding literals_text
-  lead_front adds few = ap (λ i. clause_front i m.lead (literals_of m)) adds ∙ ap (λ n. clause_front false m.lead (take n m.literals.items)) few
+  lead_front adds few = ap (λ i. clause_front i m.lead (literals_read m)) adds ∙ ap (λ n. clause_front false m.lead (take n m.literals.items)) few
 
   letter_moves : (next : Spot) (letter : ℕ) → b ≡ letter → m.imports ≡ false → m.literal_count ≡ 0 → Moves (BeforeLiteral false 0) letter next → Moves (BeforeLiteral m.imports m.literal_count) b next
   letter_moves next letter e adds few moves =
@@ -315,7 +315,7 @@ module _ (m : PartialLine) (b : ℕ) (h : Reads m) where
   unfolding pending_at spot_at IsRoomy
   body_deletion_goes_on at e adds few =
       let next : PartialLine = record m { deletes = true; place = places.List } in
-      let is : pending next ≡ clause_front m.imports m.lead (literals_of m) ++ b ∷ [] =
+      let is : pending next ≡ clause_front m.imports m.lead (literals_read m) ++ b ∷ [] =
       sym (ap (λ t. t ++ b ∷ []) (lead_front adds few) ∙ append_assoc (decimal m.lead) (space ∷ []) (b ∷ []) ∙ ap (λ x. decimal m.lead ++ space ∷ x ∷ []) e) in (
         record {
           room = h.room;
@@ -331,7 +331,7 @@ module _ (m : PartialLine) (b : ℕ) (h : Reads m) where
   unfolding pending_at spot_at IsRoomy
   body_import_goes_on at e adds few =
       let next : PartialLine = record m { imports = true; place = places.Import } in
-      let is : pending next ≡ clause_front m.imports m.lead (literals_of m) ++ b ∷ [] =
+      let is : pending next ≡ clause_front m.imports m.lead (literals_read m) ++ b ∷ [] =
       sym (ap (λ t. t ++ b ∷ []) (lead_front adds few) ∙ append_assoc (decimal m.lead) (space ∷ []) (b ∷ []) ∙ ap (λ x. decimal m.lead ++ space ∷ x ∷ []) e) in (
         record {
           room = h.room;
@@ -347,7 +347,7 @@ module _ (m : PartialLine) (b : ℕ) (h : Reads m) where
   unfolding pending_at spot_at IsRoomy
   body_minus_goes_on at e few =
       let next : PartialLine = record m { place = places.Minus } in
-      let is : pending next ≡ clause_front m.imports m.lead (literals_of m) ++ b ∷ [] = ap (λ x. clause_front m.imports m.lead (literals_of m) ++ x ∷ []) (sym e) in (
+      let is : pending next ≡ clause_front m.imports m.lead (literals_read m) ++ b ∷ [] = ap (λ x. clause_front m.imports m.lead (literals_read m) ++ x ∷ []) (sym e) in (
         record {
           room = h.room;
           kept = h.kept;
@@ -362,7 +362,7 @@ module _ (m : PartialLine) (b : ℕ) (h : Reads m) where
   unfolding pending_at spot_at IsRoomy
   body_digit_goes_on at low high few =
       let next : PartialLine = record m { negative = false; number = b - 48; digits = 1; place = places.Literal } in
-      let is : pending next ≡ clause_front m.imports m.lead (literals_of m) ++ b ∷ [] = ap (λ t. clause_front m.imports m.lead (literals_of m) ++ t) (decimal_one b (omega arith, high)) in (
+      let is : pending next ≡ clause_front m.imports m.lead (literals_read m) ++ b ∷ [] = ap (λ t. clause_front m.imports m.lead (literals_read m) ++ t) (decimal_one b (omega arith, high)) in (
         record {
           room = h.room;
           kept = h.kept;
@@ -390,7 +390,7 @@ module _ (m : PartialLine) (b : ℕ) (h : Reads m) where
   unfolding pending_at spot_at IsRoomy
   minus_goes_on at low high =
       let next : PartialLine = record m { negative = true; number = b - 48; digits = 1; place = places.Literal } in
-      let front = clause_front m.imports m.lead (literals_of m) in
+      let front = clause_front m.imports m.lead (literals_read m) in
       let is : pending next ≡ (front ++ minus ∷ []) ++ b ∷ [] =
       ap (λ t. front ++ minus ∷ t) (decimal_one b (omega arith, high)) ∙ sym (append_assoc front (minus ∷ []) (b ∷ [])) in (
         record {
@@ -418,7 +418,7 @@ module _ (m : PartialLine) (b : ℕ) (h : Reads m) where
   unfolding pending_at spot_at IsRoomy
   literal_digit_goes_on at digit few =
       let next : PartialLine = record m { number = m.number * 10 + (b - 48); digits = m.digits + 1; place = places.Literal } in
-      let front = clause_front m.imports m.lead (literals_of m) in
+      let front = clause_front m.imports m.lead (literals_read m) in
       let is : pending next ≡ (front ++ literal_front m.negative m.number) ++ b ∷ [] =
       ap (λ t. front ++ t) (literal_more m.negative m.number m.digits h.number few digit) ∙ sym (append_assoc front (literal_front m.negative m.number) (b ∷ [])) in
       let goes : GoesOn m b next = (
@@ -447,14 +447,14 @@ module _ (m : PartialLine) (b : ℕ) (h : Reads m) where
       let next : PartialLine = record m { literals = v; literal_count = m.literal_count + 1; place = places.Body } in
       let roomy : (m.identity_count ≡ 0) × (m.literal_count < 65535) = subst (λ p. IsRoomy p m) at h.roomy in
       let count : length m.literals.items ≡ 65535 = h.room.literals in
-      let more : literals_of next ≡ literals_of m ++ z ∷ [] =
+      let more : literals_read next ≡ literals_read m ++ z ∷ [] =
       ap (take (m.literal_count + 1)) items ∙ take_more_set m.literals.items m.literal_count z (omega arith) in
-      let front = clause_front m.imports m.lead (literals_of m) in
+      let front = clause_front m.imports m.lead (literals_read m) in
       let word = literal_front m.negative m.number in
-      let texts : literals_text (literals_of next) ≡ literals_text (literals_of m) ++ (word ++ space ∷ []) =
-      ap literals_text more ∙ text_more (λ x. signed_decimal x ++ space ∷ []) (literals_of m) z ∙ ap (λ t. literals_text (literals_of m) ++ (t ++ space ∷ [])) value in
+      let texts : literals_text (literals_read next) ≡ literals_text (literals_read m) ++ (word ++ space ∷ []) =
+      ap literals_text more ∙ text_more (λ x. signed_decimal x ++ space ∷ []) (literals_read m) z ∙ ap (λ t. literals_text (literals_read m) ++ (t ++ space ∷ [])) value in
       let is : pending next ≡ (front ++ word) ++ b ∷ [] =
-      clause_more m.imports m.lead (literals_of m) (literals_of next) (word ++ space ∷ []) texts
+      clause_more m.imports m.lead (literals_read m) (literals_read next) (word ++ space ∷ []) texts
       ∙ sym (append_assoc front word (space ∷ []))
       ∙ ap (λ x. (front ++ word) ++ x ∷ []) (sym e) in
       let literal : IsStreamLiteral z = subst IsStreamNumber (sym magnitude) (positive m.number m.digits h.number) in (
@@ -465,7 +465,7 @@ module _ (m : PartialLine) (b : ℕ) (h : Reads m) where
             few_literals = omega arith;
             few_identities = h.kept.few_identities;
             identities = h.kept.identities;
-            literals = subst (AllByRecursion IsStreamLiteral) (sym more) (All-push IsStreamLiteral (literals_of m) z h.kept.literals literal);
+            literals = subst (AllByRecursion IsStreamLiteral) (sym more) (All-push IsStreamLiteral (literals_read m) z h.kept.literals literal);
           };
           number = h.number;
           roomy = roomy.0;
@@ -492,7 +492,7 @@ module _ (m : PartialLine) (b : ℕ) (h : Reads m) where
   unfolding pending_at spot_at IsRoomy items_text
   list_goes_on at e =
       let next : PartialLine = record m { place = places.Item } in
-      let front = list_front m.deletes m.lead (literals_of m) in
+      let front = list_front m.deletes m.lead (literals_read m) in
       let roomy : (m.identity_count ≡ 0) × (m.imports ≡ false) = subst (λ p. IsRoomy p m) at h.roomy in
       let none : m.identity_count ≡ 0 = roomy.0 in
       let empty : item_front m ≡ front = ap (λ n. front ++ items_text (take n m.identities.items)) none ∙ append-nil front in
@@ -524,7 +524,7 @@ module _ (m : PartialLine) (b : ℕ) (h : Reads m) where
       let next : PartialLine = record m { place = places.LineEnd } in
       let lists : m.imports ≡ false = subst (λ p. IsRoomy p m) at h.roomy in
       let is : pending next ≡ (item_front m ++ space ∷ []) ++ b ∷ [] =
-      ap (λ i. end_front i m.deletes m.lead (literals_of m) (identities_of m)) lists ∙ after_space zero_digit (sym e) in (
+      ap (λ i. end_front i m.deletes m.lead (literals_read m) (identities_read m)) lists ∙ after_space zero_digit (sym e) in (
         record {
           room = h.room;
           kept = h.kept;
@@ -600,15 +600,15 @@ module _ (m : PartialLine) (b : ℕ) (h : Reads m) where
       let next : PartialLine = record m { identities = v; identity_count = m.identity_count + 1; place = places.Item } in
       let roomy : (m.identity_count < 65536) × (m.imports ≡ false) = subst (λ p. IsRoomy p m) at h.roomy in
       let count : length m.identities.items ≡ 65536 = h.room.identities in
-      let more : identities_of next ≡ identities_of m ++ m.number ∷ [] =
+      let more : identities_read next ≡ identities_read m ++ m.number ∷ [] =
       ap (take (m.identity_count + 1)) items ∙ take_more_set m.identities.items m.identity_count m.number (omega arith) in
-      let front = list_front m.deletes m.lead (literals_of m) in
+      let front = list_front m.deletes m.lead (literals_read m) in
       let word = space ∷ decimal m.number in
-      let texts : items_text (identities_of next) ≡ items_text (identities_of m) ++ word =
-      ap items_text more ∙ text_more (λ n. space ∷ decimal n) (identities_of m) m.number in
+      let texts : items_text (identities_read next) ≡ items_text (identities_read m) ++ word =
+      ap items_text more ∙ text_more (λ n. space ∷ decimal n) (identities_read m) m.number in
       let is : pending next ≡ (item_front m ++ word) ++ b ∷ [] =
       ap (λ t. (front ++ t) ++ space ∷ []) texts
-      ∙ ap (λ t. t ++ space ∷ []) (sym (append_assoc front (items_text (identities_of m)) word))
+      ∙ ap (λ t. t ++ space ∷ []) (sym (append_assoc front (items_text (identities_read m)) word))
       ∙ ap (λ x. (item_front m ++ word) ++ x ∷ []) (sym e) in (
         record {
           room = record { literals = h.room.literals; identities = ap length items ∙ length-set m.identities.items m.identity_count m.number ∙ count };
@@ -618,7 +618,7 @@ module _ (m : PartialLine) (b : ℕ) (h : Reads m) where
             few_identities = omega arith;
             literals = h.kept.literals;
             identities = subst (AllByRecursion IsStreamNumber) (sym more)
-                (All-push IsStreamNumber (identities_of m) m.number h.kept.identities (positive m.number m.digits h.number));
+                (All-push IsStreamNumber (identities_read m) m.number h.kept.identities (positive m.number m.digits h.number));
           };
           number = h.number;
           roomy = roomy.1;
@@ -647,7 +647,7 @@ module _ (m : PartialLine) (b : ℕ) (h : Reads m) where
 
   -- the line is whole, and the next may begin
   pub end_ends : m.place ≡ places.LineEnd → b ≡ line_feed
-      → let next : PartialLine = record m { place = places.Start } in Reads next × (pending next ≡ []) × LineText (line_so_far next) (pending m ++ b ∷ [])
+      → let next : PartialLine = record m { place = places.Start } in IsPartialLine next × (pending next ≡ []) × LineText (line_so_far next) (pending m ++ b ∷ [])
   unfolding pending_at spot_at IsRoomy
   end_ends at e = (
     record { room = h.room; kept = h.kept; number = h.number; roomy = tt; tracks = at_start },
@@ -655,7 +655,7 @@ module _ (m : PartialLine) (b : ℕ) (h : Reads m) where
     (
       line_fits m.imports m.deletes m.lead m.literals.items m.literal_count m.identities.items m.identity_count h.kept
           (omega (arith, h.room.literals, h.kept.few_literals)) (omega (arith, h.room.identities, h.kept.few_identities)),
-      ap (λ p. pending_at p m ++ b ∷ []) at ∙ ap (λ x. end_front m.imports m.deletes m.lead (literals_of m) (identities_of m) ++ x ∷ []) e
-          ∙ line_end m.imports m.deletes m.lead (literals_of m) (identities_of m),
+      ap (λ p. pending_at p m ++ b ∷ []) at ∙ ap (λ x. end_front m.imports m.deletes m.lead (literals_read m) (identities_read m) ++ x ∷ []) e
+          ∙ line_end m.imports m.deletes m.lead (literals_read m) (identities_read m),
     ),
   )

@@ -4,7 +4,7 @@ use Rattle.std.specs.Fmt.{signed_decimal}
 use Rattle.std.specs.List.{AllByRecursion}
 use Rattle.std.proofs.lemmas.List.{append_assoc, length-map}
 use Rattle.lrup_text.specs.declared.cube.CubeFault.TheVariants.{Spelling, TooLong, Range, Memory}
-use Rattle.lrup_text.specs.Cubes.{IsTextOf, IsCubeLine, BeginsNone, TextHasNoFault}
+use Rattle.lrup_text.specs.Cubes.{IsLiteralsText, IsCubeLine, BeginsNone, TextHasNoFault}
 use Rattle.lrup_text.specs.Grammar.{standard, SpellsLiteral}
 use Rattle.lrup_text.specs.Lines.{IsStreamLiteral}
 use Rattle.lrup_text.proofs.TextLaws.{signed_word}
@@ -13,7 +13,7 @@ each_word : (literals : List ℤ) → AllByRecursion IsStreamLiteral literals �
 each_word [] h = tt
 each_word (z ∷ zs) h = (signed_word z h.0, each_word zs h.1)
 
-text_is_line : (literals : List ℤ) (bytes : List ℕ) → IsTextOf literals bytes → IsCubeLine standard bytes
+text_is_line : (literals : List ℤ) (bytes : List ℕ) → IsLiteralsText literals bytes → IsCubeLine standard bytes
 text_is_line literals bytes text = (
   map signed_decimal literals,
   record { count = omega (arith, length-map literals signed_decimal, text.few.count); each = each_word literals text.few.each },

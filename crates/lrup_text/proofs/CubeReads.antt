@@ -4,12 +4,12 @@ use Rattle.std.specs.Prelude.{Result, IfOk, IfErr, MatchResult}
 use Rattle.std.specs.Fmt.{decimal, signed_decimal}
 use Rattle.std.specs.List.{AllByRecursion}
 use Rattle.std.proofs.lemmas.List.{append_assoc, length-append}
-use Rattle.lrup_model.specs.Cube.{IsOver}
+use Rattle.lrup_model.specs.Cube.{IsCubeOver}
 use Rattle.lrup_model.specs.ListLemmas.{All-push}
 use Rattle.lrup_text.specs.declared.cube.CubeFault.{CubeFault}
 use Rattle.lrup_text.specs.declared.cube.CubeFault.TheVariants.{Spelling, TooLong, Range, Memory}
-use Rattle.lrup_text.specs.CubeReading.{LiteralsFollow, DigitsFollowIn, IsRestFault, ReadsNumber, ReadsLiteral, AreKept, AreNotKept}
-use Rattle.lrup_text.specs.Cubes.{IsCubeLine, IsTextOf, IsTextFault, IsCubeFault}
+use Rattle.lrup_text.specs.CubeReading.{CubeFollows, DigitsFollowIn, IsRestFault, BeginsWithNumber, ReadsLiteral, AreKept, AreNotKept}
+use Rattle.lrup_text.specs.Cubes.{IsCubeLine, IsLiteralsText, IsTextFault, IsCubeFault}
 use Rattle.lrup_text.specs.Grammar.{IsDigit, line_feed, space, minus, zero_digit}
 use Rattle.lrup_text.specs.Lines.{IsStreamNumber, IsStreamLiteral}
 use Rattle.lrup_text.specs.Reading.{FitsDigits, literals_text, literal_front}
@@ -44,7 +44,7 @@ digits_next first after number digits rest next b so is digit few = record {
   goes = λ n. continues_then (DigitsFollowIn 1 n) (DigitsFollowIn digits n) (DigitsFollowIn (digits + 1) n) so.more (b ∷ []) (so.goes n) (digit_continues digits n b digit);
 }
 
-pub digits_read : (first : ℕ) (after : List ℕ) (number digits : ℕ) (rest next : List ℕ) → DigitsSoFar first after number digits rest → rest ≡ space ∷ next → ReadsNumber (first ∷ after) number next
+pub digits_read : (first : ℕ) (after : List ℕ) (number digits : ℕ) (rest next : List ℕ) → DigitsSoFar first after number digits rest → rest ≡ space ∷ next → BeginsWithNumber (first ∷ after) number next
 digits_read first after number digits rest next so is = record {
   fits = positive number digits so.fits;
   is = ap (λ t. first ∷ t) (so.is ∙ ap (λ t. so.more ++ t) is) ∙ ap (λ t. t ++ space ∷ next) (sym so.word);
@@ -57,13 +57,13 @@ digits_fault first after number digits rest fault so h n few =
 
 -- Literals.
 
-pub literal_negative : (rest next : List ℕ) (number : ℕ) (z : ℤ) → ReadsNumber rest number next → signed_decimal z ≡ literal_front true number → unsigned_abs z ≡ number → ReadsLiteral (minus ∷ rest) z next
+pub literal_negative : (rest next : List ℕ) (number : ℕ) (z : ℤ) → BeginsWithNumber rest number next → signed_decimal z ≡ literal_front true number → unsigned_abs z ≡ number → ReadsLiteral (minus ∷ rest) z next
 literal_negative rest next number z read text size = record {
   fits = subst IsStreamNumber (sym size) read.fits;
   is = ap (λ t. minus ∷ t) read.is ∙ ap (λ t. t ++ space ∷ next) (sym text);
 }
 
-pub literal_positive : (text next : List ℕ) (number : ℕ) (z : ℤ) → ReadsNumber text number next → signed_decimal z ≡ literal_front false number → unsigned_abs z ≡ number → ReadsLiteral text z next
+pub literal_positive : (text next : List ℕ) (number : ℕ) (z : ℤ) → BeginsWithNumber text number next → signed_decimal z ≡ literal_front false number → unsigned_abs z ≡ number → ReadsLiteral text z next
 literal_positive text next number z read value size = record {
   fits = subst IsStreamNumber (sym size) read.fits;
   is = read.is ∙ ap (λ t. t ++ space ∷ next) (sym value);
@@ -74,7 +74,7 @@ pub record LiteralsSoFar (text : List ℕ) (literals : List ℤ) (count : ℕ) (
   pub few : count ≤ 65535
   pub each : AllByRecursion IsStreamLiteral literals
   pub is : text ≡ literals_text literals ++ rest
-  pub goes : Continues IsCubeLine (LiteralsFollow count) (literals_text literals)
+  pub goes : Continues IsCubeLine (CubeFollows count) (literals_text literals)
 
 pub literals_start : (text : List ℕ) → LiteralsSoFar text [] 0 text
 unfolding literals_text
@@ -93,16 +93,16 @@ literals_next text literals count rest next z so read few =
       is =
           so.is ∙ ap (λ t. literals_text literals ++ t) (read.is ∙ sym (append_assoc (signed_decimal z) (space ∷ []) next))
           ∙ sym (append_assoc (literals_text literals) word next) ∙ ap (λ t. t ++ next) (sym longer);
-      goes = subst (Continues IsCubeLine (LiteralsFollow (count + 1))) (sym longer)
-          (continues_then IsCubeLine (LiteralsFollow count) (LiteralsFollow (count + 1)) (literals_text literals) word so.goes (word_continues count (signed_decimal z) (signed_word z read.fits)));
+      goes = subst (Continues IsCubeLine (CubeFollows (count + 1))) (sym longer)
+          (continues_then IsCubeLine (CubeFollows count) (CubeFollows (count + 1)) (literals_text literals) word so.goes (word_continues count (signed_decimal z) (signed_word z read.fits)));
     }
 
-pub literals_fault : (text : List ℕ) (literals : List ℤ) (count : ℕ) (rest : List ℕ) (fault : CubeFault) → LiteralsSoFar text literals count rest → IsTextFault (LiteralsFollow count) rest fault
+pub literals_fault : (text : List ℕ) (literals : List ℤ) (count : ℕ) (rest : List ℕ) (fault : CubeFault) → LiteralsSoFar text literals count rest → IsTextFault (CubeFollows count) rest fault
     → IsTextFault IsCubeLine text fault
 literals_fault text literals count rest fault so h =
-    subst (λ t. IsTextFault IsCubeLine t fault) (sym so.is) (fault_after IsCubeLine (LiteralsFollow count) (literals_text literals) so.goes rest fault h)
+    subst (λ t. IsTextFault IsCubeLine t fault) (sym so.is) (fault_after IsCubeLine (CubeFollows count) (literals_text literals) so.goes rest fault h)
 
-pub text_read : (text : List ℕ) (literals : List ℤ) (count : ℕ) (rest : List ℕ) → LiteralsSoFar text literals count rest → rest ≡ zero_digit ∷ line_feed ∷ [] → IsTextOf literals text
+pub text_read : (text : List ℕ) (literals : List ℤ) (count : ℕ) (rest : List ℕ) → LiteralsSoFar text literals count rest → rest ≡ zero_digit ∷ line_feed ∷ [] → IsLiteralsText literals text
 text_read text literals count rest so is = record {
   few = record { count = omega (arith, so.size, so.few); each = so.each };
   is = so.is ∙ ap (λ t. literals_text literals ++ t) is ∙ literals_end literals (line_feed ∷ []);
@@ -110,13 +110,13 @@ text_read text literals count rest so is = record {
 
 -- What is kept of the literals of a whole text.
 
-module _ {T : Type 0} (items : T → List ℤ) (vars : ℕ) (literals : List ℤ) (text : List ℕ) (is : IsTextOf literals text) where
-  pub kept_text : (r : Result T CubeFault) → MatchResult r (λ kept. AreKept vars literals (items kept)) (AreNotKept vars literals) → IfOk r (λ kept. IsTextOf (items kept) text)
-  kept_text (Ok kept) h = subst (λ zs. IsTextOf zs text) (sym h.0) is
+module _ {T : Type 0} (items : T → List ℤ) (vars : ℕ) (literals : List ℤ) (text : List ℕ) (is : IsLiteralsText literals text) where
+  pub kept_text : (r : Result T CubeFault) → MatchResult r (λ kept. AreKept vars literals (items kept)) (AreNotKept vars literals) → IfOk r (λ kept. IsLiteralsText (items kept) text)
+  kept_text (Ok kept) h = subst (λ zs. IsLiteralsText zs text) (sym h.0) is
   kept_text (Err fault) h = tt
 
-  pub kept_over : (r : Result T CubeFault) → MatchResult r (λ kept. AreKept vars literals (items kept)) (AreNotKept vars literals) → IfOk r (λ kept. IsOver vars (items kept))
-  kept_over (Ok kept) h = subst (IsOver vars) (sym h.0) h.1
+  pub kept_over : (r : Result T CubeFault) → MatchResult r (λ kept. AreKept vars literals (items kept)) (AreNotKept vars literals) → IfOk r (λ kept. IsCubeOver vars (items kept))
+  kept_over (Ok kept) h = subst (IsCubeOver vars) (sym h.0) h.1
   kept_over (Err fault) h = tt
 
   pub kept_fault : (r : Result T CubeFault) → MatchResult r (λ kept. AreKept vars literals (items kept)) (AreNotKept vars literals) → IfErr r (IsCubeFault vars text)

@@ -1,9 +1,9 @@
 -- A cube's text, as it is printed, is the text of its literals that is read.
 use Rattle.std.proofs.Common.{ℕ, ℤ, pos, negsuc, ◌<◌, ◌^◌, List, [], ◌∷◌, sym, ◌∙◌, arith}
-use Rattle.lrup_model.specs.Cube.{CubeValue, IsCubeOf, IsOver}
+use Rattle.lrup_model.specs.Cube.{CubeValue, IsCubeOf, IsCubeOver}
 use Rattle.lrup_model.specs.ListLemmas.{All-map}
 use Rattle.lrup_model.specs.Literal.{IsLiteral}
-use Rattle.lrup_text.specs.Cubes.{IsTextOf, IsCubeText, CubeTextIsRead}
+use Rattle.lrup_text.specs.Cubes.{IsLiteralsText, IsCubeText, CubeTextIsRead}
 use Rattle.lrup_text.specs.Grammar.{line_feed}
 use Rattle.lrup_text.specs.Lines.{IsStreamLiteral}
 use Rattle.lrup_text.specs.Reading.{literals_text}
@@ -13,7 +13,7 @@ stream_literal : (vars : ℕ) → vars < 10 ^ 18 → (z : ℤ) → IsLiteral var
 stream_literal vars few (pos n) is = (is.0, omega (arith, few, is.1))
 stream_literal vars few (negsuc n) is = (is.0, omega (arith, few, is.1))
 
-pub printed_cube : (vars : ℕ) (literals : List ℤ) (bytes : List ℕ) (cube : CubeValue) → IsTextOf literals bytes → IsOver vars literals → IsCubeOf literals cube → IsCubeText vars bytes cube
+pub printed_cube : (vars : ℕ) (literals : List ℤ) (bytes : List ℕ) (cube : CubeValue) → IsLiteralsText literals bytes → IsCubeOver vars literals → IsCubeOf literals cube → IsCubeText vars bytes cube
 unfolding literals_text
 printed_cube vars literals bytes cube text over set = record {
   literals = literals;
@@ -23,7 +23,7 @@ printed_cube vars literals bytes cube text over set = record {
   set = set;
 }
 
-read_cube : (vars : ℕ) (bytes : List ℕ) (cube : CubeValue) → vars < 10 ^ 18 → (h : IsCubeText vars bytes cube) → IsTextOf h.literals bytes
+read_cube : (vars : ℕ) (bytes : List ℕ) (cube : CubeValue) → vars < 10 ^ 18 → (h : IsCubeText vars bytes cube) → IsLiteralsText h.literals bytes
 unfolding literals_text
 read_cube vars bytes cube few h = record {
   few = record { count = h.few; each = All-map (IsLiteral vars) IsStreamLiteral (stream_literal vars few) h.literals h.over };

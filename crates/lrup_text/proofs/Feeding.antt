@@ -2,19 +2,19 @@
 use Rattle.std.proofs.Common.{◌≡◌, ℕ, ◌≤◌, List, ◌++◌, length, take, Option, None, Ok, Err, refl, sym, ◌∙◌, ap, subst, arith}
 use Rattle.lrup_text.specs.declared.LineFault.{LineFault}
 use Rattle.lrup_text.specs.declared.Line.{Line}
-use Rattle.lrup_text.specs.declared.machine.Step.TheVariants.{More, Done, Refused}
+use Rattle.lrup_text.specs.declared.machine.ByteStep.TheVariants.{More, Done, Refused}
 use Rattle.lrup_text.specs.declared.machine.PartialLine.{PartialLine}
-use Rattle.lrup_text.specs.declared.reader.Turn.{Turn}
-use Rattle.lrup_text.specs.declared.reader.Turn.TheVariants as turns
+use Rattle.lrup_text.specs.declared.reader.ReaderTurn.{ReaderTurn}
+use Rattle.lrup_text.specs.declared.reader.ReaderTurn.TheVariants as turns
 use Rattle.lrup_text.specs.Lines.{IsPending, LineText, line_of}
 use Rattle.lrup_text.specs.Reading.{StepsThrough, pending, line_so_far}
-use Rattle.lrup_text.specs.Feeding.{ReaderState, state_of, Feeds, Leaves}
+use Rattle.lrup_text.specs.Feeding.{ReaderState, reader_state, Feeds, ReaderLeaves}
 use Rattle.lrup_text.proofs.TextLaws.{empty_pending}
 use Rattle.lrup_text.proofs.Readers.{reads_pending}
 
 -- what a piece gives, and what it leaves
-pub record Fed (old : ReaderState) (piece : List ℕ) (used : ℕ) (turn : Turn) (new : ReaderState) : Type 0 where
-  pub leaves : Leaves old piece turn new
+pub record Fed (old : ReaderState) (piece : List ℕ) (used : ℕ) (turn : ReaderTurn) (new : ReaderState) : Type 0 where
+  pub leaves : ReaderLeaves old piece turn new
   pub gives : Feeds old piece used turn
 
 module _ (m next : PartialLine) (piece : List ℕ) (used : ℕ) where
@@ -28,16 +28,16 @@ module _ (m next : PartialLine) (piece : List ℕ) (used : ℕ) where
   fed_fault fault h = record { leaves = refl; gives = h }
 
 -- the same at equal values
-pub fed_at : {old old' new new' : ReaderState} {turn turn' : Turn} (piece : List ℕ) (used : ℕ) → Fed old' piece used turn' new' → old' ≡ old → turn ≡ turn' → new ≡ new' → Fed old piece used turn new
+pub fed_at : {old old' new new' : ReaderState} {turn turn' : ReaderTurn} (piece : List ℕ) (used : ℕ) → Fed old' piece used turn' new' → old' ≡ old → turn ≡ turn' → new ≡ new' → Fed old piece used turn new
 fed_at {old} {old'} {new} {new'} {turn} {turn'} piece used h o t n =
     subst (λ x. Fed x piece used turn new) o (subst (λ x. Fed old' piece used x new) (sym t) (subst (λ x. Fed old' piece used turn' x) (sym n) h))
 
 -- a reader with no fault is the text that it has read
-pub no_fault : {state : ReaderState} {fault : Option LineFault} (m : PartialLine) → state_of fault (pending m) ≡ state → fault ≡ None → Ok (pending m) ≡ state
-no_fault m view none = sym (ap (λ f. state_of f (pending m)) none) ∙ view
+pub no_fault : {state : ReaderState} {fault : Option LineFault} (m : PartialLine) → reader_state fault (pending m) ≡ state → fault ≡ None → Ok (pending m) ≡ state
+no_fault m view none = sym (ap (λ f. reader_state f (pending m)) none) ∙ view
 
 -- no more is used than is there
-pub fed_bound : (old : ReaderState) (piece : List ℕ) (used : ℕ) (turn : Turn) → Feeds old piece used turn → used ≤ length piece
+pub fed_bound : (old : ReaderState) (piece : List ℕ) (used : ℕ) (turn : ReaderTurn) → Feeds old piece used turn → used ≤ length piece
 fed_bound (Err fault) piece used turn h = omega (arith, h.0)
 fed_bound (Ok read) piece used (turns.Line line) h = h.1
 fed_bound (Ok read) piece used turns.NeedMore h = omega (arith, h)

@@ -5,25 +5,25 @@ use Rattle.std.proofs.lemmas.List.{append_assoc, append-nil, length-drop, take_m
 use Rattle.std.proofs.Math.Seq.{take-add}
 use Rattle.lrup_text.specs.declared.machine.Place.{Place}
 use Rattle.lrup_text.specs.declared.machine.Place.TheVariants as places
-use Rattle.lrup_text.specs.declared.machine.Step.{Step}
-use Rattle.lrup_text.specs.declared.machine.Step.TheVariants.{More, Done, Refused}
+use Rattle.lrup_text.specs.declared.machine.ByteStep.{ByteStep}
+use Rattle.lrup_text.specs.declared.machine.ByteStep.TheVariants.{More, Done, Refused}
 use Rattle.lrup_text.specs.Faults.{IsRefused}
 use Rattle.lrup_text.specs.declared.machine.PartialLine.{PartialLine}
 use Rattle.lrup_text.specs.Grammar.{space, minus, zero_digit, letter_i, SpellsNumber}
 use Rattle.lrup_text.specs.Lines.{IsPending, IsStreamNumber, LineText}
-use Rattle.lrup_text.specs.Reading.{HasRoom, FitsDigits, IsKept, Reads, ReadsAhead, Steps, StepsThrough, pending_at, spot_at, pending, IsRoomy, line_so_far, clause_front, list_front, item_front, end_front, literal_front, literals_text, items_text, literals_of, identities_of}
+use Rattle.lrup_text.specs.Reading.{HasRoom, FitsDigits, CanStandInLine, IsPartialLine, ReadsAhead, ReadsByte, StepsThrough, pending_at, spot_at, pending, IsRoomy, line_so_far, clause_front, list_front, item_front, end_front, literal_front, literals_text, items_text, literals_read, identities_read}
 use Rattle.lrup_text.proofs.Bytes.{bounded, below_limit}
 use Rattle.lrup_text.proofs.TextLaws.{tracks_pending}
 use Rattle.lrup_text.proofs.Numerals.{number_word}
 use Rattle.lrup_text.proofs.Steps.{at_start}
 
 -- what is read in part begins a line, and has no whole one
-pub reads_pending : (m : PartialLine) → Reads m → IsPending (pending m)
+pub reads_pending : (m : PartialLine) → IsPartialLine m → IsPending (pending m)
 reads_pending m h = tracks_pending (pending m) (spot_at m.place m) h.tracks (bounded m h)
 
 -- before the first byte
-pub start_reads : (m : PartialLine) → m.place ≡ places.Start → HasRoom m.literals.items m.identities.items → IsKept m.lead m.literals.items m.literal_count m.identities.items m.identity_count
-    → FitsDigits m.number m.digits → Reads m × (pending m ≡ [])
+pub start_reads : (m : PartialLine) → m.place ≡ places.Start → HasRoom m.literals.items m.identities.items → CanStandInLine m.lead m.literals.items m.literal_count m.identities.items m.identity_count
+    → FitsDigits m.number m.digits → IsPartialLine m × (pending m ≡ [])
 unfolding pending_at spot_at IsRoomy
 start_reads m at room kept number = (
   record {
@@ -65,15 +65,15 @@ unfolding pending_at
 started m places.Start ne h e = ne refl
 started m places.Lead ne h e = word_some (decimal m.number) (number_word m.number h.low (below_limit m.number m.digits h)) e
 started m places.Import ne h e = some_byte (decimal m.lead) space _ e
-started m places.Body ne h e = clause_started m.imports m.lead (literals_of m) [] (append-nil (clause_front m.imports m.lead (literals_of m)) ∙ e)
-started m places.Minus ne h e = clause_started m.imports m.lead (literals_of m) (minus ∷ []) e
-started m places.Literal ne h e = clause_started m.imports m.lead (literals_of m) (literal_front m.negative m.number) e
-started m places.List ne h e = list_started m.deletes m.lead (literals_of m) e
+started m places.Body ne h e = clause_started m.imports m.lead (literals_read m) [] (append-nil (clause_front m.imports m.lead (literals_read m)) ∙ e)
+started m places.Minus ne h e = clause_started m.imports m.lead (literals_read m) (minus ∷ []) e
+started m places.Literal ne h e = clause_started m.imports m.lead (literals_read m) (literal_front m.negative m.number) e
+started m places.List ne h e = list_started m.deletes m.lead (literals_read m) e
 started m places.Item ne h e = some_byte (item_front m) space _ e
 started m places.Number ne h e = some_byte (item_front m) space _ e
-started m places.LineEnd ne h e = end_started m.imports m.deletes m.lead (literals_of m) (identities_of m) e
+started m places.LineEnd ne h e = end_started m.imports m.deletes m.lead (literals_read m) (identities_read m) e
 
-pub is_started : (m : PartialLine) → Reads m → m.place ≢ places.Start → pending m ≡ [] → ⊥
+pub is_started : (m : PartialLine) → IsPartialLine m → m.place ≢ places.Start → pending m ≡ [] → ⊥
 is_started m h ne e = started m m.place ne h.number e
 
 pub is_empty : (m : PartialLine) → m.place ≡ places.Start → pending m ≡ []
@@ -87,19 +87,19 @@ read_more read before piece i byte now h is so step =
     step ∙ ap (λ t. t ++ byte ∷ []) so ∙ append_assoc read (take i piece) (byte ∷ []) ∙ ap (λ x. read ++ (take i piece ++ x ∷ [])) is ∙ ap (λ t. read ++ t) (sym (take_more piece i 0 h))
 
 -- no list is kept
-pub kept_none : (first : ℕ) (lits : List ℤ) (ids : List ℕ) → IsStreamNumber first → IsKept first lits 0 ids 0
+pub kept_none : (first : ℕ) (lits : List ℤ) (ids : List ℕ) → IsStreamNumber first → CanStandInLine first lits 0 ids 0
 kept_none first lits ids h = record { lead = h; few_literals = omega arith; few_identities = omega arith; literals = tt; identities = tt }
 
 -- with other lists
 pub restarts : (next : PartialLine) (lits : List ℤ) (ids : List ℕ) → next.place ≡ places.Start → next.literals.items ≡ lits → next.identities.items ≡ ids → length lits ≡ 65535 → length ids ≡ 65536
-    → IsKept next.lead lits next.literal_count ids next.identity_count → FitsDigits next.number next.digits → Reads next × (pending next ≡ [])
+    → CanStandInLine next.lead lits next.literal_count ids next.identity_count → FitsDigits next.number next.digits → IsPartialLine next × (pending next ≡ [])
 restarts next lits ids at lits_are ids_are room_lits room_ids kept number =
     start_reads next at (record { literals = ap length lits_are ∙ room_lits; identities = ap length ids_are ∙ room_ids })
-    (subst (λ x. IsKept next.lead x next.literal_count next.identities.items next.identity_count) (sym lits_are)
-    (subst (λ x. IsKept next.lead lits next.literal_count x next.identity_count) (sym ids_are) kept)) number
+    (subst (λ x. CanStandInLine next.lead x next.literal_count next.identities.items next.identity_count) (sym lits_are)
+    (subst (λ x. CanStandInLine next.lead lits next.literal_count x next.identity_count) (sym ids_are) kept)) number
 
 -- nothing but the pending text says what a piece does
-pub steps_from : (old other : PartialLine) (piece : List ℕ) (used : ℕ) (step : Step) (new : PartialLine) → pending other ≡ pending old → StepsThrough other piece used step new → StepsThrough old piece used step new
+pub steps_from : (old other : PartialLine) (piece : List ℕ) (used : ℕ) (step : ByteStep) (new : PartialLine) → pending other ≡ pending old → StepsThrough other piece used step new → StepsThrough old piece used step new
 steps_from old other piece used More new same h = (h.0, h.1, h.2 ∙ ap (λ t. t ++ piece) same)
 steps_from old other piece used Done new same h = (h.0, h.1, h.2, h.3, subst (λ t. LineText (line_so_far new) (t ++ take used piece)) same h.4)
 steps_from old other piece used (Refused fault) new same h = (h.0, h.1, subst (λ t. IsRefused (t ++ take used piece) fault) same h.2)
@@ -119,10 +119,10 @@ byte_after old mid piece used byte same inside is =
     ap (λ t. t ++ byte ∷ []) same ∙ append_assoc (pending old) (take used piece) (byte ∷ []) ∙ ap (λ x. pending old ++ (take used piece ++ x ∷ [])) is
     ∙ ap (λ t. pending old ++ t) (sym (take_more piece used 0 inside))
 
-pub ahead_byte : (old mid new : PartialLine) (piece : List ℕ) (used byte : ℕ) → ReadsAhead old piece used mid → used < length piece → byte ≡ get_or piece used 0 → Steps mid byte More new → ReadsAhead old piece (used + 1) new
+pub ahead_byte : (old mid new : PartialLine) (piece : List ℕ) (used byte : ℕ) → ReadsAhead old piece used mid → used < length piece → byte ≡ get_or piece used 0 → ReadsByte mid byte More new → ReadsAhead old piece (used + 1) new
 ahead_byte old mid new piece used byte h inside is k = record { bound = omega arith; reads = k.0; is = k.1 ∙ byte_after old mid piece used byte h.is inside is }
 
-pub steps_byte : (old mid new : PartialLine) (piece : List ℕ) (used byte : ℕ) (step : Step) → ReadsAhead old piece used mid → used < length piece → byte ≡ get_or piece used 0 → (step ≡ More → ⊥) → Steps mid byte step new
+pub steps_byte : (old mid new : PartialLine) (piece : List ℕ) (used byte : ℕ) (step : ByteStep) → ReadsAhead old piece used mid → used < length piece → byte ≡ get_or piece used 0 → (step ≡ More → ⊥) → ReadsByte mid byte step new
     → StepsThrough old piece (used + 1) step new
 steps_byte old mid new piece used byte More h inside is ends k = absurd (ends refl)
 steps_byte old mid new piece used byte Done h inside is ends k = (omega arith, omega arith, k.0, k.1, subst (LineText (line_so_far new)) (byte_after old mid piece used byte h.is inside is) k.2)

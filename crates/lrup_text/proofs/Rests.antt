@@ -2,7 +2,7 @@
 use Rattle.std.proofs.Common.{◌≡◌, ℕ, ◌+◌, ◌<◌, ◌≤◌, ◌⊎◌, inl, inr, Bool, true, false, List, [], ◌∷◌, ◌++◌, length, refl, sym, ◌∙◌, ap, subst, arith}
 use Rattle.std.specs.Prelude.{MatchBool}
 use Rattle.std.specs.List.{AllByRecursion}
-use Rattle.lrup_text.specs.Grammar.{Limits, AreWords, IsDigit, SpellsNumber, SpellsLiteral, IsLine, Words, Adds, Deletes, Imports, IsWithin, text, list_text, clause_text, line_feed, space, letter_d, letter_i, minus, zero_digit}
+use Rattle.lrup_text.specs.Grammar.{Limits, AreWords, IsDigit, SpellsNumber, SpellsLiteral, IsLine, Words, Adds, Deletes, Imports, AreWordsWithin, text, list_text, clause_text, line_feed, space, letter_d, letter_i, minus, zero_digit}
 use Rattle.lrup_text.specs.Rests.{SpellsItem, ListFollows, ClauseEnds, ClauseFollows, LiteralsFollow, BodyFollows, DigitsFollow, NumberFollows}
 
 pub same_head : {a b : ℕ} {xs ys : List ℕ} → a ∷ xs ≡ b ∷ ys → a ≡ b
@@ -231,7 +231,7 @@ line_to limits bytes line = cases line.0 line.1 line.2
     start (c ∷ cs) after h is body =
         subst (NumberFollows limits (BodyFollows limits false 0)) (sym is) (number_from limits _ c _ h.0 h.1 (number_word limits _ c cs after _ h refl body))
 
-    cases : (words : Words) → IsWithin limits words → bytes ≡ text words → NumberFollows limits (BodyFollows limits false 0) bytes
+    cases : (words : Words) → AreWordsWithin limits words → bytes ≡ text words → NumberFollows limits (BodyFollows limits false 0) bytes
     cases (Adds id lits hints) h is =
         let few : length lits ≤ limits.literals = h.1.count in
         start id (clause_text lits (list_text hints)) h.0 is

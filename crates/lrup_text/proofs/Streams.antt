@@ -7,12 +7,12 @@ use Rattle.std.proofs.lemmas.List.{append_assoc, length-append, length-map, appe
 use Rattle.lrup_model.specs.ListLemmas.{All-push}
 use Rattle.lrup_text.specs.declared.LineFault.{LineFault}
 use Rattle.lrup_text.specs.declared.LineFault.TheVariants.{Spelling, TooLong, Truncated, RatHint}
-use Rattle.lrup_text.specs.declared.reader.Turn.{Turn}
-use Rattle.lrup_text.specs.declared.reader.Turn.TheVariants.{Line, NeedMore, Fault}
-use Rattle.lrup_text.specs.Grammar.{standard, IsDigit, SpellsNumber, SpellsLiteral, AreWords, Words, Adds, Deletes, Imports, IsWithin, IsLine, text, minus, Begins}
+use Rattle.lrup_text.specs.declared.reader.ReaderTurn.{ReaderTurn}
+use Rattle.lrup_text.specs.declared.reader.ReaderTurn.TheVariants.{Line, NeedMore, Fault}
+use Rattle.lrup_text.specs.Grammar.{standard, IsDigit, SpellsNumber, SpellsLiteral, AreWords, Words, Adds, Deletes, Imports, AreWordsWithin, IsLine, text, minus, Begins}
 use Rattle.lrup_text.specs.Lines.{StreamLine, Addition, Deletion, Import, IsStreamNumber, IsStreamLiteral, AreFew, IsWithinLimits, LineText, words_of, line_text, HasNoLine, Cut, line_of}
-use Rattle.lrup_text.specs.Faults.{IsFaultOf, Decides, IsRefused}
-use Rattle.lrup_text.specs.Feeding.{ReaderState, Feeds, Leaves}
+use Rattle.lrup_text.specs.Faults.{IsLineFaultOf, Decides, IsRefused}
+use Rattle.lrup_text.specs.Feeding.{ReaderState, Feeds, ReaderLeaves}
 use Rattle.lrup_text.specs.Cutting.{used_bytes, line_given, lines_given, IsCut}
 use Rattle.lrup_text.specs.Laws.{OneText, OneLine, NoTextBegins, TextsAreLines, OneCut, OneFault, EmptyCut, CallCuts, CallsCut, RefusedStays, OneFirstLine}
 use Rattle.lrup_text.proofs.Numerals.{decimal_byte, decimal_one, power_more, power_below}
@@ -144,7 +144,7 @@ few_spelled {X} most f P Q each ws h =
     let all : (xs : List X) × AllByRecursion P xs × (map f xs ≡ ws) = all_spelled f P Q each ws h.each in
     (all.0, record { count = omega (arith, h.count, length-map all.0 f, ap length all.2); each = all.1 }, all.2)
 
-line_spelled : (words : Words) → IsWithin standard words → (line : StreamLine) × IsWithinLimits line × (words_of line ≡ words)
+line_spelled : (words : Words) → AreWordsWithin standard words → (line : StreamLine) × IsWithinLimits line × (words_of line ≡ words)
 line_spelled (Adds id lits hints) h =
     let first = spelled id h.0 in
     let second = few_spelled 65535 signed_decimal IsStreamLiteral (SpellsLiteral 18) spelled_signed lits h.1 in
@@ -194,7 +194,7 @@ shorter (c ∷ p) (d ∷ q) x y b e = elim (shorter p q x y b (same_tail e)) [
   | inr h ↦ inr (h.0, ap (λ z. z ∷ q) (sym (same_head e)) ∙ ap (λ t. c ∷ t) h.1)
 ]
 
-faults_same : (bytes : List ℕ) (fault other : LineFault) → IsFaultOf bytes fault → IsFaultOf bytes other → fault ≡ other
+faults_same : (bytes : List ℕ) (fault other : LineFault) → IsLineFaultOf bytes fault → IsLineFaultOf bytes other → fault ≡ other
 faults_same bytes Spelling Spelling a b = refl
 faults_same bytes Spelling TooLong a b = absurd (a.0 b)
 faults_same bytes Spelling Truncated a b = absurd b
@@ -230,7 +230,7 @@ refused_same p q x y b c fault other h k e =
         let rest : b ∷ x ≡ c ∷ y =
         append_cancel_left p (b ∷ x) (c ∷ y) (sym (append_assoc p (b ∷ []) x) ∙ e ∙ append_assoc q (c ∷ []) y ∙ ap (λ t. t ++ c ∷ y) same) in
         let byte : q ++ c ∷ [] ≡ p ++ b ∷ [] = ap (λ t. t ++ c ∷ []) same ∙ ap (λ z. p ++ z ∷ []) (sym (same_head rest)) in
-        faults_same (p ++ b ∷ []) fault other h.why (subst (λ t. IsFaultOf t other) byte k.why)
+        faults_same (p ++ b ∷ []) fault other h.why (subst (λ t. IsLineFaultOf t other) byte k.why)
 
 pub one_fault : OneFault
 one_fault rest fault other h = (
@@ -271,10 +271,10 @@ cut_line stream lines read more line cut text none = record {
   last = none;
 }
 
-cut_call : (stream : List ℕ) (lines : List StreamLine) (old new : ReaderState) (piece : List ℕ) (used : ℕ) (turn : Turn) → IsCut stream lines old → Feeds old piece used turn → Leaves old piece turn new
+cut_call : (stream : List ℕ) (lines : List StreamLine) (old new : ReaderState) (piece : List ℕ) (used : ℕ) (turn : ReaderTurn) → IsCut stream lines old → Feeds old piece used turn → ReaderLeaves old piece turn new
     → IsCut (stream ++ take used piece) (lines ++ line_given turn) new
 cut_call stream lines (Err fault) new piece used turn cut gives leaves =
-    let given : new ≡ Err fault = subst (λ t. Leaves (Err fault) piece t new) gives.1 leaves in
+    let given : new ≡ Err fault = subst (λ t. ReaderLeaves (Err fault) piece t new) gives.1 leaves in
     let nothing : stream ++ take used piece ≡ stream = ap (λ k. stream ++ take k piece) gives.0 ∙ append-nil stream in
     let no_lines : lines ++ line_given turn ≡ lines = ap (λ t. lines ++ line_given t) gives.1 ∙ append-nil lines in
     subst (λ x. IsCut (stream ++ take used piece) (lines ++ line_given turn) x) (sym given)

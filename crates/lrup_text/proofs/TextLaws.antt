@@ -3,7 +3,7 @@ use Rattle.std.proofs.Common.{◌≡◌, ◌≢◌, ℕ, suc, ℤ, pos, negsuc, 
 use Rattle.std.specs.Fmt.{decimal, signed_decimal}
 use Rattle.std.specs.List.{AllByRecursion}
 use Rattle.std.proofs.lemmas.List.{append_assoc, length-append, length-map, append-nil}
-use Rattle.lrup_text.specs.Grammar.{standard, IsDigit, SpellsNumber, SpellsLiteral, AreWords, Words, Adds, Deletes, Imports, IsWithin, IsLine, text, list_text, clause_text, space, minus, zero_digit, letter_d, letter_i, line_feed}
+use Rattle.lrup_text.specs.Grammar.{standard, IsDigit, SpellsNumber, SpellsLiteral, AreWords, Words, Adds, Deletes, Imports, AreWordsWithin, IsLine, text, list_text, clause_text, space, minus, zero_digit, letter_d, letter_i, line_feed}
 use Rattle.lrup_text.specs.Laws.{EmptyPending}
 use Rattle.lrup_text.specs.Lines.{StreamLine, Addition, Deletion, Import, IsStreamNumber, IsStreamLiteral, AreFew, IsWithinLimits, words_of, line_text, HasNoLine, IsPending}
 use Rattle.lrup_text.specs.Rests.{Spot, AtStart, Tracks}
@@ -99,7 +99,7 @@ lead_word (Adds id lits hints) = id
 lead_word (Deletes lead ids) = lead
 lead_word (Imports id lits) = id
 
-lead_is_number : (w : Words) → IsWithin standard w → SpellsNumber 18 (lead_word w)
+lead_is_number : (w : Words) → AreWordsWithin standard w → SpellsNumber 18 (lead_word w)
 lead_is_number (Adds id lits hints) h = h.0
 lead_is_number (Deletes lead ids) h = h.0
 lead_is_number (Imports id lits) h = h.0
@@ -116,7 +116,7 @@ lits_apart vs ws x y hv hw e =
     (sym (clause_append vs (line_feed ∷ []) x) ∙ same_tail (ap (λ t. t ++ x) (sym (list_is_clause vs)) ∙ e ∙ ap (λ t. t ++ y) (list_is_clause ws)) ∙ clause_append ws (line_feed ∷ []) y) in
     (one.0, same_tail one.1)
 
-rests_apart : (v w : Words) (x y : List ℕ) → IsWithin standard v → IsWithin standard w → lead_word v ≡ lead_word w → after_lead v ++ x ≡ after_lead w ++ y → (v ≡ w) × (x ≡ y)
+rests_apart : (v w : Words) (x y : List ℕ) → AreWordsWithin standard v → AreWordsWithin standard w → lead_word v ≡ lead_word w → after_lead v ++ x ≡ after_lead w ++ y → (v ≡ w) × (x ≡ y)
 rests_apart (Adds i ls hs) (Adds j ms gs) x y hv hw lead e =
     let clause = clause_apart ls ms (list_text hs ++ x) (list_text gs ++ y) hv.1.each hw.1.each
     (sym (clause_append ls (list_text hs) x) ∙ e ∙ clause_append ms (list_text gs) y) in
@@ -140,7 +140,7 @@ rests_apart (Imports i ls) (Imports j ms) x y hv hw lead e =
     (ap (λ z. Imports z ls) lead ∙ ap (λ z. Imports j z) list.0, list.1)
 
 -- the text of words begins no other
-pub words_apart : (v w : Words) (x y : List ℕ) → IsWithin standard v → IsWithin standard w → text v ++ x ≡ text w ++ y → (v ≡ w) × (x ≡ y)
+pub words_apart : (v w : Words) (x y : List ℕ) → AreWordsWithin standard v → AreWordsWithin standard w → text v ++ x ≡ text w ++ y → (v ≡ w) × (x ≡ y)
 words_apart v w x y hv hw e =
     let one = word_apart (lead_word v) (lead_word w) (after_lead v ++ x) (after_lead w ++ y) (number_no_space 18 (lead_word v) (lead_is_number v hv)) (number_no_space 18 (lead_word w) (lead_is_number w hw))
     (sym (text_parts v x) ∙ e ∙ text_parts w y) in
@@ -162,7 +162,7 @@ few_map most f P Q each xs h = record { count = omega (arith, length-map xs f, h
 pub decimal_word : (n : ℕ) → IsStreamNumber n → SpellsNumber 18 (decimal n)
 decimal_word n h = number_word n h.0 h.1
 
-pub fits_within : (line : StreamLine) → IsWithinLimits line → IsWithin standard (words_of line)
+pub fits_within : (line : StreamLine) → IsWithinLimits line → AreWordsWithin standard (words_of line)
 fits_within (Addition id lits hints) h =
     (decimal_word id h.0, few_map 65535 signed_decimal IsStreamLiteral (SpellsLiteral 18) signed_word lits h.1, few_map 65536 decimal IsStreamNumber (SpellsNumber 18) decimal_word hints h.2)
 fits_within (Import id lits) h = (decimal_word id h.0, few_map 65535 signed_decimal IsStreamLiteral (SpellsLiteral 18) signed_word lits h.1)

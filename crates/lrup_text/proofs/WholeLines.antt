@@ -9,7 +9,7 @@ use Rattle.lrup_model.specs.ListLemmas.{All-push}
 use Rattle.lrup_text.specs.Grammar.{space, minus, zero_digit, letter_d, letter_i, line_feed}
 use Rattle.lrup_text.specs.Lines.{IsStreamNumber, IsStreamLiteral}
 use Rattle.lrup_text.specs.Kernel.{EndsLine, EndsWord, ReadsNumber, ReadsLiterals, ReadsItems, ReadsList, ReadsClause, IsWhole, numbers_text}
-use Rattle.lrup_text.specs.Reading.{FitsDigits, IsKept, literals_text, items_text, literal_front, clause_front, list_front}
+use Rattle.lrup_text.specs.Reading.{FitsDigits, CanStandInLine, literals_text, items_text, literal_front, clause_front, list_front}
 use Rattle.lrup_text.proofs.Numerals.{decimal_one}
 use Rattle.lrup_text.proofs.Bytes.{first_digit, more_digits, decimal_next, below_limit, positive, text_more, line_end, line_fits}
 
@@ -210,7 +210,7 @@ pub whole_import : (line : List ℕ) (lits : List ℤ) (ids : List ℕ) (lead en
     → get_or line (end + 1) 0 ≡ letter_i → ReadsClause line ((end + 1) + 1) lits count
     → IsWhole line lits ids (record { lead = lead; imports = true; deletes = false; literal_count = count; identity_count = 0 })
 whole_import line lits ids lead end count room number is inside letter clause =
-    let kept : IsKept lead lits count ids 0 = record { lead = number.positive; few_literals = omega (arith, clause.few, room); few_identities = omega arith; literals = clause.each; identities = tt } in
+    let kept : CanStandInLine lead lits count ids 0 = record { lead = number.positive; few_literals = omega (arith, clause.few, room); few_identities = omega arith; literals = clause.each; identities = tt } in
     let mark : take ((end + 1) + 1) line ≡ decimal lead ++ space ∷ letter_i ∷ [] =
     take_more line (end + 1) 0 inside ∙ ap (λ x. take (end + 1) line ++ x ∷ []) letter
     ∙ ap (λ t. t ++ letter_i ∷ []) (take_more line end 0 number.inside ∙ ap (λ x. take end line ++ x ∷ []) is ∙ ap (λ t. t ++ space ∷ []) number.is)
@@ -232,7 +232,7 @@ pub whole_deletion : (line : List ℕ) (lits : List ℤ) (ids : List ℕ) (lead 
     → get_or line (end + 1) 0 ≡ letter_d → ReadsList line ((end + 1) + 1) ids count
     → IsWhole line lits ids (record { lead = lead; imports = false; deletes = true; literal_count = 0; identity_count = count })
 whole_deletion line lits ids lead end count room number is inside letter list =
-    let kept : IsKept lead lits 0 ids count = record { lead = number.positive; few_literals = omega arith; few_identities = omega (arith, list.few, room); literals = tt; identities = list.each } in
+    let kept : CanStandInLine lead lits 0 ids count = record { lead = number.positive; few_literals = omega arith; few_identities = omega (arith, list.few, room); literals = tt; identities = list.each } in
     let front : take ((end + 1) + 1) line ≡ list_front true lead [] =
     take_more line (end + 1) 0 inside ∙ ap (λ x. take (end + 1) line ++ x ∷ []) letter
     ∙ ap (λ t. t ++ letter_d ∷ []) (take_more line end 0 number.inside ∙ ap (λ x. take end line ++ x ∷ []) is ∙ ap (λ t. t ++ space ∷ []) number.is)
@@ -252,7 +252,7 @@ pub whole_addition : (line : List ℕ) (old lits : List ℤ) (ids : List ℕ) (l
     → ReadsLiterals line (end + 1) old 0 lits literals close → close < length line → get_or line close 0 ≡ zero_digit → ReadsList line (close + 1) ids count
     → IsWhole line lits ids (record { lead = lead; imports = false; deletes = false; literal_count = literals; identity_count = count })
 whole_addition line old lits ids lead end literals close count room_lits room_ids number is clause inside nought list =
-    let kept : IsKept lead lits literals ids count = record {
+    let kept : CanStandInLine lead lits literals ids count = record {
       lead = number.positive;
       few_literals = omega (arith, clause.few, room_lits);
       few_identities = omega (arith, list.few, room_ids);

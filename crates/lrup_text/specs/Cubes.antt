@@ -3,14 +3,14 @@
 -- A file is the text of a cube if it is one such line and nothing more.
 use Rattle.std.specs.Prelude.{◌≡◌, ◌⊎◌, ◌↔◌, ◌≤◌, ◌<◌, ◌^◌, ℕ, ℤ, false, List, [], ◌∷◌, ◌++◌, codes, length, map, flat_map}
 use Rattle.std.specs.Fmt.{signed_decimal}
-use Rattle.lrup_model.specs.Cube.{CubeValue, IsCubeOf, IsOver}
+use Rattle.lrup_model.specs.Cube.{CubeValue, IsCubeOf, IsCubeOver}
 use Rattle.lrup_text.specs.declared.cube.CubeFault.{CubeFault}
 use Rattle.lrup_text.specs.declared.cube.CubeFault.TheVariants.{Spelling, TooLong, Range, Memory}
 use Rattle.lrup_text.specs.Grammar.{Limits, AreLifted, standard, AreWords, SpellsLiteral, clause_text, line_feed}
 use Rattle.lrup_text.specs.Lines.{IsStreamLiteral, AreFew}
 
 -- the bytes are the text of these literals, as they are written
-pub record IsTextOf (literals : List ℤ) (bytes : List ℕ) : Type 0 where
+pub record IsLiteralsText (literals : List ℤ) (bytes : List ℕ) : Type 0 where
   pub few : AreFew 65535 IsStreamLiteral literals
   pub is : bytes ≡ clause_text (map signed_decimal literals) (line_feed ∷ [])
 
@@ -20,7 +20,7 @@ pub record IsCubeText (vars : ℕ) (bytes : List ℕ) (cube : CubeValue) : Type 
   pub literals : List ℤ
   pub text : bytes ≡ flat_map (λ l. signed_decimal l ++ codes " ") literals ++ codes "0\n"
   pub few : length literals ≤ 65535
-  pub over : IsOver vars literals
+  pub over : IsCubeOver vars literals
   pub set : IsCubeOf literals cube
 
 -- Faults.
@@ -41,8 +41,8 @@ BeginsOneLifted IsOne bytes =
     (limits : Limits) × AreLifted false limits × BeginsOne IsOne limits bytes
 
 -- they begin one, and are none
-abbrev pub EndsEarly : (Limits → List ℕ → Type 0) → List ℕ → Type 0
-EndsEarly IsOne bytes = BeginsOne IsOne standard bytes × ¬ IsOne standard bytes
+abbrev pub BreaksOff : (Limits → List ℕ → Type 0) → List ℕ → Type 0
+BreaksOff IsOne bytes = BeginsOne IsOne standard bytes × ¬ IsOne standard bytes
 
 -- they begin none, and what holds of their shortest beginning that begins none
 pub record BeginsNone (IsOne : Limits → List ℕ → Type 0) (bytes : List ℕ)
@@ -58,7 +58,7 @@ pub record BeginsNone (IsOne : Limits → List ℕ → Type 0) (bytes : List ℕ
 -- why they are none
 abbrev pub IsTextFault : (Limits → List ℕ → Type 0) → List ℕ → CubeFault → Type 0
 IsTextFault IsOne bytes Spelling =
-    EndsEarly IsOne bytes ⊎ BeginsNone IsOne bytes (λ shortest. ¬ BeginsOneLifted IsOne shortest)
+    BreaksOff IsOne bytes ⊎ BeginsNone IsOne bytes (λ shortest. ¬ BeginsOneLifted IsOne shortest)
 IsTextFault IsOne bytes TooLong = BeginsNone IsOne bytes (BeginsOneLifted IsOne)
 IsTextFault IsOne bytes Range = ⊥
 IsTextFault IsOne bytes Memory = ⊥
@@ -68,19 +68,20 @@ abbrev pub IsCubeFault : ℕ → List ℕ → CubeFault → Type 0
 IsCubeFault vars bytes Spelling = IsTextFault IsCubeLine bytes Spelling
 IsCubeFault vars bytes TooLong = IsTextFault IsCubeLine bytes TooLong
 IsCubeFault vars bytes Range =
-    (literals : List ℤ) × IsTextOf literals bytes × ¬ IsOver vars literals
-IsCubeFault vars bytes Memory = (literals : List ℤ) × IsTextOf literals bytes × IsOver vars literals
+    (literals : List ℤ) × IsLiteralsText literals bytes × ¬ IsCubeOver vars literals
+IsCubeFault vars bytes Memory =
+    (literals : List ℤ) × IsLiteralsText literals bytes × IsCubeOver vars literals
 
 -- Laws
 
 -- the text of literals is no misspelled one, and none that is too long
 abbrev pub TextHasNoFault : Type 0
-TextHasNoFault = (literals : List ℤ) (bytes : List ℕ) (fault : CubeFault) → IsTextOf literals bytes
-    → ¬ IsTextFault IsCubeLine bytes fault
+TextHasNoFault = (literals : List ℤ) (bytes : List ℕ) (fault : CubeFault)
+    → IsLiteralsText literals bytes → ¬ IsTextFault IsCubeLine bytes fault
 
 -- the text of a cube over variables of at most 18 digits is a text of its literals
 abbrev pub CubeTextIsRead : Type 0
 CubeTextIsRead = (vars : ℕ) (bytes : List ℕ) (cube : CubeValue) → vars < 10 ^ 18
     → IsCubeText vars bytes cube
-    ↔ ((literals : List ℤ) × IsTextOf literals bytes × IsOver vars literals
+    ↔ ((literals : List ℤ) × IsLiteralsText literals bytes × IsCubeOver vars literals
     × IsCubeOf literals cube)

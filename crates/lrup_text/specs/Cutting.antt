@@ -1,23 +1,23 @@
 -- Whole streams: the calls of a reader over pieces, and the lines that the stream is cut into.
 use Rattle.std.specs.Prelude.{◌≡◌, ℕ, List, [], ◌∷◌, ◌++◌, take, Ok, Err}
-use Rattle.lrup_text.specs.declared.reader.Turn.{Turn}
-use Rattle.lrup_text.specs.declared.reader.Turn.TheVariants.{Line, NeedMore, Fault}
+use Rattle.lrup_text.specs.declared.reader.ReaderTurn.{ReaderTurn}
+use Rattle.lrup_text.specs.declared.reader.ReaderTurn.TheVariants.{Line, NeedMore, Fault}
 use Rattle.lrup_text.specs.Faults.{IsRefused}
 use Rattle.lrup_text.specs.Lines.{StreamLine, line_of, Cut}
-use Rattle.lrup_text.specs.Feeding.{ReaderState, Feeds, Leaves}
+use Rattle.lrup_text.specs.Feeding.{ReaderState, Feeds, ReaderLeaves}
 
 -- a call of `feed`: the piece, how many of its bytes were used, and what they gave
 pub record Call : Type 0 where
   pub piece : List ℕ
   pub used : ℕ
-  pub turn : Turn
+  pub turn : ReaderTurn
 
 -- calls in order, from one state of the reader to another
 abbrev pub AreCalls : ReaderState → List Call → ReaderState → Type 0
 AreCalls old [] new = new ≡ old
 AreCalls old (call ∷ calls) new =
     (state : ReaderState) × Feeds old call.piece call.used call.turn
-    × Leaves old call.piece call.turn state × AreCalls state calls new
+    × ReaderLeaves old call.piece call.turn state × AreCalls state calls new
 
 -- the bytes that the calls used
 abbrev pub used_bytes : List Call → List ℕ
@@ -25,7 +25,7 @@ used_bytes [] = []
 used_bytes (call ∷ calls) = take call.used call.piece ++ used_bytes calls
 
 -- the line that a call gave
-abbrev pub line_given : Turn → List StreamLine
+abbrev pub line_given : ReaderTurn → List StreamLine
 line_given (Line line) = line_of line ∷ []
 line_given NeedMore = []
 line_given (Fault fault) = []

@@ -6,17 +6,17 @@ use Rattle.lrup_text.specs.Grammar.{Begins, BeginsLifted}
 use Rattle.lrup_text.specs.Lines.{IsPending}
 
 -- of a text that begins no line, why it begins none
-abbrev pub IsFaultOf : List ℕ → LineFault → Type 0
-IsFaultOf bytes Spelling = ¬ BeginsLifted false bytes × ¬ BeginsLifted true bytes
-IsFaultOf bytes TooLong = BeginsLifted false bytes
-IsFaultOf bytes Truncated = ⊥
-IsFaultOf bytes RatHint = ¬ BeginsLifted false bytes × BeginsLifted true bytes
+abbrev pub IsLineFaultOf : List ℕ → LineFault → Type 0
+IsLineFaultOf bytes Spelling = ¬ BeginsLifted false bytes × ¬ BeginsLifted true bytes
+IsLineFaultOf bytes TooLong = BeginsLifted false bytes
+IsLineFaultOf bytes Truncated = ⊥
+IsLineFaultOf bytes RatHint = ¬ BeginsLifted false bytes × BeginsLifted true bytes
 
 -- The byte decides: what was read may still become a line, and with the byte it begins none, for this fault.
 pub record Decides (read : List ℕ) (byte : ℕ) (fault : LineFault) : Type 0 where
   pub before : IsPending read
   pub after : ¬ Begins (read ++ byte ∷ [])
-  pub why : IsFaultOf (read ++ byte ∷ []) fault
+  pub why : IsLineFaultOf (read ++ byte ∷ []) fault
 
 -- It is the shortest text that begins no line, with this fault, and no line is whole in it.
 abbrev pub IsRefused : List ℕ → LineFault → Type 0

@@ -3,8 +3,8 @@
 use Rattle.std.specs.Prelude.{◌≡◌, ℕ, ◌<◌, ◌≤◌, List, [], ◌++◌, length, take, Option, Some, None, Result, Ok, Err, IfOk}
 use Rattle.lrup_text.specs.declared.LineFault.{LineFault}
 use Rattle.lrup_text.specs.declared.LineFault.TheVariants.{Truncated}
-use Rattle.lrup_text.specs.declared.reader.Turn.{Turn}
-use Rattle.lrup_text.specs.declared.reader.Turn.TheVariants.{Line, NeedMore, Fault}
+use Rattle.lrup_text.specs.declared.reader.ReaderTurn.{ReaderTurn}
+use Rattle.lrup_text.specs.declared.reader.ReaderTurn.TheVariants.{Line, NeedMore, Fault}
 use Rattle.lrup_text.specs.declared.reader.End.{End}
 use Rattle.lrup_text.specs.declared.reader.End.TheVariants as ends
 use Rattle.lrup_text.specs.Faults.{IsRefused}
@@ -14,12 +14,12 @@ abbrev pub ReaderState : Type 0
 ReaderState = Result (List ℕ) LineFault
 
 -- the state with this fault, if any, and this text
-abbrev pub state_of : Option LineFault → List ℕ → ReaderState
-state_of None read = Ok read
-state_of (Some fault) read = Err fault
+abbrev pub reader_state : Option LineFault → List ℕ → ReaderState
+reader_state None read = Ok read
+reader_state (Some fault) read = Err fault
 
 -- what a reader gives for a piece, of which it uses so many bytes
-abbrev pub Feeds : ReaderState → List ℕ → ℕ → Turn → Type 0
+abbrev pub Feeds : ReaderState → List ℕ → ℕ → ReaderTurn → Type 0
 Feeds (Err fault) piece used turn = (used ≡ 0) × (turn ≡ Fault fault)
 Feeds (Ok read) piece used (Line line) =
     (0 < used) × (used ≤ length piece) × LineText (line_of line) (read ++ take used piece)
@@ -28,14 +28,15 @@ Feeds (Ok read) piece used (Fault fault) =
     (0 < used) × (used ≤ length piece) × IsRefused (read ++ take used piece) fault
 
 -- what the reader is afterwards
-abbrev pub Leaves : ReaderState → List ℕ → Turn → ReaderState → Type 0
-Leaves old piece (Line line) new = (new ≡ Ok []) × IsPending []
-Leaves old piece NeedMore new =
+abbrev pub ReaderLeaves : ReaderState → List ℕ → ReaderTurn → ReaderState → Type 0
+ReaderLeaves old piece (Line line) new = (new ≡ Ok []) × IsPending []
+ReaderLeaves old piece NeedMore new =
     IfOk old (λ read. (new ≡ Ok (read ++ piece)) × IsPending (read ++ piece))
-Leaves old piece (Fault fault) new = new ≡ Err fault
+ReaderLeaves old piece (Fault fault) new = new ≡ Err fault
 
 -- what the end of the stream is, and the reader after it
-abbrev pub Ends : ReaderState → End → ReaderState → Type 0
-Ends old ends.Clean new = (old ≡ Ok []) × (new ≡ old)
-Ends (Ok read) (ends.Fault fault) new = ¬ (read ≡ []) × (fault ≡ Truncated) × (new ≡ Err fault)
-Ends (Err given) (ends.Fault fault) new = (fault ≡ given) × (new ≡ Err given)
+abbrev pub ReaderEnds : ReaderState → End → ReaderState → Type 0
+ReaderEnds old ends.Clean new = (old ≡ Ok []) × (new ≡ old)
+ReaderEnds (Ok read) (ends.Fault fault) new =
+    ¬ (read ≡ []) × (fault ≡ Truncated) × (new ≡ Err fault)
+ReaderEnds (Err given) (ends.Fault fault) new = (fault ≡ given) × (new ≡ Err given)

@@ -83,13 +83,13 @@ pub record AreWords (most : ℕ) (IsWord : List ℕ → Type 0) (words : List (L
   pub each : AllByRecursion IsWord words
 
 -- words of a line within the limits
-abbrev pub IsWithin : Limits → Words → Type 0
-IsWithin limits (Adds id lits hints) =
+abbrev pub AreWordsWithin : Limits → Words → Type 0
+AreWordsWithin limits (Adds id lits hints) =
     SpellsNumber limits.digits id × AreWords limits.literals (SpellsLiteral limits.digits) lits
     × AreWords limits.identities (SpellsHint limits) hints
-IsWithin limits (Deletes lead ids) =
+AreWordsWithin limits (Deletes lead ids) =
     SpellsNumber limits.digits lead × AreWords limits.identities (SpellsNumber limits.digits) ids
-IsWithin limits (Imports id lits) =
+AreWordsWithin limits (Imports id lits) =
     SpellsNumber limits.digits id × AreWords limits.literals (SpellsLiteral limits.digits) lits
 
 -- *( SP num ) SP "0" LF, and *( SP lit ) SP "0" LF
@@ -110,7 +110,7 @@ text (Imports id lits) = id ++ space ∷ letter_i ∷ list_text lits
 
 -- the bytes are a line within the limits
 abbrev pub IsLine : Limits → List ℕ → Type 0
-IsLine limits bytes = (words : Words) × IsWithin limits words × (bytes ≡ text words)
+IsLine limits bytes = (words : Words) × AreWordsWithin limits words × (bytes ≡ text words)
 
 -- some rest makes a line of it
 abbrev pub BeginsWithin : Limits → List ℕ → Type 0

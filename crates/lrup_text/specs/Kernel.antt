@@ -5,7 +5,7 @@ use Rattle.std.specs.List.{AllByRecursion, flat_map}
 use Rattle.lrup_text.specs.declared.kernel.Whole.{Whole}
 use Rattle.lrup_text.specs.Grammar.{space, zero_digit, line_feed}
 use Rattle.lrup_text.specs.Lines.{LineText, IsStreamNumber, IsStreamLiteral}
-use Rattle.lrup_text.specs.Reading.{literals_text, items_text, line_of_parts, IsKept}
+use Rattle.lrup_text.specs.Reading.{literals_text, items_text, line_of_parts, CanStandInLine}
 
 -- the last byte is LF
 abbrev pub EndsLine : List ℕ → Type 0
@@ -62,6 +62,6 @@ pub record ReadsClause (line : List ℕ) (start : ℕ) (lits : List ℤ) (count 
 
 -- it is the text of the line with this first number, and these lists in front of the buffers
 pub record IsWhole (line : List ℕ) (lits : List ℤ) (ids : List ℕ) (whole : Whole) : Type 0 where
-  pub kept : IsKept whole.lead lits whole.literal_count ids whole.identity_count
+  pub kept : CanStandInLine whole.lead lits whole.literal_count ids whole.identity_count
   pub text : LineText (line_of_parts whole.imports whole.deletes whole.lead
       (take whole.literal_count lits) (take whole.identity_count ids)) line

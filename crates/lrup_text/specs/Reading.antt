@@ -4,8 +4,8 @@ use Rattle.std.specs.Fmt.{decimal, signed_decimal}
 use Rattle.std.specs.List.{AllByRecursion, flat_map}
 use Rattle.lrup_text.specs.declared.machine.Place.{Place}
 use Rattle.lrup_text.specs.declared.machine.Place.TheVariants as places
-use Rattle.lrup_text.specs.declared.machine.Step.{Step}
-use Rattle.lrup_text.specs.declared.machine.Step.TheVariants.{More, Done, Refused}
+use Rattle.lrup_text.specs.declared.machine.ByteStep.{ByteStep}
+use Rattle.lrup_text.specs.declared.machine.ByteStep.TheVariants.{More, Done, Refused}
 use Rattle.lrup_text.specs.declared.machine.PartialLine.{PartialLine}
 use Rattle.lrup_text.specs.Grammar.{space, minus, zero_digit, letter_d, letter_i}
 use Rattle.lrup_text.specs.Faults.{IsRefused, Decides}
@@ -13,11 +13,11 @@ use Rattle.lrup_text.specs.Lines.{StreamLine, Addition, Deletion, Import, LineTe
 use Rattle.lrup_text.specs.Rests.{Spot, AtStart, InLead, AfterImport, BeforeLiteral, AfterMinus, InLiteral, BeforeList, BeforeItem, InItem, AtEnd, Tracks}
 
 -- the literals, and the hints or identities, read so far
-abbrev pub literals_of : PartialLine → List ℤ
-literals_of m = take m.literal_count m.literals.items
+abbrev pub literals_read : PartialLine → List ℤ
+literals_read m = take m.literal_count m.literals.items
 
-abbrev pub identities_of : PartialLine → List ℕ
-identities_of m = take m.identity_count m.identities.items
+abbrev pub identities_read : PartialLine → List ℕ
+identities_read m = take m.identity_count m.identities.items
 
 -- a line by its parts
 abbrev pub line_of_parts : (imports deletes : Bool) → ℕ → List ℤ → List ℕ → StreamLine
@@ -27,7 +27,7 @@ line_of_parts false false lead lits ids = Addition lead lits ids
 
 -- the line that was read
 abbrev pub line_so_far : PartialLine → StreamLine
-line_so_far m = line_of_parts m.imports m.deletes m.lead (literals_of m) (identities_of m)
+line_so_far m = line_of_parts m.imports m.deletes m.lead (literals_read m) (identities_read m)
 
 -- literals and the space after each; items and the space before each
 unfoldable pub literals_text : List ℤ → List ℕ
@@ -46,7 +46,7 @@ list_front true lead lits = decimal lead ++ space ∷ letter_d ∷ []
 list_front false lead lits = clause_front false lead lits ++ zero_digit ∷ []
 
 abbrev pub item_front : PartialLine → List ℕ
-item_front m = list_front m.deletes m.lead (literals_of m) ++ items_text (identities_of m)
+item_front m = list_front m.deletes m.lead (literals_read m) ++ items_text (identities_read m)
 
 -- the text up to the end of the line
 abbrev pub end_front : (imports deletes : Bool) → ℕ → List ℤ → List ℕ → List ℕ
@@ -64,14 +64,15 @@ unfoldable pub pending_at : Place → PartialLine → List ℕ
 pending_at places.Start m = []
 pending_at places.Lead m = decimal m.number
 pending_at places.Import m = decimal m.lead ++ space ∷ letter_i ∷ []
-pending_at places.Body m = clause_front m.imports m.lead (literals_of m)
-pending_at places.Minus m = clause_front m.imports m.lead (literals_of m) ++ minus ∷ []
+pending_at places.Body m = clause_front m.imports m.lead (literals_read m)
+pending_at places.Minus m = clause_front m.imports m.lead (literals_read m) ++ minus ∷ []
 pending_at places.Literal m =
-    clause_front m.imports m.lead (literals_of m) ++ literal_front m.negative m.number
-pending_at places.List m = list_front m.deletes m.lead (literals_of m)
+    clause_front m.imports m.lead (literals_read m) ++ literal_front m.negative m.number
+pending_at places.List m = list_front m.deletes m.lead (literals_read m)
 pending_at places.Item m = item_front m ++ space ∷ []
 pending_at places.Number m = item_front m ++ space ∷ decimal m.number
-pending_at places.LineEnd m = end_front m.imports m.deletes m.lead (literals_of m) (identities_of m)
+pending_at places.LineEnd m =
+    end_front m.imports m.deletes m.lead (literals_read m) (identities_read m)
 
 abbrev pub pending : PartialLine → List ℕ
 pending m = pending_at m.place m
@@ -106,7 +107,7 @@ pub record HasRoom (lits : List ℤ) (ids : List ℕ) : Type 0 where
   pub identities : length ids ≡ 65536
 
 -- the first number, and the literals and identities in front of the buffers, can stand in a line
-pub record IsKept (first : ℕ) (lits : List ℤ) (literal_count : ℕ) (ids : List ℕ)
+pub record CanStandInLine (first : ℕ) (lits : List ℤ) (literal_count : ℕ) (ids : List ℕ)
     (identity_count : ℕ) : Type 0 where
   pub lead : IsStreamNumber first
   pub few_literals : literal_count ≤ 65535
@@ -121,33 +122,34 @@ pub record FitsDigits (number digits : ℕ) : Type 0 where
   pub few : digits ≤ 18
 
 -- what is kept between two bytes
-pub record Reads (m : PartialLine) : Type 0 where
+pub record IsPartialLine (m : PartialLine) : Type 0 where
   pub room : HasRoom m.literals.items m.identities.items
-  pub kept : IsKept m.lead m.literals.items m.literal_count m.identities.items m.identity_count
+  pub kept : CanStandInLine m.lead m.literals.items m.literal_count
+      m.identities.items m.identity_count
   pub number : FitsDigits m.number m.digits
   pub roomy : IsRoomy m.place m
   pub tracks : Tracks (pending m) (spot_at m.place m)
 
 -- What a byte does. The line goes on; or it is whole, and reading stands before the next; or no line begins so.
-abbrev pub Steps : PartialLine → ℕ → Step → PartialLine → Type 0
-Steps old byte More new = Reads new × (pending new ≡ pending old ++ byte ∷ [])
-Steps old byte Done new =
-    Reads new × (pending new ≡ []) × LineText (line_so_far new) (pending old ++ byte ∷ [])
-Steps old byte (Refused fault) new = Decides (pending old) byte fault
+abbrev pub ReadsByte : PartialLine → ℕ → ByteStep → PartialLine → Type 0
+ReadsByte old byte More new = IsPartialLine new × (pending new ≡ pending old ++ byte ∷ [])
+ReadsByte old byte Done new =
+    IsPartialLine new × (pending new ≡ []) × LineText (line_so_far new) (pending old ++ byte ∷ [])
+ReadsByte old byte (Refused fault) new = Decides (pending old) byte fault
 
 -- So many bytes of a piece were read, and the line goes on.
 pub record ReadsAhead (old : PartialLine) (piece : List ℕ) (used : ℕ)
     (new : PartialLine) : Type 0 where
   pub bound : used ≤ length piece
-  pub reads : Reads new
+  pub reads : IsPartialLine new
   pub is : pending new ≡ pending old ++ take used piece
 
 -- What the bytes of a piece do, of which so many were used.
-abbrev pub StepsThrough : PartialLine → List ℕ → ℕ → Step → PartialLine → Type 0
+abbrev pub StepsThrough : PartialLine → List ℕ → ℕ → ByteStep → PartialLine → Type 0
 StepsThrough old piece used More new =
-    (used ≡ length piece) × Reads new × (pending new ≡ pending old ++ piece)
+    (used ≡ length piece) × IsPartialLine new × (pending new ≡ pending old ++ piece)
 StepsThrough old piece used Done new =
-    (0 < used) × (used ≤ length piece) × Reads new × (pending new ≡ [])
+    (0 < used) × (used ≤ length piece) × IsPartialLine new × (pending new ≡ [])
     × LineText (line_so_far new) (pending old ++ take used piece)
 StepsThrough old piece used (Refused fault) new =
     (0 < used) × (used ≤ length piece) × IsRefused (pending old ++ take used piece) fault

@@ -1,9 +1,9 @@
 //! Reads the text of a cube.
 ghost use Rattle.std.specs.Prelude.{◌≡◌, ◌≢◌, ◌↔◌, ◌≤◌, [], ◌∷◌, ◌++◌, ℕ, ℤ, List, IfOk, IfErr, IfSome, IsSome, IsTrue, MatchResult};
-ghost use Rattle.lrup_model.specs.Cube.{IsOver};
+ghost use Rattle.lrup_model.specs.Cube.{IsCubeOver};
 ghost use Rattle.lrup_model.specs.Literal.{IsLiteral, max_variable};
-ghost use Rattle.lrup_text.specs.CubeReading.{LiteralsFollow, NumberFollowsIn, DigitsFollowIn, IsRestFault, ReadsNumber, ReadsLiteral, AreKept, AreNotKept};
-ghost use Rattle.lrup_text.specs.Cubes.{IsTextOf, IsCubeText, IsTextFault, IsCubeFault};
+ghost use Rattle.lrup_text.specs.CubeReading.{CubeFollows, NumberFollowsIn, DigitsFollowIn, IsRestFault, BeginsWithNumber, ReadsLiteral, AreKept, AreNotKept};
+ghost use Rattle.lrup_text.specs.Cubes.{IsLiteralsText, IsCubeText, IsTextFault, IsCubeFault};
 ghost use Rattle.lrup_text.specs.Grammar.{IsDigit, line_feed, zero_digit};
 ghost use Rattle.lrup_text.specs.declared.cube.CubeFault.TheVariants.{Memory};
 
@@ -51,8 +51,8 @@ pub fn read_cube(alloc: Global, bytes: &[u8], vars: u32) -> Result<Cube, CubeFau
 /// Reads the literals of a cube's text, as they are written.
 fn read_literals(alloc: Global, text: &[u8], vars: u32) -> Result<Vec<Lit>, CubeFault>
     requires { vars ≤ max_variable }
-    ensures text { IfOk result (λ literals. IsTextOf literals.items text.now) }
-    ensures over { IfOk result (λ literals. IsOver vars literals.items) }
+    ensures text { IfOk result (λ literals. IsLiteralsText literals.items text.now) }
+    ensures over { IfOk result (λ literals. IsCubeOver vars literals.items) }
     ensures fault { IfErr result (IsCubeFault vars text.now) }
 {
     let mut kept = Ok(Vec::new(alloc));
@@ -87,7 +87,7 @@ fn is_end(rest: &[u8]) -> bool
 /// The fault of a byte that stands after the most literals in place of the `0`.
 fn after_most(byte: u8) -> CubeFault
     requires { byte ≢ zero_digit }
-    ensures { (after : List ℕ) → IsTextFault (LiteralsFollow 65535) (byte ∷ after) result }
+    ensures { (after : List ℕ) → IsTextFault (CubeFollows 65535) (byte ∷ after) result }
 {
     if byte == b'-' || begins_number(byte) {
         CubeFault::TooLong
@@ -114,7 +114,7 @@ fn is_digit(byte: u8) -> bool
 fn read_literal(first: u8, after: &[u8]) -> Result<(i64, &[u8]), CubeFault>
     requires { first ≢ zero_digit }
     ensures literal { IfOk result (λ read. ReadsLiteral (first ∷ after.now) read.0 read.1.now) }
-    ensures fault { IfErr result (IsRestFault LiteralsFollow (first ∷ after.now)) }
+    ensures fault { IfErr result (IsRestFault CubeFollows (first ∷ after.now)) }
 {
     if first == b'-' {
         let (number, rest) = read_number(after)?;
@@ -129,7 +129,7 @@ fn read_literal(first: u8, after: &[u8]) -> Result<(i64, &[u8]), CubeFault>
 
 /// Reads a number and the space after it, and says what is left.
 fn read_number(text: &[u8]) -> Result<(u64, &[u8]), CubeFault>
-    ensures number { IfOk result (λ read. ReadsNumber text.now read.0 read.1.now) }
+    ensures number { IfOk result (λ read. BeginsWithNumber text.now read.0 read.1.now) }
     ensures fault { IfErr result (IsRestFault NumberFollowsIn text.now) }
 {
     let Some((&first, after)) = text.split_first() else {
@@ -145,7 +145,7 @@ fn read_number(text: &[u8]) -> Result<(u64, &[u8]), CubeFault>
 fn read_digits(first: u8, after: &[u8]) -> Result<(u64, &[u8]), CubeFault>
     requires low { 49 ≤ first }
     requires high { first ≤ 57 }
-    ensures number { IfOk result (λ read. ReadsNumber (first ∷ after.now) read.0 read.1.now) }
+    ensures number { IfOk result (λ read. BeginsWithNumber (first ∷ after.now) read.0 read.1.now) }
     ensures fault { IfErr result (IsRestFault (DigitsFollowIn 1) after.now) }
 {
     let mut number = u64::from(first - b'0');

@@ -15,7 +15,7 @@ mod writer;
 pub use cube::{CubeFault, read_cube};
 pub use device::{ReadFault, Reading, Sink, Source, WriteFault, Writing};
 use machine::{MOST_IDENTITIES, MOST_LITERALS, MOST_NUMBER};
-pub use reader::{End, Fed, LineReader, Turn};
+pub use reader::{End, Fed, LineReader, ReaderTurn};
 use thiserror::Error;
 pub use writer::{WriteBuffer, write_all, write_line};
 

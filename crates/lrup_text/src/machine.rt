@@ -4,7 +4,7 @@ ghost use Rattle.std.specs.Fmt.{signed_decimal};
 ghost use Rattle.lrup_text.specs.Grammar.{IsDigit};
 ghost use Rattle.lrup_text.specs.Kernel.{EndsLine};
 ghost use Rattle.lrup_text.specs.Lines.{line_of, LineText};
-ghost use Rattle.lrup_text.specs.Reading.{Reads, ReadsAhead, Steps, StepsThrough, literal_front, pending, line_so_far};
+ghost use Rattle.lrup_text.specs.Reading.{IsPartialLine, ReadsAhead, ReadsByte, StepsThrough, literal_front, pending, line_so_far};
 
 use crate::kernel::{read_items, read_line, read_literals};
 use crate::{Line, LineFault};
@@ -47,7 +47,7 @@ pub enum Place {
 
 /// What a byte did.
 #[derive(Clone, Copy)]
-pub enum Step {
+pub enum ByteStep {
     /// The line goes on.
     More,
     /// The line is whole.
@@ -85,17 +85,17 @@ pub struct PartialLine {
 
 /// What bytes of a piece did.
 #[derive(Clone, Copy)]
-pub struct Taken {
+pub struct BytesRead {
     /// How many were used.
     pub used: usize,
     /// What the last of them did.
-    pub step: Step,
+    pub step: ByteStep,
 }
 
 impl PartialLine {
     /// Nothing of a line, with all memory that a line can need.
     pub fn new(alloc: Global) -> Result<PartialLine, AllocError>
-        ensures { IfOk result (λ line. Reads line × (pending line ≡ [])) }
+        ensures { IfOk result (λ line. IsPartialLine line × (pending line ≡ [])) }
     {
         let literals = zero_literals(alloc, MOST_LITERALS)?;
         let identities = zero_identities(alloc, MOST_IDENTITIES)?;
@@ -117,7 +117,7 @@ impl PartialLine {
 
     /// Whether nothing of a line was read.
     pub fn is_empty(&self) -> bool
-        requires { Reads self.now }
+        requires { IsPartialLine self.now }
         ensures { IsTrue result ↔ (pending self.now ≡ []) }
     {
         matches!(self.place, Place::Start)
@@ -125,7 +125,7 @@ impl PartialLine {
 
     /// The line that was read.
     pub fn line(&self) -> Line<'_>
-        requires { Reads self.now }
+        requires { IsPartialLine self.now }
         ensures { line_of result ≡ line_so_far self.now }
     {
         let literals = &self.literals[..self.literal_count];
@@ -150,14 +150,14 @@ impl PartialLine {
     }
 
     /// Takes bytes of a piece up to the end of the line, or up to the byte that decides that it is none.
-    pub fn read(&mut self, piece: &[u8]) -> Taken
-        requires { Reads self.old }
+    pub fn read(&mut self, piece: &[u8]) -> BytesRead
+        requires { IsPartialLine self.old }
         ensures { StepsThrough self.old piece.now result.used result.step self.new }
     {
         match self.read_at_once(piece) {
-            Some(used) => Taken {
+            Some(used) => BytesRead {
                 used,
-                step: Step::Done,
+                step: ByteStep::Done,
             },
             None => self.read_bytes(piece),
         }
@@ -167,10 +167,10 @@ impl PartialLine {
     ///
     /// `None` says nothing of the piece. Nothing was read then.
     fn read_at_once(&mut self, piece: &[u8]) -> Option<usize>
-        requires { Reads self.old }
+        requires { IsPartialLine self.old }
         ensures whole { IfSome result
-            (λ used. StepsThrough self.old piece.now used Step.Done self.new) }
-        ensures reads { IfNone result (Reads self.new) }
+            (λ used. StepsThrough self.old piece.now used ByteStep.Done self.new) }
+        ensures reads { IfNone result (IsPartialLine self.new) }
         ensures same { IfNone result (pending self.new ≡ pending self.old) }
     {
         let Place::Start = self.place else {
@@ -186,10 +186,10 @@ impl PartialLine {
 
     /// Reads a line that is whole in a slice, and says whether it did. Where it didn't, nothing was read.
     fn read_whole(&mut self, line: &[u8]) -> bool
-        requires reads { Reads self.old }
+        requires reads { IsPartialLine self.old }
         requires start { self.old.place ≡ Place.Start }
         requires ends { EndsLine line.now }
-        ensures reads { Reads self.new }
+        ensures reads { IsPartialLine self.new }
         ensures empty { pending self.new ≡ [] }
         ensures line { IsTrue result → LineText (line_so_far self.new) line.now }
     {
@@ -210,8 +210,8 @@ impl PartialLine {
 
     /// Takes bytes of a piece as `read` does: many at once inside a list, and else one by one.
     #[inline(never)]
-    fn read_bytes(&mut self, piece: &[u8]) -> Taken
-        requires { Reads self.old }
+    fn read_bytes(&mut self, piece: &[u8]) -> BytesRead
+        requires { IsPartialLine self.old }
         ensures { StepsThrough self.old piece.now result.used result.step self.new }
     {
         let mut used = 0;
@@ -220,20 +220,20 @@ impl PartialLine {
             if used < piece.len() {
                 let step = self.step(piece[used]);
                 used += 1;
-                let Step::More = step else {
-                    return Taken { used, step };
+                let ByteStep::More = step else {
+                    return BytesRead { used, step };
                 };
             }
         }
-        Taken {
+        BytesRead {
             used,
-            step: Step::More,
+            step: ByteStep::More,
         }
     }
 
     /// Reads literals or items that are whole in the front of a piece, and says how many bytes they have.
     fn read_ahead(&mut self, piece: &[u8]) -> usize
-        requires { Reads self.old }
+        requires { IsPartialLine self.old }
         ensures { ReadsAhead self.old piece.now result self.new }
     {
         match self.place {
@@ -244,7 +244,7 @@ impl PartialLine {
     }
 
     fn read_literals_ahead(&mut self, piece: &[u8]) -> usize
-        requires reads { Reads self.old }
+        requires reads { IsPartialLine self.old }
         requires place { self.old.place ≡ Place.Body }
         ensures { ReadsAhead self.old piece.now result self.new }
     {
@@ -258,7 +258,7 @@ impl PartialLine {
     }
 
     fn read_items_ahead(&mut self, piece: &[u8]) -> usize
-        requires reads { Reads self.old }
+        requires reads { IsPartialLine self.old }
         requires place { self.old.place ≡ Place.Item }
         ensures { ReadsAhead self.old piece.now result self.new }
     {
@@ -272,9 +272,9 @@ impl PartialLine {
     }
 
     /// Takes the next byte of the line.
-    pub fn step(&mut self, byte: u8) -> Step
-        requires { Reads self.old }
-        ensures { Steps self.old byte result self.new }
+    pub fn step(&mut self, byte: u8) -> ByteStep
+        requires { IsPartialLine self.old }
+        ensures { ReadsByte self.old byte result self.new }
     {
         match self.place {
             Place::Start => self.step_at_start(byte),
@@ -314,204 +314,204 @@ impl PartialLine {
         self.digits += 1;
     }
 
-    fn step_at_start(&mut self, byte: u8) -> Step
-        requires reads { Reads self.old }
+    fn step_at_start(&mut self, byte: u8) -> ByteStep
+        requires reads { IsPartialLine self.old }
         requires place { self.old.place ≡ Place.Start }
-        ensures { Steps self.old byte result self.new }
+        ensures { ReadsByte self.old byte result self.new }
     {
         match byte {
             b'1'..=b'9' => {
                 self.begin_number(byte);
                 self.place = Place::Lead;
-                Step::More
+                ByteStep::More
             }
-            _ => Step::Refused(LineFault::Spelling),
+            _ => ByteStep::Refused(LineFault::Spelling),
         }
     }
 
-    fn step_in_lead(&mut self, byte: u8) -> Step
-        requires reads { Reads self.old }
+    fn step_in_lead(&mut self, byte: u8) -> ByteStep
+        requires reads { IsPartialLine self.old }
         requires place { self.old.place ≡ Place.Lead }
-        ensures { Steps self.old byte result self.new }
+        ensures { ReadsByte self.old byte result self.new }
     {
         match byte {
             b'0'..=b'9' if self.digits < MOST_DIGITS => {
                 self.extend_number(byte);
-                Step::More
+                ByteStep::More
             }
-            b'0'..=b'9' => Step::Refused(LineFault::TooLong),
+            b'0'..=b'9' => ByteStep::Refused(LineFault::TooLong),
             b' ' => {
                 self.lead = self.number;
                 self.imports = false;
                 self.literal_count = 0;
                 self.identity_count = 0;
                 self.place = Place::Body;
-                Step::More
+                ByteStep::More
             }
-            _ => Step::Refused(LineFault::Spelling),
+            _ => ByteStep::Refused(LineFault::Spelling),
         }
     }
 
-    fn step_after_import(&mut self, byte: u8) -> Step
-        requires reads { Reads self.old }
+    fn step_after_import(&mut self, byte: u8) -> ByteStep
+        requires reads { IsPartialLine self.old }
         requires place { self.old.place ≡ Place.Import }
-        ensures { Steps self.old byte result self.new }
+        ensures { ReadsByte self.old byte result self.new }
     {
         match byte {
             b' ' => {
                 self.place = Place::Body;
-                Step::More
+                ByteStep::More
             }
-            _ => Step::Refused(LineFault::Spelling),
+            _ => ByteStep::Refused(LineFault::Spelling),
         }
     }
 
-    fn step_in_body(&mut self, byte: u8) -> Step
-        requires reads { Reads self.old }
+    fn step_in_body(&mut self, byte: u8) -> ByteStep
+        requires reads { IsPartialLine self.old }
         requires place { self.old.place ≡ Place.Body }
-        ensures { Steps self.old byte result self.new }
+        ensures { ReadsByte self.old byte result self.new }
     {
         match byte {
             b'0' if self.imports => {
                 self.place = Place::LineEnd;
-                Step::More
+                ByteStep::More
             }
             b'0' => {
                 self.deletes = false;
                 self.place = Place::List;
-                Step::More
+                ByteStep::More
             }
             b'd' if self.literal_count == 0 && !self.imports => {
                 self.deletes = true;
                 self.place = Place::List;
-                Step::More
+                ByteStep::More
             }
             b'i' if self.literal_count == 0 && !self.imports => {
                 self.imports = true;
                 self.place = Place::Import;
-                Step::More
+                ByteStep::More
             }
             b'-' if self.literal_count < MOST_LITERALS => {
                 self.place = Place::Minus;
-                Step::More
+                ByteStep::More
             }
             b'1'..=b'9' if self.literal_count < MOST_LITERALS => {
                 self.negative = false;
                 self.begin_number(byte);
                 self.place = Place::Literal;
-                Step::More
+                ByteStep::More
             }
-            b'-' | b'1'..=b'9' => Step::Refused(LineFault::TooLong),
-            _ => Step::Refused(LineFault::Spelling),
+            b'-' | b'1'..=b'9' => ByteStep::Refused(LineFault::TooLong),
+            _ => ByteStep::Refused(LineFault::Spelling),
         }
     }
 
-    fn step_after_minus(&mut self, byte: u8) -> Step
-        requires reads { Reads self.old }
+    fn step_after_minus(&mut self, byte: u8) -> ByteStep
+        requires reads { IsPartialLine self.old }
         requires place { self.old.place ≡ Place.Minus }
-        ensures { Steps self.old byte result self.new }
+        ensures { ReadsByte self.old byte result self.new }
     {
         match byte {
             b'1'..=b'9' => {
                 self.negative = true;
                 self.begin_number(byte);
                 self.place = Place::Literal;
-                Step::More
+                ByteStep::More
             }
-            _ => Step::Refused(LineFault::Spelling),
+            _ => ByteStep::Refused(LineFault::Spelling),
         }
     }
 
-    fn step_in_literal(&mut self, byte: u8) -> Step
-        requires reads { Reads self.old }
+    fn step_in_literal(&mut self, byte: u8) -> ByteStep
+        requires reads { IsPartialLine self.old }
         requires place { self.old.place ≡ Place.Literal }
-        ensures { Steps self.old byte result self.new }
+        ensures { ReadsByte self.old byte result self.new }
     {
         match byte {
             b'0'..=b'9' if self.digits < MOST_DIGITS => {
                 self.extend_number(byte);
-                Step::More
+                ByteStep::More
             }
-            b'0'..=b'9' => Step::Refused(LineFault::TooLong),
+            b'0'..=b'9' => ByteStep::Refused(LineFault::TooLong),
             b' ' => {
                 self.literals[self.literal_count] = literal_of(self.negative, self.number);
                 self.literal_count += 1;
                 self.place = Place::Body;
-                Step::More
+                ByteStep::More
             }
-            _ => Step::Refused(LineFault::Spelling),
+            _ => ByteStep::Refused(LineFault::Spelling),
         }
     }
 
-    fn step_before_list(&mut self, byte: u8) -> Step
-        requires reads { Reads self.old }
+    fn step_before_list(&mut self, byte: u8) -> ByteStep
+        requires reads { IsPartialLine self.old }
         requires place { self.old.place ≡ Place.List }
-        ensures { Steps self.old byte result self.new }
+        ensures { ReadsByte self.old byte result self.new }
     {
         match byte {
             b' ' => {
                 self.place = Place::Item;
-                Step::More
+                ByteStep::More
             }
-            _ => Step::Refused(LineFault::Spelling),
+            _ => ByteStep::Refused(LineFault::Spelling),
         }
     }
 
-    fn step_before_item(&mut self, byte: u8) -> Step
-        requires reads { Reads self.old }
+    fn step_before_item(&mut self, byte: u8) -> ByteStep
+        requires reads { IsPartialLine self.old }
         requires place { self.old.place ≡ Place.Item }
-        ensures { Steps self.old byte result self.new }
+        ensures { ReadsByte self.old byte result self.new }
     {
         match byte {
             b'0' => {
                 self.place = Place::LineEnd;
-                Step::More
+                ByteStep::More
             }
             b'1'..=b'9' if self.identity_count == MOST_IDENTITIES => {
-                Step::Refused(LineFault::TooLong)
+                ByteStep::Refused(LineFault::TooLong)
             }
             b'1'..=b'9' => {
                 self.begin_number(byte);
                 self.place = Place::Number;
-                Step::More
+                ByteStep::More
             }
-            b'-' if !self.deletes => Step::Refused(LineFault::RatHint),
-            _ => Step::Refused(LineFault::Spelling),
+            b'-' if !self.deletes => ByteStep::Refused(LineFault::RatHint),
+            _ => ByteStep::Refused(LineFault::Spelling),
         }
     }
 
-    fn step_in_number(&mut self, byte: u8) -> Step
-        requires reads { Reads self.old }
+    fn step_in_number(&mut self, byte: u8) -> ByteStep
+        requires reads { IsPartialLine self.old }
         requires place { self.old.place ≡ Place.Number }
-        ensures { Steps self.old byte result self.new }
+        ensures { ReadsByte self.old byte result self.new }
     {
         match byte {
             b'0'..=b'9' if self.digits < MOST_DIGITS => {
                 self.extend_number(byte);
-                Step::More
+                ByteStep::More
             }
-            b'0'..=b'9' => Step::Refused(LineFault::TooLong),
+            b'0'..=b'9' => ByteStep::Refused(LineFault::TooLong),
             b' ' => {
                 self.identities[self.identity_count] = self.number;
                 self.identity_count += 1;
                 self.place = Place::Item;
-                Step::More
+                ByteStep::More
             }
-            _ => Step::Refused(LineFault::Spelling),
+            _ => ByteStep::Refused(LineFault::Spelling),
         }
     }
 
-    fn step_at_end(&mut self, byte: u8) -> Step
-        requires reads { Reads self.old }
+    fn step_at_end(&mut self, byte: u8) -> ByteStep
+        requires reads { IsPartialLine self.old }
         requires place { self.old.place ≡ Place.LineEnd }
-        ensures { Steps self.old byte result self.new }
+        ensures { ReadsByte self.old byte result self.new }
     {
         match byte {
             b'\n' => {
                 self.place = Place::Start;
-                Step::Done
+                ByteStep::Done
             }
-            _ => Step::Refused(LineFault::Spelling),
+            _ => ByteStep::Refused(LineFault::Spelling),
         }
     }
 }

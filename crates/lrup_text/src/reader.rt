@@ -1,9 +1,9 @@
 //! The reader of a stream's lines.
 ghost use Rattle.std.specs.Prelude.{◌≡◌, ◌≤◌, [], Ok, IfOk, length};
-ghost use Rattle.lrup_text.specs.Feeding.{Feeds, Ends};
+ghost use Rattle.lrup_text.specs.Feeding.{Feeds, ReaderEnds};
 ghost use Rattle.lrup_text.specs.Lines.{IsPending};
 
-use crate::machine::{PartialLine, Step};
+use crate::machine::{PartialLine, ByteStep};
 use crate::{Line, LineFault};
 use std::alloc::{AllocError, Global};
 use std::marker::Model;
@@ -14,12 +14,12 @@ pub struct Fed<'a> {
     /// How many bytes of the piece were used.
     pub used: usize,
     /// What they gave.
-    pub turn: Turn<'a>,
+    pub turn: ReaderTurn<'a>,
 }
 
 /// What the bytes used gave.
 #[derive(Clone, Copy, Debug, PartialEq, Eq)]
-pub enum Turn<'a> {
+pub enum ReaderTurn<'a> {
     /// They end this line.
     Line(Line<'a>),
     /// All bytes were used, and no line ended.
@@ -49,14 +49,14 @@ pub struct LineReader {
 
 impl Model for LineReader {
     ghost use Rattle.std.specs.Prelude.{IfNone};
-    ghost use Rattle.lrup_text.specs.Feeding.{ReaderState, state_of};
-    ghost use Rattle.lrup_text.specs.Reading.{Reads, pending};
+    ghost use Rattle.lrup_text.specs.Feeding.{ReaderState, reader_state};
+    ghost use Rattle.lrup_text.specs.Reading.{IsPartialLine, pending};
 
     ghost Value = { ReaderState };
 
-    ghost view = { λ r. state_of r.fault (pending r.line) };
+    ghost view = { λ r. reader_state r.fault (pending r.line) };
 
-    ghost invariant = { λ r. IfNone r.fault (Reads r.line) };
+    ghost invariant = { λ r. IfNone r.fault (IsPartialLine r.line) };
 }
 
 impl LineReader {
@@ -82,16 +82,16 @@ impl LineReader {
         if let Some(fault) = self.fault {
             return Fed {
                 used: 0,
-                turn: Turn::Fault(fault),
+                turn: ReaderTurn::Fault(fault),
             };
         }
         let taken = self.line.read(piece);
         let turn = match taken.step {
-            Step::More => Turn::NeedMore,
-            Step::Done => Turn::Line(self.line.line()),
-            Step::Refused(fault) => {
+            ByteStep::More => ReaderTurn::NeedMore,
+            ByteStep::Done => ReaderTurn::Line(self.line.line()),
+            ByteStep::Refused(fault) => {
                 self.fault = Some(fault);
-                Turn::Fault(fault)
+                ReaderTurn::Fault(fault)
             }
         };
         Fed {
@@ -102,7 +102,7 @@ impl LineReader {
 
     /// Says what it is that the stream ends here. After `Clean` it may still go on.
     pub fn end(&mut self) -> End
-        ensures { Ends self.old result self.new }
+        ensures { ReaderEnds self.old result self.new }
     {
         if let Some(fault) = self.fault {
             return End::Fault(fault);

@@ -3,7 +3,7 @@ use Rattle.std.proofs.Common.{append_assoc, length-append, ◌≡◌, ◌<◌, �
 use Rattle.std.specs.Fmt.{decimal, signed_decimal}
 use Rattle.std.proofs.lemmas.Fmt.{decimal_digit, first_decimal}
 use Rattle.lrup_model.specs.Clause.{Has}
-use Rattle.lrup_model.specs.Cube.{CubeValue, IsCubeOf, IsOver}
+use Rattle.lrup_model.specs.Cube.{CubeValue, IsCubeOf, IsCubeOver}
 use Rattle.lrup_model.specs.Literal.{IsLiteral, max_variable}
 use Rattle.lrup_text.specs.Cubes.{IsCubeText}
 
@@ -20,7 +20,7 @@ number_begins (pos (suc n)) vars rest bytes few is e =
     count_begins (decimal (suc n)) rest bytes (first_decimal (suc n) (omega arith) (omega (arith, few, is.1))) e
 number_begins (negsuc n) vars rest bytes few is e = omega (arith, ap (λ (x : List ℕ). get_or x 0 0) e)
 
-cube_begins : (vars : ℕ) (literals : List ℤ) → vars ≤ max_variable → IsOver vars literals → codes "01 0\n" ≡ flat_map (λ l. signed_decimal l ++ codes " ") literals ++ codes "0\n" → ⊥
+cube_begins : (vars : ℕ) (literals : List ℤ) → vars ≤ max_variable → IsCubeOver vars literals → codes "01 0\n" ≡ flat_map (λ l. signed_decimal l ++ codes " ") literals ++ codes "0\n" → ⊥
 cube_begins vars [] few over e = omega (arith, ap (λ (x : List ℕ). get_or x 1 0) e)
 cube_begins vars (z ∷ literals) few over e =
     number_begins z vars (codes " " ++ flat_map (λ l. signed_decimal l ++ codes " ") literals ++ codes "0\n") (codes "1 0\n") few over.0 (simp append_assoc at e)

@@ -3,7 +3,7 @@ ghost use Rattle.std.specs.Prelude.{◌≡◌, Some, IfOk, IsTrue};
 
 use lrup_model::Lit;
 use lrup_text::{
-    CubeFault, End, Line, LineFault, LineReader, ReadFault, Reading, Sink, Source, Turn,
+    CubeFault, End, Line, LineFault, LineReader, ReadFault, Reading, Sink, Source, ReaderTurn,
     WriteBuffer, WriteFault, Writing, read_cube, write_all, write_line,
 };
 use std::alloc::{AllocError, Global};
@@ -35,13 +35,13 @@ fn feed_cut(
     bytes: &[u8],
     cut: usize,
     used: usize,
-    turn: Turn,
+    turn: ReaderTurn,
     end: End,
 ) -> Result<(), Fail> {
     let mut reader = LineReader::new(alloc)?;
     let cut = cut.min(bytes.len());
     let first = reader.feed(&bytes[..cut]);
-    if first.turn != Turn::NeedMore {
+    if first.turn != ReaderTurn::NeedMore {
         same(rt, first.used, used);
         same(rt, first.turn, turn);
         same(rt, reader.end(), end);
@@ -61,14 +61,14 @@ fn feed_each(
     alloc: Global,
     bytes: &[u8],
     used: usize,
-    turn: Turn,
+    turn: ReaderTurn,
     end: End,
 ) -> Result<(), Fail> {
     let mut reader = LineReader::new(alloc)?;
     for (i, byte) in bytes.iter().enumerate() {
         let fed = reader.feed(&[*byte]);
         same(rt, fed.used, 1);
-        if fed.turn != Turn::NeedMore {
+        if fed.turn != ReaderTurn::NeedMore {
             same(rt, i + 1, used);
             same(rt, fed.turn, turn);
             same(rt, reader.end(), end);
@@ -76,7 +76,7 @@ fn feed_each(
         }
     }
     same(rt, bytes.len(), used);
-    same(rt, turn, Turn::NeedMore);
+    same(rt, turn, ReaderTurn::NeedMore);
     same(rt, reader.end(), end);
     Ok(())
 }
@@ -87,11 +87,11 @@ fn feed_every_way(
     alloc: Global,
     bytes: &[u8],
     used: usize,
-    turn: Turn,
+    turn: ReaderTurn,
 ) -> Result<(), Fail> {
     let end = match turn {
-        Turn::Fault(fault) => End::Fault(fault),
-        Turn::NeedMore if !bytes.is_empty() => End::Fault(LineFault::Truncated),
+        ReaderTurn::Fault(fault) => End::Fault(fault),
+        ReaderTurn::NeedMore if !bytes.is_empty() => End::Fault(LineFault::Truncated),
         _ => End::Clean,
     };
     for cut in 0..=bytes.len() {
@@ -108,47 +108,47 @@ fn lines(rt: HostRuntime) -> Result<(), Fail> {
         lits: &[2],
         hints: &[1, 2],
     };
-    feed_every_way(&rt, alloc, b"5 2 0 1 2 0\n", 12, Turn::Line(five))?;
-    feed_every_way(&rt, alloc, b"5 2 0 1 2 0\n6 0", 12, Turn::Line(five))?;
+    feed_every_way(&rt, alloc, b"5 2 0 1 2 0\n", 12, ReaderTurn::Line(five))?;
+    feed_every_way(&rt, alloc, b"5 2 0 1 2 0\n6 0", 12, ReaderTurn::Line(five))?;
     let six = Line::Add {
         id: 6,
         lits: &[],
         hints: &[5, 3, 4],
     };
-    feed_every_way(&rt, alloc, b"6 0 5 3 4 0\n", 12, Turn::Line(six))?;
+    feed_every_way(&rt, alloc, b"6 0 5 3 4 0\n", 12, ReaderTurn::Line(six))?;
     let nothing = Line::Delete { lead: 5, ids: &[] };
-    feed_every_way(&rt, alloc, b"5 d 0\n", 6, Turn::Line(nothing))?;
+    feed_every_way(&rt, alloc, b"5 d 0\n", 6, ReaderTurn::Line(nothing))?;
     let two = Line::Delete {
         lead: 9,
         ids: &[5, 6],
     };
-    feed_every_way(&rt, alloc, b"9 d 5 6 0\n", 10, Turn::Line(two))?;
+    feed_every_way(&rt, alloc, b"9 d 5 6 0\n", 10, ReaderTurn::Line(two))?;
     let unit = Line::Add {
         id: 5,
         lits: &[2],
         hints: &[],
     };
-    feed_every_way(&rt, alloc, b"5 2 0 0\n", 8, Turn::Line(unit))?;
+    feed_every_way(&rt, alloc, b"5 2 0 0\n", 8, ReaderTurn::Line(unit))?;
     let signs = Line::Add {
         id: 999_999_999_999_999_999,
         lits: &[-1, 999_999_999_999_999_999, -999_999_999_999_999_999],
         hints: &[10],
     };
     let text = b"999999999999999999 -1 999999999999999999 -999999999999999999 0 10 0\n";
-    feed_every_way(&rt, alloc, text, 68, Turn::Line(signs))
+    feed_every_way(&rt, alloc, text, 68, ReaderTurn::Line(signs))
 }
 
 #[test]
 fn unfinished(rt: HostRuntime) -> Result<(), Fail> {
     let alloc = rt.alloc();
-    feed_every_way(&rt, alloc, b"", 0, Turn::NeedMore)?;
-    feed_every_way(&rt, alloc, b"5 2 0", 5, Turn::NeedMore)
+    feed_every_way(&rt, alloc, b"", 0, ReaderTurn::NeedMore)?;
+    feed_every_way(&rt, alloc, b"5 2 0", 5, ReaderTurn::NeedMore)
 }
 
 #[test]
 fn faults(rt: HostRuntime) -> Result<(), Fail> {
     let alloc = rt.alloc();
-    let spelling = Turn::Fault(LineFault::Spelling);
+    let spelling = ReaderTurn::Fault(LineFault::Spelling);
     feed_every_way(&rt, alloc, b"\n", 1, spelling)?;
     feed_every_way(&rt, alloc, b"05 2 0 0\n", 1, spelling)?;
     feed_every_way(&rt, alloc, b"0 d 5 0\n", 1, spelling)?;
@@ -163,9 +163,9 @@ fn faults(rt: HostRuntime) -> Result<(), Fail> {
         alloc,
         b"5 1 0 -2 0\n",
         7,
-        Turn::Fault(LineFault::RatHint),
+        ReaderTurn::Fault(LineFault::RatHint),
     )?;
-    let long = Turn::Fault(LineFault::TooLong);
+    let long = ReaderTurn::Fault(LineFault::TooLong);
     feed_every_way(&rt, alloc, b"1000000000000000000 0 0\n", 19, long)?;
     feed_every_way(
         &rt,
@@ -190,7 +190,7 @@ fn feed_repeated(
     texts: (&[u8], &[u8], &[u8]),
     count: usize,
     used: usize,
-    turn: Turn,
+    turn: ReaderTurn,
 ) -> Result<(), Fail> {
     let (start, part, end) = texts;
     let mut text = Vec::from_slice(alloc, start)?;
@@ -199,7 +199,7 @@ fn feed_repeated(
     }
     text.extend_from_slice(end)?;
     let end = match turn {
-        Turn::Fault(fault) => End::Fault(fault),
+        ReaderTurn::Fault(fault) => End::Fault(fault),
         _ => End::Clean,
     };
     feed_cut(rt, alloc, &text, 0, used, turn, end)?;
@@ -210,11 +210,11 @@ fn feed_repeated(
 #[test]
 fn limits(rt: HostRuntime) -> Result<(), Fail> {
     let alloc = rt.alloc();
-    let long = Turn::Fault(LineFault::TooLong);
+    let long = ReaderTurn::Fault(LineFault::TooLong);
     feed_repeated(&rt, alloc, (b"5 ", b"1 ", b""), 65_536, 131_073, long)?;
     feed_repeated(&rt, alloc, (b"5 2 0", b" 1", b""), 65_537, 131_079, long)?;
     feed_repeated(&rt, alloc, (b"5 d", b" 1", b""), 65_537, 131_077, long)?;
-    let rat = Turn::Fault(LineFault::RatHint);
+    let rat = ReaderTurn::Fault(LineFault::RatHint);
     feed_repeated(&rt, alloc, (b"5 2 0", b" 1", b" -"), 65_536, 131_079, rat)?;
     let literals = vec![in alloc; 1; 65_535]?;
     let longest = Line::Add {
@@ -228,7 +228,7 @@ fn limits(rt: HostRuntime) -> Result<(), Fail> {
         (b"5 ", b"1 ", b"0 0\n"),
         65_535,
         131_076,
-        Turn::Line(longest),
+        ReaderTurn::Line(longest),
     )?;
     let identities = vec![in alloc; 1; 65_536]?;
     let deletion = Line::Delete {
@@ -241,14 +241,14 @@ fn limits(rt: HostRuntime) -> Result<(), Fail> {
         (b"5 d", b" 1", b" 0\n"),
         65_536,
         131_078,
-        Turn::Line(deletion),
+        ReaderTurn::Line(deletion),
     )
 }
 
 #[test]
 fn ends(rt: HostRuntime) -> Result<(), Fail> {
     let mut reader = LineReader::new(rt.alloc())?;
-    same(&rt, reader.feed(b"").turn, Turn::NeedMore);
+    same(&rt, reader.feed(b"").turn, ReaderTurn::NeedMore);
     same(&rt, reader.end(), End::Clean);
     let unit = Line::Add {
         id: 5,
@@ -258,7 +258,7 @@ fn ends(rt: HostRuntime) -> Result<(), Fail> {
     let text = b"5 2 0 0\n6 0 5 0\n7";
     let fed = reader.feed(text);
     same(&rt, fed.used, 8);
-    same(&rt, fed.turn, Turn::Line(unit));
+    same(&rt, fed.turn, ReaderTurn::Line(unit));
     same(&rt, reader.end(), End::Clean);
     let empty = Line::Add {
         id: 6,
@@ -267,13 +267,13 @@ fn ends(rt: HostRuntime) -> Result<(), Fail> {
     };
     let fed = reader.feed(&text[8..]);
     same(&rt, fed.used, 8);
-    same(&rt, fed.turn, Turn::Line(empty));
-    same(&rt, reader.feed(&text[16..]).turn, Turn::NeedMore);
+    same(&rt, fed.turn, ReaderTurn::Line(empty));
+    same(&rt, reader.feed(&text[16..]).turn, ReaderTurn::NeedMore);
     let truncated = LineFault::Truncated;
     same(&rt, reader.end(), End::Fault(truncated));
     let after = reader.feed(text);
     same(&rt, after.used, 0);
-    same(&rt, after.turn, Turn::Fault(truncated));
+    same(&rt, after.turn, ReaderTurn::Fault(truncated));
     same(&rt, reader.end(), End::Fault(truncated));
     Ok(())
 }
@@ -282,7 +282,7 @@ fn ends(rt: HostRuntime) -> Result<(), Fail> {
 fn fault_stays(rt: HostRuntime) -> Result<(), Fail> {
     let mut reader = LineReader::new(rt.alloc())?;
     same(&rt, reader.feed(b"5 2 0 0\n").used, 8);
-    let fault = Turn::Fault(LineFault::RatHint);
+    let fault = ReaderTurn::Fault(LineFault::RatHint);
     let fed = reader.feed(b"5 1 0 -2 0\n");
     same(&rt, fed.used, 7);
     same(&rt, fed.turn, fault);
@@ -596,9 +596,9 @@ fn count_lines<S: Source>(rt: &impl Abort, alloc: Global, source: &mut S) -> Res
             let fed = reader.feed(&buffer[at.min(end)..end]);
             at = at.saturating_add(fed.used);
             match fed.turn {
-                Turn::Line(_) => lines = lines.saturating_add(1),
-                Turn::NeedMore => {}
-                Turn::Fault(_) => holds(rt, false),
+                ReaderTurn::Line(_) => lines = lines.saturating_add(1),
+                ReaderTurn::NeedMore => {}
+                ReaderTurn::Fault(_) => holds(rt, false),
             }
         }
     }

@@ -13,7 +13,7 @@ use Rattle.lrup_model.specs.HistoryLemmas.{legal-front, legal-back}
 use Rattle.stream_check.specs.Reducing.{is_vacant}
 use Rattle.runs.specs.Streams.{Block, blocks_of, events_in}
 use Rattle.runs.specs.StreamLemmas.{blocks-same, blocks-other}
-use Rattle.orders.specs.Lines.{IsFetch, IsRetire}
+use Rattle.stream_check.specs.Checking.{IsFetch, IsRetire}
 use Rattle.orders.proofs.SwapLemmas.{Settles, goes-behind, comes-before}
 
 -- Blocks

@@ -9,7 +9,7 @@ use Rattle.lrup_text.specs.Laws.{OneFirstLine}
 use Rattle.stream_check.specs.declared.report.Report.{Report}
 use Rattle.stream_check.specs.Setting.{Setting}
 use Rattle.stream_check.specs.Standing.{Standing, standing_of, deleted_by}
-use Rattle.stream_check.specs.Verdicts.{Verdict, Good, Bad}
+use Rattle.stream_check.specs.Verdicts.{LineVerdict, Good, Bad}
 use Rattle.stream_check.specs.Judging.{JudgesLine, AreGood, EndsAfter, StreamEnd, joined}
 use Rattle.stream_check.specs.Reducing.{IsEarly}
 use Rattle.stream_check.specs.Laws.{EarlyEvents, VacantTriesAgain}
@@ -45,7 +45,7 @@ are_early (e ∷ es) early = (
 -- The blocks of a stream
 
 module _ (early_events : EarlyEvents) (vacant_tries_again : VacantTriesAgain) (c : Setting) where
-  line_block : (st : Standing) (line : StreamLine) (es : History) (v : Verdict) → JudgesLine c st line es v → IsLineBlock es
+  line_block : (st : Standing) (line : StreamLine) (es : History) (v : LineVerdict) → JudgesLine c st line es v → IsLineBlock es
   line_block st line es v judged = record {
     early = are_early es (λ front last is. early_events c st line es front last v judged is);
     again = vacant_tries_again c st line es v judged;

@@ -10,13 +10,14 @@ use Rattle.lrup_text.specs.Lines.{StreamLine, Addition, Deletion, Import}
 use Rattle.stream_check.specs.declared.fault.Fault.{Fault}
 use Rattle.stream_check.specs.Setting.{Setting, Side, formula, own, foreign, outside, side_of}
 use Rattle.stream_check.specs.Standing.{Standing, deleted_by}
-use Rattle.stream_check.specs.Verdicts.{Verdict, Good, Test}
+use Rattle.stream_check.specs.Verdicts.{LineVerdict, Good, Test}
 use Rattle.stream_check.specs.Asking.{AsksAt}
 use Rattle.stream_check.specs.Additions.{AtConflict, AtReply, JudgesHints, JudgesAddition, published_by}
 use Rattle.stream_check.specs.Deletions.{DeletesAt, JudgesIdentities}
 use Rattle.stream_check.specs.Imports.{AtImported, JudgesImport}
 use Rattle.stream_check.specs.Judging.{JudgesLine}
-use Rattle.orders.specs.Lines.{IsRetire, RetiresLast}
+use Rattle.stream_check.specs.Checking.{IsRetire}
+use Rattle.orders.specs.Lines.{RetiresLast}
 use Rattle.orders.specs.Laws.{RetiresOnly}
 
 -- Deletions
@@ -26,7 +27,7 @@ module _ (c : Setting) (P : Event → Type 0) where
   abbrev AllRetires : List ℕ → Type 0
   AllRetires ids = AllByRecursion (λ id. (r : Retired) → P (events.retire c.stream id r)) ids
 
-  at_identity : (side : Side) (gone : ℕ → Bool) (earlier : List ℕ) (id : ℕ) (es : History) (v : Verdict) (A : History → Type 0)
+  at_identity : (side : Side) (gone : ℕ → Bool) (earlier : List ℕ) (id : ℕ) (es : History) (v : LineVerdict) (A : History → Type 0)
       → ((r : Retired) → P (events.retire c.stream id r)) → ((rest : History) → A rest → AllByRecursion P rest)
       → DeletesAt side c gone earlier id es v A → AllByRecursion P es
   at_identity formula gone earlier id es v A each next (inl bad) = subst (AllByRecursion P) (sym bad.1.0) tt
@@ -39,7 +40,7 @@ module _ (c : Setting) (P : Event → Type 0) where
     | inr bad ↦ subst (AllByRecursion P) (sym bad.0) (each _, subst (AllByRecursion P) (sym bad.1) tt)
   ]
 
-  pub identities_all : (gone : ℕ → Bool) (earlier ids : List ℕ) (es : History) (v : Verdict)
+  pub identities_all : (gone : ℕ → Bool) (earlier ids : List ℕ) (es : History) (v : LineVerdict)
       → AllRetires ids → JudgesIdentities c gone earlier ids es v → AllByRecursion P es
   identities_all gone earlier [] es v each judged = subst (AllByRecursion P) (sym judged.0) tt
   identities_all gone earlier (id ∷ ids) es v each judged =
@@ -63,12 +64,12 @@ module _ (c : Setting) (P : Event → Type 0) (fetches : (id : ℕ) (r : Reply) 
   none_all : (es : History) → es ≡ [] → AllByRecursion P es
   none_all es is = subst (AllByRecursion P) (sym is) tt
 
-  test_all : (T : Type 0) (fault : Fault) (es : History) (v : Verdict) (A : Type 0)
+  test_all : (T : Type 0) (fault : Fault) (es : History) (v : LineVerdict) (A : Type 0)
       → (A → AllByRecursion P es) → Test T fault es v A → AllByRecursion P es
   test_all T fault es v A next (inl bad) = none_all es bad.1.0
   test_all T fault es v A next (inr good) = next good.1
 
-  module _ (id : ℕ) (lits : List ℤ) (v : Verdict) (publishes : v ≡ Good → P (published_by c id lits)) where
+  module _ (id : ℕ) (lits : List ℤ) (v : LineVerdict) (publishes : v ≡ Good → P (published_by c id lits)) where
     conflict_all : (hints : List ℕ) (es : History) → AtConflict hints (published_by c id lits) es v → AllByRecursion P es
     conflict_all [] es at = subst (AllByRecursion P) (sym at.0) (publishes at.1, tt)
     conflict_all (h ∷ hints) es at = none_all es at.0
@@ -98,12 +99,12 @@ module _ (c : Setting) (P : Event → Type 0) (fetches : (id : ℕ) (r : Reply) 
         (λ a. test_all _ _ es v _ (λ a. hints_all st.gone _ hints es a) a) a) a) judged
 
   -- what holds of the fetches of an import holds of its events
-  imported_none : (x : Reply) (id : ℕ) (lits : List ℤ) (es : History) (v : Verdict) → AtImported x id lits es v → AllByRecursion P es
+  imported_none : (x : Reply) (id : ℕ) (lits : List ℤ) (es : History) (v : LineVerdict) → AtImported x id lits es v → AllByRecursion P es
   imported_none events.vacant id lits es v at = none_all es at.0
   imported_none events.retired id lits es v at = none_all es at.0
   imported_none (events.live d) id lits es v at = test_all _ _ es v _ (λ good. none_all es good.0) at
 
-  pub import_all : (st : Standing) (id : ℕ) (lits : List ℤ) (es : History) (v : Verdict) → JudgesImport c st id lits es v → AllByRecursion P es
+  pub import_all : (st : Standing) (id : ℕ) (lits : List ℤ) (es : History) (v : LineVerdict) → JudgesImport c st id lits es v → AllByRecursion P es
   import_all st id lits es v judged =
       test_all _ _ es v _ (λ a. test_all _ _ es v _ (λ a. test_all _ _ es v _
       (λ a. subst (AllByRecursion P) (sym a.events) (All-append P a.asked a.rest (asked_all (side_of c id) id a.asked a.reply a.asks)
@@ -124,7 +125,7 @@ never_last [] all = tt
 never_last (e ∷ es) all = ((λ is. absurd (all.0 is)), never_last es all.1)
 
 -- after a retire of a line there are only retires
-pub line_last : (c : Setting) (st : Standing) (line : StreamLine) (es : History) (v : Verdict) → JudgesLine c st line es v → RetiresLast es
+pub line_last : (c : Setting) (st : Standing) (line : StreamLine) (es : History) (v : LineVerdict) → JudgesLine c st line es v → RetiresLast es
 line_last c st (Addition id lits hints) es v judged =
     never_last es (addition_all c (λ e. ¬ IsRetire e) (λ h r is. is) id lits v (λ good is. is) st hints es judged)
 line_last c st (Import id lits) es v judged =
@@ -138,7 +139,7 @@ all_pass p s [] all = tt
 all_pass p s (id ∷ ids) all = ((λ r. all.0), all_pass p s ids all.1)
 
 -- a line retires only what it deletes
-pub line_retires : (c : Setting) (p : ℕ → Bool) (st : Standing) (line : StreamLine) (es : History) (v : Verdict)
+pub line_retires : (c : Setting) (p : ℕ → Bool) (st : Standing) (line : StreamLine) (es : History) (v : LineVerdict)
     → AllByRecursion (λ id. IsTrue (p id)) (deleted_by line) → JudgesLine c st line es v → AllByRecursion (RetiresOnly p) es
 line_retires c p st (Addition id lits hints) es v all judged =
     addition_all c (RetiresOnly p) (λ h r. tt) id lits v (λ good. tt) st hints es judged

@@ -22,7 +22,7 @@ use Rattle.stream_check.specs.Laws.{cited_by, FetchesOnly, CitedFetched}
 use Rattle.runs.specs.Streams.{setting_of}
 use Rattle.runs.specs.StreamLemmas.{told_from, told_begins}
 use Rattle.runs.specs.Closed.{CiteWithin}
-use Rattle.orders.specs.Premises.{FindsKept, FindsUnretired, MeetsUnretired, IsRetireOf, Retires, cites, deletes, Cites, Deletes}
+use Rattle.orders.specs.Premises.{FindsKept, FindsUnretired, MeetsUnretired, IsRetireOf, HistoryRetires, cites, deletes, Cites, SomeLineDeletes}
 use Rattle.orders.specs.Laws.{KeptByEvents, OwnersAloneSuffices, SharedStays, BeginningsCite, ReadersShare, RetiresOnly, DeletedRetired}
 use Rattle.orders.proofs.SwapLemmas.{gone_stays}
 use Rattle.orders.proofs.WalkLemmas.{own-calls}
@@ -45,7 +45,7 @@ gone_back m (events.retire s j retiring.Done) id gone =
     ]
 gone_back m (events.retire s j retiring.NotLive) id gone = inl gone
 
-gone_retires : (m : State) (h : History) (id : ℕ) → IsRetired (run m h id) → IsRetired (m id) ⊎ Retires h id
+gone_retires : (m : State) (h : History) (id : ℕ) → IsRetired (run m h id) → IsRetired (m id) ⊎ HistoryRetires h id
 gone_retires m [] id gone = inl gone
 gone_retires m (e ∷ h) id gone =
     elim (gone_retires (after m e) h id gone) [
@@ -63,7 +63,7 @@ opening_kept f id gone =
       | inr other ↦ absurd (subst IsRetired (cond-false (ltb 0 id && leb id (length f.clauses)) (live (clause_at f id)) absent other) gone)
     ]
 
-opening_retires : (f : Cnf) (h : History) (id : ℕ) → IsRetired (state f h id) → Retires h id
+opening_retires : (f : Cnf) (h : History) (id : ℕ) → IsRetired (state f h id) → HistoryRetires h id
 opening_retires f h id gone =
     elim (gone_retires (opening f) h id gone) [
       | inl before ↦ absurd (opening_kept f id before)
@@ -80,7 +80,7 @@ retired_at f p m (events.retire s j retiring.Done) id h legal is =
     subst IsRetired (sym (put-same m j (retire_slot (m j)) id (sym is))) (retired_now (m j) legal.0)
 retired_at f p m (events.retire s j retiring.NotLive) id h legal is = absurd is
 
-retires_gone : (f : Cnf) (p : LayoutValue) (m : State) (h : History) (id : ℕ) → LegalFrom f p m h → Retires h id → IsRetired (run m h id)
+retires_gone : (f : Cnf) (p : LayoutValue) (m : State) (h : History) (id : ℕ) → LegalFrom f p m h → HistoryRetires h id → IsRetired (run m h id)
 retires_gone f p m [] id legal retires = absurd retires
 retires_gone f p m (e ∷ h) id legal (inl here) =
     gone_stays (after m e id) (run (after m e) h id) (run-advances f p (after m e) h id legal.2) (retired_at f p m e id h legal here)
@@ -120,24 +120,24 @@ its_owner f p (events.publish s j c r) id allowed is = absurd is
 its_owner f p (events.retire s j retiring.Done) id allowed is = subst (λ (i : ℕ). Owns p s i) is allowed
 its_owner f p (events.retire s j retiring.NotLive) id allowed is = absurd is
 
-retires_more : (e : Event) (h : History) (t id : ℕ) → Retires (own h t) id → Retires (own (e ∷ h) t) id
+retires_more : (e : Event) (h : History) (t id : ℕ) → HistoryRetires (own h t) id → HistoryRetires (own (e ∷ h) t) id
 retires_more e h t id retires =
     elim (cases_eq (stream_of e) t) [
-      | inl mine ↦ subst (λ (g : History). Retires g id) (sym (own-mine e h t mine)) (inr retires)
-      | inr other ↦ subst (λ (g : History). Retires g id) (sym (own-other e h t other)) retires
+      | inl mine ↦ subst (λ (g : History). HistoryRetires g id) (sym (own-mine e h t mine)) (inr retires)
+      | inr other ↦ subst (λ (g : History). HistoryRetires g id) (sym (own-other e h t other)) retires
     ]
 
 -- the stream that owns it, by a call of its own
-retirer : (f : Cnf) (p : LayoutValue) (m : State) (h : History) (id : ℕ) → LegalFrom f p m h → Retires h id
-    → (t : ℕ) × Owns p t id × Retires (own h t) id
+retirer : (f : Cnf) (p : LayoutValue) (m : State) (h : History) (id : ℕ) → LegalFrom f p m h → HistoryRetires h id
+    → (t : ℕ) × Owns p t id × HistoryRetires (own h t) id
 retirer f p m [] id legal retires = absurd retires
 retirer f p m (e ∷ h) id legal (inl here) = (
   stream_of e,
   its_owner f p e id legal.1 here,
-  subst (λ (g : History). Retires g id) (sym (own-mine e h (stream_of e) refl)) (inl here),
+  subst (λ (g : History). HistoryRetires g id) (sym (own-mine e h (stream_of e) refl)) (inl here),
 )
 retirer f p m (e ∷ h) id legal (inr later) =
-    let found : (t : ℕ) × Owns p t id × Retires (own h t) id = retirer f p (after m e) h id legal.2 later in
+    let found : (t : ℕ) × Owns p t id × HistoryRetires (own h t) id = retirer f p (after m e) h id legal.2 later in
     (found.0, found.1, retires_more e h found.0 id found.2)
 
 retire_passes : (test : ℕ → Bool) (id : ℕ) (e : Event) → RetiresOnly test e → IsRetireOf id e → IsTrue (test id)
@@ -146,7 +146,7 @@ retire_passes test id (events.publish s j c r) only is = absurd is
 retire_passes test id (events.retire s j retiring.Done) only is = subst (λ (i : ℕ). IsTrue (test i)) is only
 retire_passes test id (events.retire s j retiring.NotLive) only is = absurd is
 
-retired_passes : (test : ℕ → Bool) (id : ℕ) (es : History) → AllByRecursion (RetiresOnly test) es → Retires es id → IsTrue (test id)
+retired_passes : (test : ℕ → Bool) (id : ℕ) (es : History) → AllByRecursion (RetiresOnly test) es → HistoryRetires es id → IsTrue (test id)
 retired_passes test id [] all retires = absurd retires
 retired_passes test id (e ∷ es) all (inl here) = retire_passes test id e all.0 here
 retired_passes test id (e ∷ es) all (inr later) = retired_passes test id es all.1 later
@@ -223,7 +223,7 @@ shared_stays cited_fetched deleted_retired f terms set h streams reports fits co
     (cites my_lines.lines) mine.judges my_lines.cut (all_named cited_by my_lines.lines)) in
     shared_each p (state f h) s my_lines.lines (is_inside p set)
     (λ id is_cited inside other gone.
-    let retires : (t : ℕ) × Owns p t id × Retires (own h t) id
+    let retires : (t : ℕ) × Owns p t id × HistoryRetires (own h t) id
     = retirer f p (opening f) h id legal.events (opening_retires f h id gone) in
     let t : ℕ = retires.0 in
     let theirs : IsOwned p t id = owned p t id (omega (arith, is.0, is.1)) retires.1 in
@@ -264,4 +264,4 @@ readers_share beginnings_cite p set told streams are_told keeps s t id citing de
     let front = told_begins mine.telling kept.0 citing mine.is_told kept.2 in
     let behind = told_begins theirs.telling kept.1 deleting theirs.is_told kept.3 in
     kept.4 (subst (λ (bytes : List ℕ). Cites bytes id) (sym front.1) ((beginnings_cite citing.bytes front.0 id).0 cited))
-    (subst (λ (bytes : List ℕ). Deletes bytes id) (sym behind.1) ((beginnings_cite deleting.bytes behind.0 id).1 deleted))
+    (subst (λ (bytes : List ℕ). SomeLineDeletes bytes id) (sym behind.1) ((beginnings_cite deleting.bytes behind.0 id).1 deleted))

@@ -19,7 +19,7 @@ use Rattle.stream_check.specs.Reducing.{reduced}
 use Rattle.stream_check.specs.Laws.{cited_by, FetchesOnly, CitedFetched, ReducedStream}
 use Rattle.runs.specs.Streams.{Stop, at_end, at_failure, early, Stream, JudgesTo, JudgesStream, Block, blocks_of, IsBlockWithin, AreJudged, Terms, setting_of}
 use Rattle.runs.specs.Headline.{IsJudgedBy, AreJudgedIn}
-use Rattle.runs.specs.Closed.{IsAt, IsWithin, CiteWithin}
+use Rattle.runs.specs.Closed.{IsOfStream, IsOwnedWithin, CiteWithin}
 use Rattle.runs.specs.StreamLemmas.{told_count}
 use Rattle.orders.specs.Lines.{IsOrder}
 use Rattle.orders.specs.Laws.{JudgedBlocks, LinesOrdered, ClosedOrdered, AllClosed, RunSerializable}
@@ -145,7 +145,7 @@ pub record IsJudgedStream (terms : Terms) (h : History) (streams : List Stream) 
   pub report : Report
   pub end : StreamEnd
   pub blocks : List History
-  pub at : IsAt streams s stream
+  pub at : IsOfStream streams s stream
   pub own_events : own h s ≡ joined blocks
   pub judges : JudgesBlocks (setting_of terms s) stream.bytes end blocks report
 
@@ -180,7 +180,7 @@ inside_for set owners.Outside = true
 pub is_inside : LayoutValue → (ℕ → Bool) → ℕ → Bool
 is_inside p set id = inside_for set (owner p id)
 
-within_inside : (p : LayoutValue) (set : ℕ → Bool) (id : ℕ) (o : Owner) → owner p id ≡ o → IsWithin p set id → IsTrue (inside_for set o)
+within_inside : (p : LayoutValue) (set : ℕ → Bool) (id : ℕ) (o : Owner) → owner p id ≡ o → IsOwnedWithin p set id → IsTrue (inside_for set o)
 unfolding inside_for
 within_inside p set id owners.Formula is within = refl
 within_inside p set id (owners.Stream t) is within = within t is
@@ -191,13 +191,13 @@ unfolding inside_for is_inside
 inside_owner p set id t inside owns = subst (λ (o : Owner). IsTrue (inside_for set o)) owns inside
 
 ids_inside : (p : LayoutValue) (set : ℕ → Bool) (ids : List ℕ)
-    → AllByRecursion (IsWithin p set) ids → AllByRecursion (λ id. IsTrue (is_inside p set id)) ids
+    → AllByRecursion (IsOwnedWithin p set) ids → AllByRecursion (λ id. IsTrue (is_inside p set id)) ids
 unfolding is_inside
 ids_inside p set [] all = tt
 ids_inside p set (id ∷ ids) all = (within_inside p set id (owner p id) refl all.0, ids_inside p set ids all.1)
 
 lines_inside : (p : LayoutValue) (set : ℕ → Bool) (lines : List StreamLine)
-    → AllByRecursion (λ line. AllByRecursion (IsWithin p set) (cited_by line)) lines
+    → AllByRecursion (λ line. AllByRecursion (IsOwnedWithin p set) (cited_by line)) lines
     → AllByRecursion (λ line. AllByRecursion (λ id. IsTrue (is_inside p set id)) (cited_by line)) lines
 lines_inside p set [] all = tt
 lines_inside p set (line ∷ lines) all = (ids_inside p set (cited_by line) all.0, lines_inside p set lines all.1)
@@ -265,12 +265,12 @@ closed_ordered lines_ordered judged_blocks cited_fetched reduced_stream f terms 
 
 -- All streams
 
-ids_of_all : (p : LayoutValue) (ids : List ℕ) → AllByRecursion (IsWithin p (λ s. true)) ids
+ids_of_all : (p : LayoutValue) (ids : List ℕ) → AllByRecursion (IsOwnedWithin p (λ s. true)) ids
 ids_of_all p [] = tt
 ids_of_all p (id ∷ ids) = ((λ t owns. refl), ids_of_all p ids)
 
 lines_of_all : (p : LayoutValue) (lines : List StreamLine)
-    → AllByRecursion (λ line. AllByRecursion (IsWithin p (λ s. true)) (cited_by line)) lines
+    → AllByRecursion (λ line. AllByRecursion (IsOwnedWithin p (λ s. true)) (cited_by line)) lines
 lines_of_all p [] = tt
 lines_of_all p (line ∷ lines) = (ids_of_all p (cited_by line), lines_of_all p lines)
 

@@ -10,7 +10,7 @@ use Rattle.lrup_model.specs.Event.{Event, Reply, History, stream_of}
 use Rattle.lrup_model.specs.State.{State, Slot, absent, live, retired, IsLive, IsRetired, retire_slot, after, Answers}
 use Rattle.lrup_model.specs.History.{IsAllowed, LegalFrom}
 use Rattle.lrup_model.specs.Laws.{Advances}
-use Rattle.orders.specs.Lines.{IsFetch, IsRetire}
+use Rattle.stream_check.specs.Checking.{IsFetch, IsRetire}
 use Rattle.orders.specs.Premises.{IsLiveReply}
 use Rattle.lrup_model.specs.HistoryLemmas.{put-other, after-agrees, after-foreign, one_owner}
 use Rattle.lrup_model.specs.EntryLemmas.{after-advances}

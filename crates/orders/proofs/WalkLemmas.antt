@@ -15,7 +15,8 @@ use Rattle.stream_check.specs.Judging.{joined}
 use Rattle.stream_check.specs.Reducing.{is_vacant, IsEarly, IsFetchOf, TriesAgain, reduced}
 use Rattle.stream_check.specs.ReducingLemmas.{reduced_kept, reduced_left_out, all_vacant_stay}
 use Rattle.runs.specs.Streams.{Block, blocks_of}
-use Rattle.orders.specs.Lines.{IsLineBlock, IsFetch, IsRetire, RetiresLast}
+use Rattle.stream_check.specs.Checking.{IsFetch, IsRetire}
+use Rattle.orders.specs.Lines.{IsLineBlock, RetiresLast}
 use Rattle.orders.proofs.SwapLemmas.{Settles}
 use Rattle.orders.proofs.BlockLemmas.{IsSettled, join, join-own, join-others, join-settled, join-legal, join-again, without, without-own, without-others, without-settled, first-settled, retires-first}
 use Rattle.orders.proofs.AheadLemmas.{Lines, with, with-same, with-other, Ahead, ahead-with, HasOrder, lines-front, order-empty}

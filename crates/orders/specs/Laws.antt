@@ -18,7 +18,7 @@ use Rattle.runs.specs.Streams.{Stream, Block, events_in, Telling, Terms, AreTold
 use Rattle.runs.specs.Headline.{HaveOneHistory, AreJudgedIn}
 use Rattle.runs.specs.Closed.{IsClosed}
 use Rattle.orders.specs.Lines.{IsLineBlock, IsOrder, publishes_within}
-use Rattle.orders.specs.Premises.{FindsKept, FoundStays, FindsUnretired, OwnersAloneMeetRetired, Cites, Deletes, KeepShared, ReadersKeepShared}
+use Rattle.orders.specs.Premises.{FindsKept, FoundStays, FindsUnretired, OwnersAloneMeetRetired, Cites, SomeLineDeletes, KeepShared, ReadersKeepShared}
 use Rattle.orders.specs.Serializable.{IsSerializable}
 
 -- The lines of a stream
@@ -108,7 +108,8 @@ SharedStays = (f : Cnf) (terms : Terms) (set : ℕ → Bool) (h : History) (stre
 -- what the lines of some bytes cite or delete, those of all bytes that begin with them do
 abbrev pub BeginningsCite : Type 0
 BeginningsCite = (bytes more : List ℕ) (id : ℕ)
-    → (Cites bytes id → Cites (bytes ++ more) id) × (Deletes bytes id → Deletes (bytes ++ more) id)
+    → (Cites bytes id → Cites (bytes ++ more) id)
+    × (SomeLineDeletes bytes id → SomeLineDeletes (bytes ++ more) id)
 
 -- So where the streams keep what they share in all bytes that their readers have left at first, they keep it in those that were
 -- needed.

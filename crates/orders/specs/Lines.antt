@@ -8,6 +8,7 @@ use Rattle.lrup_model.specs.Event as events
 use Rattle.lrup_model.specs.Event.{Event, History}
 use Rattle.lrup_model.specs.History.{IsLegal}
 use Rattle.lrup_model.specs.declared.clause_map.Published.TheVariants as publishing
+use Rattle.stream_check.specs.Checking.{IsRetire}
 use Rattle.stream_check.specs.Standing.{is_within}
 use Rattle.stream_check.specs.Reducing.{IsEarly, TriesAgain, reduced}
 use Rattle.runs.specs.Streams.{Block, blocks_of, events_in, IsBlockWithin}
@@ -21,18 +22,6 @@ IsEarlyBefore (d ∷ es) e = IsEarly e
 abbrev pub AreEarly : History → Type 0
 AreEarly [] = Unit {0}
 AreEarly (e ∷ es) = IsEarlyBefore es e × AreEarly es
-
--- the event is a fetch
-abbrev pub IsFetch : Event → Type 0
-IsFetch (events.fetch s id r) = Unit {0}
-IsFetch (events.publish s id c r) = ⊥
-IsFetch (events.retire s id r) = ⊥
-
--- the event is a retire
-abbrev pub IsRetire : Event → Type 0
-IsRetire (events.fetch s id r) = ⊥
-IsRetire (events.publish s id c r) = ⊥
-IsRetire (events.retire s id r) = Unit {0}
 
 -- the event publishes a clause within the cube
 abbrev pub publishes_within : CubeValue → Event → Bool

@@ -12,7 +12,7 @@ use Rattle.lrup_text.specs.Lines.{StreamLine, Cut}
 use Rattle.stream_check.specs.Standing.{is_among, deleted_by}
 use Rattle.stream_check.specs.Laws.{cited_by}
 use Rattle.runs.specs.Streams.{Stream, Telling}
-use Rattle.runs.specs.Closed.{IsAt}
+use Rattle.runs.specs.Closed.{IsOfStream}
 
 -- By what the history leaves
 
@@ -43,19 +43,19 @@ IsRetireOf id (events.retire s j retiring.Done) = j ≡ id
 IsRetireOf id (events.retire s j retiring.NotLive) = ⊥
 
 -- the history retires the identity
-abbrev pub Retires : History → ℕ → Type 0
-Retires [] id = ⊥
-Retires (e ∷ h) id = IsRetireOf id e ⊎ Retires h id
+abbrev pub HistoryRetires : History → ℕ → Type 0
+HistoryRetires [] id = ⊥
+HistoryRetires (e ∷ h) id = IsRetireOf id e ⊎ HistoryRetires h id
 
 -- where a stream found an identity live that isn't its own, the history doesn't retire it
 abbrev pub FindsUnretired : LayoutValue → History → Event → Type 0
-FindsUnretired p h (events.fetch s id r) = IsLiveReply r → ¬ Owns p s id → ¬ Retires h id
+FindsUnretired p h (events.fetch s id r) = IsLiveReply r → ¬ Owns p s id → ¬ HistoryRetires h id
 FindsUnretired p h (events.publish s id c r) = Unit {0}
 FindsUnretired p h (events.retire s id r) = Unit {0}
 
 -- where a stream found an identity that isn't its own, live or retired, the history doesn't retire it
 abbrev pub MeetsUnretired : LayoutValue → History → Event → Type 0
-MeetsUnretired p h (events.fetch s id r) = IsFound r → ¬ Owns p s id → ¬ Retires h id
+MeetsUnretired p h (events.fetch s id r) = IsFound r → ¬ Owns p s id → ¬ HistoryRetires h id
 MeetsUnretired p h (events.publish s id c r) = Unit {0}
 MeetsUnretired p h (events.retire s id r) = Unit {0}
 
@@ -80,22 +80,22 @@ Cites bytes id =
     (lines : List StreamLine) × (rest : List ℕ) × Cut bytes lines rest × IsTrue (cites lines id)
 
 -- a line that the bytes are cut into deletes the identity
-abbrev pub Deletes : List ℕ → ℕ → Type 0
-Deletes bytes id =
+abbrev pub SomeLineDeletes : List ℕ → ℕ → Type 0
+SomeLineDeletes bytes id =
     (lines : List StreamLine) × (rest : List ℕ) × Cut bytes lines rest × IsTrue (deletes lines id)
 
 -- No stream of the set deletes an identity of its own that a line of another stream of the set cites.
 abbrev pub KeepShared : LayoutValue → (ℕ → Bool) → List Stream → Type 0
 KeepShared p set streams =
     (s t id : ℕ) (citing deleting : Stream) → s ≢ t → IsTrue (set s) → IsTrue (set t)
-    → IsAt streams s citing → IsAt streams t deleting → Owns p t id
-    → Cites citing.bytes id → ¬ Deletes deleting.bytes id
+    → IsOfStream streams s citing → IsOfStream streams t deleting → Owns p t id
+    → Cites citing.bytes id → ¬ SomeLineDeletes deleting.bytes id
 
 -- So it is in all bytes that the readers of the set's streams have left at first, which are known.
 abbrev pub ReadersKeepShared : LayoutValue → (ℕ → Bool) → List Telling → Type 0
 ReadersKeepShared p set told =
     (s t id : ℕ) (citing deleting : Telling) → s ≢ t → IsTrue (set s) → IsTrue (set t)
-    → IsAt told s citing → IsAt told t deleting → Owns p t id
+    → IsOfStream told s citing → IsOfStream told t deleting → Owns p t id
     → (bytes : List ℕ) × (others : List ℕ)
     × (citing.entry ≡ Some bytes) × (deleting.entry ≡ Some others)
-    × (Cites bytes id → ¬ Deletes others id)
+    × (Cites bytes id → ¬ SomeLineDeletes others id)

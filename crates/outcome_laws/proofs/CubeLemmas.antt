@@ -13,7 +13,7 @@ use Rattle.stream_check.specs.declared.report.Ending.{Ending}
 use Rattle.stream_check.specs.declared.report.Report.{Report}
 use Rattle.stream_check.specs.Setting.{Setting, Side, formula, own, foreign, outside, side_of}
 use Rattle.stream_check.specs.Standing.{Standing, standing_of, tally_of}
-use Rattle.stream_check.specs.Verdicts.{Verdict, Good, Bad, Test}
+use Rattle.stream_check.specs.Verdicts.{LineVerdict, Good, Bad, Test}
 use Rattle.stream_check.specs.Asking.{AsksAt, AsksThen}
 use Rattle.stream_check.specs.Additions.{AtReply, JudgesHints, published_by, JudgesAddition}
 use Rattle.stream_check.specs.Deletions.{RetiresThen, DropsThen, DeletesAt, JudgesIdentities}
@@ -25,7 +25,7 @@ use Rattle.outcome_laws.specs.Laws.{NoCubeJudgesAlike}
 
 -- Lines
 
-test_maps : (Holds : Type 0) (fault : Fault) (es : History) (v : Verdict) (A B : Type 0) → (A → B) → Test Holds fault es v A → Test Holds fault es v B
+test_maps : (Holds : Type 0) (fault : Fault) (es : History) (v : LineVerdict) (A B : Type 0) → (A → B) → Test Holds fault es v A → Test Holds fault es v B
 test_maps Holds fault es v A B next (inl bad) = inl bad
 test_maps Holds fault es v A B next (inr good) = inr (good.0, next good.1)
 
@@ -46,7 +46,7 @@ then_bare c h es A B next a = record {
   next = next a.reply a.rest a.next;
 }
 
-reply_maps : (x : Reply) (n : List ℤ) (h : ℕ) (hints : List ℕ) (published : Event) (es : History) (v : Verdict) (A B : List ℤ → Type 0)
+reply_maps : (x : Reply) (n : List ℤ) (h : ℕ) (hints : List ℕ) (published : Event) (es : History) (v : LineVerdict) (A B : List ℤ → Type 0)
     → ((m : List ℤ) → A m → B m) → AtReply x n h hints published es v A → AtReply x n h hints published es v B
 reply_maps events.vacant n h hints published es v A B next at = at
 reply_maps events.retired n h hints published es v A B next at = at
@@ -54,7 +54,7 @@ reply_maps (events.live d) n h hints published es v A B next (inl conflict) = in
 reply_maps (events.live d) n h hints published es v A B next (inr (inl unit)) = inr (inl (unit.0, unit.1, next (n ++ neg_ℤ unit.0 ∷ []) unit.2))
 reply_maps (events.live d) n h hints published es v A B next (inr (inr neither)) = inr (inr neither)
 
-hints_bare : (c : Setting) (gone : ℕ → Bool) (published : Event) (n : List ℤ) (hints : List ℕ) (es : History) (v : Verdict)
+hints_bare : (c : Setting) (gone : ℕ → Bool) (published : Event) (n : List ℤ) (hints : List ℕ) (es : History) (v : LineVerdict)
     → JudgesHints c gone published n hints es v → JudgesHints (bare_setting c) gone published n hints es v
 hints_bare c gone published n [] es v judged = judged
 hints_bare c gone published n (h ∷ hints) es v judged =
@@ -67,7 +67,7 @@ hints_bare c gone published n (h ∷ hints) es v judged =
     (λ m k. hints_bare c gone published m hints rest v k) at) a)
     judged
 
-addition_bare : (c : Setting) (st : Standing) (id : ℕ) (lits : List ℤ) (hints : List ℕ) (es : History) (v : Verdict)
+addition_bare : (c : Setting) (st : Standing) (id : ℕ) (lits : List ℤ) (hints : List ℕ) (es : History) (v : LineVerdict)
     → JudgesAddition c st id lits hints es v → JudgesAddition (bare_setting c) st id lits hints es v
 addition_bare c st id lits hints es v judged =
     test_maps (Owns c.layout c.stream id × (st.last < id)) faults.Identity es v _ _
@@ -76,26 +76,26 @@ addition_bare c st id lits hints es v judged =
     (λ a. test_maps (length (distinct lits) ≤ st.free) faults.NoRoom es v _ _
     (λ a. hints_bare c st.gone (published_by c id lits) (distinct lits) hints es v a) a) a) a) judged
 
-retires_bare : (c : Setting) (earlier : List ℕ) (id : ℕ) (es : History) (v : Verdict) (A B : History → Type 0)
+retires_bare : (c : Setting) (earlier : List ℕ) (id : ℕ) (es : History) (v : LineVerdict) (A B : History → Type 0)
     → ((rest : History) → A rest → B rest) → RetiresThen c earlier id es v A → RetiresThen (bare_setting c) earlier id es v B
 retires_bare c earlier id es v A B next a = elim a.decided [
   | inl good ↦ record { rest = a.rest; decided = inl (good.0, next a.rest good.1) }
   | inr bad ↦ record { rest = a.rest; decided = inr bad }
 ]
 
-drops_map : (gone : ℕ → Bool) (earlier : List ℕ) (id : ℕ) (es : History) (v : Verdict) (A B : History → Type 0)
+drops_map : (gone : ℕ → Bool) (earlier : List ℕ) (id : ℕ) (es : History) (v : LineVerdict) (A B : History → Type 0)
     → (A es → B es) → DropsThen gone earlier id es v A → DropsThen gone earlier id es v B
 drops_map gone earlier id es v A B next (inl bad) = inl bad
 drops_map gone earlier id es v A B next (inr good) = inr (good.0, next good.1)
 
-deletes_bare : (side : Side) (c : Setting) (gone : ℕ → Bool) (earlier : List ℕ) (id : ℕ) (es : History) (v : Verdict) (A B : History → Type 0)
+deletes_bare : (side : Side) (c : Setting) (gone : ℕ → Bool) (earlier : List ℕ) (id : ℕ) (es : History) (v : LineVerdict) (A B : History → Type 0)
     → ((rest : History) → A rest → B rest) → DeletesAt side c gone earlier id es v A → DeletesAt side (bare_setting c) gone earlier id es v B
 deletes_bare formula c gone earlier id es v A B next at = drops_map gone earlier id es v A B (next es) at
 deletes_bare own c gone earlier id es v A B next at = retires_bare c earlier id es v A B next at
 deletes_bare foreign c gone earlier id es v A B next at = drops_map gone earlier id es v A B (next es) at
 deletes_bare outside c gone earlier id es v A B next at = at
 
-identities_bare : (c : Setting) (gone : ℕ → Bool) (earlier ids : List ℕ) (es : History) (v : Verdict)
+identities_bare : (c : Setting) (gone : ℕ → Bool) (earlier ids : List ℕ) (es : History) (v : LineVerdict)
     → JudgesIdentities c gone earlier ids es v → JudgesIdentities (bare_setting c) gone earlier ids es v
 identities_bare c gone earlier [] es v judged = judged
 identities_bare c gone earlier (id ∷ ids) es v judged =
@@ -103,7 +103,7 @@ identities_bare c gone earlier (id ∷ ids) es v judged =
     (λ rest. JudgesIdentities c gone (earlier ++ id ∷ []) ids rest v) (λ rest. JudgesIdentities (bare_setting c) gone (earlier ++ id ∷ []) ids rest v)
     (λ rest k. identities_bare c gone (earlier ++ id ∷ []) ids rest v k) judged
 
-import_bare : (c : Setting) (st : Standing) (id : ℕ) (lits : List ℤ) (es : History) (v : Verdict)
+import_bare : (c : Setting) (st : Standing) (id : ℕ) (lits : List ℤ) (es : History) (v : LineVerdict)
     → JudgesImport c st id lits es v → JudgesImport (bare_setting c) st id lits es v
 import_bare c st id lits es v (inl bad) = inl bad
 import_bare c st id lits es v (inr (shared, inl bad)) = inr (shared, inl bad)
@@ -112,7 +112,7 @@ import_bare c st id lits es v (inr (shared, inr (over, inr (new, asks)))) =
     let At : Reply → History → Type 0 = λ x rest. AtImported x id lits rest v in
     inr (shared, inr (over, inr (new, then_bare c id es At At (λ x rest at. at) asks)))
 
-line_bare : (c : Setting) (before : List StreamLine) (line : StreamLine) (es : History) (v : Verdict)
+line_bare : (c : Setting) (before : List StreamLine) (line : StreamLine) (es : History) (v : LineVerdict)
     → JudgesLine c (standing_of c before) line es v → JudgesLine (bare_setting c) (standing_of (bare_setting c) before) line es v
 line_bare c before (Addition id lits hints) es v judged = addition_bare c (standing_of c before) id lits hints es v judged
 line_bare c before (Deletion lead ids) es v judged = identities_bare c (standing_of c before).gone [] ids es v judged

@@ -7,10 +7,10 @@ use Rattle.std.proofs.lemmas.List.{length-map}
 use Rattle.std.proofs.lemmas.Option.{slice_get-map}
 use Rattle.lrup_model.specs.Formula.{Cnf}
 use Rattle.lrup_model.specs.Layout.{Fits}
-use Rattle.dimacs.specs.FormulaText.{IsTextOf}
+use Rattle.dimacs.specs.FormulaText.{IsFormulaText}
 use Rattle.stream_check.specs.declared.report.Ending.{Ending}
 use Rattle.stream_check.specs.declared.report.Report.{Report}
-use Rattle.runs.specs.Closed.{IsAt}
+use Rattle.runs.specs.Closed.{IsOfStream}
 use Rattle.runs.specs.Streams.{Telling, Terms, StandsOnStreams, tellings}
 use Rattle.runs.specs.StreamLemmas.{told_as_many, told_count, telling_at}
 use Rattle.groups.specs.Groups.{IsRun}
@@ -24,7 +24,7 @@ use Rattle.outcome_laws.specs.Laws.{SameBytesSayTheSame, OutcomesAgree}
 
 -- a text is that of one formula: the law of `dimacs`
 abbrev OneFormula : Type 0
-OneFormula = (bytes : List ℕ) (one other : Cnf) → IsTextOf bytes one → IsTextOf bytes other → one ≡ other
+OneFormula = (bytes : List ℕ) (one other : Cnf) → IsFormulaText bytes one → IsFormulaText bytes other → one ≡ other
 
 is_run : SerialRun → (serial : Bool) (f : Cnf) (terms : Terms) (told : List Telling) (reports : List Report)
     → length told ≡ terms.layout.streams → StandsOnStreams told (AreReported serial f terms reports) → IsRun f terms told reports
@@ -48,9 +48,9 @@ same_line s report other same =
 text_of : (told : Option (List ℕ)) (text bytes : List ℕ) → told ≡ Some text → ForSome told (λ all. all ≡ bytes) → text ≡ bytes
 text_of told text bytes is all = all text is
 
-is_text : (R : Type 0) (files : FilesView R) (path : Text) (f : Cnf) (text : List ℕ) → files.tells path ≡ Some text → IsFormulaAt R files path f → IsTextOf text f
+is_text : (R : Type 0) (files : FilesView R) (path : Text) (f : Cnf) (text : List ℕ) → files.tells path ≡ Some text → IsFormulaAt R files path f → IsFormulaText text f
 is_text R files path f text told at =
-    subst (λ (x : List ℕ). IsTextOf x f) (sym (text_of (files.tells path) text at.0 told at.1.told)) at.2
+    subst (λ (x : List ℕ). IsFormulaText x f) (sym (text_of (files.tells path) text at.0 told at.1.told)) at.2
 
 -- what the readers of an outcome told
 told_in : (R : Type 0) (files : FilesView R) (words : List Text) (reports : List Report) (verdict : Verdict) → IsOutcome R files words reports verdict → List Telling
@@ -68,8 +68,8 @@ run_of serial R files words reports verdict a =
 
 -- what a file tells its reader had left at first
 telling_of_file : (R : Type 0) (files : FilesView R) (words : List Text) (reports : List Report) (verdict : Verdict) (a : IsOutcome R files words reports verdict)
-    (s : ℕ) (path : Text) (whole : List ℕ) → IsAt a.given.streams s path → files.tells path ≡ Some whole
-    → (telling : Telling) × IsAt (told_in R files words reports verdict a) s telling × (telling.entry ≡ Some whole)
+    (s : ℕ) (path : Text) (whole : List ℕ) → IsOfStream a.given.streams s path → files.tells path ≡ Some whole
+    → (telling : Telling) × IsOfStream (told_in R files words reports verdict a) s telling × (telling.entry ≡ Some whole)
 unfolding told_in
 telling_of_file R files words reports verdict a s path whole at told =
     let entry : slice_get (map files.reading.left a.readers) (s - 1) ≡ Some (Some whole) =

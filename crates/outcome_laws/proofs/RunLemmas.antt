@@ -7,7 +7,7 @@ use Rattle.lrup_model.specs.Formula.{Cnf}
 use Rattle.stream_check.specs.declared.report.Report.{Report}
 use Rattle.stream_check.specs.Judging.{ended, failed}
 use Rattle.stream_check.specs.Setting.{Setting}
-use Rattle.runs.specs.Closed.{IsAt}
+use Rattle.runs.specs.Closed.{IsOfStream}
 use Rattle.runs.specs.Headline.{AreJudgedIn}
 use Rattle.runs.specs.Streams.{Stop, at_end, at_failure, early, Stream, Telling, JudgesTo, Terms, setting_of}
 use Rattle.groups.specs.Groups.{IsRun}
@@ -42,7 +42,7 @@ run_bare law f terms told reports a = record {
   judged = judged_bare law terms (λ s. true) a.history 1 a.streams reports a.judged;
 }
 
-at_bare : (reports : List Report) (s : ℕ) (report : Report) → IsAt reports s report → IsAt (map bare_report reports) s (bare_report report)
+at_bare : (reports : List Report) (s : ℕ) (report : Report) → IsOfStream reports s report → IsOfStream (map bare_report reports) s (bare_report report)
 at_bare reports s report at = (at.0, slice_get-map bare_report reports (s - 1) ∙ ap (option_map bare_report) at.1)
 
 same_terms : (terms other : Terms) → other.layout ≡ terms.layout → other.tries ≡ terms.tries → bare_terms other ≡ bare_terms terms

@@ -7,7 +7,7 @@ use Rattle.stream_check.specs.declared.report.Report.{Report}
 use Rattle.stream_check.specs.Judging.{StreamEnd, JudgesBlocks}
 use Rattle.stream_check.specs.Laws.{IsOfMemory, IsOfFailure}
 use Rattle.stream_check.specs.Setting.{Setting}
-use Rattle.runs.specs.Closed.{IsAt, CiteWithin}
+use Rattle.runs.specs.Closed.{IsOfStream, CiteWithin}
 use Rattle.runs.specs.Streams.{Telling, Terms}
 use Rattle.groups.specs.Groups.{one, IsRun}
 use Rattle.portfolio.specs.ReportText.{stream_line}
@@ -16,7 +16,7 @@ use Rattle.command_line.specs.CommandLine.{IsCommandLineOf}
 use Rattle.command_line.specs.declared.words.CommandLine.{CommandLine}
 use Rattle.command.specs.Commands.{EndsWithFault, EndsWithReport, FilesView, IsOutcome, SinkChange, Text, WasReadIn}
 use Rattle.command.specs.Commands.{layout_at, options_of}
-use Rattle.dimacs.specs.FormulaText.{IsTextOf}
+use Rattle.dimacs.specs.FormulaText.{IsFormulaText}
 use Rattle.lrup_model.specs.Entailment.{IsUnsatisfiable}
 use Rattle.outcome_laws.specs.Outcomes.{bare_setting, bare_report, SayTheSame, ReportsOn}
 
@@ -37,9 +37,9 @@ SameBytesSayTheSame = (f : Cnf) (terms other_terms : Terms) (s : ℕ) (whole : L
     → Fits terms.layout f → other_terms.layout ≡ terms.layout → other_terms.tries ≡ terms.tries
     → CiteWithin terms.layout (one s) whole
     → IsRun f terms told reports → IsRun f other_terms other_told other_reports
-    → IsAt told s telling → telling.entry ≡ Some whole
-    → IsAt other_told s other_telling → other_telling.entry ≡ Some whole
-    → IsAt reports s report → IsAt other_reports s other_report
+    → IsOfStream told s telling → telling.entry ≡ Some whole
+    → IsOfStream other_told s other_telling → other_telling.entry ≡ Some whole
+    → IsOfStream reports s report → IsOfStream other_reports s other_report
     → ¬ IsOfMemory report → ¬ IsOfFailure report → ¬ IsOfMemory other_report
     → ¬ IsOfFailure other_report
     → SayTheSame report other_report
@@ -74,4 +74,4 @@ abbrev pub Status0HasACommandLine : (R : Type 0) → FilesView R → Type 0
 Status0HasACommandLine R files = (words : List Text) (out err : SinkChange)
     → EndsWithReport R files words out err 0 ⊎ EndsWithFault R files words out err 0
     → (given : CommandLine) × (bytes : List ℕ) × (f : Cnf) × IsCommandLineOf words given
-    × WasReadIn R files given.formula.now bytes × IsTextOf bytes f × IsUnsatisfiable f
+    × WasReadIn R files given.formula.now bytes × IsFormulaText bytes f × IsUnsatisfiable f

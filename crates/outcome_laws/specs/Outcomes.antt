@@ -3,7 +3,7 @@ use Rattle.std.specs.Prelude.{◌≡◌, ℕ, List, [], Some}
 use Rattle.stream_check.specs.declared.report.Report.{Report}
 use Rattle.stream_check.specs.Laws.{IsOfMemory, IsOfFailure}
 use Rattle.stream_check.specs.Setting.{Setting}
-use Rattle.runs.specs.Closed.{IsAt}
+use Rattle.runs.specs.Closed.{IsOfStream}
 use Rattle.runs.specs.Streams.{Terms}
 use Rattle.command_line.specs.declared.words.CommandLine.{CommandLine}
 use Rattle.command.specs.Commands.{FilesView, Text}
@@ -40,8 +40,8 @@ pub record SayTheSame (report other : Report) : Type 0 where
 pub record ReportsOn (R : Type 0) (files : FilesView R) (given : CommandLine)
     (reports : List Report) (s : ℕ) (whole : List ℕ) (report : Report) : Type 0 where
   pub path : Text
-  pub names : IsAt given.streams s path
+  pub names : IsOfStream given.streams s path
   pub tells : files.tells path ≡ Some whole
-  pub says : IsAt reports s report
+  pub says : IsOfStream reports s report
   pub memory : ¬ IsOfMemory report
   pub failure : ¬ IsOfFailure report

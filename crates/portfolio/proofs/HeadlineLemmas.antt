@@ -18,7 +18,7 @@ use Rattle.lrup_model.specs.Place.{Caller}
 use Rattle.lrup_model.specs.State.{state}
 use Rattle.clause_store.specs.Passes.{StoreValue, PassValue, IsOpened, AreOf, HaveMet, views}
 use Rattle.stream_check.specs.declared.report.Report.{Report}
-use Rattle.stream_check.specs.Checker.{IsNew, state_of}
+use Rattle.stream_check.specs.Checker.{IsNew, checker_state}
 use Rattle.stream_check.specs.Judging.{joined}
 use Rattle.stream_check.specs.Leaving.{Leaves}
 use Rattle.stream_check.specs.Setting.{Setting}
@@ -275,7 +275,7 @@ module _ {S : Type 0} (view : SourceView S) where
   judged_by f terms store same s (e ∷ es) (j ∷ js) (x ∷ fs) [] ready all met = absurd met
   judged_by f terms store same s (e ∷ es) (j ∷ js) (x ∷ fs) (v ∷ vs) ready all met =
       let here = ready.0 in
-      let fresh = subst (λ (n : ℕ). Leaves j.checker.setting [] [] (state_of j.checker n)) (opened_room f terms.layout store s j.pass same here.opened) here.checker.left in
+      let fresh = subst (λ (n : ℕ). Leaves j.checker.setting [] [] (checker_state j.checker n)) (opened_room f terms.layout store s j.pass same here.opened) here.checker.left in
       let one = all.0.judged fresh in
       let of = subst (λ (r : S). IsStreamOf view r x.reader one.0) here.reader_is one.2 in
       let calls = (ends f terms.layout store s j x v same here.opened all.0 met.0 met.1).mine in
@@ -301,7 +301,7 @@ module _ {S : Type 0} (view : SourceView S) where
   were_judged f terms store same s (e ∷ es) (j ∷ js) (suc n) [] ready all = absurd all
   were_judged f terms store same s (e ∷ es) (j ∷ js) (suc n) (x ∷ fs) ready all =
       let here = ready.0 in
-      let fresh = subst (λ (n : ℕ). Leaves j.checker.setting [] [] (state_of j.checker n)) (opened_room f terms.layout store s j.pass same here.opened) here.checker.left in
+      let fresh = subst (λ (n : ℕ). Leaves j.checker.setting [] [] (checker_state j.checker n)) (opened_room f terms.layout store s j.pass same here.opened) here.checker.left in
       let one = all.0.judged fresh in
       let of = subst (λ (r : S). IsStreamOf view r x.reader one.0) here.reader_is one.2 in
       let judged = subst (λ (c : Setting). JudgesStream c one.0 all.0.blocks x.report) here.checker.setting one.3 in

@@ -15,7 +15,7 @@ use Rattle.lrup_model.specs.State.{State, opening, run}
 use Rattle.lrup_model.specs.History.{LegalFrom, IsLegal}
 use Rattle.lrup_model.specs.HistoryLemmas.{opening-owned}
 use Rattle.lrup_model.specs.Running.{run-append, legal-append, spent-append}
-use Rattle.lrup_model.specs.Plain.{Plain, formula_of, state_of, free_at, plain_place, PlainMoves}
+use Rattle.lrup_model.specs.Plain.{Plain, formula_of, plain_state, free_at, plain_place, PlainMoves}
 use Rattle.lrup_model.specs.ListLemmas.{All-append, All-front}
 use Rattle.stream_check.specs.declared.report.Ending.{Ending}
 use Rattle.stream_check.specs.declared.report.Report.{Report}
@@ -150,7 +150,7 @@ pub record IsOpened (f : Cnf) (p : LayoutValue) (m : Plain) : Type 0 where
   pub fits : Fits p f
   pub layout : m.layout ≡ p
   pub formula : formula_of m ≡ f
-  pub state : state_of m ≡ opening f
+  pub state : plain_state m ≡ opening f
   pub room : m.free ≡ replicate p.streams p.room
 
 report_at_end : (o : Option Ending) (t : Tally) (r : Report) → IsSome o → IfSome o (λ ending. r ≡ report_at t ending) → (ending : Ending) × (o ≡ Some ending) × (r ≡ report_at t ending)

@@ -14,7 +14,7 @@ use Rattle.stream_check.specs.Setting.{Setting}
 use Rattle.stream_check.specs.Judging.{StreamEnd, ended, failed, ending_at, EndsAfter, JudgesBlocks}
 use Rattle.stream_check.specs.Leaving.{Leaves}
 use Rattle.stream_check.specs.CheckerValue.{CheckerValue}
-use Rattle.stream_check.specs.Checker.{state_by, state_of, report_at, LeavesOn, EndsBy, Ends, ReportsEnd}
+use Rattle.stream_check.specs.Checker.{state_by, checker_state, report_at, LeavesOn, EndsBy, Ends, ReportsEnd}
 use Rattle.lrup_text.specs.ReadLemmas.{gave_more}
 use Rattle.lrup_text.specs.ReadOut.{SourceView}
 use Rattle.lrup_text.specs.Reads.{Gave}
@@ -132,15 +132,15 @@ module _ {S : Type 0} (view : SourceView S) where
   -- what the checker took of the bytes that were read
   pub works_fed : (reader : S) (unread front rest : List ℕ) (v u : CheckerValue) (room after : ℕ) (blocks : List History)
       → view.has_failed reader ≡ false → unread ≡ front ++ rest → v.ending ≡ None → u.setting ≡ v.setting
-      → LeavesOn v.setting (state_of v room) front blocks (state_of u after)
+      → LeavesOn v.setting (checker_state v room) front blocks (checker_state u after)
       → WorksOn view (worker_of reader unread v) room blocks (worker_of reader rest u) after
   works_fed reader unread front rest v u room after blocks running split going same leaves first before works =
       let here = subst (λ e. WorksBy view e first (worker_of reader unread v) room before) going works in
       let all : here.0 ++ unread ≡ (here.0 ++ front) ++ rest = ap (λ (t : List ℕ). here.0 ++ t) split ∙ sym (append_assoc here.0 front rest) in
       let given : Consumes (view.left first) (view.left reader) ((here.0 ++ front) ++ rest) = subst (Consumes (view.left first) (view.left reader)) all here.1 in
       let gave : Gave S view.reads first ((here.0 ++ front) ++ rest) reader = subst (λ (t : List ℕ). Gave S view.reads first t reader) all here.2 in
-      let there : Leaves u.setting (here.0 ++ front) (before ++ blocks) (state_of u after) =
-      subst (λ (c : Setting). Leaves c (here.0 ++ front) (before ++ blocks) (state_of u after)) (sym same) (leaves here.0 before here.3) in
+      let there : Leaves u.setting (here.0 ++ front) (before ++ blocks) (checker_state u after) =
+      subst (λ (c : Setting). Leaves c (here.0 ++ front) (before ++ blocks) (checker_state u after)) (sym same) (leaves here.0 before here.3) in
       works_at u.ending first reader (here.0 ++ front) rest u after (before ++ blocks) refl running given gave there
 
 -- ---- the buffer

@@ -2,11 +2,10 @@
 use Rattle.std.specs.Prelude.{◌≡◌, ◌↔◌, ℕ, List, length, Result, Err, if◌then◌else◌}
 use Rattle.std.specs.List.{list_any}
 use Rattle.lrup_model.specs.Cube.{CubeValue}
-use Rattle.lrup_model.specs.Formula.{Cnf, literals_of}
+use Rattle.lrup_model.specs.Formula.{Cnf, formula_literals}
 use Rattle.lrup_model.specs.Layout.{LayoutValue, layout_value, IsFault}
 use Rattle.lrup_model.specs.declared.layout.LayoutFault.{LayoutFault}
 use Rattle.stream_check.specs.declared.report.Report.{Report}
-use Rattle.stream_check.specs.Setting as setting
 use Rattle.portfolio.specs.declared.outcome.RunFault.{RunFault}
 use Rattle.portfolio.specs.declared.outcome.RunFault.TheVariants.{Layout}
 use Rattle.portfolio.specs.declared.outcome.Verdict.{Verdict}
@@ -19,14 +18,10 @@ pub record OptionsValue : Type 0 where
   pub lines : ℕ
   pub room : ℕ
 
--- the greatest number of tries, which is a checker's
-abbrev pub max_tries : ℕ
-max_tries = setting.max_tries
-
 -- the layout of a formula and so many streams
 abbrev pub layout_of : OptionsValue → Cnf → ℕ → LayoutValue
 layout_of options f streams =
-    layout_value f.vars (length f.clauses) (literals_of f) streams options.lines options.room
+    layout_value f.vars (length f.clauses) (formula_literals f) streams options.lines options.room
 
 -- what a run of a formula and so many streams is checked by, under a cube
 abbrev pub terms_of : OptionsValue → CubeValue → Cnf → ℕ → Terms

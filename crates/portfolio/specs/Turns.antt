@@ -6,7 +6,7 @@ use Rattle.lrup_model.specs.Layout.{LayoutValue, IsStream}
 use Rattle.lrup_model.specs.Event.{spent}
 use Rattle.lrup_model.specs.State.{opening, run}
 use Rattle.lrup_model.specs.History.{LegalFrom}
-use Rattle.lrup_model.specs.Plain.{Plain, formula_of, state_of, free_at, plain_place}
+use Rattle.lrup_model.specs.Plain.{Plain, formula_of, plain_state, free_at, plain_place}
 use Rattle.stream_check.specs.declared.report.Ending.{Ending}
 use Rattle.stream_check.specs.declared.report.Report.{Report}
 use Rattle.stream_check.specs.Checker.{IsReadyAt, report_at}
@@ -20,7 +20,7 @@ pub record HasRun (f : Cnf) (p : LayoutValue) (blocks : List Block) (map : Plain
   pub formula : formula_of map ≡ f
   pub within : AllByRecursion (IsBlockWithin p (λ s. true)) blocks
   pub legal : LegalFrom f p (opening f) (events_in blocks)
-  pub state : state_of map ≡ run (opening f) (events_in blocks)
+  pub state : plain_state map ≡ run (opening f) (events_in blocks)
   pub room : (s : ℕ) → IsStream p s → free_at map s + spent s (events_in blocks) ≡ p.room
 
 -- the worker is stream s's, has come to this by the stream's blocks, and can go on at the map

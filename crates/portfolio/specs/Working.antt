@@ -4,7 +4,7 @@ use Rattle.std.specs.Io.KnownBytes.{Consumes}
 use Rattle.lrup_model.specs.Event.{History}
 use Rattle.stream_check.specs.declared.report.Ending.{Ending}
 use Rattle.stream_check.specs.CheckerValue.{CheckerValue}
-use Rattle.stream_check.specs.Checker.{state_of, report_at}
+use Rattle.stream_check.specs.Checker.{checker_state, report_at}
 use Rattle.stream_check.specs.Leaving.{Leaves}
 use Rattle.lrup_text.specs.ReadOut.{SourceView}
 use Rattle.lrup_text.specs.Reads.{Gave}
@@ -22,7 +22,7 @@ abbrev pub WorksBy : {S : Type 0} → SourceView S → Option Ending → S → W
 WorksBy {S} view None first w free blocks =
     (bytes : List ℕ) × Consumes (view.left first) (view.left w.reader) (bytes ++ w.unread)
     × Gave S view.reads first (bytes ++ w.unread) w.reader
-    × Leaves w.checker.setting bytes blocks (state_of w.checker free)
+    × Leaves w.checker.setting bytes blocks (checker_state w.checker free)
 WorksBy {S} view (Some ending) first w free blocks =
     (stream : Stream) × IsStreamOf view first w.reader stream
     × JudgesStream w.checker.setting stream blocks (report_at w.checker.tally ending)

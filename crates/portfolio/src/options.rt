@@ -1,7 +1,8 @@
 //! What a run is asked for.
 ghost use Rattle.std.specs.Prelude.{◌≡◌, ◌≤◌, ◌<◌, ◌↔◌, IsNone, IfSome, IfOk, IfErr};
 ghost use Rattle.lrup_model.specs.Layout.{IsLayout, IsFault, Fits};
-ghost use Rattle.portfolio.specs.Outcomes.{max_tries, layout_of};
+ghost use Rattle.portfolio.specs.Outcomes.{layout_of};
+ghost use Rattle.stream_check.specs.Setting.{max_tries};
 
 use lrup_model::{Formula, Layout, LayoutFault};
 use std::marker::Model;
@@ -16,7 +17,8 @@ pub struct Options {
 }
 
 impl Model for Options {
-    ghost use Rattle.portfolio.specs.Outcomes.{OptionsValue, max_tries};
+    ghost use Rattle.portfolio.specs.Outcomes.{OptionsValue};
+    ghost use Rattle.stream_check.specs.Setting.{max_tries};
     ghost use Rattle.std.specs.Prelude.{◌≤◌};
 
     ghost Value = { OptionsValue };

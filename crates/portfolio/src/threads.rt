@@ -25,7 +25,7 @@ use std::alloc::{AllocError, Global};
 use std::sync::Wait;
 use std::thread::Threads;
 use stream_check::{Gate, Report};
-use stream_threads::{Found, Room, ThreadFault, check_all, jobs_of};
+use stream_threads::{StreamResult, Room, ThreadFault, check_all, jobs_of};
 
 /// Checks the streams that the readers give, each in two threads of its own, one that reads it to its end and one that checks what
 /// was read, against one store of clauses, and says whether one derived a clause that contradicts the cube. As many gates are
@@ -147,7 +147,7 @@ fn lists_for<R: Source + Drop, G: Gate + Drop>(
 /// What is said of the streams, whose threads have ended. All passes meet.
 fn outcome_of<R: Source + Drop>(
     store: &Store,
-    found: Vec<Found<R>>,
+    found: Vec<StreamResult<R>>,
     mut reports: Vec<Report>,
     mut passes: Vec<Pass>,
     mut readers: Vec<R>,
@@ -164,7 +164,7 @@ fn outcome_of<R: Source + Drop>(
     ensures verdict { result.verdict ≡ verdict_of result.reports.items }
 {
     for one in found {
-        let Found {
+        let StreamResult {
             report,
             reader,
             pass,

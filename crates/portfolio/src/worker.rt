@@ -7,7 +7,7 @@ ghost use Rattle.lrup_text.specs.ReadOut.{source_view};
 ghost use Rattle.stream_check.specs.Checker.{Ends, IsReadyAt, ReportsEnd, report_at};
 ghost use Rattle.stream_check.specs.Judging.{joined};
 ghost use Rattle.stream_jobs.specs.Judged.{end_of};
-ghost use Rattle.portfolio.specs.Outcomes.{max_tries};
+ghost use Rattle.stream_check.specs.Setting.{max_tries};
 ghost use Rattle.runs.specs.Streams.{terms_at};
 ghost use Rattle.portfolio.specs.Working.{IsStarted, WorksOn};
 
@@ -16,7 +16,7 @@ use lrup_text::Source;
 use std::alloc::{AllocError, Global};
 use std::marker::Model;
 use std::sync::Wait;
-use stream_check::{Checker, Gate, Report, Turn};
+use stream_check::{Checker, Gate, Report, CheckTurn};
 
 /// The most bytes that one read asks for.
 const PIECE: usize = 65_536;
@@ -99,7 +99,7 @@ impl<R: Source + Drop, G: Gate + Drop> Worker<R, G> {
                     .when_over(self.checker.stream(), &self.checker.report());
                 return;
             }
-            if self.feed(map) != Turn::More {
+            if self.feed(map) != CheckTurn::More {
                 return;
             }
         }
@@ -137,13 +137,13 @@ impl<R: Source + Drop, G: Gate + Drop> Worker<R, G> {
     }
 
     /// Lets the checker take of the bytes that were read.
-    fn feed<M: ClauseMap>(&mut self, map: &mut M) -> Turn
+    fn feed<M: ClauseMap>(&mut self, map: &mut M) -> CheckTurn
         requires ready { IsReadyAt self.old.checker (M.place map.old) }
         requires going { self.old.checker.ending ≡ None }
         ensures works { (blocks : List History) × M.moves map.old map.new (joined blocks)
             × WorksOn (source_view R.left R.has_failed R.reads) self.old (M.place map.old).room
             blocks self.new (M.place map.new).room }
-        ensures going { result ≡ Turn.More → self.new.checker.ending ≡ None }
+        ensures going { result ≡ CheckTurn.More → self.new.checker.ending ≡ None }
         ensures ready { IsReadyAt self.new.checker (M.place map.new) }
         ensures setting { self.new.checker.setting ≡ self.old.checker.setting }
     {

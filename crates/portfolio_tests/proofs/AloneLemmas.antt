@@ -20,11 +20,11 @@ use Rattle.runs.specs.StreamLemmas.{same_at}
 use Rattle.lrup_text.specs.ReadOut.{SourceView}
 use Rattle.runs.specs.Readings.{AreRead}
 use Rattle.runs.specs.Streams.{Stream, Telling, telling_of, tellings, AreTold}
-use Rattle.runs.specs.Closed.{IsAt, IsWithin, CiteWithin}
+use Rattle.runs.specs.Closed.{IsOfStream, IsOwnedWithin, CiteWithin}
 use Rattle.groups.specs.Groups.{one, AreIsolated}
 use Rattle.groups.specs.Laws.{ReadersClosed, ToldIsReading, AloneHasOneReport}
 use Rattle.test_support.specs.Worked.{four}
-use Rattle.portfolio_tests.specs.Alone.{first_bytes, usual, two_streams, two_terms, IsReportAlone}
+use Rattle.portfolio_tests.specs.Alone.{first_bytes, usual, layout_of_two, two_terms, IsReportAlone}
 
 -- Places
 
@@ -34,14 +34,14 @@ only_one s member = elim (eqb_tells s 1) [ inl same ↦ same.1 | inr other ↦ a
 -- the first stream, and what its reader told, which hasn't failed
 record IsFirst (told : List Telling) (streams : List Stream) (bytes : List ℕ) : Type 0 where
   stream : Stream
-  at : IsAt streams 1 stream
+  at : IsOfStream streams 1 stream
   telling : Telling
-  telling_at : IsAt told 1 telling
+  telling_at : IsOfStream told 1 telling
   entry : telling.entry ≡ Some bytes
   running : telling.has_failed ≡ false
 
 first_told : {S : Type 0} (view : SourceView S) (firsts lasts : List S) (streams : List Stream) (bytes : List ℕ)
-    → AreRead S view.reads firsts lasts streams → IsAt (map view.left firsts) 1 (Some bytes) → IsAt (map view.has_failed lasts) 1 false
+    → AreRead S view.reads firsts lasts streams → IsOfStream (map view.left firsts) 1 (Some bytes) → IsOfStream (map view.has_failed lasts) 1 false
     → IsFirst (tellings view firsts lasts) streams bytes
 first_told view [] [] [] bytes read entry fine = absurd (let none : None ≡ Some (Some bytes) = entry.1 in cc)
 first_told view (first ∷ firsts) (last ∷ lasts) (stream ∷ streams) bytes read entry fine = record {
@@ -70,9 +70,9 @@ pub report_alone : ReadersClosed → ToldIsReading → {S : Type 0} (view : Sour
     (Judged : List Stream → Type 0) (reports : List Report) (report : Report) (streams : List Stream)
     → AreIsolated four two_terms (tellings view firsts lasts) Judged reports
     → AreTold (tellings view firsts lasts) streams → AreRead S view.reads firsts lasts streams → Judged streams
-    → CiteWithin two_streams (one 1) bytes
-    → IsAt (map view.left firsts) 1 (Some bytes) → IsAt (map view.has_failed lasts) 1 false
-    → IsAt reports 1 report → ¬ IsOfMemory report → IsReportAlone bytes report
+    → CiteWithin layout_of_two (one 1) bytes
+    → IsOfStream (map view.left firsts) 1 (Some bytes) → IsOfStream (map view.has_failed lasts) 1 false
+    → IsOfStream reports 1 report → ¬ IsOfMemory report → IsReportAlone bytes report
 report_alone closes reads view firsts lasts bytes Judged reports report streams isolated told read judged cites entry fine says memory =
     let tells = tellings view firsts lasts in
     let first = first_told view firsts lasts streams bytes read entry fine in
@@ -81,12 +81,12 @@ report_alone closes reads view firsts lasts bytes Judged reports report streams 
       reports = reports;
       stream = first.stream;
       alone = isolated streams told judged (one 1)
-          (closes two_streams (one 1) tells streams told
+          (closes layout_of_two (one 1) tells streams told
           (λ s other member at.
-          let same = same_at tells 1 other first.telling (subst (λ n. IsAt tells n other) (only_one s member) at) first.telling_at in
+          let same = same_at tells 1 other first.telling (subst (λ n. IsOfStream tells n other) (only_one s member) at) first.telling_at in
           (bytes, ap (λ (t : Telling). t.entry) same ∙ first.entry, cites)))
           (λ s other member at. subst (λ r. ¬ IsOfMemory r)
-          (same_at reports 1 report other says (subst (λ n. IsAt reports n other) (only_one s member) at)) memory);
+          (same_at reports 1 report other says (subst (λ n. IsOfStream reports n other) (only_one s member) at)) memory);
       at = first.at;
       reads = reads tells streams 1 first.telling first.stream bytes told first.telling_at first.at first.entry first.running;
       says = says;
@@ -129,13 +129,13 @@ first_is_cut = record {
 }
 
 -- of the identities that the lines cite, 5 alone is a stream's
-formulas : (id : ℕ) → owner two_streams id ≡ owners.Formula → IsWithin two_streams (one 1) id
+formulas : (id : ℕ) → owner layout_of_two id ≡ owners.Formula → IsOwnedWithin layout_of_two (one 1) id
 formulas id is t owns = absurd (let no : owners.Formula ≡ owners.Stream t = sym is ∙ owns in cc)
 
-fifth : IsWithin two_streams (one 1) 5
+fifth : IsOwnedWithin layout_of_two (one 1) 5
 fifth t owns = let same : 1 ≡ t = let e : owners.Stream 1 ≡ owners.Stream t = owns in cc in subst (λ n. IsTrue (one 1 n)) same refl
 
-pub first_within : CiteWithin two_streams (one 1) first_bytes
+pub first_within : CiteWithin layout_of_two (one 1) first_bytes
 first_within = record {
   lines = Addition 5 (pos 2 ∷ []) (1 ∷ 2 ∷ []) ∷ Addition 7 [] (5 ∷ 3 ∷ 4 ∷ []) ∷ [];
   rest = [];
@@ -152,9 +152,9 @@ import_is_cut = record {
 }
 
 -- stream 2 doesn't own 5, so it isn't closed where it imports it
-pub import_is_open : OneCut → ¬ CiteWithin two_streams (one 2) (codes "5 i 2 0\n")
+pub import_is_open : OneCut → ¬ CiteWithin layout_of_two (one 2) (codes "5 i 2 0\n")
 import_is_open law cites =
     let same = law (codes "5 i 2 0\n") cites.lines (Import 5 (pos 2 ∷ []) ∷ []) cites.rest [] cites.cut import_is_cut in
-    let within = subst (λ lines. AllByRecursion (λ line. AllByRecursion (IsWithin two_streams (one 2)) (cited_by line)) lines) same.0 cites.within in
+    let within = subst (λ lines. AllByRecursion (λ line. AllByRecursion (IsOwnedWithin layout_of_two (one 2)) (cited_by line)) lines) same.0 cites.within in
     let no : false ≡ true = within.0.0 1 refl in
     cc

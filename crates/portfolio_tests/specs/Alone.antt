@@ -5,7 +5,7 @@ use Rattle.stream_check.specs.declared.report.Report.{Report}
 use Rattle.stream_check.specs.Judging.{ended}
 use Rattle.portfolio.specs.Outcomes.{OptionsValue, layout_of, terms_of}
 use Rattle.runs.specs.Streams.{Stream, Terms}
-use Rattle.runs.specs.Closed.{IsAt}
+use Rattle.runs.specs.Closed.{IsOfStream}
 use Rattle.groups.specs.Groups.{IsAlone, IsReadingOf}
 use Rattle.test_support.specs.Worked.{four}
 
@@ -18,8 +18,8 @@ abbrev pub usual : OptionsValue
 usual = record { tries = 1000; lines = 65536; room = 1048576 }
 
 -- the layout and the terms of two streams over the four clauses, without assumptions
-abbrev pub two_streams : LayoutValue
-two_streams = layout_of usual four 2
+abbrev pub layout_of_two : LayoutValue
+layout_of_two = layout_of usual four 2
 
 abbrev pub two_terms : Terms
 two_terms = terms_of usual [] four 2
@@ -30,6 +30,6 @@ pub record IsReportAlone (bytes : List ℕ) (report : Report) : Type 0 where
   pub reports : List Report
   pub stream : Stream
   pub alone : IsAlone four two_terms 1 streams reports
-  pub at : IsAt streams 1 stream
+  pub at : IsOfStream streams 1 stream
   pub reads : IsReadingOf bytes ended stream
-  pub says : IsAt reports 1 report
+  pub says : IsOfStream reports 1 report

@@ -9,7 +9,7 @@ use Rattle.std.proofs.lemmas.Map.Steps.{length-le_from_distinct_below}
 use Rattle.lrup_model.specs.Literal.{IsLiteral, code_of}
 use Rattle.lrup_model.specs.LiteralLaws.{code_of-injective, IsCode-code_of}
 use Rattle.lrup_model.specs.Clause.{Has, IsClause}
-use Rattle.lrup_model.specs.Place.{Place, ClipValue, IsKnown, AllFollow, text_of}
+use Rattle.lrup_model.specs.Place.{Place, ClipValue, IsKnown, AllFollow, clip_clause}
 use Rattle.lrup_model.specs.PassLemmas.{known_follows}
 use Rattle.propagate.specs.Trail.{AreApart, AreMarks}
 use Rattle.lrup_model.specs.ClauseLemmas.{Has-append_left, Has-at, Has-push, Has-push_cases, All-Has, int_cases, take-read}
@@ -131,6 +131,6 @@ pub IsLiteral-read : (vars more : ℕ) (d : List ℤ) (l : ℤ) → IsClause var
 IsLiteral-read vars more d l clause le h = let is : IsLiteral vars l = All-Has (IsLiteral vars) d l clause.literals h in (is.0, omega (arith, is.1))
 
 -- a literal of a clause that is known is one of the formula's, and so of more variables
-pub IsLiteral-known : (vars : ℕ) (place : Place) (clip : ClipValue) (k : ℕ) (l : ℤ) → AllFollow place → IsKnown place clip → place.caller.formula.vars ≤ vars → slice_get (text_of place clip) k ≡ Some l → IsLiteral vars l
+pub IsLiteral-known : (vars : ℕ) (place : Place) (clip : ClipValue) (k : ℕ) (l : ℤ) → AllFollow place → IsKnown place clip → place.caller.formula.vars ≤ vars → slice_get (clip_clause place clip) k ≡ Some l → IsLiteral vars l
 IsLiteral-known vars place clip k l follow known le at =
-    IsLiteral-read place.caller.formula.vars vars (text_of place clip) l (known_follows place clip follow known).0 le (Has-at (text_of place clip) k l at)
+    IsLiteral-read place.caller.formula.vars vars (clip_clause place clip) l (known_follows place clip follow known).0 le (Has-at (clip_clause place clip) k l at)

@@ -3,7 +3,7 @@ ghost use Rattle.std.specs.Prelude.{◌≡◌, ◌↔◌, ◌≤◌, ◌+◌, �
 ghost use Rattle.std.specs.List.{AllByRecursion};
 ghost use Rattle.lrup_model.specs.Literal.{IsLiteral, max_variable};
 ghost use Rattle.lrup_model.specs.Clause.{Has, EachOnce, IsClause, IsTautology};
-ghost use Rattle.lrup_model.specs.Place.{IsKnown, AllFollow, text_of};
+ghost use Rattle.lrup_model.specs.Place.{IsKnown, AllFollow, clip_clause};
 ghost use Rattle.lrup_model.specs.Propagation.{IsConflict, IsUnit};
 ghost use Rattle.lrup_model.specs.Distinct.{distinct};
 ghost use Rattle.propagate.specs.Marks.{Propagation, Steps};
@@ -125,10 +125,10 @@ impl Marks {
         requires follow { AllFollow (M.place map.old) }
         requires variables { (M.place map.old).caller.formula.vars ≤ self.old.vars }
         ensures conflict { (result ≡ Step.Conflict)
-            ↔ IsConflict self.old.falses (text_of (M.place map.old) clip.now) }
+            ↔ IsConflict self.old.falses (clip_clause (M.place map.old) clip.now) }
         ensures unit { (result ≡ Step.Unit)
-            ↔ ((l : ℤ) × IsUnit self.old.falses (text_of (M.place map.old) clip.now) l) }
-        ensures step { Steps self.old (text_of (M.place map.old) clip.now) result self.new }
+            ↔ ((l : ℤ) × IsUnit self.old.falses (clip_clause (M.place map.old) clip.now) l) }
+        ensures step { Steps self.old (clip_clause (M.place map.old) clip.now) result self.new }
 
         // At the map it is no event.
         ensures event { M.moves map.old map.new [] }
@@ -158,7 +158,7 @@ impl Marks {
         requires variables { (M.place map.old).caller.formula.vars ≤ self.old.vars }
         requires literals { AllByRecursion (IsLiteral self.old.vars) lits.now }
         ensures same { IsTrue result
-            ↔ ((l : ℤ) → Has (text_of (M.place map.old) clip.now) l ↔ Has lits.now l) }
+            ↔ ((l : ℤ) → Has (clip_clause (M.place map.old) clip.now) l ↔ Has lits.now l) }
         ensures idle { self.new
             ≡ record { vars = self.old.vars; clause = []; falses = []; ready = false } }
 
@@ -178,7 +178,7 @@ fn rest_of<M: ClauseMap>(falses: &Trail, map: &mut M, clip: &Clip) -> Left
     requires known { IsKnown (M.place map.old) clip.now }
     requires follow { AllFollow (M.place map.old) }
     requires variables { (M.place map.old).caller.formula.vars ≤ falses.now.vars }
-    ensures left { IsLeft falses.now.literals (text_of (M.place map.old) clip.now) result }
+    ensures left { IsLeft falses.now.literals (clip_clause (M.place map.old) clip.now) result }
     ensures event { M.moves map.old map.new [] }
     ensures stays { M.place map.new ≡ M.place map.old }
 {
@@ -201,9 +201,9 @@ fn rest_after<M: ClauseMap>(falses: &Trail, map: &mut M, clip: &Clip, pairs: u32
     requires known { IsKnown (M.place map.old) clip.now }
     requires follow { AllFollow (M.place map.old) }
     requires variables { (M.place map.old).caller.formula.vars ≤ falses.now.vars }
-    requires left { let clause = text_of (M.place map.old) clip.now in
+    requires left { let clause = clip_clause (M.place map.old) clip.now in
         IsUnit falses.now.literals (take (2 * pairs) clause) lit }
-    ensures left { IsLeft falses.now.literals (text_of (M.place map.old) clip.now) result }
+    ensures left { IsLeft falses.now.literals (clip_clause (M.place map.old) clip.now) result }
     ensures event { M.moves map.old map.new [] }
     ensures stays { M.place map.new ≡ M.place map.old }
 {

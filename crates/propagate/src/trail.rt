@@ -3,7 +3,7 @@ ghost use Rattle.std.specs.Prelude.{◌≡◌, ◌↔◌, ◌⊎◌, ◌≤◌, 
 ghost use Rattle.std.specs.List.{AllByRecursion};
 ghost use Rattle.lrup_model.specs.Literal.{IsLiteral, code_of};
 ghost use Rattle.lrup_model.specs.Clause.{Has, EachOnce, IsTautology};
-ghost use Rattle.lrup_model.specs.Place.{IsKnown, AllFollow, text_of};
+ghost use Rattle.lrup_model.specs.Place.{IsKnown, AllFollow, clip_clause};
 ghost use Rattle.lrup_model.specs.Distinct.{distinct};
 ghost use Rattle.propagate.specs.Trail.{AreTaken, HaveMarks, IsMarked};
 
@@ -100,7 +100,7 @@ impl Trail {
         requires variables { (M.place map.old).caller.formula.vars ≤ self.old.vars }
         requires literals { AllByRecursion (IsLiteral self.old.vars) literals.now }
         ensures same { IsTrue result
-            ↔ ((l : ℤ) → Has (text_of (M.place map.old) clip.now) l ↔ Has literals.now l) }
+            ↔ ((l : ℤ) → Has (clip_clause (M.place map.old) clip.now) l ↔ Has literals.now l) }
         ensures idle { self.new ≡ self.old }
         ensures event { M.moves map.old map.new [] }
         ensures stays { M.place map.new ≡ M.place map.old }
@@ -143,12 +143,12 @@ fn unmark(marks: &mut [bool], literals: &[Lit])
 fn is_same<M: ClauseMap>(marks: &mut [bool], map: &mut M, clip: &Clip, literals: &[Lit]) -> bool
     requires known { IsKnown (M.place map.old) clip.now }
     requires follow { AllFollow (M.place map.old) }
-    requires clause { HaveMarks marks.old (text_of (M.place map.old) clip.now) }
+    requires clause { HaveMarks marks.old (clip_clause (M.place map.old) clip.now) }
     requires literals { HaveMarks marks.old literals.now }
-    requires unmarked { (l : ℤ) → Has (text_of (M.place map.old) clip.now) l
+    requires unmarked { (l : ℤ) → Has (clip_clause (M.place map.old) clip.now) l
         → ¬ IsMarked marks.old l }
     ensures same { IsTrue result
-        ↔ ((l : ℤ) → Has (text_of (M.place map.old) clip.now) l ↔ Has literals.now l) }
+        ↔ ((l : ℤ) → Has (clip_clause (M.place map.old) clip.now) l ↔ Has literals.now l) }
     ensures others { (l : ℤ) → IsMarked marks.new l → IsMarked marks.old l }
     ensures event { M.moves map.old map.new [] }
     ensures stays { M.place map.new ≡ M.place map.old }
@@ -186,11 +186,11 @@ fn any_marked(marks: &[bool], literals: &[Lit]) -> bool
 fn take_clause<M: ClauseMap>(marks: &mut [bool], map: &mut M, clip: &Clip) -> bool
     requires known { IsKnown (M.place map.old) clip.now }
     requires follow { AllFollow (M.place map.old) }
-    requires marks { HaveMarks marks.old (text_of (M.place map.old) clip.now) }
+    requires marks { HaveMarks marks.old (clip_clause (M.place map.old) clip.now) }
     ensures yes { IsTrue result
-        → AreTaken marks.old marks.new (text_of (M.place map.old) clip.now) }
+        → AreTaken marks.old marks.new (clip_clause (M.place map.old) clip.now) }
     ensures no { IsFalse result
-        → (l : ℤ) × Has (text_of (M.place map.old) clip.now) l × (¬ IsMarked marks.old l) }
+        → (l : ℤ) × Has (clip_clause (M.place map.old) clip.now) l × (¬ IsMarked marks.old l) }
     ensures others { (l : ℤ) → IsMarked marks.new l → IsMarked marks.old l }
     ensures event { M.moves map.old map.new [] }
     ensures stays { M.place map.new ≡ M.place map.old }

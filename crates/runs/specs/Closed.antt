@@ -7,21 +7,21 @@ use Rattle.stream_check.specs.Laws.{cited_by}
 use Rattle.runs.specs.Streams.{Stream}
 
 -- in a list that has one element for each stream, this is stream s's, from 1 on
-abbrev pub IsAt : {X : Type 0} → List X → ℕ → X → Type 0
-IsAt xs s x = (0 < s) × (slice_get xs (s - 1) ≡ Some x)
+abbrev pub IsOfStream : {X : Type 0} → List X → ℕ → X → Type 0
+IsOfStream xs s x = (0 < s) × (slice_get xs (s - 1) ≡ Some x)
 
 -- no stream outside the set owns the identity
-abbrev pub IsWithin : LayoutValue → (ℕ → Bool) → ℕ → Type 0
-IsWithin p set id = (t : ℕ) → Owns p t id → IsTrue (set t)
+abbrev pub IsOwnedWithin : LayoutValue → (ℕ → Bool) → ℕ → Type 0
+IsOwnedWithin p set id = (t : ℕ) → Owns p t id → IsTrue (set t)
 
 -- no line that the bytes are cut into cites an identity that a stream outside the set owns
 pub record CiteWithin (p : LayoutValue) (set : ℕ → Bool) (bytes : List ℕ) : Type 0 where
   pub lines : List StreamLine
   pub rest : List ℕ
   pub cut : Cut bytes lines rest
-  pub within : AllByRecursion (λ line. AllByRecursion (IsWithin p set) (cited_by line)) lines
+  pub within : AllByRecursion (λ line. AllByRecursion (IsOwnedWithin p set) (cited_by line)) lines
 
 -- The set is closed: no stream of it cites an identity of a stream outside it, in the bytes that were needed.
 abbrev pub IsClosed : LayoutValue → (ℕ → Bool) → List Stream → Type 0
-IsClosed p set streams = (s : ℕ) (stream : Stream) → IsTrue (set s) → IsAt streams s stream
+IsClosed p set streams = (s : ℕ) (stream : Stream) → IsTrue (set s) → IsOfStream streams s stream
     → CiteWithin p set stream.bytes

@@ -4,12 +4,13 @@ use Rattle.std.specs.Prelude.{slice_get}
 use Rattle.std.specs.Io.KnownBytes.{Consumes}
 use Rattle.std.proofs.lemmas.Bool.{cond-true, cond-false}
 use Rattle.lrup_text.specs.ReadOut.{SourceView}
-use Rattle.runs.specs.Closed.{IsAt}
+use Rattle.runs.specs.Closed.{IsOfStream}
 use Rattle.runs.specs.Readings.{AreRead}
 use Rattle.runs.specs.Streams.{Stop, at_end, at_failure, early, Stream, Telling, read_to, telling_of, tellings, IsTold, AreTold, Block, blocks_of}
 
 -- at one place stands one thing
-pub same_at : {X : Type 0} (xs : List X) (s : ℕ) (x y : X) → IsAt xs s x → IsAt xs s y → x ≡ y
+pub same_at : {X : Type 0} (xs : List X) (s : ℕ) (x y : X)
+    → IsOfStream xs s x → IsOfStream xs s y → x ≡ y
 same_at xs s x y a b = let e : Some x ≡ Some y = sym a.1 ∙ b.1 in cc
 
 pub told_count : (told : List Telling) (streams : List Stream) → AreTold told streams

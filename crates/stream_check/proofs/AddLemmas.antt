@@ -23,7 +23,7 @@ use Rattle.propagate.specs.Marks.{Propagation}
 use Rattle.stream_check.specs.Setting.{Setting}
 use Rattle.stream_check.specs.Standing.{Standing}
 use Rattle.stream_check.specs.Additions.{published_by}
-use Rattle.stream_check.specs.Checking.{IsAt, IsFetch, KeepsClause, Shows}
+use Rattle.stream_check.specs.Checking.{IsPlaceOf, IsFetch, KeepsClause, Shows}
 use Rattle.stream_check.specs.Checker.{Admits}
 
 -- Fetches take no room and change nothing
@@ -48,17 +48,17 @@ pub room_stays : (p q : Place) (es : History) → Tells p q es → AllByRecursio
 room_stays p q es tells quiet = omega (arith, tells.room, spent-fetches p.caller.stream es quiet)
 
 -- an owned identity, as a place of the setting sees it
-pub owns_at : (c : Setting) (p : Place) (id : ℕ) → IsAt c p → Owns c.layout c.stream id → Owns p.caller.layout p.caller.stream id
+pub owns_at : (c : Setting) (p : Place) (id : ℕ) → IsPlaceOf c p → Owns c.layout c.stream id → Owns p.caller.layout p.caller.stream id
 owns_at c p id at owns =
     subst (λ (l : LayoutValue). Owns l p.caller.stream id) (sym at.layout) (subst (λ (s : ℕ). Owns c.layout s id) (sym at.stream) owns)
 
 -- the same the other way
-pub owned_by : (c : Setting) (p : Place) (id : ℕ) → IsAt c p → Owns p.caller.layout p.caller.stream id → Owns c.layout c.stream id
+pub owned_by : (c : Setting) (p : Place) (id : ℕ) → IsPlaceOf c p → Owns p.caller.layout p.caller.stream id → Owns c.layout c.stream id
 owned_by c p id at owns =
     subst (λ (l : LayoutValue). Owns l c.stream id) at.layout (subst (λ (s : ℕ). Owns p.caller.layout s id) at.stream owns)
 
 -- the place stays one of the setting
-pub still_at : (c : Setting) (p q : Place) (es : History) → IsAt c p → Tells p q es → IsAt c q
+pub still_at : (c : Setting) (p q : Place) (es : History) → IsPlaceOf c p → Tells p q es → IsPlaceOf c q
 still_at c p q es at tells = record {
   layout = ap (λ (r : Caller). r.layout) tells.caller ∙ at.layout;
   stream = ap (λ (r : Caller). r.stream) tells.caller ∙ at.stream;
@@ -100,13 +100,13 @@ publishable c p q st gone es id lits hints marks sound tells admits few shown =
       follows = sound p.caller.formula (distinct lits) shown.0 shown.1 shown.2;
     })
 
-pub still_vacant : (c : Setting) (p q : Place) (es : History) (last id : ℕ) → IsAt c p → Tells p q es → AllByRecursion IsFetch es → IsVacantAbove p last → Owns c.layout c.stream id → last < id → q.own id ≡ absent
+pub still_vacant : (c : Setting) (p q : Place) (es : History) (last id : ℕ) → IsPlaceOf c p → Tells p q es → AllByRecursion IsFetch es → IsVacantAbove p last → Owns c.layout c.stream id → last < id → q.own id ≡ absent
 still_vacant c p q es last id at tells quiet vacant owns newer =
     let mine = owns_at c p id at owns in
     tells.own id mine ∙ ap (λ (m : State). m id) (run-fetches p.own es quiet) ∙ vacant id mine newer
 
 -- the event of the publish
-pub published_is : (c : Setting) (p q : Place) (es : History) (id : ℕ) (clause : Clause) (lits : List ℤ) (r : Published) → IsAt c p → Tells p q es → clause ≡ distinct lits → r ≡ publishing.Done
+pub published_is : (c : Setting) (p q : Place) (es : History) (id : ℕ) (clause : Clause) (lits : List ℤ) (r : Published) → IsPlaceOf c p → Tells p q es → clause ≡ distinct lits → r ≡ publishing.Done
     → ◌≡◌ {A = History} (events.publish q.caller.stream id clause r ∷ []) (published_by c id lits ∷ [])
 published_is c p q es id clause lits r at tells is done =
     ap (λ (s : ℕ). events.publish s id clause r ∷ []) (ap (λ (x : Caller). x.stream) tells.caller ∙ at.stream)

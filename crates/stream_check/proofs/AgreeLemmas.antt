@@ -13,7 +13,7 @@ use Rattle.stream_check.specs.declared.fault.Fault.{Fault}
 use Rattle.stream_check.specs.declared.fault.Fault.TheVariants as faults
 use Rattle.stream_check.specs.Setting.{Setting, Side, formula, own, foreign, outside, side_of, is_shared}
 use Rattle.stream_check.specs.Standing.{Standing}
-use Rattle.stream_check.specs.Verdicts.{Verdict, Fails, Test}
+use Rattle.stream_check.specs.Verdicts.{LineVerdict, Fails, Test}
 use Rattle.stream_check.specs.Asking.{AsksThen}
 use Rattle.stream_check.specs.Additions.{AtConflict, AtClause, AtReply, JudgesHints, published_by, JudgesAddition}
 use Rattle.stream_check.specs.Deletions.{FailsAt, RetiresThen, DropsThen, DeletesAt, JudgesIdentities}
@@ -22,20 +22,20 @@ use Rattle.stream_check.specs.Judging.{JudgesLine}
 use Rattle.stream_check.specs.Forks.{NeverFork}
 use Rattle.stream_check.proofs.ForkLemmas.{same_asked, never_fork_behind}
 
-pub record Agree (es : History) (v : Verdict) (fs : History) (w : Verdict) : Type 0 where
+pub record Agree (es : History) (v : LineVerdict) (fs : History) (w : LineVerdict) : Type 0 where
   pub events : es ≡ fs
   pub verdict : v ≡ w
 
-fails_agree : (fault : Fault) (es fs : History) (v w : Verdict) → Fails fault es v → Fails fault fs w → Agree es v fs w
+fails_agree : (fault : Fault) (es fs : History) (v w : LineVerdict) → Fails fault es v → Fails fault fs w → Agree es v fs w
 fails_agree fault es fs v w a b = record { events = a.0 ∙ sym b.0; verdict = a.1 ∙ sym b.1 }
 
-test_agree : (Holds : Type 0) (fault : Fault) (es fs : History) (v w : Verdict) (A B : Type 0) → (A → B → Agree es v fs w) → Test Holds fault es v A → Test Holds fault fs w B → Agree es v fs w
+test_agree : (Holds : Type 0) (fault : Fault) (es fs : History) (v w : LineVerdict) (A B : Type 0) → (A → B → Agree es v fs w) → Test Holds fault es v A → Test Holds fault fs w B → Agree es v fs w
 test_agree Holds fault es fs v w A B next a b = elim a [
   | inl bad ↦ elim b [ inl worse ↦ fails_agree fault es fs v w bad.1 worse.1 | inr holds ↦ absurd (bad.0 holds.0) ]
   | inr good ↦ elim b [ inl bad ↦ absurd (bad.0 good.0) | inr holds ↦ next good.1 holds.1 ]
 ]
 
-conflict_agree : (hints : List ℕ) (published : Event) (es fs : History) (v w : Verdict) → AtConflict hints published es v → AtConflict hints published fs w → Agree es v fs w
+conflict_agree : (hints : List ℕ) (published : Event) (es fs : History) (v w : LineVerdict) → AtConflict hints published es v → AtConflict hints published fs w → Agree es v fs w
 conflict_agree [] published es fs v w a b = record { events = a.0 ∙ sym b.0; verdict = a.1 ∙ sym b.1 }
 conflict_agree (h ∷ hints) published es fs v w a b = fails_agree (faults.Excess h) es fs v w a b
 
@@ -45,7 +45,7 @@ one_unit n d l k a b = elim (b.others l a.here) [ inl same ↦ same | inr is_fal
 no_conflict : (n : List ℤ) (d : Clause) (l : ℤ) → IsUnit n d l → ¬ IsConflict n d
 no_conflict n d l unit conflict = unit.not_false (conflict l unit.here)
 
-clause_agree : (n : List ℤ) (d : Clause) (h : ℕ) (hints : List ℕ) (published : Event) (es fs : History) (v w : Verdict) (A B : List ℤ → Type 0)
+clause_agree : (n : List ℤ) (d : Clause) (h : ℕ) (hints : List ℕ) (published : Event) (es fs : History) (v w : LineVerdict) (A B : List ℤ → Type 0)
     → ((m : List ℤ) → A m → B m → Agree es v fs w)
     → AtClause n d h hints published es v A → AtClause n d h hints published fs w B → Agree es v fs w
 clause_agree n d h hints published es fs v w A B next a b = elim a [
@@ -68,7 +68,7 @@ clause_agree n d h hints published es fs v w A B next a b = elim a [
   ]
 ]
 
-reply_agree : (x : Reply) (n : List ℤ) (h : ℕ) (hints : List ℕ) (published : Event) (es fs : History) (v w : Verdict) (A B : List ℤ → Type 0)
+reply_agree : (x : Reply) (n : List ℤ) (h : ℕ) (hints : List ℕ) (published : Event) (es fs : History) (v w : LineVerdict) (A B : List ℤ → Type 0)
     → ((m : List ℤ) → A m → B m → Agree es v fs w)
     → AtReply x n h hints published es v A → AtReply x n h hints published fs w B → Agree es v fs w
 reply_agree events.vacant n h hints published es fs v w A B next a b = fails_agree (faults.Missing h) es fs v w a b
@@ -76,7 +76,7 @@ reply_agree (events.live d) n h hints published es fs v w A B next a b = clause_
 reply_agree events.retired n h hints published es fs v w A B next a b = fails_agree (faults.Retired h) es fs v w a b
 
 -- after the events of one hint
-asks_agree : (c : Setting) (h : ℕ) (es fs q r : History) (v w : Verdict) (A B : Reply → History → Type 0)
+asks_agree : (c : Setting) (h : ℕ) (es fs q r : History) (v w : LineVerdict) (A B : Reply → History → Type 0)
     → ((x : Reply) (rest left : History) → NeverFork (rest ++ q) (left ++ r) → A x rest → B x left → Agree rest v left w)
     → AsksThen c h es A → AsksThen c h fs B → NeverFork (es ++ q) (fs ++ r) → Agree es v fs w
 asks_agree c h es fs q r v w A B next a b never =
@@ -91,7 +91,7 @@ asks_agree c h es fs q r v w A B next a b never =
       verdict = later.verdict;
     }
 
-hints_agree : (c : Setting) (gone : ℕ → Bool) (published : Event) (n : List ℤ) (hints : List ℕ) (es fs q r : History) (v w : Verdict)
+hints_agree : (c : Setting) (gone : ℕ → Bool) (published : Event) (n : List ℤ) (hints : List ℕ) (es fs q r : History) (v w : LineVerdict)
     → JudgesHints c gone published n hints es v → JudgesHints c gone published n hints fs w → NeverFork (es ++ q) (fs ++ r) → Agree es v fs w
 hints_agree c gone published n [] es fs q r v w a b never = fails_agree faults.NoConflict es fs v w a b
 hints_agree c gone published n (h ∷ hints) es fs q r v w a b never =
@@ -107,7 +107,7 @@ hints_agree c gone published n (h ∷ hints) es fs q r v w a b never =
     one two never)
     a b
 
-addition_agrees : (c : Setting) (st : Standing) (id : ℕ) (lits : List ℤ) (hints : List ℕ) (es fs q r : History) (v w : Verdict)
+addition_agrees : (c : Setting) (st : Standing) (id : ℕ) (lits : List ℤ) (hints : List ℕ) (es fs q r : History) (v w : LineVerdict)
     → JudgesAddition c st id lits hints es v → JudgesAddition c st id lits hints fs w → NeverFork (es ++ q) (fs ++ r) → Agree es v fs w
 addition_agrees c st id lits hints es fs q r v w a b never =
     test_agree (Owns c.layout c.stream id × (st.last < id)) faults.Identity es fs v w _ _
@@ -116,17 +116,17 @@ addition_agrees c st id lits hints es fs q r v w a b never =
     (λ a b. test_agree (length (distinct lits) ≤ st.free) faults.NoRoom es fs v w _ _
     (λ a b. hints_agree c st.gone (published_by c id lits) (distinct lits) hints es fs q r v w a b never) a b) a b) a b) a b
 
-fails_at_agree : (earlier : List ℕ) (id : ℕ) (es fs : History) (v w : Verdict) → FailsAt earlier id es v → FailsAt earlier id fs w → Agree es v fs w
+fails_at_agree : (earlier : List ℕ) (id : ℕ) (es fs : History) (v w : LineVerdict) → FailsAt earlier id es v → FailsAt earlier id fs w → Agree es v fs w
 fails_at_agree earlier id es fs v w a b = record { events = a.0 ∙ sym b.0; verdict = a.1 ∙ sym b.1 }
 
-drops_agree : (gone : ℕ → Bool) (earlier : List ℕ) (id : ℕ) (es fs : History) (v w : Verdict) (A B : History → Type 0)
+drops_agree : (gone : ℕ → Bool) (earlier : List ℕ) (id : ℕ) (es fs : History) (v w : LineVerdict) (A B : History → Type 0)
     → (A es → B fs → Agree es v fs w) → DropsThen gone earlier id es v A → DropsThen gone earlier id fs w B → Agree es v fs w
 drops_agree gone earlier id es fs v w A B next a b = elim a [
   | inl one ↦ elim b [ inl two ↦ fails_at_agree earlier id es fs v w one.1 two.1 | inr two ↦ absurd (let d = one.0 in let e = two.0 in cc) ]
   | inr one ↦ elim b [ inl two ↦ absurd (let d = one.0 in let e = two.0 in cc) | inr two ↦ next one.1 two.1 ]
 ]
 
-retires_agree : (c : Setting) (earlier : List ℕ) (id : ℕ) (es fs q r : History) (v w : Verdict) (A B : History → Type 0)
+retires_agree : (c : Setting) (earlier : List ℕ) (id : ℕ) (es fs q r : History) (v w : LineVerdict) (A B : History → Type 0)
     → ((rest left : History) → NeverFork (rest ++ q) (left ++ r) → A rest → B left → Agree rest v left w)
     → RetiresThen c earlier id es v A → RetiresThen c earlier id fs w B → NeverFork (es ++ q) (fs ++ r) → Agree es v fs w
 retires_agree c earlier id es fs q r v w A B next a b never =
@@ -150,7 +150,7 @@ retires_agree c earlier id es fs q r v w A B next a b never =
       ]
     ]
 
-at_agree : (side : Side) (c : Setting) (gone : ℕ → Bool) (earlier : List ℕ) (id : ℕ) (es fs q r : History) (v w : Verdict) (A B : History → Type 0)
+at_agree : (side : Side) (c : Setting) (gone : ℕ → Bool) (earlier : List ℕ) (id : ℕ) (es fs q r : History) (v w : LineVerdict) (A B : History → Type 0)
     → ((rest left : History) → NeverFork (rest ++ q) (left ++ r) → A rest → B left → Agree rest v left w)
     → DeletesAt side c gone earlier id es v A → DeletesAt side c gone earlier id fs w B → NeverFork (es ++ q) (fs ++ r) → Agree es v fs w
 at_agree formula c gone earlier id es fs q r v w A B next a b never = drops_agree gone earlier id es fs v w A B (next es fs never) a b
@@ -158,7 +158,7 @@ at_agree own c gone earlier id es fs q r v w A B next a b never = retires_agree 
 at_agree foreign c gone earlier id es fs q r v w A B next a b never = drops_agree gone earlier id es fs v w A B (next es fs never) a b
 at_agree outside c gone earlier id es fs q r v w A B next a b never = fails_at_agree earlier id es fs v w a b
 
-identities_agree : (c : Setting) (gone : ℕ → Bool) (earlier ids : List ℕ) (es fs q r : History) (v w : Verdict)
+identities_agree : (c : Setting) (gone : ℕ → Bool) (earlier ids : List ℕ) (es fs q r : History) (v w : LineVerdict)
     → JudgesIdentities c gone earlier ids es v → JudgesIdentities c gone earlier ids fs w → NeverFork (es ++ q) (fs ++ r) → Agree es v fs w
 identities_agree c gone earlier [] es fs q r v w a b never = record { events = a.0 ∙ sym b.0; verdict = a.1 ∙ sym b.1 }
 identities_agree c gone earlier (id ∷ ids) es fs q r v w a b never =
@@ -167,13 +167,13 @@ identities_agree c gone earlier (id ∷ ids) es fs q r v w a b never =
     (λ rest left behind one two. identities_agree c gone (earlier ++ id ∷ []) ids rest left q r v w one two behind)
     a b never
 
-imported_agree : (x : Reply) (id : ℕ) (lits : List ℤ) (es fs : History) (v w : Verdict) → AtImported x id lits es v → AtImported x id lits fs w → Agree es v fs w
+imported_agree : (x : Reply) (id : ℕ) (lits : List ℤ) (es fs : History) (v w : LineVerdict) → AtImported x id lits es v → AtImported x id lits fs w → Agree es v fs w
 imported_agree events.vacant id lits es fs v w a b = fails_agree (faults.Missing id) es fs v w a b
 imported_agree (events.live d) id lits es fs v w a b =
     test_agree (HasSame d lits) (faults.Differs id) es fs v w _ _ (λ a b. record { events = a.0 ∙ sym b.0; verdict = a.1 ∙ sym b.1 }) a b
 imported_agree events.retired id lits es fs v w a b = fails_agree (faults.Retired id) es fs v w a b
 
-import_agrees : (c : Setting) (st : Standing) (id : ℕ) (lits : List ℤ) (es fs q r : History) (v w : Verdict)
+import_agrees : (c : Setting) (st : Standing) (id : ℕ) (lits : List ℤ) (es fs q r : History) (v w : LineVerdict)
     → JudgesImport c st id lits es v → JudgesImport c st id lits fs w → NeverFork (es ++ q) (fs ++ r) → Agree es v fs w
 import_agrees c st id lits es fs q r v w a b never =
     test_agree (is_shared (side_of c id) ≡ true) faults.Identity es fs v w _ _
@@ -185,7 +185,7 @@ import_agrees c st id lits es fs q r v w a b never =
     (λ x rest left behind s t. imported_agree x id lits rest left v w s t) a b never) a b) a b) a b
 
 -- one line, after the same lines, whatever events come after
-pub line_agrees : (c : Setting) (st : Standing) (line : StreamLine) (es fs q r : History) (v w : Verdict)
+pub line_agrees : (c : Setting) (st : Standing) (line : StreamLine) (es fs q r : History) (v w : LineVerdict)
     → JudgesLine c st line es v → JudgesLine c st line fs w → NeverFork (es ++ q) (fs ++ r) → Agree es v fs w
 line_agrees c st (Addition id lits hints) es fs q r v w a b never = addition_agrees c st id lits hints es fs q r v w a b never
 line_agrees c st (Deletion lead ids) es fs q r v w a b never = identities_agree c st.gone [] ids es fs q r v w a b never

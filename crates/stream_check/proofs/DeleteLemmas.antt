@@ -8,7 +8,7 @@ use Rattle.stream_check.specs.declared.fault.Fault.TheVariants as faults
 use Rattle.stream_check.specs.declared.deletion.Deleted.TheVariants as deleting
 use Rattle.stream_check.specs.Setting.{Setting, Side, formula, own, foreign, outside, side_of, is_shared}
 use Rattle.stream_check.specs.Standing.{is_among}
-use Rattle.stream_check.specs.Verdicts.{Verdict, Good, Bad}
+use Rattle.stream_check.specs.Verdicts.{LineVerdict, Good, Bad}
 use Rattle.stream_check.specs.Deletions.{is_dropped, DeletesAt, JudgesIdentities, JudgesDeletion, StopsDeletion}
 use Rattle.stream_check.specs.Checking.{DeletesSide, DeletesOne, AreDropped}
 
@@ -61,7 +61,7 @@ is_dropped_shared c first earlier old id b shared before among =
 
 -- One identity
 
-done_at : (side : Side) (c : Setting) (first earlier old new : List ℕ) (id : ℕ) (es rest : History) (v : Verdict) (Next : History → Type 0) → side_of c id ≡ side → AreDropped c first earlier old
+done_at : (side : Side) (c : Setting) (first earlier old new : List ℕ) (id : ℕ) (es rest : History) (v : LineVerdict) (Next : History → Type 0) → side_of c id ≡ side → AreDropped c first earlier old
     → DeletesSide side c id old new es deleting.Done → Next rest → DeletesAt side c (is_among first) earlier id (es ++ rest) v Next
 done_at formula c first earlier old new id es rest v Next is before deletes next =
     inr (is_dropped_shared c first earlier old id false (ap is_shared is) before deletes.1.0, subst Next (sym (ap (λ (x : History). x ++ rest) deletes.0)) next)
@@ -89,7 +89,7 @@ no_memory_at outside c first earlier old new id es is before deletes = absurd (l
 
 -- what the identities that are left are judged to be gives what all are
 abbrev pub GoesOn : Setting → List ℕ → List ℕ → History → Type 0
-GoesOn c first earlier es = (more : List ℕ) (rest : History) (v : Verdict)
+GoesOn c first earlier es = (more : List ℕ) (rest : History) (v : LineVerdict)
     → JudgesIdentities c (is_among first) earlier more rest v → JudgesIdentities c (is_among first) [] (earlier ++ more) (es ++ rest) v
 
 pub goes_on : (c : Setting) (first earlier old new : List ℕ) (id : ℕ) (es fs : History) → GoesOn c first earlier es → AreDropped c first earlier old
@@ -108,7 +108,7 @@ among_ids ids i lt = sym (take-append-drop i ids) ∙ ap (λ (js : List ℕ). ta
 pub bad_deletion : (c : Setting) (first earlier old new : List ℕ) (id : ℕ) (later ids : List ℕ) (es fs : History) → ids ≡ earlier ++ id ∷ later → GoesOn c first earlier es → AreDropped c first earlier old
     → DeletesOne c id old new fs deleting.NotLive → JudgesDeletion c (is_among first) ids (es ++ fs) (Bad (length earlier) (faults.NotLive id))
 bad_deletion c first earlier old new id later ids es fs is before dropped deletes =
-    let v : Verdict = Bad (length earlier) (faults.NotLive id) in
+    let v : LineVerdict = Bad (length earlier) (faults.NotLive id) in
     let here : JudgesIdentities c (is_among first) earlier (id ∷ later) fs v =
     not_live_at (side_of c id) c first earlier old new id fs (λ x. JudgesIdentities c (is_among first) (earlier ++ id ∷ []) later x v) refl dropped deletes in
     subst (λ (js : List ℕ). JudgesIdentities c (is_among first) [] js (es ++ fs) v) (sym is) (before (id ∷ later) fs v here)

@@ -18,7 +18,7 @@ use Rattle.stream_check.specs.declared.fault.Fault.{Fault}
 use Rattle.stream_check.specs.declared.fault.Fault.TheVariants as faults
 use Rattle.stream_check.specs.Setting.{Setting, Side, formula, own, foreign, outside, side_of, is_shared}
 use Rattle.stream_check.specs.Standing.{standing_of, is_among, is_gone, deleted_by}
-use Rattle.stream_check.specs.Verdicts.{Verdict, Good, Bad}
+use Rattle.stream_check.specs.Verdicts.{LineVerdict, Good, Bad}
 use Rattle.stream_check.specs.Deletions.{is_dropped, DeletesAt, JudgesIdentities}
 use Rattle.stream_check.specs.Judging.{JudgesLine, AreGood, joined}
 use Rattle.stream_check.proofs.CountLemmas.{put_same, OwnAnswers, OwnRun, run_retired, run_on, stays_retired}
@@ -120,22 +120,22 @@ take_more c n m gone earlier id many stays new now are = record {
 -- What a deletion took
 
 -- good: all its identities; bad: those before the fault
-abbrev pub Took : Setting → State → (ℕ → Bool) → List ℕ → List ℕ → ℕ → History → Verdict → Type 0
+abbrev pub Took : Setting → State → (ℕ → Bool) → List ℕ → List ℕ → ℕ → History → LineVerdict → Type 0
 Took c n gone earlier ids many es Good = AreTaken c (run n es) gone (earlier ++ ids) (many + length ids)
 Took c n gone earlier ids many es (Bad deleted fault) = (m : State) × (taken : List ℕ) × (all : ℕ) × AreTaken c m gone taken all × (all + length earlier ≡ many + deleted)
 
-took_none : (c : Setting) (n : State) (gone : ℕ → Bool) (earlier : List ℕ) (many : ℕ) (es : History) (v : Verdict) → es ≡ [] → v ≡ Good → AreTaken c n gone earlier many → Took c n gone earlier [] many es v
+took_none : (c : Setting) (n : State) (gone : ℕ → Bool) (earlier : List ℕ) (many : ℕ) (es : History) (v : LineVerdict) → es ≡ [] → v ≡ Good → AreTaken c n gone earlier many → Took c n gone earlier [] many es v
 took_none c n gone earlier many es v none good are =
     subst (λ w. Took c n gone earlier [] many es w) (sym good)
     (subst (λ e. AreTaken c (run n e) gone (earlier ++ []) (many + 0)) (sym none)
     (subst (λ e. AreTaken c n gone e (many + 0)) (sym (append-nil earlier))
     (subst (AreTaken c n gone earlier) (omega arith) are)))
 
-took_failed : (c : Setting) (n : State) (gone : ℕ → Bool) (earlier ids : List ℕ) (many : ℕ) (es : History) (v : Verdict) (fault : Fault) → v ≡ Bad (length earlier) fault → AreTaken c n gone earlier many → Took c n gone earlier ids many es v
+took_failed : (c : Setting) (n : State) (gone : ℕ → Bool) (earlier ids : List ℕ) (many : ℕ) (es : History) (v : LineVerdict) (fault : Fault) → v ≡ Bad (length earlier) fault → AreTaken c n gone earlier many → Took c n gone earlier ids many es v
 took_failed c n gone earlier ids many es v fault bad are = subst (λ w. Took c n gone earlier ids many es w) (sym bad) (n, earlier, many, are, refl)
 
 -- what is taken after one identity, counted from before it
-took_back : (c : Setting) (n : State) (gone : ℕ → Bool) (earlier : List ℕ) (id : ℕ) (ids : List ℕ) (many : ℕ) (es : History) (v : Verdict)
+took_back : (c : Setting) (n : State) (gone : ℕ → Bool) (earlier : List ℕ) (id : ℕ) (ids : List ℕ) (many : ℕ) (es : History) (v : LineVerdict)
     → Took c n gone (earlier ++ id ∷ []) ids (many + 1) es v → Took c n gone earlier (id ∷ ids) many es v
 took_back c n gone earlier id ids many es Good took =
     subst (λ e. AreTaken c (run n es) gone e (many + length (id ∷ ids))) (append_assoc earlier (id ∷ []) ids)
@@ -144,7 +144,7 @@ took_back c n gone earlier id ids many es (Bad deleted fault) took =
     (took.0, took.1, took.2, took.3, omega (arith, took.4, length-append earlier (id ∷ [])))
 
 -- and from before one event
-took_later : (c : Setting) (n : State) (gone : ℕ → Bool) (earlier ids : List ℕ) (many : ℕ) (e : Event) (es rest : History) (v : Verdict)
+took_later : (c : Setting) (n : State) (gone : ℕ → Bool) (earlier ids : List ℕ) (many : ℕ) (e : Event) (es rest : History) (v : LineVerdict)
     → es ≡ e ∷ rest → Took c (after n e) gone earlier ids many rest v → Took c n gone earlier ids many es v
 took_later c n gone earlier ids many e es rest Good is took = subst (λ x. AreTaken c (run n x) gone (earlier ++ ids) (many + length ids)) (sym is) took
 took_later c n gone earlier ids many e es rest (Bad deleted fault) is took = took
@@ -178,7 +178,7 @@ took_foreign c n gone earlier id many side new are = take_more c n n gone earlie
     (λ t. let d : is_dropped gone earlier id ≡ true = subst (λ x. TakenAt x n gone earlier id) side t in let f : true ≡ false = sym d ∙ new in cc)
     (subst (λ x. TakenAt x n gone (earlier ++ id ∷ []) id) (sym side) (dropped_now gone earlier id)) are
 
-took_at : (side : Side) (c : Setting) (n : State) (gone : ℕ → Bool) (earlier : List ℕ) (id : ℕ) (ids : List ℕ) (many : ℕ) (es rest : History) (v : Verdict) (A : History → Type 0)
+took_at : (side : Side) (c : Setting) (n : State) (gone : ℕ → Bool) (earlier : List ℕ) (id : ℕ) (ids : List ℕ) (many : ℕ) (es rest : History) (v : LineVerdict) (A : History → Type 0)
     → side_of c id ≡ side
     → ((m : State) (left : History) → A left → OwnRun m (left ++ rest) → AreTaken c m gone (earlier ++ id ∷ []) (many + 1) → Took c m gone (earlier ++ id ∷ []) ids (many + 1) left v)
     → DeletesAt side c gone earlier id es v A → OwnRun n (es ++ rest) → AreTaken c n gone earlier many → Took c n gone earlier (id ∷ ids) many es v
@@ -200,7 +200,7 @@ took_at own c n gone earlier id ids many es rest v A side next at answers are = 
   | inr bad ↦ took_failed c n gone earlier (id ∷ ids) many es v (faults.NotLive id) bad.2 are
 ]
 
-pub identities_took : (c : Setting) (n : State) (gone : ℕ → Bool) (earlier ids : List ℕ) (many : ℕ) (es rest : History) (v : Verdict)
+pub identities_took : (c : Setting) (n : State) (gone : ℕ → Bool) (earlier ids : List ℕ) (many : ℕ) (es rest : History) (v : LineVerdict)
     → JudgesIdentities c gone earlier ids es v → OwnRun n (es ++ rest) → AreTaken c n gone earlier many → Took c n gone earlier ids many es v
 identities_took c n gone earlier [] many es rest v judged answers are = took_none c n gone earlier many es v judged.0 judged.1 are
 identities_took c n gone earlier (id ∷ ids) many es rest v judged answers are =

@@ -14,7 +14,7 @@ use Rattle.stream_check.specs.declared.fault.Fault.{Fault}
 use Rattle.stream_check.specs.declared.fault.Fault.TheVariants as faults
 use Rattle.stream_check.specs.Setting.{Setting, Side, formula, own, foreign, outside, side_of, is_shared}
 use Rattle.stream_check.specs.Standing.{Standing}
-use Rattle.stream_check.specs.Verdicts.{Verdict, Test}
+use Rattle.stream_check.specs.Verdicts.{LineVerdict, Test}
 use Rattle.stream_check.specs.Asking.{AsksAt, Asks, AsksThen}
 use Rattle.stream_check.specs.Additions.{AtConflict, AtReply, JudgesHints, published_by}
 use Rattle.stream_check.specs.Deletions.{DeletesAt, JudgesIdentities}
@@ -37,15 +37,15 @@ module _ (c : Setting) (IsHint : ℕ → Type 0) (P : History → Type 0) (holds
   none_holds : (es : History) → es ≡ [] → P es
   none_holds es e = subst P (sym e) holds.none
 
-  test_holds : (T : Type 0) (fault : Fault) (es : History) (v : Verdict) (A : Type 0) → (A → P es) → Test T fault es v A → P es
+  test_holds : (T : Type 0) (fault : Fault) (es : History) (v : LineVerdict) (A : Type 0) → (A → P es) → Test T fault es v A → P es
   test_holds T fault es v A next (inl bad) = none_holds es bad.1.0
   test_holds T fault es v A next (inr good) = next good.1
 
-  conflict_holds : (hints : List ℕ) (id : ℕ) (lits : List ℤ) (es : History) (v : Verdict) → AtConflict hints (published_by c id lits) es v → P es
+  conflict_holds : (hints : List ℕ) (id : ℕ) (lits : List ℤ) (es : History) (v : LineVerdict) → AtConflict hints (published_by c id lits) es v → P es
   conflict_holds [] id lits es v at = subst P (sym at.0) (holds.published id (distinct lits) _)
   conflict_holds (h ∷ hints) id lits es v at = none_holds es at.0
 
-  reply_holds : (x : Reply) (n : List ℤ) (h : ℕ) (hints : List ℕ) (id : ℕ) (lits : List ℤ) (es : History) (v : Verdict) (A : List ℤ → Type 0)
+  reply_holds : (x : Reply) (n : List ℤ) (h : ℕ) (hints : List ℕ) (id : ℕ) (lits : List ℤ) (es : History) (v : LineVerdict) (A : List ℤ → Type 0)
       → ((m : List ℤ) → A m → P es) → AtReply x n h hints (published_by c id lits) es v A → P es
   reply_holds events.vacant n h hints id lits es v A next at = none_holds es at.0
   reply_holds events.retired n h hints id lits es v A next at = none_holds es at.0
@@ -53,12 +53,12 @@ module _ (c : Setting) (IsHint : ℕ → Type 0) (P : History → Type 0) (holds
   reply_holds (events.live d) n h hints id lits es v A next (inr (inl unit)) = next (n ++ neg_ℤ unit.0 ∷ []) unit.2
   reply_holds (events.live d) n h hints id lits es v A next (inr (inr neither)) = none_holds es neither.2.0
 
-  vacant_ends : (x : Reply) (n : List ℤ) (h : ℕ) (hints : List ℕ) (published : Event) (es : History) (v : Verdict) (A : List ℤ → Type 0) → AtReply x n h hints published es v A → x ≡ events.vacant → es ≡ []
+  vacant_ends : (x : Reply) (n : List ℤ) (h : ℕ) (hints : List ℕ) (published : Event) (es : History) (v : LineVerdict) (A : List ℤ → Type 0) → AtReply x n h hints published es v A → x ≡ events.vacant → es ≡ []
   vacant_ends events.vacant n h hints published es v A at vacant = at.0
   vacant_ends (events.live d) n h hints published es v A at vacant = absurd (cc)
   vacant_ends events.retired n h hints published es v A at vacant = absurd (cc)
 
-  hints_hold : (gone : ℕ → Bool) (id : ℕ) (lits n : List ℤ) (hints : List ℕ) (es : History) (v : Verdict) → AllByRecursion IsHint hints → JudgesHints c gone (published_by c id lits) n hints es v → P es
+  hints_hold : (gone : ℕ → Bool) (id : ℕ) (lits n : List ℤ) (hints : List ℕ) (es : History) (v : LineVerdict) → AllByRecursion IsHint hints → JudgesHints c gone (published_by c id lits) n hints es v → P es
   hints_hold gone id lits n [] es v all judged = none_holds es judged.0
   hints_hold gone id lits n (h ∷ hints) es v all judged =
       let At : Reply → History → Type 0 = λ x rest. AtReply x n h hints (published_by c id lits) rest v (λ m. JudgesHints c gone (published_by c id lits) m hints rest v) in
@@ -69,7 +69,7 @@ module _ (c : Setting) (IsHint : ℕ → Type 0) (P : History → Type 0) (holds
       (λ m k. hints_hold gone id lits m hints a.rest v all.1 k) a.next)))
       judged
 
-  at_holds : (side : Side) (gone : ℕ → Bool) (earlier : List ℕ) (id : ℕ) (es : History) (v : Verdict) (A : History → Type 0)
+  at_holds : (side : Side) (gone : ℕ → Bool) (earlier : List ℕ) (id : ℕ) (es : History) (v : LineVerdict) (A : History → Type 0)
       → ((rest : History) → A rest → P rest) → DeletesAt side c gone earlier id es v A → P es
   at_holds formula gone earlier id es v A next (inl bad) = none_holds es bad.1.0
   at_holds formula gone earlier id es v A next (inr good) = next es good.1
@@ -81,20 +81,20 @@ module _ (c : Setting) (IsHint : ℕ → Type 0) (P : History → Type 0) (holds
     | inr bad ↦ subst P (sym (bad.0 ∙ ap (λ r. events.retire c.stream id retiring.NotLive ∷ r) bad.1)) (holds.refused id)
   ]
 
-  identities_hold : (gone : ℕ → Bool) (earlier ids : List ℕ) (es : History) (v : Verdict) → JudgesIdentities c gone earlier ids es v → P es
+  identities_hold : (gone : ℕ → Bool) (earlier ids : List ℕ) (es : History) (v : LineVerdict) → JudgesIdentities c gone earlier ids es v → P es
   identities_hold gone earlier [] es v judged = none_holds es judged.0
   identities_hold gone earlier (id ∷ ids) es v judged =
       at_holds (side_of c id) gone earlier id es v (λ rest. JudgesIdentities c gone (earlier ++ id ∷ []) ids rest v)
       (λ rest k. identities_hold gone (earlier ++ id ∷ []) ids rest v k) judged
 
   -- an import has no events behind its fetches
-  imported_holds : (x : Reply) (id : ℕ) (lits : List ℤ) (es : History) (v : Verdict) → AtImported x id lits es v → es ≡ []
+  imported_holds : (x : Reply) (id : ℕ) (lits : List ℤ) (es : History) (v : LineVerdict) → AtImported x id lits es v → es ≡ []
   imported_holds events.vacant id lits es v at = at.0
   imported_holds events.retired id lits es v at = at.0
   imported_holds (events.live d) id lits es v (inl bad) = bad.1.0
   imported_holds (events.live d) id lits es v (inr good) = good.1.0
 
-  pub line_holds : (st : Standing) (line : StreamLine) (es : History) (v : Verdict) → AllByRecursion IsHint (cited_by line) → JudgesLine c st line es v → P es
+  pub line_holds : (st : Standing) (line : StreamLine) (es : History) (v : LineVerdict) → AllByRecursion IsHint (cited_by line) → JudgesLine c st line es v → P es
   line_holds st (Addition id lits hints) es v all judged =
       test_holds (Owns c.layout c.stream id × (st.last < id)) faults.Identity es v _
       (λ a. test_holds (AllByRecursion (λ l. nat_abs l ≤ c.layout.vars) lits) faults.Literal es v _
@@ -210,7 +210,7 @@ vacant_tries_again c st line es v judged =
 
 -- Cited identities that pass a test
 
-pub line_fetches : (c : Setting) (p : ℕ → Bool) (st : Standing) (line : StreamLine) (es : History) (v : Verdict)
+pub line_fetches : (c : Setting) (p : ℕ → Bool) (st : Standing) (line : StreamLine) (es : History) (v : LineVerdict)
     → AllByRecursion (λ h. IsTrue (p h)) (cited_by line) → JudgesLine c st line es v → AllByRecursion (FetchesOnly p) es
 line_fetches c p st line es v all judged =
     line_holds c (λ h. IsTrue (p h)) (AllByRecursion (FetchesOnly p)) (record {

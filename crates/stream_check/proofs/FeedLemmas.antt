@@ -21,15 +21,15 @@ use Rattle.stream_check.specs.declared.report.Ending.TheVariants as endings
 use Rattle.stream_check.specs.declared.report.Ending.{Ending}
 use Rattle.stream_check.specs.declared.report.Report.{Report}
 use Rattle.stream_check.specs.declared.held.Held.{Held}
-use Rattle.stream_check.specs.declared.deletion.Stop.{Stop}
+use Rattle.stream_check.specs.declared.deletion.LineStop.{LineStop}
 use Rattle.stream_check.specs.declared.line.Taken.TheVariants as taken
 use Rattle.stream_check.specs.Setting.{Setting, side_of, is_shared}
 use Rattle.stream_check.specs.Standing.{Tally, tally_of, is_among, capped}
 use Rattle.stream_check.specs.Judging.{StreamEnd, ended, failed, ending_at, report_of, JudgesBlocks}
 use Rattle.stream_check.specs.Leaving.{Going, Over, Leaves, IsFresh}
 use Rattle.stream_check.specs.CheckerValue.{CheckerValue}
-use Rattle.stream_check.specs.Checker.{read_of, value_of, state_of, state_by, holding_of, report_at, tally_at, IsReadyAt, IsSound, LeavesOn, StopsAt, IsNew, EndsBy, Ends, ReportsEnd}
-use Rattle.stream_check.specs.Taking.{IsReady, hold, StopsBy, Takes, ending_of}
+use Rattle.stream_check.specs.Checker.{read_of, value_of, checker_state, state_by, holding_of, report_at, tally_at, IsReadyAt, IsSound, LeavesOn, StopsAt, IsNew, EndsBy, Ends, ReportsEnd}
+use Rattle.stream_check.specs.Taking.{IsReady, hold, StopsBy, TakesNext, ending_of}
 use Rattle.stream_check.proofs.LeavingLemmas.{end_judged, line_grows, all_snoc}
 use Rattle.stream_check.proofs.StandingLemmas.{same_tally}
 
@@ -48,19 +48,19 @@ not_over old ending none some = absurd (let e : None ≡ Some ending = sym none 
 -- a line is taken
 pub feeds_line : (h n : Held) (read : List ℕ) (r : ReaderState) (used : List ℕ) (blocks : List History) (free left : ℕ) (ending : Option Ending) → ending ≡ None → r ≡ Ok []
     → LeavesOn h.setting (Going (hold h read free)) used blocks (Going (hold n [] left))
-    → LeavesOn h.setting (state_of (value_of h read ending) free) used blocks (state_of (value_of n (read_of r) ending) left)
+    → LeavesOn h.setting (checker_state (value_of h read ending) free) used blocks (checker_state (value_of n (read_of r) ending) left)
 feeds_line h n read r used blocks free left ending none reads leaves =
-    subst (λ (o : Option Ending). LeavesOn h.setting (state_of (value_of h read o) free) used blocks (state_of (value_of n (read_of r) o) left)) (sym none)
+    subst (λ (o : Option Ending). LeavesOn h.setting (checker_state (value_of h read o) free) used blocks (checker_state (value_of n (read_of r) o) left)) (sym none)
     (subst (λ (text : List ℕ). LeavesOn h.setting (Going (hold h read free)) used blocks (Going (hold n text left))) (sym (ap read_of reads)) leaves)
 
 -- the front of a line is taken
 pub feeds_more : (h n : Held) (read : List ℕ) (r : ReaderState) (piece : List ℕ) (blocks : List History) (free left : ℕ) (ending : Option Ending) → ending ≡ None → r ≡ Ok (read ++ piece)
-    → Takes h read free piece blocks taken.More n left
-    → LeavesOn h.setting (state_of (value_of h read ending) free) (take (length piece) piece) blocks (state_of (value_of n (read_of r) ending) left)
+    → TakesNext h read free piece blocks taken.More n left
+    → LeavesOn h.setting (checker_state (value_of h read ending) free) (take (length piece) piece) blocks (checker_state (value_of n (read_of r) ending) left)
 feeds_more h n read r piece blocks free left ending none reads takes =
     let whole : LeavesOn h.setting (Going (hold h read free)) (take (length piece) piece) blocks (Going (hold n (read ++ piece) left)) =
     subst (λ (used : List ℕ). LeavesOn h.setting (Going (hold h read free)) used blocks (Going (hold n (read ++ piece) left))) (sym (take_all (length piece) piece (omega arith))) takes.1 in
-    subst (λ (o : Option Ending). LeavesOn h.setting (state_of (value_of h read o) free) (take (length piece) piece) blocks (state_of (value_of n (read_of r) o) left)) (sym none)
+    subst (λ (o : Option Ending). LeavesOn h.setting (checker_state (value_of h read o) free) (take (length piece) piece) blocks (checker_state (value_of n (read_of r) o) left)) (sym none)
     (subst (λ (text : List ℕ). LeavesOn h.setting (Going (hold h read free)) (take (length piece) piece) blocks (Going (hold n text left))) (sym (ap read_of reads)) whole)
 
 -- and the lines are cut as before
@@ -107,15 +107,15 @@ pub reads_on : (r : ReaderState) (read : List ℕ) → r ≡ Ok read → r ≡ O
 reads_on r read e = e ∙ ap (λ (b : List ℕ). Ok b) (sym (ap read_of e))
 
 -- the reading ends
-pub feeds_stopped : (h n : Held) (read piece : List ℕ) (used : ℕ) (blocks : List History) (free left : ℕ) (stop : Stop) (old : Option Ending) (new : Ending) → old ≡ None → new ≡ ending_of n.line stop
-    → Takes h read free piece blocks (taken.Stopped used stop) n left
-    → LeavesOn h.setting (state_of (value_of h read old) free) (take used piece) blocks (Over (report_at (tally_at n) new))
+pub feeds_stopped : (h n : Held) (read piece : List ℕ) (used : ℕ) (blocks : List History) (free left : ℕ) (stop : LineStop) (old : Option Ending) (new : Ending) → old ≡ None → new ≡ ending_of n.line stop
+    → TakesNext h read free piece blocks (taken.Stopped used stop) n left
+    → LeavesOn h.setting (checker_state (value_of h read old) free) (take used piece) blocks (Over (report_at (tally_at n) new))
 feeds_stopped h n read piece used blocks free left stop old new none is takes =
-    subst (λ (o : Option Ending). LeavesOn h.setting (state_of (value_of h read o) free) (take used piece) blocks (Over (report_at (tally_at n) new))) (sym none)
+    subst (λ (o : Option Ending). LeavesOn h.setting (checker_state (value_of h read o) free) (take used piece) blocks (Over (report_at (tally_at n) new))) (sym none)
     (subst (λ (e : Ending). LeavesOn h.setting (Going (hold h read free)) (take used piece) blocks (Over (report_at (tally_at n) e))) (sym is) takes.1)
 
 -- at the text that stopped
-pub stops_at : (line : ℕ) (stop : Stop) (ending : Ending) (text : List ℕ) → ending ≡ ending_of line stop → StopsBy stop text → StopsAt ending text
+pub stops_at : (line : ℕ) (stop : LineStop) (ending : Ending) (text : List ℕ) → ending ≡ ending_of line stop → StopsBy stop text → StopsAt ending text
 stops_at line stop ending text is (inl whole) = inl whole
 stops_at line stop ending text is (inr refused) = inr (line, refused.0, is ∙ ap (ending_of line) refused.1, refused.2)
 
@@ -159,9 +159,9 @@ ended_open : (read : List ℕ) (line : ℕ) (fault : LineFault) → (read ≡ []
 ended_open [] line fault unread is = absurd (unread refl)
 ended_open (byte ∷ bytes) line fault unread is = ap (λ (f : LineFault). endings.Bad line (faults.Text f)) (sym is)
 
-pub ended_fault : (r new : ReaderState) (line : ℕ) (fault : LineFault) → r ≡ Ok (read_of r) → feeding.Ends r (ends.Fault fault) new → ending_at ended (read_of r) line ≡ endings.Bad line (faults.Text fault)
+pub ended_fault : (r new : ReaderState) (line : ℕ) (fault : LineFault) → r ≡ Ok (read_of r) → feeding.ReaderEnds r (ends.Fault fault) new → ending_at ended (read_of r) line ≡ endings.Bad line (faults.Text fault)
 ended_fault r new line fault reads at_end =
-    let left = subst (λ (s : ReaderState). feeding.Ends s (ends.Fault fault) new) reads at_end in
+    let left = subst (λ (s : ReaderState). feeding.ReaderEnds s (ends.Fault fault) new) reads at_end in
     ended_open (read_of r) line fault left.0 left.1
 
 -- Before the first byte

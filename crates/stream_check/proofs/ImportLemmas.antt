@@ -5,7 +5,7 @@ use Rattle.lrup_model.specs.Event.{History, Reply}
 use Rattle.stream_check.specs.declared.fault.Fault.TheVariants as faults
 use Rattle.stream_check.specs.Setting.{Setting, side_of, is_shared}
 use Rattle.stream_check.specs.Standing.{Standing}
-use Rattle.stream_check.specs.Verdicts.{Verdict, Bad}
+use Rattle.stream_check.specs.Verdicts.{LineVerdict, Bad}
 use Rattle.stream_check.specs.Asking.{Asks}
 use Rattle.stream_check.specs.Imports.{AtImported, JudgesImport}
 
@@ -18,6 +18,6 @@ module _ (c : Setting) (st : Standing) (id : ℕ) (lits : List ℤ) (shared : is
     was_dropped gone = inr (shared, inr (within, inl (gone, (refl, refl))))
 
     -- the reply decides
-    pub import_asked : (es : History) (r : Reply) (v : Verdict) → st.gone id ≡ false → Asks c id es r → AtImported r id lits [] v → JudgesImport c st id lits es v
+    pub import_asked : (es : History) (r : Reply) (v : LineVerdict) → st.gone id ≡ false → Asks c id es r → AtImported r id lits [] v → JudgesImport c st id lits es v
     import_asked es r v kept asks next =
         inr (shared, inr (within, inr (kept, record { asked = es; reply = r; rest = []; events = sym (append-nil es); asks = asks; next = next })))

@@ -16,8 +16,8 @@ use Rattle.lrup_text.specs.Lines.{StreamLine, Addition, Deletion, Import}
 use Rattle.lrup_model.specs.Distinct.{distinct}
 use Rattle.stream_check.specs.declared.fault.Fault.{Fault}
 use Rattle.stream_check.specs.declared.held.Held.{Held}
-use Rattle.stream_check.specs.declared.deletion.Stop.{Stop}
-use Rattle.stream_check.specs.declared.deletion.Stop.TheVariants as stops
+use Rattle.stream_check.specs.declared.deletion.LineStop.{LineStop}
+use Rattle.stream_check.specs.declared.deletion.LineStop.TheVariants as stops
 use Rattle.stream_check.specs.Setting.{Setting, side_of, is_shared}
 use Rattle.stream_check.specs.Standing.{Standing, capped, is_among, adds_empty, is_within}
 use Rattle.stream_check.specs.Verdicts.{Good, Bad}
@@ -25,7 +25,7 @@ use Rattle.stream_check.specs.Additions.{published_by, JudgesAddition}
 use Rattle.stream_check.specs.Imports.{JudgesImport}
 use Rattle.stream_check.specs.Leaving.{tally_after}
 use Rattle.stream_check.specs.DroppedValue.{DroppedValue}
-use Rattle.stream_check.specs.Checking.{IsAt, IsFetch, IsRetire, MakesEvents, Deletes}
+use Rattle.stream_check.specs.Checking.{IsPlaceOf, IsFetch, IsRetire, MakesEvents, Deletes}
 use Rattle.stream_check.specs.Checker.{standing_at, tally_at, deleted_at, KeepsLines}
 use Rattle.stream_check.specs.Taking.{IsReady, DeletesMore, TakesBy}
 use Rattle.stream_check.proofs.AddLemmas.{spent-skips, spent-fetches, run-fetches, still_at}
@@ -75,7 +75,7 @@ room_retires p q es tells quiet = omega (arith, tells.room, spent-retires p.call
 -- after the retires of a deletion
 pub ready_retires : (old new : Held) (p q : Place) (es : History) → Tells p q es → AllByRecursion IsRetire es → new.setting ≡ old.setting → new.last ≡ old.last → IsReady old p → IsReady new q
 ready_retires old new p q es tells quiet setting last ready = record {
-  at = subst (λ (c : Setting). IsAt c q) (sym setting) (still_at old.setting p q es ready.at tells);
+  at = subst (λ (c : Setting). IsPlaceOf c q) (sym setting) (still_at old.setting p q es ready.at tells);
   vacant = subst (IsVacantAbove q) (sym last) (vacant_on p q es old.last tells (λ j none. run-retires-absent p.own es j quiet none) ready.vacant);
 }
 
@@ -92,14 +92,14 @@ ready_publish old new p q es id lits tells made setting last above ready =
     let owned : (j : ℕ) → Owns q.caller.layout q.caller.stream j → q.own j ≡ put p.own id (live (distinct lits)) j =
     λ j theirs. tells.own j (own_before p q es j tells theirs) ∙ ap (λ (m : State). m j) there in
     record {
-      at = subst (λ (x : Setting). IsAt x q) (sym setting) (still_at c p q es ready.at tells);
+      at = subst (λ (x : Setting). IsPlaceOf x q) (sym setting) (still_at c p q es ready.at tells);
       vacant = λ j theirs higher.
           let over : id < j = omega (arith, higher, last) in
           let other : j ≡ id → ⊥ = λ same. omega (arith, over, same) in
           owned j theirs ∙ put-other p.own id (live (distinct lits)) j other ∙ ready.vacant j (own_before p q es j tells theirs) (omega (arith, over, above));
     }
 
-pub room_publish : (old : Held) (p q : Place) (es : History) (id : ℕ) (lits : List ℤ) → IsAt old.setting p → Tells p q es → MakesEvents old.setting id lits es None → q.room ≡ p.room - length (distinct lits)
+pub room_publish : (old : Held) (p q : Place) (es : History) (id : ℕ) (lits : List ℤ) → IsPlaceOf old.setting p → Tells p q es → MakesEvents old.setting id lits es None → q.room ≡ p.room - length (distinct lits)
 room_publish old p q es id lits at tells made =
     let e : Event = published_by old.setting id lits in
     let one : spent p.caller.stream (e ∷ []) ≡ length (distinct lits) = spent_one p.caller.stream e (sym at.stream) in
@@ -209,7 +209,7 @@ takes_import old new free left id lits es counts room judged =
 -- the same place, for what is held with one line more
 pub still_ready : (mid new : Held) (q : Place) → new.setting ≡ mid.setting → new.last ≡ mid.last → IsReady mid q → IsReady new q
 still_ready mid new q setting last ready = record {
-  at = subst (λ (c : Setting). IsAt c q) (sym setting) ready.at;
+  at = subst (λ (c : Setting). IsPlaceOf c q) (sym setting) ready.at;
   vacant = subst (IsVacantAbove q) (sym last) ready.vacant;
 }
 
@@ -218,7 +218,7 @@ still_ready mid new q setting last ready = record {
 pub deletes_more : (old mid : Held) (count : ℕ) → KeepsLines old mid → deleted_at mid ≡ capped (deleted_at old + count) → DeletesMore old mid count
 deletes_more old mid count kept more = record { added = kept.added; deleted = more; empty = kept.empty; within = kept.within; line = kept.line }
 
-pub stops_deletion : (old mid : Held) (free left : ℕ) (lead : ℕ) (ids : List ℕ) (es : History) (count : ℕ) (stop : Stop) → KeepsLines old mid → deleted_at mid ≡ capped (deleted_at old + count)
+pub stops_deletion : (old mid : Held) (free left : ℕ) (lead : ℕ) (ids : List ℕ) (es : History) (count : ℕ) (stop : LineStop) → KeepsLines old mid → deleted_at mid ≡ capped (deleted_at old + count)
     → Deletes old.setting old.dropped.ids mid.dropped.ids ids es count (Some stop) → TakesBy old free mid left (Deletion lead ids) es (Some stop)
 stops_deletion old mid free left lead ids es count (stops.Bad fault) kept more deletes = (count, deletes, deletes_more old mid count kept more)
 stops_deletion old mid free left lead ids es count stops.Memory kept more deletes =

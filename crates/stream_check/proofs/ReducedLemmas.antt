@@ -13,7 +13,7 @@ use Rattle.stream_check.specs.declared.fault.Fault.TheVariants as faults
 use Rattle.stream_check.specs.declared.report.Report.{Report}
 use Rattle.stream_check.specs.Setting.{Setting, Side, formula, own, foreign, outside, side_of, is_shared}
 use Rattle.stream_check.specs.Standing.{Standing, standing_of}
-use Rattle.stream_check.specs.Verdicts.{Verdict, Good, Bad, Fails, Test}
+use Rattle.stream_check.specs.Verdicts.{LineVerdict, Good, Bad, Fails, Test}
 use Rattle.stream_check.specs.Asking.{AsksAt, Asks, AsksThen}
 use Rattle.stream_check.specs.Additions.{AtConflict, AtReply, JudgesHints, published_by, JudgesAddition}
 use Rattle.stream_check.specs.Deletions.{RetiresThen, DropsThen, DeletesAt, JudgesIdentities}
@@ -25,14 +25,14 @@ use Rattle.stream_check.specs.ReducingLemmas.{reduced_kept, reduced_left_out, al
 
 -- Reducing
 
-test_maps : (Holds : Type 0) (fault : Fault) (es fs : History) (v : Verdict) (A B : Type 0) → (es ≡ [] → fs ≡ []) → (A → B) → Test Holds fault es v A → Test Holds fault fs v B
+test_maps : (Holds : Type 0) (fault : Fault) (es fs : History) (v : LineVerdict) (A B : Type 0) → (es ≡ [] → fs ≡ []) → (A → B) → Test Holds fault es v A → Test Holds fault fs v B
 test_maps Holds fault es fs v A B none next (inl bad) = inl (bad.0, (none bad.1.0, bad.1.1))
 test_maps Holds fault es fs v A B none next (inr good) = inr (good.0, next good.1)
 
 reduced_none : (es : History) → es ≡ [] → reduced es ≡ []
 reduced_none es e = ap reduced e
 
-fails_reduced : (fault : Fault) (es : History) (v : Verdict) → Fails fault es v → Fails fault (reduced es) v
+fails_reduced : (fault : Fault) (es : History) (v : LineVerdict) → Fails fault es v → Fails fault (reduced es) v
 fails_reduced fault es v f = (reduced_none es f.0, f.1)
 
 and_false : (a : Bool) → (a && false) ≡ false
@@ -119,11 +119,11 @@ asks_reduced_at events.retired c h es asked rest A ends step e asks next =
       next = step events.retired rest next;
     }
 
-conflict_reduced : (hints : List ℕ) (published : Event) (es : History) (v : Verdict) → is_vacant published ≡ false → AtConflict hints published es v → AtConflict hints published (reduced es) v
+conflict_reduced : (hints : List ℕ) (published : Event) (es : History) (v : LineVerdict) → is_vacant published ≡ false → AtConflict hints published es v → AtConflict hints published (reduced es) v
 conflict_reduced [] published es v other at = (ap reduced at.0 ∙ other_stays published [] other, at.1)
 conflict_reduced (h ∷ hints) published es v other at = fails_reduced (faults.Excess h) es v at
 
-reply_reduced : (x : Reply) (n : List ℤ) (h : ℕ) (hints : List ℕ) (published : Event) (es : History) (v : Verdict) (A B : List ℤ → Type 0)
+reply_reduced : (x : Reply) (n : List ℤ) (h : ℕ) (hints : List ℕ) (published : Event) (es : History) (v : LineVerdict) (A B : List ℤ → Type 0)
     → is_vacant published ≡ false → ((m : List ℤ) → A m → B m)
     → AtReply x n h hints published es v A → AtReply x n h hints published (reduced es) v B
 reply_reduced events.vacant n h hints published es v A B other next at = fails_reduced (faults.Missing h) es v at
@@ -132,7 +132,7 @@ reply_reduced (events.live d) n h hints published es v A B other next (inl confl
 reply_reduced (events.live d) n h hints published es v A B other next (inr (inl unit)) = inr (inl (unit.0, unit.1, next (n ++ neg_ℤ unit.0 ∷ []) unit.2))
 reply_reduced (events.live d) n h hints published es v A B other next (inr (inr neither)) = inr (inr (neither.0, neither.1, fails_reduced (faults.NotUnit h) es v neither.2))
 
-hints_reduced : (c : Setting) (gone : ℕ → Bool) (published : Event) (n : List ℤ) (hints : List ℕ) (es : History) (v : Verdict)
+hints_reduced : (c : Setting) (gone : ℕ → Bool) (published : Event) (n : List ℤ) (hints : List ℕ) (es : History) (v : LineVerdict)
     → is_vacant published ≡ false → JudgesHints c gone published n hints es v → JudgesHints c gone published n hints (reduced es) v
 hints_reduced c gone published n [] es v other judged = fails_reduced faults.NoConflict es v judged
 hints_reduced c gone published n (h ∷ hints) es v other judged =
@@ -145,7 +145,7 @@ hints_reduced c gone published n (h ∷ hints) es v other judged =
     a.events a.asks a.next)
     judged
 
-addition_reduced : (c : Setting) (st : Standing) (id : ℕ) (lits : List ℤ) (hints : List ℕ) (es : History) (v : Verdict) → JudgesAddition c st id lits hints es v → JudgesAddition c st id lits hints (reduced es) v
+addition_reduced : (c : Setting) (st : Standing) (id : ℕ) (lits : List ℤ) (hints : List ℕ) (es : History) (v : LineVerdict) → JudgesAddition c st id lits hints es v → JudgesAddition c st id lits hints (reduced es) v
 addition_reduced c st id lits hints es v judged =
     test_maps (Owns c.layout c.stream id × (st.last < id)) faults.Identity es (reduced es) v _ _ (reduced_none es)
     (λ a. test_maps (AllByRecursion (λ l. nat_abs l ≤ c.layout.vars) lits) faults.Literal es (reduced es) v _ _ (reduced_none es)
@@ -153,36 +153,36 @@ addition_reduced c st id lits hints es v judged =
     (λ a. test_maps (length (distinct lits) ≤ st.free) faults.NoRoom es (reduced es) v _ _ (reduced_none es)
     (λ a. hints_reduced c st.gone (published_by c id lits) (distinct lits) hints es v refl a) a) a) a) judged
 
-drops_map : (gone : ℕ → Bool) (earlier : List ℕ) (id : ℕ) (es : History) (v : Verdict) (A : History → Type 0) → (A es → A (reduced es)) → DropsThen gone earlier id es v A → DropsThen gone earlier id (reduced es) v A
+drops_map : (gone : ℕ → Bool) (earlier : List ℕ) (id : ℕ) (es : History) (v : LineVerdict) (A : History → Type 0) → (A es → A (reduced es)) → DropsThen gone earlier id es v A → DropsThen gone earlier id (reduced es) v A
 drops_map gone earlier id es v A next (inl bad) = inl (bad.0, (reduced_none es bad.1.0, bad.1.1))
 drops_map gone earlier id es v A next (inr good) = inr (good.0, next good.1)
 
-retires_map : (c : Setting) (earlier : List ℕ) (id : ℕ) (es : History) (v : Verdict) (A : History → Type 0) → ((rest : History) → A rest → A (reduced rest)) → RetiresThen c earlier id es v A → RetiresThen c earlier id (reduced es) v A
+retires_map : (c : Setting) (earlier : List ℕ) (id : ℕ) (es : History) (v : LineVerdict) (A : History → Type 0) → ((rest : History) → A rest → A (reduced rest)) → RetiresThen c earlier id es v A → RetiresThen c earlier id (reduced es) v A
 retires_map c earlier id es v A next a = elim a.decided [
   | inl good ↦ record { rest = reduced a.rest; decided = inl (ap reduced good.0, next a.rest good.1) }
   | inr bad ↦ record { rest = reduced a.rest; decided = inr (ap reduced bad.0, ap reduced bad.1, bad.2) }
 ]
 
-at_reduced : (side : Side) (c : Setting) (gone : ℕ → Bool) (earlier : List ℕ) (id : ℕ) (es : History) (v : Verdict) (A : History → Type 0)
+at_reduced : (side : Side) (c : Setting) (gone : ℕ → Bool) (earlier : List ℕ) (id : ℕ) (es : History) (v : LineVerdict) (A : History → Type 0)
     → ((rest : History) → A rest → A (reduced rest)) → DeletesAt side c gone earlier id es v A → DeletesAt side c gone earlier id (reduced es) v A
 at_reduced formula c gone earlier id es v A next at = drops_map gone earlier id es v A (next es) at
 at_reduced own c gone earlier id es v A next at = retires_map c earlier id es v A next at
 at_reduced foreign c gone earlier id es v A next at = drops_map gone earlier id es v A (next es) at
 at_reduced outside c gone earlier id es v A next at = (reduced_none es at.0, at.1)
 
-identities_reduced : (c : Setting) (gone : ℕ → Bool) (earlier ids : List ℕ) (es : History) (v : Verdict) → JudgesIdentities c gone earlier ids es v → JudgesIdentities c gone earlier ids (reduced es) v
+identities_reduced : (c : Setting) (gone : ℕ → Bool) (earlier ids : List ℕ) (es : History) (v : LineVerdict) → JudgesIdentities c gone earlier ids es v → JudgesIdentities c gone earlier ids (reduced es) v
 identities_reduced c gone earlier [] es v judged = (reduced_none es judged.0, judged.1)
 identities_reduced c gone earlier (id ∷ ids) es v judged =
     at_reduced (side_of c id) c gone earlier id es v (λ rest. JudgesIdentities c gone (earlier ++ id ∷ []) ids rest v)
     (λ rest k. identities_reduced c gone (earlier ++ id ∷ []) ids rest v k) judged
 
-imported_reduced : (x : Reply) (id : ℕ) (lits : List ℤ) (es : History) (v : Verdict) → AtImported x id lits es v → AtImported x id lits (reduced es) v
+imported_reduced : (x : Reply) (id : ℕ) (lits : List ℤ) (es : History) (v : LineVerdict) → AtImported x id lits es v → AtImported x id lits (reduced es) v
 imported_reduced events.vacant id lits es v at = fails_reduced (faults.Missing id) es v at
 imported_reduced events.retired id lits es v at = fails_reduced (faults.Retired id) es v at
 imported_reduced (events.live d) id lits es v at =
     test_maps (HasSame d lits) (faults.Differs id) es (reduced es) v _ _ (reduced_none es) (λ good. (reduced_none es good.0, good.1)) at
 
-import_reduced : (c : Setting) (st : Standing) (id : ℕ) (lits : List ℤ) (es : History) (v : Verdict) → JudgesImport c st id lits es v → JudgesImport c st id lits (reduced es) v
+import_reduced : (c : Setting) (st : Standing) (id : ℕ) (lits : List ℤ) (es : History) (v : LineVerdict) → JudgesImport c st id lits es v → JudgesImport c st id lits (reduced es) v
 import_reduced c st id lits es v judged =
     let At : Reply → History → Type 0 = λ x rest. AtImported x id lits rest v in
     test_maps (is_shared (side_of c id) ≡ true) faults.Identity es (reduced es) v _ _ (reduced_none es)

@@ -9,7 +9,7 @@ use Rattle.lrup_model.specs.Layout.{LayoutValue}
 use Rattle.lrup_model.specs.Event.{History}
 use Rattle.lrup_text.specs.Lines.{StreamLine, Addition, Deletion, Import}
 use Rattle.stream_check.specs.Setting.{Setting, side_of, is_shared}
-use Rattle.stream_check.specs.Standing.{Standing, Tally, last_in, size_of, deleted_by, added_by, adds_empty, adds_within, is_among, standing_of, tally_of}
+use Rattle.stream_check.specs.Standing.{Standing, Tally, last_in, line_size, deleted_by, added_by, adds_empty, adds_within, is_among, standing_of, tally_of}
 use Rattle.stream_check.specs.Verdicts.{Good, Bad}
 use Rattle.stream_check.specs.Judging.{JudgesLine}
 use Rattle.stream_check.specs.Leaving.{SameStanding, standing_after, tally_after, last_after}
@@ -54,7 +54,7 @@ and_or false a b = refl
 pub standing_of-snoc : (c : Setting) (lines : List StreamLine) (line : StreamLine) (es : History) → JudgesLine c (standing_of c lines) line es Good → SameStanding (standing_after c (standing_of c lines) line) (standing_of c (lines ++ line ∷ []))
 standing_of-snoc c lines line es j = record {
   last = sym (same_last c lines line es j);
-  free = omega (arith, sum_by-append size_of lines (line ∷ []));
+  free = omega (arith, sum_by-append line_size lines (line ∷ []));
   gone = λ id.
       let test : StreamLine → Bool = λ l. is_among (deleted_by l) id in
       sym (ap (λ b. is_shared (side_of c id) && b) (list_any-append test lines (line ∷ []))

@@ -9,14 +9,14 @@ use Rattle.stream_check.specs.declared.report.Ending.{Ending}
 use Rattle.stream_check.specs.declared.report.Ending.TheVariants as endings
 use Rattle.stream_check.specs.declared.report.Report.{Report}
 use Rattle.stream_check.specs.declared.held.Held.{Held}
-use Rattle.stream_check.specs.declared.deletion.Stop.{Stop}
-use Rattle.stream_check.specs.declared.deletion.Stop.TheVariants as stops
+use Rattle.stream_check.specs.declared.deletion.LineStop.{LineStop}
+use Rattle.stream_check.specs.declared.deletion.LineStop.TheVariants as stops
 use Rattle.stream_check.specs.declared.line.Taken.TheVariants as taken
 use Rattle.stream_check.specs.Standing.{capped}
 use Rattle.stream_check.specs.Judging.{report_of}
 use Rattle.stream_check.specs.Leaving.{Going, Over, Leaves}
 use Rattle.stream_check.specs.Checker.{tally_at, report_at}
-use Rattle.stream_check.specs.Taking.{hold, DeletesMore, TakesBy, Takes, taken_of}
+use Rattle.stream_check.specs.Taking.{hold, DeletesMore, TakesBy, TakesNext, taken_of}
 use Rattle.stream_check.specs.Laws.{GoodLineTaken}
 use Rattle.stream_check.proofs.LeavingLemmas.{pending_grows, bad_line_taken, bad_text_read, memory_wanted}
 
@@ -31,8 +31,8 @@ report_is old new count ending more =
     ∙ ap (λ n. made new.added (tally_at new).deleted new.empty new.within (ending n)) (sym more.line)
 
 -- a line that ends after so many bytes
-pub takes_line : GoodLineTaken → (old new : Held) (free left : ℕ) (read piece : List ℕ) (used : ℕ) (line : StreamLine) (es : History) (stop : Option Stop)
-    → LineText line (read ++ take used piece) → TakesBy old free new left line es stop → Takes old read free piece (es ∷ []) (taken_of used stop) new left
+pub takes_line : GoodLineTaken → (old new : Held) (free left : ℕ) (read piece : List ℕ) (used : ℕ) (line : StreamLine) (es : History) (stop : Option LineStop)
+    → LineText line (read ++ take used piece) → TakesBy old free new left line es stop → TakesNext old read free piece (es ∷ []) (taken_of used stop) new left
 takes_line law old new free left read piece used line es None text takes = (
   refl,
   λ bytes before leaves. law old.setting bytes (take used piece) before es (hold old read free) (hold new [] left) line leaves text takes.0 (takes.1 read),
@@ -54,7 +54,7 @@ takes_line law old new free left read piece used line es (Some stops.Memory) tex
 )
 
 -- the front of a line
-pub takes_more : (old : Held) (free left : ℕ) (read piece : List ℕ) → left ≡ free → IsPending (read ++ piece) → Takes old read free piece [] taken.More old left
+pub takes_more : (old : Held) (free left : ℕ) (read piece : List ℕ) → left ≡ free → IsPending (read ++ piece) → TakesNext old read free piece [] taken.More old left
 takes_more old free left read piece same pending = (
   refl,
   λ bytes before leaves.
@@ -66,7 +66,7 @@ takes_more old free left read piece same pending = (
 
 -- a text that begins no line
 pub takes_fault : (old : Held) (free left : ℕ) (read piece : List ℕ) (used : ℕ) (fault : LineFault) → IsRefused (read ++ take used piece) fault
-    → Takes old read free piece [] (taken.Stopped used (stops.Bad (faults.Text fault))) old left
+    → TakesNext old read free piece [] (taken.Stopped used (stops.Bad (faults.Text fault))) old left
 takes_fault old free left read piece used fault refused = (
   omega arith,
   λ bytes before leaves.

@@ -9,7 +9,7 @@ use Rattle.lrup_model.specs.Entailment.{IsDerived}
 use Rattle.lrup_model.specs.Layout.{LayoutValue}
 use Rattle.lrup_model.specs.Event as events
 use Rattle.lrup_model.specs.Event.{Event, History, Reply}
-use Rattle.lrup_model.specs.Place.{Caller, Place, Tells, ClipValue, IsKnown, AllFollow, text_of}
+use Rattle.lrup_model.specs.Place.{Caller, Place, Tells, ClipValue, IsKnown, AllFollow, clip_clause}
 use Rattle.lrup_model.specs.PassLemmas.{known_follows}
 use Rattle.propagate.specs.Marks.{Propagation, Steps}
 use Rattle.propagate.specs.declared.marks.Step.TheVariants as steps
@@ -19,10 +19,10 @@ use Rattle.stream_check.specs.declared.fault.Fault.{Fault}
 use Rattle.stream_check.specs.declared.fault.Fault.TheVariants as faults
 use Rattle.stream_check.specs.declared.hints.Tried.TheVariants as tried
 use Rattle.stream_check.specs.Setting.{Setting, Side, formula, own, foreign, outside, side_of}
-use Rattle.stream_check.specs.Verdicts.{Verdict, Good, Bad}
+use Rattle.stream_check.specs.Verdicts.{LineVerdict, Good, Bad}
 use Rattle.stream_check.specs.Asking.{AsksAt, Asks}
 use Rattle.stream_check.specs.Additions.{AtReply, JudgesHints}
-use Rattle.stream_check.specs.Checking.{IsAt, IsFetch, Tries, Shows, excess_of}
+use Rattle.stream_check.specs.Checking.{IsPlaceOf, IsFetch, Tries, Shows, excess_of}
 
 -- one more at the end
 pub replicate-more : (k : ℕ) (e : Event) → replicate k e ++ e ∷ [] ≡ replicate (k + 1) e
@@ -51,12 +51,12 @@ asks_fetches c h es r asks = asks_fetches_at (side_of c h) c h es r asks
 -- One hint
 
 -- a hint that isn't gone and is asked: its reply decides
-pub reply_decides : (c : Setting) (gone : ℕ → Bool) (e : Event) (n : List ℤ) (h : ℕ) (hints : List ℕ) (es rest : History) (r : Reply) (v : Verdict)
+pub reply_decides : (c : Setting) (gone : ℕ → Bool) (e : Event) (n : List ℤ) (h : ℕ) (hints : List ℕ) (es rest : History) (r : Reply) (v : LineVerdict)
     → gone h ≡ false → Asks c h es r → AtReply r n h hints e rest v (λ m. JudgesHints c gone e m hints rest v) → JudgesHints c gone e n (h ∷ hints) (es ++ rest) v
 reply_decides c gone e n h hints es rest r v kept asks next = inr (kept, record { asked = es; reply = r; rest = rest; events = refl; asks = asks; next = next })
 
 -- the same where there are no more events
-pub reply_ends : (c : Setting) (gone : ℕ → Bool) (e : Event) (n : List ℤ) (h : ℕ) (hints : List ℕ) (es : History) (r : Reply) (v : Verdict)
+pub reply_ends : (c : Setting) (gone : ℕ → Bool) (e : Event) (n : List ℤ) (h : ℕ) (hints : List ℕ) (es : History) (r : Reply) (v : LineVerdict)
     → gone h ≡ false → Asks c h es r → AtReply r n h hints e [] v (λ m. JudgesHints c gone e m hints [] v) → JudgesHints c gone e n (h ∷ hints) es v
 reply_ends c gone e n h hints es r v kept asks next =
     subst (λ (x : History). JudgesHints c gone e n (h ∷ hints) x v) (append-nil es) (reply_decides c gone e n h hints es [] r v kept asks next)
@@ -94,16 +94,16 @@ tries_not_unit c gone f old new h es d kept asks step e hints =
     reply_ends c gone e old.falses h hints es (events.live d) (Bad 0 (faults.NotUnit h)) kept asks (inr (inr (step.0, step.1, (refl, refl))))
 
 -- a clip that is known follows, as the place before sees it
-pub derived_before : (p q : Place) (es : History) (clip : ClipValue) → Tells p q es → IsKnown q clip → AllFollow q → IsDerived p.caller.formula (text_of q clip)
+pub derived_before : (p q : Place) (es : History) (clip : ClipValue) → Tells p q es → IsKnown q clip → AllFollow q → IsDerived p.caller.formula (clip_clause q clip)
 derived_before p q es clip tells known follow =
-    subst (λ (f : Cnf). IsDerived f (text_of q clip)) (ap (λ (r : Caller). r.formula) tells.caller) (known_follows q clip follow known)
+    subst (λ (f : Cnf). IsDerived f (clip_clause q clip)) (ap (λ (r : Caller). r.formula) tells.caller) (known_follows q clip follow known)
 
 -- the formula's variables are those of the setting's layout, as the place before sees it
-pub variables_before : (c : Setting) (p q : Place) (es : History) → IsAt c p → Tells p q es → q.caller.formula.vars ≡ q.caller.layout.vars → p.caller.formula.vars ≡ c.layout.vars
+pub variables_before : (c : Setting) (p q : Place) (es : History) → IsPlaceOf c p → Tells p q es → q.caller.formula.vars ≡ q.caller.layout.vars → p.caller.formula.vars ≡ c.layout.vars
 variables_before c p q es at tells there = subst (λ (r : Caller). r.formula.vars ≡ r.layout.vars) tells.caller there ∙ ap (λ (l : LayoutValue). l.vars) at.layout
 
 -- so the marks have all of them
-pub variables_fit : (c : Setting) (p q : Place) (es : History) (vars : ℕ) → IsAt c p → Tells p q es → q.caller.formula.vars ≡ q.caller.layout.vars → c.layout.vars ≤ vars → q.caller.formula.vars ≤ vars
+pub variables_fit : (c : Setting) (p q : Place) (es : History) (vars : ℕ) → IsPlaceOf c p → Tells p q es → q.caller.formula.vars ≡ q.caller.layout.vars → c.layout.vars ≤ vars → q.caller.formula.vars ≤ vars
 variables_fit c p q es vars at tells there most = omega (arith, ap (λ (r : Caller). r.formula.vars) tells.caller, variables_before c p q es at tells there, most)
 
 -- Hints one after the other
@@ -114,7 +114,7 @@ all_derived f (c ∷ cs) d h k = (h.0, all_derived f cs d h.1 k)
 
 -- what the hints that are left are judged to be gives what all are
 abbrev pub GoesOn : Setting → (ℕ → Bool) → List ℤ → List ℕ → List ℤ → List ℕ → History → Type 0
-GoesOn c gone n hints m left es = (e : Event) (rest : History) (v : Verdict) → JudgesHints c gone e m left rest v → JudgesHints c gone e n hints (es ++ rest) v
+GoesOn c gone n hints m left es = (e : Event) (rest : History) (v : LineVerdict) → JudgesHints c gone e m left rest v → JudgesHints c gone e n hints (es ++ rest) v
 
 -- the clauses of the hints so far are unit, one after the other, and follow
 abbrev pub HasLed : Cnf → List ℤ → List ℤ → Type 0

@@ -17,7 +17,7 @@ use Rattle.stream_check.specs.declared.fault.Fault.TheVariants as faults
 use Rattle.stream_check.specs.declared.report.Report.{Report}
 use Rattle.stream_check.specs.Setting.{Setting, side_for, side_of, is_shared}
 use Rattle.stream_check.specs.Standing.{Standing, standing_of, is_gone, deleted_by, added_by, last_in}
-use Rattle.stream_check.specs.Verdicts.{Verdict, Good, Bad, Fails, Test}
+use Rattle.stream_check.specs.Verdicts.{LineVerdict, Good, Bad, Fails, Test}
 use Rattle.stream_check.specs.Additions.{AtConflict, AtReply, JudgesHints, published_by, JudgesAddition}
 use Rattle.stream_check.specs.Asking.{AsksThen}
 use Rattle.stream_check.specs.Imports.{AtImported, JudgesImport}
@@ -63,24 +63,24 @@ taken_within c n gone earlier many are =
 
 -- A bad addition deletes nothing
 
-deleted_of : Verdict → ℕ
+deleted_of : LineVerdict → ℕ
 deleted_of Good = 0
 deleted_of (Bad deleted fault) = deleted
 
-failed_none : (fault : Fault) (es : History) (v : Verdict) → Fails fault es v → deleted_of v ≡ 0
+failed_none : (fault : Fault) (es : History) (v : LineVerdict) → Fails fault es v → deleted_of v ≡ 0
 unfolding deleted_of
 failed_none fault es v f = ap deleted_of f.1
 
-test_none : (Holds : Type 0) (fault : Fault) (es : History) (v : Verdict) (A : Type 0) → (A → deleted_of v ≡ 0) → Test Holds fault es v A → deleted_of v ≡ 0
+test_none : (Holds : Type 0) (fault : Fault) (es : History) (v : LineVerdict) (A : Type 0) → (A → deleted_of v ≡ 0) → Test Holds fault es v A → deleted_of v ≡ 0
 test_none Holds fault es v A next (inl bad) = failed_none fault es v bad.1
 test_none Holds fault es v A next (inr good) = next good.1
 
-conflict_none : (hints : List ℕ) (published : Event) (es : History) (v : Verdict) → AtConflict hints published es v → deleted_of v ≡ 0
+conflict_none : (hints : List ℕ) (published : Event) (es : History) (v : LineVerdict) → AtConflict hints published es v → deleted_of v ≡ 0
 unfolding deleted_of
 conflict_none [] published es v at = ap deleted_of at.1
 conflict_none (h ∷ hints) published es v at = failed_none (faults.Excess h) es v at
 
-reply_none : (x : Reply) (n : List ℤ) (h : ℕ) (hints : List ℕ) (published : Event) (es : History) (v : Verdict) (A : List ℤ → Type 0)
+reply_none : (x : Reply) (n : List ℤ) (h : ℕ) (hints : List ℕ) (published : Event) (es : History) (v : LineVerdict) (A : List ℤ → Type 0)
     → ((m : List ℤ) → A m → deleted_of v ≡ 0) → AtReply x n h hints published es v A → deleted_of v ≡ 0
 reply_none events.vacant n h hints published es v A next at = failed_none (faults.Missing h) es v at
 reply_none events.retired n h hints published es v A next at = failed_none (faults.Retired h) es v at
@@ -88,7 +88,7 @@ reply_none (events.live d) n h hints published es v A next (inl conflict) = conf
 reply_none (events.live d) n h hints published es v A next (inr (inl unit)) = next _ unit.2
 reply_none (events.live d) n h hints published es v A next (inr (inr neither)) = failed_none (faults.NotUnit h) es v neither.2
 
-hints_none : (c : Setting) (gone : ℕ → Bool) (published : Event) (n : List ℤ) (hints : List ℕ) (es : History) (v : Verdict) → JudgesHints c gone published n hints es v → deleted_of v ≡ 0
+hints_none : (c : Setting) (gone : ℕ → Bool) (published : Event) (n : List ℤ) (hints : List ℕ) (es : History) (v : LineVerdict) → JudgesHints c gone published n hints es v → deleted_of v ≡ 0
 hints_none c gone published n [] es v judged = failed_none faults.NoConflict es v judged
 hints_none c gone published n (h ∷ hints) es v judged =
     test_none (gone h ≡ false) (faults.Dropped h) es v _
@@ -96,7 +96,7 @@ hints_none c gone published n (h ∷ hints) es v judged =
     (λ m k. hints_none c gone published m hints a.rest v k) a.next)
     judged
 
-addition_none : (c : Setting) (st : Standing) (id : ℕ) (lits : List ℤ) (hints : List ℕ) (es : History) (v : Verdict) → JudgesAddition c st id lits hints es v → deleted_of v ≡ 0
+addition_none : (c : Setting) (st : Standing) (id : ℕ) (lits : List ℤ) (hints : List ℕ) (es : History) (v : LineVerdict) → JudgesAddition c st id lits hints es v → deleted_of v ≡ 0
 addition_none c st id lits hints es v judged =
     test_none (Owns c.layout c.stream id × (st.last < id)) faults.Identity es v _
     (λ a. test_none (AllByRecursion (λ l. nat_abs l ≤ c.layout.vars) lits) faults.Literal es v _
@@ -106,13 +106,13 @@ addition_none c st id lits hints es v judged =
 
 -- and so does a bad import
 
-imported_none : (x : Reply) (id : ℕ) (lits : List ℤ) (es : History) (v : Verdict) → AtImported x id lits es v → deleted_of v ≡ 0
+imported_none : (x : Reply) (id : ℕ) (lits : List ℤ) (es : History) (v : LineVerdict) → AtImported x id lits es v → deleted_of v ≡ 0
 unfolding deleted_of
 imported_none events.vacant id lits es v at = failed_none (faults.Missing id) es v at
 imported_none events.retired id lits es v at = failed_none (faults.Retired id) es v at
 imported_none (events.live d) id lits es v at = test_none _ (faults.Differs id) es v _ (λ good. ap deleted_of good.1) at
 
-import_none : (c : Setting) (st : Standing) (id : ℕ) (lits : List ℤ) (es : History) (v : Verdict) → JudgesImport c st id lits es v → deleted_of v ≡ 0
+import_none : (c : Setting) (st : Standing) (id : ℕ) (lits : List ℤ) (es : History) (v : LineVerdict) → JudgesImport c st id lits es v → deleted_of v ≡ 0
 import_none c st id lits es v judged =
     test_none (is_shared (side_of c id) ≡ true) faults.Identity es v _
     (λ a. test_none (AllByRecursion (λ l. nat_abs l ≤ c.layout.vars) lits) faults.Literal es v _

@@ -11,31 +11,32 @@ use Rattle.lrup_model.specs.Distinct.{distinct}
 use Rattle.stream_check.specs.declared.fault.Fault.TheVariants as faults
 use Rattle.stream_check.specs.Setting.{Setting}
 use Rattle.stream_check.specs.Standing.{Standing}
-use Rattle.stream_check.specs.Verdicts.{Verdict, Good, Fails, Test}
+use Rattle.stream_check.specs.Verdicts.{LineVerdict, Good, Fails, Test}
 use Rattle.stream_check.specs.Asking.{AsksThen}
 
 -- a conflict: good if no hint is left, else the next hint is in excess
-abbrev pub AtConflict : List ℕ → Event → History → Verdict → Type 0
+abbrev pub AtConflict : List ℕ → Event → History → LineVerdict → Type 0
 AtConflict [] published es v = (es ≡ published ∷ []) × (v ≡ Good)
 AtConflict (h ∷ hints) published es v = Fails (faults.Excess h) es v
 
 -- what a found clause does: a conflict, one more false literal for the hints that are left, or neither
-abbrev pub AtClause : List ℤ → Clause → ℕ → List ℕ → Event → History → Verdict → (List ℤ → Type 0)
-    → Type 0
+abbrev pub AtClause : List ℤ → Clause → ℕ → List ℕ → Event → History → LineVerdict
+    → (List ℤ → Type 0) → Type 0
 AtClause n d h hints published es v Next =
     (IsConflict n d × AtConflict hints published es v)
     ⊎ (((l : ℤ) × IsUnit n d l × Next (n ++ neg_ℤ l ∷ []))
     ⊎ ((¬ IsConflict n d) × ((l : ℤ) → ¬ IsUnit n d l) × Fails (faults.NotUnit h) es v))
 
 -- what the last reply to a hint does
-abbrev pub AtReply : Reply → List ℤ → ℕ → List ℕ → Event → History → Verdict → (List ℤ → Type 0)
+abbrev pub AtReply : Reply → List ℤ → ℕ → List ℕ → Event → History → LineVerdict → (List ℤ → Type 0)
     → Type 0
 AtReply events.vacant n h hints published es v Next = Fails (faults.Missing h) es v
 AtReply (events.live d) n h hints published es v Next = AtClause n d h hints published es v Next
 AtReply events.retired n h hints published es v Next = Fails (faults.Retired h) es v
 
 -- The hints one after the other, where n are the literals that are false: each is first sought among the dropped ones, then fetched, then tried.
-abbrev pub JudgesHints : Setting → (ℕ → Bool) → Event → List ℤ → List ℕ → History → Verdict → Type 0
+abbrev pub JudgesHints : Setting → (ℕ → Bool) → Event → List ℤ → List ℕ → History → LineVerdict
+    → Type 0
 JudgesHints c gone published n [] es v = Fails faults.NoConflict es v
 JudgesHints c gone published n (h ∷ hints) es v =
     Test (gone h ≡ false) (faults.Dropped h) es v
@@ -47,7 +48,8 @@ abbrev pub published_by : Setting → ℕ → List ℤ → Event
 published_by c id lits = events.publish c.stream id (distinct lits) publishing.Done
 
 -- an addition's events and its verdict, after the lines that left this standing
-abbrev pub JudgesAddition : Setting → Standing → ℕ → List ℤ → List ℕ → History → Verdict → Type 0
+abbrev pub JudgesAddition : Setting → Standing → ℕ → List ℤ → List ℕ → History → LineVerdict
+    → Type 0
 JudgesAddition c st id lits hints es v =
     Test (Owns c.layout c.stream id × (st.last < id)) faults.Identity es v
     (Test (AllByRecursion (λ l. nat_abs l ≤ c.layout.vars) lits) faults.Literal es v

@@ -17,15 +17,15 @@ use Rattle.stream_check.specs.declared.report.Ending.{Ending}
 use Rattle.stream_check.specs.declared.report.Ending.TheVariants as endings
 use Rattle.stream_check.specs.declared.report.Report.{Report}
 use Rattle.stream_check.specs.declared.held.Held.{Held}
-use Rattle.stream_check.specs.declared.progress.Turn.{Turn}
-use Rattle.stream_check.specs.declared.progress.Turn.TheVariants as turns
+use Rattle.stream_check.specs.declared.progress.CheckTurn.{CheckTurn}
+use Rattle.stream_check.specs.declared.progress.CheckTurn.TheVariants as turns
 use Rattle.stream_check.specs.Setting.{Setting}
 use Rattle.stream_check.specs.Standing.{capped, Standing, Tally, is_among}
-use Rattle.stream_check.specs.Verdicts.{Verdict, Bad}
+use Rattle.stream_check.specs.Verdicts.{LineVerdict, Bad}
 use Rattle.stream_check.specs.Additions.{JudgesHints, JudgesAddition, published_by}
 use Rattle.stream_check.specs.Judging.{StreamEnd, ending_at, JudgesBlocks}
 use Rattle.stream_check.specs.Leaving.{Holding, CheckerState, Going, Over, Leaves}
-use Rattle.stream_check.specs.Checking.{IsAt}
+use Rattle.stream_check.specs.Checking.{IsPlaceOf}
 use Rattle.stream_check.specs.CheckerValue.{CheckerValue}
 
 -- what the good lines so far leave, where so much room is left
@@ -68,7 +68,7 @@ pub record Admits (c : Setting) (st : Standing) (id : ℕ) (lits : List ℤ)
 abbrev pub AdmitsBy : Setting → Standing → ℕ → List ℤ → Propagation → Option Fault → Type 0
 AdmitsBy c st id lits marks None =
     Admits c st id lits marks
-    × ((hints : List ℕ) (es : History) (v : Verdict)
+    × ((hints : List ℕ) (es : History) (v : LineVerdict)
     → JudgesHints c st.gone (published_by c id lits) (distinct lits) hints es v
     → JudgesAddition c st id lits hints es v)
 AdmitsBy c st id lits marks (Some fault) =
@@ -116,12 +116,12 @@ state_by v free None = Going (holding_of v free)
 state_by v free (Some ending) = Over (report_at v.tally ending)
 
 -- what the checker is left as, where so much room is left
-abbrev pub state_of : CheckerValue → ℕ → CheckerState
-state_of v free = state_by v free v.ending
+abbrev pub checker_state : CheckerValue → ℕ → CheckerState
+checker_state v free = state_by v free v.ending
 
 -- What a checker needs of a place: it is the checker's, and its own identities above the last one that was added are vacant.
 pub record IsReadyAt (v : CheckerValue) (p : Place) : Type 0 where
-  pub at : IsAt v.setting p
+  pub at : IsPlaceOf v.setting p
   pub vacant : IsVacantAbove p v.last
 
 -- Whatever bytes and blocks left the checker as it was, these bytes and blocks more leave it as it is.
@@ -130,7 +130,7 @@ LeavesOn c old used blocks new = (bytes : List ℕ) (before : List History)
     → Leaves c bytes before old → Leaves c (bytes ++ used) (before ++ blocks) new
 
 -- The blocks that a call comes to: that of the line that it ends, or none, or where the reading ends that of the last line, if there is one.
-abbrev pub AreBlocksOf : Turn → List History → Type 0
+abbrev pub AreBlocksOf : CheckTurn → List History → Type 0
 AreBlocksOf turns.Line blocks = length blocks ≡ 1
 AreBlocksOf turns.More blocks = blocks ≡ []
 AreBlocksOf turns.Over blocks = length blocks ≤ 1
@@ -143,7 +143,7 @@ StopsAt ending text =
     × IsRefused text fault)
 
 -- What the bytes used came to: one line more, the front of a line, or the end of the reading.
-abbrev pub Turns : Turn → CheckerValue → CheckerValue → List ℕ → List ℕ → Type 0
+abbrev pub Turns : CheckTurn → CheckerValue → CheckerValue → List ℕ → List ℕ → Type 0
 Turns turns.Line old new piece used =
     (new.ending ≡ None) × (new.pending ≡ [])
     × ((bytes : List ℕ) (lines : List StreamLine) → Cut bytes lines old.pending
@@ -167,7 +167,7 @@ pub record IsNew (layout : LayoutValue) (cube : CubeValue) (stream tries : ℕ)
   pub last : v.last ≡ layout.clauses
   pub retired : v.retired ≡ 0
   pub ending : v.ending ≡ None
-  pub left : Leaves v.setting [] [] (state_of v layout.room)
+  pub left : Leaves v.setting [] [] (checker_state v layout.room)
 
 abbrev pub EndsBy : Option Ending → StreamEnd → CheckerValue → CheckerValue → Type 0
 EndsBy None end old new =
@@ -183,7 +183,7 @@ Ends end old new = EndsBy old.ending end old new
 abbrev pub ReportsEnd : StreamEnd → CheckerValue → CheckerValue → Type 0
 ReportsEnd end old new =
     (bytes : List ℕ) (blocks : List History) (free : ℕ)
-    → Leaves old.setting bytes blocks (state_of old free)
+    → Leaves old.setting bytes blocks (checker_state old free)
     → (ending : Ending) × (new.ending ≡ Some ending)
     × JudgesBlocks old.setting bytes end blocks (report_at new.tally ending)
 

@@ -20,12 +20,12 @@ use Rattle.stream_check.specs.declared.hints.Tried.{Tried}
 use Rattle.stream_check.specs.declared.hints.Tried.TheVariants as tried
 use Rattle.stream_check.specs.declared.deletion.Deleted.{Deleted}
 use Rattle.stream_check.specs.declared.deletion.Deleted.TheVariants as deleting
-use Rattle.stream_check.specs.declared.deletion.Stop.{Stop}
-use Rattle.stream_check.specs.declared.deletion.Stop.TheVariants as stops
+use Rattle.stream_check.specs.declared.deletion.LineStop.{LineStop}
+use Rattle.stream_check.specs.declared.deletion.LineStop.TheVariants as stops
 use Rattle.stream_check.specs.Setting as setting
 use Rattle.stream_check.specs.Setting.{Setting, side_of, is_shared}
 use Rattle.stream_check.specs.Standing.{is_among}
-use Rattle.stream_check.specs.Verdicts.{Verdict, Good, Bad}
+use Rattle.stream_check.specs.Verdicts.{LineVerdict, Good, Bad}
 use Rattle.stream_check.specs.Additions.{AtConflict, JudgesHints, published_by}
 use Rattle.stream_check.specs.Deletions.{JudgesDeletion, StopsDeletion}
 
@@ -37,7 +37,7 @@ side_is sides.Foreign = setting.foreign
 side_is sides.Outside = setting.outside
 
 -- the place is this stream's, at this layout
-pub record IsAt (c : Setting) (p : Place) : Type 0 where
+pub record IsPlaceOf (c : Setting) (p : Place) : Type 0 where
   pub layout : p.caller.layout ≡ c.layout
   pub stream : p.caller.stream ≡ c.stream
 
@@ -72,12 +72,12 @@ abbrev pub Tries : Setting → (ℕ → Bool) → Cnf → Propagation → ℕ �
 Tries c gone f old h es tried.Unit new =
     (d : Clause) × (l : ℤ) × IsDerived f d × IsUnit old.falses d l
     × (new ≡ record old { falses = old.falses ++ neg_ℤ l ∷ [] })
-    × ((e : Event) (hints : List ℕ) (rest : History) (v : Verdict)
+    × ((e : Event) (hints : List ℕ) (rest : History) (v : LineVerdict)
     → JudgesHints c gone e new.falses hints rest v
     → JudgesHints c gone e old.falses (h ∷ hints) (es ++ rest) v)
 Tries c gone f old h es tried.Conflict new =
     (d : Clause) × IsDerived f d × IsConflict old.falses d × (f.vars ≡ c.layout.vars)
-    × ((e : Event) (hints : List ℕ) (rest : History) (v : Verdict) → AtConflict hints e rest v
+    × ((e : Event) (hints : List ℕ) (rest : History) (v : LineVerdict) → AtConflict hints e rest v
     → JudgesHints c gone e old.falses (h ∷ hints) (es ++ rest) v)
 Tries c gone f old h es (tried.Fails fault) new =
     (e : Event) (hints : List ℕ) → JudgesHints c gone e old.falses (h ∷ hints) es (Bad 0 fault)
@@ -97,9 +97,9 @@ excess_of [] = None
 excess_of (h ∷ hints) = Some (faults.Excess h)
 
 -- the verdict of an addition that has this fault, if any
-abbrev pub verdict_of : Option Fault → Verdict
-verdict_of None = Good
-verdict_of (Some fault) = Bad 0 fault
+abbrev pub line_verdict : Option Fault → LineVerdict
+line_verdict None = Good
+line_verdict (Some fault) = Bad 0 fault
 
 -- a good addition makes fetches and is published, and a bad one makes fetches alone
 abbrev pub MakesEvents : Setting → ℕ → List ℤ → History → Option Fault → Type 0
@@ -145,7 +145,7 @@ AreDropped c old ids new =
     (id : ℕ) → is_among new id ≡ (is_among old id || is_shared (side_of c id) && is_among ids id)
 
 -- What a deletion came to: it is good, or bad, or out of memory, after so many identities.
-abbrev pub Deletes : Setting → List ℕ → List ℕ → List ℕ → History → ℕ → Option Stop → Type 0
+abbrev pub Deletes : Setting → List ℕ → List ℕ → List ℕ → History → ℕ → Option LineStop → Type 0
 Deletes c old new ids es count None =
     JudgesDeletion c (is_among old) ids es Good × (count ≡ length ids) × AreDropped c old ids new
 Deletes c old new ids es count (Some (stops.Bad fault)) =

@@ -7,7 +7,7 @@ use Rattle.lrup_model.specs.Event.{History, Reply}
 use Rattle.stream_check.specs.declared.fault.Fault.TheVariants as faults
 use Rattle.stream_check.specs.Setting.{Setting, side_of, is_shared}
 use Rattle.stream_check.specs.Standing.{Standing}
-use Rattle.stream_check.specs.Verdicts.{Verdict, Good, Fails, Test}
+use Rattle.stream_check.specs.Verdicts.{LineVerdict, Good, Fails, Test}
 use Rattle.stream_check.specs.Asking.{AsksThen}
 
 -- the same literals, however often and in whatever order
@@ -15,14 +15,14 @@ abbrev pub HasSame : Clause → List ℤ → Type 0
 HasSame d lits = (l : ℤ) → Has d l ↔ Has lits l
 
 -- what the last reply does: a clause is compared, with no more events
-abbrev pub AtImported : Reply → ℕ → List ℤ → History → Verdict → Type 0
+abbrev pub AtImported : Reply → ℕ → List ℤ → History → LineVerdict → Type 0
 AtImported events.vacant id lits es v = Fails (faults.Missing id) es v
 AtImported (events.live d) id lits es v =
     Test (HasSame d lits) (faults.Differs id) es v ((es ≡ []) × (v ≡ Good))
 AtImported events.retired id lits es v = Fails (faults.Retired id) es v
 
 -- an import's events and its verdict, after the lines that left this standing: it is of the formula or of another stream, and not dropped
-abbrev pub JudgesImport : Setting → Standing → ℕ → List ℤ → History → Verdict → Type 0
+abbrev pub JudgesImport : Setting → Standing → ℕ → List ℤ → History → LineVerdict → Type 0
 JudgesImport c st id lits es v =
     Test (is_shared (side_of c id) ≡ true) faults.Identity es v
     (Test (AllByRecursion (λ l. nat_abs l ≤ c.layout.vars) lits) faults.Literal es v

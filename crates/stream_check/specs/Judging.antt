@@ -13,13 +13,13 @@ use Rattle.stream_check.specs.declared.report.Ending.TheVariants as endings
 use Rattle.stream_check.specs.declared.report.Report.{Report}
 use Rattle.stream_check.specs.Setting.{Setting}
 use Rattle.stream_check.specs.Standing.{Standing, standing_of, Tally, tally_of, capped, line_number}
-use Rattle.stream_check.specs.Verdicts.{Verdict, Good, Bad}
+use Rattle.stream_check.specs.Verdicts.{LineVerdict, Good, Bad}
 use Rattle.stream_check.specs.Additions.{JudgesAddition}
 use Rattle.stream_check.specs.Deletions.{JudgesDeletion, StopsDeletion}
 use Rattle.stream_check.specs.Imports.{JudgesImport}
 
 -- a line's events and its verdict, after the lines that left this standing
-abbrev pub JudgesLine : Setting → Standing → StreamLine → History → Verdict → Type 0
+abbrev pub JudgesLine : Setting → Standing → StreamLine → History → LineVerdict → Type 0
 JudgesLine c st (Addition id lits hints) es v = JudgesAddition c st id lits hints es v
 JudgesLine c st (Deletion lead ids) es v = JudgesDeletion c st.gone ids es v
 JudgesLine c st (Import id lits) es v = JudgesImport c st id lits es v

@@ -29,7 +29,7 @@ use Rattle.stream_check.specs.Standing.{Standing}
 use Rattle.stream_check.specs.Additions.{JudgesAddition}
 use Rattle.stream_check.specs.Reducing.{reduced, IsEarly, TriesAgain}
 use Rattle.stream_check.specs.Finding.{IsGoodAddition, FindsSound}
-use Rattle.stream_check.specs.Verdicts.{Verdict, Good, Bad}
+use Rattle.stream_check.specs.Verdicts.{LineVerdict, Good, Bad}
 use Rattle.stream_check.specs.Leaving.{Holding, Going, Over, Leaves, IsFresh, TakesLine}
 use Rattle.stream_check.specs.CheckerValue.{CheckerValue}
 use Rattle.stream_check.specs.Checker.{IsNew, IsReadyAt}
@@ -200,23 +200,23 @@ GoodFollows = (f : Cnf) (c : Setting) (st : Standing) (id : ℕ) (lits : List �
 
 -- all events of a line are calls of its stream
 abbrev pub LineCalls : Type 0
-LineCalls = (c : Setting) (st : Standing) (line : StreamLine) (es : History) (v : Verdict)
+LineCalls = (c : Setting) (st : Standing) (line : StreamLine) (es : History) (v : LineVerdict)
     → JudgesLine c st line es v → AllByRecursion (λ e. stream_of e ≡ c.stream) es
 
 -- before a line's last event there are only fetches, and retires with Done
 abbrev pub EarlyEvents : Type 0
 EarlyEvents = (c : Setting) (st : Standing) (line : StreamLine) (es front : History) (last : Event)
-    (v : Verdict)
+    (v : LineVerdict)
     → JudgesLine c st line es v → es ≡ front ++ last ∷ [] → AllByRecursion IsEarly front
 
 -- in a line a vacant fetch is the last event, or the same identity is fetched again
 abbrev pub VacantTriesAgain : Type 0
-VacantTriesAgain = (c : Setting) (st : Standing) (line : StreamLine) (es : History) (v : Verdict)
-    → JudgesLine c st line es v → TriesAgain es
+VacantTriesAgain = (c : Setting) (st : Standing) (line : StreamLine) (es : History)
+    (v : LineVerdict) → JudgesLine c st line es v → TriesAgain es
 
 -- a line without the vacant fetches of the hints that it found is judged alike
 abbrev pub ReducedLine : Type 0
-ReducedLine = (c : Setting) (st : Standing) (line : StreamLine) (es : History) (v : Verdict)
+ReducedLine = (c : Setting) (st : Standing) (line : StreamLine) (es : History) (v : LineVerdict)
     → JudgesLine c st line es v → JudgesLine c st line (reduced es) v
 
 -- and so is a stream

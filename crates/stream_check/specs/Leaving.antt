@@ -4,7 +4,7 @@ use Rattle.lrup_model.specs.Event.{History}
 use Rattle.lrup_text.specs.Lines.{StreamLine, Addition, Deletion, Import, Cut, IsPending}
 use Rattle.stream_check.specs.declared.report.Report.{Report}
 use Rattle.stream_check.specs.Setting.{Setting, side_of, is_shared}
-use Rattle.stream_check.specs.Standing.{Standing, standing_of, is_among, size_of, deleted_by, added_by, adds_empty, adds_within, Tally, tally_of, capped, line_number}
+use Rattle.stream_check.specs.Standing.{Standing, standing_of, is_among, line_size, deleted_by, added_by, adds_empty, adds_within, Tally, tally_of, capped, line_number}
 use Rattle.stream_check.specs.Judging.{AreGood, ended, failed, JudgesBlocks}
 
 -- what a checker holds that isn't over: its counts, what good lines left, the text read of the next line, and that line's number
@@ -51,7 +51,7 @@ last_after last (Import id lits) = last
 abbrev pub standing_after : Setting → Standing → StreamLine → Standing
 standing_after c st line = record {
   last = last_after st.last line;
-  free = st.free - size_of line;
+  free = st.free - line_size line;
   gone = λ id. st.gone id || is_shared (side_of c id) && is_among (deleted_by line) id;
 }
 

@@ -23,10 +23,10 @@ last_in p (Deletion lead ids ∷ lines) = last_in p lines
 last_in p (Import id lits ∷ lines) = last_in p lines
 
 -- the size of the clause that a line adds
-abbrev pub size_of : StreamLine → ℕ
-size_of (Addition id lits hints) = length (distinct lits)
-size_of (Deletion lead ids) = 0
-size_of (Import id lits) = 0
+abbrev pub line_size : StreamLine → ℕ
+line_size (Addition id lits hints) = length (distinct lits)
+line_size (Deletion lead ids) = 0
+line_size (Import id lits) = 0
 
 -- the identities that a line deletes
 abbrev pub deleted_by : StreamLine → List ℕ
@@ -47,7 +47,7 @@ is_gone c lines id =
 abbrev pub standing_of : Setting → List StreamLine → Standing
 standing_of c lines = record {
   last = last_in c.layout lines;
-  free = c.layout.room - sum_by size_of lines;
+  free = c.layout.room - sum_by line_size lines;
   gone = is_gone c lines;
 }
 

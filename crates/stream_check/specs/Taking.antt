@@ -10,8 +10,8 @@ use Rattle.stream_check.specs.declared.fault.Fault.TheVariants as faults
 use Rattle.stream_check.specs.declared.report.Ending.{Ending}
 use Rattle.stream_check.specs.declared.report.Ending.TheVariants as endings
 use Rattle.stream_check.specs.declared.held.Held.{Held}
-use Rattle.stream_check.specs.declared.deletion.Stop.{Stop}
-use Rattle.stream_check.specs.declared.deletion.Stop.TheVariants as stops
+use Rattle.stream_check.specs.declared.deletion.LineStop.{LineStop}
+use Rattle.stream_check.specs.declared.deletion.LineStop.TheVariants as stops
 use Rattle.stream_check.specs.declared.line.Taken.{Taken}
 use Rattle.stream_check.specs.declared.line.Taken.TheVariants as taken
 use Rattle.stream_check.specs.Standing.{capped, is_among}
@@ -19,7 +19,7 @@ use Rattle.stream_check.specs.Verdicts.{Good, Bad}
 use Rattle.stream_check.specs.Deletions.{StopsDeletion}
 use Rattle.stream_check.specs.Judging.{JudgesLine}
 use Rattle.stream_check.specs.Leaving.{Holding, Going, Over, TakesLine}
-use Rattle.stream_check.specs.Checking.{IsAt}
+use Rattle.stream_check.specs.Checking.{IsPlaceOf}
 use Rattle.stream_check.specs.Checker.{standing_at, tally_at, deleted_at, report_at, LeavesOn}
 
 -- what is held, with this text read of the next line, where so much room is left
@@ -29,7 +29,7 @@ hold h pending free =
 
 -- the place is one where the next line can be checked
 pub record IsReady (h : Held) (p : Place) : Type 0 where
-  pub at : IsAt h.setting p
+  pub at : IsPlaceOf h.setting p
   pub vacant : IsVacantAbove p h.last
 
 -- so many identities more were deleted, and nothing else was counted
@@ -41,7 +41,7 @@ pub record DeletesMore (old new : Held) (count : ℕ) : Type 0 where
   pub line : new.line ≡ old.line
 
 -- what the events of one line came to
-abbrev pub TakesBy : Held → ℕ → Held → ℕ → StreamLine → History → Option Stop → Type 0
+abbrev pub TakesBy : Held → ℕ → Held → ℕ → StreamLine → History → Option LineStop → Type 0
 TakesBy old free new left line es None =
     JudgesLine old.setting (standing_at old free) line es Good
     × ((read : List ℕ) → TakesLine old.setting (hold old read free) line (hold new [] left))
@@ -54,32 +54,32 @@ TakesBy old free new left line es (Some stops.Memory) =
     × DeletesMore old new (length earlier)
 
 -- a line that stopped ends the reading so
-abbrev pub ending_of : ℕ → Stop → Ending
+abbrev pub ending_of : ℕ → LineStop → Ending
 ending_of line (stops.Bad fault) = endings.Bad line fault
 ending_of line stops.Memory = endings.Memory line
 
-abbrev pub taken_of : ℕ → Option Stop → Taken
+abbrev pub taken_of : ℕ → Option LineStop → Taken
 taken_of used None = taken.Line used
 taken_of used (Some stop) = taken.Stopped used stop
 
 -- the text of what stopped: a line's, or one that begins no line
-abbrev pub StopsBy : Stop → List ℕ → Type 0
+abbrev pub StopsBy : LineStop → List ℕ → Type 0
 StopsBy stop text = ((line : StreamLine) × LineText line text)
     ⊎ ((fault : LineFault) × (stop ≡ stops.Bad (faults.Text fault)) × IsRefused text fault)
 
 -- what stands next in a piece, the blocks of events that it comes to, and what it leaves
-abbrev pub Takes : Held → List ℕ → ℕ → List ℕ → List History → Taken → Held → ℕ → Type 0
-Takes old read free piece blocks (taken.Line used) new left =
+abbrev pub TakesNext : Held → List ℕ → ℕ → List ℕ → List History → Taken → Held → ℕ → Type 0
+TakesNext old read free piece blocks (taken.Line used) new left =
     (length blocks ≡ 1)
     × LeavesOn old.setting (Going (hold old read free)) (take used piece) blocks
     (Going (hold new [] left))
     × ((line : StreamLine) × LineText line (read ++ take used piece))
-Takes old read free piece blocks taken.More new left =
+TakesNext old read free piece blocks taken.More new left =
     (blocks ≡ [])
     × LeavesOn old.setting (Going (hold old read free)) piece blocks
     (Going (hold new (read ++ piece) left))
     × IsPending (read ++ piece)
-Takes old read free piece blocks (taken.Stopped used stop) new left =
+TakesNext old read free piece blocks (taken.Stopped used stop) new left =
     (length blocks ≤ 1)
     × LeavesOn old.setting (Going (hold old read free)) (take used piece) blocks
     (Over (report_at (tally_at new) (ending_of new.line stop)))

@@ -5,14 +5,14 @@ use Rattle.lrup_model.specs.Event.{History}
 use Rattle.stream_check.specs.declared.fault.Fault.{Fault}
 
 -- a bad line comes with the count of the identities that it deleted before the fault
-pub data Verdict : Type 0 where
-  Good : Verdict
-  Bad : (deleted : ℕ) (fault : Fault) → Verdict
+pub data LineVerdict : Type 0 where
+  Good : LineVerdict
+  Bad : (deleted : ℕ) (fault : Fault) → LineVerdict
 
 -- no more events, and this fault
-abbrev pub Fails : Fault → History → Verdict → Type 0
+abbrev pub Fails : Fault → History → LineVerdict → Type 0
 Fails fault es v = (es ≡ []) × (v ≡ Bad 0 fault)
 
 -- either the test fails, with this fault, or it holds and what comes next decides
-abbrev pub Test : Type 0 → Fault → History → Verdict → Type 0 → Type 0
+abbrev pub Test : Type 0 → Fault → History → LineVerdict → Type 0 → Type 0
 Test Holds fault es v Next = ((¬ Holds) × Fails fault es v) ⊎ (Holds × Next)

@@ -9,7 +9,7 @@ ghost use Rattle.lrup_model.specs.Place.{IsVacantAbove};
 ghost use Rattle.lrup_text.specs.Lines.{IsStreamLiteral};
 ghost use Rattle.lrup_model.specs.Distinct.{distinct};
 ghost use Rattle.stream_check.specs.Additions.{JudgesAddition};
-ghost use Rattle.stream_check.specs.Checking.{IsAt, verdict_of, MakesEvents};
+ghost use Rattle.stream_check.specs.Checking.{IsPlaceOf, line_verdict, MakesEvents};
 ghost use Rattle.stream_check.specs.Checker.{standing_at, AdmitsBy};
 
 use crate::fault::Fault;
@@ -49,7 +49,7 @@ impl Buffers {
 
     /// The tests of an addition that ask the map for no clause, in their order. The clause is taken up where all hold.
     fn admit<M: ClauseMap>(&mut self, held: &Held, map: &M, id: Id, lits: &[i64]) -> Option<Fault>
-        requires at { IsAt held.now.setting (M.place map.now) }
+        requires at { IsPlaceOf held.now.setting (M.place map.now) }
         requires variables { held.now.setting.layout.vars ≡ self.old.vars }
         requires count { length lits.now ≤ max_line_literals }
         requires nonzero { AllByRecursion IsStreamLiteral lits.now }
@@ -89,7 +89,7 @@ impl Buffers {
         lits: &[i64],
         hints: &[Id],
     ) -> Option<Fault>
-        requires at { IsAt held.now.setting (M.place map.old) }
+        requires at { IsPlaceOf held.now.setting (M.place map.old) }
         requires variables { held.now.setting.layout.vars ≡ self.old.vars }
         requires tries { held.now.setting.tries < 2 ^ 63 }
         requires vacant { IsVacantAbove (M.place map.old) held.now.last }
@@ -101,7 +101,7 @@ impl Buffers {
             (es : History) × M.moves map.old map.new es
             × MakesEvents held.now.setting id lits.now es result
             × JudgesAddition held.now.setting standing id lits.now hints.now es
-            (verdict_of result) }
+            (line_verdict result) }
     {
         if let Some(fault) = self.admit(held, map, id, lits) {
             return Some(fault);

@@ -4,7 +4,7 @@ ghost use Rattle.lrup_model.specs.Event.{History, vacant, fetch};
 ghost use Rattle.lrup_model.specs.Layout.{IsIdentity};
 ghost use Rattle.lrup_model.specs.Replies.{reply_of};
 ghost use Rattle.stream_check.specs.Asking.{Asks, FetchesUpTo};
-ghost use Rattle.stream_check.specs.Checking.{IsAt, Gives};
+ghost use Rattle.stream_check.specs.Checking.{IsPlaceOf, Gives};
 
 use crate::gate::Gate;
 use crate::setting::Setting;
@@ -37,7 +37,7 @@ fn fetch_again<M: ClauseMap, G: Gate>(most: u64, map: &mut M, gate: &mut G, id: 
 /// Whose it is matters only where it was vacant: so a hint that is found at once costs one fetch and no division.
 #[inline(always)]
 pub fn ask<M: ClauseMap, G: Gate>(setting: &Setting, map: &mut M, gate: &mut G, hint: Id) -> Fetched
-    requires at { IsAt setting.now (M.place map.old) }
+    requires at { IsPlaceOf setting.now (M.place map.old) }
     requires tries { setting.now.tries < 2 ^ 63 }
     ensures asked { (es : History) × M.moves map.old map.new es
         × Asks setting.now hint es (reply_of (M.place map.new) result) }

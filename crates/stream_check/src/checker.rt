@@ -4,7 +4,7 @@ ghost use Rattle.lrup_model.specs.Event.{History};
 ghost use Rattle.lrup_model.specs.Layout.{IsStream};
 ghost use Rattle.stream_check.specs.Setting.{max_tries};
 ghost use Rattle.stream_check.specs.Judging.{joined, ended, failed};
-ghost use Rattle.stream_check.specs.Checker.{state_of, report_at, IsReadyAt, LeavesOn, AreBlocksOf, Turns, StaysOver, IsNew, Ends, ReportsEnd};
+ghost use Rattle.stream_check.specs.Checker.{checker_state, report_at, IsReadyAt, LeavesOn, AreBlocksOf, Turns, StaysOver, IsNew, Ends, ReportsEnd};
 
 use crate::addition::Buffers;
 use crate::fault::Fault;
@@ -12,7 +12,7 @@ use crate::gate::Gate;
 use crate::held::Held;
 use crate::laws::fresh_left;
 use crate::line::{Taken, take_line};
-use crate::progress::{Progress, Turn};
+use crate::progress::{Progress, CheckTurn};
 use crate::report::{Ending, Report};
 use lrup_model::{ClauseMap, Cube, Layout};
 use lrup_text::{End, LineReader};
@@ -79,14 +79,14 @@ impl Checker {
         requires { IsReadyAt self.old (M.place map.old) }
         // Whatever bytes and blocks came before, the bytes used and the blocks of the call's events
         // leave the checker as it is now.
-        ensures left { let old = state_of self.old (M.place map.old).room in
-            let new = state_of self.new (M.place map.new).room in
+        ensures left { let old = checker_state self.old (M.place map.old).room in
+            let new = checker_state self.new (M.place map.new).room in
             (blocks : List History) × M.moves map.old map.new (joined blocks)
             × AreBlocksOf result.turn blocks
             × LeavesOn self.old.setting old (take result.used piece.now) blocks new }
         ensures turn { Turns result.turn self.old self.new piece.now (take result.used piece.now) }
         ensures used { result.used ≤ length piece.now }
-        ensures moves_on { result.turn ≡ Turn.Line → 0 < result.used }
+        ensures moves_on { result.turn ≡ CheckTurn.Line → 0 < result.used }
         ensures over { StaysOver self.old self.new (take result.used piece.now) }
         ensures ready { IsReadyAt self.new (M.place map.new) }
         ensures setting { self.new.setting ≡ self.old.setting }
@@ -94,7 +94,7 @@ impl Checker {
         if self.ending.is_some() {
             return Progress {
                 used: 0,
-                turn: Turn::Over,
+                turn: CheckTurn::Over,
             };
         }
         match take_line(
@@ -107,18 +107,18 @@ impl Checker {
         ) {
             Taken::Line(used) => Progress {
                 used,
-                turn: Turn::Line,
+                turn: CheckTurn::Line,
             },
             Taken::More => Progress {
                 used: piece.len(),
-                turn: Turn::More,
+                turn: CheckTurn::More,
             },
             Taken::Stopped(used, stop) => {
                 self.ending = Some(stop.ending(self.held.line));
                 self.tell(gate);
                 Progress {
                     used,
-                    turn: Turn::Over,
+                    turn: CheckTurn::Over,
                 }
             }
         }

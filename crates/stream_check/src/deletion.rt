@@ -3,7 +3,7 @@ ghost use Rattle.std.specs.Prelude.{◌≡◌, ◌+◌, ℕ, length};
 ghost use Rattle.std.specs.List.{AllByRecursion};
 ghost use Rattle.lrup_model.specs.Event.{History};
 ghost use Rattle.lrup_model.specs.Layout.{Owns};
-ghost use Rattle.stream_check.specs.Checking.{IsAt, DropsShared, DeletesOwn, DeletesOne, Deletes, IsRetire, counted};
+ghost use Rattle.stream_check.specs.Checking.{IsPlaceOf, DropsShared, DeletesOwn, DeletesOne, Deletes, IsRetire, counted};
 ghost use Rattle.stream_check.specs.Standing.{capped};
 ghost use Rattle.stream_check.specs.Checker.{KeepsLines, deleted_at};
 
@@ -26,7 +26,7 @@ pub enum Deleted {
 
 /// Why a line wasn't taken as a good one.
 #[derive(Clone, Copy)]
-pub enum Stop {
+pub enum LineStop {
     /// It is bad.
     Bad(Fault),
     /// There was no memory to keep an identity that it drops.
@@ -51,7 +51,7 @@ fn drop_shared(dropped: &mut Dropped, id: Id) -> Deleted
 
 /// Retires an identity of the stream's own.
 fn retire_own<M: ClauseMap>(held: &mut Held, map: &mut M, id: Id) -> Deleted
-    requires at { IsAt held.old.setting (M.place map.old) }
+    requires at { IsPlaceOf held.old.setting (M.place map.old) }
     requires owns { Owns held.old.setting.layout held.old.setting.stream id }
     ensures deletes { (es : History) × M.moves map.old map.new es × AllByRecursion IsRetire es
         × DeletesOwn held.old.setting id held.old.dropped.ids held.new.dropped.ids es result }
@@ -70,7 +70,7 @@ fn retire_own<M: ClauseMap>(held: &mut Held, map: &mut M, id: Id) -> Deleted
 
 /// Deletes one identity.
 fn delete_one<M: ClauseMap>(held: &mut Held, map: &mut M, id: Id) -> Deleted
-    requires at { IsAt held.old.setting (M.place map.old) }
+    requires at { IsPlaceOf held.old.setting (M.place map.old) }
     ensures deletes { (es : History) × M.moves map.old map.new es × AllByRecursion IsRetire es
         × DeletesOne held.old.setting id held.old.dropped.ids held.new.dropped.ids es result }
     ensures spare { result ≡ Deleted.NoMemory → held.old.dropped.spare ≡ 0 }
@@ -86,8 +86,8 @@ fn delete_one<M: ClauseMap>(held: &mut Held, map: &mut M, id: Id) -> Deleted
 }
 
 /// Deletes the identities one after the other. None where all are deleted.
-pub fn delete<M: ClauseMap>(held: &mut Held, map: &mut M, ids: &[Id]) -> Option<Stop>
-    requires at { IsAt held.old.setting (M.place map.old) }
+pub fn delete<M: ClauseMap>(held: &mut Held, map: &mut M, ids: &[Id]) -> Option<LineStop>
+    requires at { IsPlaceOf held.old.setting (M.place map.old) }
     ensures deleted { (es : History) × M.moves map.old map.new es × AllByRecursion IsRetire es
         × ((count : ℕ) × (deleted_at held.new ≡ capped (deleted_at held.old + count))
         × Deletes held.old.setting held.old.dropped.ids held.new.dropped.ids
@@ -97,8 +97,8 @@ pub fn delete<M: ClauseMap>(held: &mut Held, map: &mut M, ids: &[Id]) -> Option<
     for id in ids {
         match delete_one(held, map, *id) {
             Deleted::Done => {}
-            Deleted::NotLive => return Some(Stop::Bad(Fault::NotLive(*id))),
-            Deleted::NoMemory => return Some(Stop::Memory),
+            Deleted::NotLive => return Some(LineStop::Bad(Fault::NotLive(*id))),
+            Deleted::NoMemory => return Some(LineStop::Memory),
         }
     }
     None

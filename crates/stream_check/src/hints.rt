@@ -3,7 +3,7 @@ ghost use Rattle.std.specs.Prelude.{◌≡◌, ◌≤◌, ◌<◌, ◌^◌, IsTr
 ghost use Rattle.lrup_model.specs.Clause.{IsTautology};
 ghost use Rattle.lrup_model.specs.Event.{History};
 ghost use Rattle.stream_check.specs.Standing.{is_among};
-ghost use Rattle.stream_check.specs.Checking.{IsAt, IsFetch, KeepsClause, Tries, Shows, excess_of};
+ghost use Rattle.stream_check.specs.Checking.{IsPlaceOf, IsFetch, KeepsClause, Tries, Shows, excess_of};
 ghost use Rattle.std.specs.List.{AllByRecursion};
 
 use crate::asking::ask;
@@ -34,7 +34,7 @@ fn try_hint<M: ClauseMap, G: Gate>(
     marks: &mut Marks,
     hint: Id,
 ) -> Tried
-    requires at { IsAt setting.now (M.place map.old) }
+    requires at { IsPlaceOf setting.now (M.place map.old) }
     requires tries { setting.now.tries < 2 ^ 63 }
     requires ready { IsTrue marks.old.ready }
     requires variables { setting.now.layout.vars ≤ marks.old.vars }
@@ -74,7 +74,7 @@ pub fn try_hints<M: ClauseMap, G: Gate>(
     marks: &mut Marks,
     hints: &[Id],
 ) -> Option<Fault>
-    requires at { IsAt setting.now (M.place map.old) }
+    requires at { IsPlaceOf setting.now (M.place map.old) }
     requires tries { setting.now.tries < 2 ^ 63 }
     requires ready { IsTrue marks.old.ready }
     requires variables { setting.now.layout.vars ≤ marks.old.vars }

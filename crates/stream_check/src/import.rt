@@ -5,7 +5,7 @@ ghost use Rattle.lrup_model.specs.Event.{History};
 ghost use Rattle.lrup_model.specs.History.{max_line_literals};
 ghost use Rattle.lrup_text.specs.Lines.{IsStreamLiteral};
 ghost use Rattle.stream_check.specs.Imports.{JudgesImport};
-ghost use Rattle.stream_check.specs.Checking.{IsAt, IsFetch, verdict_of};
+ghost use Rattle.stream_check.specs.Checking.{IsPlaceOf, IsFetch, line_verdict};
 ghost use Rattle.stream_check.specs.Checker.{standing_at};
 
 use crate::addition::{Buffers, read_literals};
@@ -25,7 +25,7 @@ impl Buffers {
         id: Id,
         lits: &[i64],
     ) -> Option<Fault>
-        requires at { IsAt held.now.setting (M.place map.old) }
+        requires at { IsPlaceOf held.now.setting (M.place map.old) }
         requires variables { held.now.setting.layout.vars ≡ self.old.vars }
         requires tries { held.now.setting.tries < 2 ^ 63 }
         requires count { length lits.now ≤ max_line_literals }
@@ -33,7 +33,7 @@ impl Buffers {
         ensures vars { self.new.vars ≡ self.old.vars }
         ensures judged { let standing = standing_at held.now (M.place map.old).room in
             (es : History) × M.moves map.old map.new es × AllByRecursion IsFetch es
-            × JudgesImport held.now.setting standing id lits.now es (verdict_of result) }
+            × JudgesImport held.now.setting standing id lits.now es (line_verdict result) }
     {
         if !held.setting.shares(id) {
             return Some(Fault::Identity);

@@ -4,17 +4,17 @@ ghost use Rattle.lrup_model.specs.Event.{History};
 ghost use Rattle.lrup_text.specs.Lines.{IsWithinLimits, Addition, Deletion, Import};
 ghost use Rattle.stream_check.specs.Judging.{joined};
 ghost use Rattle.stream_check.specs.Checker.{read_of};
-ghost use Rattle.stream_check.specs.Taking.{IsReady, TakesBy, Takes, ReadsOn, taken_of, ending_of};
+ghost use Rattle.stream_check.specs.Taking.{IsReady, TakesBy, TakesNext, ReadsOn, taken_of, ending_of};
 
 use crate::addition::Buffers;
-use crate::deletion::{Stop, delete};
+use crate::deletion::{LineStop, delete};
 use crate::fault::Fault;
 use crate::gate::Gate;
 use crate::held::Held;
 use crate::laws::good_line_taken;
 use crate::report::Ending;
 use lrup_model::{ClauseMap, Id};
-use lrup_text::{Line, LineReader, Turn};
+use lrup_text::{Line, LineReader, ReaderTurn};
 
 /// What stands next in a piece.
 #[derive(Clone, Copy)]
@@ -24,17 +24,17 @@ pub enum Taken {
     /// The front of a line, or nothing. All bytes were used.
     More,
     /// A line or a text that ends the reading, through this many bytes.
-    Stopped(usize, Stop),
+    Stopped(usize, LineStop),
 }
 
-impl Stop {
+impl LineStop {
     /// How the stream ends where the line of this number stopped so.
     pub fn ending(self, line: u64) -> Ending
         ensures { result ≡ ending_of line self }
     {
         match self {
-            Stop::Bad(fault) => Ending::Bad(line, fault),
-            Stop::Memory => Ending::Memory(line),
+            LineStop::Bad(fault) => Ending::Bad(line, fault),
+            LineStop::Memory => Ending::Memory(line),
         }
     }
 }
@@ -48,7 +48,7 @@ fn take_addition<M: ClauseMap, G: Gate>(
     id: Id,
     lits: &[i64],
     hints: &[Id],
-) -> Option<Stop>
+) -> Option<LineStop>
     requires ready { IsReady held.old (M.place map.old) }
     requires variables { held.old.setting.layout.vars ≡ buffers.old.vars }
     requires tries { held.old.setting.tries < 2 ^ 63 }
@@ -61,7 +61,7 @@ fn take_addition<M: ClauseMap, G: Gate>(
     ensures variables { buffers.new.vars ≡ buffers.old.vars }
 {
     if let Some(fault) = buffers.add(held, map, gate, id, lits, hints) {
-        return Some(Stop::Bad(fault));
+        return Some(LineStop::Bad(fault));
     }
     let within = held.setting.refutes(buffers.clause());
     held.take_addition(id, lits.is_empty(), within);
@@ -69,7 +69,7 @@ fn take_addition<M: ClauseMap, G: Gate>(
 }
 
 /// Makes a deletion, and counts it where it is good.
-fn take_deletion<M: ClauseMap>(held: &mut Held, map: &mut M, ids: &[Id]) -> Option<Stop>
+fn take_deletion<M: ClauseMap>(held: &mut Held, map: &mut M, ids: &[Id]) -> Option<LineStop>
     requires ready { IsReady held.old (M.place map.old) }
     ensures taken { let free = (M.place map.old).room in let left = (M.place map.new).room in
         (es : History) × M.moves map.old map.new es
@@ -92,7 +92,7 @@ fn take_import<M: ClauseMap, G: Gate>(
     gate: &mut G,
     id: Id,
     lits: &[i64],
-) -> Option<Stop>
+) -> Option<LineStop>
     requires ready { IsReady held.old (M.place map.old) }
     requires variables { held.old.setting.layout.vars ≡ buffers.old.vars }
     requires tries { held.old.setting.tries < 2 ^ 63 }
@@ -105,14 +105,14 @@ fn take_import<M: ClauseMap, G: Gate>(
     ensures variables { buffers.new.vars ≡ buffers.old.vars }
 {
     if let Some(fault) = buffers.import(held, map, gate, id, lits) {
-        return Some(Stop::Bad(fault));
+        return Some(LineStop::Bad(fault));
     }
     held.pass_line();
     None
 }
 
 /// What the line that ends after so many bytes came to.
-fn line_through(used: usize, stop: Option<Stop>) -> Taken
+fn line_through(used: usize, stop: Option<LineStop>) -> Taken
     ensures { result ≡ taken_of used stop }
 {
     match stop {
@@ -136,7 +136,7 @@ pub fn take_line<M: ClauseMap, G: Gate>(
     requires reader { reader.old ≡ Ok (read_of reader.old) }
     ensures taken { let free = (M.place map.old).room in let left = (M.place map.new).room in
         (blocks : List History) × M.moves map.old map.new (joined blocks)
-        × Takes held.old (read_of reader.old) free piece.now blocks result held.new left }
+        × TakesNext held.old (read_of reader.old) free piece.now blocks result held.new left }
     ensures reads { ReadsOn (read_of reader.old) piece.now result reader.new }
     ensures ready { IsReady held.new (M.place map.new) }
     ensures setting { held.new.setting ≡ held.old.setting }
@@ -146,15 +146,15 @@ pub fn take_line<M: ClauseMap, G: Gate>(
     let fed = reader.feed(piece);
     let used = fed.used;
     match fed.turn {
-        Turn::Line(Line::Add { id, lits, hints }) => line_through(
+        ReaderTurn::Line(Line::Add { id, lits, hints }) => line_through(
             used,
             take_addition(held, buffers, map, gate, id, lits, hints),
         ),
-        Turn::Line(Line::Delete { ids, .. }) => line_through(used, take_deletion(held, map, ids)),
-        Turn::Line(Line::Import { id, lits }) => {
+        ReaderTurn::Line(Line::Delete { ids, .. }) => line_through(used, take_deletion(held, map, ids)),
+        ReaderTurn::Line(Line::Import { id, lits }) => {
             line_through(used, take_import(held, buffers, map, gate, id, lits))
         }
-        Turn::NeedMore => Taken::More,
-        Turn::Fault(fault) => Taken::Stopped(used, Stop::Bad(Fault::Text(fault))),
+        ReaderTurn::NeedMore => Taken::More,
+        ReaderTurn::Fault(fault) => Taken::Stopped(used, LineStop::Bad(Fault::Text(fault))),
     }
 }

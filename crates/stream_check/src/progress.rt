@@ -6,12 +6,12 @@ pub struct Progress {
     /// How many bytes of the piece were used.
     pub used: usize,
     /// What they came to.
-    pub turn: Turn,
+    pub turn: CheckTurn,
 }
 
 /// What the bytes used came to.
 #[derive(Clone, Copy, Debug, PartialEq, Eq)]
-pub enum Turn {
+pub enum CheckTurn {
     /// They end a line, which is good.
     Line,
     /// All bytes were used, and no line ended.

@@ -10,7 +10,7 @@ use std::alloc::Global;
 use std::fmt;
 use std::process::Abort;
 use std::test::Fail;
-use stream_check::{Checker, Ending, Fault, Gate, Report, Turn};
+use stream_check::{Checker, Ending, Fault, Gate, Report, CheckTurn};
 
 mod assumptions;
 mod imports;
@@ -79,8 +79,8 @@ fn feed_whole<M: ClauseMap, G: Gate>(checker: &mut Checker, map: &mut M, gate: &
     'rest: loop {
         let progress = checker.feed(map, gate, rest);
         match progress.turn {
-            Turn::Line => rest = &rest[progress.used..],
-            Turn::More | Turn::Over => return,
+            CheckTurn::Line => rest = &rest[progress.used..],
+            CheckTurn::More | CheckTurn::Over => return,
         }
     }
 }

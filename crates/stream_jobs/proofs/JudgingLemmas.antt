@@ -7,9 +7,9 @@ use Rattle.runs.specs.Readings.{IsStreamOf}
 use Rattle.runs.specs.Streams.{Stream, at_end, at_failure, IsReadOut, JudgesStream}
 use Rattle.stream_check.specs.declared.report.Ending.{Ending}
 use Rattle.stream_check.specs.declared.report.Report.{Report}
-use Rattle.stream_check.specs.declared.progress.Turn.{Turn}
-use Rattle.stream_check.specs.declared.progress.Turn.TheVariants as turns
-use Rattle.stream_check.specs.Checker.{state_by, state_of, report_at, LeavesOn, Turns, EndsBy, Ends, ReportsEnd}
+use Rattle.stream_check.specs.declared.progress.CheckTurn.{CheckTurn}
+use Rattle.stream_check.specs.declared.progress.CheckTurn.TheVariants as turns
+use Rattle.stream_check.specs.Checker.{state_by, checker_state, report_at, LeavesOn, Turns, EndsBy, Ends, ReportsEnd}
 use Rattle.stream_check.specs.CheckerValue.{CheckerValue}
 use Rattle.stream_check.specs.Judging.{StreamEnd, JudgesBlocks}
 use Rattle.stream_check.specs.Laws.{OverStays}
@@ -26,27 +26,27 @@ leaves_append c one two three xs ys front back first second bytes before left =
 
 -- a checker that is over takes the rest too
 over_takes : OverStays → (c : Setting) (old : CheckerState) (used rest : List ℕ) (blocks : List History) (v : CheckerValue) (free : ℕ) (ending : Ending)
-    → v.ending ≡ Some ending → LeavesOn c old used blocks (state_of v free) → LeavesOn c old (used ++ rest) blocks (state_of v free)
+    → v.ending ≡ Some ending → LeavesOn c old used blocks (checker_state v free) → LeavesOn c old (used ++ rest) blocks (checker_state v free)
 over_takes stays c old used rest blocks v free ending is leaves bytes before left =
-    let over : state_of v free ≡ Over (report_at v.tally ending) = ap (state_by v free) is in
+    let over : checker_state v free ≡ Over (report_at v.tally ending) = ap (state_by v free) is in
     let taken = subst (Leaves c (bytes ++ used) (before ++ blocks)) over (leaves bytes before left) in
     let all = subst (λ (t : List ℕ). Leaves c t (before ++ blocks) (Over (report_at v.tally ending))) (append_assoc bytes used rest)
     (stays c (bytes ++ used) rest (before ++ blocks) (report_at v.tally ending) taken) in
     subst (Leaves c (bytes ++ (used ++ rest)) (before ++ blocks)) (sym over) all
 
 -- a call that ends no line has come to the piece's end, or to the checker's
-pub stopped_takes : OverStays → (turn : Turn) (old new : CheckerValue) (piece used rest : List ℕ) (c : Setting) (state : CheckerState) (blocks : List History) (free : ℕ)
+pub stopped_takes : OverStays → (turn : CheckTurn) (old new : CheckerValue) (piece used rest : List ℕ) (c : Setting) (state : CheckerState) (blocks : List History) (free : ℕ)
     → (turn ≡ turns.Line → ⊥) → Turns turn old new piece used → piece ≡ used ++ rest
-    → LeavesOn c state used blocks (state_of new free) → LeavesOn c state piece blocks (state_of new free)
+    → LeavesOn c state used blocks (checker_state new free) → LeavesOn c state piece blocks (checker_state new free)
 stopped_takes stays turns.Line old new piece used rest c state blocks free other turn split leaves = absurd (other refl)
 stopped_takes stays turns.More old new piece used rest c state blocks free other turn split leaves =
-    subst (λ (t : List ℕ). LeavesOn c state t blocks (state_of new free)) turn.1 leaves
+    subst (λ (t : List ℕ). LeavesOn c state t blocks (checker_state new free)) turn.1 leaves
 stopped_takes stays turns.Over old new piece used rest c state blocks free other turn split leaves =
-    subst (λ (t : List ℕ). LeavesOn c state t blocks (state_of new free)) (sym split)
+    subst (λ (t : List ℕ). LeavesOn c state t blocks (checker_state new free)) (sym split)
     (over_takes stays c state used rest blocks new free turn.0 turn.1 leaves)
 
 -- a call that came to the piece's end, or to the checker's, ended no line
-pub no_line : (turn : Turn) → (turn ≡ turns.More) ⊎ (turn ≡ turns.Over) → turn ≡ turns.Line → ⊥
+pub no_line : (turn : CheckTurn) → (turn ≡ turns.More) ⊎ (turn ≡ turns.Over) → turn ≡ turns.Line → ⊥
 no_line turn (inl more) line = cc
 no_line turn (inr over) line = cc
 
@@ -87,7 +87,7 @@ leaves_more c d one two three xs ys all front back same split first second =
 
 -- the report of a checker that was ended
 pub closes : (end : StreamEnd) (v u : CheckerValue) (report : Report) → ReportsEnd end v u → IfSome u.ending (λ ending. report ≡ report_at u.tally ending)
-    → (bytes : List ℕ) (blocks : List History) (free : ℕ) → Leaves v.setting bytes blocks (state_of v free) → JudgesBlocks v.setting bytes end blocks report
+    → (bytes : List ℕ) (blocks : List History) (free : ℕ) → Leaves v.setting bytes blocks (checker_state v free) → JudgesBlocks v.setting bytes end blocks report
 closes end v u report reports told bytes blocks free leaves =
     let judged = reports bytes blocks free leaves in
     let same : report ≡ report_at u.tally judged.0 = subst (λ (e : Option Ending). IfSome e (λ ending. report ≡ report_at u.tally ending)) judged.1 told in

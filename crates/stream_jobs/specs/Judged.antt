@@ -2,7 +2,7 @@
 use Rattle.std.specs.Prelude.{ℕ, Bool, true, false, List, []}
 use Rattle.lrup_model.specs.Event.{History}
 use Rattle.stream_check.specs.declared.report.Report.{Report}
-use Rattle.stream_check.specs.Checker.{state_of}
+use Rattle.stream_check.specs.Checker.{checker_state}
 use Rattle.stream_check.specs.CheckerValue.{CheckerValue}
 use Rattle.stream_check.specs.Judging.{StreamEnd, ended, failed, JudgesBlocks}
 use Rattle.stream_check.specs.Leaving.{Leaves}
@@ -20,5 +20,5 @@ pub record JudgesAtMark (v : CheckerValue) (room : ℕ) (items : List ℕ) (bloc
   pub bytes : List ℕ
   pub has_failed : Bool
   pub marked : EndsAtMark bytes has_failed items
-  pub judged : Leaves v.setting [] [] (state_of v room)
+  pub judged : Leaves v.setting [] [] (checker_state v room)
       → JudgesBlocks v.setting bytes (end_of has_failed) blocks report

@@ -7,7 +7,7 @@ ghost use Rattle.rtrb.specs.Ring.{sent, received, IsPair};
 ghost use Rattle.runs.specs.Readings.{IsStreamOf};
 ghost use Rattle.runs.specs.Streams.{Stream, IsReadOut, JudgesStream};
 ghost use Rattle.stream_check.specs.declared.report.Report.{Report};
-ghost use Rattle.stream_check.specs.Checker.{IsNew, state_of};
+ghost use Rattle.stream_check.specs.Checker.{IsNew, checker_state};
 ghost use Rattle.stream_check.specs.CheckerValue.{CheckerValue};
 ghost use Rattle.stream_check.specs.Leaving.{Leaves};
 ghost use Rattle.stream_check.specs.Setting.{max_tries};
@@ -62,7 +62,7 @@ pub fn meet<R: Source + Drop>(sent: &mut Sent<R>, checked: &mut Checked)
         → SendsAll _ (source_view R.left R.has_failed R.reads) first sent.old.reader
         (Rattle.rtrb.specs.Ring.sent sent.old.producer)
         → JudgesAtMark v room (received checked.old.consumer) blocks report
-        → Leaves v.setting [] [] (state_of v room)
+        → Leaves v.setting [] [] (checker_state v room)
         → (stream : Stream) × IsReadOut stream
         × IsStreamOf (source_view R.left R.has_failed R.reads) first sent.old.reader stream
         × JudgesStream v.setting stream blocks report }

@@ -3,7 +3,7 @@ ghost use Rattle.std.specs.Prelude.{◌≡◌, ◌<◌, ◌≤◌, ℕ, List, []
 ghost use Rattle.lrup_model.specs.Event.{History};
 ghost use Rattle.lrup_model.specs.Layout.{IsStream};
 ghost use Rattle.rtrb.specs.Ring.{received, SameConsumer};
-ghost use Rattle.stream_check.specs.Checker.{IsNew, IsReadyAt, LeavesOn, state_of};
+ghost use Rattle.stream_check.specs.Checker.{IsNew, IsReadyAt, LeavesOn, checker_state};
 ghost use Rattle.stream_check.specs.Judging.{joined, JudgesBlocks};
 ghost use Rattle.stream_check.specs.Leaving.{Leaves};
 ghost use Rattle.stream_check.specs.Setting.{max_tries};
@@ -15,7 +15,7 @@ use rtrb::Consumer;
 use std::alloc::{AllocError, Global};
 use std::sync::{OnceLock, OnceToken, Wait};
 use stream_check::laws::over_stays;
-use stream_check::{Checker, Gate, Report, Turn};
+use stream_check::{Checker, Gate, Report, CheckTurn};
 use stream_ring::{Received, Receiver, told};
 
 /// The most items that are popped, and the most bytes that are fed, at once.
@@ -147,7 +147,7 @@ fn judge<W: Wait, G: Gate, M: ClauseMap>(
 /// Takes the end of the stream, or a read that failed, and says how the stream is judged; to the gate too, where it wasn't over before.
 fn settle<G: Gate>(checker: &mut Checker, gate: &mut G, has_failed: bool) -> Report
     ensures { (bytes : List ℕ) (blocks : List History) (free : ℕ)
-        → Leaves checker.old.setting bytes blocks (state_of checker.old free)
+        → Leaves checker.old.setting bytes blocks (checker_state checker.old free)
         → JudgesBlocks checker.old.setting bytes (end_of has_failed) blocks result }
 {
     let was_over = checker.is_over();
@@ -161,7 +161,7 @@ fn settle<G: Gate>(checker: &mut Checker, gate: &mut G, has_failed: bool) -> Rep
 /// Takes the end of the stream, or a read that failed, and says how the stream is judged.
 fn close(checker: &mut Checker, has_failed: bool) -> Report
     ensures { (bytes : List ℕ) (blocks : List History) (free : ℕ)
-        → Leaves checker.old.setting bytes blocks (state_of checker.old free)
+        → Leaves checker.old.setting bytes blocks (checker_state checker.old free)
         → JudgesBlocks checker.old.setting bytes (end_of has_failed) blocks result }
 {
     if has_failed {
@@ -188,8 +188,8 @@ fn check_received<W: Wait, G: Gate, M: ClauseMap>(
     requires nothing { received receiver.old.consumer ≡ [] }
     ensures ring { SameConsumer receiver.old.consumer receiver.new.consumer }
     ensures setting { checker.new.setting ≡ checker.old.setting }
-    ensures took { let old = state_of checker.old (M.place map.old).room in
-        let new = state_of checker.new (M.place map.new).room in
+    ensures took { let old = checker_state checker.old (M.place map.old).room in
+        let new = checker_state checker.new (M.place map.new).room in
         IfSome result (λ failed. (fed : List ℕ) × (blocks : List History)
         × M.moves map.old map.new (joined blocks)
         × EndsAtMark fed failed (received receiver.new.consumer)
@@ -211,8 +211,8 @@ fn check_received<W: Wait, G: Gate, M: ClauseMap>(
 /// Lets the checker take all of a piece. One that is over takes nothing of it, and stays as it is.
 fn take_all<G: Gate, M: ClauseMap>(checker: &mut Checker, gate: &mut G, map: &mut M, piece: &[u8])
     requires { IsReadyAt checker.old (M.place map.old) }
-    ensures took { let old = state_of checker.old (M.place map.old).room in
-        let new = state_of checker.new (M.place map.new).room in
+    ensures took { let old = checker_state checker.old (M.place map.old).room in
+        let new = checker_state checker.new (M.place map.new).room in
         (blocks : List History) × M.moves map.old map.new (joined blocks)
         × LeavesOn checker.old.setting old piece.now blocks new }
     ensures ready { IsReadyAt checker.new (M.place map.new) }
@@ -223,8 +223,8 @@ fn take_all<G: Gate, M: ClauseMap>(checker: &mut Checker, gate: &mut G, map: &mu
     for _ in 0..piece.len() {
         let progress = checker.feed(map, gate, rest);
         match progress.turn {
-            Turn::Line => rest = rest.split_at(progress.used).1,
-            Turn::More | Turn::Over => return,
+            CheckTurn::Line => rest = rest.split_at(progress.used).1,
+            CheckTurn::More | CheckTurn::Over => return,
         }
     }
 }

@@ -4,7 +4,7 @@ use Rattle.lrup_model.specs.Event.{History}
 use Rattle.lrup_model.specs.Pass.{PassMoves, pass_place}
 use Rattle.clause_store.specs.Passes.{StoreValue, PassValue, store_of}
 use Rattle.stream_check.specs.declared.report.Report.{Report}
-use Rattle.stream_check.specs.Checker.{IsNew, IsReadyAt, state_of}
+use Rattle.stream_check.specs.Checker.{IsNew, IsReadyAt, checker_state}
 use Rattle.stream_check.specs.CheckerValue.{CheckerValue}
 use Rattle.stream_check.specs.Judging.{joined}
 use Rattle.stream_check.specs.Leaving.{Leaves}
@@ -63,7 +63,7 @@ pub record Finishes {S : Type 0} (view : SourceView S) (jobs : JobsValue S)
   pub blocks : List History
   pub moves : PassMoves jobs.pass.view found.pass.view (joined blocks)
   pub judged : Leaves jobs.checker.setting [] []
-      (state_of jobs.checker (pass_place jobs.pass.view).room)
+      (checker_state jobs.checker (pass_place jobs.pass.view).room)
       → (stream : Stream) × IsReadOut stream × IsStreamOf view jobs.reader found.reader stream
       × JudgesStream jobs.checker.setting stream blocks found.report
 
@@ -88,10 +88,10 @@ IsFirstFault {S} view all (Ring stream) =
     (found : List (FoundValue S)) × AllFinish view (take (stream - 1) all) found
 
 -- the stream that a fault names
-abbrev pub stream_of : ThreadFault → ℕ
-stream_of (Spawn stream) = stream
-stream_of (Ring stream) = stream
+abbrev pub fault_stream : ThreadFault → ℕ
+fault_stream (Spawn stream) = stream
+fault_stream (Ring stream) = stream
 
 -- the fault names one of so many streams
 abbrev pub IsFaultWithin : ℕ → ThreadFault → Type 0
-IsFaultWithin count fault = (0 < stream_of fault) × (stream_of fault ≤ count)
+IsFaultWithin count fault = (0 < fault_stream fault) × (fault_stream fault ≤ count)

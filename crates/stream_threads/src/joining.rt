@@ -22,7 +22,7 @@ use stream_jobs::{Sent, meet};
 
 /// What was found of a stream.
 #[derive(Drop)]
-pub struct Found<R: Source + Drop> {
+pub struct StreamResult<R: Source + Drop> {
     /// How the stream is judged.
     pub report: Report,
     /// The reader, at its end or after a read that failed.
@@ -31,7 +31,7 @@ pub struct Found<R: Source + Drop> {
     pub pass: Pass,
 }
 
-impl<R: Source + Drop> Model for Found<R> {
+impl<R: Source + Drop> Model for StreamResult<R> {
     ghost use Rattle.stream_threads.specs.Jobs.{FoundValue};
 
     ghost Value = { FoundValue R };
@@ -48,8 +48,8 @@ impl<R: Source + Drop> Model for Found<R> {
 pub struct Room<R: Source + Drop, G: Gate + Drop> {
     halves: Vec<HalfStarted<R, G>>,
     started: Vec<Started<R, G>>,
-    ends: Vec<Option<Found<R>>>,
-    found: Vec<Found<R>>,
+    ends: Vec<Option<StreamResult<R>>>,
+    found: Vec<StreamResult<R>>,
 }
 
 impl<R: Source + Drop, G: Gate + Drop> Model for Room<R, G> {
@@ -83,7 +83,7 @@ impl<R: Source + Drop, G: Gate + Drop> Room<R, G> {
 fn meet_ends<R: Source + Drop>(
     sent: Option<Sent<R>>,
     checked: Option<CheckedPass>,
-) -> Option<Found<R>>
+) -> Option<StreamResult<R>>
     requires pair { IfSome sent (λ s. IfSome checked (λ e.
         IsPair s.producer e.checked.consumer)) }
     ensures none { IsNone result ↔ (IsNone sent ⊎ IfSome checked (λ e. IsNone e.checked.report)) }
@@ -98,7 +98,7 @@ fn meet_ends<R: Source + Drop>(
     let CheckedPass { mut checked, pass } = checked?;
     let report = checked.report?;
     meet(&mut sent, &mut checked);
-    Some(Found {
+    Some(StreamResult {
         report,
         reader: sent.reader,
         pass,
@@ -107,7 +107,7 @@ fn meet_ends<R: Source + Drop>(
 
 impl<R: Source + Drop, G: Gate + Drop> Started<R, G> {
     /// Waits until both threads have ended. None where no mark was met.
-    fn join<T: Threads>(self, threads: &T) -> Option<Found<R>>
+    fn join<T: Threads>(self, threads: &T) -> Option<StreamResult<R>>
         ensures { IfSome result (Finishes (source_view R.left R.has_failed R.reads) self) }
     {
         let Started { reading, checking } = self;
@@ -121,8 +121,8 @@ impl<R: Source + Drop, G: Gate + Drop> Started<R, G> {
 fn join_all<T: Threads, R: Source + Drop, G: Gate + Drop>(
     threads: &T,
     all: Vec<Started<R, G>>,
-    mut ends: Vec<Option<Found<R>>>,
-) -> Vec<Option<Found<R>>>
+    mut ends: Vec<Option<StreamResult<R>>>,
+) -> Vec<Option<StreamResult<R>>>
     requires none { ends.items ≡ [] }
     requires room { vec_len all ≤ vec_capacity ends }
     ensures ends { AllEnd (source_view R.left R.has_failed R.reads) all.items result.items }
@@ -136,9 +136,9 @@ fn join_all<T: Threads, R: Source + Drop, G: Gate + Drop>(
 
 /// What was found of all streams. The fault names the first stream, from 1 on, of which nothing was found.
 fn all_found<R: Source + Drop>(
-    ends: Vec<Option<Found<R>>>,
-    mut found: Vec<Found<R>>,
-) -> Result<Vec<Found<R>>, ThreadFault>
+    ends: Vec<Option<StreamResult<R>>>,
+    mut found: Vec<StreamResult<R>>,
+) -> Result<Vec<StreamResult<R>>, ThreadFault>
     requires none { found.items ≡ [] }
     requires room { vec_len ends ≤ vec_capacity found }
     ensures found { IfOk result (λ all. ends.items ≡ map (λ f. Some f) all.items) }
@@ -170,7 +170,7 @@ fn start_and_join<
     word: &'s OnceLock<bool>,
     all: Vec<StreamJobs<R, G>>,
     room: Room<R, G>,
-) -> Result<Vec<Found<R>>, ThreadFault>
+) -> Result<Vec<StreamResult<R>>, ThreadFault>
     requires begin { AllByRecursion (CanBegin store.now) all.items }
     requires room { vec_len all ≤ room }
     ensures found { IfOk result (λ found.
@@ -206,7 +206,7 @@ pub fn check_all<T: Threads + Wait + Sync, R: Source + Send + Drop, G: Gate + Se
     store: &Store,
     all: Vec<StreamJobs<R, G>>,
     room: Room<R, G>,
-) -> Result<Vec<Found<R>>, ThreadFault>
+) -> Result<Vec<StreamResult<R>>, ThreadFault>
     requires begin { AllByRecursion (CanBegin store.now) all.items }
     requires room { vec_len all ≤ room }
     ensures found { IfOk result (λ found.
@@ -220,7 +220,7 @@ pub fn check_all<T: Threads + Wait + Sync, R: Source + Send + Drop, G: Gate + Se
     thread::scope(
         thread::scope_env(),
         threads,
-        move |scope| -> Result<Vec<Found<R>>, ThreadFault>
+        move |scope| -> Result<Vec<StreamResult<R>>, ThreadFault>
             requires begin { AllByRecursion (CanBegin store.now) all.items }
             requires room { vec_len all ≤ room }
             ensures found { IfOk result (λ found.

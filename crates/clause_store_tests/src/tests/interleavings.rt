@@ -5,7 +5,7 @@ ghost use Rattle.lrup_model.specs.Pass.{pass_place};
 ghost use Rattle.lrup_model.specs.Place.{IsKnown};
 ghost use Rattle.test_support.specs.Worked.{four};
 ghost use Rattle.clause_store.specs.Passes.{store_of};
-ghost use Rattle.clause_store_tests.specs.Worked.{IsAt, raced};
+ghost use Rattle.clause_store_tests.specs.Worked.{IsPassAt, raced};
 
 use super::{
     Found, TURNS, arrives, finds_raced, holds, is_kept, is_raced, live, look, open_race, open_two,
@@ -28,8 +28,8 @@ fn replace_six(
     replaced: &AtomicU64,
     read: &AtomicU64,
 ) -> (Pass, (Option<Retired>, Option<Published>, bool))
-    requires { IsAt four store.now pass }
-    ensures { IsAt four store.now result.0 }
+    requires { IsPassAt four store.now pass }
+    ensures { IsPassAt four store.now result.0 }
 {
     let retired = retire(store, &mut pass, 6);
     let published = publish(store, &mut pass, 8, &[lit(1)]);
@@ -46,9 +46,9 @@ fn read_replaced(
     replaced: &AtomicU64,
     read: &AtomicU64,
 ) -> (Pass, (bool, bool))
-    requires at { IsAt four store.now pass }
+    requires at { IsPassAt four store.now pass }
     requires known { IsKnown (pass_place pass.view) clip.now }
-    ensures { IsAt four store.now result.0 }
+    ensures { IsPassAt four store.now result.0 }
 {
     let in_time = waits_for(replaced, 1);
     let stays = reads_back(store, &mut pass, clip, &[lit(-2)]);
@@ -64,23 +64,23 @@ fn replace_and_read<R: Threads + Abort>(
     b: Pass,
     clip: &Clip,
 ) -> (Pass, Pass)
-    requires first { IsAt four store.now a }
-    requires second { IsAt four store.now b }
+    requires first { IsPassAt four store.now a }
+    requires second { IsPassAt four store.now b }
     requires known { IsKnown (pass_place a.view) clip.now }
-    ensures first { IsAt four store.now result.0 }
-    ensures second { IsAt four store.now result.1 }
+    ensures first { IsPassAt four store.now result.0 }
+    ensures second { IsPassAt four store.now result.1 }
 {
     let (replaced, read) = (AtomicU64::new(0), AtomicU64::new(0));
     let (replaced, read) = (&replaced, &read);
     let ((b, answers), (a, found)) = join(
         rt,
         || -> (Pass, (Option<Retired>, Option<Published>, bool))
-            requires { IsAt four store.now b }
-            ensures { IsAt four store.entry.now result.0 }
+            requires { IsPassAt four store.now b }
+            ensures { IsPassAt four store.entry.now result.0 }
         { replace_six(store, b, replaced, read) },
         || -> (Pass, (bool, bool))
-            requires { IsAt four store.now a × IsKnown (pass_place a.view) clip.now }
-            ensures { IsAt four store.entry.now result.0 }
+            requires { IsPassAt four store.now a × IsKnown (pass_place a.view) clip.now }
+            ensures { IsPassAt four store.entry.now result.0 }
         { read_replaced(store, a, clip, replaced, read) },
     );
     same(
@@ -125,7 +125,7 @@ fn publish_together<R: Abort>(
     there: &AtomicU64,
     published: &AtomicU64,
 )
-    requires { IsAt raced store.now pass.old }
+    requires { IsPassAt raced store.now pass.old }
     ensures { store_of pass.new ≡ store.now }
 {
     let own = pass.stream();
@@ -159,7 +159,7 @@ fn publish_or_read<R: Abort>(
     there: &AtomicU64,
     published: &AtomicU64,
 )
-    requires { IsAt raced store.now pass.old }
+    requires { IsPassAt raced store.now pass.old }
     ensures { store_of pass.new ≡ store.now }
 {
     if pass.stream() < 3 {
@@ -187,7 +187,7 @@ fn neighbours_are_published_at_once(rt: HostRuntime) -> Result<(), Fail> {
 
 /// Publishes the clause of each line, and retires it once all others are there to fetch it.
 fn retire_together<R: Abort>(rt: &R, store: &Store, pass: &mut Pass, there: &AtomicU64)
-    requires { IsAt raced store.now pass.old }
+    requires { IsPassAt raced store.now pass.old }
     ensures { store_of pass.new ≡ store.now }
 {
     for line in 0..LINES {
@@ -245,7 +245,7 @@ fn fetch_together<R: Abort>(rt: &R, store: &Store, pass: &mut Pass, there: &Atom
 
 /// The first stream retires, and the others fetch.
 fn retire_or_fetch<R: Abort>(rt: &R, store: &Store, pass: &mut Pass, there: &AtomicU64)
-    requires { IsAt raced store.now pass.old }
+    requires { IsPassAt raced store.now pass.old }
     ensures { store_of pass.new ≡ store.now }
 {
     if pass.stream() == 1 {
@@ -285,8 +285,8 @@ fn six_literals(id: Id) -> [Lit; 6]
 
 /// Publishes that clause.
 fn publish_six(store: &Store, pass: &mut Pass, id: Id) -> Option<Published>
-    requires { IsAt raced store.now pass.old }
-    ensures { IsAt raced store.now pass.new }
+    requires { IsPassAt raced store.now pass.old }
+    ensures { IsPassAt raced store.now pass.new }
 {
     if !store.owns(pass, id) || store.room(pass) < 6 {
         return None;
@@ -335,7 +335,7 @@ fn publish_hammered<R: Abort + Clock>(
     there: &AtomicU64,
     lines: &AtomicU64,
 )
-    requires { IsAt raced store.now pass.old }
+    requires { IsPassAt raced store.now pass.old }
     ensures { store_of pass.new ≡ store.now }
 {
     let began = rt.monotonic().ok();
@@ -385,7 +385,7 @@ fn publish_or_hammer<R: Abort + Clock>(
     there: &AtomicU64,
     lines: &AtomicU64,
 )
-    requires { IsAt raced store.now pass.old }
+    requires { IsPassAt raced store.now pass.old }
     ensures { store_of pass.new ≡ store.now }
 {
     if pass.stream() == 1 {

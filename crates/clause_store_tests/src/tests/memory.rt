@@ -1,7 +1,7 @@
 //! What the calls of a store take of memory, which is nothing; and an opening that is refused.
 ghost use Rattle.std.specs.Prelude.{◌≡◌, IfOk};
 ghost use Rattle.clause_store.specs.Passes.{store_of, AreOf};
-ghost use Rattle.clause_store_tests.specs.Worked.{IsAt, raced};
+ghost use Rattle.clause_store_tests.specs.Worked.{IsPassAt, raced};
 
 use super::{Found, finds_raced, holds, look, open_race, publish_raced, retire_raced, same};
 use clause_store::{Pass, Store};
@@ -12,8 +12,8 @@ use std::test::Fail;
 
 /// Reads the first pair of a live clause, where it has literals.
 fn has_pair(store: &Store, pass: &mut Pass, id: Id) -> bool
-    requires { IsAt raced store.now pass.old }
-    ensures { IsAt raced store.now pass.new }
+    requires { IsPassAt raced store.now pass.old }
+    ensures { IsPassAt raced store.now pass.new }
 {
     if !store.covers(id) {
         return false;
@@ -28,10 +28,10 @@ fn has_pair(store: &Store, pass: &mut Pass, id: Id) -> bool
 
 /// Each call of two passes once: the first publishes and retires, and the second finds and reads.
 fn call_each<R: Abort>(rt: &R, store: &Store, first: &mut Pass, second: &mut Pass, id: Id)
-    requires first { IsAt raced store.now first.old }
-    requires second { IsAt raced store.now second.old }
-    ensures first { IsAt raced store.now first.new }
-    ensures second { IsAt raced store.now second.new }
+    requires first { IsPassAt raced store.now first.old }
+    requires second { IsPassAt raced store.now second.old }
+    ensures first { IsPassAt raced store.now first.new }
+    ensures second { IsPassAt raced store.now second.new }
 {
     same(rt, look(store, second, id), Some(Found::Vacant));
     same(rt, publish_raced(store, first, id), Some(Published::Done));
@@ -47,8 +47,8 @@ fn call_each<R: Abort>(rt: &R, store: &Store, first: &mut Pass, second: &mut Pas
 
 /// The same, a thousand times.
 fn call_often<R: Abort>(rt: &R, store: &Store, first: &mut Pass, second: &mut Pass)
-    requires first { IsAt raced store.now first.old }
-    requires second { IsAt raced store.now second.old }
+    requires first { IsPassAt raced store.now first.old }
+    requires second { IsPassAt raced store.now second.old }
 {
     for line in 0..1_000 {
         call_each(rt, store, first, second, 2 * line + 2);

@@ -2,7 +2,7 @@
 ghost use Rattle.std.specs.Prelude.{◌≡◌, [], ◌∷◌, IsTrue, Some, codes, cond, false, length, nat_eq};
 ghost use Rattle.command_line.specs.CommandLine.{IsCommandLineOf};
 ghost use Rattle.command_line.specs.declared.words.CommandLine.{CommandLine};
-ghost use Rattle.dimacs.specs.FormulaText.{IsTextOf};
+ghost use Rattle.dimacs.specs.FormulaText.{IsFormulaText};
 ghost use Rattle.lrup_model.specs.Entailment.{IsUnsatisfiable};
 ghost use Rattle.lrup_model.specs.Formula.{Cnf};
 
@@ -42,7 +42,7 @@ fn refutes<T: Threads + Wait + Sync + Clock>(
     formula: &str,
     stream: &str,
 ) -> bool
-    ensures { IsTrue result → (f : Cnf) × IsTextOf formula.now f × IsUnsatisfiable f }
+    ensures { IsTrue result → (f : Cnf) × IsFormulaText formula.now f × IsUnsatisfiable f }
 {
     plain_words();
     let mut files = Told { formula, stream };
@@ -60,7 +60,7 @@ fn refutes_by_its_end<T: Threads + Wait + Sync + Clock>(
 ) -> bool
     ensures { IsTrue result → (given : CommandLine) × (f : Cnf)
         × IsCommandLineOf (codes "f" ∷ codes "s1" ∷ []) given
-        × IsTextOf formula.now f × IsUnsatisfiable f }
+        × IsFormulaText formula.now f × IsUnsatisfiable f }
 {
     plain_words();
     let mut files = Told { formula, stream };

@@ -1,7 +1,7 @@
 //! What the definition of a text says of a few texts. Each follows from the definition and the laws alone, so a wrong one isn't proved.
 ghost use Rattle.std.specs.Prelude.{◌≡◌, ◌↔◌, [], ◌∷◌, codes, pos, IfOk};
 ghost use Rattle.lrup_model.specs.Formula.{Cnf};
-ghost use Rattle.dimacs.specs.FormulaText.{IsTextOf};
+ghost use Rattle.dimacs.specs.FormulaText.{IsFormulaText};
 
 use super::*;
 use dimacs::laws::one_formula;
@@ -9,16 +9,16 @@ use lrup_model::Formula;
 
 /// A number with a zero in front of it is none, in a clause and in the header.
 fn zeros_in_front_are_refused()
-    ensures clause { (f : Cnf) → ¬ IsTextOf (codes "p cnf 1 1\n01 0\n") f }
-    ensures header { (f : Cnf) → ¬ IsTextOf (codes "p cnf 01 0\n") f }
+    ensures clause { (f : Cnf) → ¬ IsFormulaText (codes "p cnf 1 1\n01 0\n") f }
+    ensures header { (f : Cnf) → ¬ IsFormulaText (codes "p cnf 01 0\n") f }
 {}
 
 /// A clause ends at its 0, and not at the end of a line. The tokens of a comment are none, inside a clause too.
 fn a_clause_ends_at_its_zero()
     ensures lines { let only : Cnf = record { vars = 2; clauses = (pos 1 ∷ pos 2 ∷ []) ∷ [] } in
-        (f : Cnf) → IsTextOf (codes "p cnf 2 1\n1\n2 0\n") f ↔ (f ≡ only) }
+        (f : Cnf) → IsFormulaText (codes "p cnf 2 1\n1\n2 0\n") f ↔ (f ≡ only) }
     ensures comment { let only : Cnf = record { vars = 2; clauses = (pos 1 ∷ pos 2 ∷ []) ∷ [] } in
-        (f : Cnf) → IsTextOf (codes "p cnf 2 1\n1\nc 1 0\n2 0\n") f ↔ (f ≡ only) }
+        (f : Cnf) → IsFormulaText (codes "p cnf 2 1\n1\nc 1 0\n2 0\n") f ↔ (f ≡ only) }
 {
     one_formula();
 }

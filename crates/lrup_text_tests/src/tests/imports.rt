@@ -1,7 +1,7 @@
 // Texts of imports, in every cutting, and writing them.
 
 use crate::tests::{feed_every_way, feed_repeated, holds, same};
-use lrup_text::{Line, LineFault, LineReader, Sink, Turn, Writing, write_line};
+use lrup_text::{Line, LineFault, LineReader, Sink, ReaderTurn, Writing, write_line};
 use std::test::Fail;
 use test_support::Paper;
 
@@ -26,7 +26,7 @@ fn imports_are_read(rt: HostRuntime) -> Result<(), Fail> {
             rt.alloc(),
             text,
             used,
-            Turn::Line(Line::Import { id, lits }),
+            ReaderTurn::Line(Line::Import { id, lits }),
         )?;
     }
     Ok(())
@@ -36,7 +36,7 @@ fn imports_are_read(rt: HostRuntime) -> Result<(), Fail> {
 fn unfinished_imports(rt: HostRuntime) -> Result<(), Fail> {
     let text = b"15 i -23 4 0";
     for end in 0..=text.len() {
-        feed_every_way(&rt, rt.alloc(), &text[..end], end, Turn::NeedMore)?;
+        feed_every_way(&rt, rt.alloc(), &text[..end], end, ReaderTurn::NeedMore)?;
     }
     Ok(())
 }
@@ -79,7 +79,7 @@ fn misspelled_imports(rt: HostRuntime) -> Result<(), Fail> {
             rt.alloc(),
             text,
             used,
-            Turn::Fault(LineFault::Spelling),
+            ReaderTurn::Fault(LineFault::Spelling),
         )?;
     }
     Ok(())
@@ -88,13 +88,13 @@ fn misspelled_imports(rt: HostRuntime) -> Result<(), Fail> {
 #[test]
 fn limits_of_imports(rt: HostRuntime) -> Result<(), Fail> {
     let alloc = rt.alloc();
-    let long = Turn::Fault(LineFault::TooLong);
+    let long = ReaderTurn::Fault(LineFault::TooLong);
     feed_every_way(&rt, alloc, b"5 i 1111111111111111111 0\n", 23, long)?;
     feed_every_way(&rt, alloc, b"5 i -1111111111111111111 0\n", 24, long)?;
     feed_every_way(&rt, alloc, b"1111111111111111111 i 0\n", 19, long)?;
     feed_repeated(&rt, alloc, (b"5 i", b" 1", b""), 65_536, 131_075, long)?;
     feed_repeated(&rt, alloc, (b"5 i", b" 1", b" -"), 65_535, 131_075, long)?;
-    let spelling = Turn::Fault(LineFault::Spelling);
+    let spelling = ReaderTurn::Fault(LineFault::Spelling);
     feed_repeated(
         &rt,
         alloc,
@@ -104,7 +104,7 @@ fn limits_of_imports(rt: HostRuntime) -> Result<(), Fail> {
         spelling,
     )?;
     let literals = vec![in alloc; 1; 65_535]?;
-    let longest = Turn::Line(Line::Import {
+    let longest = ReaderTurn::Line(Line::Import {
         id: 5,
         lits: &literals,
     });
@@ -149,9 +149,9 @@ fn kinds_follow_one_another(rt: HostRuntime) -> Result<(), Fail> {
         for (second, two) in kinds {
             for cut in 0..second.len() {
                 let mut reader = LineReader::new(rt.alloc())?;
-                same(&rt, reader.feed(first).turn, Turn::Line(one));
-                same(&rt, reader.feed(&second[..cut]).turn, Turn::NeedMore);
-                same(&rt, reader.feed(&second[cut..]).turn, Turn::Line(two));
+                same(&rt, reader.feed(first).turn, ReaderTurn::Line(one));
+                same(&rt, reader.feed(&second[..cut]).turn, ReaderTurn::NeedMore);
+                same(&rt, reader.feed(&second[cut..]).turn, ReaderTurn::Line(two));
             }
         }
     }
@@ -222,7 +222,7 @@ fn written_imports_are_read_again(rt: HostRuntime) -> Result<(), Fail> {
             write_line(&line, &mut sink)?;
         }
         let text = sink.into_inner();
-        feed_every_way(&rt, rt.alloc(), &text, text.len(), Turn::Line(line))?;
+        feed_every_way(&rt, rt.alloc(), &text, text.len(), ReaderTurn::Line(line))?;
     }
     Ok(())
 }

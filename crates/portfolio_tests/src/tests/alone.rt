@@ -2,9 +2,9 @@
 ghost use Rattle.std.specs.Prelude.{◌≡◌, [], Some, false, codes, length, map, IfOk};
 ghost use Rattle.std.specs.List.{AllByRecursion};
 ghost use Rattle.stream_check.specs.Laws.{IsOfMemory};
-ghost use Rattle.runs.specs.Closed.{CiteWithin, IsAt};
+ghost use Rattle.runs.specs.Closed.{CiteWithin, IsOfStream};
 ghost use Rattle.groups.specs.Groups.{one};
-ghost use Rattle.portfolio_tests.specs.Alone.{first_bytes, two_streams, usual, IsReportAlone};
+ghost use Rattle.portfolio_tests.specs.Alone.{first_bytes, layout_of_two, usual, IsReportAlone};
 
 use super::{BOTH, By, Open, bad_line, defaults, ended, readers_of, reports_of, same};
 use groups::laws::{alone_has_one_report, readers_closed, told_is_reading};
@@ -40,7 +40,7 @@ fn two_readers<'a>(
     ensures running { IfOk result (λ readers.
         AllByRecursion (λ r. r.failed ≡ false) readers.items) }
     ensures first { IfOk result (λ readers.
-        IsAt (map (λ r. Some r.left.now) readers.items) 1 (Some first.now)) }
+        IsOfStream (map (λ r. Some r.left.now) readers.items) 1 (Some first.now)) }
 {
     let readers = vec![in alloc; Pieces::new(first, 7, 0), Pieces::new(neighbour, 7, 0)]?;
     Ok(readers)
@@ -48,8 +48,8 @@ fn two_readers<'a>(
 
 /// The first report, where no read of the first reader failed.
 fn first_report(reports: &[Report], readers: &[Pieces<'_>]) -> Result<Report, Fail>
-    ensures report { IfOk result (λ report. IsAt reports.now 1 report) }
-    ensures failed { IfOk result (λ _. IsAt (map (λ r. r.failed) readers.now) 1 false) }
+    ensures report { IfOk result (λ report. IsOfStream reports.now 1 report) }
+    ensures failed { IfOk result (λ _. IsOfStream (map (λ r. r.failed) readers.now) 1 false) }
 {
     match (reports.first(), readers.first()) {
         (Some(report), Some(reader)) if !reader.failed() => Ok(*report),
@@ -64,7 +64,7 @@ fn said_by_threads<T: Threads + Wait + Sync>(
     first: &str,
     neighbour: &str,
 ) -> Result<Report, Fail>
-    requires { CiteWithin two_streams (one 1) first.now }
+    requires { CiteWithin layout_of_two (one 1) first.now }
     ensures { IfOk result (λ report. ¬ IsOfMemory report → IsReportAlone first.now report) }
 {
     readers_closed();
@@ -91,7 +91,7 @@ fn said_by_turns<W: Wait>(
     first: &str,
     neighbour: &str,
 ) -> Result<Report, Fail>
-    requires { CiteWithin two_streams (one 1) first.now }
+    requires { CiteWithin layout_of_two (one 1) first.now }
     ensures { IfOk result (λ report. ¬ IsOfMemory report → IsReportAlone first.now report) }
 {
     readers_closed();
@@ -144,7 +144,7 @@ fn said_in_two_runs<T: Threads + Wait + Sync>(
 
 /// A stream that only imports a neighbour's clause isn't closed.
 fn an_import_is_open()
-    ensures { ¬ CiteWithin two_streams (one 2) (codes "5 i 2 0\n") }
+    ensures { ¬ CiteWithin layout_of_two (one 2) (codes "5 i 2 0\n") }
 {
     a_stream_is_cut_in_one_way();
 }

@@ -8,7 +8,7 @@ use checker_support::{checker_at, open_map};
 use lrup_model::ClauseMap;
 use std::process::Abort;
 use std::test::Fail;
-use stream_check::{Checker, Ending, Report, Turn};
+use stream_check::{Checker, Ending, Report, CheckTurn};
 
 /// The first line is an addition, with three literals, and takes no memory. Each other deletes one identity more that is
 /// kept, and the second an own one before it: where line `L` is the one that wants memory, `L - 1` identities were deleted
@@ -46,11 +46,11 @@ fn feed_lines<R: Abort, M: ClauseMap>(rt: &R, checker: &mut Checker, map: &mut M
         let progress = checker.feed(map, &mut gate, line.as_bytes());
         same(rt, progress.used, line.len());
         if checker.is_over() {
-            same(rt, progress.turn, Turn::Over);
+            same(rt, progress.turn, CheckTurn::Over);
             stays_over(rt, checker, map);
             break;
         }
-        same(rt, progress.turn, Turn::Line);
+        same(rt, progress.turn, CheckTurn::Line);
     }
     checker.end();
 }
@@ -62,7 +62,7 @@ fn stays_over<R: Abort, M: ClauseMap>(rt: &R, checker: &mut Checker, map: &mut M
 {
     let said = checker.report();
     let more = checker.feed(map, &mut told_of(0, 0, 0), b"7 2 0 1 2 0\n");
-    same(rt, (more.used, more.turn), (0, Turn::Over));
+    same(rt, (more.used, more.turn), (0, CheckTurn::Over));
     same(rt, checker.report(), said);
 }
 

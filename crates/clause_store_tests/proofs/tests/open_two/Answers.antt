@@ -2,7 +2,7 @@ use Rattle.std.proofs.Common.{◌≡◌, ℕ, ◌++◌, List, [], ◌∷◌, len
 use Rattle.std.specs.Option.{option_to_list}
 use Rattle.test_support.specs.Worked.{four}
 use Rattle.clause_store.specs.Passes.{StoreValue, PassValue, IsOpened}
-use Rattle.clause_store_tests.specs.Worked.{IsAt}
+use Rattle.clause_store_tests.specs.Worked.{IsPassAt}
 use Rattle.lrup_model.specs.Formula.{Cnf}
 use Rattle.lrup_model.specs.Layout.{LayoutValue}
 use Rattle.lrup_model.specs.Place.{Caller}
@@ -17,7 +17,7 @@ two_taken ps qs (r ∷ rs) a b last first two =
     absurd (let n : length ps ≡ length (qs ++ b ∷ []) = ap length last in let m : length qs ≡ length (r ∷ rs ++ a ∷ []) = ap length first in
     omega (arith, length-append qs (b ∷ []), length-append (r ∷ rs) (a ∷ [])))
 
-is_at : (store : StoreValue) (f : Cnf) (s : ℕ) (p : PassValue) → f ≡ four → IsOpened store f s p → IsAt four store p
+is_at : (store : StoreValue) (f : Cnf) (s : ℕ) (p : PassValue) → f ≡ four → IsOpened store f s p → IsPassAt four store p
 is_at store f s p same opened = (opened.store, ap (λ (c : Caller). c.formula) opened.caller ∙ same)
 
 pub returns : goal.returns

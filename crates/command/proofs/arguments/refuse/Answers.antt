@@ -1,6 +1,6 @@
 use Rattle.std.proofs.Common.{subst, sym, ◌∙◌}
 use Rattle.command.proofs.ArgumentLemmas.{other_status, other_text}
-use Rattle.command.specs.Commands.{Takes, change}
+use Rattle.command.specs.Commands.{SinkTook, change}
 use Rattle.command.proofs.arguments.refuse.Goals as goal
 
 pub returns-in_default : goal.returns-in_default
@@ -9,6 +9,6 @@ returns-in_default g c =
     let said = c.say_not_utf8 in
     let err = change (g.E.Sink.written c.args.err.now) (g.E.Sink.written said.new.err) (g.E.Sink.has_failed said.new.err) in
     record {
-      said = subst (Takes err) (sym (other_text c.args.kind other)) said.ensures.said;
+      said = subst (SinkTook err) (sym (other_text c.args.kind other)) said.ensures.said;
       status = said.ensures.status ∙ sym (other_status c.args.kind other);
     }

@@ -1,7 +1,7 @@
 use Rattle.std.proofs.Common.{List, ℕ, ap, sym, ◌∙◌}
 use Rattle.dimacs.specs.Lines.{runs}
-use Rattle.dimacs.specs.Places.{run, after_run, with_run}
-use Rattle.dimacs.proofs.HeaderLemmas.{runs-at_token, run-run}
+use Rattle.dimacs.specs.Places.{first_run, after_run, with_run}
+use Rattle.dimacs.proofs.HeaderLemmas.{runs-at_token, first_run-run}
 use Rattle.dimacs.proofs.header.next_run.Goals as goal
 
 pub returns-clause-runs : goal.returns-clause-runs
@@ -13,4 +13,4 @@ returns-clause-runs c =
 
 pub returns-clause-whole : goal.returns-clause-whole
 returns-clause-whole c =
-    ap run c.split_run.ensures.run ∙ run-run c.skip_separators.result.now ∙ sym c.split_run.ensures.run
+    ap first_run c.split_run.ensures.run ∙ first_run-run c.skip_separators.result.now ∙ sym c.split_run.ensures.run

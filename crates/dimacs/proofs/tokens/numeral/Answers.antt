@@ -1,6 +1,6 @@
 use Rattle.std.proofs.Common.{◌≡◌, ℕ, List, [], refl, sym, ap, ◌∙◌, inl, inr, arith}
 use Rattle.dimacs.specs.Numerals.{is_numeral, all_digits}
-use Rattle.dimacs.specs.Places.{run, after_run}
+use Rattle.dimacs.specs.Places.{first_run, after_run}
 use Rattle.dimacs.proofs.NumeralLemmas.{numeral_none, numeral_broken, numeral_stops, numeral_read, numeral_large, ended_at_separator, ended_at_end, digits_more, value_more, after_run_more, is_numeral-begun}
 use Rattle.dimacs.proofs.tokens.numeral.Goals as goal
 use Rattle.dimacs.proofs.tokens.numeral.Goals.{then-first-eq48-via-then-first-eq48, then-first-eq48-via-else-first-eq48+then-not-is_digit, in-Some-split_first+then-not-is_digit-2+then-is_separator, in_default-split_first}
@@ -33,7 +33,7 @@ returns-in-None c =
     let text = c.args.text.now in
     let b = c.in-Some.field-0-0.now in
     let after = c.in-Some.rest.now in
-    ap (λ (x : List ℕ). is_numeral (run x)) c.in-Some.ensures.cases.0 ∙ is_numeral-begun b after (omega (arith, bound.0)) bound.1 ∙ sym c.loop-byte.invariant.digits ∙ c.in-None.ensures
+    ap (λ (x : List ℕ). is_numeral (first_run x)) c.in-Some.ensures.cases.0 ∙ is_numeral-begun b after (omega (arith, bound.0)) bound.1 ∙ sym c.loop-byte.invariant.digits ∙ c.in-None.ensures
 
 pub loop-byte-preserved : goal.loop-byte-preserved
 loop-byte-preserved c =
@@ -42,7 +42,7 @@ loop-byte-preserved c =
     let whole = c.in-Some-split_first.ensures.cases.0 in
     let bound = c.if-not-is_digit-2.ensures.bound refl in
     let before = c.loop-byte.invariant in record {
-      digits = sym (ap (λ (x : List ℕ). all_digits (run x)) whole ∙ digits_more b after bound.0 bound.1) ∙ before.digits;
+      digits = sym (ap (λ (x : List ℕ). all_digits (first_run x)) whole ∙ digits_more b after bound.0 bound.1) ∙ before.digits;
       number = value_more c.loop-byte.rest.now b after c.loop-byte.value c.from.result _ whole bound.0 c.from.ensures before.number;
       positive = omega (arith, before.positive);
       left = sym (ap after_run whole ∙ after_run_more b after bound.0) ∙ before.left;
@@ -52,7 +52,7 @@ pub returns : goal.returns
 returns c =
     let bound = c.if-not-is_digit.ensures.bound refl in
     let rest = c.loop-byte.rest.now in
-    let ended : (run rest ≡ []) × (after_run rest ≡ rest) = elim c.match-split_first-2.branch [
+    let ended : (first_run rest ≡ []) × (after_run rest ≡ rest) = elim c.match-split_first-2.branch [
       | in-Some-split_first+then-not-is_digit-2+then-is_separator w ↦ ended_at_separator rest w.in-Some-split_first.field-0-0.now w.in-Some-split_first.after.now w.in-Some-split_first.ensures.cases.0 (sym w.if-is_separator.ensures)
       | in_default-split_first w ↦ ended_at_end rest w.in_default-split_first.ensures.cases
     ] in

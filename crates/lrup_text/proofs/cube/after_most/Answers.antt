@@ -1,7 +1,7 @@
 use Rattle.std.proofs.Common.{◌∷◌, sym, subst, ◌∙◌, arith}
 use Rattle.std.proofs.lemmas.Bool.{true≢false, eq-eqb}
 use Rattle.lrup_text.specs.declared.cube.CubeFault.TheVariants.{TooLong}
-use Rattle.lrup_text.specs.CubeReading.{LiteralsFollow}
+use Rattle.lrup_text.specs.CubeReading.{CubeFollows}
 use Rattle.lrup_text.specs.Cubes.{IsTextFault}
 use Rattle.lrup_text.proofs.CubeRests.{literals_spelling, literals_long_digit, literals_long_minus}
 use Rattle.lrup_text.proofs.cube.after_most.Goals as goal
@@ -10,7 +10,7 @@ use Rattle.lrup_text.proofs.cube.after_most.Goals.{then-byte-eq45, else-byte-eq4
 pub returns-then-begins_number : goal.returns-then-begins_number
 returns-then-begins_number c after =
     elim c.if-byte-eq45.branch [
-      | then-byte-eq45 w ↦ subst (λ b. IsTextFault (LiteralsFollow 65535) (b ∷ after) TooLong) (sym w.if-byte-eq45.true) (literals_long_minus after)
+      | then-byte-eq45 w ↦ subst (λ b. IsTextFault (CubeFollows 65535) (b ∷ after) TooLong) (sym w.if-byte-eq45.true) (literals_long_minus after)
       | else-byte-eq45 w ↦
           let digit = w.begins_number.ensures.0 (sym w.value-is ∙ c.if-begins_number.true) in
           literals_long_digit c.args.byte after digit.0 digit.1

@@ -5,7 +5,7 @@ use Rattle.lrup_text.specs.ReadOut.{source_view}
 use Rattle.portfolio.specs.Outcomes.{layout_of, terms_of}
 use Rattle.runs.specs.StreamLemmas.{told_as_many}
 use Rattle.runs.specs.Streams.{Terms, tellings, terms_at}
-use Rattle.stream_threads.specs.Jobs.{IsFirstFault, stream_of}
+use Rattle.stream_threads.specs.Jobs.{IsFirstFault, fault_stream}
 use Rattle.portfolio.proofs.CubeLemmas.{sound_under_run}
 use Rattle.portfolio.proofs.HeadlineLemmas.{no_fault, not_layout, AreOpened, are_opened, are_ready, all_can_begin, ready_count, finish_of, finish_count, one_history, judged_by, judged_so, were_judged, sound_run}
 use Rattle.portfolio.proofs.threads.run.Goals as goal
@@ -198,7 +198,7 @@ returns-in-Err-Spawn-clause-spawn g c = λ stream e.
     let ready = are_ready view c.in_ok-store.store f terms 1 firsts passes.items jobs.items c.in_ok-jobs.ensures opened in
     let each : length jobs.items ≡ length firsts = ready_count view c.in_ok-store.store f terms 1 firsts jobs.items ready in
     let within = c.in-Err-Spawn.ensures.fault in
-    let is : stream_of c.in-Err-Spawn.field-0 ≡ c.in-Err-Spawn.stream = ap stream_of c.in-Err-Spawn.field-0-is in (
+    let is : fault_stream c.in-Err-Spawn.field-0 ≡ c.in-Err-Spawn.stream = ap fault_stream c.in-Err-Spawn.field-0-is in (
       omega (arith, within.0, here, is),
       omega (arith, within.1, here, is, jobs.ok.0, c.len-2.ensures, each),
     )
@@ -218,7 +218,7 @@ returns-clause-ring g c = λ stream e.
     let ready = are_ready view c.in_ok-store.store f terms 1 firsts passes.items jobs.items c.in_ok-jobs.ensures opened in
     let each : length jobs.items ≡ length firsts = ready_count view c.in_ok-store.store f terms 1 firsts jobs.items ready in
     let within = c.in-Err-Ring.ensures.fault in
-    let is : stream_of c.in-Err-Ring.field-0 ≡ c.in-Err-Ring.stream = ap stream_of c.in-Err-Ring.field-0-is in (
+    let is : fault_stream c.in-Err-Ring.field-0 ≡ c.in-Err-Ring.stream = ap fault_stream c.in-Err-Ring.field-0-is in (
       omega (arith, within.0, here, is),
       omega (arith, within.1, here, is, jobs.ok.0, c.len-2.ensures, each),
     )

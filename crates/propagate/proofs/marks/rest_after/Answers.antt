@@ -1,5 +1,5 @@
 use Rattle.std.proofs.Common.{◌+◌, ◌*◌, ◌∙◌}
-use Rattle.lrup_model.specs.Place.{text_of}
+use Rattle.lrup_model.specs.Place.{clip_clause}
 use Rattle.lrup_model.specs.PassLemmas.{known_follows}
 use Rattle.propagate.specs.declared.marks.Left.TheVariants.{One}
 use Rattle.propagate.proofs.MarkLemmas.{IsLiteral-known}
@@ -21,7 +21,7 @@ are_false-requires-clause-second g c = λ l same.
 pub returns-then-not-are_false-clause-left : goal.returns-then-not-are_false-clause-left
 returns-then-not-are_false-clause-left g c =
     let place = g.M.ClauseMap.place c.args.map.now in
-    let d = text_of place c.args.clip.now in
+    let d = clip_clause place c.args.clip.now in
     let n = c.args.falses.now.literals in
     let at = rw c.loop-i.invariant.stays at c.pair-first.ensures.first in
     let at' = rw c.loop-i.invariant.stays at c.pair-first.ensures.second in
@@ -34,7 +34,7 @@ returns-then-not-are_false-clause-event g c = g.met.M.ClauseMap.moves_append _ _
 pub loop-i-preserved : goal.loop-i-preserved
 loop-i-preserved g c =
     let place = g.M.ClauseMap.place c.args.map.now in
-    let d = text_of place c.args.clip.now in
+    let d = clip_clause place c.args.clip.now in
     let n = c.args.falses.now.literals in
     let at = rw c.loop-i.invariant.stays at c.pair-first.ensures.first in
     let at' = rw c.loop-i.invariant.stays at c.pair-first.ensures.second in

@@ -1,5 +1,5 @@
 use Rattle.std.proofs.Common.{◌+◌, ◌*◌, ◌∙◌, take, subst, sym}
-use Rattle.lrup_model.specs.Place.{text_of}
+use Rattle.lrup_model.specs.Place.{clip_clause}
 use Rattle.lrup_model.specs.PassLemmas.{known_follows}
 use Rattle.lrup_model.specs.Propagation.{IsUnit}
 use Rattle.propagate.specs.Left.{IsLeft}
@@ -23,14 +23,14 @@ are_false-requires-clause-second g c = λ l same.
 pub rest_after-requires-clause-left : goal.rest_after-requires-clause-left
 rest_after-requires-clause-left g c =
     let place = g.M.ClauseMap.place c.args.map.now in
-    let d = text_of place c.args.clip.now in
+    let d = clip_clause place c.args.clip.now in
     let n = c.args.falses.now.literals in
     let once = (known_follows place c.args.clip.now c.requires.follow c.requires.known).0.each_once in
     let at = rw c.loop-i.invariant.stays at c.pair-first.ensures.first in
     let at' = rw c.loop-i.invariant.stays at c.pair-first.ensures.second in
     let after = c.left_with_pair.ensures d c.loop-i.i once at at' c.loop-i.invariant.left in
     let unit = subst (IsLeft n (take (2 * (c.loop-i.i + 1)) d)) c.in-One.is after in
-    subst (λ p. IsUnit n (take (2 * (c.loop-i.i + 1)) (text_of p c.args.clip.now)) c.in-One.lit) (sym (c.pair-first.ensures.stays ∙ c.loop-i.invariant.stays)) unit
+    subst (λ p. IsUnit n (take (2 * (c.loop-i.i + 1)) (clip_clause p c.args.clip.now)) c.in-One.lit) (sym (c.pair-first.ensures.stays ∙ c.loop-i.invariant.stays)) unit
 
 pub returns-in-One-clause-event : goal.returns-in-One-clause-event
 returns-in-One-clause-event g c =
@@ -40,7 +40,7 @@ returns-in-One-clause-event g c =
 pub returns-in-More-clause-left : goal.returns-in-More-clause-left
 returns-in-More-clause-left g c =
     let place = g.M.ClauseMap.place c.args.map.now in
-    let d = text_of place c.args.clip.now in
+    let d = clip_clause place c.args.clip.now in
     let n = c.args.falses.now.literals in
     let once = (known_follows place c.args.clip.now c.requires.follow c.requires.known).0.each_once in
     let at = rw c.loop-i.invariant.stays at c.pair-first.ensures.first in
@@ -54,7 +54,7 @@ returns-in-More-clause-event g c = g.met.M.ClauseMap.moves_append _ _ _ _ _ c.lo
 pub loop-i-preserved : goal.loop-i-preserved
 loop-i-preserved g c =
     let place = g.M.ClauseMap.place c.args.map.now in
-    let d = text_of place c.args.clip.now in
+    let d = clip_clause place c.args.clip.now in
     let n = c.args.falses.now.literals in
     let once = (known_follows place c.args.clip.now c.requires.follow c.requires.known).0.each_once in
     let at = rw c.loop-i.invariant.stays at c.pair-first.ensures.first in
@@ -80,7 +80,7 @@ left_with_pair-requires-clause-second g c = λ l same.
 
 pub loop-i-preserved-then-are_false : goal.loop-i-preserved-then-are_false
 loop-i-preserved-then-are_false g c =
-    let d = text_of (g.M.ClauseMap.place c.args.map.now) c.args.clip.now in
+    let d = clip_clause (g.M.ClauseMap.place c.args.map.now) c.args.clip.now in
     let at = rw c.loop-i.invariant.stays at c.pair-first.ensures.first in
     let at' = rw c.loop-i.invariant.stays at c.pair-first.ensures.second in
     record {

@@ -1,11 +1,11 @@
-use Rattle.lrup_model.specs.Place.{text_of}
+use Rattle.lrup_model.specs.Place.{clip_clause}
 use Rattle.lrup_model.specs.PassLemmas.{known_follows}
 use Rattle.propagate.proofs.trail.take_clause.Goals as goal
 
 pub returns-then-not-take_pair-clause-no : goal.returns-then-not-take_pair-clause-no
 returns-then-not-take_pair-clause-no g c = λ no.
     let place = g.M.ClauseMap.place c.args.map.now in
-    let d = text_of place c.args.clip.now in
+    let d = clip_clause place c.args.clip.now in
     let once = (known_follows place c.args.clip.now c.requires.follow c.requires.known).0.each_once in
     let at = rw c.loop-i.invariant.stays at c.pair-first.ensures.first in
     let at' = rw c.loop-i.invariant.stays at c.pair-first.ensures.second in
@@ -17,7 +17,7 @@ returns-then-not-take_pair-clause-event g c = g.met.M.ClauseMap.moves_append _ _
 pub loop-i-preserved : goal.loop-i-preserved
 loop-i-preserved g c =
     let place = g.M.ClauseMap.place c.args.map.now in
-    let d = text_of place c.args.clip.now in
+    let d = clip_clause place c.args.clip.now in
     let at = rw c.loop-i.invariant.stays at c.pair-first.ensures.first in
     let at' = rw c.loop-i.invariant.stays at c.pair-first.ensures.second in
     record {

@@ -1,9 +1,9 @@
 use Rattle.std.proofs.Common.{◌≡◌}
-use Rattle.lrup_model.specs.Desk.{desk_place}
+use Rattle.lrup_model.specs.Desk.{plain_desk_place}
 use Rattle.propagate_tests.proofs.tests.a_clause_is_compared_as_a_set.Given as goal
 
 abbrev pub invariant-loop-id : goal.invariant-loop-id
 invariant-loop-id g l = record {
   marks : l.marks.vars ≡ 3;
-  formula : (desk_place l.desk).caller.formula.vars ≡ 3;
+  formula : (plain_desk_place l.desk).caller.formula.vars ≡ 3;
 }

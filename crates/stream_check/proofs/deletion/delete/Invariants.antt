@@ -2,7 +2,7 @@ use Rattle.std.proofs.Common.{◌≡◌, ◌+◌, ◌++◌, ℕ, List, [], take}
 use Rattle.std.specs.List.{AllByRecursion}
 use Rattle.lrup_model.specs.Event.{History}
 use Rattle.stream_check.specs.Standing.{is_among, capped}
-use Rattle.stream_check.specs.Verdicts.{Verdict}
+use Rattle.stream_check.specs.Verdicts.{LineVerdict}
 use Rattle.stream_check.specs.Deletions.{JudgesIdentities}
 use Rattle.stream_check.specs.Checking.{IsRetire, AreDropped}
 use Rattle.stream_check.specs.Checker.{KeepsLines, deleted_at}
@@ -17,7 +17,7 @@ invariant-loop-id g l =
       count : deleted_at l.held ≡ capped (deleted_at old + l.id-index);
       dropped : AreDropped old.setting old.dropped.ids earlier l.held.dropped.ids;
       deleted : (es : History) × g.M.ClauseMap.moves l.initial.map l.map es × AllByRecursion IsRetire es
-          × ((more : List ℕ) (rest : History) (v : Verdict)
+          × ((more : List ℕ) (rest : History) (v : LineVerdict)
           → JudgesIdentities old.setting (is_among old.dropped.ids) earlier more rest v
           → JudgesIdentities old.setting (is_among old.dropped.ids) [] (earlier ++ more) (es ++ rest) v);
     }

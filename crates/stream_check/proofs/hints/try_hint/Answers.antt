@@ -1,5 +1,5 @@
 use Rattle.std.proofs.Common.{◌≡◌, ◌∙◌, ℕ, Bool, false, [], sym, subst, append-nil}
-use Rattle.lrup_model.specs.Place.{text_of}
+use Rattle.lrup_model.specs.Place.{clip_clause}
 use Rattle.stream_check.specs.Standing.{is_among}
 use Rattle.stream_check.proofs.TryLemmas.{asks_fetches, tries_vacant, tries_retired, tries_unit, tries_conflict, tries_not_unit, derived_before, variables_before, variables_fit}
 use Rattle.stream_check.proofs.hints.try_hint.Goals as goal
@@ -44,7 +44,7 @@ returns-in-Unit-clause-tried g c =
       asked.0,
       subst (g.M.ClauseMap.moves c.args.map.now c.hint.new.map) (append-nil asked.0) moved,
       asks_fetches s c.args.hint asked.0 _ asked.2,
-      tries_unit s gone p.caller.formula c.args.marks.now c.hint.new.self c.args.hint asked.0 (text_of q c.in-Live.clip) kept asked.2 derived c.in-Unit.ensures.step,
+      tries_unit s gone p.caller.formula c.args.marks.now c.hint.new.self c.args.hint asked.0 (clip_clause q c.in-Live.clip) kept asked.2 derived c.in-Unit.ensures.step,
     )
 
 pub returns-in-Conflict-clause-tried : goal.returns-in-Conflict-clause-tried
@@ -63,7 +63,7 @@ returns-in-Conflict-clause-tried g c =
       asked.0,
       subst (g.M.ClauseMap.moves c.args.map.now c.hint.new.map) (append-nil asked.0) moved,
       asks_fetches s c.args.hint asked.0 _ asked.2,
-      tries_conflict s gone p.caller.formula c.args.marks.now c.hint.new.self c.args.hint asked.0 (text_of q c.in-Live.clip) kept asked.2 derived variables c.in-Conflict.ensures.step,
+      tries_conflict s gone p.caller.formula c.args.marks.now c.hint.new.self c.args.hint asked.0 (clip_clause q c.in-Live.clip) kept asked.2 derived variables c.in-Conflict.ensures.step,
     )
 
 pub returns-in-NotUnit-clause-tried : goal.returns-in-NotUnit-clause-tried
@@ -78,5 +78,5 @@ returns-in-NotUnit-clause-tried g c =
       asked.0,
       subst (g.M.ClauseMap.moves c.args.map.now c.hint.new.map) (append-nil asked.0) moved,
       asks_fetches s c.args.hint asked.0 _ asked.2,
-      tries_not_unit s gone f c.args.marks.now c.hint.new.self c.args.hint asked.0 (text_of q c.in-Live.clip) kept asked.2 c.in-NotUnit.ensures.step,
+      tries_not_unit s gone f c.args.marks.now c.hint.new.self c.args.hint asked.0 (clip_clause q c.in-Live.clip) kept asked.2 c.in-NotUnit.ensures.step,
     )

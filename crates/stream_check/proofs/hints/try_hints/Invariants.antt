@@ -5,7 +5,7 @@ use Rattle.lrup_model.specs.Entailment.{IsDerived}
 use Rattle.lrup_model.specs.Event.{Event, History}
 use Rattle.propagate.specs.Hints.{Leads}
 use Rattle.stream_check.specs.Standing.{is_among}
-use Rattle.stream_check.specs.Verdicts.{Verdict}
+use Rattle.stream_check.specs.Verdicts.{LineVerdict}
 use Rattle.stream_check.specs.Additions.{JudgesHints}
 use Rattle.stream_check.specs.Checking.{IsFetch, KeepsClause}
 use Rattle.stream_check.proofs.hints.try_hints.Given as goal
@@ -18,7 +18,7 @@ invariant-hints g l =
       kept : KeepsClause l.initial.marks l.marks;
       led : (es : History) × g.M.ClauseMap.moves l.initial.map l.map es × AllByRecursion IsFetch es
           × ((ds : List Clause) × AllByRecursion (IsDerived f) ds × Leads l.initial.marks.falses ds l.marks.falses)
-          × ((e : Event) (rest : History) (v : Verdict)
+          × ((e : Event) (rest : History) (v : LineVerdict)
           → JudgesHints l.setting (is_among l.dropped.ids) e l.marks.falses l.left rest v
           → JudgesHints l.setting (is_among l.dropped.ids) e l.initial.marks.falses l.hints (es ++ rest) v);
     }

@@ -1,7 +1,7 @@
 use Rattle.std.proofs.Common.{◌++◌, ◌∙◌, ℕ, List, [], refl, sym, subst, take, map, rules}
 use Rattle.std.proofs.lemmas.List.{length-take-le}
 use Rattle.rtrb.specs.Ring.{received}
-use Rattle.stream_check.specs.Checker.{LeavesOn, state_of}
+use Rattle.stream_check.specs.Checker.{LeavesOn, checker_state}
 use Rattle.stream_check.specs.ReportLemmas.{joined-append, leaves_still}
 use Rattle.stream_ring.specs.Items.{byte_of}
 use Rattle.stream_jobs.proofs.JudgingLemmas.{leaves_more}
@@ -9,7 +9,7 @@ use Rattle.stream_jobs.proofs.checking.check_received.Goals as goal
 
 pub loop-init : goal.loop-init
 loop-init g c =
-    let state = state_of c.args.checker.now (g.M.ClauseMap.place c.args.map.now).room in
+    let state = checker_state c.args.checker.now (g.M.ClauseMap.place c.args.map.now).room in
     record {
       next = (tt, tt);
       ring = search rules;
@@ -46,7 +46,7 @@ loop-preserved g c =
       took = (
         old.0 ++ fed.0,
         subst (g.M.ClauseMap.moves start end) (sym (joined-append old.0 fed.0)) (g.met.M.ClauseMap.moves_append start mid end _ _ old.1 fed.1),
-        leaves_more c.args.checker.now.setting c.loop.checker.setting _ _ (state_of c.take_all.new.checker (g.M.ClauseMap.place end).room)
+        leaves_more c.args.checker.now.setting c.loop.checker.setting _ _ (checker_state c.take_all.new.checker (g.M.ClauseMap.place end).room)
             (map byte_of (received c.loop.receiver.consumer)) _ (map byte_of (received c.receive.new.self.consumer)) old.0 fed.0
             c.loop.invariant.setting came.1 old.2 fed.2,
       );
@@ -72,7 +72,7 @@ returns-in-Mark-clause-took g c =
       old.0 ++ fed.0,
       subst (g.M.ClauseMap.moves start end) (sym (joined-append old.0 fed.0)) (g.met.M.ClauseMap.moves_append start mid end _ _ old.1 fed.1),
       came.1,
-      leaves_more c.args.checker.now.setting c.loop.checker.setting _ _ (state_of c.take_all-in-Mark.new.checker (g.M.ClauseMap.place end).room)
+      leaves_more c.args.checker.now.setting c.loop.checker.setting _ _ (checker_state c.take_all-in-Mark.new.checker (g.M.ClauseMap.place end).room)
           (map byte_of (received c.loop.receiver.consumer)) (take c.in-Mark.count c.receive.new.bytes) bytes old.0 fed.0
           c.loop.invariant.setting refl old.2 fed.2,
     )

@@ -1,7 +1,7 @@
 use Rattle.std.proofs.Common.{◌≡◌, ◌<◌, List, length, map}
 use Rattle.lrup_model.specs.Event.{History}
 use Rattle.rtrb.specs.Ring.{received, SameConsumer}
-use Rattle.stream_check.specs.Checker.{IsReadyAt, LeavesOn, state_of}
+use Rattle.stream_check.specs.Checker.{IsReadyAt, LeavesOn, checker_state}
 use Rattle.stream_check.specs.Judging.{joined}
 use Rattle.stream_ring.specs.Items.{byte_of}
 use Rattle.stream_jobs.proofs.checking.check_received.Given as goal
@@ -18,5 +18,5 @@ invariant-loop g l =
       ready : IsReadyAt l.checker q;
       setting : l.checker.setting ≡ l.fn.checker.setting;
       took : (blocks : List History) × g.M.ClauseMap.moves l.fn.map l.map (joined blocks)
-          × LeavesOn l.fn.checker.setting (state_of l.fn.checker p.room) (map byte_of (received l.receiver.consumer)) blocks (state_of l.checker q.room);
+          × LeavesOn l.fn.checker.setting (checker_state l.fn.checker p.room) (map byte_of (received l.receiver.consumer)) blocks (checker_state l.checker q.room);
     }

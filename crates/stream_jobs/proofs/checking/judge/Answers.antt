@@ -1,5 +1,5 @@
 use Rattle.std.proofs.Common.{[], sym, subst}
-use Rattle.stream_check.specs.Checker.{state_of}
+use Rattle.stream_check.specs.Checker.{checker_state}
 use Rattle.stream_check.specs.Judging.{JudgesBlocks}
 use Rattle.stream_check.specs.Leaving.{Leaves}
 use Rattle.stream_check.specs.Setting.{Setting}
@@ -21,6 +21,6 @@ returns-clause-judged g c =
         marked = took.3;
         judged = λ fresh. subst (λ (d : Setting). JudgesBlocks d took.0 (end_of has_failed) took.1 c.settle.result) setting
             (c.settle.ensures took.0 took.1 free
-            (subst (λ (d : Setting). Leaves d took.0 took.1 (state_of checker free)) (sym setting) (took.4 [] [] fresh)));
+            (subst (λ (d : Setting). Leaves d took.0 took.1 (checker_state checker free)) (sym setting) (took.4 [] [] fresh)));
       },
     )

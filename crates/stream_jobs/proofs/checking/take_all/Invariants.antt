@@ -1,6 +1,6 @@
 use Rattle.std.proofs.Common.{◌≡◌, ◌+◌, ◌≤◌, ◌++◌, ℕ, List, length}
 use Rattle.lrup_model.specs.Event.{History}
-use Rattle.stream_check.specs.Checker.{IsReadyAt, LeavesOn, state_of}
+use Rattle.stream_check.specs.Checker.{IsReadyAt, LeavesOn, checker_state}
 use Rattle.stream_check.specs.Judging.{joined}
 use Rattle.stream_jobs.proofs.checking.take_all.Given as goal
 
@@ -13,5 +13,5 @@ invariant-loop g l =
       ready : IsReadyAt l.checker q;
       setting : l.checker.setting ≡ l.fn.checker.setting;
       took : (front : List ℕ) × (blocks : List History) × (l.fn.piece ≡ front ++ l.rest) × g.M.ClauseMap.moves l.fn.map l.map (joined blocks)
-          × LeavesOn l.fn.checker.setting (state_of l.fn.checker p.room) front blocks (state_of l.checker q.room);
+          × LeavesOn l.fn.checker.setting (checker_state l.fn.checker p.room) front blocks (checker_state l.checker q.room);
     }

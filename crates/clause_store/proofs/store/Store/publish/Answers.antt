@@ -5,7 +5,8 @@ use Rattle.lrup_model.specs.Event as events
 use Rattle.lrup_model.specs.Pass.{View}
 use Rattle.lrup_model.specs.declared.clause_map.Published.{Published}
 use Rattle.idwords.specs.Seats.{SeatValue}
-use Rattle.clause_store.specs.Passes.{PassValue, Calls, pass_value}
+use Rattle.idwords.specs.Steps.{Calls}
+use Rattle.clause_store.specs.Passes.{PassValue, pass_value}
 use Rattle.clause_store.specs.declared.pass.Pass.TheInside.{Inside}
 use Rattle.clause_store.proofs.RestLemmas.{rests}
 use Rattle.clause_store.proofs.store.Store.publish.Goals as goal

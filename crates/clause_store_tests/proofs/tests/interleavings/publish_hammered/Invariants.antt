@@ -1,5 +1,5 @@
-use Rattle.clause_store_tests.specs.Worked.{IsAt, raced}
+use Rattle.clause_store_tests.specs.Worked.{IsPassAt, raced}
 use Rattle.clause_store_tests.proofs.tests.interleavings.publish_hammered.Given as goal
 
 abbrev pub invariant-loop-line : goal.invariant-loop-line
-invariant-loop-line g l = IsAt raced l.store l.pass
+invariant-loop-line g l = IsPassAt raced l.store l.pass

@@ -1,5 +1,5 @@
-use Rattle.clause_store_tests.specs.Worked.{IsAt, raced}
+use Rattle.clause_store_tests.specs.Worked.{IsPassAt, raced}
 use Rattle.clause_store_tests.proofs.tests.memory.call_often.Given as goal
 
 abbrev pub invariant-loop-line : goal.invariant-loop-line
-invariant-loop-line g l = IsAt raced l.store l.first × IsAt raced l.store l.second
+invariant-loop-line g l = IsPassAt raced l.store l.first × IsPassAt raced l.store l.second

@@ -2,7 +2,7 @@ use Rattle.std.proofs.Common.{◌≡◌, ℕ, List, [], ◌∷◌, Some, cond, c
 use Rattle.std.proofs.lemmas.Bool.{eqb-true}
 use Rattle.lrup_model.specs.Formula.{Cnf}
 use Rattle.lrup_text.specs.Reads.{ReadsOf}
-use Rattle.dimacs.specs.FormulaText.{IsTextOf}
+use Rattle.dimacs.specs.FormulaText.{IsFormulaText}
 use Rattle.command.specs.Commands.{WasRead}
 use Rattle.command_tests.proofs.tests.told.refutes_by_its_end.Goals as goal
 
@@ -10,8 +10,8 @@ use Rattle.command_tests.proofs.tests.told.refutes_by_its_end.Goals as goal
 read_is_told : (R : Type 0) (opens : List ℕ → R → Type 0) (reads : ReadsOf R) (formula stream path bytes : List ℕ) → path ≡ codes "f" → WasRead R opens reads (λ p. Some (cond (nat_eq (length p) 1) formula stream)) path bytes → formula ≡ bytes
 read_is_told R opens reads formula stream path bytes is read = read.told formula (ap (λ (p : List ℕ). Some (cond (nat_eq (length p) 1) formula stream)) is)
 
-text_is_told : (formula bytes : List ℕ) (f : Cnf) → formula ≡ bytes → IsTextOf bytes f → IsTextOf formula f
-text_is_told formula bytes f same text = subst (λ (x : List ℕ). IsTextOf x f) (sym same) text
+text_is_told : (formula bytes : List ℕ) (f : Cnf) → formula ≡ bytes → IsFormulaText bytes f → IsFormulaText formula f
+text_is_told formula bytes f same text = subst (λ (x : List ℕ). IsFormulaText x f) (sym same) text
 
 pub returns : goal.returns
 returns g c zero =

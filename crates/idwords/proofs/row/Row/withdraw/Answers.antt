@@ -5,7 +5,7 @@ use Rattle.atomic_table.specs.Table.{step, Me}
 use Rattle.lrup_model.specs.Pass.{IsFair}
 use Rattle.lrup_model.specs.OwnerLemmas.{owned}
 use Rattle.lrup_model.specs.Layout.{Owns}
-use Rattle.idwords.specs.Words.{state_of}
+use Rattle.idwords.specs.Words.{word_state}
 use Rattle.idwords.specs.Rule.{Part, part_stream}
 use Rattle.idwords.specs.Seats.{SeatValue, first_part, part_of}
 use Rattle.idwords.specs.Steps.{Changes, Finds, Retires}
@@ -37,7 +37,7 @@ compare_exchange-requires c =
     let v : Part = first_part token.me.0 in
     let one = step {S = ℕ} shared.table_id.slots c.args.id found (found + 1) none in
     let told = c.load-found.ensures.2 v (ap (λ (m : Me ℕ (List Part)). m.0) c.seat.invariant.one) in
-    let live : state_of found ≡ 1 = sym c.state.ensures ∙ c.if-state-ne-LIVE.false in
+    let live : word_state found ≡ 1 = sym c.state.ensures ∙ c.if-state-ne-LIVE.false in
     let stays : told.0 ≡ v = told.3.live live in
     let me : new.me ≡ (v ∷ [], []) = ap₂ (λ (vs : List Part) (slots : List (ℕ × ℕ)). (vs, slots)) (told.1 ∙ ap (λ (u : Part). u ∷ []) stays)
     (told.2 ∙ ap (λ (m : Me ℕ (List Part)). m.1) c.seat.invariant.one) in

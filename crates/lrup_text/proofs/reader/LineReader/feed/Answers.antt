@@ -1,5 +1,5 @@
 use Rattle.std.proofs.Common.{refl, ◌∙◌, ap, subst}
-use Rattle.lrup_text.specs.Feeding.{state_of}
+use Rattle.lrup_text.specs.Feeding.{reader_state}
 use Rattle.lrup_text.specs.Reading.{StepsThrough, pending}
 use Rattle.lrup_text.proofs.Feeding.{fed_more, fed_line, fed_fault, fed_at, fed_bound, no_fault}
 use Rattle.lrup_text.proofs.reader.LineReader.feed.Goals as goal
@@ -12,7 +12,7 @@ returns c =
     let used = c.read-taken.result.used in
     let next = c.read-taken.new.self in
     let old = no_fault before c.self.view_is c.in_default.is in
-    let after = ap (λ f. state_of f (pending next)) c.in_default.is in
+    let after = ap (λ f. reader_state f (pending next)) c.in_default.is in
     elim c.match-taken.branch [
       | in-More w ↦
           let taken = subst (λ s. StepsThrough before piece used s next) w.in-More.is c.read-taken.ensures in

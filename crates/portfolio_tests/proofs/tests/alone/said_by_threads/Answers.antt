@@ -2,7 +2,7 @@ use Rattle.std.proofs.Common.{List, Some, false, map, subst}
 use Rattle.stream_check.specs.declared.report.Report.{Report}
 use Rattle.test_support.specs.declared.devices.Pieces.{Pieces}
 use Rattle.lrup_text.specs.ReadOut.{source_view}
-use Rattle.runs.specs.Closed.{IsAt}
+use Rattle.runs.specs.Closed.{IsOfStream}
 use Rattle.portfolio_tests.proofs.AloneLemmas.{if_both, of_two, report_alone}
 use Rattle.portfolio_tests.proofs.tests.alone.said_by_threads.Goals as goal
 
@@ -16,5 +16,5 @@ returns g c =
     report_alone c.readers_closed.ensures c.told_is_reading.ensures view c.in_ok-readers.readers.items c.in_ok-outcome.outcome.readers.items c.args.first.now _ _ report stands.streams
     (of_two _ _ _ _ _ _ _ c.usual_options.ensures c.empty.ensures c.in_ok-formula.ensures c.in_ok-readers.ensures.two ran.isolated)
     stands.are_told stands.judged.2 stands.judged.1 c.requires c.in_ok-readers.ensures.first
-    (subst (λ (readers : List Pieces). IsAt (map (λ r. r.failed) readers) 1 false) c.deref-2.ensures.value fine)
-    (subst (λ (reports : List Report). IsAt reports 1 report) c.deref.ensures.value says))
+    (subst (λ (readers : List Pieces). IsOfStream (map (λ r. r.failed) readers) 1 false) c.deref-2.ensures.value fine)
+    (subst (λ (reports : List Report). IsOfStream reports 1 report) c.deref.ensures.value says))

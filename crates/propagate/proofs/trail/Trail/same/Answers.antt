@@ -1,6 +1,6 @@
 use Rattle.lrup_model.specs.ClauseLemmas.{All-from_Has}
 use Rattle.lrup_model.specs.Literal.{IsLiteral}
-use Rattle.lrup_model.specs.Place.{text_of}
+use Rattle.lrup_model.specs.Place.{clip_clause}
 use Rattle.lrup_model.specs.PassLemmas.{known_follows}
 use Rattle.propagate.proofs.MarkLemmas.{IsLiteral-read}
 use Rattle.propagate.proofs.TakenLemmas.{HaveMarks-literals}
@@ -9,7 +9,7 @@ use Rattle.propagate.proofs.trail.Trail.same.Goals as goal
 pub is_same-requires-clause-clause : goal.is_same-requires-clause-clause
 is_same-requires-clause-clause g c =
     let place = g.M.ClauseMap.place c.args.map.now in
-    let d = text_of place c.args.clip.now in
+    let d = clip_clause place c.args.clip.now in
     let clause = (known_follows place c.args.clip.now c.requires.follow c.requires.known).0 in
     let le = rw (← c.self.view_is) at c.requires.variables in
     let literals = All-from_Has (IsLiteral c.self.inside.vars) d (λ l h. IsLiteral-read place.caller.formula.vars c.self.inside.vars d l clause le h) in
@@ -23,7 +23,7 @@ is_same-requires-clause-literals g c =
 pub is_same-requires-clause-unmarked : goal.is_same-requires-clause-unmarked
 is_same-requires-clause-unmarked g c =
     let place = g.M.ClauseMap.place c.args.map.now in
-    let d = text_of place c.args.clip.now in
+    let d = clip_clause place c.args.clip.now in
     let clause = (known_follows place c.args.clip.now c.requires.follow c.requires.known).0 in
     let le = rw (← c.self.view_is) at c.requires.variables in
     let empty = rw (← c.self.view_is) at c.requires.empty in

@@ -2,7 +2,7 @@ use Rattle.std.proofs.Common.{◌≡◌, ◌≤◌, ℕ, false, [], inl, inr, na
 use Rattle.std.specs.List.{AllByRecursion}
 use Rattle.std.proofs.lemmas.Bool.{true≢false}
 use Rattle.lrup_model.specs.Literal.{IsLiteral}
-use Rattle.lrup_model.specs.Place.{text_of}
+use Rattle.lrup_model.specs.Place.{clip_clause}
 use Rattle.stream_check.specs.Imports.{HasSame}
 use Rattle.stream_check.specs.Standing.{is_among}
 use Rattle.stream_check.specs.Checker.{standing_at}
@@ -67,7 +67,7 @@ returns-then-same-clause-judged g c =
     let within : AllByRecursion (IsLiteral s.layout.vars) lits =
     subst (λ (n : ℕ). AllByRecursion (IsLiteral n) lits) (sym c.requires.variables) (c.if-not-read_literals.ensures.within.0 refl) in
     let read : c.deref.result.now ≡ lits = c.deref.ensures.value ∙ c.if-not-read_literals.ensures.literals in
-    let same : HasSame (text_of q c.in-Live.clip) lits = subst (HasSame (text_of q c.in-Live.clip)) read (c.same.ensures.same.0 c.if-same.true) in
+    let same : HasSame (clip_clause q c.in-Live.clip) lits = subst (HasSame (clip_clause q c.in-Live.clip)) read (c.same.ensures.same.0 c.if-same.true) in
     let asked = c.in-Live.ensures.asked in
     let moved = g.met.M.ClauseMap.moves_append c.args.map.now c.ask.new.map c.same.new.map asked.0 [] asked.1 c.same.ensures.event in (
       asked.0,
@@ -87,7 +87,7 @@ returns-else-same-clause-judged g c =
     let within : AllByRecursion (IsLiteral s.layout.vars) lits =
     subst (λ (n : ℕ). AllByRecursion (IsLiteral n) lits) (sym c.requires.variables) (c.if-not-read_literals.ensures.within.0 refl) in
     let read : c.deref.result.now ≡ lits = c.deref.ensures.value ∙ c.if-not-read_literals.ensures.literals in
-    let other : HasSame (text_of q c.in-Live.clip) lits → ⊥ = λ same. true≢false (sym (c.same.ensures.same.1 (subst (HasSame (text_of q c.in-Live.clip)) (sym read) same)) ∙ c.if-same.false) in
+    let other : HasSame (clip_clause q c.in-Live.clip) lits → ⊥ = λ same. true≢false (sym (c.same.ensures.same.1 (subst (HasSame (clip_clause q c.in-Live.clip)) (sym read) same)) ∙ c.if-same.false) in
     let asked = c.in-Live.ensures.asked in
     let moved = g.met.M.ClauseMap.moves_append c.args.map.now c.ask.new.map c.same.new.map asked.0 [] asked.1 c.same.ensures.event in (
       asked.0,

@@ -3,14 +3,14 @@ use Rattle.std.proofs.lemmas.List.{take_all}
 use Rattle.lrup_text.specs.Lines.{IsPending, Cut, LineText}
 use Rattle.stream_check.specs.Leaving.{Over}
 use Rattle.stream_check.specs.CheckerValue.{CheckerValue}
-use Rattle.stream_check.specs.Checker.{read_of, value_of, state_of, report_at, tally_at, LeavesOn, StopsAt}
+use Rattle.stream_check.specs.Checker.{read_of, value_of, checker_state, report_at, tally_at, LeavesOn, StopsAt}
 use Rattle.stream_check.specs.ReportLemmas.{leaves_still}
 use Rattle.stream_check.proofs.FeedLemmas.{some_of, none_of, not_over, feeds_line, feeds_more, front_cut, line_cut, ready_inside, sound_on, reads_on, feeds_stopped, stops_at}
 use Rattle.stream_check.proofs.checker.Checker.feed.Goals as goal
 
 pub returns-then-is_some-clause-left : goal.returns-then-is_some-clause-left
 returns-then-is_some-clause-left g c =
-    ([], g.met.M.ClauseMap.moves_none c.args.map.now, omega arith, leaves_still c.args.self.now.setting (state_of c.args.self.now (g.M.ClauseMap.place c.args.map.now).room))
+    ([], g.met.M.ClauseMap.moves_none c.args.map.now, omega arith, leaves_still c.args.self.now.setting (checker_state c.args.self.now (g.M.ClauseMap.place c.args.map.now).room))
 
 pub returns-then-is_some-clause-turn : goal.returns-then-is_some-clause-turn
 returns-then-is_some-clause-turn g c =
@@ -32,7 +32,7 @@ returns-in-Line-clause-left g c =
       taken.0,
       taken.1,
       taken.2.0,
-      subst (λ (v : CheckerValue). LeavesOn v.setting (state_of v p.room) used taken.0 (state_of (value_of n (read_of c.take_line.new.reader) c.self.inside.ending) q.room)) c.self.view_is left,
+      subst (λ (v : CheckerValue). LeavesOn v.setting (checker_state v p.room) used taken.0 (checker_state (value_of n (read_of c.take_line.new.reader) c.self.inside.ending) q.room)) c.self.view_is left,
     )
 
 pub returns-in-Line-clause-over : goal.returns-in-Line-clause-over
@@ -64,7 +64,7 @@ returns-in-More-clause-left g c =
       taken.0,
       taken.1,
       taken.2.0,
-      subst (λ (v : CheckerValue). LeavesOn v.setting (state_of v p.room) (take (length piece) piece) taken.0 (state_of (value_of n (read_of c.take_line.new.reader) c.self.inside.ending) q.room)) c.self.view_is left,
+      subst (λ (v : CheckerValue). LeavesOn v.setting (checker_state v p.room) (take (length piece) piece) taken.0 (checker_state (value_of n (read_of c.take_line.new.reader) c.self.inside.ending) q.room)) c.self.view_is left,
     )
 
 pub returns-in-More-clause-turn : goal.returns-in-More-clause-turn
@@ -96,7 +96,7 @@ returns-in-Stopped-clause-left g c =
       taken.0,
       taken.1,
       taken.2.0,
-      subst (λ (v : CheckerValue). LeavesOn v.setting (state_of v p.room) (take used piece) taken.0 (Over (report_at (tally_at n) c.ending.result))) c.self.view_is left,
+      subst (λ (v : CheckerValue). LeavesOn v.setting (checker_state v p.room) (take used piece) taken.0 (Over (report_at (tally_at n) c.ending.result))) c.self.view_is left,
     )
 
 pub returns-in-Stopped-clause-turn : goal.returns-in-Stopped-clause-turn

@@ -3,7 +3,7 @@ use Rattle.std.specs.Str.Parse.{ExplainsUnsignedError, HasUnsignedDigitsIfOk, Pa
 use Rattle.clap.specs.Words.{found_of}
 use Rattle.clap.proofs.WalkLemmas.{one_text-rows}
 use Rattle.command_line.proofs.ReadLemmas.{number_read}
-use Rattle.command_line.proofs.words.number_of.Goals as goal
+use Rattle.command_line.proofs.words.option_number.Goals as goal
 
 pub returns : goal.returns
 returns c =
