@@ -43,10 +43,6 @@ abbrev pub WithinRefutes : Type 0
 WithinRefutes = (f : Cnf) (c : Clause) (cube : CubeValue) → IsDerived f c → Within c cube
     → IsUnsatisfiableUnder f cube
 
--- within the empty cube is the empty clause alone
-abbrev pub EmptyCubeWithin : Type 0
-EmptyCubeWithin = (c : Clause) → Within c [] ↔ (c ≡ [])
-
 -- under the empty cube a formula is unsatisfiable exactly if it is so by itself
 abbrev pub EmptyCubeRefutes : Type 0
 EmptyCubeRefutes = (f : Cnf) → IsUnsatisfiableUnder f [] ↔ IsUnsatisfiable f
