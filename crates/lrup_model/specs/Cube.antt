@@ -1,5 +1,5 @@
 -- Cubes: sets of literals that are assumed (textbook). A cube is kept as a list, and what is said of it reads the list as a set.
-use Rattle.std.specs.Prelude.{◌≡◌, ◌↔◌, ℕ, ℤ, neg_ℤ, List, []}
+use Rattle.std.specs.Prelude.{◌↔◌, ℕ, ℤ, neg_ℤ, List, []}
 use Rattle.std.specs.List.{All, AllByRecursion}
 use Rattle.std.specs.List.Sorted.{IsNonDecreasingBy}
 use Rattle.lrup_model.specs.Literal.{IsLiteral, IsCode, max_variable}

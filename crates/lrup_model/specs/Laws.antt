@@ -1,5 +1,5 @@
 -- Laws of the definitions: what holds of every formula, layout, history and pass. Each is the contract of a function of laws.
-use Rattle.std.specs.Prelude.{◌≡◌, ◌≢◌, ◌↔◌, ◌+◌, ◌≤◌, ◌<◌, ◌==◌, ◌++◌, ℕ, Bool, List, [], ◌∷◌, IsTrue, Some}
+use Rattle.std.specs.Prelude.{◌≡◌, ◌≢◌, ◌≤◌, ◌<◌, ◌++◌, ℕ, Bool, List, [], ◌∷◌, IsTrue}
 use Rattle.std.specs.List.{filter, AllByRecursion}
 use Rattle.lrup_model.specs.Clause.{Clause, IsClause}
 use Rattle.lrup_model.specs.Formula.{Cnf, IsCnf, clause_at}
@@ -10,9 +10,8 @@ use Rattle.lrup_model.specs.Event.{Event, Reply, History, stream_of, own, spent,
 use Rattle.lrup_model.specs.State.{State, Slot, absent, live, retired, opening, run, state, AreVacantAbove}
 use Rattle.lrup_model.specs.History.{LegalFrom, IsLegal, IsPublishable}
 use Rattle.lrup_model.specs.Propagation.{Accepts}
-use Rattle.lrup_model.specs.Place.{Caller, IsCaller, Kept, Place, ClipValue, clip_clause, IsKnown, Tells, AllFollow, KeepsSpelt}
-use Rattle.lrup_model.specs.Replies.{AnswersOwn, AnswersFormula}
-use Rattle.lrup_model.specs.Pass.{View, Spelling, kept_in, IsSpelt, IsFair, PassMoves, pass_place, Meets, MeetsInTurn, AreMet, AllSaw, opened}
+use Rattle.lrup_model.specs.Place.{Place, ClipValue, clip_clause, IsKnown, AllFollow}
+use Rattle.lrup_model.specs.Pass.{View, Spelling}
 
 -- Running and legality
 
