@@ -16,7 +16,7 @@ use rtrb::Consumer;
 use std::alloc::{AllocError, Global};
 use std::sync::{OnceLock, OnceToken, Wait};
 use stream_check::laws::over_stays;
-use stream_check::{Checker, Gate, Report, CheckTurn};
+use stream_check::{CheckTurn, Checker, Gate, Report};
 use stream_ring::{Received, Receiver, told};
 
 /// The most items that are popped, and the most bytes that are fed, at once.
@@ -78,25 +78,25 @@ impl<G: Gate + Drop> CheckingJob<G> {
     }
 }
 
-/// Waits for the word, and then checks what is received, up to the mark; after a bad line the rest is received and nothing more is
-/// said of it. Where the word is to leave, nothing is received, and the word's token is the answer. It blocks while the ring is
+/// Waits for the start signal, and then checks what is received, up to the mark; after a bad line the rest is received and nothing more is
+/// said of it. Where it says to leave, nothing is received, and the signal's token is the answer. It blocks while the ring is
 /// empty.
 pub fn check_when_told<'a, W: Wait, G: Gate + Drop, M: ClauseMap>(
     wait: &W,
-    word: &'a OnceLock<bool>,
+    signal: &'a OnceLock<bool>,
     job: CheckingJob<G>,
     map: &mut M,
 ) -> Result<Checked, OnceToken<'a, bool>>
     requires { IsReadyAt job.checker (M.place map.old) }
-    ensures leaves { IfErr result (λ token. (token.of ≡ word.now.id) × (token.value ≡ false)) }
+    ensures leaves { IfErr result (λ token. (token.of ≡ signal.now.id) × (token.value ≡ false)) }
     ensures ring { IfOk result (λ checked. SameConsumer job.receiver.consumer checked.consumer) }
     ensures judged { IfOk result (λ checked. IfSome checked.report (λ report.
         (blocks : List History) × M.moves map.old map.new (joined blocks)
         × JudgesAtMark job.checker (M.place map.old).room (received checked.consumer)
         blocks report)) }
 {
-    let token = told(wait, word);
-    if !*word.value(&token) {
+    let token = told(wait, signal);
+    if !*signal.value(&token) {
         return Err(token);
     }
     let CheckingJob {

@@ -65,10 +65,10 @@ fn open_pair<R: Source + Drop, G: Gate + Drop>(
     Ok((reading, Checking { map, job }))
 }
 
-/// Sets the word, and checks what comes, at the map's desk. None where the word was to leave.
+/// Sets the signal, and checks what comes, at the map's desk. None where it says to leave.
 fn check<W: Wait, G: Gate + Drop>(
     wait: &W,
-    word: &OnceLock<bool>,
+    signal: &OnceLock<bool>,
     go: bool,
     checking: Checking<G>,
 ) -> Option<Checked>
@@ -76,23 +76,23 @@ fn check<W: Wait, G: Gate + Drop>(
         SameConsumer checking.job.receiver.consumer checked.consumer) }
 {
     let Checking { mut map, job } = checking;
-    let _ = word.set(wait, go);
+    let _ = signal.set(wait, go);
     let mut desk = map.desk(1);
-    check_when_told(wait, word, job, &mut desk).ok()
+    check_when_told(wait, signal, job, &mut desk).ok()
 }
 
-/// Reads and sends all. None where the word was to leave.
+/// Reads and sends all. None where it says to leave.
 fn read<W: Wait, R: Source + Drop>(
     wait: &W,
-    word: &OnceLock<bool>,
+    signal: &OnceLock<bool>,
     reading: ReadingJob<R>,
 ) -> Option<Sent<R>>
     ensures { IfSome result (λ sent. SameProducer reading.sender.producer sent.producer) }
 {
-    read_when_told(wait, word, reading).ok()
+    read_when_told(wait, signal, reading).ok()
 }
 
-/// Both jobs, each in a thread of its own. What is said of the stream, and its reader. None where the word was to leave.
+/// Both jobs, each in a thread of its own. What is said of the stream, and its reader. None where it says to leave.
 fn run_pair<T: Threads + Wait + Sync, R: Source + Send + Drop, G: Gate + Send + Drop>(
     rt: &T,
     go: bool,
@@ -101,18 +101,18 @@ fn run_pair<T: Threads + Wait + Sync, R: Source + Send + Drop, G: Gate + Send + 
 ) -> Option<(Option<Report>, R)>
     requires { IsPair reading.sender.producer checking.job.receiver.consumer }
 {
-    let word = OnceLock::new();
-    let word = &word;
+    let signal = OnceLock::new();
+    let signal = &signal;
     let (sent, checked) = join(
         rt,
         || -> Option<Sent<R>>
             ensures { IfSome result (λ sent.
                 SameProducer reading.sender.producer sent.producer) }
-        { read(rt, word, reading) },
+        { read(rt, signal, reading) },
         || -> Option<Checked>
             ensures { IfSome result (λ checked.
                 SameConsumer checking.job.receiver.consumer checked.consumer) }
-        { check(rt, word, go, checking) },
+        { check(rt, signal, go, checking) },
     );
     let (mut sent, mut checked) = (sent?, checked?);
     meet(&mut sent, &mut checked);
@@ -484,11 +484,11 @@ fn a_reading_job_that_goes(rt: HostRuntime) -> Result<(), Fail> {
     for _ in 0..100 {
         let reader = Pieces::new(REFUTATION, 12, 0);
         let (reading, checking) = open_pair(rt.alloc(), reader, Open, 2)?;
-        let word = OnceLock::new();
+        let signal = OnceLock::new();
         let (_, checked) = join(
             &rt,
             || leave(&rt, reading),
-            || check(&rt, &word, true, checking),
+            || check(&rt, &signal, true, checking),
         );
         let checked = checked.ok_or("told to leave")?;
         same(&rt, checked.report, None);

@@ -486,21 +486,21 @@ fn a_sender_that_goes_wakes_the_receiver(rt: HostRuntime) -> Result<(), Fail> {
     Ok(())
 }
 
-/// Both wait for the word, which comes after a pause.
+/// Both wait for the signal, which comes after a pause.
 #[test]
 fn all_are_told_the_word(rt: HostRuntime) -> Result<(), Fail> {
     for round in 0..200u64 {
-        let word = OnceLock::new();
+        let signal = OnceLock::new();
         let wanted = round % 2 == 0;
         let (first, second) = join(
             &rt,
-            || *word.value(&told(&rt, &word)),
+            || *signal.value(&told(&rt, &signal)),
             || {
                 if round % 3 > 0 {
                     pause(&rt);
                 }
-                let _ = word.set(&rt, wanted);
-                *word.value(&told(&rt, &word))
+                let _ = signal.set(&rt, wanted);
+                *signal.value(&told(&rt, &signal))
             },
         );
         same(&rt, (round, first, second), (round, wanted, wanted));
