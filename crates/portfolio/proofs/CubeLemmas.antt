@@ -26,7 +26,7 @@ use Rattle.stream_check.specs.Verdicts.{Good}
 use Rattle.stream_check.specs.Additions.{published_by}
 use Rattle.stream_check.specs.Judging.{JudgesLine, AreGood, joined, JudgesBlocks}
 use Rattle.stream_check.specs.ReportLemmas.{said_within}
-use Rattle.runs.specs.Streams.{Stop, read_out, early, Stream, JudgesTo, JudgesStream, Block, blocks_of, events_in, AreJudged, IsOrdered, Terms, setting_of}
+use Rattle.runs.specs.Streams.{Stop, read_out, early, Stream, JudgesTo, JudgesStream, Block, blocks_of, events_in, AreJudged, IsOrdered, TermsValue, setting_of}
 use Rattle.runs.specs.Headline.{AreJudgedIn}
 use Rattle.run_laws.specs.Lines.{publishes_within}
 use Rattle.portfolio.specs.declared.outcome.Verdict.{Verdict}
@@ -112,7 +112,7 @@ sound_in_order f p order s c stream report legal judged is =
 -- ---- a run
 
 -- with two threads for each stream
-sound_by : (f : Cnf) (terms : Terms) (h : History) → IsLegal f terms.layout h → (s : ℕ) (streams : List Stream) (reports : List Report)
+sound_by : (f : Cnf) (terms : TermsValue) (h : History) → IsLegal f terms.layout h → (s : ℕ) (streams : List Stream) (reports : List Report)
     → AreJudgedIn terms (λ t. true) h s streams reports → list_any (λ report. report.within) reports ≡ true → IsUnsatisfiableUnder f terms.cube
 sound_by f terms h legal s [] [] judged is = absurd (let no : false ≡ true = is in cc)
 sound_by f terms h legal s [] (r ∷ rs) judged is = absurd judged
@@ -125,7 +125,7 @@ sound_by f terms h legal s (t ∷ ts) (r ∷ rs) judged is =
     ]
 
 -- by turns
-sound_among : (f : Cnf) (terms : Terms) (blocks : List Block) (k : ℕ) (streams : List Stream) (reports : List Report) → IsLegal f terms.layout (events_in blocks)
+sound_among : (f : Cnf) (terms : TermsValue) (blocks : List Block) (k : ℕ) (streams : List Stream) (reports : List Report) → IsLegal f terms.layout (events_in blocks)
     → AreJudged terms (λ s. true) blocks k streams reports → list_any (λ report. report.within) reports ≡ true → IsUnsatisfiableUnder f terms.cube
 sound_among f terms blocks k [] [] legal judged some = absurd (let none : false ≡ true = some in cc)
 sound_among f terms blocks k [] (r ∷ reports) legal judged some = absurd judged
@@ -149,13 +149,13 @@ is_within_some reports verdict of is =
     some_within (list_any (λ (report : Report). report.empty) reports) (list_any (λ (report : Report). report.within) reports) (sym of ∙ is)
 
 -- so it is true, with two threads for each stream
-pub sound_under_run : (f : Cnf) (terms : Terms) (h : History) (streams : List Stream) (reports : List Report) (verdict : Verdict)
+pub sound_under_run : (f : Cnf) (terms : TermsValue) (h : History) (streams : List Stream) (reports : List Report) (verdict : Verdict)
     → IsLegal f terms.layout h → AreJudgedIn terms (λ t. true) h 1 streams reports → verdict ≡ verdict_of reports → verdict ≡ UnsatisfiableUnder
     → IsUnsatisfiableUnder f terms.cube
 sound_under_run f terms h streams reports verdict legal judged of is = sound_by f terms h legal 1 streams reports judged (is_within_some reports verdict of is)
 
 -- and by turns
-pub sound_under_order : (f : Cnf) (terms : Terms) (streams : List Stream) (reports : List Report) (verdict : Verdict)
+pub sound_under_order : (f : Cnf) (terms : TermsValue) (streams : List Stream) (reports : List Report) (verdict : Verdict)
     → IsOrdered f terms (λ s. true) streams reports → verdict ≡ verdict_of reports → verdict ≡ UnsatisfiableUnder → IsUnsatisfiableUnder f terms.cube
 sound_under_order f terms streams reports verdict ordered of is =
     sound_among f terms ordered.blocks 1 streams reports ordered.legal ordered.judged (is_within_some reports verdict of is)

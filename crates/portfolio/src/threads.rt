@@ -20,6 +20,7 @@ use clause_store::{Pass, Store};
 use run_laws::groups::{alone_has_one_report, run_isolated};
 use lrup_model::{Cube, Formula};
 use lrup_text::Source;
+use runs::Terms;
 use run_laws::orders::run_serializable;
 use std::alloc::{AllocError, Global};
 use std::sync::Wait;
@@ -99,15 +100,8 @@ pub fn run<T: Threads + Wait + Sync, R: Source + Send + Drop, G: Gate + Send + D
     run_serializable();
     let layout = options.layout(formula, readers.len())?;
     let (store, passes) = Store::open(alloc, formula, layout)?;
-    let jobs = jobs_of(
-        alloc,
-        &layout,
-        cube,
-        options.tries(),
-        readers,
-        gates,
-        passes,
-    )?;
+    let terms = Terms::new(&layout, cube, options.tries());
+    let jobs = jobs_of(alloc, &terms, readers, gates, passes)?;
     let Lists {
         room,
         reports,

@@ -6,12 +6,11 @@ ghost use Rattle.lrup_model.specs.Layout.{IsStream};
 ghost use Rattle.lrup_text.specs.ReadOut.{source_view};
 ghost use Rattle.stream_check.specs.Checker.{Ends, IsReadyAt, ReportsEnd, report_at};
 ghost use Rattle.stream_check.specs.Judging.{joined};
-ghost use Rattle.stream_check.specs.Setting.{max_tries};
-ghost use Rattle.runs.specs.Streams.{terms_at};
 ghost use Rattle.portfolio.specs.Working.{IsStarted, WorksOn};
 
-use lrup_model::{ClauseMap, Cube, Layout};
+use lrup_model::ClauseMap;
 use lrup_text::{Source, StreamEnd};
+use runs::Terms;
 use std::alloc::{AllocError, Global};
 use std::marker::Model;
 use std::sync::Wait;
@@ -48,27 +47,24 @@ impl<R: Source + Drop, G: Gate + Drop> Model for Worker<R, G> {
 }
 
 impl<R: Source + Drop, G: Gate + Drop> Worker<R, G> {
-    /// A worker of stream `stream`, from 1 on, under this cube, before its first byte. It takes all memory that it will need, but
+    /// A worker of stream `stream`, from 1 on, before its first byte. It takes all memory that it will need, but
     /// for the identities that the stream drops.
     pub fn new(
         alloc: Global,
         reader: R,
         gate: G,
         stream: u64,
-        layout: &Layout,
-        cube: &Cube,
-        tries: u64,
+        terms: &Terms<'_>,
     ) -> Result<Worker<R, G>, AllocError>
         requires running { R.has_failed reader ≡ false }
-        requires stream { IsStream layout.now stream }
-        requires tries { tries ≤ max_tries }
+        requires stream { IsStream terms.now.layout stream }
         ensures { IfOk result (IsStarted (source_view R.left R.has_failed R.reads)
-            (terms_at layout.now cube.now tries) stream reader) }
+            terms.now stream reader) }
     {
         Ok(Worker {
             reader,
             gate,
-            checker: Checker::new(alloc, stream, layout, cube, tries)?,
+            checker: Checker::new(alloc, stream, terms.layout(), terms.cube(), terms.tries())?,
             buffer: vec![in alloc; 0; PIECE]?,
             from: 0,
             to: 0,

@@ -23,7 +23,7 @@ use Rattle.run_laws.specs.Serializable.{ComeToVerdict}
 use Rattle.runs.specs.StreamLemmas.{same_at}
 use Rattle.lrup_text.specs.ReadOut.{SourceView}
 use Rattle.runs.specs.Readings.{AreRead}
-use Rattle.runs.specs.Streams.{Stream, Telling, Terms, telling_of, tellings, AreTold, IsOrdered, events_in}
+use Rattle.runs.specs.Streams.{Stream, Telling, TermsValue, telling_of, tellings, AreTold, IsOrdered, events_in}
 use Rattle.runs.specs.Closed.{IsOfStream, IsOwnedWithin, CiteWithin}
 use Rattle.run_laws.specs.Groups.{one, AreIsolated, HaveReportsAlone}
 use Rattle.run_laws.specs.ReportLemmas.{only}
@@ -57,7 +57,7 @@ first_told view (first ∷ firsts) (last ∷ lasts) (stream ∷ streams) bytes r
 first_told view _ _ _ bytes read entry fine = absurd read
 
 -- the terms of such a run are those of two streams over the four clauses
-pub of_two : (Holds : Cnf → Terms → Type 0) (options : OptionsValue) (cube : CubeValue) (f : Cnf) (count : ℕ)
+pub of_two : (Holds : Cnf → TermsValue → Type 0) (options : OptionsValue) (cube : CubeValue) (f : Cnf) (count : ℕ)
     → options ≡ usual → cube ≡ [] → f ≡ four → count ≡ 2 → Holds f (terms_of options cube f count) → Holds four two_terms
 of_two Holds options cube f count same none formula two holds =
     subst (λ n. Holds four (terms_of usual [] four n)) two

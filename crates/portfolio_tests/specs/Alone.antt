@@ -9,7 +9,7 @@ use Rattle.lrup_text.specs.declared.device.StreamEnd.TheVariants as stream_ends
 use Rattle.portfolio.specs.Outcomes.{OptionsValue, layout_of, terms_of}
 use Rattle.portfolio.specs.declared.outcome.Verdict.{Verdict}
 use Rattle.portfolio.specs.declared.outcome.Verdict.TheVariants.{Unsatisfiable}
-use Rattle.runs.specs.Streams.{Block, Terms, events_in}
+use Rattle.runs.specs.Streams.{Block, TermsValue, events_in}
 use Rattle.run_laws.specs.Groups.{IsReportAlone}
 use Rattle.test_support.specs.Worked.{four}
 
@@ -25,7 +25,7 @@ usual = record { tries = 1000; lines = 65536; room = 1048576 }
 abbrev pub layout_of_two : LayoutValue
 layout_of_two = layout_of usual four 2
 
-abbrev pub two_terms : Terms
+abbrev pub two_terms : TermsValue
 two_terms = terms_of usual [] four 2
 
 -- the report is one that stream 1 may have alone, where it has these bytes and ends after them, and the only one

@@ -14,7 +14,7 @@ use Rattle.stream_check.specs.declared.report.Report.{Report}
 use Rattle.stream_check.specs.Setting.{Setting}
 use Rattle.stream_check.specs.Judging.{JudgesBlocks, Judges}
 use Rattle.stream_check.specs.Laws.{cited_by, OverStays, AloneDecides}
-use Rattle.runs.specs.Streams.{Stop, read_out, early, Stream, JudgesTo, Terms, setting_of}
+use Rattle.runs.specs.Streams.{Stop, read_out, early, Stream, JudgesTo, TermsValue, setting_of}
 use Rattle.runs.specs.Closed.{IsOfStream, IsOwnedWithin}
 use Rattle.run_laws.specs.Groups.{one, IsAlone, IsReadingTo, IsReadingOf}
 use Rattle.run_laws.specs.GroupLaws.{AloneHasOneReport, BeginningsWithin}
@@ -38,7 +38,7 @@ own-one s [] all = refl
 own-one s (e ∷ h) all = cond-true (eqb (stream_of e) s) (e ∷ own h s) (own h s) all.0 ∙ ap (λ (k : History). e ∷ k) (own-one s h all.1)
 
 -- the group of one stream is a judgement of all its bytes
-alone_judged : OverStays → (f : Cnf) (terms : Terms) (s : ℕ) (streams : List Stream) (reports : List Report)
+alone_judged : OverStays → (f : Cnf) (terms : TermsValue) (s : ℕ) (streams : List Stream) (reports : List Report)
     (whole : List ℕ) (end : StreamEnd) (stream : Stream) (report : Report)
     → (g : IsAlone f terms s streams reports) → IsOfStream streams s stream → IsReadingOf whole end stream → IsOfStream reports s report
     → Judges (setting_of terms s) whole end g.history report

@@ -12,7 +12,7 @@ use Rattle.stream_check.specs.Standing.{standing_of, tally_of}
 use Rattle.stream_check.specs.Judging.{JudgesBlocks}
 use Rattle.stream_check.specs.Leaving.{Holding}
 use Rattle.stream_check.specs.Laws.{FreshLeft, EndJudged}
-use Rattle.runs.specs.Streams.{Stream, Terms, setting_of}
+use Rattle.runs.specs.Streams.{Stream, TermsValue, setting_of}
 use Rattle.runs.specs.Headline.{IsJudgedBy, AreJudgedIn}
 use Rattle.run_laws.specs.Groups.{empty_stream, empty_report, with_others}
 use Rattle.run_laws.specs.GroupLaws.{OthersEmpty}
@@ -28,7 +28,7 @@ others_call : (set : ℕ → Bool) (s : ℕ) (h : History) → set s ≡ false �
 others_call set s [] out all = tt
 others_call set s (e ∷ h) out all = (λ is. true≢false (sym all.0 ∙ ap set is ∙ out), others_call set s h out all.1)
 
-emptied : FreshLeft → EndJudged → (terms : Terms) (set : ℕ → Bool) (h : History) (s : ℕ) (stream : Stream) (report : Report)
+emptied : FreshLeft → EndJudged → (terms : TermsValue) (set : ℕ → Bool) (h : History) (s : ℕ) (stream : Stream) (report : Report)
     → AllByRecursion (λ e. IsTrue (set (stream_of e))) h
     → (IsTrue (set s) → IsJudgedBy (setting_of terms s) stream (own h s) report)
     → IsJudgedBy (setting_of terms s) (cond (set s) stream empty_stream) (own h s) (cond (set s) report empty_report)
@@ -45,7 +45,7 @@ emptied first last terms set h s stream report members judged =
           (subst (λ (es : History). IsJudgedBy c empty_stream es empty_report) (sym none) ([], refl, nothing_judged first last c)))
     ]
 
-emptied_from : FreshLeft → EndJudged → (terms : Terms) (set all : ℕ → Bool) (h : History) → AllByRecursion (λ e. IsTrue (set (stream_of e))) h
+emptied_from : FreshLeft → EndJudged → (terms : TermsValue) (set all : ℕ → Bool) (h : History) → AllByRecursion (λ e. IsTrue (set (stream_of e))) h
     → (s : ℕ) (streams : List Stream) (reports : List Report) → AreJudgedIn terms set h s streams reports
     → AreJudgedIn terms all h s (with_others set empty_stream s streams) (with_others set empty_report s reports)
 emptied_from first last terms set all h members s [] [] judged = tt

@@ -19,7 +19,7 @@ use Rattle.stream_check.specs.declared.report.Report.{Report}
 use Rattle.stream_check.specs.Setting.{Setting}
 use Rattle.stream_check.specs.Judging.{joined}
 use Rattle.stream_check.specs.Laws.{cited_by, FetchesOnly, CitedFetched}
-use Rattle.runs.specs.Streams.{Stop, read_out, early, Stream, JudgesTo, Terms, setting_of}
+use Rattle.runs.specs.Streams.{Stop, read_out, early, Stream, JudgesTo, TermsValue, setting_of}
 use Rattle.runs.specs.Headline.{IsJudgedBy, AreJudgedIn}
 use Rattle.runs.specs.Closed.{IsOwnedWithin, CiteWithin, IsClosed}
 use Rattle.run_laws.specs.GroupLaws.{ClosedIsGroup}
@@ -119,7 +119,7 @@ finds_outside p set (events.publish s id c r) out = tt
 finds_outside p set (events.retire s id r) out = tt
 
 -- a history by which the streams of a closed set are judged finds within the set
-pub closed_finds : CitedFetched → (terms : Terms) (set : ℕ → Bool) (h : History) (streams : List Stream) (reports : List Report)
+pub closed_finds : CitedFetched → (terms : TermsValue) (set : ℕ → Bool) (h : History) (streams : List Stream) (reports : List Report)
     → length streams ≡ terms.layout.streams → AreJudgedIn terms set h 1 streams reports → IsClosed terms.layout set streams
     → AllByRecursion (FindsWithin terms.layout (inside terms.layout set)) h
 closed_finds law terms set h streams reports count judged closed =
@@ -136,7 +136,7 @@ closed_finds law terms set h streams reports count judged closed =
     (fetches_within law p set (setting_of terms s) stream.0.stop stream.0.bytes j.0 report.0 some (closed s stream.0 is.0 stream.1) j.2)))
     (finds_outside p (inside p set))
 
-judged_among : (terms : Terms) (set : ℕ → Bool) (h : History) (s : ℕ) (streams : List Stream) (reports : List Report)
+judged_among : (terms : TermsValue) (set : ℕ → Bool) (h : History) (s : ℕ) (streams : List Stream) (reports : List Report)
     → 0 < s → s + length streams ≤ terms.layout.streams + 1
     → AreJudgedIn terms set h s streams reports → AreJudgedIn terms set (among (inside terms.layout set) h) s streams reports
 judged_among terms set h s [] [] first last judged = tt

@@ -4,7 +4,7 @@ use Rattle.std.specs.Prelude.{IsTrue, slice_get}
 use Rattle.std.proofs.lemmas.Option.{slice_get_cases}
 use Rattle.lrup_model.specs.Event.{History, own}
 use Rattle.stream_check.specs.declared.report.Report.{Report}
-use Rattle.runs.specs.Streams.{Stream, Terms, setting_of}
+use Rattle.runs.specs.Streams.{Stream, TermsValue, setting_of}
 use Rattle.runs.specs.Headline.{IsJudgedBy, AreJudgedIn}
 use Rattle.runs.specs.Closed.{IsOfStream}
 
@@ -17,13 +17,13 @@ has_place xs s first last =
 
 -- Judged streams
 
-pub judged_count : (terms : Terms) (set : ℕ → Bool) (h : History) (s : ℕ) (streams : List Stream) (reports : List Report) → AreJudgedIn terms set h s streams reports → length reports ≡ length streams
+pub judged_count : (terms : TermsValue) (set : ℕ → Bool) (h : History) (s : ℕ) (streams : List Stream) (reports : List Report) → AreJudgedIn terms set h s streams reports → length reports ≡ length streams
 judged_count terms set h s [] [] judged = refl
 judged_count terms set h s [] (r ∷ rs) judged = absurd judged
 judged_count terms set h s (t ∷ ts) [] judged = absurd judged
 judged_count terms set h s (t ∷ ts) (r ∷ rs) judged = ap suc (judged_count terms set h (s + 1) ts rs judged.1)
 
-judged_from : (terms : Terms) (set : ℕ → Bool) (h : History) (s : ℕ) (streams : List Stream) (reports : List Report) → AreJudgedIn terms set h s streams reports
+judged_from : (terms : TermsValue) (set : ℕ → Bool) (h : History) (s : ℕ) (streams : List Stream) (reports : List Report) → AreJudgedIn terms set h s streams reports
     → (k : ℕ) (stream : Stream) (report : Report) → IsTrue (set (s + k)) → slice_get streams k ≡ Some stream → slice_get reports k ≡ Some report
     → IsJudgedBy (setting_of terms (s + k)) stream (own h (s + k)) report
 judged_from terms set h s [] [] judged k stream report member at says = absurd (cc)
@@ -43,7 +43,7 @@ judged_from terms set h s (t ∷ ts) (r ∷ rs) judged (suc k) stream report mem
     (judged_from terms set h (s + 1) ts rs judged.1 k stream report (subst (λ n. IsTrue (set n)) (sym next) member) at says)
 
 -- stream s of the set is judged by its own events
-pub judged_at : (terms : Terms) (set : ℕ → Bool) (h : History) (streams : List Stream) (reports : List Report) → AreJudgedIn terms set h 1 streams reports
+pub judged_at : (terms : TermsValue) (set : ℕ → Bool) (h : History) (streams : List Stream) (reports : List Report) → AreJudgedIn terms set h 1 streams reports
     → (s : ℕ) (stream : Stream) (report : Report) → IsTrue (set s) → IsOfStream streams s stream → IsOfStream reports s report
     → IsJudgedBy (setting_of terms s) stream (own h s) report
 judged_at terms set h streams reports judged s stream report member at says =
@@ -53,7 +53,7 @@ judged_at terms set h streams reports judged s stream report member at says =
     (judged_from terms set h 1 streams reports judged (s - 1) stream report (subst (λ n. IsTrue (set n)) (sym here) member) at.1 says.1)
 
 -- fewer streams are judged too
-pub judged_fewer : (terms : Terms) (all set : ℕ → Bool) (h : History) → ((s : ℕ) → IsTrue (set s) → IsTrue (all s))
+pub judged_fewer : (terms : TermsValue) (all set : ℕ → Bool) (h : History) → ((s : ℕ) → IsTrue (set s) → IsTrue (all s))
     → (s : ℕ) (streams : List Stream) (reports : List Report) → AreJudgedIn terms all h s streams reports → AreJudgedIn terms set h s streams reports
 judged_fewer terms all set h sub s [] [] judged = tt
 judged_fewer terms all set h sub s [] (r ∷ rs) judged = absurd judged

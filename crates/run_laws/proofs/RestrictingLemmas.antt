@@ -15,7 +15,7 @@ use Rattle.lrup_model.specs.RestrictionLemmas.{restriction_legal}
 use Rattle.stream_check.specs.declared.report.Report.{Report}
 use Rattle.stream_check.specs.Judging.{joined}
 use Rattle.stream_check.specs.Laws.{CitedFetched}
-use Rattle.runs.specs.Streams.{Stream, JudgesStream, Terms, setting_of, Block, blocks_of, events_in, IsBlockWithin, AreJudged}
+use Rattle.runs.specs.Streams.{Stream, JudgesStream, TermsValue, setting_of, Block, blocks_of, events_in, IsBlockWithin, AreJudged}
 use Rattle.runs.specs.Headline.{AreJudgedIn}
 use Rattle.runs.specs.StreamLemmas.{blocks-same, blocks-other}
 use Rattle.run_laws.specs.GroupLaws.{ClosedIsGroup, OrderedIsGroup, OrderedRestricts}
@@ -36,7 +36,7 @@ own-blocks p set s (b ∷ bs) all =
     ]
 
 -- streams that are judged by their blocks are judged by their own events of them all
-pub ordered_judged : (terms : Terms) (all set : ℕ → Bool) (bs : List Block) (s : ℕ) (streams : List Stream) (reports : List Report)
+pub ordered_judged : (terms : TermsValue) (all set : ℕ → Bool) (bs : List Block) (s : ℕ) (streams : List Stream) (reports : List Report)
     → AllByRecursion (IsBlockWithin terms.layout all) bs → AreJudged terms set bs s streams reports → AreJudgedIn terms set (events_in bs) s streams reports
 ordered_judged terms all set bs s [] [] within judged = tt
 ordered_judged terms all set bs s [] (r ∷ rs) within judged = absurd judged
@@ -125,7 +125,7 @@ inside-same p all set (b ∷ bs) within =
       ]
     ]
 
-judged-within : (terms : Terms) (all set : ℕ → Bool) (bs : List Block) → ((s : ℕ) → IsTrue (set s) → IsTrue (all s))
+judged-within : (terms : TermsValue) (all set : ℕ → Bool) (bs : List Block) → ((s : ℕ) → IsTrue (set s) → IsTrue (all s))
     → (s : ℕ) (streams : List Stream) (reports : List Report) → AreJudged terms all bs s streams reports → AreJudged terms set (blocks_within set bs) s streams reports
 judged-within terms all set bs sub s [] [] judged = tt
 judged-within terms all set bs sub s [] (r ∷ rs) judged = absurd judged

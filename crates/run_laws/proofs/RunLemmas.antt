@@ -13,7 +13,7 @@ use Rattle.stream_check.specs.declared.report.Report.{Report}
 use Rattle.stream_check.specs.Setting.{Setting}
 use Rattle.stream_check.specs.Judging.{JudgesBlocks, Judges}
 use Rattle.stream_check.specs.Laws.{AloneDecides, DecidedBeforeFailure, IsOfMemory, IsOfFailure}
-use Rattle.runs.specs.Streams.{Stop, read_out, early, Stream, Telling, read_to, StopsSo, IsTold, AreTold, JudgesTo, Terms, setting_of}
+use Rattle.runs.specs.Streams.{Stop, read_out, early, Stream, Telling, read_to, StopsSo, IsTold, AreTold, JudgesTo, TermsValue, setting_of}
 use Rattle.runs.specs.Closed.{IsOfStream, CiteWithin}
 use Rattle.runs.specs.StreamLemmas.{told_count, told_from, told_begins, same_at}
 use Rattle.run_laws.specs.Groups.{one, IsAlone, IsRun, IsReadingTo}
@@ -110,7 +110,7 @@ serial_run f terms told reports count stands =
 -- Two runs
 
 -- a stream that cites within itself is alone
-run_alone : ClosedIsGroup → (f : Cnf) (terms : Terms) (s : ℕ) (told : List Telling) (reports : List Report)
+run_alone : ClosedIsGroup → (f : Cnf) (terms : TermsValue) (s : ℕ) (told : List Telling) (reports : List Report)
     (stream : Stream) (report : Report) → Fits terms.layout f → (a : IsRun f terms told reports)
     → IsOfStream a.streams s stream → IsOfStream reports s report → CiteWithin terms.layout (one s) stream.bytes → ¬ IsOfMemory report
     → IsAlone f terms s a.streams reports
@@ -151,13 +151,13 @@ judged_to law c (early unneeded) bytes whole (Some left) has_failed blocks repor
     subst (λ b. JudgesBlocks c b stream_ends.Ended blocks report) (sym (took ∙ append_assoc bytes unneeded left)) (law c bytes (unneeded ++ left) stream_ends.Ended blocks report machine j.2)
 
 -- a legal history judges all these bytes so
-record IsJudgedWhole (f : Cnf) (terms : Terms) (s : ℕ) (whole : List ℕ) (report : Report) : Type 0 where
+record IsJudgedWhole (f : Cnf) (terms : TermsValue) (s : ℕ) (whole : List ℕ) (report : Report) : Type 0 where
   history : History
   legal : IsLegal f terms.layout history
   judges : Judges (setting_of terms s) whole stream_ends.Ended history report
 
 whole_judged : BeginningsWithin → ClosedIsGroup → DecidedBeforeFailure
-    → (f : Cnf) (terms : Terms) (s : ℕ) (whole : List ℕ) (told : List Telling) (telling : Telling) (reports : List Report) (report : Report)
+    → (f : Cnf) (terms : TermsValue) (s : ℕ) (whole : List ℕ) (told : List Telling) (telling : Telling) (reports : List Report) (report : Report)
     → Fits terms.layout f → CiteWithin terms.layout (one s) whole → IsRun f terms told reports
     → IsOfStream told s telling → telling.entry ≡ Some whole → IsOfStream reports s report → ¬ IsOfMemory report → ¬ IsOfFailure report
     → IsJudgedWhole f terms s whole report

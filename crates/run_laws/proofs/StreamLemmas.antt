@@ -19,7 +19,7 @@ use Rattle.stream_check.specs.Setting.{Setting}
 use Rattle.stream_check.specs.Judging.{joined, JudgesBlocks}
 use Rattle.stream_check.specs.Reducing.{reduced}
 use Rattle.stream_check.specs.Laws.{cited_by, FetchesOnly, CitedFetched, ReducedStream}
-use Rattle.runs.specs.Streams.{Stop, read_out, early, Stream, JudgesTo, JudgesStream, Block, blocks_of, IsBlockWithin, AreJudged, Terms, setting_of}
+use Rattle.runs.specs.Streams.{Stop, read_out, early, Stream, JudgesTo, JudgesStream, Block, blocks_of, IsBlockWithin, AreJudged, TermsValue, setting_of}
 use Rattle.runs.specs.Headline.{IsJudgedBy, AreJudgedIn}
 use Rattle.runs.specs.Closed.{IsOfStream, IsOwnedWithin, CiteWithin}
 use Rattle.runs.specs.StreamLemmas.{told_count}
@@ -41,7 +41,7 @@ reduced_judged law (read_out end) c bytes blocks report judged = law c bytes end
 reduced_judged law (early unneeded) c bytes blocks report judged =
     (judged.0, law c bytes stream_ends.Ended blocks report judged.1, law c bytes stream_ends.Failed blocks report judged.2)
 
-module _ (terms : Terms) (set : ℕ → Bool) (h : History) where
+module _ (terms : TermsValue) (set : ℕ → Bool) (h : History) where
   -- if the stream is of the set, these blocks are its own events, and it is judged by them
   abbrev IsJudgedWith : ℕ → Stream → Report → List History → Type 0
   IsJudgedWith s stream report bs = IsTrue (set s) → (own h s ≡ joined bs) × JudgesStream (setting_of terms s) stream bs report
@@ -140,7 +140,7 @@ module _ (terms : Terms) (set : ℕ → Bool) (h : History) where
 -- Each stream of a set, and its own events
 
 -- what is known of a stream of the set that one history judges
-pub record IsJudgedStream (terms : Terms) (h : History) (streams : List Stream) (s : ℕ) : Type 0 where
+pub record IsJudgedStream (terms : TermsValue) (h : History) (streams : List Stream) (s : ℕ) : Type 0 where
   pub stream : Stream
   pub report : Report
   pub end : StreamEnd
@@ -149,7 +149,7 @@ pub record IsJudgedStream (terms : Terms) (h : History) (streams : List Stream) 
   pub own_events : own h s ≡ joined blocks
   pub judges : JudgesBlocks (setting_of terms s) stream.bytes end blocks report
 
-pub judged_stream : (terms : Terms) (set : ℕ → Bool) (h : History) (streams : List Stream) (reports : List Report)
+pub judged_stream : (terms : TermsValue) (set : ℕ → Bool) (h : History) (streams : List Stream) (reports : List Report)
     → length streams ≡ terms.layout.streams → AreJudgedIn terms set h 1 streams reports
     → (s : ℕ) → IsStream terms.layout s → IsTrue (set s) → IsJudgedStream terms h streams s
 judged_stream terms set h streams reports count judged s is member =
@@ -203,7 +203,7 @@ lines_inside p set [] all = tt
 lines_inside p set (line ∷ lines) all = (ids_inside p set (cited_by line) all.0, lines_inside p set lines all.1)
 
 -- a stream of a closed set fetches no identity of a stream outside it
-pub fetched_inside : CitedFetched → (terms : Terms) (set : ℕ → Bool) (h : History) (streams : List Stream) (s : ℕ)
+pub fetched_inside : CitedFetched → (terms : TermsValue) (set : ℕ → Bool) (h : History) (streams : List Stream) (s : ℕ)
     → (judged : IsJudgedStream terms h streams s) → CiteWithin terms.layout set judged.stream.bytes
     → AllByRecursion (FetchesOnly (is_inside terms.layout set)) (own h s)
 fetched_inside law terms set h streams s judged closed =
@@ -282,7 +282,7 @@ all_closed every_cut p streams s stream member at =
 -- Runs
 
 -- streams that are all judged so are judged so where they are of a set
-judged_members : (terms : Terms) (set : ℕ → Bool) (h : History) (s : ℕ) (streams : List Stream) (reports : List Report)
+judged_members : (terms : TermsValue) (set : ℕ → Bool) (h : History) (s : ℕ) (streams : List Stream) (reports : List Report)
     → AreJudgedIn terms (λ t. true) h s streams reports → AreJudgedIn terms set h s streams reports
 judged_members terms set h s [] [] judged = tt
 judged_members terms set h s [] (report ∷ reports) judged = absurd judged

@@ -22,7 +22,7 @@ use Rattle.stream_check.specs.Finding.{IsGoodAddition}
 use Rattle.stream_check.specs.Judging.{JudgesLine, AreGood, EndsAfter, joined, JudgesBlocks}
 use Rattle.stream_check.specs.Laws.{GoodExactlyIf}
 use Rattle.stream_check.specs.ReportLemmas.{said_empty, said_within, joined-append}
-use Rattle.runs.specs.Streams.{Stream, JudgesStream, Block, blocks_of, events_in, IsBlockWithin, AreJudged, Terms, setting_of, IsOrdered}
+use Rattle.runs.specs.Streams.{Stream, JudgesStream, Block, blocks_of, events_in, IsBlockWithin, AreJudged, TermsValue, setting_of, IsOrdered}
 use Rattle.runs.specs.StreamLemmas.{blocks-same, blocks-other}
 use Rattle.run_laws.specs.Lines.{publishes_within}
 use Rattle.run_laws.specs.OrderLaws.{ClosedOrdered, AllClosed, AllOrdered}
@@ -230,7 +230,7 @@ module _ (passes : Event → Bool) where
 
 -- Reports
 
-module _ (law : GoodExactlyIf) (terms : Terms) (order : List Block) (passes : Event → Bool) (adds : StreamLine → Bool) (says : Report → Bool)
+module _ (law : GoodExactlyIf) (terms : TermsValue) (order : List Block) (passes : Event → Bool) (adds : StreamLine → Bool) (says : Report → Bool)
     (tells : (s : ℕ) → Tells (setting_of terms s) passes adds says) where
   told_by : (s : ℕ) (stream : Stream) (report : Report) → JudgesStream (setting_of terms s) stream (blocks_of s order) report
       → list_any passes (joined (blocks_of s order)) ≡ says report

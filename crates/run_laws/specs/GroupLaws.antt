@@ -9,7 +9,7 @@ use Rattle.stream_check.specs.declared.report.Report.{Report}
 use Rattle.lrup_text.specs.declared.device.StreamEnd.{StreamEnd}
 use Rattle.lrup_text.specs.declared.device.StreamEnd.TheVariants as stream_ends
 use Rattle.stream_check.specs.Laws.{IsOfMemory, IsOfFailure}
-use Rattle.runs.specs.Streams.{Stream, Telling, Terms, AreTold, StandsOnStreams, IsOrdered}
+use Rattle.runs.specs.Streams.{Stream, Telling, TermsValue, AreTold, StandsOnStreams, IsOrdered}
 use Rattle.runs.specs.Headline.{HaveOneHistory, AreJudgedIn}
 use Rattle.runs.specs.Closed.{IsOfStream, CiteWithin, IsClosed}
 use Rattle.run_laws.specs.Groups.{one, AreClosedReaders, NoneOutOfMemory, IsGroup, IsAlone, AreIsolated, empty_stream, empty_report, with_others, IsRun, IsReadingOf}
@@ -30,7 +30,7 @@ ReadersClosed = (p : LayoutValue) (set : ℕ → Bool) (told : List Telling) (st
 
 -- a closed set of streams that one legal history judges is a group
 abbrev pub ClosedIsGroup : Type 0
-ClosedIsGroup = (f : Cnf) (terms : Terms) (set : ℕ → Bool) (h : History) (streams : List Stream)
+ClosedIsGroup = (f : Cnf) (terms : TermsValue) (set : ℕ → Bool) (h : History) (streams : List Stream)
     (reports : List Report)
     → Fits terms.layout f → length streams ≡ terms.layout.streams
     → IsLegal f terms.layout h → AreJudgedIn terms set h 1 streams reports
@@ -39,7 +39,7 @@ ClosedIsGroup = (f : Cnf) (terms : Terms) (set : ℕ → Bool) (h : History) (st
 
 -- so is a closed set of streams whose lines have an order, with others or not
 abbrev pub OrderedIsGroup : Type 0
-OrderedIsGroup = (f : Cnf) (terms : Terms) (all set : ℕ → Bool) (streams : List Stream)
+OrderedIsGroup = (f : Cnf) (terms : TermsValue) (all set : ℕ → Bool) (streams : List Stream)
     (reports : List Report)
     → Fits terms.layout f → length streams ≡ terms.layout.streams
     → ((s : ℕ) → IsTrue (set s) → IsTrue (all s)) → IsOrdered f terms all streams reports
@@ -48,7 +48,7 @@ OrderedIsGroup = (f : Cnf) (terms : Terms) (all set : ℕ → Bool) (streams : L
 
 -- and the lines of the set have an order by themselves
 abbrev pub OrderedRestricts : Type 0
-OrderedRestricts = (f : Cnf) (terms : Terms) (all set : ℕ → Bool) (streams : List Stream)
+OrderedRestricts = (f : Cnf) (terms : TermsValue) (all set : ℕ → Bool) (streams : List Stream)
     (reports : List Report)
     → Fits terms.layout f → length streams ≡ terms.layout.streams
     → ((s : ℕ) → IsTrue (set s) → IsTrue (all s)) → IsOrdered f terms all streams reports
@@ -56,7 +56,7 @@ OrderedRestricts = (f : Cnf) (terms : Terms) (all set : ℕ → Bool) (streams :
 
 -- A group is judged as in a run in which all other streams are empty.
 abbrev pub OthersEmpty : Type 0
-OthersEmpty = (f : Cnf) (terms : Terms) (set : ℕ → Bool) (streams : List Stream)
+OthersEmpty = (f : Cnf) (terms : TermsValue) (set : ℕ → Bool) (streams : List Stream)
     (reports : List Report)
     → IsGroup f terms set streams reports
     → (h : History) × IsLegal f terms.layout h
@@ -65,7 +65,7 @@ OthersEmpty = (f : Cnf) (terms : Terms) (set : ℕ → Bool) (streams : List Str
 
 -- at most one report fits a stream that is alone, however much of it was read
 abbrev pub AloneHasOneReport : Type 0
-AloneHasOneReport = (f : Cnf) (terms : Terms) (s : ℕ) (whole : List ℕ) (end : StreamEnd)
+AloneHasOneReport = (f : Cnf) (terms : TermsValue) (s : ℕ) (whole : List ℕ) (end : StreamEnd)
     (streams others : List Stream) (reports other_reports : List Report) (stream other : Stream)
     (report other_report : Report)
     → IsAlone f terms s streams reports → IsAlone f terms s others other_reports
@@ -77,7 +77,7 @@ AloneHasOneReport = (f : Cnf) (terms : Terms) (s : ℕ) (whole : List ℕ) (end 
 
 -- the reports of a run with threads are isolated
 abbrev pub RunIsolated : Type 0
-RunIsolated = (f : Cnf) (terms : Terms) (h : History) (passes : List View) (told : List Telling)
+RunIsolated = (f : Cnf) (terms : TermsValue) (h : History) (passes : List View) (told : List Telling)
     (reports : List Report)
     → Fits terms.layout f → length told ≡ terms.layout.streams
     → HaveOneHistory f terms.layout h passes
@@ -86,21 +86,21 @@ RunIsolated = (f : Cnf) (terms : Terms) (h : History) (passes : List View) (told
 
 -- and so are those of a run on one thread
 abbrev pub SerialIsolated : Type 0
-SerialIsolated = (f : Cnf) (terms : Terms) (told : List Telling) (reports : List Report)
+SerialIsolated = (f : Cnf) (terms : TermsValue) (told : List Telling) (reports : List Report)
     → Fits terms.layout f → length told ≡ terms.layout.streams
     → AreIsolated f terms told
     (λ streams. IsOrdered f terms (λ s. true) streams reports) reports
 
 -- a run with threads, and one on one thread, is a run
 abbrev pub ThreadsRun : Type 0
-ThreadsRun = (f : Cnf) (terms : Terms) (h : History) (passes : List View) (told : List Telling)
+ThreadsRun = (f : Cnf) (terms : TermsValue) (h : History) (passes : List View) (told : List Telling)
     (reports : List Report)
     → length told ≡ terms.layout.streams → HaveOneHistory f terms.layout h passes
     → StandsOnStreams told (λ streams. AreJudgedIn terms (λ s. true) h 1 streams reports)
     → IsRun f terms told reports
 
 abbrev pub SerialRun : Type 0
-SerialRun = (f : Cnf) (terms : Terms) (told : List Telling) (reports : List Report)
+SerialRun = (f : Cnf) (terms : TermsValue) (told : List Telling) (reports : List Report)
     → length told ≡ terms.layout.streams
     → StandsOnStreams told (λ streams. IsOrdered f terms (λ s. true) streams reports)
     → IsRun f terms told reports
@@ -124,7 +124,7 @@ FailedIsReading = (told : List Telling) (streams : List Stream) (s : ℕ) (telli
 -- In two runs of one formula, by the same terms, a stream that cites within itself has one report where the readers told the
 -- same bytes and end of it, unless memory ran out: whatever the other streams are, and whichever runs have threads.
 abbrev pub SameReadingAgrees : Type 0
-SameReadingAgrees = (f : Cnf) (terms : Terms) (s : ℕ) (whole : List ℕ) (end : StreamEnd)
+SameReadingAgrees = (f : Cnf) (terms : TermsValue) (s : ℕ) (whole : List ℕ) (end : StreamEnd)
     (told other_told : List Telling) (reports other_reports : List Report) (stream other : Stream)
     (report other_report : Report)
     → Fits terms.layout f → CiteWithin terms.layout (one s) whole
@@ -136,7 +136,7 @@ SameReadingAgrees = (f : Cnf) (terms : Terms) (s : ℕ) (whole : List ℕ) (end 
 
 -- So it has where both readers have the same bytes left at first, unless memory ran out or a read failed.
 abbrev pub SameBytesAgree : Type 0
-SameBytesAgree = (f : Cnf) (terms : Terms) (s : ℕ) (whole : List ℕ) (told other_told : List Telling)
+SameBytesAgree = (f : Cnf) (terms : TermsValue) (s : ℕ) (whole : List ℕ) (told other_told : List Telling)
     (telling other_telling : Telling) (reports other_reports : List Report)
     (report other_report : Report)
     → Fits terms.layout f → CiteWithin terms.layout (one s) whole

@@ -11,7 +11,7 @@ use Rattle.lrup_text.specs.declared.device.StreamEnd.{StreamEnd}
 use Rattle.lrup_text.specs.declared.device.StreamEnd.TheVariants as stream_ends
 use Rattle.stream_check.specs.Laws.{IsOfMemory}
 use Rattle.runs.specs.Closed.{IsOfStream, CiteWithin, IsClosed}
-use Rattle.runs.specs.Streams.{Stop, read_out, early, Stream, Telling, Terms, AreTold}
+use Rattle.runs.specs.Streams.{Stop, read_out, early, Stream, Telling, TermsValue, AreTold}
 use Rattle.runs.specs.Headline.{AreJudgedIn}
 
 -- one stream, as a set
@@ -45,7 +45,7 @@ NoneOutOfMemory set reports =
 
 -- The reports of a set of streams are those of the set alone: a legal history, with events of its streams and of no others,
 -- judges each of them so, and none tells that memory ran out.
-pub record IsGroup (f : Cnf) (terms : Terms) (set : ℕ → Bool) (streams : List Stream)
+pub record IsGroup (f : Cnf) (terms : TermsValue) (set : ℕ → Bool) (streams : List Stream)
     (reports : List Report) : Type 0 where
   pub history : History
   pub members : AllByRecursion (λ e. IsTrue (set (stream_of e))) history
@@ -54,19 +54,19 @@ pub record IsGroup (f : Cnf) (terms : Terms) (set : ℕ → Bool) (streams : Lis
   pub memory : NoneOutOfMemory set reports
 
 -- the report of stream s is that of a group of this stream alone
-abbrev pub IsAlone : Cnf → Terms → ℕ → List Stream → List Report → Type 0
+abbrev pub IsAlone : Cnf → TermsValue → ℕ → List Stream → List Report → Type 0
 IsAlone f terms s streams reports = IsGroup f terms (one s) streams reports
 
 -- The reports are isolated: for every list of streams that the readers told and by which they are judged, and for every
 -- closed set of these streams none of whose reports tells that memory ran out, the set's reports are such as it may have alone.
-abbrev pub AreIsolated : Cnf → Terms → List Telling → (List Stream → Type 0) → List Report → Type 0
+abbrev pub AreIsolated : Cnf → TermsValue → List Telling → (List Stream → Type 0) → List Report → Type 0
 AreIsolated f terms told Judged reports =
     (streams : List Stream) → AreTold told streams → Judged streams
     → (set : ℕ → Bool) → IsClosed terms.layout set streams → NoneOutOfMemory set reports
     → IsGroup f terms set streams reports
 
 -- a report that stream s may have alone, where these are its bytes and its end
-pub record IsReportAlone (f : Cnf) (terms : Terms) (s : ℕ) (whole : List ℕ) (end : StreamEnd)
+pub record IsReportAlone (f : Cnf) (terms : TermsValue) (s : ℕ) (whole : List ℕ) (end : StreamEnd)
     (report : Report) : Type 0 where
   pub streams : List Stream
   pub reports : List Report
@@ -79,7 +79,7 @@ pub record IsReportAlone (f : Cnf) (terms : Terms) (s : ℕ) (whole : List ℕ) 
 -- Each stream that is a closed set by itself, and whose report doesn't tell that memory ran out, has the one report that it may
 -- have alone: for every list of streams that the readers told and by which they are judged, and for all bytes and any end of
 -- which the stream is a reading, every report that it may have alone with these bytes and this end is its report.
-abbrev pub HaveReportsAlone : Cnf → Terms → List Telling → (List Stream → Type 0) → List Report
+abbrev pub HaveReportsAlone : Cnf → TermsValue → List Telling → (List Stream → Type 0) → List Report
     → Type 0
 HaveReportsAlone f terms told Judged reports =
     (streams : List Stream) → AreTold told streams → Judged streams
@@ -114,7 +114,7 @@ with_others set x s (y ∷ ys) = (if set s then y else x) ∷ with_others set x 
 
 -- What a run promises of its reports, with threads or on one: the readers told streams, as many as the layout has, and one
 -- legal history judges each by its own events, as its report says.
-pub record IsRun (f : Cnf) (terms : Terms) (told : List Telling)
+pub record IsRun (f : Cnf) (terms : TermsValue) (told : List Telling)
     (reports : List Report) : Type 0 where
   pub streams : List Stream
   pub are_told : AreTold told streams

@@ -15,7 +15,7 @@ use Rattle.stream_check.specs.declared.report.Report.{Report}
 use Rattle.stream_check.specs.Setting.{Setting}
 use Rattle.stream_check.specs.Standing.{deleted_by}
 use Rattle.stream_check.specs.Judging.{joined, JudgesBlocks}
-use Rattle.runs.specs.Streams.{Stream, Block, events_in, Telling, Terms, AreTold, IsOrdered}
+use Rattle.runs.specs.Streams.{Stream, Block, events_in, Telling, TermsValue, AreTold, IsOrdered}
 use Rattle.runs.specs.Headline.{HaveOneHistory, AreJudgedIn}
 use Rattle.runs.specs.Closed.{IsClosed}
 use Rattle.run_laws.specs.Lines.{IsLineBlock, IsOrder}
@@ -61,7 +61,7 @@ LinesOrdered = (f : Cnf) (p : LayoutValue) (set : ℕ → Bool) (h : History) (b
 -- The reports of a closed set of streams that one legal history judges have an order of lines, where what the streams found live
 -- of one another isn't left retired.
 abbrev pub ClosedOrdered : Type 0
-ClosedOrdered = (f : Cnf) (terms : Terms) (set : ℕ → Bool) (h : History) (streams : List Stream)
+ClosedOrdered = (f : Cnf) (terms : TermsValue) (set : ℕ → Bool) (h : History) (streams : List Stream)
     (reports : List Report)
     → Fits terms.layout f → length streams ≡ terms.layout.streams
     → IsLegal f terms.layout h → AreJudgedIn terms set h 1 streams reports
@@ -75,7 +75,7 @@ AllClosed = (p : LayoutValue) (streams : List Stream) → IsClosed p (λ s. true
 -- The reports of all streams have an order of lines, and the verdict that these lines come to is that of the reports: a stream
 -- said that it added the empty clause exactly if the order publishes it, and one within the cube exactly if the order publishes one.
 abbrev pub AllOrdered : Type 0
-AllOrdered = (f : Cnf) (terms : Terms) (h : History) (streams : List Stream) (reports : List Report)
+AllOrdered = (f : Cnf) (terms : TermsValue) (h : History) (streams : List Stream) (reports : List Report)
     → Fits terms.layout f → length streams ≡ terms.layout.streams
     → IsLegal f terms.layout h → AreJudgedIn terms (λ s. true) h 1 streams reports
     → FoundStays f terms.layout (λ s. true) h
@@ -96,7 +96,7 @@ OwnersAloneSuffices = (f : Cnf) (p : LayoutValue) (set : ℕ → Bool) (h : Hist
 
 -- a closed set of streams that retire nothing of their own that another cites leaves what they found of one another
 abbrev pub SharedStays : Type 0
-SharedStays = (f : Cnf) (terms : Terms) (set : ℕ → Bool) (h : History) (streams : List Stream)
+SharedStays = (f : Cnf) (terms : TermsValue) (set : ℕ → Bool) (h : History) (streams : List Stream)
     (reports : List Report)
     → Fits terms.layout f → length streams ≡ terms.layout.streams
     → IsLegal f terms.layout h → AreJudgedIn terms set h 1 streams reports
@@ -119,7 +119,7 @@ ReadersShare = (p : LayoutValue) (set : ℕ → Bool) (told : List Telling) (str
 
 -- The lines of a run with threads are serializable.
 abbrev pub RunSerializable : Type 0
-RunSerializable = (f : Cnf) (terms : Terms) (h : History) (passes : List View)
+RunSerializable = (f : Cnf) (terms : TermsValue) (h : History) (passes : List View)
     (told : List Telling) (reports : List Report)
     → Fits terms.layout f → length told ≡ terms.layout.streams
     → HaveOneHistory f terms.layout h passes

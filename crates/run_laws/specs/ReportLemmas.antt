@@ -6,7 +6,7 @@ use Rattle.lrup_model.specs.Formula.{Cnf}
 use Rattle.stream_check.specs.declared.report.Report.{Report}
 use Rattle.stream_check.specs.Laws.{IsOfMemory}
 use Rattle.runs.specs.Closed.{IsOfStream}
-use Rattle.runs.specs.Streams.{Stream, Telling, Terms}
+use Rattle.runs.specs.Streams.{Stream, Telling, TermsValue}
 use Rattle.runs.specs.StreamLemmas.{same_at}
 use Rattle.run_laws.specs.Groups.{one, AreIsolated, HaveReportsAlone}
 use Rattle.run_laws.specs.GroupLaws.{AloneHasOneReport}
@@ -15,7 +15,7 @@ pub only : (s t : ℕ) → IsTrue (one s t) → t ≡ s
 only s t member = elim (eqb_tells t s) [ inl same ↦ same.1 | inr other ↦ absurd (let no : true ≡ false = sym member ∙ other.0 in cc) ]
 
 -- its report is the one that it may have alone
-pub reports_alone : AloneHasOneReport → (f : Cnf) (terms : Terms) (told : List Telling)
+pub reports_alone : AloneHasOneReport → (f : Cnf) (terms : TermsValue) (told : List Telling)
     (Judged : List Stream → Type 0) (reports : List Report)
     → AreIsolated f terms told Judged reports → HaveReportsAlone f terms told Judged reports
 reports_alone law f terms told Judged reports isolated

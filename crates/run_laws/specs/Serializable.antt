@@ -5,7 +5,7 @@ use Rattle.lrup_model.specs.Cube.{CubeValue}
 use Rattle.lrup_model.specs.Formula.{Cnf}
 use Rattle.lrup_model.specs.Event.{History, publishes_empty}
 use Rattle.stream_check.specs.declared.report.Report.{Report}
-use Rattle.runs.specs.Streams.{Stream, Telling, Terms, AreTold, IsOrdered, events_in}
+use Rattle.runs.specs.Streams.{Stream, Telling, TermsValue, AreTold, IsOrdered, events_in}
 use Rattle.runs.specs.Headline.{AreJudgedIn}
 use Rattle.runs.specs.Closed.{IsClosed}
 use Rattle.run_laws.specs.Lines.{publishes_within}
@@ -21,7 +21,7 @@ pub record ComeToVerdict (cube : CubeValue) (es : History) (reports : List Repor
 -- the reports are judged, and for every closed set of these streams, of which none found an identity of another stream live that
 -- the history leaves retired, the set's lines have one order in which a checker of one thread gives the same reports; and where
 -- this holds of all streams together, they have one that comes to the verdict of the reports besides.
-abbrev pub IsSerializable : Cnf → Terms → List Telling → History → List Report → Type 0
+abbrev pub IsSerializable : Cnf → TermsValue → List Telling → History → List Report → Type 0
 IsSerializable f terms told h reports = (streams : List Stream)
     → AreTold told streams → AreJudgedIn terms (λ s. true) h 1 streams reports
     → ((set : ℕ → Bool) → IsClosed terms.layout set streams → FoundStays f terms.layout set h

@@ -123,22 +123,22 @@ IsBlockWithin p set block =
     × AllByRecursion (λ e. stream_of e ≡ block.stream) block.events
 
 -- What the streams of a run are all checked by: the layout, the cube, and how often a hint of another stream is fetched again.
-pub record Terms : Type 0 where
+pub record TermsValue : Type 0 where
   pub layout : LayoutValue
   pub cube : CubeValue
   pub tries : ℕ
 
 -- the record of these
-abbrev pub terms_at : LayoutValue → CubeValue → ℕ → Terms
+abbrev pub terms_at : LayoutValue → CubeValue → ℕ → TermsValue
 terms_at p cube tries = record { layout = p; cube = cube; tries = tries }
 
 -- the setting of stream s under these terms
-abbrev pub setting_of : Terms → ℕ → Setting
+abbrev pub setting_of : TermsValue → ℕ → Setting
 setting_of terms s =
     record { layout = terms.layout; cube = terms.cube; stream = s; tries = terms.tries }
 
 -- each stream of the set, counted on from s, is judged by its blocks
-abbrev pub AreJudged : Terms → (ℕ → Bool) → List Block → ℕ → List Stream → List Report → Type 0
+abbrev pub AreJudged : TermsValue → (ℕ → Bool) → List Block → ℕ → List Stream → List Report → Type 0
 AreJudged terms set blocks s [] [] = Unit {0}
 AreJudged terms set blocks s (stream ∷ streams) (report ∷ reports) =
     (IsTrue (set s) → JudgesStream (setting_of terms s) stream (blocks_of s blocks) report)
@@ -147,7 +147,7 @@ AreJudged terms set blocks s _ _ = ⊥
 
 -- The reports of a set of streams have an order of lines: a legal history of whole lines of these streams, each stream's in
 -- its order, by which each stream is judged so.
-pub record IsOrdered (f : Cnf) (terms : Terms) (set : ℕ → Bool) (streams : List Stream)
+pub record IsOrdered (f : Cnf) (terms : TermsValue) (set : ℕ → Bool) (streams : List Stream)
     (reports : List Report) : Type 0 where
   pub blocks : List Block
   pub within : AllByRecursion (IsBlockWithin terms.layout set) blocks

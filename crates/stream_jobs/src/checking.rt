@@ -6,13 +6,13 @@ ghost use Rattle.rtrb.specs.Ring.{received, SameConsumer};
 ghost use Rattle.stream_check.specs.Checker.{IsNew, IsReadyAt, LeavesOn, checker_state};
 ghost use Rattle.stream_check.specs.Judging.{joined, JudgesBlocks};
 ghost use Rattle.stream_check.specs.Leaving.{Leaves};
-ghost use Rattle.stream_check.specs.Setting.{max_tries};
 ghost use Rattle.stream_jobs.specs.Judged.{JudgesAtMark};
 ghost use Rattle.stream_ring.specs.Items.{EndsAtMark};
 
-use lrup_model::{ClauseMap, Cube, Layout};
+use lrup_model::ClauseMap;
 use lrup_text::StreamEnd;
 use rtrb::Consumer;
+use runs::Terms;
 use std::alloc::{AllocError, Global};
 use std::sync::{OnceLock, OnceToken, Wait};
 use stream_check::laws::over_stays;
@@ -47,25 +47,22 @@ pub struct Checked {
 }
 
 impl<G: Gate + Drop> CheckingJob<G> {
-    /// The job of stream `stream`, from 1 on, under this cube, with the memory that it will need, but for the identities that the stream drops. A
-    /// hint of another stream is fetched again while it is vacant, up to `tries` times, at most 1,000,000.
+    /// The job of stream `stream`, from 1 on, with the memory that it will need, but for the identities that the stream drops.
     pub(crate) fn new(
         alloc: Global,
         receiver: Receiver,
         gate: G,
         stream: u64,
-        layout: &Layout,
-        cube: &Cube,
-        tries: u64,
+        terms: &Terms<'_>,
     ) -> Result<CheckingJob<G>, AllocError>
-        requires stream { IsStream layout.now stream }
-        requires tries { tries ≤ max_tries }
+        requires stream { IsStream terms.now.layout stream }
         requires nothing { received receiver.consumer ≡ [] }
-        ensures checker { IfOk result (λ job. IsNew layout.now cube.now stream tries job.checker) }
+        ensures checker { IfOk result (λ job. let t = terms.now in
+            IsNew t.layout t.cube stream t.tries job.checker) }
         ensures gate { IfOk result (λ job. job.gate ≡ gate) }
         ensures receiver { IfOk result (λ job. job.receiver ≡ receiver) }
     {
-        let checker = Checker::new(alloc, stream, layout, cube, tries)?;
+        let checker = Checker::new(alloc, stream, terms.layout(), terms.cube(), terms.tries())?;
         let items = vec![in alloc; 0u16; POPPED]?;
         let bytes = vec![in alloc; 0u8; POPPED]?;
         Ok(CheckingJob {

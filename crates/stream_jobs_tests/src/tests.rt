@@ -61,7 +61,9 @@ fn open_pair<R: Source + Drop, G: Gate + Drop>(
 {
     ready_new();
     let map = open_map(alloc, 1, lines, 65_536)?;
-    let (reading, job) = jobs(alloc, reader, gate, 1, map.layout(), &Cube::empty(alloc), 3)?;
+    let cube = Cube::empty(alloc);
+    let terms = Terms::new(map.layout(), &cube, 3);
+    let (reading, job) = jobs(alloc, reader, gate, 1, &terms)?;
     Ok((reading, Checking { map, job }))
 }
 
@@ -506,25 +508,11 @@ fn jobs_again(
         IsPair both.0.sender.producer both.1.receiver.consumer) }
     ensures checker { IfOk result (λ both. IsNew layout.now [] 1 3 both.1.checker) }
 {
-    match jobs(
-        alloc,
-        Pieces::new(REFUTATION, 12, 0),
-        Open,
-        1,
-        layout,
-        &Cube::empty(alloc),
-        3,
-    ) {
+    let cube = Cube::empty(alloc);
+    let terms = Terms::new(layout, &cube, 3);
+    match jobs(alloc, Pieces::new(REFUTATION, 12, 0), Open, 1, &terms) {
         Ok(both) => Ok(both),
-        Err(_) => jobs(
-            alloc,
-            Pieces::new(REFUTATION, 12, 0),
-            Open,
-            1,
-            layout,
-            &Cube::empty(alloc),
-            3,
-        ),
+        Err(_) => jobs(alloc, Pieces::new(REFUTATION, 12, 0), Open, 1, &terms),
     }
 }
 

@@ -33,7 +33,7 @@ take_turns-requires g c =
     let same : p.streams ≡ c.len.result = streams_asked c.args.options f c.len.result p c.in_ok-layout.ensures.layout.0 in
     let count : length firsts ≡ p.streams = omega (arith, same, c.len.ensures, c.args.readers.ok.0) in
     record {
-      running = (f, terms_at p c.args.cube.now c.tries.result, firsts, subst (Runs view f (terms_at p c.args.cube.now c.tries.result) firsts m) (sym c.deref_mut.ensures.value) (runs_opened view f p m opened c.args.cube.now c.tries.result firsts c.in_ok-workers.workers.items count c.in_ok-workers.ensures));
+      running = (f, terms_at p c.args.cube.now c.tries.result, firsts, subst (Runs view f (terms_at p c.args.cube.now c.tries.result) firsts m) (sym c.deref_mut.ensures.value) (runs_opened view f p m opened c.args.cube.now c.tries.result firsts c.in_ok-workers.workers.items count (subst (λ (t : TermsValue). AreStarted (source_view g.R.Source.left g.R.Source.has_failed g.R.Source.reads) t 1 c.args.readers.items c.in_ok-workers.workers.items) c.new-terms.ensures c.in_ok-workers.ensures)));
     }
 
 pub outcome_of-requires-clause-over : goal.outcome_of-requires-clause-over
@@ -78,7 +78,7 @@ returns-clause-ordered g c =
     let wanted = terms_of c.args.options c.args.cube.now f (length readers) in
     let terms : terms_at p c.args.cube.now c.tries.result ≡ wanted = ap₂ (λ (l : LayoutValue) (n : ℕ). terms_at l c.args.cube.now n) same c.tries.ensures.tries in
     run_ordered view f p c.args.cube.now c.tries.result wanted readers outcome.readers.items
-    m c.take_turns.new.map started.items c.deref_mut.result.now worked _ outcome.reports.items opened terms count c.in_ok-workers.ensures
+    m c.take_turns.new.map started.items c.deref_mut.result.now worked _ outcome.reports.items opened terms count (subst (λ (t : TermsValue). AreStarted (source_view g.R.Source.left g.R.Source.has_failed g.R.Source.reads) t 1 c.args.readers.items c.in_ok-workers.workers.items) c.new-terms.ensures c.in_ok-workers.ensures)
     c.deref_mut.ensures.value c.take_turns.ensures.runs back c.outcome_of.ensures.reports c.outcome_of.ensures.readers
 
 -- the law's premise is the layout of the formula and the readers
