@@ -10,6 +10,7 @@ ghost use Rattle.stream_check.specs.Setting.{max_tries};
 use checker_support::open_map;
 use lrup_model::{Cube, Id, Layout, PlainMap};
 use lrup_text::{LineFault, ReadFault, Source};
+use runs::Terms;
 use std::alloc::{AllocError, Global};
 use std::fmt;
 use std::process::Abort;
