@@ -6,6 +6,7 @@ use lrup_model::{Cube, Layout};
 use std::marker::Model;
 
 /// The layout, the cube, and how often a hint of another stream is fetched again while it is vacant.
+#[derive(Drop)]
 pub struct Terms<'a> {
     layout: &'a Layout,
     cube: &'a Cube,
