@@ -118,7 +118,10 @@ wrong_end read n after stands few other = subst (λ t. IsTextFault IsCubeLine t 
 
     cases : (after : List ℕ) → ¬ (after ≡ line_feed ∷ []) → IsTextFault IsCubeLine (closed ++ after) Spelling
     cases [] other = too_short closed AtEnd ends tt
-    cases (c ∷ more) other = elim (cases_eq c line_feed) [ inl e ↦ subst (λ x. IsTextFault IsCubeLine (closed ++ x ∷ more) Spelling) (sym e) (follows more (λ is. other (ap (λ x. x ∷ more) e ∙ ap (λ t. line_feed ∷ t) is))) | inr ne ↦ misspelled closed AtEnd c more ends tt (λ signed. end_blocks signed c ne) ]
+    cases (c ∷ more) other = elim (cases_eq c line_feed) [
+      | inl e ↦ subst (λ x. IsTextFault IsCubeLine (closed ++ x ∷ more) Spelling) (sym e) (follows more (λ is. other (ap (λ x. x ∷ more) e ∙ ap (λ t. line_feed ∷ t) is)))
+      | inr ne ↦ misspelled closed AtEnd c more ends tt (λ signed. end_blocks signed c ne)
+    ]
       where
         follows : (more : List ℕ) → ¬ (more ≡ []) → IsTextFault IsCubeLine (closed ++ line_feed ∷ more) Spelling
         follows [] some = absurd (some refl)

@@ -1,5 +1,5 @@
 -- A cube's text as far as it was read: a number, and literals.
-use Rattle.std.proofs.Common.{◌≡◌, ℕ, ℤ, ◌+◌, ◌-◌, ◌*◌, ◌<◌, ◌≤◌, true, false, List, [], ◌∷◌, ◌++◌, length, unsigned_abs, Ok, Err, refl, sym, ◌∙◌, ap, subst, arith}
+use Rattle.std.proofs.Common.{◌≡◌, ℕ, ℤ, ◌+◌, ◌-◌, ◌*◌, ◌^◌, ◌<◌, ◌≤◌, true, List, [], ◌∷◌, ◌++◌, length, Ok, Err, refl, sym, ◌∙◌, ap, subst, arith}
 use Rattle.std.specs.Prelude.{Result, IfOk, IfErr, MatchResult}
 use Rattle.std.specs.Fmt.{decimal, signed_decimal}
 use Rattle.std.specs.List.{AllByRecursion}
@@ -10,10 +10,10 @@ use Rattle.lrup_text.specs.declared.cube.CubeFault.{CubeFault}
 use Rattle.lrup_text.specs.declared.cube.CubeFault.TheVariants.{Spelling, TooLong, Range, Memory}
 use Rattle.lrup_text.specs.CubeReading.{EndsAtSpot, import_front, IsRestFault, BeginsWithNumber, ReadsLiteral, AreKept, AreNotKept}
 use Rattle.lrup_text.specs.Cubes.{IsCubeLine, IsLiteralsText, IsTextFault, IsCubeFault}
-use Rattle.lrup_text.specs.Grammar.{IsDigit, line_feed, space, minus, zero_digit}
-use Rattle.lrup_text.specs.Lines.{IsStreamNumber, IsStreamLiteral}
-use Rattle.lrup_text.specs.Reading.{FitsDigits, literals_text, literal_front}
-use Rattle.lrup_text.proofs.Bytes.{first_digit, more_digits, decimal_next, positive, text_more, literals_end}
+use Rattle.lrup_text.specs.Grammar.{IsDigit, line_feed, space, zero_digit}
+use Rattle.lrup_text.specs.Lines.{IsStreamLiteral}
+use Rattle.lrup_text.specs.Reading.{FitsDigits, literals_text}
+use Rattle.lrup_text.proofs.Bytes.{first_digit, more_digits, below_limit, decimal_next, positive, text_more, literals_end}
 use Rattle.lrup_text.specs.Rests.{BeforeLiteral, InLiteral}
 use Rattle.lrup_text.proofs.Ahead.{tracks_as, literal_digits, tracks_literals}
 use Rattle.lrup_text.proofs.CubeFaults.{nothing_read}
@@ -43,6 +43,10 @@ digits_next first after number digits rest next b so is digit few = record {
   fits = more_digits number digits b so.fits few digit;
 }
 
+-- it keeps below the limit
+pub next_fits : (first : ℕ) (after : List ℕ) (number digits : ℕ) (rest : List ℕ) (b : ℕ) → DigitsSoFar first after number digits rest → IsDigit b → digits < 18 → number * 10 + (b - 48) < 10 ^ 18
+next_fits first after number digits rest b so digit few = below_limit (number * 10 + (b - 48)) (digits + 1) (more_digits number digits b so.fits few digit)
+
 pub digits_read : (first : ℕ) (after : List ℕ) (number digits : ℕ) (rest next : List ℕ) → DigitsSoFar first after number digits rest → rest ≡ space ∷ next → BeginsWithNumber (first ∷ after) number next
 digits_read first after number digits rest next so is = record {
   fits = positive number digits so.fits;
@@ -56,18 +60,6 @@ digits_fault first after number digits rest fault so h read n few stands =
     subst (λ t. IsTextFault IsCubeLine t fault) (append_assoc read so.more rest ∙ ap (λ t. read ++ t) (sym so.is)) (h (read ++ so.more) n few here)
 
 -- Literals.
-
-pub literal_negative : (rest next : List ℕ) (number : ℕ) (z : ℤ) → BeginsWithNumber rest number next → signed_decimal z ≡ literal_front true number → unsigned_abs z ≡ number → ReadsLiteral (minus ∷ rest) z next
-literal_negative rest next number z read text size = record {
-  fits = subst IsStreamNumber (sym size) read.fits;
-  is = ap (λ t. minus ∷ t) read.is ∙ ap (λ t. t ++ space ∷ next) (sym text);
-}
-
-pub literal_positive : (text next : List ℕ) (number : ℕ) (z : ℤ) → BeginsWithNumber text number next → signed_decimal z ≡ literal_front false number → unsigned_abs z ≡ number → ReadsLiteral text z next
-literal_positive text next number z read value size = record {
-  fits = subst IsStreamNumber (sym size) read.fits;
-  is = read.is ∙ ap (λ t. t ++ space ∷ next) (sym value);
-}
 
 pub record LiteralsSoFar (text : List ℕ) (literals : List ℤ) (count : ℕ) (rest : List ℕ) : Type 0 where
   pub size : length literals ≡ count

@@ -1,11 +1,10 @@
-use Rattle.std.proofs.Common.{ℕ, true, List, ◌∷◌, ◌++◌, ◌+◌, ◌-◌, ◌*◌, ◌^◌, ◌<◌, ◌∙◌, ap, sym, subst, arith}
+use Rattle.std.proofs.Common.{ℕ, true, List, ◌∷◌, ◌++◌, ◌+◌, ◌*◌, ◌<◌, ◌∙◌, ap, sym, subst, arith}
 use Rattle.std.proofs.lemmas.List.{nil_from_length}
 use Rattle.lrup_text.specs.declared.cube.CubeFault.TheVariants.{Spelling, TooLong}
 use Rattle.lrup_text.specs.CubeReading.{IsRestFault}
 use Rattle.lrup_text.specs.Cubes.{IsCubeLine, IsTextFault}
 use Rattle.lrup_text.specs.Rests.{InLiteral}
-use Rattle.lrup_text.proofs.Bytes.{below_limit, more_digits}
-use Rattle.lrup_text.proofs.CubeReads.{DigitsSoFar, digits_start, digits_next, digits_read, digits_fault}
+use Rattle.lrup_text.proofs.CubeReads.{DigitsSoFar, digits_start, digits_next, next_fits, digits_read, digits_fault}
 use Rattle.lrup_text.proofs.CubeFaults.{misspelled, too_long, too_short}
 use Rattle.lrup_text.proofs.Steps.{literal_blocks, literal_exceeds}
 use Rattle.lrup_text.proofs.cube.read_digits.Goals as goal
@@ -38,21 +37,15 @@ returns-then-digits-eq-MOST_DIGITS-clause-fault c =
 
 pub overflow_mul-number : goal.overflow_mul-number
 overflow_mul-number c =
-    let digit = c.is_digit.ensures.0 c.if-not-is_digit.false in
     let few : c.loop-byte.digits < 18 = omega (arith, c.loop-byte.invariant.fits.few, c.if-digits-eq-MOST_DIGITS.false) in
-    let byte = c.in-Some.field-0-0.now in
-    let fits : c.loop-byte.number * 10 + (byte - 48) < 10 ^ 18 =
-    below_limit (c.loop-byte.number * 10 + (byte - 48)) (c.loop-byte.digits + 1) (more_digits c.loop-byte.number c.loop-byte.digits byte c.loop-byte.invariant.fits few digit) in
-    omega (arith, fits)
+    let digit = c.is_digit.ensures.0 c.if-not-is_digit.false in
+    omega (arith, next_fits c.args.first c.args.after.now c.loop-byte.number c.loop-byte.digits c.loop-byte.rest.now c.in-Some.field-0-0.now c.loop-byte.invariant digit few)
 
 pub overflow_add-number : goal.overflow_add-number
 overflow_add-number c =
-    let digit = c.is_digit.ensures.0 c.if-not-is_digit.false in
     let few : c.loop-byte.digits < 18 = omega (arith, c.loop-byte.invariant.fits.few, c.if-digits-eq-MOST_DIGITS.false) in
-    let byte = c.in-Some.field-0-0.now in
-    let fits : c.loop-byte.number * 10 + (byte - 48) < 10 ^ 18 =
-    below_limit (c.loop-byte.number * 10 + (byte - 48)) (c.loop-byte.digits + 1) (more_digits c.loop-byte.number c.loop-byte.digits byte c.loop-byte.invariant.fits few digit) in
-    omega (arith, fits, c.from.ensures)
+    let digit = c.is_digit.ensures.0 c.if-not-is_digit.false in
+    omega (arith, next_fits c.args.first c.args.after.now c.loop-byte.number c.loop-byte.digits c.loop-byte.rest.now c.in-Some.field-0-0.now c.loop-byte.invariant digit few, c.from.ensures)
 
 pub loop-byte-preserved : goal.loop-byte-preserved
 loop-byte-preserved c =
