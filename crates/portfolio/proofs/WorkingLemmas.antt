@@ -18,7 +18,7 @@ use Rattle.stream_check.specs.Leaving.{Leaves}
 use Rattle.stream_check.specs.CheckerValue.{CheckerValue}
 use Rattle.stream_check.specs.Checker.{state_by, checker_state, report_at, LeavesOn, EndsBy, Ends, ReportsEnd}
 use Rattle.lrup_text.specs.ReadLemmas.{gave_more}
-use Rattle.lrup_text.specs.ReadOut.{SourceView}
+use Rattle.lrup_text.specs.ReadOut.{EndsSo, IsLastRead, SourceView}
 use Rattle.lrup_text.specs.Reads.{Gave}
 use Rattle.runs.specs.Readings.{IsReadTo}
 use Rattle.runs.specs.Streams.{Stop, early, read_to, StopsSo, StopsReading, JudgesTo}
