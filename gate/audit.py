@@ -10,8 +10,9 @@ toolchain comes with. Each definition stands there word for word, with the comme
 fails at a name of which it doesn't know what it stands for, so that no definition is left out, and at a name of a library
 that GLOSSES lacks.
 
-In the texts below, [[Name]] is a link to a definition, a type or a trait, and [[fn run]] to a function; [[Name: words]] and
-[[fn run.history: words]] say besides that the definition or the clause has these words. It fails where that isn't so.
+In the texts below, [[Name]] is a link to a definition, a type or a trait, [[fn run]] to a function, [[law known_stays]] to a law, and
+[[fn run.history+reports]] tells clauses. [[Name: words]] and [[fn run.history: words]] say besides that the definition or the clause
+has these words. It fails where that isn't so, and where a phrase isn't one of the sentence in README that it is a phrase of.
 """
 import re
 import sys
@@ -168,27 +169,27 @@ def whole(thing):
 
 def shown_members(trait, lines):
     """The lines of a trait, where `..` stands for the members and clauses that SHOWN doesn't name."""
-    wanted, kept, comment, asked = dict(SHOWN[trait]), [], [], []
+    kept, comment, member, here, missing = [], [], None, True, set()
+    for name, clauses in SHOWN[trait].items():
+        missing.update([name, *(f"{name} {clause}" for clause in clauses)])
     for line in lines:
-        member = re.match(r"    (?:ghost|type|fn) (\w+)", line)
+        begins = re.match(r"    (?:ghost|type|fn) (\w+)", line)
         clause = re.match(r"        (?:requires|ensures)(?: (\w+))? \{", line)
         if line.startswith("    ///"):
             comment.append(line)
-            continue
-        if member:
-            asked = wanted.pop(member.group(1), None)
-            here = asked is not None
+        elif begins:
+            member, here = begins.group(1), begins.group(1) in SHOWN[trait]
             kept += comment + [line] if here else ["    .."]
-        elif clause:
-            here = asked is not None and clause.group(1) in asked
-            kept += [line] if here else ["        .."] if asked is not None else []
-        elif line.startswith(" "):
-            kept += [line] if here else []
-        else:
+            missing.discard(member)
+            comment = []
+        elif clause and member in SHOWN[trait]:
+            here = clause.group(1) in SHOWN[trait][member]
+            kept.append(line if here else "        ..")
+            missing.discard(f"{member} {clause.group(1)}")
+        elif here or not line.startswith(" "):
             kept.append(line)
-        comment = []
-    if wanted:
-        sys.exit(f"audit: the trait {trait} has no {', '.join(wanted)}")
+    if missing:
+        sys.exit(f"audit: the trait {trait} has no {', '.join(sorted(missing))}")
     return [line for at, line in enumerate(kept) if line.strip() != ".." or line != kept[at - 1]]
 
 
@@ -201,12 +202,10 @@ class Contract:
         self.path, self.name = CRATES / place.split(": ")[0], place.split(": ")[1]
         self.crate = crate_of(self.path)
         self.source = rust(self.crate, self.path)
-        self.comment, self.head, given = self.source.function(self.name)
-        for clause in clauses or []:
-            if clause not in given:
-                sys.exit(f"audit: {self.name} has no clause {clause}")
-        self.clauses = {name: text for name, text in given.items() if clauses is None or name in clauses}
-        self.left_out, self.commented = len(self.clauses) < len(given), commented
+        self.comment, self.head, self.clauses = self.source.function(self.name)
+        count = len(self.clauses)
+        self.clauses = self.some(clauses)
+        self.left_out, self.commented = len(self.clauses) < count, commented
 
     def key(self):
         return ("fn", self.crate, self.name)
@@ -215,11 +214,22 @@ class Contract:
         lines = self.comment + "\n".join([self.head, *self.clauses.values()]).split("\n") + (["    .."] if self.left_out else [])
         return "\n".join(line for line in lines if self.commented or not line.strip().startswith("//"))
 
-    def used(self, clauses=None):
+    def some(self, names):
+        """The clauses of these names, or all."""
+        for name in names or []:
+            if name not in self.clauses:
+                sys.exit(f"audit: {self.name} has no clause {name}")
+        return {name: text for name, text in self.clauses.items() if names is None or name in names}
+
+    def named_by(self, clauses):
+        """The definitions and types that some clauses name."""
+        text = "\n".join(self.some(clauses).values())
+        return self.source.used(text) + self.source.types(text)
+
+    def used(self):
         """The definitions and types that the clauses and the signature name; and the names of which it isn't known what they are."""
-        text = "\n".join(text for name, text in self.clauses.items() if clauses is None or name in clauses)
-        found = self.source.used(text) + self.source.types(text) + self.source.types(self.head)
-        return [thing for thing in found if thing.name not in UNSEEN], self.source.doubts(self.head, text)
+        found = self.named_by(None) + self.source.types(self.head)
+        return [thing for thing in found if thing.name not in UNSEEN], self.source.doubts(self.head, "\n".join(self.clauses.values()))
 
     def of_libraries(self):
         return self.source.of_libraries("\n".join(self.clauses.values()))
@@ -531,12 +541,15 @@ class Page:
         if len(found) != 1:
             self.wrong.append(f"{self.file}: {len(found)} things are called '{name}'")
             return name
-        text = found[0].clauses.get(clause) if clause else found[0].text if words else ""
-        if text is None:
-            self.wrong.append(f"{self.file}: {name} has no clause '{clause}'")
-        elif words not in " ".join(text.split()):
+        place, clauses = self.link(found[0]), [clause for clause in clause.split("+") if clause]
+        texts = [getattr(found[0], "clauses", {}).get(clause) for clause in clauses] or [getattr(found[0], "text", "")]
+        if None in texts:
+            self.wrong.append(f"{self.file}: {name} has no clause '{clauses[texts.index(None)]}'")
+        elif words not in " ".join(" ".join(texts).split()):
             self.wrong.append(f"{self.file}: {said.split(': ')[0]} doesn't say '{words}'")
-        place = f"clause `{clause}` of {self.link(found[0])}" if clause else self.link(found[0])
+        if clauses:
+            told = ", ".join(f"`{clause}`" for clause in clauses[:-1]) + " and " * (len(clauses) > 1) + f"`{clauses[-1]}`"
+            place = f"clause{'s' * (len(clauses) > 1)} {told} of {place}"
         return f"`{words}` in {place}" if words else place
 
     def text(self):
@@ -547,16 +560,16 @@ class Page:
                 continue
             used = dict.fromkeys(thing.key() for thing in block.used()[0])
             things = {thing.key(): thing for thing in block.used()[0]}
-            links = [self.link(things[key]) for key in used if key != block.key()]
-            seen = f", which contracts see as `{block.value}`" if isinstance(block, RustType) and block.value else ""
-            place = f"[{block.crate}](../{block.path.relative_to(ROOT)})"
-            texts.append(f"### `{block.name}`\n\n```{block.language}\n{self.shown(block)}\n```\n\n{place}{seen}"
-                         + (": " if links else "") + ", ".join(links))
+            links = ", ".join(self.link(things[key]) for key in used if key != block.key())
+            if isinstance(block, RustType) and block.value:
+                links = f"contracts see it as {links or f'`{block.value}`'}"
+            place = f"[{block.crate}](../{block.path.relative_to(ROOT)})" + (": " if links else "") + links
+            texts.append(f"### `{block.name}`\n\n```{block.language}\n{self.shown(block)}\n```\n\n{place}")
         return "\n\n".join(texts) + "\n"
 
     def shown(self, block):
         """The text of a thing; before the first definition of a file that tells a grammar, the grammar."""
-        if isinstance(block, Definition) and any(line.startswith("--  ") for line in block.file.title):
+        if isinstance(block, Definition) and sum(line.startswith("--  ") for line in block.file.title) > 1:
             if next(thing for thing in self.things if isinstance(thing, Definition) and thing.file is block.file) is block:
                 return "\n".join(block.file.title + ["", block.shown()])
         return block.shown()
@@ -627,7 +640,7 @@ No clause says that something is answered: 'out of memory' may always come.
 
 ## Status 0"""
 
-SIGNATURE = """This is the clause `sound` of `command`, the whole program but for the machine. `words` are those of the command line after
+SIGNATURE = """This is the [[fn command.sound]], the whole program but for the machine. `words` are those of the command line after
 the program's name. `out` and `err` take bytes, and haven't failed before. Threads and clock promise nothing; `Global` is where memory is
 from."""
 
@@ -654,7 +667,8 @@ AUDIT_HOW = """## How to read it
   always does; `(x : A) × B` is 'there is an x', `(x : A) → B` 'for each x'; `≡` is equality. `Type 0` is what statements and sets of
   values are of, `Type 1` what a family of them is of.
 - **Functions.** `f x y` is f of x and y, `f x` then f that waits for y; `A → B` is also what takes an A to a B, and `λ x. y` such a
-  function. Of several equations the first one that fits counts. `_` is what the prover finds by itself, as is `{A : Type 0} →`.
+  function. Of several equations the first one that fits counts. `_` is anything on the left of `=` or after `λ`, and
+  elsewhere what the prover finds by itself, as `{A : Type 0} →` is.
   `let x = a in b` is b, where x is a.
 - **Values.** ℕ are the numbers from 0 on, ℤ the whole numbers: `pos n` is n, `negsuc n` is -(n + 1). `List ℕ` holds bytes or
   numbers: `[]` is empty, `x ∷ xs` has x in front of xs, `xs ++ ys` is one after the other. `Option A` is `None` or `Some x`. Tests
@@ -676,7 +690,7 @@ each are its crate, with a link to the file, and what it uses.
 
 STATUS_8_TOP = """## Status 8
 
-By the clause `sound_under`:"""
+By the [[fn command.sound_under]]:"""
 
 STATUS_8_PHRASES = [
     ("with status 8", "[[fn command.sound_under: result ≡ 8 →]]; formula and file as above."),
@@ -687,13 +701,14 @@ STATUS_8_PHRASES = [
 
 AUDIT_LIBRARIES = """## What the libraries define
 
-In short; Rattle's library and `clap` say it in full, in the modules named."""
+In short; `clap` says it in full, in the modules named, and Rattle's library `std` where no module is."""
 
 TRUST = """## What one has to trust
 
-- **That the prover is right**: Rattle's logic and its built libraries, with what they promise of `clap`, files and threads; two
+- **That the prover is right**: Rattle's logic and built libraries, with what they promise of `clap`, files and threads; two
   compilers, which the gate compares; the linker, the system and the machine.
-- **The lines above** on names of libraries.
+- **The lines above** on names of libraries, and `gate/audit.py`, that it left nothing out. Which word is FORMULA, `clap` says; of two or
+  more words without a hyphen in front it is the first ([[law plain_words]]).
 - **`main`**, which has no contract. It hands the machine's files, arguments and outputs to `command_with_arguments`, and returns what
   that answers: [[fn command_with_arguments.sound: exit_status result ≡ 0 → IsOkAnd arguments (λ given. NameUnsatisfiable read
   (words_after_name given))]]. The arguments were given, and those after the first are the words.
@@ -720,12 +735,12 @@ buffer isn't empty; if it is `Err`, what is known is as it was
 `Rule` what `clap` is told of an argument; with `value_names` 0 or 1 an option has one value
 `SetTrue` an argument that takes no value: its use is 'true'
 `Text` the bytes of a word
-`codes "p"` the text p, as a list of its bytes
+`codes "p"` the bytes of the text p
 `concat xss` the lists, one after the other
 `decimal n` n in decimal, without leading zeros
 `fault_of app words` the errors that the command finds in the words, asking for help among them: `[]` if there is none
 `filter f xs` the elements that pass the test
-`first_of name rows` the first value of an argument, if it has any, as it was given
+`first_of name rows` an argument's first value as it was given, if it has any
 `flat_map f xs` the lists that f gives of the elements, one after the other
 `int_eq a b` a is b, of whole numbers
 `is_err r` r is `Err e`
@@ -787,8 +802,8 @@ formulas, assignments, clauses and literals, [how to read it](AUDIT.md#how-to-re
 ## The headline"""
 
 HEADLINE_PHRASES = [
-    ("A run that returned", "[[fn run.history: IfOk result]], and so below: of a run that answers a fault nothing of this is said."),
-    ("one legal history of the one-thread clause map", """clause `history` of [[fn run]]: the streams' passes have one history
+    ("A run that returned", "[[fn run.history: IfOk result]], and so below: where a run answers a fault, nothing of this is said."),
+    ("one legal history of the one-thread clause map", """[[fn run.history]]: the streams' passes have one history
      ([[HaveOneHistory]]), and [[HaveOneHistory: legal : IsLegal f p h]]. From the formula's clauses on,
      [[IsLegal: LegalFrom f p (opening f) h]], each event answers as the map after the events before it ([[LegalFrom: Answers m e]]), and
      may be asked for ([[LegalFrom: IsAllowed f p e]])."""),
@@ -796,7 +811,7 @@ HEADLINE_PHRASES = [
      the history's events of s, in order. That `mine` are the calls made is said at the store: a pass begins with none,
      [[IsOpened: mine : p.view.mine ≡ []]]; each call adds itself, [[PassMoves: mine : new.mine ≡ old.mine ++ es]] with
      [[Calls: moves : PassMoves old new (e ∷ [])]]; where two passes meet they add none, [[Meets: first : PassMoves old new []]]."""),
-    ("after all that it had seen", """clause `calls` of [[fn Store::fetch]], [[fn Store::publish]] and [[fn Store::retire]]. What the pass
+    ("after all that it had seen", """[[fn Store::fetch.calls]], and so of [[fn Store::publish]] and [[fn Store::retire]]. What the pass
      had seen begins what it has seen then, [[PassMoves: seen : (more : History) × (new.seen ≡ old.seen ++ more)]], and the call is the
      last of that, [[Calls: last : EndsWith new.seen e]]. In the end each pass has seen the one history: [[HaveCalls: v.seen ≡ h]]."""),
     ("with the replies that it got", """the same clauses: the event has what the call answered.
@@ -812,10 +827,10 @@ HEADLINE_PHRASES = [
      comes from the clause that is kept, [[fn Store::literal.value: slice_get (clip_clause (pass_place pass.old.view) clip.now) k ≡ Some
      result]] (two at once: [[fn Store::pair]]); what is kept is the history's, [[IsFair: spelt : IsSpelt v.caller.formula v.seen
      v.spelt]], [[Spells: Spells (live c) (Some kept) = kept.literals ≡ c]]; and it stays, whatever calls follow: the law
-     [[law known_stays]], [[KnownStays: clip_clause b clip ≡ clip_clause a clip]], for which [[law pass_tells]] makes each call of the
-     pass one that follows."""),
+     [[law known_stays]], [[KnownStays: clip_clause b clip ≡ clip_clause a clip]], where calls lead from place a to place b ([[Tells]]), as
+     those of a pass do by the law [[law pass_tells]]."""),
     ("follows from the formula", "[[IsPublishable: follows : Follows f c]], which [[IsAllowed]] asks of each publish."),
-    ("Each report is the judgement of these replies", """clause `reports` of [[fn run]]: there are streams ([[StandsOnStreams]]), and
+    ("Each report is the judgement of these replies", """[[fn run.reports]]: there are streams ([[StandsOnStreams]]), and
      [[fn run.reports: AreJudgedIn terms (λ s. true) (seen_by (views outcome.passes.items)) 1 streams outcome.reports.items]], by the
      same history. Each report is judged by the stream's own events of it, [[AreJudgedIn: IsJudgedBy (setting_of terms s) stream (own h s)
      report]]: its good lines first, each by a block of events, and then what ended it ([[JudgesBlocks]])."""),
@@ -831,13 +846,14 @@ HEADLINE_PHRASES = [
     ("'unsatisfiable under assumptions' that none makes these and every assumed literal true", """[[fn run.sound_under:
      IsUnsatisfiableUnder formula.now cube.now]]. The [[Cube]] is that of its text, [[fn read_cube.cube: IsCubeText vars bytes.now]]."""),
     ("promises of each call of the store", """the contracts of [[fn Store::fetch]], [[fn Store::literal]], [[fn Store::publish]] and
-     [[fn Store::retire]], whoever calls them. A [[Pass]] can't be copied, and moves by these calls and by meeting alone."""),
-    ("the rest is one of the run", "clauses `history`, `reports`, `sound` and `sound_under` of [[fn run]]."),
+     [[fn Store::retire]], whoever calls them. A [[Pass]] comes of [[fn Store::open]] alone, can't be copied, and moves by these calls and
+     by meeting alone. That the threads call through the passes that the run gives back no clause says; its code does."""),
+    ("the rest is one of the run", "[[fn run.history+reports+sound+sound_under]]."),
 ]
 
 ISOLATION_TOP = """## Groups of streams are isolated
 
-Clauses `isolated` and `alone` of [[fn run]] and of [[fn run_serial]]."""
+By the [[fn run.isolated+alone]], and those of [[fn run_serial]]."""
 
 ISOLATION_PHRASES = [
     ("Streams that cite and import only clauses of each other and of the formula", """they are a closed set:
@@ -854,7 +870,7 @@ ISOLATION_PHRASES = [
      [[fn run.isolated: AreJudgedIn terms (λ s. true) (seen_by (views outcome.passes.items)) 1 streams outcome.reports.items]], or on one
      thread in an order of lines, [[fn run_serial.isolated: IsOrdered formula.now terms (λ s. true) streams outcome.reports.items]]."""),
     ("unless memory ran out", "[[AreIsolated: NoneOutOfMemory set reports]]."),
-    ("A stream that cites and imports only its own and the formula's", """clause `alone`, [[HaveReportsAlone: IsClosed terms.layout (one s)
+    ("A stream that cites and imports only its own and the formula's", """[[fn run.alone]], [[HaveReportsAlone: IsClosed terms.layout (one s)
      streams]]."""),
     ("with the same formula, options, assumptions and number of streams", """the `f` and the `terms` of [[HaveReportsAlone: IsReportAlone f
      terms s whole end other]], which are [[fn run.alone: terms_of options cube.now formula.now (length readers.items)]]."""),
@@ -867,7 +883,7 @@ ISOLATION_PHRASES = [
 
 SERIALIZABLE_TOP = """## Lines are serializable
 
-Clause `serializable` of [[fn run]]. Of [[fn run_serial]] the clause `ordered` says it of all streams, without the premise."""
+By the [[fn run.serializable]]; the [[fn run_serial.ordered]] says it of all streams, without the premise."""
 
 SERIALIZABLE_PHRASES = [
     ("The lines of such a group", "of each closed set: [[IsSerializable: (set : ℕ → Bool) → IsClosed terms.layout set streams]]."),
@@ -900,8 +916,7 @@ As [on AUDIT](AUDIT.md#how-to-read-it); and besides:
 
 CONTRACTS = """## The contracts
 
-`run` and `run_serial` have more clauses than the sentences: `layout`, `spawn`, `ring` and `first` say what holds of a run without an
-outcome. `tellings` are what the readers tell."""
+What the sentences don't say: the [[fn run.layout+spawn+ring+first]] say what holds where there is no outcome."""
 
 CALLS = """The calls of the store by which a pass makes, sees and reads history. Of its others `meet_all` lets passes meet in turn, and the
 rest ask, and change nothing."""
@@ -939,14 +954,14 @@ def audit_page():
     guarantee = sentence("The guarantee:").split(". ")[0].split("; ")
     sound, under = phrase_by_phrase(guarantee[0], STATUS_0_PHRASES), phrase_by_phrase(guarantee[1], STATUS_8_PHRASES)
     placed = {}
-    first = top_down(by_mention(command.used(["sound"])[0], sound[1]), placed)
-    more = top_down(by_mention(command.used(["sound_under"])[0], under[1]), placed)
+    first = top_down(by_mention(command.named_by(["sound"]) + [rust_type("command", "Files")], sound[1]), placed)
+    more = top_down(by_mention(command.named_by(["sound_under"]), under[1]), placed)
     things = [command, *first, *more]
     page = Page("AUDIT.md", [
         AUDIT_TOP, sound[0], SIGNATURE, command, "Phrase by phrase:", sound[1], ACCOUNT,
         AUDIT_HOW.replace("{count}", str(len(definitions_of(first)))).replace("{twins}", twins(things)), *first,
         STATUS_8_TOP, *under, f"{len(definitions_of(more))} definitions more.", *more,
-        AUDIT_LIBRARIES, libraries(things, []), TRUST], cited=[arguments])
+        AUDIT_LIBRARIES, libraries(things, []), TRUST], cited=[arguments, Law("command_line/src/laws.rt: plain_words")])
     page.sound = first
     return page
 
@@ -964,11 +979,11 @@ def runs_page(audit):
     traits = [whole(rust_type("lrup_text", "Source")), rust_type("stream_check", "Gate")]
     placed = {thing.key(): thing for thing in [*audit.things, *traits]}
     told = "\n".join(phrases for _, phrases in texts)
-    of_run = lambda *names: [thing for name in names for thing in run.used([name])[0] if thing in run.source.used(run.clauses[name])]
     of = lambda *contracts: [thing for contract in contracts for thing in contract.used()[0]]
     sections = {
-        "the history": of_run("history"), "the calls of the store": of(*store, *laws[:-2]), "the reports": of_run("reports"),
-        "isolated groups": of_run("isolated", "alone") + of(*laws[-2:]), "serializable lines": of_run("serializable"),
+        "the history": run.named_by(["history"]), "the calls of the store": of(*store, *laws[:-2]),
+        "the reports": run.named_by(["reports"]), "isolated groups": run.named_by(["isolated", "alone"]) + of(*laws[-2:]),
+        "serializable lines": run.named_by(["serializable"]),
         "the rest": of(run, serial, *asked)}
     blocks = []
     for title, roots in sections.items():
@@ -1021,9 +1036,10 @@ def libraries(things, others):
     modules = {}
     for module, name in sorted(foreign(things)):
         if name in glosses() and name not in told:
-            modules.setdefault(name, []).append(f"`{module}`")
+            modules.setdefault(name, []).extend([f"`{module}`"] if not module.startswith("std.") else [])
     lines = [re.match(r"(`[^`]*`) (.*)", glosses()[name]).groups() + (name,) for name in sorted(modules, key=str.lower)]
-    return "\n".join(f"- {head} ({', '.join(modules[name])}): {means}" for head, means, name in lines)
+    where = lambda name: f" ({', '.join(modules[name])})" if modules[name] else ""
+    return "\n".join(f"- {head}{where(name)}: {means}" for head, means, name in lines)
 
 
 def constructors(things):
@@ -1043,7 +1059,7 @@ def twins(things):
     """The names that stand for several things: what each of them is in which crates."""
     meant = {}
     for thing in things:
-        if not isinstance(thing, Contract):
+        if not isinstance(thing, Law):
             meant.setdefault(thing.name, {}).setdefault(f"`{thing.crate}`", set()).add(thing.crate)
     for user in definitions_of(things):
         for thing in user.used()[0]:
