@@ -10,9 +10,9 @@ toolchain comes with. Each definition stands there word for word, with the comme
 fails at a name of which it doesn't know what it stands for, so that no definition is left out, and at a name of a library
 that GLOSSES lacks.
 
-In the texts below, [[Name]] is a link to a definition, a type or a trait, [[fn run]] to a function, [[law known_stays]] to a law, and
-[[fn run.history+reports]] tells clauses. [[Name: words]] and [[fn run.history: words]] say besides that the definition or the clause
-has these words. It fails where that isn't so, and where a phrase isn't one of the sentence in README that it is a phrase of.
+In the texts below, [[Name]] is a link to a definition, a type or a trait, [[fn run]] to a function, [[law known_stays]] to a
+law, and [[fn run.history+reports]] tells clauses. [[Name: words]] and [[fn run.history: words]] say besides that the definition
+or the clause has these words. It fails where that isn't so, and where README lacks a phrase in the sentence that it is one of.
 """
 import re
 import sys
@@ -227,9 +227,9 @@ class Contract:
         return self.source.used(text) + self.source.types(text)
 
     def used(self):
-        """The definitions and types that the clauses and the signature name; and the names of which it isn't known what they are."""
-        found = self.named_by(None) + self.source.types(self.head)
-        return [thing for thing in found if thing.name not in UNSEEN], self.source.doubts(self.head, "\n".join(self.clauses.values()))
+        """The definitions and types that the clauses and the signature name; and the names that aren't known."""
+        found, text = self.named_by(None) + self.source.types(self.head), "\n".join(self.clauses.values())
+        return [thing for thing in found if thing.name not in UNSEEN], self.source.doubts(self.head, text)
 
     def of_libraries(self):
         return self.source.of_libraries("\n".join(self.clauses.values()))
@@ -469,7 +469,8 @@ def closure(roots):
 
 
 def top_down(roots, placed):
-    """The things that these stand on, but for those that are placed, and places them: these first, and each after one that uses it."""
+    """These things and what they stand on, but for what is placed already, and places them: these first, then each after one that
+    uses it."""
     order = []
 
     def visit(thing):
@@ -500,9 +501,20 @@ def definitions_of(things):
     return [thing for thing in things if isinstance(thing, Definition)]
 
 
+def slug_of(title):
+    """The anchor that GitHub gives a heading, but for the number of one that comes again."""
+    return re.sub(r"[^\w\- ]", "", title.lower()).replace(" ", "-")
+
+
+def contents(blocks):
+    """Links to the sections."""
+    titles = [title for block in blocks if isinstance(block, str) for title in re.findall(r"^## (.*)$", block, re.M)]
+    return " · ".join(f"[{title}](#{slug_of(title)})" for title in titles)
+
+
 class Page:
-    """A page of texts, and of definitions, types, traits and functions, each under a heading of its own. Where it names what another
-    page has, it links to that."""
+    """A page of texts, and of definitions, types, traits and functions, each under a heading of its own. It links to what another
+    page has."""
 
     def __init__(self, file, blocks, other=None, cited=()):
         self.file, self.blocks, self.other = file, blocks, other
@@ -510,7 +522,7 @@ class Page:
         self.named = {thing.kind + thing.name: [thing] for thing in cited}
         for block in blocks:
             for title in [block.name] if not isinstance(block, str) else re.findall(r"^#+ (.*)$", block, re.M):
-                slug = re.sub(r"[^\w\- ]", "", title.lower()).replace(" ", "-")
+                slug = slug_of(title)
                 slugs[slug] = slugs.get(slug, -1) + 1
                 anchor = slug if slugs[slug] == 0 else f"{slug}-{slugs[slug]}"
                 if not isinstance(block, str):
@@ -587,7 +599,8 @@ def laid_out(text):
         else:
             items = re.split(r"\n(?=- )", paragraph)
             indent = "  " if paragraph.startswith("- ") else ""
-            paragraphs.append("\n".join(textwrap.fill(" ".join(i.split()), 128, subsequent_indent=indent, **UNBROKEN) for i in items))
+            items = [textwrap.fill(" ".join(item.split()), 128, subsequent_indent=indent, **UNBROKEN) for item in items]
+            paragraphs.append("\n".join(items))
     return "\n\n".join(paragraphs)
 
 
@@ -631,58 +644,58 @@ AUDIT_TOP = f"""# What there is to believe: status 0 and 8
 
 {MADE}
 
-The prover shows that the code keeps its contracts. That the contracts say what one wants to rely on is for a reader to judge. This page
-has all that the clauses behind status 0 and 8 rest on, down to names of libraries, which have a line each; whole runs are on
-[AUDIT-RUNS](AUDIT-RUNS.md). At each definition ask: is this what the words mean? [DEFINITIONS](DEFINITIONS.md) says it in words, with
-examples.
+The prover shows that the code keeps its contracts. That the contracts say what one wants to rely on is for a reader to judge.
+This page has all that the clauses behind status 0 and 8 rest on, down to names of libraries, which have a line each; whole runs
+are on [AUDIT-RUNS](AUDIT-RUNS.md). At each definition ask: is this what the words mean? [DEFINITIONS](DEFINITIONS.md) says it in
+words, with examples.
 
 No clause says that something is answered: 'out of memory' may always come.
 
 ## Status 0"""
 
-SIGNATURE = """This is the [[fn command.sound]], the whole program but for the machine. `words` are those of the command line after
-the program's name. `out` and `err` take bytes, and haven't failed before. Threads and clock promise nothing; `Global` is where memory is
-from."""
+SIGNATURE = """This is the [[fn command.sound]], the whole program but for the machine. `words` are those of the command line
+after the program's name. `out` and `err` take bytes, and haven't failed before. Threads and clock promise nothing; `Global` is
+where memory is from."""
 
 STATUS_0_PHRASES = [
     ("with status 0", "[[fn command.sound: result ≡ 0 →]], where `result` is the status."),
     ("the bytes that were read", """they are the `bytes` of [[NameUnsatisfiable: Read formula bytes]], and `Read` is
-     [[fn command.sound: WasRead _ (F.opens files.old) F.Input.Source.reads (F.tells files.old)]]: the file was opened, and its reads
-     gave these bytes, up to one that gave none ([[WasRead]], [[GaveAll]])."""),
-    ("of the formula's file", """[[NameUnsatisfiable: AskFor words formula assume]]: the words have no fault, and their FORMULA is the path
-     `formula` that was read ([[AskFor]])."""),
+     [[fn command.sound: WasRead _ (F.opens files.old) F.Input.Source.reads (F.tells files.old)]]: the file was opened, and its
+     reads gave these bytes, up to one that gave none ([[WasRead]], [[GaveAll]])."""),
+    ("of the formula's file", """[[NameUnsatisfiable: AskFor words formula assume]]: the words have no fault, and their FORMULA
+     is the path `formula` that was read ([[AskFor]])."""),
     ("are a text of a formula", "[[NameUnsatisfiable: IsFormulaText bytes f]]: DIMACS CNF ([[IsFormulaText]])."),
     ("that no assignment satisfies", "[[NameUnsatisfiable: IsUnsatisfiable f]], of the same `f` ([[IsUnsatisfiable]])."),
 ]
 
-ACCOUNT = """**Which reads?** Whoever hands in the files chooses what `opens` and `reads` are; [[Files]] and [[Source]] promise of each
-call that it stands in them. The machine's files tell nothing and allow all, so of them alone the clause says little. But `command` is
-proved for all files, those too of which `opens` and `reads` are an account of the calls that were made and of what each gave. It can't
-see that account, since what is `ghost` isn't there when it runs: what it does with the machine's files it would do with those, for
-which the clause leaves no choice. This last step is an argument, and no theorem."""
+ACCOUNT = """**Which reads?** Whoever hands in the files chooses what `opens` and `reads` are; [[Files]] and [[Source]] promise
+of each call that it stands in them. The machine's files tell nothing and allow all, so of them alone the clause says little. But
+`command` is proved for all files, those too of which `opens` and `reads` are an account of the calls that were made and of what
+each gave. It can't see that account, since what is `ghost` isn't there when it runs: what it does with the machine's files it
+would do with those, for which the clause leaves no choice. This last step is an argument, and no theorem."""
 
 AUDIT_HOW = """## How to read it
 
 - **Statements.** `A × B` is 'A and B', `A ⊎ B` 'A or B', `A → B` 'if A then B', `A ↔ B` both ways; `⊥` never holds, `Unit {0}`
-  always does; `(x : A) × B` is 'there is an x', `(x : A) → B` 'for each x'; `≡` is equality. `Type 0` is what statements and sets of
-  values are of, `Type 1` what a family of them is of.
-- **Functions.** `f x y` is f of x and y, `f x` then f that waits for y; `A → B` is also what takes an A to a B, and `λ x. y` such a
-  function. Of several equations the first one that fits counts. `_` is anything on the left of `=` or after `λ`, and
+  always does; `(x : A) × B` is 'there is an x', `(x : A) → B` 'for each x'; `≡` is equality. `Type 0` is what statements and
+  sets of values are of, `Type 1` what a family of them is of.
+- **Functions.** `f x y` is f of x and y, `f x` then f that waits for y; `A → B` is also what takes an A to a B, and `λ x. y`
+  such a function. Of several equations the first one that fits counts. `_` is anything on the left of `=` or after `λ`, and
   elsewhere what the prover finds by itself, as `{A : Type 0} →` is.
   `let x = a in b` is b, where x is a.
 - **Values.** ℕ are the numbers from 0 on, ℤ the whole numbers: `pos n` is n, `negsuc n` is -(n + 1). `List ℕ` holds bytes or
-  numbers: `[]` is empty, `x ∷ xs` has x in front of xs, `xs ++ ys` is one after the other. `Option A` is `None` or `Some x`. Tests
-  (`==`, `||`, `not`) give `true` or `false`, a `Bool`.
+  numbers: `[]` is empty, `x ∷ xs` has x in front of xs, `xs ++ ys` is one after the other. `Option A` is `None` or `Some x`.
+  Tests (`==`, `||`, `not`) give `true` or `false`, a `Bool`.
 - **Types.** A `record` has all of its members; `r.a` is the member a of r, `record { a = x; }` has just these members,
   `record r { a = x; }` is r with another a.
-- **Contracts.** `requires` is what a caller must see to, `ensures` what holds after the call, `result` its answer; `old` and `new`
-  are what a reference had before the call and after it, `now` what it has. A member of a trait that is `ghost` is for contracts
-  alone; after `=` it says what it is where who writes the trait doesn't. `F.tells` is that member for the type F,
+- **Contracts.** `requires` is what a caller must see to, `ensures` what holds after the call, `result` its answer; `old` and
+  `new` are what a reference had before the call and after it, `now` what it has. A member of a trait that is `ghost` is for
+  contracts alone; after `=` it says what it is where who writes the trait doesn't. `F.tells` is that member for the type F,
   `F.Input.Source.reads` that of `Source` for F's own type `Input`. Contracts see a slice as a list.
 {twins}
 
-Definitions stand word for word, but for `pub` and `abbrev`, which are for the prover; `..` stands for what is left out of code. Below
-each are its crate, with a link to the file, and what it uses.
+Definitions stand word for word, but for `pub` and `abbrev`, which are for the prover; `..` stands for what is left out of code.
+Below each are its crate, with a link to the file, and what it uses.
 
 ## The definitions of status 0
 
@@ -694,9 +707,9 @@ By the [[fn command.sound_under]]:"""
 
 STATUS_8_PHRASES = [
     ("with status 8", "[[fn command.sound_under: result ≡ 8 →]]; formula and file as above."),
-    ("none satisfies it and makes the assumed literals true", """[[NameUnsatisfiableUnder: IsUnsatisfiableUnder f cube]]. These literals
-     are the set `cube`: [[NameUnsatisfiableUnder: AreAssumed Read f.vars assume cube]], what was read of `--assume`'s file is its text
-     ([[IsCubeText]]); without `--assume` there are none."""),
+    ("none satisfies it and makes the assumed literals true", """[[NameUnsatisfiableUnder: IsUnsatisfiableUnder f cube]]. These
+     literals are the set `cube`: [[NameUnsatisfiableUnder: AreAssumed Read f.vars assume cube]], what was read of `--assume`'s
+     file is its text ([[IsCubeText]]); without `--assume` there are none."""),
 ]
 
 AUDIT_LIBRARIES = """## What the libraries define
@@ -707,11 +720,11 @@ TRUST = """## What one has to trust
 
 - **That the prover is right**: Rattle's logic and built libraries, with what they promise of `clap`, files and threads; two
   compilers, which the gate compares; the linker, the system and the machine.
-- **The lines above** on names of libraries, and `gate/audit.py`, that it left nothing out. Which word is FORMULA, `clap` says; of two or
-  more words without a hyphen in front it is the first ([[law plain_words]]).
-- **`main`**, which has no contract. It hands the machine's files, arguments and outputs to `command_with_arguments`, and returns what
-  that answers: [[fn command_with_arguments.sound: exit_status result ≡ 0 → IsOkAnd arguments (λ given. NameUnsatisfiable read
-  (words_after_name given))]]. The arguments were given, and those after the first are the words.
+- **The lines above** on names of libraries, and `gate/audit.py`, that it left nothing out. Which word is FORMULA, `clap` says;
+  of two or more words without a hyphen in front it is the first ([[law plain_words]]).
+- **`main`**, which has no contract. It hands the machine's files, arguments and outputs to `command_with_arguments`, and returns
+  what that answers: [[fn command_with_arguments.sound: exit_status result ≡ 0 → IsOkAnd arguments (λ given. NameUnsatisfiable
+  read (words_after_name given))]]. The arguments were given, and those after the first are the words.
 - **The machine's files**: that reads give what the file holds, and that it is the one you mean. No clause says so."""
 
 GLOSSES = """
@@ -782,72 +795,80 @@ RUNS_TOP = f"""# What there is to believe: whole runs
 
 {MADE}
 
-Three sentences of [README](../README.md) on whole runs: of each phrase the clause, the law and the definition that carry it; then the
-contracts, the laws, and all definitions under them, each after one that uses it. What stands on [AUDIT](AUDIT.md) isn't repeated:
-formulas, assignments, clauses and literals, [how to read it](AUDIT.md#how-to-read-it), and
+Three sentences of [README](../README.md) on whole runs: of each phrase the clause, the law and the definition that carry it;
+then the contracts, the laws, and all definitions under them, each after one that uses it. What stands on [AUDIT](AUDIT.md) isn't
+repeated: formulas, assignments, clauses and literals, [how to read it](AUDIT.md#how-to-read-it), and
 [what one has to trust](AUDIT.md#what-one-has-to-trust).
 
-- **Run.** A call of [[fn run]], with two threads for each stream, or of [[fn run_serial]], on one thread; the program calls the second
-  with `--serial`, and else the first.
+- **Run.** A call of [[fn run]], with two threads for each stream, or of [[fn run_serial]], on one thread; the program calls the
+  second with `--serial`, and else the first.
 - **Stream.** The bytes that a reader gave, and where reading stopped ([[Stream]]): lines that add a clause with its hints, delete
   clauses, or import one ([[StreamLine]]). Streams count from 1.
+- **Set.** A set of streams is a test on their numbers: `λ s. true` is all of them, [[one]] a single one.
 - **Identity.** A clause's number: the formula's clauses have the first ones, the streams own the others by turns ([[owner]]).
-- **History.** A list of events, one for each call of fetch, publish or retire ([[Event]]). It is legal if each event may be asked for,
-  and answers as the map of one thread does ([[IsLegal]]).
-- **Pass.** A stream's place at the store. Contracts see what it knows ([[View]]): `seen`, a history; `mine`, the calls made through it;
-  `spelt`, where clauses lie and their literals.
+- **History.** A list of events, one for each call of fetch, publish or retire ([[Event]]). It is legal if each event may be
+  asked for, and answers as the map of one thread does ([[IsLegal]]).
+- **Pass.** A stream's place at the store. Contracts see what it knows ([[View]]): `seen`, a history; `mine`, the calls made
+  through it; `spelt`, where clauses lie and their literals.
 - **Cube.** The assumed literals, as a set ([[Cube]]). **Terms** are layout, cube and tries, by which all streams are checked
   ([[Terms]]).
+
+{{contents}}
 
 ## The headline"""
 
 HEADLINE_PHRASES = [
-    ("A run that returned", "[[fn run.history: IfOk result]], and so below: where a run answers a fault, nothing of this is said."),
+    ("A run that returned", "[[fn run.history: IfOk result]], and so below: of a fault nothing of this is said."),
     ("one legal history of the one-thread clause map", """[[fn run.history]]: the streams' passes have one history
      ([[HaveOneHistory]]), and [[HaveOneHistory: legal : IsLegal f p h]]. From the formula's clauses on,
-     [[IsLegal: LegalFrom f p (opening f) h]], each event answers as the map after the events before it ([[LegalFrom: Answers m e]]), and
-     may be asked for ([[LegalFrom: IsAllowed f p e]])."""),
-    ("each stream's calls stand once, in its order", """[[HaveCalls: v.mine ≡ own h s]]: the calls made through the pass of stream s are
-     the history's events of s, in order. That `mine` are the calls made is said at the store: a pass begins with none,
-     [[IsOpened: mine : p.view.mine ≡ []]]; each call adds itself, [[PassMoves: mine : new.mine ≡ old.mine ++ es]] with
-     [[Calls: moves : PassMoves old new (e ∷ [])]]; where two passes meet they add none, [[Meets: first : PassMoves old new []]]."""),
-    ("after all that it had seen", """[[fn Store::fetch.calls]], and so of [[fn Store::publish]] and [[fn Store::retire]]. What the pass
-     had seen begins what it has seen then, [[PassMoves: seen : (more : History) × (new.seen ≡ old.seen ++ more)]], and the call is the
-     last of that, [[Calls: last : EndsWith new.seen e]]. In the end each pass has seen the one history: [[HaveCalls: v.seen ≡ h]]."""),
+     [[IsLegal: LegalFrom f p (opening f) h]], each event answers as the map after the events before it ([[LegalFrom: Answers m
+     e]]), and may be asked for ([[LegalFrom: IsAllowed f p e]])."""),
+    ("each stream's calls stand once, in its order", """[[HaveCalls: v.mine ≡ own h s]]: the calls made through the pass of
+     stream s are the history's events of s, in order. That `mine` are the calls made is said at the store: a pass begins with
+     none, [[IsOpened: mine : p.view.mine ≡ []]]; each call adds itself, [[PassMoves: mine : new.mine ≡ old.mine ++ es]] with
+     [[Calls: moves : PassMoves old new (e ∷ [])]]; where two passes meet they add none, [[Meets: first : PassMoves old new
+     []]]."""),
+    ("after all that it had seen", """[[fn Store::fetch.calls]], and so of [[fn Store::publish]] and [[fn Store::retire]]. What
+     the pass had seen begins what it has seen then, [[PassMoves: seen : (more : History) × (new.seen ≡ old.seen ++ more)]], and
+     the call is the last of that, [[Calls: last : EndsWith new.seen e]]. In the end each pass has seen the one history:
+     [[HaveCalls: v.seen ≡ h]]."""),
     ("with the replies that it got", """the same clauses: the event has what the call answered.
      [[fn Store::fetch.calls: events.fetch pass.old.view.caller.stream id reply]], where
      [[fn Store::fetch.calls: reply = reply_of (pass_place pass.new.view) result]];
      [[fn Store::publish.calls: events.publish stream id clause.now result]];
      [[fn Store::retire.calls: events.retire stream id result]]."""),
-    ("Each published clause has its stream's identity", """[[IsAllowed: IsAllowed f p (publish s id c r) = Owns p s id × IsPublishable f
-     c]], of each event of a legal history."""),
+    ("Each published clause has its stream's identity", """[[IsAllowed: IsAllowed f p (publish s id c r) = Owns p s id ×
+     IsPublishable f c]], of each event of a legal history."""),
     ("never changes", """in a legal history an entry goes from absent to live to retired, with one clause: the law
-     [[law entries_advance]], [[Advances: Advances (live c) (retired d) = d ≡ c]]. What the store gives to read is that clause: a live
-     fetch gives a clip that is known, [[fn Store::fetch.fetched: IsFetched (pass_place pass.new.view) id result]]; of it each literal
-     comes from the clause that is kept, [[fn Store::literal.value: slice_get (clip_clause (pass_place pass.old.view) clip.now) k ≡ Some
-     result]] (two at once: [[fn Store::pair]]); what is kept is the history's, [[IsFair: spelt : IsSpelt v.caller.formula v.seen
-     v.spelt]], [[Spells: Spells (live c) (Some kept) = kept.literals ≡ c]]; and it stays, whatever calls follow: the law
-     [[law known_stays]], [[KnownStays: clip_clause b clip ≡ clip_clause a clip]], where calls lead from place a to place b ([[Tells]]), as
-     those of a pass do by the law [[law pass_tells]]."""),
+     [[law entries_advance]], [[Advances: Advances (live c) (retired d) = d ≡ c]]. What the store gives to read is that clause: a
+     live fetch gives a clip that is known, [[fn Store::fetch.fetched: IsFetched (pass_place pass.new.view) id result]]; of it
+     each literal comes from the clause that is kept, [[fn Store::literal.value: slice_get (clip_clause (pass_place
+     pass.old.view) clip.now) k ≡ Some result]] (two at once: [[fn Store::pair]]); what is kept is the history's, [[IsFair: spelt
+     : IsSpelt v.caller.formula v.seen v.spelt]], [[Spells: Spells (live c) (Some kept) = kept.literals ≡ c]]; and it stays,
+     whatever calls follow: the law [[law known_stays]], [[KnownStays: clip_clause b clip ≡ clip_clause a clip]], where calls
+     lead from place a to place b ([[Tells]]), as those of a pass do by the law [[law pass_tells]]."""),
     ("follows from the formula", "[[IsPublishable: follows : Follows f c]], which [[IsAllowed]] asks of each publish."),
     ("Each report is the judgement of these replies", """[[fn run.reports]]: there are streams ([[StandsOnStreams]]), and
-     [[fn run.reports: AreJudgedIn terms (λ s. true) (seen_by (views outcome.passes.items)) 1 streams outcome.reports.items]], by the
-     same history. Each report is judged by the stream's own events of it, [[AreJudgedIn: IsJudgedBy (setting_of terms s) stream (own h s)
-     report]]: its good lines first, each by a block of events, and then what ended it ([[JudgesBlocks]])."""),
-    ("of the bytes that reads of the stream gave", """[[fn run.reports: AreRead _ R.reads readers.items outcome.readers.items streams]], of
-     the same streams: [[ReadOut: given : Gave S reads first bytes last]], from each reader as it was handed in. Whoever hands in the
-     readers chooses `reads`; [AUDIT](AUDIT.md#status-0) says under 'Which reads?' why that suffices. Where a reader tells what it has
-     left, the bytes begin that ([[IsTold]])."""),
+     [[fn run.reports: AreJudgedIn terms (λ s. true) (seen_by (views outcome.passes.items)) 1 streams outcome.reports.items]], by
+     the same history. Each stream is judged, as its report says, by its own events of it, [[AreJudgedIn: IsJudgedBy (setting_of
+     terms s) stream (own h s) report]]: its good lines first, each with a block of events, and then what ended it
+     ([[JudgesBlocks]])."""),
+    ("of the bytes that reads of the stream gave", """[[fn run.reports: AreRead _ R.reads readers.items outcome.readers.items
+     streams]], of the same streams: [[ReadOut: given : Gave S reads first bytes last]], from each reader as it was handed in.
+     Whoever hands in the readers chooses `reads`; [AUDIT](AUDIT.md#status-0) says under 'Which reads?' why that suffices. Where
+     a reader tells what it has left, the bytes begin that ([[IsTold]])."""),
     ("up to its first end or to one that failed", """[[fn run.reports: AllByRecursion IsReadOut streams]], so
      [[ReadOut: ends : IsLastRead S reads end last after]] for the end by which the stream is judged."""),
     ("'Unsatisfiable' means that no assignment makes every clause of the formula true", """[[fn run.sound: outcome.verdict ≡
      Verdict.Unsatisfiable → IsUnsatisfiable formula.now]]. The [[Formula]] is that of its text,
      [[fn parse.formula: IfOk result (λ f. IsFormulaText bytes.now f)]]."""),
     ("'unsatisfiable under assumptions' that none makes these and every assumed literal true", """[[fn run.sound_under:
-     IsUnsatisfiableUnder formula.now cube.now]]. The [[Cube]] is that of its text, [[fn read_cube.cube: IsCubeText vars bytes.now]]."""),
-    ("promises of each call of the store", """the contracts of [[fn Store::fetch]], [[fn Store::literal]], [[fn Store::publish]] and
-     [[fn Store::retire]], whoever calls them. A [[Pass]] comes of [[fn Store::open]] alone, can't be copied, and moves by these calls and
-     by meeting alone. That the threads call through the passes that the run gives back no clause says; its code does."""),
+     IsUnsatisfiableUnder formula.now cube.now]]. The [[Cube]] is that of its text, [[fn read_cube.cube: IsCubeText vars
+     bytes.now]]."""),
+    ("promises of each call of the store", """the contracts of [[fn Store::fetch]], [[fn Store::literal]], [[fn Store::publish]]
+     and [[fn Store::retire]], whoever calls them. A [[Pass]] comes of [[fn Store::open]] alone, can't be copied, and moves by
+     these calls and by meeting alone. That the threads made their calls through the passes that the run gives back is said under
+     it, by [[fn check_all.found]]: each pass moved by the events by which its stream's report is judged."""),
     ("the rest is one of the run", "[[fn run.history+reports+sound+sound_under]]."),
 ]
 
@@ -857,28 +878,31 @@ By the [[fn run.isolated+alone]], and those of [[fn run_serial]]."""
 
 ISOLATION_PHRASES = [
     ("Streams that cite and import only clauses of each other and of the formula", """they are a closed set:
-     [[AreIsolated: (set : ℕ → Bool) → IsClosed terms.layout set streams]]. No line of a stream of it cites what a stream outside it owns,
-     [[CiteWithin: AllByRecursion (IsOwnedWithin p set) (cited_by line)]], hints and imports ([[cited_by]]); nobody owns the formula's
-     identities."""),
-    ("have such reports as they may have", """[[AreIsolated: IsGroup f terms set streams reports]]: some legal history judges the set's
-     streams so, [[IsGroup: judged : AreJudgedIn terms set history 1 streams reports]]."""),
+     [[AreIsolated: (set : ℕ → Bool) → IsClosed terms.layout set streams]]. No line of a stream of it cites what a stream outside
+     it owns, [[CiteWithin: AllByRecursion (IsOwnedWithin p set) (cited_by line)]], hints and imports ([[cited_by]]); nobody owns
+     the formula's identities."""),
+    ("have such reports as they may have", """[[AreIsolated: IsGroup f terms set streams reports]]: some legal history judges the
+     set's streams so, [[IsGroup: judged : AreJudgedIn terms set history 1 streams reports]]."""),
     ("where all others are empty", """that history has events of the set's streams alone,
-     [[IsGroup: members : AllByRecursion (λ e. IsTrue (set (stream_of e))) history]]. By the law [[law others_empty]] such reports are those
-     of a run in which the others have no bytes, [[OthersEmpty: with_others set empty_stream 1 streams]]."""),
-    ("whatever these hold and however the threads ran", """the clause is one of every run, and [[IsGroup]] says nothing of streams outside
-     the set. The streams are any that the readers told and by which the run's reports are judged: in its history,
-     [[fn run.isolated: AreJudgedIn terms (λ s. true) (seen_by (views outcome.passes.items)) 1 streams outcome.reports.items]], or on one
-     thread in an order of lines, [[fn run_serial.isolated: IsOrdered formula.now terms (λ s. true) streams outcome.reports.items]]."""),
+     [[IsGroup: members : AllByRecursion (λ e. IsTrue (set (stream_of e))) history]]. By the law [[law others_empty]] such
+     reports are those of a run in which the others have no bytes, [[OthersEmpty: with_others set empty_stream 1 streams]]."""),
+    ("whatever these hold and however the threads ran", """the clause is one of every run, and [[IsGroup]] says nothing of
+     streams outside the set. The streams are any that the readers told and by which the run's reports are judged: in its history,
+     [[fn run.isolated: AreJudgedIn terms (λ s. true) (seen_by (views outcome.passes.items)) 1 streams outcome.reports.items]],
+     or on one thread in an order of lines, [[fn run_serial.isolated: IsOrdered formula.now terms (λ s. true) streams
+     outcome.reports.items]]."""),
     ("unless memory ran out", "[[AreIsolated: NoneOutOfMemory set reports]]."),
-    ("A stream that cites and imports only its own and the formula's", """[[fn run.alone]], [[HaveReportsAlone: IsClosed terms.layout (one s)
-     streams]]."""),
-    ("with the same formula, options, assumptions and number of streams", """the `f` and the `terms` of [[HaveReportsAlone: IsReportAlone f
-     terms s whole end other]], which are [[fn run.alone: terms_of options cube.now formula.now (length readers.items)]]."""),
-    ("one report", """[[HaveReportsAlone: (other : Report) → IsReportAlone f terms s whole end other → other ≡ report]]: each report that the
-     stream may have alone with these bytes and this end. Another run's report of it is such a one, by that run's `isolated`."""),
+    ("A stream that cites and imports only its own and the formula's", """[[fn run.alone]], [[HaveReportsAlone: IsClosed
+     terms.layout (one s) streams]]."""),
+    ("with the same formula, options, assumptions and number of streams", """the `f` and the `terms` of [[HaveReportsAlone:
+     IsReportAlone f terms s whole end other]], which are [[fn run.alone: terms_of options cube.now formula.now (length
+     readers.items)]]."""),
+    ("one report", """[[HaveReportsAlone: (other : Report) → IsReportAlone f terms s whole end other → other ≡ report]]: each
+     report that the stream may have alone with these bytes and this end. Another run's report of it is such a one, by that run's
+     `isolated`."""),
     ("unless memory ran out or a read failed", """[[HaveReportsAlone: ¬ IsOfMemory report]]; and bytes and end are to be the same,
-     [[HaveReportsAlone: IsReadingOf whole end stream]]: a read that failed is another end. The law [[law same_bytes_agree]] says it of two
-     runs whose readers tell the same bytes, [[SameBytesAgree: ¬ IsOfMemory report → ¬ IsOfFailure report]]."""),
+     [[HaveReportsAlone: IsReadingOf whole end stream]]: a read that failed is another end. The law [[law same_bytes_agree]] says
+     it of two runs whose readers tell the same bytes, [[SameBytesAgree: ¬ IsOfMemory report → ¬ IsOfFailure report]]."""),
 ]
 
 SERIALIZABLE_TOP = """## Lines are serializable
@@ -886,31 +910,34 @@ SERIALIZABLE_TOP = """## Lines are serializable
 By the [[fn run.serializable]]; the [[fn run_serial.ordered]] says it of all streams, without the premise."""
 
 SERIALIZABLE_PHRASES = [
-    ("The lines of such a group", "of each closed set: [[IsSerializable: (set : ℕ → Bool) → IsClosed terms.layout set streams]]."),
-    ("if no stream retires (deletes for all) a clause that another one found", """[[IsSerializable: FoundStays f terms.layout set h]]:
-     what a stream of the set found live, and isn't its own, the run's history doesn't leave retired,
+    ("The lines of such a group", """of each closed set: [[IsSerializable: (set : ℕ → Bool) → IsClosed terms.layout set
+     streams]]."""),
+    ("if no stream retires (deletes for all) a clause that another one found", """[[IsSerializable: FoundStays f terms.layout set
+     h]]: what a stream of the set found live, and isn't its own, the run's history doesn't leave retired,
      [[FindsKept: IsLiveReply r → ¬ Owns p s id → ¬ IsRetired (final id)]]."""),
-    ("have an order", """[[IsSerializable: IsOrdered f terms set streams reports]]: a list of blocks ([[Block]]), whose events are one after
-     the other a legal history, [[IsOrdered: legal : IsLegal f terms.layout (events_in blocks)]]."""),
-    ("one thread that takes whole lines", """a block is one stream's, [[IsBlockWithin: AllByRecursion (λ e. stream_of e ≡ block.stream)
-     block.events]], and has all events of one line, [[AreGood: JudgesLine c (standing_of c before) line block Good]]. That is what
-     [[fn run_serial]] promises: [[fn run_serial.ordered: IsOrdered formula.now terms (λ s. true) streams outcome.reports.items]]."""),
-    ("gives the same reports", """[[IsOrdered: judged : AreJudged terms set blocks 1 streams reports]], with the run's `reports`: each stream
-     is judged by its own blocks in their order, [[AreJudged: blocks_of s blocks]]."""),
+    ("have an order", """[[IsSerializable: IsOrdered f terms set streams reports]]: a list of blocks ([[Block]]), whose events
+     are one after the other a legal history, [[IsOrdered: legal : IsLegal f terms.layout (events_in blocks)]]."""),
+    ("one thread that takes whole lines", """a block is one stream's, [[IsBlockWithin: AllByRecursion (λ e. stream_of e ≡
+     block.stream) block.events]], and has all events of one line, [[AreGood: JudgesLine c (standing_of c before) line block
+     Good]]. That is what [[fn run_serial]] promises: [[fn run_serial.ordered: IsOrdered formula.now terms (λ s. true) streams
+     outcome.reports.items]]."""),
+    ("gives the same reports", """[[IsOrdered: judged : AreJudged terms set blocks 1 streams reports]], with the run's `reports`:
+     each stream is judged by its own blocks in their order, [[AreJudged: blocks_of s blocks]]."""),
 ]
 
-SERIALIZABLE_VERDICT = """And the verdict: where the premise holds of all streams together, they have an order that besides publishes the
-empty clause exactly if a report has it, and a clause within the cube likewise: [[IsSerializable: ComeToVerdict terms.cube (events_in
-order.blocks) reports]]. The run's verdict is [[fn run.verdict: outcome.verdict ≡ verdict_of outcome.reports.items]]."""
+SERIALIZABLE_VERDICT = """And the verdict: where the premise holds of all streams together, they have an order that besides
+publishes the empty clause exactly if a report has it, and a clause within the cube likewise: [[IsSerializable: ComeToVerdict
+terms.cube (events_in order.blocks) reports]]. The run's verdict is [[fn run.verdict: outcome.verdict ≡ verdict_of
+outcome.reports.items]]."""
 
 RUNS_HOW = """## How to read it
 
 As [on AUDIT](AUDIT.md#how-to-read-it); and besides:
 
 - **Signs.** `¬ A` is 'not A', `≢` 'is not', `m - n` is 0 where n is greater, `m / n` is rounded down, `&&` is 'and' of tests. A
-  `data` is one of its cases. `R.left` is the member `left` of the trait for the type R. Contracts see a slice or a `Vec` as a list
-  (`v.items`), a `u64` and an `Id` as ℕ, a `Lit` as ℤ. A type that they see as something else they know by that alone, whatever its
-  members are.
+  `data` is one of its cases. `R.left` is the member `left` of the trait for the type R. Contracts see a slice or a `Vec` as a
+  list (`v.items`), a `u64` and an `Id` as ℕ, a `Lit` as ℤ. A type that they see as something else they know by that alone,
+  whatever its members are.
 {constructors}
 {twins}"""
 
@@ -918,11 +945,11 @@ CONTRACTS = """## The contracts
 
 What the sentences don't say: the [[fn run.layout+spawn+ring+first]] say what holds where there is no outcome."""
 
-CALLS = """The calls of the store by which a pass makes, sees and reads history. Of its others `meet_all` lets passes meet in turn, and the
-rest ask, and change nothing."""
+CALLS = """The calls of the store by which a pass makes, sees and reads history. Of its others `meet_all` lets passes meet in
+turn, and the rest ask, and change nothing."""
 
-ASKED = """What else the clauses speak of. A gate is told before each fetch and after each publish, and may hold a thread there; it promises
-nothing."""
+ASKED = """What else the clauses speak of. A gate is told before each fetch and after each publish, and may hold a thread there;
+it promises nothing."""
 
 LAWS_TOLD = ["lrup_model/src/laws.rt: entries_advance", "lrup_model/src/laws.rt: known_stays",
              "lrup_model/src/laws.rt: pass_tells", "run_laws/src/groups.rt: others_empty",
@@ -969,7 +996,8 @@ def audit_page():
 def runs_page(audit):
     """The page on whole runs."""
     run, serial = Contract("portfolio/src/threads.rt: run"), Contract("portfolio/src/serial.rt: run_serial")
-    store = [Contract(f"clause_store/src/store.rt: Store::{call}") for call in "open fetch literal pair publish retire meet".split()]
+    calls = "open fetch literal pair publish retire meet".split()
+    store = [Contract(f"clause_store/src/store.rt: Store::{call}") for call in calls]
     asked = [Contract("portfolio/src/options.rt: Options::new"), Contract("dimacs/src/lib.rt: parse", ["formula"]),
              Contract("lrup_text/src/cube.rt: read_cube"), Contract("lrup_model/src/cube.rt: Cube::of")]
     laws = [Law(place) for place in LAWS_TOLD]
@@ -990,12 +1018,15 @@ def runs_page(audit):
         blocks += [f"## Definitions: {title}", *top_down(by_mention(roots, told), placed)]
     things = [run, serial, *store, *asked, *traits, *laws, *blocks]
     things = [thing for thing in things if not isinstance(thing, str)]
-    count = f"{len(definitions_of(things))} definitions stand here, which use {len(definitions_of(shared(things, audit)))} of AUDIT."
-    page = Page("AUDIT-RUNS.md", [
+    count = f"{len(definitions_of(things))} definitions stand here; they use {len(definitions_of(shared(things, audit)))} of AUDIT."
+    blocks = [
         RUNS_TOP, *texts[0], ISOLATION_TOP, *texts[1], SERIALIZABLE_TOP, *texts[2], SERIALIZABLE_VERDICT,
         RUNS_HOW.replace("{constructors}", constructors(things)).replace("{twins}", twins(things)).strip(),
         CONTRACTS, run, serial, CALLS, *store, ASKED, *traits, *asked, LAWS, *laws, count, *blocks,
-        RUNS_LIBRARIES, libraries(things, [audit])], other=audit)
+        RUNS_LIBRARIES, libraries(things, [audit])]
+    below = Contract("stream_threads/src/joining.rt: check_all", ["found"])
+    blocks[0] = RUNS_TOP.replace("{contents}", contents(blocks))
+    page = Page("AUDIT-RUNS.md", blocks, other=audit, cited=[below])
     page.run = run
     return page
 
@@ -1100,9 +1131,11 @@ def without_comment(pages):
 
 def doubts(pages):
     """The names of which this script doesn't know what they stand for: without them a page may lack a definition."""
-    things = [thing for page in pages for thing in page.things if not isinstance(thing, RustType)]
-    places = [place_of(thing) if isinstance(thing, Definition) else f"{thing.path.relative_to(ROOT)}: {thing.name}" for thing in things]
-    return [f"{place}: what is '{word}'?" for place, thing in zip(places, things) for word in sorted(set(thing.used()[1]))]
+    found = []
+    for thing in (thing for page in pages for thing in page.things if not isinstance(thing, RustType)):
+        place = place_of(thing) if isinstance(thing, Definition) else f"{thing.path.relative_to(ROOT)}: {thing.name}"
+        found += [f"{place}: what is '{word}'?" for word in sorted(set(thing.used()[1]))]
+    return found
 
 
 def main(words):
