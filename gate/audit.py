@@ -901,8 +901,9 @@ ISOLATION_PHRASES = [
      report that the stream may have alone with these bytes and this end. Another run's report of it is such a one, by that run's
      `isolated`."""),
     ("unless memory ran out or a read failed", """[[HaveReportsAlone: ¬ IsOfMemory report]]; and bytes and end are to be the same,
-     [[HaveReportsAlone: IsReadingOf whole end stream]]: a read that failed is another end. The law [[law same_bytes_agree]] says
-     it of two runs whose readers tell the same bytes, [[SameBytesAgree: ¬ IsOfMemory report → ¬ IsOfFailure report]]."""),
+     [[HaveReportsAlone: IsReadingOf whole end stream]]: a read that failed is another end. The laws
+     [[law same_reading_agrees]] and [[law same_bytes_agree]] say it of two runs: where the readers told the same bytes and end, and
+     where they had the same bytes left, [[SameBytesAgree: ¬ IsOfMemory report → ¬ IsOfFailure report]]."""),
 ]
 
 SERIALIZABLE_TOP = """## Lines are serializable
@@ -934,10 +935,10 @@ RUNS_HOW = """## How to read it
 
 As [on AUDIT](AUDIT.md#how-to-read-it); and besides:
 
-- **Signs.** `¬ A` is 'not A', `≢` 'is not', `m - n` is 0 where n is greater, `m / n` is rounded down, `&&` is 'and' of tests. A
-  `data` is one of its cases. `R.left` is the member `left` of the trait for the type R. Contracts see a slice or a `Vec` as a
-  list (`v.items`), a `u64` and an `Id` as ℕ, a `Lit` as ℤ. A type that they see as something else they know by that alone,
-  whatever its members are.
+- **Signs.** `¬ A` is 'not A', `≢` 'is not', `m - n` is 0 where n is greater, `m / n` is rounded down, `&&` is 'and' of tests.
+  `(x y : A)` are two; `r.0` and `r.1` the parts of a pair. A `data` is one of its cases, with what that case takes. `R.left` is the
+  member `left` of the trait for the type R. Contracts see a slice or a `Vec` as a list (`v.items`), a `u64` and an `Id` as ℕ, a
+  `Lit` as ℤ. A type that they see as something else they know by that alone, whatever its members are.
 {constructors}
 {twins}"""
 
@@ -951,9 +952,8 @@ turn, and the rest ask, and change nothing."""
 ASKED = """What else the clauses speak of. A gate is told before each fetch and after each publish, and may hold a thread there;
 it promises nothing."""
 
-LAWS_TOLD = ["lrup_model/src/laws.rt: entries_advance", "lrup_model/src/laws.rt: known_stays",
-             "lrup_model/src/laws.rt: pass_tells", "run_laws/src/groups.rt: others_empty",
-             "run_laws/src/groups.rt: same_bytes_agree"]
+STORE_LAWS = [f"lrup_model/src/laws.rt: {name}" for name in "entries_advance known_stays pass_tells".split()]
+GROUP_LAWS = [f"run_laws/src/groups.rt: {name}" for name in "others_empty same_reading_agrees same_bytes_agree".split()]
 
 LAWS = """## The laws
 
@@ -1000,7 +1000,7 @@ def runs_page(audit):
     store = [Contract(f"clause_store/src/store.rt: Store::{call}") for call in calls]
     asked = [Contract("portfolio/src/options.rt: Options::new"), Contract("dimacs/src/lib.rt: parse", ["formula"]),
              Contract("lrup_text/src/cube.rt: read_cube"), Contract("lrup_model/src/cube.rt: Cube::of")]
-    laws = [Law(place) for place in LAWS_TOLD]
+    store_laws, group_laws = [Law(place) for place in STORE_LAWS], [Law(place) for place in GROUP_LAWS]
     texts = [phrase_by_phrase(sentence("The headline."), HEADLINE_PHRASES),
              phrase_by_phrase(sentence("Groups of streams are isolated."), ISOLATION_PHRASES),
              phrase_by_phrase(sentence("Lines are serializable."), SERIALIZABLE_PHRASES)]
@@ -1009,20 +1009,20 @@ def runs_page(audit):
     told = "\n".join(phrases for _, phrases in texts)
     of = lambda *contracts: [thing for contract in contracts for thing in contract.used()[0]]
     sections = {
-        "the history": run.named_by(["history"]), "the calls of the store": of(*store, *laws[:-2]),
-        "the reports": run.named_by(["reports"]), "isolated groups": run.named_by(["isolated", "alone"]) + of(*laws[-2:]),
+        "the history": run.named_by(["history"]), "the calls of the store": of(*store, *store_laws),
+        "the reports": run.named_by(["reports"]), "isolated groups": run.named_by(["isolated", "alone"]) + of(*group_laws),
         "serializable lines": run.named_by(["serializable"]),
         "the rest": of(run, serial, *asked)}
     blocks = []
     for title, roots in sections.items():
         blocks += [f"## Definitions: {title}", *top_down(by_mention(roots, told), placed)]
-    things = [run, serial, *store, *asked, *traits, *laws, *blocks]
+    things = [run, serial, *store, *asked, *traits, *store_laws, *group_laws, *blocks]
     things = [thing for thing in things if not isinstance(thing, str)]
     count = f"{len(definitions_of(things))} definitions stand here; they use {len(definitions_of(shared(things, audit)))} of AUDIT."
     blocks = [
         RUNS_TOP, *texts[0], ISOLATION_TOP, *texts[1], SERIALIZABLE_TOP, *texts[2], SERIALIZABLE_VERDICT,
         RUNS_HOW.replace("{constructors}", constructors(things)).replace("{twins}", twins(things)).strip(),
-        CONTRACTS, run, serial, CALLS, *store, ASKED, *traits, *asked, LAWS, *laws, count, *blocks,
+        CONTRACTS, run, serial, CALLS, *store, ASKED, *traits, *asked, LAWS, *store_laws, *group_laws, count, *blocks,
         RUNS_LIBRARIES, libraries(things, [audit])]
     below = Contract("stream_threads/src/joining.rt: check_all", ["found"])
     blocks[0] = RUNS_TOP.replace("{contents}", contents(blocks))
