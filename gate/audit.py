@@ -1048,15 +1048,15 @@ def foreign(things):
     return set().union(*(thing.of_libraries() for thing in things))
 
 
-def is_explained(name):
-    """Whether the pages tell how to read a name or an operator, or everybody knows."""
-    bare, how = name.strip("◌"), AUDIT_HOW + RUNS_HOW
-    return name in SYMBOLS or bare in " ".join(re.findall(r"`[^`]+`|[ℕℤ]", how)).replace("`", " ").replace(";", " ").split()
+def is_explained(name, page):
+    """Whether the page, or the one that it follows, tells how to read a name or an operator, or everybody knows."""
+    spans = re.findall(r"`[^`]+`|[ℕℤ]", AUDIT_HOW + (RUNS_HOW if page.other else ""))
+    return name in SYMBOLS or name.strip("◌") in re.sub(r"[`;]", " ", " ".join(spans)).split()
 
 
 def unexplained(pages):
     """The names of libraries that have no line, and the lines that have no name."""
-    names = {name for page in pages for _, name in foreign(page.things) if not is_explained(name)}
+    names = {name for page in pages for _, name in foreign(page.things) if not is_explained(name, page)}
     return [f"gate/audit.py: GLOSSES has no line for '{name}' of a library" for name in sorted(names - set(glosses()))] + [
         f"gate/audit.py: GLOSSES has '{name}', which isn't on the pages" for name in sorted(set(glosses()) - names)]
 
