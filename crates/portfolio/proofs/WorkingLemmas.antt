@@ -21,7 +21,7 @@ use Rattle.lrup_text.specs.ReadLemmas.{gave_more}
 use Rattle.lrup_text.specs.ReadOut.{EndsSo, IsLastRead, SourceView}
 use Rattle.lrup_text.specs.Reads.{Gave}
 use Rattle.runs.specs.Readings.{IsReadTo}
-use Rattle.runs.specs.Streams.{Stop, early, read_to, StopsSo, StopsReading, JudgesTo}
+use Rattle.runs.specs.Streams.{Stop, early, read_to, StopsSo, StopsReading, JudgesTo, read_out}
 use Rattle.portfolio.specs.Working.{WorkerValue, WorksBy, Works, WorksOn}
 
 -- ---- going on
