@@ -10,8 +10,8 @@ use Rattle.lrup_model.specs.Event.{Event, Reply, History, stream_of, own, spent,
 use Rattle.lrup_model.specs.State.{State, Slot, absent, live, retired, opening, run, state, AreVacantAbove}
 use Rattle.lrup_model.specs.History.{LegalFrom, IsLegal, IsPublishable}
 use Rattle.lrup_model.specs.Propagation.{Accepts}
-use Rattle.lrup_model.specs.Place.{Place, ClipValue, clip_clause, IsKnown, AllFollow}
-use Rattle.lrup_model.specs.Pass.{View, Spelling}
+use Rattle.lrup_model.specs.Place.{Place, ClipValue, clip_clause, IsKnown, Tells, AllFollow}
+use Rattle.lrup_model.specs.Pass.{View, Spelling, PassMoves, pass_place}
 
 -- Running and legality
 
@@ -101,10 +101,19 @@ PublishedStay = (f : Cnf) (p : LayoutValue) (m : State) (h : History) → LegalF
 
 -- Places and passes
 
+-- a clip that is known at a place stays known, with the same literals, whatever calls follow
+abbrev pub KnownStays : Type 0
+KnownStays = (a b : Place) (es : History) (clip : ClipValue) → Tells a b es → IsKnown a clip
+    → IsKnown b clip × (clip_clause b clip ≡ clip_clause a clip)
+
 -- the clause of a clip that is known at a place, all whose clauses follow, is a clause that follows from the formula
 abbrev pub KnownFollows : Type 0
 KnownFollows = (p : Place) (clip : ClipValue) → AllFollow p → IsKnown p clip
     → IsDerived p.caller.formula (clip_clause p clip)
+
+-- what a pass's calls say of the caller's place
+abbrev pub PassTells : Type 0
+PassTells = (a b : View) (es : History) → PassMoves a b es → Tells (pass_place a) (pass_place b) es
 
 -- the pass when it has seen these events of others, with what is then kept
 abbrev pub learned : View → History → List Spelling → View

@@ -1,6 +1,6 @@
 //! Laws of the definitions. Each function does nothing; its contract is the law, which holds of every formula, layout,
 //! history, pass and cube.
-ghost use Rattle.lrup_model.specs.Laws.{BeginningsLegal, FormulaStays, OwnCallsDecide, VacantAboveStays, PublishedFollow, PublishedStay, EntriesAdvance, OwnersAct, OneOwner, PropagationSound, EmptyClauseRefutes, ClausesFollow, KnownFollows, AmongMembers, AmongKeepsOwn, RestrictionLegal};
+ghost use Rattle.lrup_model.specs.Laws.{PassTells, KnownStays, BeginningsLegal, FormulaStays, OwnCallsDecide, VacantAboveStays, PublishedFollow, PublishedStay, EntriesAdvance, OwnersAct, OneOwner, PropagationSound, EmptyClauseRefutes, ClausesFollow, KnownFollows, AmongMembers, AmongKeepsOwn, RestrictionLegal};
 ghost use Rattle.lrup_model.specs.Cube.{WithinRefutes, EmptyCubeRefutes, UnderEveryCube, CubesAreSets};
 
 /// Each beginning of a legal history is legal.
@@ -61,6 +61,16 @@ pub fn empty_clause_refutes()
 /// Every clause that a legal history leaves, live or retired, is a clause that follows from the formula.
 pub fn clauses_follow()
     ensures { ClausesFollow }
+{}
+
+/// A clip that is known at a place stays known, with the same literals, whatever calls follow.
+pub fn known_stays()
+    ensures { KnownStays }
+{}
+
+/// What a pass's calls say of the caller's place.
+pub fn pass_tells()
+    ensures { PassTells }
 {}
 
 /// Where all clauses of a place follow from the formula, the clause of a known clip does.

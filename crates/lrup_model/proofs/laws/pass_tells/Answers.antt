@@ -1,0 +1,5 @@
+use Rattle.lrup_model.specs.PassLemmas.{moves_tells}
+use Rattle.lrup_model.proofs.laws.pass_tells.Goals as goal
+
+pub returns : goal.returns
+returns c = moves_tells
