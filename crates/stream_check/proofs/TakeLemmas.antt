@@ -1,5 +1,5 @@
 -- A line that is taken, on whatever bytes and events came before it.
-use Rattle.std.proofs.Common.{◌≡◌, ◌+◌, ℕ, Bool, List, [], ◌∷◌, ◌++◌, length, take, Option, None, Some, inl, inr, refl, sym, ap, subst, ◌∙◌, append-nil, arith}
+use Rattle.std.proofs.Common.{◌≡◌, ◌+◌, ℕ, Bool, List, [], ◌∷◌, ◌++◌, length, take, Result, Ok, Err, inl, inr, refl, sym, ap, subst, ◌∙◌, append-nil, arith}
 use Rattle.lrup_model.specs.Event.{History}
 use Rattle.lrup_text.specs.Lines.{StreamLine, LineText, IsPending}
 use Rattle.lrup_text.specs.declared.LineFault.{LineFault}
@@ -31,21 +31,21 @@ report_is old new count ending more =
     ∙ ap (λ n. made new.added (tally_at new).deleted new.empty new.within (ending n)) (sym more.line)
 
 -- a line that ends after so many bytes
-pub takes_line : GoodLineTaken → (old new : Held) (free left : ℕ) (read piece : List ℕ) (used : ℕ) (line : StreamLine) (es : History) (stop : Option LineStop)
-    → LineText line (read ++ take used piece) → TakesBy old free new left line es stop → TakesNext old read free piece (es ∷ []) (taken_of used stop) new left
-takes_line law old new free left read piece used line es None text takes = (
+pub takes_line : GoodLineTaken → (old new : Held) (free left : ℕ) (read piece : List ℕ) (used : ℕ) (line : StreamLine) (es : History) (result : Result (Unit {0}) LineStop)
+    → LineText line (read ++ take used piece) → TakesBy old free new left line es result → TakesNext old read free piece (es ∷ []) (taken_of used result) new left
+takes_line law old new free left read piece used line es (Ok _) text takes = (
   refl,
   λ bytes before leaves. law old.setting bytes (take used piece) before es (hold old read free) (hold new [] left) line leaves text takes.0 (takes.1 read),
   (line, text),
 )
-takes_line law old new free left read piece used line es (Some (stops.Bad fault)) text takes = (
+takes_line law old new free left read piece used line es (Err (stops.Bad fault)) text takes = (
   omega arith,
   λ bytes before leaves.
       subst (λ (r : Report). Leaves old.setting (bytes ++ take used piece) (before ++ es ∷ []) (Over r)) (report_is old new takes.0 (λ n. endings.Bad n fault) takes.2)
       (bad_line_taken old.setting bytes (take used piece) before es (hold old read free) line takes.0 fault leaves text takes.1),
   inl (line, text),
 )
-takes_line law old new free left read piece used line es (Some stops.Memory) text takes = (
+takes_line law old new free left read piece used line es (Err stops.Memory) text takes = (
   omega arith,
   λ bytes before leaves.
       subst (λ (r : Report). Leaves old.setting (bytes ++ take used piece) (before ++ es ∷ []) (Over r)) (report_is old new (length takes.2) (λ n. endings.Memory n) takes.5)

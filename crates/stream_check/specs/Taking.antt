@@ -1,5 +1,5 @@
 -- What a checker's line leaves of it (this project's own).
-use Rattle.std.specs.Prelude.{◌≡◌, ◌⊎◌, ◌≤◌, ◌<◌, ◌+◌, ◌++◌, ℕ, List, [], length, take, Option, Some, None, Ok}
+use Rattle.std.specs.Prelude.{◌≡◌, ◌⊎◌, ◌≤◌, ◌<◌, ◌+◌, ◌++◌, ℕ, List, [], length, take, Result, Ok, Err}
 use Rattle.lrup_model.specs.Event.{History}
 use Rattle.lrup_model.specs.Place.{Place, IsVacantAbove}
 use Rattle.lrup_text.specs.Feeding.{ReaderState}
@@ -41,14 +41,15 @@ pub record DeletesMore (old new : Held) (count : ℕ) : Type 0 where
   pub line : new.line ≡ old.line
 
 -- what the events of one line came to
-abbrev pub TakesBy : Held → ℕ → Held → ℕ → StreamLine → History → Option LineStop → Type 0
-TakesBy old free new left line es None =
+abbrev pub TakesBy : Held → ℕ → Held → ℕ → StreamLine → History
+    → Result (Unit {0}) LineStop → Type 0
+TakesBy old free new left line es (Ok _) =
     JudgesLine old.setting (standing_at old free) line es Good
     × ((read : List ℕ) → TakesLine old.setting (hold old read free) line (hold new [] left))
-TakesBy old free new left line es (Some (stops.Bad fault)) =
+TakesBy old free new left line es (Err (stops.Bad fault)) =
     (count : ℕ) × JudgesLine old.setting (standing_at old free) line es (Bad count fault)
     × DeletesMore old new count
-TakesBy old free new left line es (Some stops.Memory) =
+TakesBy old free new left line es (Err stops.Memory) =
     (lead : ℕ) × (ids earlier : List ℕ) × (line ≡ Deletion lead ids)
     × StopsDeletion old.setting (is_among old.dropped.ids) ids es earlier
     × DeletesMore old new (length earlier)
@@ -58,9 +59,9 @@ abbrev pub ending_of : ℕ → LineStop → Ending
 ending_of line (stops.Bad fault) = endings.Bad line fault
 ending_of line stops.Memory = endings.Memory line
 
-abbrev pub taken_of : ℕ → Option LineStop → Taken
-taken_of used None = taken.Line used
-taken_of used (Some stop) = taken.Stopped used stop
+abbrev pub taken_of : ℕ → Result (Unit {0}) LineStop → Taken
+taken_of used (Ok _) = taken.Line used
+taken_of used (Err stop) = taken.Stopped used stop
 
 -- the text of what stopped: a line's, or one that begins no line
 abbrev pub StopsBy : LineStop → List ℕ → Type 0

@@ -12,7 +12,7 @@ use crate::gate::Gate;
 use crate::held::Held;
 use crate::laws::fresh_left;
 use crate::line::{Taken, take_line};
-use crate::progress::{Progress, CheckTurn};
+use crate::progress::{CheckTurn, Progress};
 use crate::report::{Ending, Report};
 use lrup_model::{ClauseMap, Cube, Layout};
 use lrup_text::{End, LineReader};

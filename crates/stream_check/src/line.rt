@@ -48,7 +48,7 @@ fn take_addition<M: ClauseMap, G: Gate>(
     id: Id,
     lits: &[i64],
     hints: &[Id],
-) -> Option<LineStop>
+) -> Result<(), LineStop>
     requires ready { IsReady held.old (M.place map.old) }
     requires variables { held.old.setting.layout.vars ≡ buffers.old.vars }
     requires tries { held.old.setting.tries < 2 ^ 63 }
@@ -60,16 +60,14 @@ fn take_addition<M: ClauseMap, G: Gate>(
     ensures setting { held.new.setting ≡ held.old.setting }
     ensures variables { buffers.new.vars ≡ buffers.old.vars }
 {
-    if let Some(fault) = buffers.add(held, map, gate, id, lits, hints) {
-        return Some(LineStop::Bad(fault));
-    }
+    buffers.add(held, map, gate, id, lits, hints)?;
     let within = held.setting.refutes(buffers.clause());
     held.take_addition(id, lits.is_empty(), within);
-    None
+    Ok(())
 }
 
 /// Makes a deletion, and counts it where it is good.
-fn take_deletion<M: ClauseMap>(held: &mut Held, map: &mut M, ids: &[Id]) -> Option<LineStop>
+fn take_deletion<M: ClauseMap>(held: &mut Held, map: &mut M, ids: &[Id]) -> Result<(), LineStop>
     requires ready { IsReady held.old (M.place map.old) }
     ensures taken { let free = (M.place map.old).room in let left = (M.place map.new).room in
         (es : History) × M.moves map.old map.new es
@@ -77,11 +75,9 @@ fn take_deletion<M: ClauseMap>(held: &mut Held, map: &mut M, ids: &[Id]) -> Opti
     ensures ready { IsReady held.new (M.place map.new) }
     ensures setting { held.new.setting ≡ held.old.setting }
 {
-    if let Some(stop) = delete(held, map, ids) {
-        return Some(stop);
-    }
+    delete(held, map, ids)?;
     held.pass_line();
-    None
+    Ok(())
 }
 
 /// Compares an import, and counts its line where it is good.
@@ -92,7 +88,7 @@ fn take_import<M: ClauseMap, G: Gate>(
     gate: &mut G,
     id: Id,
     lits: &[i64],
-) -> Option<LineStop>
+) -> Result<(), LineStop>
     requires ready { IsReady held.old (M.place map.old) }
     requires variables { held.old.setting.layout.vars ≡ buffers.old.vars }
     requires tries { held.old.setting.tries < 2 ^ 63 }
@@ -104,20 +100,18 @@ fn take_import<M: ClauseMap, G: Gate>(
     ensures setting { held.new.setting ≡ held.old.setting }
     ensures variables { buffers.new.vars ≡ buffers.old.vars }
 {
-    if let Some(fault) = buffers.import(held, map, gate, id, lits) {
-        return Some(LineStop::Bad(fault));
-    }
+    buffers.import(held, map, gate, id, lits)?;
     held.pass_line();
-    None
+    Ok(())
 }
 
 /// What the line that ends after so many bytes came to.
-fn line_through(used: usize, stop: Option<LineStop>) -> Taken
+fn line_through(used: usize, stop: Result<(), LineStop>) -> Taken
     ensures { result ≡ taken_of used stop }
 {
     match stop {
-        None => Taken::Line(used),
-        Some(stop) => Taken::Stopped(used, stop),
+        Ok(()) => Taken::Line(used),
+        Err(stop) => Taken::Stopped(used, stop),
     }
 }
 
@@ -150,7 +144,10 @@ pub fn take_line<M: ClauseMap, G: Gate>(
             used,
             take_addition(held, buffers, map, gate, id, lits, hints),
         ),
-        ReaderTurn::Line(Line::Delete { ids, .. }) => line_through(used, take_deletion(held, map, ids)),
+        ReaderTurn::Line(Line::Delete { ids, .. }) => line_through(
+            used,
+            take_deletion(held, map, ids),
+        ),
         ReaderTurn::Line(Line::Import { id, lits }) => {
             line_through(used, take_import(held, buffers, map, gate, id, lits))
         }
