@@ -110,14 +110,7 @@ impl Buffers {
             (line_verdict result) }
     {
         self.admit(held, map, id, lits)?;
-        try_hints(
-            &held.setting,
-            &held.dropped,
-            map,
-            gate,
-            &mut self.marks,
-            hints,
-        )?;
+        try_hints(held, map, gate, &mut self.marks, hints)?;
         match map.publish(id, self.marks.clause()) {
             Published::Done => {
                 gate.after_publish(map.stream(), id);

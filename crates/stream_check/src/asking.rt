@@ -8,9 +8,9 @@ ghost use Rattle.stream_check.specs.Asking.{Asks, FetchesUpTo};
 ghost use Rattle.stream_check.specs.Standing.{is_among};
 ghost use Rattle.stream_check.specs.Checking.{IsPlaceOf, Gives, IsFetch, LooksUp};
 
-use crate::dropped::Dropped;
 use crate::fault::Fault;
 use crate::gate::Gate;
+use crate::held::Held;
 use crate::setting::Setting;
 use lrup_model::{ClauseMap, Clip, Fetched, Id};
 
@@ -60,22 +60,21 @@ fn ask<M: ClauseMap, G: Gate>(setting: &Setting, map: &mut M, gate: &mut G, hint
 /// The clause of a hint or of an import's identity; a fault where the stream dropped it, or where the map has none.
 #[inline(always)]
 pub fn look_up<M: ClauseMap, G: Gate>(
-    setting: &Setting,
-    dropped: &Dropped,
+    held: &Held,
     map: &mut M,
     gate: &mut G,
     id: Id,
 ) -> Result<Clip, Fault>
-    requires at { IsPlaceOf setting.now (M.place map.old) }
-    requires tries { setting.now.tries < 2 ^ 63 }
+    requires at { IsPlaceOf held.now.setting (M.place map.old) }
+    requires tries { held.now.setting.tries < 2 ^ 63 }
     ensures looked { (es : History) × M.moves map.old map.new es × AllByRecursion IsFetch es
-        × LooksUp setting.now (is_among dropped.now.ids) id (M.place map.new) es result }
+        × LooksUp held.now.setting (is_among held.now.dropped.ids) id (M.place map.new) es result }
     ensures gives { IfOk result (λ clip. Gives (M.place map.new) (Fetched.Live clip)) }
 {
-    if dropped.has(id) {
+    if held.dropped.has(id) {
         return Err(Fault::Dropped(id));
     }
-    match ask(setting, map, gate, id) {
+    match ask(&held.setting, map, gate, id) {
         Fetched::Vacant => Err(Fault::Missing(id)),
         Fetched::Retired => Err(Fault::Retired(id)),
         Fetched::Live(clip) => Ok(clip),

@@ -14,6 +14,7 @@ use crate::laws::{fresh_left, good_line_taken};
 use crate::line::take_line;
 use crate::progress::{CheckTurn, Progress};
 use crate::report::{Ending, Report};
+use crate::setting::Setting;
 use lrup_model::{ClauseMap, Cube, Layout};
 use lrup_text::{End, LineReader, ReaderTurn};
 use std::alloc::{AllocError, Global};
@@ -61,8 +62,9 @@ impl Checker {
         ensures { IfOk result (IsNew layout.now cube.now stream tries) }
     {
         fresh_left();
+        let setting = Setting::new(layout, cube.try_clone()?, stream, tries);
         Ok(Checker {
-            held: Held::new(alloc, layout, cube.try_clone()?, stream, tries),
+            held: Held::new(alloc, setting),
             buffers: Buffers::new(alloc, layout.vars())?,
             reader: LineReader::new(alloc)?,
             ending: None,

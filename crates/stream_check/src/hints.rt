@@ -7,10 +7,9 @@ ghost use Rattle.stream_check.specs.Checking.{IsPlaceOf, IsFetch, KeepsClause, S
 ghost use Rattle.std.specs.List.{AllByRecursion};
 
 use crate::asking::look_up;
-use crate::dropped::Dropped;
 use crate::fault::Fault;
 use crate::gate::Gate;
-use crate::setting::Setting;
+use crate::held::Held;
 use lrup_model::{ClauseMap, Id};
 use propagate::{Marks, Step};
 
@@ -26,27 +25,26 @@ fn excess(left: &[Id]) -> Result<(), Fault>
 
 /// Tries the hints one after the other: each but the last has to be unit, and the last a conflict.
 pub fn try_hints<M: ClauseMap, G: Gate>(
-    setting: &Setting,
-    dropped: &Dropped,
+    held: &Held,
     map: &mut M,
     gate: &mut G,
     marks: &mut Marks,
     hints: &[Id],
 ) -> Result<(), Fault>
-    requires at { IsPlaceOf setting.now (M.place map.old) }
-    requires tries { setting.now.tries < 2 ^ 63 }
+    requires at { IsPlaceOf held.now.setting (M.place map.old) }
+    requires tries { held.now.setting.tries < 2 ^ 63 }
     requires ready { IsTrue marks.old.ready }
-    requires variables { setting.now.layout.vars ≤ marks.old.vars }
+    requires variables { held.now.setting.layout.vars ≤ marks.old.vars }
     requires consistent { ¬ IsTautology marks.old.falses }
     ensures shown { let formula = (M.place map.old).caller.formula in
         (es : History) × M.moves map.old map.new es × AllByRecursion IsFetch es
-        × Shows setting.now (is_among dropped.now.ids) formula marks.old.falses
+        × Shows held.now.setting (is_among held.now.dropped.ids) formula marks.old.falses
         hints.now es result }
     ensures kept { KeepsClause marks.old marks.new }
 {
     let mut left = hints;
     'hints: while let Some((hint, rest)) = left.split_first() {
-        let clip = look_up(setting, dropped, map, gate, *hint)?;
+        let clip = look_up(held, map, gate, *hint)?;
         match marks.hint(map, &clip) {
             Step::Unit => left = rest,
             Step::Conflict => return excess(rest),

@@ -41,7 +41,7 @@ impl Buffers {
         if !read_literals(&mut self.literals, lits, self.vars) {
             return Err(Fault::Literal);
         }
-        let clip = look_up(&held.setting, &held.dropped, map, gate, id)?;
+        let clip = look_up(held, map, gate, id)?;
         if !self.marks.same(map, &clip, &self.literals) {
             return Err(Fault::Differs(id));
         }
