@@ -91,7 +91,8 @@ AreReported false f terms reports streams =
 -- The reports and the verdict of a formula's streams. `firsts` are the readers of the streams as they were opened, and `lasts` those
 -- in the end, after reads that gave the streams.
 pub record AreChecked {R : Type 0} (reading : SourceView R) (serial : Bool) (f : Cnf)
-    (terms : TermsValue) (firsts : List R) (reports : List Report) (verdict : Verdict) : Type 0 where
+    (terms : TermsValue) (firsts : List R) (reports : List Report)
+    (verdict : Verdict) : Type 0 where
   pub layout : (fault : LayoutFault) → IsFault terms.layout fault → ⊥
   pub lasts : List R
   pub reported : StandsOnStreams (tellings reading firsts lasts)

@@ -30,8 +30,8 @@ ReadersClosed = (p : LayoutValue) (set : ℕ → Bool) (told : List Telling) (st
 
 -- a closed set of streams that one legal history judges is a group
 abbrev pub ClosedIsGroup : Type 0
-ClosedIsGroup = (f : Cnf) (terms : TermsValue) (set : ℕ → Bool) (h : History) (streams : List Stream)
-    (reports : List Report)
+ClosedIsGroup = (f : Cnf) (terms : TermsValue) (set : ℕ → Bool) (h : History)
+    (streams : List Stream) (reports : List Report)
     → Fits terms.layout f → length streams ≡ terms.layout.streams
     → IsLegal f terms.layout h → AreJudgedIn terms set h 1 streams reports
     → IsClosed terms.layout set streams → NoneOutOfMemory set reports
@@ -77,8 +77,8 @@ AloneHasOneReport = (f : Cnf) (terms : TermsValue) (s : ℕ) (whole : List ℕ) 
 
 -- the reports of a run with threads are isolated
 abbrev pub RunIsolated : Type 0
-RunIsolated = (f : Cnf) (terms : TermsValue) (h : History) (passes : List View) (told : List Telling)
-    (reports : List Report)
+RunIsolated = (f : Cnf) (terms : TermsValue) (h : History) (passes : List View)
+    (told : List Telling) (reports : List Report)
     → Fits terms.layout f → length told ≡ terms.layout.streams
     → HaveOneHistory f terms.layout h passes
     → AreIsolated f terms told
@@ -136,8 +136,8 @@ SameReadingAgrees = (f : Cnf) (terms : TermsValue) (s : ℕ) (whole : List ℕ) 
 
 -- So it has where both readers have the same bytes left at first, unless memory ran out or a read failed.
 abbrev pub SameBytesAgree : Type 0
-SameBytesAgree = (f : Cnf) (terms : TermsValue) (s : ℕ) (whole : List ℕ) (told other_told : List Telling)
-    (telling other_telling : Telling) (reports other_reports : List Report)
+SameBytesAgree = (f : Cnf) (terms : TermsValue) (s : ℕ) (whole : List ℕ)
+    (told other_told : List Telling) (telling other_telling : Telling) (reports other_reports : List Report)
     (report other_report : Report)
     → Fits terms.layout f → CiteWithin terms.layout (one s) whole
     → IsRun f terms told reports → IsRun f terms other_told other_reports

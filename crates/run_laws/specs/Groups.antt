@@ -59,7 +59,8 @@ IsAlone f terms s streams reports = IsGroup f terms (one s) streams reports
 
 -- The reports are isolated: for every list of streams that the readers told and by which they are judged, and for every
 -- closed set of these streams none of whose reports tells that memory ran out, the set's reports are such as it may have alone.
-abbrev pub AreIsolated : Cnf → TermsValue → List Telling → (List Stream → Type 0) → List Report → Type 0
+abbrev pub AreIsolated : Cnf → TermsValue → List Telling → (List Stream → Type 0) → List Report
+    → Type 0
 AreIsolated f terms told Judged reports =
     (streams : List Stream) → AreTold told streams → Judged streams
     → (set : ℕ → Bool) → IsClosed terms.layout set streams → NoneOutOfMemory set reports

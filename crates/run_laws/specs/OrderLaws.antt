@@ -61,8 +61,8 @@ LinesOrdered = (f : Cnf) (p : LayoutValue) (set : ℕ → Bool) (h : History) (b
 -- The reports of a closed set of streams that one legal history judges have an order of lines, where what the streams found live
 -- of one another isn't left retired.
 abbrev pub ClosedOrdered : Type 0
-ClosedOrdered = (f : Cnf) (terms : TermsValue) (set : ℕ → Bool) (h : History) (streams : List Stream)
-    (reports : List Report)
+ClosedOrdered = (f : Cnf) (terms : TermsValue) (set : ℕ → Bool) (h : History)
+    (streams : List Stream) (reports : List Report)
     → Fits terms.layout f → length streams ≡ terms.layout.streams
     → IsLegal f terms.layout h → AreJudgedIn terms set h 1 streams reports
     → IsClosed terms.layout set streams → FoundStays f terms.layout set h
@@ -75,7 +75,8 @@ AllClosed = (p : LayoutValue) (streams : List Stream) → IsClosed p (λ s. true
 -- The reports of all streams have an order of lines, and the verdict that these lines come to is that of the reports: a stream
 -- said that it added the empty clause exactly if the order publishes it, and one within the cube exactly if the order publishes one.
 abbrev pub AllOrdered : Type 0
-AllOrdered = (f : Cnf) (terms : TermsValue) (h : History) (streams : List Stream) (reports : List Report)
+AllOrdered = (f : Cnf) (terms : TermsValue) (h : History)
+    (streams : List Stream) (reports : List Report)
     → Fits terms.layout f → length streams ≡ terms.layout.streams
     → IsLegal f terms.layout h → AreJudgedIn terms (λ s. true) h 1 streams reports
     → FoundStays f terms.layout (λ s. true) h
