@@ -137,7 +137,8 @@ SameReadingAgrees = (f : Cnf) (terms : TermsValue) (s : ℕ) (whole : List ℕ) 
 -- So it has where both readers have the same bytes left at first, unless memory ran out or a read failed.
 abbrev pub SameBytesAgree : Type 0
 SameBytesAgree = (f : Cnf) (terms : TermsValue) (s : ℕ) (whole : List ℕ)
-    (told other_told : List Telling) (telling other_telling : Telling) (reports other_reports : List Report)
+    (told other_told : List Telling) (telling other_telling : Telling)
+    (reports other_reports : List Report)
     (report other_report : Report)
     → Fits terms.layout f → CiteWithin terms.layout (one s) whole
     → IsRun f terms told reports → IsRun f terms other_told other_reports
