@@ -811,7 +811,7 @@ repeated: formulas, assignments, clauses and literals, [how to read it](AUDIT.md
 - **Pass.** A stream's place at the store. Contracts see what it knows ([[View]]): `seen`, a history; `mine`, the calls made
   through it; `spelt`, where clauses lie and their literals.
 - **Cube.** The assumed literals, as a set ([[Cube]]). **Terms** are layout, cube and tries, by which all streams are checked
-  ([[TermsValue: terms]]).
+  ([[TermsValue]]).
 
 {{contents}}
 
