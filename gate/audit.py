@@ -653,7 +653,8 @@ No clause says that something is answered: 'out of memory' may always come.
 
 ## Status 0"""
 
-SIGNATURE = """This is the [[fn command.sound]], the whole program but for the machine. `words` are those of the command line
+SIGNATURE = """This is the [[fn command.sound]], the whole program but for the machine; what `main` calls has the same clause of its arguments
+([below](#what-one-has-to-trust)). `words` are those of the command line
 after the program's name. `out` and `err` take bytes, and haven't failed before. Threads and clock promise nothing; `Global` is
 where memory is from."""
 
@@ -664,15 +665,14 @@ STATUS_0_PHRASES = [
      reads gave these bytes, up to one that gave none ([[WasRead]], [[GaveAll]])."""),
     ("of the formula's file", """[[NameUnsatisfiable: AskFor words formula assume]]: the words have no fault, and their FORMULA
      is the path `formula` that was read ([[AskFor]])."""),
-    ("are a text of a formula", "[[NameUnsatisfiable: IsFormulaText bytes f]]: DIMACS CNF ([[IsFormulaText]])."),
+    ("are a text of a formula", "[[NameUnsatisfiable: IsFormulaText bytes f]]: DIMACS CNF ([[IsFormulaText]]), and of one only (law `one_formula`)."),
     ("that no assignment satisfies", "[[NameUnsatisfiable: IsUnsatisfiable f]], of the same `f` ([[IsUnsatisfiable]])."),
 ]
 
 ACCOUNT = """**Which reads?** Whoever hands in the files chooses what `opens` and `reads` are; [[Files]] and [[Source]] promise
-of each call that it stands in them. The machine's files tell nothing and allow all, so of them alone the clause says little. But
-`command` is proved for all files, those too of which `opens` and `reads` are an account of the calls that were made and of what
-each gave. It can't see that account, since what is `ghost` isn't there when it runs: what it does with the machine's files it
-would do with those, for which the clause leaves no choice. This last step is an argument, and no theorem."""
+of each call that it stands in them. The machine's files tell nothing and allow all, so of them alone the clause says only that
+the words have no fault. But take any run, and files that play its calls back, where `opens` and `reads` hold of these calls alone. `command` is proved for them too; and it knows files only by the calls of their traits, so it
+would do the same with them, and there only what was read can be meant. This last step is an argument, and no theorem."""
 
 AUDIT_HOW = """## How to read it
 
@@ -690,7 +690,7 @@ AUDIT_HOW = """## How to read it
   `record r { a = x; }` is r with another a.
 - **Contracts.** `requires` is what a caller must see to, `ensures` what holds after the call, `result` its answer; `old` and
   `new` are what a reference had before the call and after it, `now` what it has. A member of a trait that is `ghost` is for
-  contracts alone; after `=` it says what it is where who writes the trait doesn't. `F.tells` is that member for the type F,
+  contracts alone; after `=` it says what it is where an `impl` doesn't. `F.tells` is that member for the type F,
   `F.Input.Source.reads` that of `Source` for F's own type `Input`. Contracts see a slice as a list.
 {twins}
 
@@ -721,10 +721,11 @@ TRUST = """## What one has to trust
 - **That the prover is right**: Rattle's logic and built libraries, with what they promise of `clap`, files and threads; two
   compilers, which the gate compares; the linker, the system and the machine.
 - **The lines above** on names of libraries, and `gate/audit.py`, that it left nothing out. Which word is FORMULA, `clap` says;
-  of two or more words without a hyphen in front it is the first ([[law plain_words]]).
-- **`main`**, which has no contract. It hands the machine's files, arguments and outputs to `command_with_arguments`, and returns
-  what that answers: [[fn command_with_arguments.sound: exit_status result ≡ 0 → IsOkAnd arguments (λ given. NameUnsatisfiable
-  read (words_after_name given))]]. The arguments were given, and those after the first are the words.
+  where no word begins with a hyphen it is the first of two or more ([[law plain_words]]).
+- **[`main`](../crates/lrupd/src/main.rt)**, which has no contract. It opens the machine's file at the path that it is given,
+  hands files, arguments and outputs to `command_with_arguments`, and returns what that answers: [[fn command_with_arguments.sound: exit_status result ≡ 0 → IsOkAnd arguments (λ given. NameUnsatisfiable
+  read (words_after_name given))]]. `exit_status` is the status; `IsOkAnd`: they were given, and of them it holds;
+  `words_after_name`: those after the first.
 - **The machine's files**: that reads give what the file holds, and that it is the one you mean. No clause says so."""
 
 GLOSSES = """
@@ -818,7 +819,7 @@ repeated: formulas, assignments, clauses and literals, [how to read it](AUDIT.md
 ## The headline"""
 
 HEADLINE_PHRASES = [
-    ("A run that returned", "[[fn run.history: IfOk result]], and so below: of a fault nothing of this is said."),
+    ("A run with threads that gave reports", "[[fn run.history: IfOk result]], and so below: of a fault nothing of this is said."),
     ("one legal history of the one-thread clause map", """[[fn run.history]]: the streams' passes have one history
      ([[HaveOneHistory]]), and [[HaveOneHistory: legal : IsLegal f p h]]. From the formula's clauses on,
      [[IsLegal: LegalFrom f p (opening f) h]], each event answers as the map after the events before it ([[LegalFrom: Answers m
@@ -830,7 +831,8 @@ HEADLINE_PHRASES = [
      []]]."""),
     ("after all that it had seen", """[[fn Store::fetch.calls]], and so of [[fn Store::publish]] and [[fn Store::retire]]. What
      the pass had seen begins what it has seen then, [[PassMoves: seen : (more : History) × (new.seen ≡ old.seen ++ more)]], and
-     the call is the last of that, [[Calls: last : EndsWith new.seen e]]. In the end each pass has seen the one history:
+     the call is the last of that, [[Calls: last : EndsWith new.seen e]]; `more` isn't empty, since `mine` grew, and is what `seen`
+     has of this stream ([[IsFair]]). In the end each pass has seen the one history:
      [[HaveCalls: v.seen ≡ h]]."""),
     ("with the replies that it got", """the same clauses: the event has what the call answered.
      [[fn Store::fetch.calls: events.fetch pass.old.view.caller.stream id reply]], where
@@ -843,7 +845,7 @@ HEADLINE_PHRASES = [
      [[law entries_advance]], [[Advances: Advances (live c) (retired d) = d ≡ c]]. What the store gives to read is that clause: a
      live fetch gives a clip that is known, [[fn Store::fetch.fetched: IsFetched (pass_place pass.new.view) id result]]; of it
      each literal comes from the clause that is kept, [[fn Store::literal.value: slice_get (clip_clause (pass_place
-     pass.old.view) clip.now) k ≡ Some result]] (two at once: [[fn Store::pair]]); what is kept is the history's, [[IsFair: spelt
+     pass.old.view) clip.now) k ≡ Some result]] (two at once: [[fn Store::pair]]); each pass is fair, as [[IsOpened]], [[Calls]] and [[Meets]] say, so what is kept is the history's, [[IsFair: spelt
      : IsSpelt v.caller.formula v.seen v.spelt]], [[Spells: Spells (live c) (Some kept) = kept.literals ≡ c]]; and it stays,
      whatever calls follow: the law [[law known_stays]], [[KnownStays: clip_clause b clip ≡ clip_clause a clip]], where calls
      lead from place a to place b ([[Tells]]), as those of a pass do by the law [[law pass_tells]]."""),
@@ -866,9 +868,11 @@ HEADLINE_PHRASES = [
      IsUnsatisfiableUnder formula.now cube.now]]. The [[Cube]] is that of its text, [[fn read_cube.cube: IsCubeText vars
      bytes.now]]."""),
     ("promises of each call of the store", """the contracts of [[fn Store::fetch]], [[fn Store::literal]], [[fn Store::publish]]
-     and [[fn Store::retire]], whoever calls them. A [[Pass]] comes of [[fn Store::open]] alone, can't be copied, and moves by
+     and [[fn Store::retire]], whoever calls them. A [[Pass]] comes of [[fn Store::open]] alone, and moves by
      these calls and by meeting alone. That the threads made their calls through the passes that the run gives back is said under
-     it, by [[fn check_all.found]]: each pass moved by the events by which its stream's report is judged."""),
+     it, by [[fn check_all.found]]: each pass moved by the events by which its stream's report is judged,
+     in `Finishes` of `stream_threads`: `PassMoves jobs.pass.view found.pass.view (joined blocks)`. That a pass can't be made or copied otherwise
+     is by its fields, which are private."""),
     ("the rest is one of the run", "[[fn run.history+reports+sound+sound_under]]."),
 ]
 
