@@ -4,8 +4,8 @@ use Rattle.lrup_text.specs.ReadOut.{source_view}
 use Rattle.run_laws.specs.ReportLemmas.{reports_alone}
 use Rattle.portfolio.specs.Outcomes.{layout_of, terms_of}
 use Rattle.runs.specs.StreamLemmas.{told_as_many}
-use Rattle.runs.specs.Streams.{tellings, terms_at}
-use Rattle.portfolio.specs.Turns.{AreOver, Runs}
+use Rattle.runs.specs.Streams.{TermsValue, tellings, terms_at}
+use Rattle.portfolio.specs.Turns.{AreOver, AreStarted, Runs}
 use Rattle.portfolio.proofs.CubeLemmas.{sound_under_order}
 use Rattle.portfolio.proofs.HeadlineLemmas.{is_empty, no_fault}
 use Rattle.portfolio.proofs.TurnsLemmas.{IsOpened, runs_opened, run_ordered, sound_over, streams_asked, written_back}
@@ -14,7 +14,7 @@ use Rattle.portfolio.proofs.serial.run_serial.Goals as goal
 pub workers_of-requires-clause-streams : goal.workers_of-requires-clause-streams
 workers_of-requires-clause-streams g c =
     let same = streams_asked c.args.options c.args.formula.now c.len.result c.in_ok-layout.layout c.in_ok-layout.ensures.layout.0 in
-    same ∙ c.len.ensures ∙ c.args.readers.ok.0
+    ap (λ (t : TermsValue). t.layout.streams) c.new-terms.ensures ∙ same ∙ c.len.ensures ∙ c.args.readers.ok.0
 
 pub take_turns-requires : goal.take_turns-requires
 take_turns-requires g c =
