@@ -74,7 +74,7 @@ pub report_alone : ReadersClosed → ToldIsReading → {S : Type 0} (view : Sour
     → CiteWithin layout_of_two (one 1) bytes
     → IsOfStream (map view.left firsts) 1 (Some bytes) → IsOfStream (map view.has_failed lasts) 1 false
     → IsOfStream reports 1 report → ¬ IsOfMemory report → IsOnlyReport bytes report
-report_alone closes reads view firsts lasts bytes Judged reports report streams isolated only told read judged cites entry fine says memory =
+report_alone closes reads view firsts lasts bytes Judged reports report streams isolated unique told read judged cites entry fine says memory =
     let tells = tellings view firsts lasts in
     let first = first_told view firsts lasts streams bytes read entry fine in
     let closed = closes layout_of_two (one 1) tells streams told
@@ -94,7 +94,7 @@ report_alone closes reads view firsts lasts bytes Judged reports report streams 
         reads = is_reading;
         says = says;
       };
-      only = only streams told judged 1 first.stream report first.at says closed memory bytes stream_ends.Ended is_reading;
+      only = unique streams told judged 1 first.stream report first.at says closed memory bytes stream_ends.Ended is_reading;
     }
 
 -- The verdict of an order of lines
