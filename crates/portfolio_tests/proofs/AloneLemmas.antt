@@ -15,11 +15,11 @@ use Rattle.std.specs.List.{AllByRecursion, list_any}
 use Rattle.stream_check.specs.Laws.{IsOfMemory, cited_by}
 use Rattle.lrup_model.specs.Cube.{CubeValue}
 use Rattle.lrup_model.specs.Formula.{Cnf}
-use Rattle.lrup_model.specs.Event.{publishes_empty}
+use Rattle.lrup_model.specs.Event.{History, publishes_empty}
 use Rattle.portfolio.specs.declared.outcome.Verdict.{Verdict}
 use Rattle.portfolio.specs.declared.outcome.Verdict.TheVariants.{Unsatisfiable, UnsatisfiableUnder, Unknown}
 use Rattle.portfolio.specs.Outcomes.{OptionsValue, terms_of, verdict_of}
-use Rattle.run_laws.specs.Serializable.{ComeToVerdict}
+use Rattle.run_laws.specs.Serializable.{ComeToVerdict, IsSerializable}
 use Rattle.runs.specs.StreamLemmas.{same_at}
 use Rattle.lrup_text.specs.ReadOut.{SourceView}
 use Rattle.runs.specs.Readings.{AreRead}
@@ -57,13 +57,28 @@ first_told view (first ∷ firsts) (last ∷ lasts) (stream ∷ streams) bytes r
 first_told view _ _ _ bytes read entry fine = absurd read
 
 -- the terms of such a run are those of two streams over the four clauses
-pub of_two : (Holds : Cnf → TermsValue → Type 0) (options : OptionsValue) (cube : CubeValue) (f : Cnf) (count : ℕ)
+of_two : (Holds : Cnf → TermsValue → Type 0) (options : OptionsValue) (cube : CubeValue) (f : Cnf) (count : ℕ)
     → options ≡ usual → cube ≡ [] → f ≡ four → count ≡ 2 → Holds f (terms_of options cube f count) → Holds four two_terms
 of_two Holds options cube f count same none formula two holds =
     subst (λ n. Holds four (terms_of usual [] four n)) two
     (subst (λ g. Holds g (terms_of usual [] g count)) formula
     (subst (λ k. Holds f (terms_of usual k f count)) none
     (subst (λ o. Holds f (terms_of o cube f count)) same holds)))
+
+pub two_isolated : (options : OptionsValue) (cube : CubeValue) (f : Cnf) (count : ℕ) (told : List Telling)
+    (Judged : List Stream → Type 0) (reports : List Report) → options ≡ usual → cube ≡ [] → f ≡ four → count ≡ 2
+    → AreIsolated f (terms_of options cube f count) told Judged reports → AreIsolated four two_terms told Judged reports
+two_isolated options cube f count told Judged reports = of_two (λ g terms. AreIsolated g terms told Judged reports) options cube f count
+
+pub two_alone : (options : OptionsValue) (cube : CubeValue) (f : Cnf) (count : ℕ) (told : List Telling)
+    (Judged : List Stream → Type 0) (reports : List Report) → options ≡ usual → cube ≡ [] → f ≡ four → count ≡ 2
+    → HaveReportsAlone f (terms_of options cube f count) told Judged reports → HaveReportsAlone four two_terms told Judged reports
+two_alone options cube f count told Judged reports = of_two (λ g terms. HaveReportsAlone g terms told Judged reports) options cube f count
+
+pub two_serializable : (options : OptionsValue) (cube : CubeValue) (f : Cnf) (count : ℕ) (told : List Telling)
+    (h : History) (reports : List Report) → options ≡ usual → cube ≡ [] → f ≡ four → count ≡ 2
+    → IsSerializable f (terms_of options cube f count) told h reports → IsSerializable four two_terms told h reports
+two_serializable options cube f count told h reports = of_two (λ g terms. IsSerializable g terms told h reports) options cube f count
 
 -- A report of stream 1 is the one that it may have alone, by what a run promises.
 pub report_alone : ReadersClosed → ToldIsReading → {S : Type 0} (view : SourceView S) (firsts lasts : List S) (bytes : List ℕ)

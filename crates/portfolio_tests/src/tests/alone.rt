@@ -1,5 +1,5 @@
 //! What the contracts of runs say of a stream that cites within itself: one report, whatever its neighbour is.
-ghost use Rattle.std.specs.Prelude.{◌≡◌, [], Some, false, codes, length, map, IfOk};
+ghost use Rattle.std.specs.Prelude.{◌≡◌, [], Some, false, true, codes, length, map, IfOk};
 ghost use Rattle.std.specs.List.{AllByRecursion};
 ghost use Rattle.stream_check.specs.Laws.{IsOfMemory};
 ghost use Rattle.runs.specs.Closed.{CiteWithin, IsOfStream};

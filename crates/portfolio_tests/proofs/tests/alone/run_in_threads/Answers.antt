@@ -1,10 +1,9 @@
-use Rattle.run_laws.specs.Serializable.{IsSerializable}
-use Rattle.portfolio_tests.proofs.AloneLemmas.{of_two, has_order}
+use Rattle.portfolio_tests.proofs.AloneLemmas.{two_serializable, has_order}
 use Rattle.portfolio_tests.proofs.tests.alone.run_in_threads.Goals as goal
 
 pub returns : goal.returns
 returns g c stays =
     let ran = c.in_ok-outcome.ensures in
     let stands = ran.reports in
-    let said = of_two (λ f terms. IsSerializable f terms _ _ _) _ _ _ _ c.usual_options.ensures c.empty.ensures c.in_ok-formula.ensures c.in_ok-readers.ensures.two ran.serializable in
+    let said = two_serializable _ _ _ _ _ _ _ c.usual_options.ensures c.empty.ensures c.in_ok-formula.ensures c.in_ok-readers.ensures.two ran.serializable in
     has_order _ _ _ ((said stands.streams stands.are_told stands.judged.1).1 stays) ran.verdict
