@@ -19,7 +19,8 @@ use Rattle.lrup_model.specs.Event.{History, publishes_empty}
 use Rattle.portfolio.specs.declared.outcome.Verdict.{Verdict}
 use Rattle.portfolio.specs.declared.outcome.Verdict.TheVariants.{Unsatisfiable, UnsatisfiableUnder, Unknown}
 use Rattle.portfolio.specs.Outcomes.{OptionsValue, terms_of, verdict_of}
-use Rattle.run_laws.specs.Serializable.{ComeToVerdict, IsSerializable}
+use Rattle.run_laws.specs.Serializable.{ComeToVerdict}
+use Rattle.run_laws.specs.Premises.{FoundStays}
 use Rattle.runs.specs.StreamLemmas.{same_at}
 use Rattle.lrup_text.specs.ReadOut.{SourceView}
 use Rattle.runs.specs.Readings.{AreRead}
@@ -75,10 +76,15 @@ pub two_alone : (options : OptionsValue) (cube : CubeValue) (f : Cnf) (count : �
     → HaveReportsAlone f (terms_of options cube f count) told Judged reports → HaveReportsAlone four two_terms told Judged reports
 two_alone options cube f count told Judged reports = of_two (λ g terms. HaveReportsAlone g terms told Judged reports) options cube f count
 
-pub two_serializable : (options : OptionsValue) (cube : CubeValue) (f : Cnf) (count : ℕ) (told : List Telling)
-    (h : History) (reports : List Report) → options ≡ usual → cube ≡ [] → f ≡ four → count ≡ 2
-    → IsSerializable f (terms_of options cube f count) told h reports → IsSerializable four two_terms told h reports
-two_serializable options cube f count told h reports = of_two (λ g terms. IsSerializable g terms told h reports) options cube f count
+-- the streams of this history have an order that comes to the verdict, where it leaves what they found of one another
+abbrev pub HaveOrder : Cnf → TermsValue → History → List Stream → List Report → Type 0
+HaveOrder f terms h streams reports = FoundStays f terms.layout (λ s. true) h
+    → (order : IsOrdered f terms (λ s. true) streams reports) × ComeToVerdict terms.cube (events_in order.blocks) reports
+
+pub two_ordered : (options : OptionsValue) (cube : CubeValue) (f : Cnf) (count : ℕ) (h : History) (streams : List Stream)
+    (reports : List Report) → options ≡ usual → cube ≡ [] → f ≡ four → count ≡ 2
+    → HaveOrder f (terms_of options cube f count) h streams reports → HaveOrder four two_terms h streams reports
+two_ordered options cube f count h streams reports = of_two (λ g terms. HaveOrder g terms h streams reports) options cube f count
 
 -- A report of stream 1 is the one that it may have alone, by what a run promises.
 pub report_alone : ReadersClosed → ToldIsReading → {S : Type 0} (view : SourceView S) (firsts lasts : List S) (bytes : List ℕ)
