@@ -17,16 +17,16 @@ ghost use Rattle.run_laws.specs.Serializable.{IsSerializable};
 use crate::options::Options;
 use crate::outcome::{Outcome, RunFault, Verdict};
 use clause_store::{Pass, Store};
-use run_laws::groups::{alone_has_one_report, run_isolated};
 use lrup_model::{Cube, Formula};
 use lrup_text::Source;
-use runs::Terms;
+use run_laws::groups::{alone_has_one_report, run_isolated};
 use run_laws::orders::run_serializable;
+use runs::Terms;
 use std::alloc::{AllocError, Global};
 use std::sync::Wait;
 use std::thread::Threads;
 use stream_check::{Gate, Report};
-use stream_threads::{StreamResult, Room, ThreadFault, check_all, jobs_of};
+use stream_threads::{Room, StreamResult, ThreadFault, check_all, jobs_of};
 
 /// Checks the streams that the readers give, each in two threads of its own, one that reads it to its end and one that checks what
 /// was read, against one store of clauses, and says whether one derived a clause that contradicts the cube. As many gates are

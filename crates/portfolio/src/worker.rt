@@ -14,7 +14,7 @@ use runs::Terms;
 use std::alloc::{AllocError, Global};
 use std::marker::Model;
 use std::sync::Wait;
-use stream_check::{Checker, Gate, Report, CheckTurn};
+use stream_check::{CheckTurn, Checker, Gate, Report};
 
 /// The most bytes that one read asks for.
 const PIECE: usize = 65_536;

@@ -294,6 +294,6 @@ pub run_serializable : ClosedOrdered → AllOrdered → RunSerializable
 run_serializable closed_ordered all_ordered f terms h passes told reports fits count one streams are_told judged =
     let many = told_count told streams are_told ∙ count in (
       (λ set closed stays. closed_ordered f terms set h streams reports fits many one.legal
-      (judged_members terms set h 1 streams reports judged) closed stays),
+          (judged_members terms set h 1 streams reports judged) closed stays),
       (λ stays. all_ordered f terms h streams reports fits many one.legal judged stays),
     )

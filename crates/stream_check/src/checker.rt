@@ -127,7 +127,8 @@ impl Checker {
         }
     }
 
-    /// Tells the gate how the stream is judged, which is over through so many bytes. Where the compiler knows that this is rare, lines before it are faster.
+    /// Tells the gate how the stream is judged, which is over through so many bytes. Where the compiler knows that this is rare,
+    /// lines before it are faster.
     #[cold]
     #[inline(never)]
     fn tell<G: Gate>(&self, gate: &mut G, used: usize) -> Progress

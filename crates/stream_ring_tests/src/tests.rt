@@ -405,7 +405,11 @@ fn a_receiver_that_sleeps_is_woken(rt: HostRuntime) -> Result<(), Fail> {
         same(
             &rt,
             (ring, count, came),
-            (ring, count, (StreamEnd::Ended, (heard, Some(StreamEnd::Ended)))),
+            (
+                ring,
+                count,
+                (StreamEnd::Ended, (heard, Some(StreamEnd::Ended))),
+            ),
         );
     }
     Ok(())

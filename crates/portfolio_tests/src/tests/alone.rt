@@ -11,11 +11,11 @@ ghost use Rattle.test_support.specs.Worked.{four};
 ghost use Rattle.portfolio_tests.specs.Alone.{first_bytes, layout_of_two, usual, HasOrder, IsOnlyReport};
 
 use super::{BOTH, By, Open, bad_line, defaults, ended, readers_of, reports_of, same};
-use run_laws::groups::{readers_closed, told_is_reading};
 use lrup_model::Cube;
 use lrup_text::Source;
 use lrup_text::laws::a_stream_is_cut_in_one_way;
 use portfolio::{Options, Outcome, Verdict, run, run_serial};
+use run_laws::groups::{readers_closed, told_is_reading};
 use std::alloc::Global;
 use std::process::Abort;
 use std::sync::Wait;
