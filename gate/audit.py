@@ -646,8 +646,8 @@ AUDIT_TOP = f"""# What there is to believe: status 0 and 8
 
 The prover shows that the code keeps its contracts. That the contracts say what one wants to rely on is for a reader to judge.
 This page has all that the clauses behind status 0 and 8 rest on, down to names of libraries, which have a line each; whole runs
-are on [AUDIT-RUNS](AUDIT-RUNS.md). At each definition ask: is this what the words mean? [DEFINITIONS](DEFINITIONS.md) says it in
-words, with examples.
+are on [AUDIT-RUNS](AUDIT-RUNS.md). At each definition ask: is this what the words mean? [DEFINITIONS](DEFINITIONS.md) shows
+them at work, by examples.
 
 No clause says that something is answered: 'out of memory' may always come.
 
