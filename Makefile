@@ -84,11 +84,11 @@ leaks: build
 instructions: build c-and-python
 	@python3 gate/instructions.py $(PROGRAM)
 
-# Writes docs/AUDIT.md: what one has to read to believe status 0 and the headline, word for word from the sources.
+# Writes docs/AUDIT.md and docs/AUDIT-RUNS.md: what one has to read to believe status 0 and 8, and whole runs, from the sources.
 audit:
 	@python3 gate/audit.py
 
-# What needs no prover: whether that page is what the sources give, and DEFINITIONS has its counts; whether the names in backticks
+# What needs no prover: whether these pages are what the sources give, and DEFINITIONS has their counts; whether the names in backticks
 # in the documents exist; and whether clauses and definitions are within 100 columns, and each lemma stands once.
 pages: c-and-python
 	@python3 gate/audit.py --check

@@ -1,14 +1,18 @@
 #!/usr/bin/env python3
-"""Writes docs/AUDIT.md: what one has to read to believe status 0, and then the headline.
+"""Writes docs/AUDIT.md, what one has to read to believe status 0 and 8, and docs/AUDIT-RUNS.md, the same for whole runs.
 
-    python3 gate/audit.py            writes the page
-    python3 gate/audit.py --check    fails where the page isn't what the sources give, or DEFINITIONS has other counts
+    python3 gate/audit.py            writes the pages
+    python3 gate/audit.py --check    fails where a page isn't what the sources give, or DEFINITIONS has other counts
     python3 gate/audit.py --bare     lists the definitions that have no comment
 
-It begins at a clause of a contract and follows the names, by the files that bring them in, down to the libraries that the
-toolchain comes with. Each definition stands there word for word, with the comment above it, after those that it uses. It
+It begins at clauses of contracts and follows the names, by the files that bring them in, down to the libraries that the
+toolchain comes with. Each definition stands there word for word, with the comment above it, after the one that first uses it. It
 fails at a name of which it doesn't know what it stands for, so that no definition is left out, and at a name of a library
 that GLOSSES lacks.
+
+In the texts below, [[Name]] is a link to a definition, a type or a trait, [[fn run]] to a function, [[law known_stays]] to a
+law, and [[fn run.history+reports]] tells clauses. [[Name: words]] and [[fn run.history: words]] say besides that the definition
+or the clause has these words. It fails where that isn't so, and where README lacks a phrase in the sentence that it is one of.
 """
 import re
 import sys
@@ -17,10 +21,10 @@ from pathlib import Path
 
 ROOT = Path(__file__).resolve().parent.parent
 CRATES = ROOT / "crates"
-PAGE = ROOT / "docs" / "AUDIT.md"
+DOCS = ROOT / "docs"
 
 NAME = re.compile(r"[^\s(){}\[\];,.:λ→×⊎≡≢¬↔≤<>+*/%^∷&|=]+")
-WORDS = set("abbrev unfoldable pub record data where let in if then else λ _ Type Unit ⊥".split())
+WORDS = set("record data where let in if then else λ _ Type Unit ⊥".split())
 HEAD = re.compile(r"^(?P<kind>(?:abbrev |unfoldable )?(?:pub )?(?:record |data )?)(?P<name>[^\s:({]+)(?P<rest>[\s:({].*)?$")
 ITEM = re.compile(r"((?:^(?:///|#\[).*\n)*)^pub (?:struct|enum|trait) (?:[^\n{]*;$|[\s\S]*?^\}$)", re.M)
 
@@ -57,12 +61,18 @@ def crate_order():
 class Definition:
     """A definition of a file of specs: its name, the comment above it, its text, and the names that its text has."""
 
+    language = "agda"
+
     def __init__(self, file, name, comment, lines, place):
         self.file, self.name, self.comment, self.place = file, name, comment, place
-        self.text = "\n".join(lines).rstrip()
+        self.path, self.crate = file.path, crate_of(file.path)
+        self.text = re.sub(r"^( *)(?:(?:abbrev|unfoldable|pub) )+", r"\1", "\n".join(lines).rstrip(), flags=re.M)
 
     def key(self):
         return (str(self.file.path), self.name)
+
+    def shown(self):
+        return "\n".join(self.comment + [self.text])
 
     def bound(self):
         """The names that the text binds: parameters, members, patterns, and what a λ or a let names."""
@@ -72,9 +82,9 @@ class Definition:
         for group in re.findall(r"λ ([^.(]*)\.", self.text):
             names.update(NAME.findall(group))
         names.update(re.findall(r"\blet ([^\s:=]+)", self.text))
-        if re.match(r"(pub )?record ", self.text):
+        if re.match(r"record ", self.text):
             for line in self.text.split("\n")[1:]:
-                member = re.match(r"^  (?:pub )?([^\s:]+) :", line)
+                member = re.match(r"^  ([^\s:]+) :", line)
                 if member:
                     names.add(member.group(1))
         else:
@@ -111,24 +121,124 @@ class Definition:
 class RustType:
     """A type or a trait of a crate's code, with its doc comment, and what contracts see of it."""
 
-    def __init__(self, crate, path, text):
-        self.crate, self.file, self.text = crate, path, text
+    language = "rust"
+
+    def __init__(self, crate, path, text, whole=False):
+        self.crate, self.path, self.whole = crate, path, whole
         self.is_trait = re.search(r"^pub trait ", text, re.M) is not None
-        name = re.search(r"^pub (?:struct|enum|trait) (\w+)", text, re.M).group(1)
-        match = re.search(rf"^impl(?:<.*?>)? Model for {name}\b.*?^}}", path.read_text(), re.M | re.S)
+        self.name = re.search(r"^pub (?:struct|enum|trait) (\w+)", text, re.M).group(1)
+        self.given, self.text = text, self.short(text)
+        match = re.search(rf"^impl(?:<.*?>)? Model for {self.name}\b.*?^}}", path.read_text(), re.M | re.S)
         value = match and re.search(r"ghost Value = \{ (.*?) \};", match.group(0))
-        self.name, self.value = name, value.group(1) if value else None
+        self.value = value.group(1) if value else None
 
     def key(self):
         return ("rust", self.crate, self.name)
 
+    def short(self, text):
+        """The text without blank lines, attributes and private fields, and of a trait the members that SHOWN names."""
+        lines = [line for line in text.split("\n") if line.strip() and not line.strip().startswith("#[")]
+        if self.is_trait and self.name in SHOWN and not self.whole:
+            lines = shown_members(self.name, lines)
+        if re.search(r"^pub struct .*\{$", text, re.M):
+            fields = [line for line in lines[:-1] if not re.match(r"    (?!pub |///)", line)]
+            fields = [line for line in fields if not line.startswith("    pub(crate)")]
+            lines = fields + (["    .."] if len(fields) < len(lines) - 1 else []) + lines[-1:]
+        return re.sub(r"\{\n    \.\.\n\}$", "{ .. }", "\n".join(line for line in lines if line.strip() != "///"))
+
+    def shown(self):
+        return self.text
+
     def used(self):
         """What contracts see the type as; or what its text names: types, and of a trait definitions too."""
-        code = rust(self.crate, self.file)
+        code = rust(self.crate, self.path)
         if self.value:
             return code.used(self.value), []
         without_variants = re.sub(r"^    [A-Z]\w*", "", self.text, flags=re.M)
-        return code.types(without_variants) + (code.used(self.text) if self.is_trait else []), []
+        types = [thing for thing in code.types(without_variants) if thing.name not in UNSEEN]
+        return types + (code.used(self.text) if self.is_trait else []), []
+
+    def of_libraries(self):
+        return rust(self.crate, self.path).of_libraries(self.text) if self.is_trait else set()
+
+
+def whole(thing):
+    """A trait with all of its members."""
+    return RustType(thing.crate, thing.path, thing.given, whole=True)
+
+
+def shown_members(trait, lines):
+    """The lines of a trait, where `..` stands for the members and clauses that SHOWN doesn't name."""
+    kept, comment, member, here, missing = [], [], None, True, set()
+    for name, clauses in SHOWN[trait].items():
+        missing.update([name, *(f"{name} {clause}" for clause in clauses)])
+    for line in lines:
+        begins = re.match(r"    (?:ghost|type|fn) (\w+)", line)
+        clause = re.match(r"        (?:requires|ensures)(?: (\w+))? \{", line)
+        if line.startswith("    ///"):
+            comment.append(line)
+        elif begins:
+            member, here = begins.group(1), begins.group(1) in SHOWN[trait]
+            kept += comment + [line] if here else ["    .."]
+            missing.discard(member)
+            comment = []
+        elif clause and member in SHOWN[trait]:
+            here = clause.group(1) in SHOWN[trait][member]
+            kept.append(line if here else "        ..")
+            missing.discard(f"{member} {clause.group(1)}")
+        elif here or not line.startswith(" "):
+            kept.append(line)
+    if missing:
+        sys.exit(f"audit: the trait {trait} has no {', '.join(sorted(missing))}")
+    return [line for at, line in enumerate(kept) if line.strip() != ".." or line != kept[at - 1]]
+
+
+class Contract:
+    """A function of the code: the comment above it, its signature, and all clauses of its contract or those that are named."""
+
+    language, kind = "rust", "fn "
+
+    def __init__(self, place, clauses=None, commented=True):
+        self.path, self.name = CRATES / place.split(": ")[0], place.split(": ")[1]
+        self.crate = crate_of(self.path)
+        self.source = rust(self.crate, self.path)
+        self.comment, self.head, self.clauses = self.source.function(self.name)
+        count = len(self.clauses)
+        self.clauses = self.some(clauses)
+        self.left_out, self.commented = len(self.clauses) < count, commented
+
+    def key(self):
+        return ("fn", self.crate, self.name)
+
+    def shown(self):
+        lines = self.comment + "\n".join([self.head, *self.clauses.values()]).split("\n") + (["    .."] if self.left_out else [])
+        return "\n".join(line for line in lines if self.commented or not line.strip().startswith("//"))
+
+    def some(self, names):
+        """The clauses of these names, or all."""
+        for name in names or []:
+            if name not in self.clauses:
+                sys.exit(f"audit: {self.name} has no clause {name}")
+        return {name: text for name, text in self.clauses.items() if names is None or name in names}
+
+    def named_by(self, clauses):
+        """The definitions and types that some clauses name."""
+        text = "\n".join(self.some(clauses).values())
+        return self.source.used(text) + self.source.types(text)
+
+    def used(self):
+        """The definitions and types that the clauses and the signature name; and the names that aren't known."""
+        found, text = self.named_by(None) + self.source.types(self.head), "\n".join(self.clauses.values())
+        return [thing for thing in found if thing.name not in UNSEEN], self.source.doubts(self.head, text)
+
+    def of_libraries(self):
+        return self.source.of_libraries("\n".join(self.clauses.values()))
+
+
+class Law(Contract):
+    """A function of a module of laws: its contract is the law."""
+
+    kind = "law "
 
 
 class Names:
@@ -275,7 +385,8 @@ class Rust:
     """A file of code: the names that its contracts and its signatures bring in, and its functions."""
 
     def __init__(self, crate, path):
-        self.crate, self.lines, self.names, self.crates = crate, path.read_text().split("\n"), Names(), {}
+        self.crate, self.path, self.names, self.crates = crate, path, Names(), {}
+        self.lines = path.read_text().split("\n")
         for line in self.lines:
             if line.strip().startswith("ghost use "):
                 self.names.bring_in(line.strip().removeprefix("ghost "))
@@ -285,27 +396,49 @@ class Rust:
                     self.crates[name] = crate if match.group(1) == "crate" else match.group(1)
 
     def function(self, name):
-        """The head of a function, and its clauses by their names, each with the comment above it."""
-        at = next(i for i, line in enumerate(self.lines) if re.match(rf"pub fn {name}\b", line))
-        while self.lines[at - 1].startswith("///"):
-            at -= 1
+        """The comment of a function, its signature, and its clauses by their names, each with the comment above it."""
+        owner, _, name = name.rpartition("::")
+        lines = self.lines
+        if owner:
+            starts = [i for i, line in enumerate(lines) if re.match(rf"impl(?:<.*?>)? {owner}\b(?!.* for ).*\{{$", line)]
+            blocks = [lines[i + 1:lines.index("}", i)] for i in starts]
+            lines = [line.removeprefix("    ") for block in blocks for line in block]
+        places = [i for i, line in enumerate(lines) if re.match(rf"pub fn {name}\b", line)]
+        if len(places) != 1:
+            sys.exit(f"audit: {len(places)} functions {name} in {self.path.relative_to(ROOT)}")
+        start = places[0]
+        while lines[start - 1].startswith(("///", "#[")):
+            start -= 1
         head, clauses, comment = [], {}, []
-        lines = iter(self.lines[at:])
-        for line in lines:
-            clause = re.match(r"    (requires|ensures) (\w+) \{", line)
-            if line == "{":
+        rest = iter(lines[places[0]:])
+        for line in rest:
+            clause = re.match(r"    (requires|ensures)(?: (\w+))? \{", line)
+            if line in ("{", "{}"):
                 break
             if line.startswith("    //"):
                 comment.append(line)
             elif clause:
                 text = [line]
                 while "".join(text).count("{") > "".join(text).count("}"):
-                    text.append(next(lines))
-                clauses[clause.group(2)] = "\n".join(comment + text)
+                    text.append(next(rest))
+                label = clause.group(2) or clause.group(1)
+                clauses[label if label not in clauses else "requires " + label] = "\n".join(comment + text)
                 comment = []
             else:
                 head.append(line)
-        return "\n".join(head), clauses
+        return [line for line in lines[start:places[0]] if line.startswith("///")], "\n".join(head), clauses
+
+    def doubts(self, head, text):
+        """The names in clauses of which it isn't known what they stand for."""
+        text = re.sub(r"//.*", "", text)
+        bound = set(re.findall(r"(\w+): ", head)) | {"requires", "ensures", "result", "self"}
+        bound.update(re.findall(r"(?:requires|ensures) (\w+) \{", text))
+        for group in re.findall(r"\(([^(){}:=;]*?) :", text) + re.findall(r"λ ([^.(]*)\.", text):
+            bound.update(group.split())
+        bound.update(re.findall(r"\blet ([^\s:=]+)", text))
+        known = bound | WORDS | set(self.names.foreign) | set(self.crates) | set(rust_types(self.crate))
+        words = words_in(re.sub(r"([{;]\s*)\w+ =", r"\1", text))
+        return [word for word, member in words if word not in known and not self.names.lookup(word, member)]
 
     def used(self, text):
         """The definitions that a clause names."""
@@ -330,208 +463,298 @@ class Rust:
         return found
 
 
-def closure(roots, known):
-    """The definitions and the types that these stand on, themselves included, but for the known ones."""
-    found, waiting = {}, list(roots)
-    while waiting:
-        thing = waiting.pop()
-        if thing.key() not in found and thing.key() not in known:
-            found[thing.key()] = thing
-            waiting += thing.used()[0]
-    return found
+def closure(roots):
+    """The definitions and the types that these stand on, themselves included."""
+    return top_down(roots, {})
 
 
-def in_order(things, used, rank):
-    """The things, each after those of them that it uses."""
-    placed = []
+def top_down(roots, placed):
+    """These things and what they stand on, but for what is placed already, and places them: these first, then each after one that
+    uses it."""
+    order = []
 
     def visit(thing):
-        if thing not in placed:
-            for other in sorted(used(thing), key=rank):
-                if other is not thing:
-                    visit(other)
-            placed.append(thing)
+        if thing.key() not in placed:
+            placed[thing.key()] = thing
+            order.append(thing)
 
-    for thing in sorted(things, key=rank):
+    def visit_below(thing):
+        for other in thing.used()[0]:
+            new = other.key() not in placed
+            visit(other)
+            if new:
+                visit_below(other)
+
+    new = [thing for thing in roots if thing.key() not in placed]
+    for thing in new:
         visit(thing)
-    return placed
-
-
-def by_file(definitions):
-    """The files, each after those that it uses, and the definitions of each, in order too."""
-    held = set(definitions)
-    uses = {d: {other for other in d.used()[0] if other in held} for d in definitions}
-    files = in_order(
-        {d.file for d in definitions},
-        lambda file: {other.file for d in definitions if d.file is file for other in uses[d]},
-        lambda file: (ALL_CRATES.index(crate_of(file.path)), str(file.path)),
-    )
-    own = {file: [d for d in definitions if d.file is file] for file in files}
-    return [
-        (file, in_order(own[file], lambda d: {o for o in uses[d] if o.file is d.file}, lambda d: d.place))
-        for file in files
-    ]
+    for thing in new:
+        visit_below(thing)
+    return order
 
 
 def crate_of(path):
     return path.relative_to(CRATES).parts[0]
 
 
-def code(text, language):
-    return f"```{language}\n{text}\n```\n"
+def definitions_of(things):
+    return [thing for thing in things if isinstance(thing, Definition)]
 
 
-class Part:
-    """A part of the page: clauses of a function, and all that they stand on but for what the parts before it have."""
-
-    def __init__(self, title, about, function, seen, clauses, known):
-        crate, file, name = function
-        source = rust(crate, CRATES / crate / "src" / file)
-        self.title, self.about = title, about
-        self.head, given = source.function(name)
-        self.clauses = [given[clause] for clause in clauses or given]
-        self.ensured = {clause: source.used(given[clause]) for clause in clauses or given if "ensures" in given[clause]}
-        text = "\n".join(self.clauses)
-        roots = source.used(text) + source.types(text) + [rust_type(*thing) for thing in seen]
-        self.all = closure(roots, {}).values()
-        self.found = {thing.key(): thing for thing in self.all if thing.key() not in known}
-        self.known_files = {thing.file for thing in known.values() if isinstance(thing, Definition)}
-        self.definitions = [thing for thing in self.found.values() if isinstance(thing, Definition)]
-        self.types = [thing for thing in self.found.values() if isinstance(thing, RustType)]
-        self.of_libraries = source.of_libraries(text).union(
-            *(rust(t.crate, t.file).of_libraries(t.text) for t in self.types if t.is_trait),
-            *(definition.of_libraries() for definition in self.definitions),
-        )
-
-    def page(self):
-        yield f"## {self.title}\n"
-        yield self.about + "\n"
-        yield code("\n".join([self.head] + self.clauses), "rust")
-        yield self.counts()
-        yield self.beginnings()
-        if self.types:
-            yield "### Types and traits of the code\n"
-        for thing in sorted(self.types, key=lambda t: (ALL_CRATES.index(t.crate), str(t.file), t.name)):
-            seen = f", which contracts see as `{thing.value}`" if thing.value else ""
-            yield f"`{thing.name}` of `{thing.crate}`{seen}:\n"
-            yield code(thing.text, "rust")
-        crate = None
-        for file, definitions in by_file(self.definitions):
-            if crate_of(file.path) != crate:
-                crate = crate_of(file.path)
-                yield f"### {crate}\n"
-            rest = ", the rest" if file in self.known_files else ""
-            yield f"#### {crate}: {file.path.stem}{rest}\n"
-            texts = ["\n".join(definition.comment + [definition.text]) for definition in definitions]
-            yield code("\n\n".join(["\n".join(file.title)] + texts), "agda")
-
-    def crates(self):
-        """The crates, each with the count of its definitions."""
-        crates = [crate_of(definition.file.path) for definition in self.definitions]
-        return [(crate, crates.count(crate)) for crate in ALL_CRATES if crate in crates]
-
-    def beginnings(self):
-        """The names at which each clause begins, and how many definitions it stands on."""
-        rows = ["| Clause | Begins at | Definitions behind it |", "|---|---|---|"]
-        for clause, roots in self.ensured.items():
-            names = dict.fromkeys(thing.name for thing in roots if isinstance(thing, Definition))
-            behind = sum(isinstance(thing, Definition) for thing in closure(roots, {}).values())
-            rows.append(f"| `{clause}` | {', '.join(f'`{name}`' for name in names)} | {behind} |")
-        return "\n".join(rows) + "\n"
-
-    def counts(self):
-        each = ", ".join(f"{count} of `{crate}`" for crate, count in self.crates())
-        if not self.types:
-            return f"{len(self.definitions)} definitions: {each}.\n"
-        return f"{len(self.definitions)} definitions, with those that types and traits name: {each}. {len(self.types)} types and traits.\n"
+def slug_of(title):
+    """The anchor that GitHub gives a heading, but for the number of one that comes again."""
+    return re.sub(r"[^\w\- ]", "", title.lower()).replace(" ", "-")
 
 
-ALL_CRATES = crate_order()
+def contents(blocks):
+    """Links to the sections."""
+    titles = [title for block in blocks if isinstance(block, str) for title in re.findall(r"^## (.*)$", block, re.M)]
+    return " · ".join(f"[{title}](#{slug_of(title)})" for title in titles)
 
-ABOUT = """# What there is to believe
 
-Made from the sources by `make audit`; the gate fails where this page isn't what they give.
+class Page:
+    """A page of texts, and of definitions, types, traits and functions, each under a heading of its own. It links to what another
+    page has."""
 
-The prover shows that the code keeps its contracts. That the contracts say what one wants to rely on is for a reader to judge, and
-this page has all of it: the clauses, and each definition that they stand on, word for word, after those that it uses. At each one
-ask: is this what the words mean? Of what Rattle's library and `clap` define the last section has a line each.
-[DEFINITIONS](DEFINITIONS.md) says the same in words, with examples.
+    def __init__(self, file, blocks, other=None, cited=()):
+        self.file, self.blocks, self.other = file, blocks, other
+        self.anchors, self.wrong, slugs = {}, [], {}
+        self.named = {thing.kind + thing.name: [thing] for thing in cited}
+        for block in blocks:
+            for title in [block.name] if not isinstance(block, str) else re.findall(r"^#+ (.*)$", block, re.M):
+                slug = slug_of(title)
+                slugs[slug] = slugs.get(slug, -1) + 1
+                anchor = slug if slugs[slug] == 0 else f"{slug}-{slugs[slug]}"
+                if not isinstance(block, str):
+                    self.anchors[block.key()] = anchor
+                    kind = block.kind if isinstance(block, Contract) else ""
+                    self.named.setdefault(kind + block.name, []).append(block)
+        self.things = [block for block in blocks if not isinstance(block, str)]
 
-How to read it:
+    def target(self, thing):
+        if thing.key() in self.anchors:
+            return "#" + self.anchors[thing.key()]
+        if self.other and thing.key() in self.other.anchors:
+            return f"{self.other.file}#{self.other.anchors[thing.key()]}"
+        if isinstance(thing, Contract):
+            return f"../{thing.path.relative_to(ROOT)}"
+        self.wrong.append(f"{self.file}: '{thing.name}' stands on no page")
+        return ""
 
-- **Statements.** `A × B` is 'A and B', `A ⊎ B` 'A or B', `A → B` 'if A then B', `A ↔ B` both ways, `¬ A` 'not A'; `⊥` never
-  holds, `Unit {0}` always does; `(x : A) × B` is 'there is an x', `(x : A) → B` 'for each x', and `(x y : A)` are two; `≡` is
-  equality, `≢` its opposite. `Type 0` is what statements and sets of values are of, `Type 1` what a family of them is of.
-- **Functions.** `f x y` is f of x and y, `f x` then f that waits for y; `A → B` is also what takes an A to a B, and `λ x. y` such
-  a function. Of several equations the first one that fits counts. `_` is anything on the left of a `=`, and elsewhere what the
-  prover finds by itself; `{A : Type 0} →` is such a thing too. `let x = a in b` is b, where x is a.
-- **Values.** ℕ are the numbers from 0 on, on which `m - n` is 0 where n is greater. ℤ are the whole numbers: `pos n`, which is n,
-  and `negsuc n`, which is -(n + 1). `List ℕ` holds bytes or numbers: `[]` is empty, `x ∷ xs` has x in front of xs, `xs ++ ys` is
-  one after the other. `Option A` is `None` or `Some x`. Tests (`==`, `&&`, `||`, `not`) give `true` or `false`, a `Bool`;
-  `IsTrue b` is the statement that b is `true`.
-- **Types.** A `record` has all of its members, a `data` is one of its cases; `r.a` is the member a of r, `record { a = x; }` has
-  just these members, `record r { a = x; }` is r with another a. `pub`, `abbrev` and `unfoldable` tell the prover alone who may
-  name a thing and how it is unfolded.
-- **Contracts.** `requires name { A }` is what a caller must see to, `ensures name { A }` what holds after the call, `result` its
-  answer; `old` and `new` are what a reference had before the call and after it, `now` what it has. `IfOk result P` says P of x
-  where the answer is `Ok x`, and nothing of `Err`; so `ForSome o P` of `Some x` and of `None`. A member of a trait that is `ghost`
-  is for contracts alone; a `=` after it says what it is where who writes the trait doesn't. `F.tells` is that member for the type
-  F, and `F.Input.Source.left` that of the trait `Source` for F's own type `Input`. Contracts see a slice or a `Vec` as a list
-  (`v.items`), a `u64` and an `Id` as ℕ, a `Lit` as ℤ, a text as the list of its bytes.
-{constructors}
+    def link(self, thing):
+        return f"[`{thing.name}`]({self.target(thing)})"
+
+    def reference(self, match):
+        """The link for what stands in double brackets."""
+        said = " ".join(match.group(1).split())
+        name, _, words = said.partition(": ")
+        name, _, clause = name.partition(".")
+        found = self.named.get(name) or self.other and self.other.named.get(name) or []
+        if len(found) != 1:
+            self.wrong.append(f"{self.file}: {len(found)} things are called '{name}'")
+            return name
+        place, clauses = self.link(found[0]), [clause for clause in clause.split("+") if clause]
+        texts = [getattr(found[0], "clauses", {}).get(clause) for clause in clauses] or [getattr(found[0], "text", "")]
+        if None in texts:
+            self.wrong.append(f"{self.file}: {name} has no clause '{clauses[texts.index(None)]}'")
+        elif words not in " ".join(" ".join(texts).split()):
+            self.wrong.append(f"{self.file}: {said.split(': ')[0]} doesn't say '{words}'")
+        if clauses:
+            told = ", ".join(f"`{clause}`" for clause in clauses[:-1]) + " and " * (len(clauses) > 1) + f"`{clauses[-1]}`"
+            place = f"clause{'s' * (len(clauses) > 1)} {told} of {place}"
+        return f"`{words}` in {place}" if words else place
+
+    def text(self):
+        texts = []
+        for block in self.blocks:
+            if isinstance(block, str):
+                texts.append(laid_out(re.sub(r"\[\[(.*?)\]\](?!\])", self.reference, block, flags=re.S)))
+                continue
+            used = dict.fromkeys(thing.key() for thing in block.used()[0])
+            things = {thing.key(): thing for thing in block.used()[0]}
+            links = ", ".join(self.link(things[key]) for key in used if key != block.key())
+            if isinstance(block, RustType) and block.value:
+                links = f"contracts see it as {links or f'`{block.value}`'}"
+            place = f"[{block.crate}](../{block.path.relative_to(ROOT)})" + (": " if links else "") + links
+            texts.append(f"### `{block.name}`\n\n```{block.language}\n{self.shown(block)}\n```\n\n{place}")
+        return "\n\n".join(texts) + "\n"
+
+    def shown(self, block):
+        """The text of a thing; before the first definition of a file that tells a grammar, the grammar."""
+        if isinstance(block, Definition) and sum(line.startswith("--  ") for line in block.file.title) > 1:
+            if next(thing for thing in self.things if isinstance(thing, Definition) and thing.file is block.file) is block:
+                return "\n".join(block.file.title + ["", block.shown()])
+        return block.shown()
+
+
+def laid_out(text):
+    """The paragraphs, items and quotations in lines of the page's width; headings, tables and code as they are."""
+    paragraphs = []
+    for paragraph in text.strip().split("\n\n"):
+        if paragraph.startswith(("#", "|", "```")):
+            paragraphs.append(paragraph)
+        elif paragraph.startswith("> "):
+            quoted = textwrap.fill(" ".join(paragraph.replace("\n> ", " ")[2:].split()), 126, **UNBROKEN)
+            paragraphs.append("\n".join("> " + line for line in quoted.split("\n")))
+        else:
+            items = re.split(r"\n(?=- )", paragraph)
+            indent = "  " if paragraph.startswith("- ") else ""
+            items = [textwrap.fill(" ".join(item.split()), 128, subsequent_indent=indent, **UNBROKEN) for item in items]
+            paragraphs.append("\n".join(items))
+    return "\n\n".join(paragraphs)
+
+
+UNBROKEN = {"break_long_words": False, "break_on_hyphens": False}
+
+
+def sentence(mark):
+    """What README says after this mark, in its paragraph."""
+    for paragraph in (ROOT / "README.md").read_text().split("\n\n"):
+        if paragraph.startswith(f"**{mark}** "):
+            return " ".join(paragraph.removeprefix(f"**{mark}** ").split())
+    sys.exit(f"audit: README.md has no paragraph **{mark}**")
+
+
+def phrase_by_phrase(said, rows):
+    """A sentence, and its phrases, each with what carries it."""
+    for phrase, _ in rows:
+        if phrase not in said:
+            sys.exit(f"audit: README.md doesn't say '{phrase}' in '{said}'")
+    quoted = f"> {said[0].upper()}{said[1:].removesuffix('.')}."
+    return quoted, "\n".join(f"- **{phrase}**: {text}" for phrase, text in rows)
+
+
+
+# What the pages say besides.
+
+# Of these traits what the clauses rest on: the members, and the clauses of each.
+SHOWN = {
+    "Files": {"Input": [], "tells": [], "opens": [], "open": ["opens", "stays_opens"]},
+    "Source": {"reads": [], "read": ["reads"]},
+}
+
+# What signatures name and no clause on the pages speaks of.
+UNSEEN = {"DimacsFault", "OpenFault", "ReadFault", "Sink"}
+
+MOST_WORDS = 4000       # of the page on status 0 and 8
+
+MADE = "Made from the sources by `make audit`; the gate fails where this page isn't what they give."
+
+AUDIT_TOP = f"""# What there is to believe: status 0 and 8
+
+{MADE}
+
+The prover shows that the code keeps its contracts. That the contracts say what one wants to rely on is for a reader to judge.
+This page has all that the clauses behind status 0 and 8 rest on, down to names of libraries, which have a line each; whole runs
+are on [AUDIT-RUNS](AUDIT-RUNS.md). At each definition ask: is this what the words mean? [DEFINITIONS](DEFINITIONS.md) shows
+them at work, by examples.
+
+No clause says that something is answered: 'out of memory' may always come.
+
+## Status 0"""
+
+SIGNATURE = """This is the [[fn command.sound]], the whole program but for the machine; what `main` calls has the same clause of its arguments
+([below](#what-one-has-to-trust)). `words` are those of the command line
+after the program's name. `out` and `err` take bytes, and haven't failed before. Threads and clock promise nothing; `Global` is
+where memory is from."""
+
+STATUS_0_PHRASES = [
+    ("with status 0", "[[fn command.sound: result ≡ 0 →]], where `result` is the status."),
+    ("the bytes that were read", """they are the `bytes` of [[NameUnsatisfiable: Read formula bytes]], and `Read` is
+     [[fn command.sound: WasRead _ (F.opens files.old) F.Input.Source.reads (F.tells files.old)]]: the file was opened, and its
+     reads gave these bytes, up to one that gave none ([[WasRead]], [[GaveAll]])."""),
+    ("of the formula's file", """[[NameUnsatisfiable: AskFor words formula assume]]: the words have no fault, and their FORMULA
+     is the path `formula` that was read ([[AskFor]])."""),
+    ("are a text of a formula", "[[NameUnsatisfiable: IsFormulaText bytes f]]: DIMACS CNF ([[IsFormulaText]]), and of one only (law `one_formula`)."),
+    ("that no assignment satisfies", "[[NameUnsatisfiable: IsUnsatisfiable f]], of the same `f` ([[IsUnsatisfiable]])."),
+]
+
+ACCOUNT = """**Which reads?** Whoever hands in the files chooses what `opens` and `reads` are; [[Files]] and [[Source]] promise
+of each call that it stands in them. The machine's files tell nothing and allow all, so of them alone the clause says only that
+the words have no fault. But take any run, and files that play its calls back, where `opens` and `reads` hold of these calls alone. `command` is proved for them too; and it knows files only by the calls of their traits, so it
+would do the same with them, and there only what was read can be meant. This last step is an argument, and no theorem."""
+
+AUDIT_HOW = """## How to read it
+
+- **Statements.** `A × B` is 'A and B', `A ⊎ B` 'A or B', `A → B` 'if A then B', `A ↔ B` both ways; `⊥` never holds, `Unit {0}`
+  always does; `(x : A) × B` is 'there is an x', `(x : A) → B` 'for each x'; `≡` is equality. `Type 0` is what statements and
+  sets of values are of, `Type 1` what a family of them is of.
+- **Functions.** `f x y` is f of x and y, `f x` then f that waits for y; `A → B` is also what takes an A to a B, and `λ x. y`
+  such a function. Of several equations the first one that fits counts. `_` is anything on the left of `=` or after `λ`, and
+  elsewhere what the prover finds by itself, as `{A : Type 0} →` is.
+  `let x = a in b` is b, where x is a.
+- **Values.** ℕ are the numbers from 0 on, ℤ the whole numbers: `pos n` is n, `negsuc n` is -(n + 1). `List ℕ` holds bytes or
+  numbers: `[]` is empty, `x ∷ xs` has x in front of xs, `xs ++ ys` is one after the other. `Option A` is `None` or `Some x`.
+  Tests (`==`, `||`, `not`) give `true` or `false`, a `Bool`.
+- **Types.** A `record` has all of its members; `r.a` is the member a of r, `record { a = x; }` has just these members,
+  `record r { a = x; }` is r with another a.
+- **Contracts.** `requires` is what a caller must see to, `ensures` what holds after the call, `result` its answer; `old` and
+  `new` are what a reference had before the call and after it, `now` what it has. A member of a trait that is `ghost` is for
+  contracts alone; after `=` it says what it is where an `impl` doesn't. `F.tells` is that member for the type F,
+  `F.Input.Source.reads` that of `Source` for F's own type `Input`. Contracts see a slice as a list.
 {twins}
 
-All clauses say of what is answered that it is right. None says that something is answered: 'out of memory' may always come.
-"""
+Definitions stand word for word, but for `pub` and `abbrev`, which are for the prover; `..` stands for what is left out of code.
+Below each are its crate, with a link to the file, and what it uses.
 
-STATUS = """What a user of the program relies on. The words are those of the command line after the program's name; `out` and `err`, which
-take bytes (`Sink`), haven't failed before. `Threads`, `Wait` and `Clock` start threads, wait and tell the time, and promise
-nothing; `Global` is where memory is from. Of `files` the clause speaks by the traits `Files` and `Source`, with what their calls
-`open` and `read` promise. It is one clause of `command`; others, which aren't on this page, say the rest of the table, and what
-the report says where the status is 0 (`ends`, `usage`, `unwritten`). `main` hands the machine's files, its arguments and its
-standard output and error to `command_with_arguments`, which has these clauses over arguments and exit status, and does nothing
-else; it has no contract.
+## The definitions of status 0
 
-What a file tells (`tells`), and what its calls do (`opens`, `reads`), is said by those who write `Files` and `Source`. The machine's
-tell no bytes, and say nothing of their calls, so of them alone this clause says little. But `command` is proved for all files, those
-too of which `opens` and `reads` are an account of the calls that were made and of what each gave. It can't see that account, since
-what is `ghost` isn't there when it runs: what it does with the machine's files it would do with those, for which the clause leaves
-no choice."""
+{count} definitions, and two traits."""
 
-ASSUMED = """What a user of `--assume` relies on, by another clause of the same function; what stands above isn't repeated."""
+STATUS_8_TOP = """## Status 8
 
-LIBRARIES = """What these names mean, in short. Rattle's library and `clap` say it in full, in the modules named."""
+By the [[fn command.sound_under]]:"""
+
+STATUS_8_PHRASES = [
+    ("with status 8", "[[fn command.sound_under: result ≡ 8 →]]; formula and file as above."),
+    ("none satisfies it and makes the assumed literals true", """[[NameUnsatisfiableUnder: IsUnsatisfiableUnder f cube]]. These
+     literals are the set `cube`: [[NameUnsatisfiableUnder: AreAssumed Read f.vars assume cube]], what was read of `--assume`'s
+     file is its text ([[IsCubeText]]); without `--assume` there are none."""),
+]
+
+AUDIT_LIBRARIES = """## What the libraries define
+
+In short; `clap` says it in full, in the modules named, and Rattle's library `std` where no module is."""
+
+TRUST = """## What one has to trust
+
+- **That the prover is right**: Rattle's logic and built libraries, with what they promise of `clap`, files and threads; two
+  compilers, which the gate compares; the linker, the system and the machine.
+- **The lines above** on names of libraries, and `gate/audit.py`, that it left nothing out. Which word is FORMULA, `clap` says;
+  where no word begins with a hyphen it is the first of two or more ([[law plain_words]]).
+- **[`main`](../crates/lrupd/src/main.rt)**, which has no contract. It opens the machine's file at the path that it is given,
+  hands files, arguments and outputs to `command_with_arguments`, and returns what that answers: [[fn command_with_arguments.sound: exit_status result ≡ 0 → IsOkAnd arguments (λ given. NameUnsatisfiable
+  read (words_after_name given))]]. `exit_status` is the status; `IsOkAnd`: they were given, and of them it holds;
+  `words_after_name`: those after the first.
+- **The machine's files**: that reads give what the file holds, and that it is the one you mean. No clause says so."""
 
 GLOSSES = """
 `AllByRecursion P xs` P of each element
 `App` a command of `clap`: what it takes itself, `top`, and its subcommands, `subs`
 `Append` each use of the argument adds to its values
-`Bool` `true` or `false`
 `Consumes old new bs` if `old` is `Some xs`, `new` is `Some ys`, and xs is `bs ++ ys`; of `None` it says nothing
 `Err e` a result that is the fault e
 `FoldsTo R a xs b` steps that R allows lead from a to b, one for each element: `R a x c`, and so on from c; with none a is b
 `ForSome o P` if o is `Some x`, then P of x
+`IfErr r P` if r is `Err e`, then P of e
 `IfOk r P` if r is `Ok x`, then P of x
+`IfSome o P` if o is `Some x`, then P of x
 `IsAtEnd left` if left is `Some xs`, xs is `[]`
+`IsNone o` o is `None`
 `IsTrue b` b is `true`
-`List A` lists of As
 `MatchBool b P Q` P where b is `true`, Q where it is `false`
-`None` nothing is there
-`Option A` `None`, or `Some x`
 `ReadConsumes old new r buffer` if r is `Ok n`, `Consumes` of the first n of the buffer, and `IsAtEnd new` if n is 0 and the \
 buffer isn't empty; if it is `Err`, what is known is as it was
 `Result A E` `Ok x`, or `Err e`
 `Rule` what `clap` is told of an argument; with `value_names` 0 or 1 an option has one value
 `SetTrue` an argument that takes no value: its use is 'true'
-`Some x` x is there
 `Text` the bytes of a word
-`codes "p"` the text p, as a list of its bytes
+`codes "p"` the bytes of the text p
 `concat xss` the lists, one after the other
 `decimal n` n in decimal, without leading zeros
-`false` a test's outcome
 `fault_of app words` the errors that the command finds in the words, asking for help among them: `[]` if there is none
 `filter f xs` the elements that pass the test
-`first_of name rows` the first value of an argument, if it has any, as it was given
+`first_of name rows` an argument's first value as it was given, if it has any
 `flat_map f xs` the lists that f gives of the elements, one after the other
 `int_eq a b` a is b, of whole numbers
 `is_err r` r is `Err e`
@@ -549,10 +772,8 @@ buffer isn't empty; if it is `Err`, what is known is as it was
 `neg_ℤ z` -z
 `new_rule name` an argument of which only the name is told: no `--name` (`long`), not `required`, one value, any text
 `new_shape name` a command of which only the name is told
-`not b` the opposite
 `option_map f o` f of x where o is `Some x`, else `None`
 `parser` what a value may be: `Unsigned low high` numbers from low to high, `Bool` 'true' or 'false'
-`pos n` n, as a whole number
 `replicate n x` n times x
 `result_ok r` `Some x` where r is `Ok x`, else `None`
 `signed_decimal z` z in decimal, with `-` where it is negative
@@ -563,55 +784,261 @@ buffer isn't empty; if it is `Err`, what is known is as it was
 `sum_by f xs` what f gives of the elements, added up
 `take n xs` the first n elements, or all if there are fewer
 `texts words` the bytes of each word that is lent
-`true` a test's outcome
 `unsigned_abs z` z without its sign
 `usize_max` 2^64 - 1
 `vec_len v` the count of elements
-`ℕ` the numbers from 0 on
-`ℤ` the whole numbers
 """
 
 # Operators that everybody knows.
 SYMBOLS = set("if◌then◌else◌ ◌%◌ ◌^◌ ◌+◌ ◌*◌ ◌<◌ ◌≤◌".split())
 
-HEADLINE = """What a run of several streams promises, with two threads for each. What stands above isn't repeated: what a formula is, and that
-no assignment satisfies it. A gate is told before each fetch and after each publish, and may hold a thread there; the program's is
-`Pause`, which sleeps a microsecond before a hint is looked up again. `told` is what each reader tells: what it has left at first,
-what it has left in the end, and whether it has failed. A type that contracts see as something else they know by that alone, whatever
-its members are. That a `Formula` of the code is seen as that of a text is a clause of `dimacs::parse`, which `sound` above takes in.
+RUNS_TOP = f"""# What there is to believe: whole runs
 
-Which bytes the streams have, `AreRead` says: those that reads gave, from the reader that was handed in, up to one that gave none, or
-one that failed. The machine's readers say nothing of what a read does; as for files above, `run` is proved for those too of which
-`reads` is an account of the reads, and can't see it. That a closed set of one stream has one report, whatever the others do, is a
-law beside `isolated` (`alone_has_one_report` of `groups`), not a part of it."""
+{MADE}
+
+Three sentences of [README](../README.md) on whole runs: of each phrase the clause, the law and the definition that carry it;
+then the contracts, the laws, and all definitions under them, each after one that uses it. What stands on [AUDIT](AUDIT.md) isn't
+repeated: formulas, assignments, clauses and literals, [how to read it](AUDIT.md#how-to-read-it), and
+[what one has to trust](AUDIT.md#what-one-has-to-trust).
+
+- **Run.** A call of [[fn run]], with two threads for each stream, or of [[fn run_serial]], on one thread; the program calls the
+  second with `--serial`, and else the first.
+- **Stream.** The bytes that a reader gave, and where reading stopped ([[Stream]]): lines that add a clause with its hints, delete
+  clauses, or import one ([[StreamLine]]). Streams count from 1.
+- **Set.** A set of streams is a test on their numbers: `λ s. true` is all of them, [[one]] a single one.
+- **Identity.** A clause's number: the formula's clauses have the first ones, the streams own the others by turns ([[owner]]).
+- **History.** A list of events, one for each call of fetch, publish or retire ([[Event]]). It is legal if each event may be
+  asked for, and answers as the map of one thread does ([[IsLegal]]).
+- **Pass.** A stream's place at the store. Contracts see what it knows ([[View]]): `seen`, a history; `mine`, the calls made
+  through it; `spelt`, where clauses lie and their literals.
+- **Cube.** The assumed literals, as a set ([[Cube]]). **Terms** are layout, cube and tries, by which all streams are checked
+  ([[TermsValue]]).
+
+{{contents}}
+
+## The headline"""
+
+HEADLINE_PHRASES = [
+    ("A run with threads that gave reports", "[[fn run.history: IfOk result]], and so below: of a fault nothing of this is said."),
+    ("one legal history of the one-thread clause map", """[[fn run.history]]: the streams' passes have one history
+     ([[HaveOneHistory]]), and [[HaveOneHistory: legal : IsLegal f p h]]. From the formula's clauses on,
+     [[IsLegal: LegalFrom f p (opening f) h]], each event answers as the map after the events before it ([[LegalFrom: Answers m
+     e]]), and may be asked for ([[LegalFrom: IsAllowed f p e]])."""),
+    ("each stream's calls stand once, in its order", """[[HaveCalls: v.mine ≡ own h s]]: the calls made through the pass of
+     stream s are the history's events of s, in order. That `mine` are the calls made is said at the store: a pass begins with
+     none, [[IsOpened: mine : p.view.mine ≡ []]]; each call adds itself, [[PassMoves: mine : new.mine ≡ old.mine ++ es]] with
+     [[Calls: moves : PassMoves old new (e ∷ [])]]; where two passes meet they add none, [[Meets: first : PassMoves old new
+     []]]."""),
+    ("after all that it had seen", """[[fn Store::fetch.calls]], and so of [[fn Store::publish]] and [[fn Store::retire]]. What
+     the pass had seen begins what it has seen then, [[PassMoves: seen : (more : History) × (new.seen ≡ old.seen ++ more)]], and
+     the call is the last of that, [[Calls: last : EndsWith new.seen e]]; `more` isn't empty, since `mine` grew, and is what `seen`
+     has of this stream ([[IsFair]]). In the end each pass has seen the one history:
+     [[HaveCalls: v.seen ≡ h]]."""),
+    ("with the replies that it got", """the same clauses: the event has what the call answered.
+     [[fn Store::fetch.calls: events.fetch pass.old.view.caller.stream id reply]], where
+     [[fn Store::fetch.calls: reply = reply_of (pass_place pass.new.view) result]];
+     [[fn Store::publish.calls: events.publish stream id clause.now result]];
+     [[fn Store::retire.calls: events.retire stream id result]]."""),
+    ("Each published clause has its stream's identity", """[[IsAllowed: IsAllowed f p (publish s id c r) = Owns p s id ×
+     IsPublishable f c]], of each event of a legal history."""),
+    ("never changes", """in a legal history an entry goes from absent to live to retired, with one clause: the law
+     [[law entries_advance]], [[Advances: Advances (live c) (retired d) = d ≡ c]]. What the store gives to read is that clause: a
+     live fetch gives a clip that is known, [[fn Store::fetch.fetched: IsFetched (pass_place pass.new.view) id result]]; of it
+     each literal comes from the clause that is kept, [[fn Store::literal.value: slice_get (clip_clause (pass_place
+     pass.old.view) clip.now) k ≡ Some result]] (two at once: [[fn Store::pair]]); each pass is fair, as [[IsOpened]], [[Calls]] and [[Meets]] say, so what is kept is the history's, [[IsFair: spelt
+     : IsSpelt v.caller.formula v.seen v.spelt]], [[Spells: Spells (live c) (Some kept) = kept.literals ≡ c]]; and it stays,
+     whatever calls follow: the law [[law known_stays]], [[KnownStays: clip_clause b clip ≡ clip_clause a clip]], where calls
+     lead from place a to place b ([[Tells]]), as those of a pass do by the law [[law pass_tells]]."""),
+    ("follows from the formula", "[[IsPublishable: follows : Follows f c]], which [[IsAllowed]] asks of each publish."),
+    ("Each report is the judgement of these replies", """[[fn run.reports]]: there are streams ([[StandsOnStreams]]), and
+     [[fn run.reports: AreJudgedIn terms (λ s. true) (seen_by (views outcome.passes.items)) 1 streams outcome.reports.items]], by
+     the same history. Each stream is judged, as its report says, by its own events of it, [[AreJudgedIn: IsJudgedBy (setting_of
+     terms s) stream (own h s) report]]: its good lines first, each with a block of events, and then what ended it
+     ([[JudgesBlocks]])."""),
+    ("of the bytes that reads of the stream gave", """[[fn run.reports: AreRead _ R.reads readers.items outcome.readers.items
+     streams]], of the same streams: [[ReadOut: given : Gave S reads first bytes last]], from each reader as it was handed in.
+     Whoever hands in the readers chooses `reads`; [AUDIT](AUDIT.md#status-0) says under 'Which reads?' why that suffices. Where
+     a reader tells what it has left, the bytes begin that ([[IsTold]])."""),
+    ("up to its first end or to one that failed", """[[fn run.reports: AllByRecursion IsReadOut streams]], so
+     [[ReadOut: ends : IsLastRead S reads end last after]] for the end by which the stream is judged."""),
+    ("'Unsatisfiable' means that no assignment makes every clause of the formula true", """[[fn run.sound: outcome.verdict ≡
+     Verdict.Unsatisfiable → IsUnsatisfiable formula.now]]. The [[Formula]] is that of its text,
+     [[fn parse.formula: IfOk result (λ f. IsFormulaText bytes.now f)]]."""),
+    ("'unsatisfiable under assumptions' that none makes these and every assumed literal true", """[[fn run.sound_under:
+     IsUnsatisfiableUnder formula.now cube.now]]. The [[Cube]] is that of its text, [[fn read_cube.cube: IsCubeText vars
+     bytes.now]]."""),
+    ("promises of each call of the store", """the contracts of [[fn Store::fetch]], [[fn Store::literal]], [[fn Store::publish]]
+     and [[fn Store::retire]], whoever calls them. A [[Pass]] comes of [[fn Store::open]] alone, and moves by
+     these calls and by meeting alone. That the threads made their calls through the passes that the run gives back is said under
+     it, by [[fn check_all.found]]: each pass moved by the events by which its stream's report is judged,
+     in `Finishes` of `stream_threads`: `PassMoves jobs.pass.view found.pass.view (joined blocks)`. That a pass can't be made or copied otherwise
+     is by its fields, which are private."""),
+    ("the rest is one of the run", "[[fn run.history+reports+sound+sound_under]]."),
+]
+
+ISOLATION_TOP = """## Groups of streams are isolated
+
+By the [[fn run.isolated+alone]], and those of [[fn run_serial]]."""
+
+ISOLATION_PHRASES = [
+    ("Streams that cite and import only clauses of each other and of the formula", """they are a closed set:
+     [[AreIsolated: (set : ℕ → Bool) → IsClosed terms.layout set streams]]. No line of a stream of it cites what a stream outside
+     it owns, [[CiteWithin: AllByRecursion (IsOwnedWithin p set) (cited_by line)]], hints and imports ([[cited_by]]); nobody owns
+     the formula's identities."""),
+    ("have such reports as they may have", """[[AreIsolated: IsGroup f terms set streams reports]]: some legal history judges the
+     set's streams so, [[IsGroup: judged : AreJudgedIn terms set history 1 streams reports]]."""),
+    ("where all others are empty", """that history has events of the set's streams alone,
+     [[IsGroup: members : AllByRecursion (λ e. IsTrue (set (stream_of e))) history]]. By the law [[law others_empty]] such
+     reports are those of a run in which the others have no bytes, [[OthersEmpty: with_others set empty_stream 1 streams]]."""),
+    ("whatever these hold and however the threads ran", """the clause is one of every run, and [[IsGroup]] says nothing of
+     streams outside the set. The streams are any that the readers told and by which the run's reports are judged: in its history,
+     [[fn run.isolated: AreJudgedIn terms (λ s. true) (seen_by (views outcome.passes.items)) 1 streams outcome.reports.items]],
+     or on one thread in an order of lines, [[fn run_serial.isolated: IsOrdered formula.now terms (λ s. true) streams
+     outcome.reports.items]]."""),
+    ("unless memory ran out", "[[AreIsolated: NoneOutOfMemory set reports]]."),
+    ("A stream that cites and imports only its own and the formula's", """[[fn run.alone]], [[HaveReportsAlone: IsClosed
+     terms.layout (one s) streams]]."""),
+    ("with the same formula, options, assumptions and number of streams", """the `f` and the `terms` of [[HaveReportsAlone:
+     IsReportAlone f terms s whole end other]], which are [[fn run.alone: terms_of options cube.now formula.now (length
+     readers.items)]]."""),
+    ("one report", """[[HaveReportsAlone: (other : Report) → IsReportAlone f terms s whole end other → other ≡ report]]: each
+     report that the stream may have alone with these bytes and this end. Another run's report of it is such a one, by that run's
+     `isolated`."""),
+    ("unless memory ran out or a read failed", """[[HaveReportsAlone: ¬ IsOfMemory report]]; and bytes and end are to be the same,
+     [[HaveReportsAlone: IsReadingOf whole end stream]]: a read that failed is another end. The laws
+     [[law same_reading_agrees]] and [[law same_bytes_agree]] say it of two runs: where the readers told the same bytes and end, and
+     where they had the same bytes left, [[SameBytesAgree: ¬ IsOfMemory report → ¬ IsOfFailure report]]."""),
+]
+
+SERIALIZABLE_TOP = """## Lines are serializable
+
+By the [[fn run.serializable]]; the [[fn run_serial.ordered]] says it of all streams, without the premise."""
+
+SERIALIZABLE_PHRASES = [
+    ("The lines of such a group", """of each closed set: [[IsSerializable: (set : ℕ → Bool) → IsClosed terms.layout set
+     streams]]."""),
+    ("if no stream retires (deletes for all) a clause that another one found", """[[IsSerializable: FoundStays f terms.layout set
+     h]]: what a stream of the set found live, and isn't its own, the run's history doesn't leave retired,
+     [[FindsKept: IsLiveReply r → ¬ Owns p s id → ¬ IsRetired (final id)]]."""),
+    ("have an order", """[[IsSerializable: IsOrdered f terms set streams reports]]: a list of blocks ([[Block]]), whose events
+     are one after the other a legal history, [[IsOrdered: legal : IsLegal f terms.layout (events_in blocks)]]."""),
+    ("one thread that takes whole lines", """a block is one stream's, [[IsBlockWithin: AllByRecursion (λ e. stream_of e ≡
+     block.stream) block.events]], and has all events of one line, [[AreGood: JudgesLine c (standing_of c before) line block
+     Good]]. That is what [[fn run_serial]] promises: [[fn run_serial.ordered: IsOrdered formula.now terms (λ s. true) streams
+     outcome.reports.items]]."""),
+    ("gives the same reports", """[[IsOrdered: judged : AreJudged terms set blocks 1 streams reports]], with the run's `reports`:
+     each stream is judged by its own blocks in their order, [[AreJudged: blocks_of s blocks]]."""),
+]
+
+SERIALIZABLE_VERDICT = """And the verdict: where the premise holds of all streams together, they have an order that besides
+publishes the empty clause exactly if a report has it, and a clause within the cube likewise: [[IsSerializable: ComeToVerdict
+terms.cube (events_in order.blocks) reports]]. The run's verdict is [[fn run.verdict: outcome.verdict ≡ verdict_of
+outcome.reports.items]]."""
+
+RUNS_HOW = """## How to read it
+
+As [on AUDIT](AUDIT.md#how-to-read-it); and besides:
+
+- **Signs.** `¬ A` is 'not A', `≢` 'is not', `m - n` is 0 where n is greater, `m / n` is rounded down, `&&` is 'and' of tests.
+  `(x y : A)` are two; `r.0` and `r.1` the parts of a pair. A `data` is one of its cases, with what that case takes. `R.left` is the
+  member `left` of the trait for the type R. Contracts see a slice or a `Vec` as a list (`v.items`), a `u64` and an `Id` as ℕ, a
+  `Lit` as ℤ. A type that they see as something else they know by that alone, whatever its members are.
+{constructors}
+{twins}"""
+
+CONTRACTS = """## The contracts
+
+What the sentences don't say: the [[fn run.layout+spawn+ring+first]] say what holds where there is no outcome."""
+
+CALLS = """The calls of the store by which a pass makes, sees and reads history. Of its others `meet_all` lets passes meet in
+turn, and the rest ask, and change nothing."""
+
+ASKED = """What else the clauses speak of. A gate is told before each fetch and after each publish, and may hold a thread there;
+it promises nothing."""
+
+STORE_LAWS = [f"lrup_model/src/laws.rt: {name}" for name in "entries_advance known_stays pass_tells".split()]
+GROUP_LAWS = [f"run_laws/src/groups.rt: {name}" for name in "others_empty same_reading_agrees same_bytes_agree".split()]
+
+LAWS = """## The laws
+
+Each is the contract of a function that does nothing, and holds of every formula, layout and history."""
+
+RUNS_LIBRARIES = """## What the libraries define
+
+What isn't on [AUDIT](AUDIT.md#what-the-libraries-define)."""
 
 
-def parts():
-    status = Part(
-        "Status 0",
-        STATUS,
-        ("command", "program.rt", "command"),
-        [("command", "Files"), ("lrup_text", "Source")],
-        ["out", "err", "sound"],
-        {},
-    )
-    assumed = Part(
-        "Status 8",
-        ASSUMED,
-        ("command", "program.rt", "command"),
-        [],
-        ["sound_under"],
-        status.found,
-    )
-    headline = Part(
-        "The headline",
-        HEADLINE,
-        ("portfolio", "threads.rt", "run"),
-        [("lrup_model", "Formula"), ("lrup_model", "Cube"), ("portfolio", "Options"), ("portfolio", "Outcome")],
-        None,
-        status.found | assumed.found,
-    )
-    return [status, assumed, headline]
+# The pages, put together.
+
+
+def by_mention(roots, text):
+    """The things, those first that the text names, in its order."""
+    places = [text.find(f"[[{thing.name}") for thing in roots]
+    return [thing for _, _, thing in sorted((place if place >= 0 else len(text), at, thing) for at, (place, thing)
+                                            in enumerate(zip(places, roots)))]
+
+
+def audit_page():
+    """The page on status 0 and 8, with the definitions that each clause takes."""
+    command = Contract("command/src/program.rt: command", ["out", "err", "sound", "sound_under"], commented=False)
+    arguments = Contract("command/src/arguments.rt: command_with_arguments", ["sound"])
+    guarantee = sentence("The guarantee:").split(". ")[0].split("; ")
+    sound, under = phrase_by_phrase(guarantee[0], STATUS_0_PHRASES), phrase_by_phrase(guarantee[1], STATUS_8_PHRASES)
+    placed = {}
+    first = top_down(by_mention(command.named_by(["sound"]) + [rust_type("command", "Files")], sound[1]), placed)
+    more = top_down(by_mention(command.named_by(["sound_under"]), under[1]), placed)
+    things = [command, *first, *more]
+    page = Page("AUDIT.md", [
+        AUDIT_TOP, sound[0], SIGNATURE, command, "Phrase by phrase:", sound[1], ACCOUNT,
+        AUDIT_HOW.replace("{count}", str(len(definitions_of(first)))).replace("{twins}", twins(things)), *first,
+        STATUS_8_TOP, *under, f"{len(definitions_of(more))} definitions more.", *more,
+        AUDIT_LIBRARIES, libraries(things, []), TRUST], cited=[arguments, Law("command_line/src/laws.rt: plain_words")])
+    page.sound = first
+    return page
+
+
+def runs_page(audit):
+    """The page on whole runs."""
+    run, serial = Contract("portfolio/src/threads.rt: run"), Contract("portfolio/src/serial.rt: run_serial")
+    calls = "open fetch literal pair publish retire meet".split()
+    store = [Contract(f"clause_store/src/store.rt: Store::{call}") for call in calls]
+    asked = [Contract("portfolio/src/options.rt: Options::new"), Contract("dimacs/src/lib.rt: parse", ["formula"]),
+             Contract("lrup_text/src/cube.rt: read_cube"), Contract("lrup_model/src/cube.rt: Cube::of")]
+    store_laws, group_laws = [Law(place) for place in STORE_LAWS], [Law(place) for place in GROUP_LAWS]
+    texts = [phrase_by_phrase(sentence("The headline."), HEADLINE_PHRASES),
+             phrase_by_phrase(sentence("Groups of streams are isolated."), ISOLATION_PHRASES),
+             phrase_by_phrase(sentence("Lines are serializable."), SERIALIZABLE_PHRASES)]
+    traits = [whole(rust_type("lrup_text", "Source")), rust_type("stream_check", "Gate")]
+    placed = {thing.key(): thing for thing in [*audit.things, *traits]}
+    told = "\n".join(phrases for _, phrases in texts)
+    of = lambda *contracts: [thing for contract in contracts for thing in contract.used()[0]]
+    sections = {
+        "the history": run.named_by(["history"]), "the calls of the store": of(*store, *store_laws),
+        "the reports": run.named_by(["reports"]), "isolated groups": run.named_by(["isolated", "alone"]) + of(*group_laws),
+        "serializable lines": run.named_by(["serializable"]),
+        "the rest": of(run, serial, *asked)}
+    blocks = []
+    for title, roots in sections.items():
+        blocks += [f"## Definitions: {title}", *top_down(by_mention(roots, told), placed)]
+    things = [run, serial, *store, *asked, *traits, *store_laws, *group_laws, *blocks]
+    things = [thing for thing in things if not isinstance(thing, str)]
+    count = f"{len(definitions_of(things))} definitions stand here; they use {len(definitions_of(shared(things, audit)))} of AUDIT."
+    blocks = [
+        RUNS_TOP, *texts[0], ISOLATION_TOP, *texts[1], SERIALIZABLE_TOP, *texts[2], SERIALIZABLE_VERDICT,
+        RUNS_HOW.replace("{constructors}", constructors(things)).replace("{twins}", twins(things)).strip(),
+        CONTRACTS, run, serial, CALLS, *store, ASKED, *traits, *asked, LAWS, *store_laws, *group_laws, count, *blocks,
+        RUNS_LIBRARIES, libraries(things, [audit])]
+    below = Contract("stream_threads/src/joining.rt: check_all", ["found"])
+    blocks[0] = RUNS_TOP.replace("{contents}", contents(blocks))
+    page = Page("AUDIT-RUNS.md", blocks, other=audit, cited=[below])
+    page.run = run
+    return page
+
+
+def shared(things, page):
+    """What the things use of another page."""
+    used = {thing.key(): thing for user in things for thing in user.used()[0]}
+    return [thing for key, thing in used.items() if key in page.anchors]
 
 
 def glosses():
@@ -620,132 +1047,128 @@ def glosses():
     return {re.match(r"`([^\s`]+)", line).group(1): line for line in lines}
 
 
-def of_libraries(made):
-    """The names that the definitions and the clauses have from the libraries, each with its module."""
-    return set().union(*(part.of_libraries for part in made))
+def foreign(things):
+    """The names that the things have from the libraries, each with its module."""
+    return set().union(*(thing.of_libraries() for thing in things))
 
 
-def unexplained(made):
+def is_explained(name, page):
+    """Whether the page, or the one that it follows, tells how to read a name or an operator, or everybody knows."""
+    spans = re.findall(r"`[^`]+`|[ℕℤ]", AUDIT_HOW + (RUNS_HOW if page.other else ""))
+    return name in SYMBOLS or name.strip("◌") in re.sub(r"[`;]", " ", " ".join(spans)).split()
+
+
+def unexplained(pages):
     """The names of libraries that have no line, and the lines that have no name."""
-    names = {name for _, name in of_libraries(made)}
-    signs = {name for name in names if "◌" in name}
-    lacking = [name for name in names - signs if name not in glosses()]
-    lacking += [sign for sign in signs if not is_explained(sign)]
-    return [f"gate/audit.py: GLOSSES has no line for '{name}' of a library" for name in sorted(lacking)] + [
-        f"gate/audit.py: GLOSSES has '{name}', which isn't on the page" for name in sorted(set(glosses()) - names)
-    ]
+    names = {name for page in pages for _, name in foreign(page.things) if not is_explained(name, page)}
+    return [f"gate/audit.py: GLOSSES has no line for '{name}' of a library" for name in sorted(names - set(glosses()))] + [
+        f"gate/audit.py: GLOSSES has '{name}', which isn't on the pages" for name in sorted(set(glosses()) - names)]
 
 
-def is_explained(sign):
-    """Whether the page says what an operator means, or everybody knows."""
-    bare = sign.strip("◌")
-    return sign in SYMBOLS or f" {bare} " in ABOUT or f"`{bare}`" in ABOUT
-
-
-def libraries(made):
-    """What the names mean that the definitions and the clauses have from the libraries."""
+def libraries(things, others):
+    """What the names mean that the things have from the libraries, but for those of other pages."""
+    told = {name for page in others for _, name in foreign(page.things)}
     modules = {}
-    for module, name in sorted(of_libraries(made)):
-        modules.setdefault(name, []).append(f"`{module}`")
-    yield "## What the libraries define\n"
-    yield LIBRARIES + "\n"
-    for name in sorted((name for name in modules if "◌" not in name), key=str.lower):
-        head, means = re.match(r"(`[^`]*`) (.*)", glosses()[name]).groups()
-        yield wrapped(f"- {head} ({', '.join(modules[name])}): {means}")
+    for module, name in sorted(foreign(things)):
+        if name in glosses() and name not in told:
+            modules.setdefault(name, []).extend([f"`{module}`"] if not module.startswith("std.") else [])
+    lines = [re.match(r"(`[^`]*`) (.*)", glosses()[name]).groups() + (name,) for name in sorted(modules, key=str.lower)]
+    where = lambda name: f" ({', '.join(modules[name])})" if modules[name] else ""
+    return "\n".join(f"- {head}{where(name)}: {means}" for head, means, name in lines)
 
 
-def constructors(made):
+def constructors(things):
     """The types whose constructors stand after a dot, by the names before it."""
     types = {}
-    for part in made:
-        for definition in part.definitions:
-            for word, member in words_in(re.sub(r"--.*", "", definition.text)):
-                if member and word in definition.file.names.modules:
-                    for thing in definition.file.resolve(word, member):
-                        types.setdefault(word, set()).add(thing.name)
+    for definition in definitions_of(things):
+        for word, member in words_in(re.sub(r"--.*", "", definition.text)):
+            if member and word in definition.file.names.modules:
+                for thing in definition.file.resolve(word, member):
+                    types.setdefault(word, set()).add(thing.name)
     said = [f"`{word}.` of {' or '.join(f'`{name}`' for name in sorted(types[word]))}" for word in sorted(types)]
     return f"""- **Constructors.** Where a dot stands in front of one, the name before it tells its type, as the file brings it in:
-  {", ".join(said)}. Without a dot it is the file's own, if there is one."""
+        {", ".join(said)}. Without a dot it is the file's own, if there is one."""
 
 
-def place_on_page(thing):
-    return f"`{thing.crate}`" if isinstance(thing, RustType) else f"`{crate_of(thing.file.path)}: {thing.file.path.stem}`"
-
-
-def twins(made):
+def twins(things):
     """The names that stand for several things: what each of them is in which crates."""
     meant = {}
-    for part in made:
-        for thing in part.definitions + part.types:
-            crate = thing.crate if isinstance(thing, RustType) else crate_of(thing.file.path)
-            meant.setdefault(thing.name, {}).setdefault(place_on_page(thing), set()).add(crate)
-        for user in part.definitions:
-            crate, foreign = crate_of(user.file.path), user.file.names.foreign
-            for thing in user.used()[0]:
-                meant.setdefault(thing.name, {}).setdefault(place_on_page(thing), set()).add(crate)
-            for module, name in user.of_libraries():
-                meant.setdefault(name, {}).setdefault(f"`{module.split('.')[0]}`", set()).add(crate)
+    for thing in things:
+        if not isinstance(thing, Law):
+            meant.setdefault(thing.name, {}).setdefault(f"`{thing.crate}`", set()).add(thing.crate)
+    for user in definitions_of(things):
+        for thing in user.used()[0]:
+            meant.setdefault(thing.name, {}).setdefault(f"`{thing.crate}`", set()).add(user.crate)
+        for module, name in user.of_libraries():
+            meant.setdefault(name, {}).setdefault(f"`{module.split('.')[0]}`", set()).add(user.crate)
+    said = []
     for name in sorted(name for name in meant if len(meant[name]) > 1):
         which = sorted((place, " and ".join(f"`{crate}`" for crate in sorted(at))) for place, at in meant[name].items())
-        yield f"`{name}`, {', '.join(f'of {place} in {crates}' for place, crates in which)}"
+        said.append(f"`{name}`, {', '.join(f'of {place} in {crates}' for place, crates in which)}")
+    return f"- **One name for two things.** {'; '.join(said)}." if said else ""
 
 
-def page(made):
-    texts = [text for part in made for text in part.page()] + list(libraries(made))
-    named_twice = f"- **One name for two things.** {'; '.join(twins(made))}."
-    about = ABOUT.replace("{constructors}", wrapped(constructors(made))).replace("{twins}", wrapped(named_twice))
-    return "\n".join([about] + texts) + "\n"
-
-
-def wrapped(item):
-    """An item of a list, in lines of the page's width."""
-    return textwrap.fill(" ".join(item.split()), 128, subsequent_indent="  ", break_long_words=False, break_on_hyphens=False)
-
-
-def stale_counts(made):
+def stale_counts(audit, runs):
     """What DEFINITIONS says of the counts, where it isn't so."""
-    status, _, headline = made
-    shared = sum(isinstance(thing, Definition) and thing.key() in status.found for thing in headline.all)
-    total = sum(isinstance(thing, Definition) for thing in headline.all)
-    wanted = [f"These are {len(status.definitions)},"]
-    wanted += [f"takes {total} definitions, of which {shared} stand behind status 0 too"]
-    wanted += [f"| `{crate}` | {count}: " for crate, count in status.crates()]
-    text = " ".join((ROOT / "docs" / "DEFINITIONS.md").read_text().split())
+    status, run = definitions_of(audit.sound), definitions_of(top_down(runs.run.used()[0], {}))
+    both = len({d.key() for d in status} & {d.key() for d in run})
+    wanted = [f"These are {len(status)},", f"takes {len(run)} definitions, of which {both} stand behind status 0 too"]
+    wanted += [f"| `{crate}` | {count}: " for crate, count in by_crate(status)]
+    wanted += [f"{count} of `{crate}`" for crate, count in by_crate(run) if crate in ("runs", "run_laws")]
+    text = " ".join((DOCS / "DEFINITIONS.md").read_text().split())
     return [f"docs/DEFINITIONS.md doesn't say '{phrase}'" for phrase in wanted if phrase not in text]
+
+
+def by_crate(definitions):
+    """The crates, each with the count of its definitions."""
+    crates = [definition.crate for definition in definitions]
+    return [(crate, crates.count(crate)) for crate in ALL_CRATES if crate in crates]
 
 
 def place_of(definition):
     return f"{definition.file.path.relative_to(ROOT)}:{definition.place + 1}: {definition.name}"
 
 
-def without_comment(made):
-    return [f"{place_of(d)}: no comment" for part in made for d in part.definitions if not d.comment]
+def without_comment(pages):
+    return [f"{place_of(d)}: no comment" for page in pages for d in definitions_of(page.things) if not d.comment]
 
 
-def doubts(made):
-    """The names of which this script doesn't know what they stand for: without them the page may lack a definition."""
-    definitions = [definition for part in made for definition in part.definitions]
-    return [f"{place_of(d)}: what is '{word}'?" for d in definitions for word in sorted(set(d.used()[1]))]
+def doubts(pages):
+    """The names of which this script doesn't know what they stand for: without them a page may lack a definition."""
+    found = []
+    for thing in (thing for page in pages for thing in page.things if not isinstance(thing, RustType)):
+        place = place_of(thing) if isinstance(thing, Definition) else f"{thing.path.relative_to(ROOT)}: {thing.name}"
+        found += [f"{place}: what is '{word}'?" for word in sorted(set(thing.used()[1]))]
+    return found
 
 
 def main(words):
-    made = parts()
-    if doubts(made) + unexplained(made):
-        sys.exit("\n".join(doubts(made) + unexplained(made)))
+    audit = audit_page()
+    pages = [audit, runs_page(audit)]
+    texts = {page: page.text() for page in pages}
+    wrong = doubts(pages) + unexplained(pages) + [line for page in pages for line in page.wrong]
+    if len(texts[audit].split()) > MOST_WORDS:
+        wrong.append(f"docs/AUDIT.md has {len(texts[audit].split())} words, and may have {MOST_WORDS}")
+    if wrong:
+        sys.exit("\n".join(wrong))
     if words == ["--bare"]:
-        print("\n".join(without_comment(made)))
+        print("\n".join(without_comment(pages)))
     elif words == ["--check"]:
-        wrong = stale_counts(made)
-        if not PAGE.exists() or PAGE.read_text() != page(made):
-            wrong.append("docs/AUDIT.md isn't what the sources give: run make audit")
+        wrong = stale_counts(*pages)
+        for page in pages:
+            path = DOCS / page.file
+            if not path.exists() or path.read_text() != texts[page]:
+                wrong.append(f"docs/{page.file} isn't what the sources give: run make audit")
         if wrong:
             sys.exit("\n".join(wrong))
     elif words:
         sys.exit(__doc__)
     else:
-        PAGE.write_text(page(made))
-        for part in made:
-            print(f"{part.title}: {part.counts()}", end="")
+        for page in pages:
+            (DOCS / page.file).write_text(texts[page])
+            each = ", ".join(f"{count} of {crate}" for crate, count in by_crate(definitions_of(page.things)))
+            print(f"docs/{page.file}: {len(texts[page].split())} words, {len(definitions_of(page.things))} definitions: {each}")
 
 
+ALL_CRATES = crate_order()
 main(sys.argv[1:])

@@ -38,6 +38,7 @@ impl Store {
         for other in others.iter_mut() {
             self.meet(pass, other);
         }
+        // Where there are no others, no call has shown yet that the pass is fair: this one does.
         let _ = pass.stream();
     }
 }

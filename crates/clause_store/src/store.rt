@@ -102,8 +102,8 @@ impl Store {
         requires store { store_of pass.old ≡ self.now }
         requires known { IsKnown (pass_place pass.old.view) clip.now }
         requires within { k < clip.now.len }
-        ensures value {
-            slice_get (clip_clause (pass_place pass.old.view) clip.now) k ≡ Some result }
+        ensures value { slice_get (clip_clause (pass_place pass.old.view) clip.now) k
+            ≡ Some result }
         ensures same { pass.new ≡ pass.old }
     {
         let place = place_of(clip, k / 2);

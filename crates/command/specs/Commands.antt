@@ -14,6 +14,7 @@ use Rattle.lrup_model.specs.declared.layout.LayoutFault.{LayoutFault}
 use Rattle.dimacs.specs.FormulaFault.{IsFormulaFault}
 use Rattle.dimacs.specs.FormulaText.{IsFormulaText}
 use Rattle.dimacs.specs.declared.fault.DimacsFault.TheVariants as formulas
+use Rattle.lrup_text.specs.declared.device.StreamEnd.TheVariants as stream_ends
 use Rattle.lrup_text.specs.ReadOut.{ReadOut, SourceView}
 use Rattle.lrup_text.specs.Reads.{GaveAll, ReadsOf}
 use Rattle.lrup_text.specs.Cubes.{IsCubeFault, IsCubeText}
@@ -23,7 +24,7 @@ use Rattle.runs.specs.Headline.{AreJudgedIn}
 use Rattle.portfolio.specs.Outcomes.{OptionsValue, layout_of, terms_of, verdict_of}
 use Rattle.portfolio.specs.ReportText.{report_text}
 use Rattle.runs.specs.Readings.{AreRead}
-use Rattle.runs.specs.Streams.{IsOrdered, IsReadOut, StandsOnStreams, Stream, Terms, tellings}
+use Rattle.runs.specs.Streams.{IsOrdered, IsReadOut, StandsOnStreams, Stream, TermsValue, tellings}
 use Rattle.portfolio.specs.declared.outcome.Verdict.{Verdict}
 use Rattle.portfolio.specs.declared.outcome.Verdict.TheVariants.{Unsatisfiable, UnsatisfiableUnder, Unknown}
 use Rattle.command_line.specs.CommandLine.{AskFor, HaveFault, IsCommandLineOf}
@@ -75,12 +76,12 @@ abbrev pub layout_at : CommandLine → Cnf → LayoutValue
 layout_at given f = layout_of (options_of given) f (length given.streams)
 
 -- what a run of a command line and a formula is checked by, under a cube
-abbrev pub terms_given : CommandLine → CubeValue → Cnf → Terms
+abbrev pub terms_given : CommandLine → CubeValue → Cnf → TermsValue
 terms_given given cube f = terms_of (options_of given) cube f (length given.streams)
 
 -- what the reports say of the streams: on one thread they have an order of lines; with two threads for each, each was read to its
 -- end or to a read that failed, and they are judged by their events of one legal history
-abbrev pub AreReported : Bool → Cnf → Terms → List Report → List Stream → Type 0
+abbrev pub AreReported : Bool → Cnf → TermsValue → List Report → List Stream → Type 0
 AreReported true f terms reports streams = IsOrdered f terms (λ s. true) streams reports
 AreReported false f terms reports streams =
     AllByRecursion IsReadOut streams
@@ -90,7 +91,8 @@ AreReported false f terms reports streams =
 -- The reports and the verdict of a formula's streams. `firsts` are the readers of the streams as they were opened, and `lasts` those
 -- in the end, after reads that gave the streams.
 pub record AreChecked {R : Type 0} (reading : SourceView R) (serial : Bool) (f : Cnf)
-    (terms : Terms) (firsts : List R) (reports : List Report) (verdict : Verdict) : Type 0 where
+    (terms : TermsValue) (firsts : List R) (reports : List Report)
+    (verdict : Verdict) : Type 0 where
   pub layout : (fault : LayoutFault) → IsFault terms.layout fault → ⊥
   pub lasts : List R
   pub reported : StandsOnStreams (tellings reading firsts lasts)
@@ -163,7 +165,7 @@ pub record IsOutcome (R : Type 0) (files : FilesView R) (words : List Text) (rep
 pub record HasBrokenOff {R : Type 0} (reading : SourceView R) (first : R) : Type 0 where
   pub bytes : List ℕ
   pub after : R
-  pub read : ReadOut R reading.reads true first bytes after
+  pub read : ReadOut R reading.reads stream_ends.Failed first bytes after
   pub failed : reading.has_failed after ≡ true
   pub told : ForSome (reading.left first) (λ all. (rest : List ℕ) × (all ≡ bytes ++ rest))
 

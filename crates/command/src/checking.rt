@@ -68,6 +68,7 @@ pub fn check_words<T: Threads + Wait + Sync, C: Clock + Sync, F: Files, M: Watch
     let line = read_words(alloc, words)?;
     let formula = read_formula(threads, alloc, files, line.formula)?;
     let cube = read_assumed(threads, alloc, files, line.assume, &formula)?;
+    // The words allow no number beyond what `Options::new` takes.
     let options = Options::new(line.tries, line.lines, line.room).unwrap();
     let readers = open_streams(alloc, files, line.streams.as_slice())?;
     check_streams(

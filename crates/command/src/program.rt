@@ -119,8 +119,8 @@ pub fn command_watched<
 fn report<O: Sink, E: Sink>(found: &RunResult, out: &mut O, err: &mut E) -> u8
     requires out { O.has_failed out.old ≡ false }
     requires err { E.has_failed err.old ≡ false }
-    ensures printed {
-        SinkTook (change (O.written out.old) (O.written out.new) (O.has_failed out.new))
+    ensures printed { SinkTook
+        (change (O.written out.old) (O.written out.new) (O.has_failed out.new))
         (report_text found.now.reports.items found.now.verdict) }
     ensures said { SaysOfReport (O.has_failed out.new)
         (change (E.written err.old) (E.written err.new) (E.has_failed err.new)) }

@@ -214,6 +214,8 @@ impl Row {
         ensures drafts { (first.new.draft ≡ first.old.draft)
             × (second.new.draft ≡ second.old.draft) }
     {
+        // One token has both streams' parts while word 0 is loaded: that load is the step at which each learns what the
+        // other has seen. Then the second part goes back to its own token.
         let shared = &self.table.shared;
         let token = shared.split_seat::<Hand>(&mut second.token);
         shared.join_seat::<Unite>(&mut first.token, token);

@@ -1,13 +1,11 @@
 -- How the events of a stream move the clause map of one thread.
-use Rattle.std.proofs.Common.{◌≡◌, ◌≢◌, ℕ, zero, suc, ◌+◌, ◌-◌, ◌<◌, ◌≤◌, Bool, true, false, cond, eqb, List, [], ◌∷◌, length, get_or, set, take, drop, Some, None, refl, sym, ap, subst, ◌∙◌, arith, eq-eqb}
+use Rattle.std.proofs.Common.{◌≡◌, ◌≢◌, ℕ, zero, suc, ◌+◌, ◌-◌, ◌<◌, ◌≤◌, Bool, true, false, cond, eqb, List, [], ◌∷◌, length, get_or, set, take, drop, Some, None, refl, sym, ap, subst, ◌∙◌, arith}
 use Rattle.std.specs.Prelude.{map}
-use Rattle.std.specs.List.{sum_by}
 use Rattle.std.proofs.Math.Path.{fun_ext}
 use Rattle.std.proofs.lemmas.Bool.{eqb-true, eqb-false}
 use Rattle.std.proofs.lemmas.List.{get_or-set_other, take-set-le, drop-set-add, get_or-take, get_or-drop}
 use Rattle.std.proofs.Math.ListN.{get_or-map}
 use Rattle.std.proofs.lemmas.Grind.{get_or-set_at}
-use Rattle.std.proofs.lemmas.List.Sums.{sum_by-cons}
 use Rattle.std.proofs.Math.Numerals.{one-add}
 use Rattle.std.proofs.lemmas.Option.{same_Some}
 use Rattle.lrup_model.specs.Clause.{Clause}
@@ -22,7 +20,6 @@ use Rattle.lrup_model.specs.Entailment.{IsDerived}
 use Rattle.lrup_model.specs.Place.{Kept, KeepsSpelt, AllFollow, literals_in}
 use Rattle.lrup_model.specs.Replies.{IsFetched, reply_of}
 use Rattle.lrup_model.specs.declared.clause_map.Fetched.{Fetched}
-use Rattle.lrup_model.specs.declared.clause_map.Fetched.TheVariants as fetched
 use Rattle.lrup_model.specs.declared.clause_map.Retired.{Retired}
 use Rattle.lrup_model.specs.declared.clause_map.Retired.TheVariants as retiring
 use Rattle.lrup_model.specs.HistoryLemmas.{owned_above, spent_one}

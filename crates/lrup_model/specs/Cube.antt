@@ -1,5 +1,5 @@
 -- Cubes: sets of literals that are assumed (textbook). A cube is kept as a list, and what is said of it reads the list as a set.
-use Rattle.std.specs.Prelude.{◌≡◌, ◌↔◌, ℕ, ℤ, neg_ℤ, List, []}
+use Rattle.std.specs.Prelude.{◌↔◌, ℕ, ℤ, neg_ℤ, List, []}
 use Rattle.std.specs.List.{All, AllByRecursion}
 use Rattle.std.specs.List.Sorted.{IsNonDecreasingBy}
 use Rattle.lrup_model.specs.Literal.{IsLiteral, IsCode, max_variable}
@@ -42,10 +42,6 @@ pub record AreCubeCodes (codes : List ℕ) : Type 0 where
 abbrev pub WithinRefutes : Type 0
 WithinRefutes = (f : Cnf) (c : Clause) (cube : CubeValue) → IsDerived f c → Within c cube
     → IsUnsatisfiableUnder f cube
-
--- within the empty cube is the empty clause alone
-abbrev pub EmptyCubeWithin : Type 0
-EmptyCubeWithin = (c : Clause) → Within c [] ↔ (c ≡ [])
 
 -- under the empty cube a formula is unsatisfiable exactly if it is so by itself
 abbrev pub EmptyCubeRefutes : Type 0

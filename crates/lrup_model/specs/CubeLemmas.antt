@@ -1,12 +1,12 @@
 -- Lemmas on cubes.
-use Rattle.std.proofs.Common.{◌≡◌, ℤ, neg_ℤ, List, [], ◌∷◌, refl, sym, subst}
+use Rattle.std.proofs.Common.{◌≡◌, ◌↔◌, ℤ, neg_ℤ, List, [], ◌∷◌, refl, sym, subst}
 use Rattle.std.specs.List.{AllByRecursion}
 use Rattle.lrup_model.specs.Literal.{IsLiteral}
 use Rattle.lrup_model.specs.Clause.{Clause, Has}
 use Rattle.lrup_model.specs.ClauseLemmas.{All-Has, All-from_Has}
 use Rattle.lrup_model.specs.Entailment.{MakesTrue, Satisfies}
 use Rattle.lrup_model.specs.EntailmentLemmas.{not_both}
-use Rattle.lrup_model.specs.Cube.{Within, WithinRefutes, EmptyCubeWithin, EmptyCubeRefutes, UnderEveryCube, CubesAreSets}
+use Rattle.lrup_model.specs.Cube.{Within, WithinRefutes, EmptyCubeRefutes, UnderEveryCube, CubesAreSets}
 
 pub within_refutes : WithinRefutes
 within_refutes f c cube derived within a sat holds =
@@ -20,7 +20,7 @@ empty_only : (c : Clause) → Within c [] → c ≡ []
 empty_only [] within = refl
 empty_only (x ∷ c) within = absurd within.0
 
-pub empty_cube_within : EmptyCubeWithin
+pub empty_cube_within : (c : Clause) → Within c [] ↔ (c ≡ [])
 empty_cube_within c = (empty_only c, λ e. subst (λ (d : Clause). Within d []) (sym e) tt)
 
 pub empty_cube_refutes : EmptyCubeRefutes

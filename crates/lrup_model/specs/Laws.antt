@@ -1,5 +1,5 @@
 -- Laws of the definitions: what holds of every formula, layout, history and pass. Each is the contract of a function of laws.
-use Rattle.std.specs.Prelude.{◌≡◌, ◌≢◌, ◌↔◌, ◌+◌, ◌≤◌, ◌<◌, ◌==◌, ◌++◌, ℕ, Bool, List, [], ◌∷◌, IsTrue, Some}
+use Rattle.std.specs.Prelude.{◌≡◌, ◌≢◌, ◌≤◌, ◌<◌, ◌++◌, ℕ, Bool, List, [], ◌∷◌, IsTrue}
 use Rattle.std.specs.List.{filter, AllByRecursion}
 use Rattle.lrup_model.specs.Clause.{Clause, IsClause}
 use Rattle.lrup_model.specs.Formula.{Cnf, IsCnf, clause_at}
@@ -10,28 +10,10 @@ use Rattle.lrup_model.specs.Event.{Event, Reply, History, stream_of, own, spent,
 use Rattle.lrup_model.specs.State.{State, Slot, absent, live, retired, opening, run, state, AreVacantAbove}
 use Rattle.lrup_model.specs.History.{LegalFrom, IsLegal, IsPublishable}
 use Rattle.lrup_model.specs.Propagation.{Accepts}
-use Rattle.lrup_model.specs.Place.{Caller, IsCaller, Kept, Place, ClipValue, clip_clause, IsKnown, Tells, AllFollow, KeepsSpelt}
-use Rattle.lrup_model.specs.Replies.{AnswersOwn, AnswersFormula}
-use Rattle.lrup_model.specs.Pass.{View, Spelling, kept_in, IsSpelt, IsFair, PassMoves, pass_place, Meets, MeetsInTurn, AreMet, AllSaw, opened}
+use Rattle.lrup_model.specs.Place.{Place, ClipValue, clip_clause, IsKnown, Tells, AllFollow}
+use Rattle.lrup_model.specs.Pass.{View, Spelling, PassMoves, pass_place}
 
 -- Running and legality
-
--- the state after two histories, one behind the other
-abbrev pub RunsInTurn : Type 0
-RunsInTurn = (m : State) (g h : History) → run m (g ++ h) ≡ run (run m g) h
-
--- two histories, one behind the other, are legal exactly if each is, the second from the state that the first leaves
-abbrev pub LegalInTurn : Type 0
-LegalInTurn = (f : Cnf) (p : LayoutValue) (m : State) (g h : History) → LegalFrom f p m (g ++ h)
-    ↔ (LegalFrom f p m g × LegalFrom f p (run m g) h)
-
--- a stream's own events of two histories, one behind the other
-abbrev pub OwnInTurn : Type 0
-OwnInTurn = (g h : History) (s : ℕ) → own (g ++ h) s ≡ own g s ++ own h s
-
--- what a stream spent in two histories
-abbrev pub SpentInTurn : Type 0
-SpentInTurn = (s : ℕ) (g h : History) → spent s (g ++ h) ≡ spent s g + spent s h
 
 -- each beginning of a legal history is legal
 abbrev pub BeginningsLegal : Type 0
@@ -48,16 +30,6 @@ FormulaStays = (f : Cnf) (p : LayoutValue) (h : History) (id : ℕ) → Fits p f
 abbrev pub OwnCallsDecide : Type 0
 OwnCallsDecide = (f : Cnf) (p : LayoutValue) (h : History) (s id : ℕ) → LegalFrom f p (opening f) h
     → Owns p s id → state f h id ≡ state f (own h s) id
-
--- so it is from any state
-abbrev pub OwnCallsDecideFrom : Type 0
-OwnCallsDecideFrom = (f : Cnf) (p : LayoutValue) (m : State) (h : History) (s id : ℕ)
-    → LegalFrom f p m h → Owns p s id → run m h id ≡ run m (own h s) id
-
--- the legal events of other streams leave a stream's own identities alone, from any state
-abbrev pub OthersLeaveOwn : Type 0
-OthersLeaveOwn = (f : Cnf) (p : LayoutValue) (m : State) (h : History) (s id : ℕ)
-    → LegalFrom f p m h → AllByRecursion (λ e. stream_of e ≢ s) h → Owns p s id → run m h id ≡ m id
 
 -- so where a stream's own identities above one have nothing, they have nothing after events of others
 abbrev pub VacantAboveStays : Type 0
@@ -117,10 +89,6 @@ abbrev pub ClausesFollow : Type 0
 ClausesFollow = (f : Cnf) (p : LayoutValue) (h : History) (id : ℕ) (c : Clause) → IsCnf f
     → LegalFrom f p (opening f) h → HasClause (state f h id) c → IsClause f.vars c × Follows f c
 
--- what two histories published, one after the other
-abbrev pub PublishedInTurn : Type 0
-PublishedInTurn = (g h : History) → published (g ++ h) ≡ published g ++ published h
-
 -- each clause that a legal history published may be published: it follows from the formula
 abbrev pub PublishedFollow : Type 0
 PublishedFollow = (f : Cnf) (p : LayoutValue) (m : State) (h : History) → LegalFrom f p m h
@@ -143,39 +111,9 @@ abbrev pub KnownFollows : Type 0
 KnownFollows = (p : Place) (clip : ClipValue) → AllFollow p → IsKnown p clip
     → IsDerived p.caller.formula (clip_clause p clip)
 
--- no calls lie between a pass and itself
-abbrev pub PassRests : Type 0
-PassRests = (v : View) → PassMoves v v []
-
--- calls, and then further calls
-abbrev pub PassMovesInTurn : Type 0
-PassMovesInTurn = (a b c : View) (es fs : History) → PassMoves a b es → PassMoves b c fs
-    → PassMoves a c (es ++ fs)
-
 -- what a pass's calls say of the caller's place
 abbrev pub PassTells : Type 0
 PassTells = (a b : View) (es : History) → PassMoves a b es → Tells (pass_place a) (pass_place b) es
-
--- every clause that a fair pass keeps follows from the formula
-abbrev pub FairFollows : Type 0
-FairFollows = (v : View) → IsFair v → AllFollow (pass_place v)
-
--- what is kept for a clause after a history has the same literals after any legal one that begins with it
-abbrev pub SpeltStays : Type 0
-SpeltStays = (f : Cnf) (p : LayoutValue) (seen more : History) (xs ys : List Spelling) (id : ℕ)
-    (kept : Kept)
-    → IsLegal f p (seen ++ more) → IsSpelt f seen xs → IsSpelt f (seen ++ more) ys
-    → kept_in xs id ≡ Some kept
-    → (later : Kept) × (kept_in ys id ≡ Some later) × (later.literals ≡ kept.literals)
-
--- a fair pass that is a later one of a fair pass has moved by the calls that it made
-abbrev pub PassGoesOn : Type 0
-PassGoesOn = (old new : View) (es : History)
-    → IsFair old → IsFair new → new.caller ≡ old.caller
-    → AllByRecursion (λ e. stream_of e ≡ old.caller.stream) es → new.mine ≡ old.mine ++ es
-    → ((more : History) × (new.seen ≡ old.seen ++ more))
-    → KeepsSpelt (kept_in old.spelt) (kept_in new.spelt)
-    → PassMoves old new es
 
 -- the pass when it has seen these events of others, with what is then kept
 abbrev pub learned : View → History → List Spelling → View
@@ -184,15 +122,6 @@ learned v more xs = record v {
   spelt = xs;
 }
 
--- a fair pass that sees more events of others is fair, and has moved by no call
-abbrev pub PassLearns : Type 0
-PassLearns = (v : View) (more : History) (xs : List Spelling)
-    → IsFair v
-    → AllByRecursion (λ d. stream_of d ≢ v.caller.stream) more
-    → IsLegal v.caller.formula v.caller.layout (v.seen ++ more)
-    → IsSpelt v.caller.formula (v.seen ++ more) xs → KeepsSpelt (kept_in v.spelt) (kept_in xs)
-    → PassMoves v (learned v more xs) [] × IsFair (learned v more xs)
-
 -- the pass when it has seen these events of others, and then made this call, with what is then kept
 abbrev pub stepped : View → History → Event → List Spelling → View
 stepped v between e xs = record v {
@@ -200,38 +129,6 @@ stepped v between e xs = record v {
   mine = v.mine ++ e ∷ [];
   spelt = xs;
 }
-
--- a fair pass moves by one call of its own, whatever it saw of others before, and is fair
-abbrev pub PassSteps : Type 0
-PassSteps = (v : View) (between : History) (e : Event) (xs : List Spelling)
-    → IsFair v
-    → AllByRecursion (λ d. stream_of d ≢ v.caller.stream) between → stream_of e ≡ v.caller.stream
-    → IsLegal v.caller.formula v.caller.layout (v.seen ++ between ++ e ∷ [])
-    → IsSpelt v.caller.formula (v.seen ++ between ++ e ∷ []) xs
-    → KeepsSpelt (kept_in v.spelt) (kept_in xs)
-    → PassMoves v (stepped v between e xs) (e ∷ []) × IsFair (stepped v between e xs)
-
--- A fetch that is the last that a pass has seen answers as its own calls left its own identities, and as the formula has them.
-abbrev pub PassFetches : Type 0
-PassFetches = (old new : View) (before : History) (id : ℕ) (r : Reply)
-    → PassMoves old new (events.fetch old.caller.stream id r ∷ [])
-    → new.seen ≡ before ++ events.fetch old.caller.stream id r ∷ []
-    → AnswersOwn (pass_place old) id r × AnswersFormula (pass_place old) id r
-
--- a pass that meets all others in turn, and then all again, leaves all at one history
-abbrev pub MeetsTwice : Type 0
-MeetsTwice = (u v w : View) (xs ys zs : List View) → MeetsInTurn u xs v ys → MeetsInTurn v ys w zs
-    → (w.seen ≡ v.seen) × AllSaw w.seen zs
-
--- and changes nothing else: each went on by no call, and is fair
-abbrev pub MeetingKeeps : Type 0
-MeetingKeeps = (u v : View) (xs ys : List View) → MeetsInTurn u xs v ys → PassMoves u v []
-    × AreMet xs ys × (IsFair u → IsFair v)
-
--- a pass that has seen nothing is fair, where the formula's clauses are spelt
-abbrev pub OpeningFair : Type 0
-OpeningFair = (c : Caller) (xs : List Spelling) → IsCaller c → IsSpelt c.formula [] xs
-    → IsFair (opened c xs)
 
 -- The events of some streams
 
@@ -266,8 +163,3 @@ FindsWithin p set (events.retire s id r) = Unit {0}
 abbrev pub RestrictionLegal : Type 0
 RestrictionLegal = (f : Cnf) (p : LayoutValue) (set : ℕ → Bool) (h : History) → Fits p f
     → IsLegal f p h → AllByRecursion (FindsWithin p set) h → IsLegal f p (among set h)
-
--- one stream's events are a legal history by themselves, where it finds no clause of another stream
-abbrev pub OwnLegal : Type 0
-OwnLegal = (f : Cnf) (p : LayoutValue) (s : ℕ) (h : History) → Fits p f → IsLegal f p h
-    → AllByRecursion (FindsWithin p (λ t. t == s)) h → IsLegal f p (own h s)

@@ -19,7 +19,7 @@ use Rattle.lrup_text.proofs.TextLaws.{signed_word, decimal_word}
 use Rattle.lrup_text.proofs.WholeLines.{spaces_move}
 
 -- one byte and then others
-tracks_as : {p q : List ℕ} {s t : Spot} → Tracks p s → p ≡ q → s ≡ t → Tracks q t
+pub tracks_as : {p q : List ℕ} {s t : Spot} → Tracks p s → p ≡ q → s ≡ t → Tracks q t
 tracks_as {p} {q} {s} {t} h e f = subst (λ x. Tracks x t) e (subst (λ x. Tracks p x) f h)
 
 number_digits : (p : List ℕ) (deletes : Bool) (k j : ℕ) (cs : List ℕ) → AllByRecursion IsDigit cs → Tracks p (InItem deletes k j) → Tracks (p ++ cs) (InItem deletes (k + length cs) j)
@@ -43,7 +43,7 @@ tracks_numbers p deletes j (n ∷ ns) h t =
     tracks_as (tracks_numbers (p ++ (decimal n ++ space ∷ [])) deletes (j + 1) ns h.1 (tracks_number p deletes j (decimal n) (decimal_word n h.0) t))
     (append_assoc p (decimal n ++ space ∷ []) (numbers_text ns)) (ap (BeforeItem deletes) (omega arith))
 
-literal_digits : (p : List ℕ) (imports : Bool) (k n : ℕ) (cs : List ℕ) → AllByRecursion IsDigit cs → Tracks p (InLiteral imports k n) → Tracks (p ++ cs) (InLiteral imports (k + length cs) n)
+pub literal_digits : (p : List ℕ) (imports : Bool) (k n : ℕ) (cs : List ℕ) → AllByRecursion IsDigit cs → Tracks p (InLiteral imports k n) → Tracks (p ++ cs) (InLiteral imports (k + length cs) n)
 literal_digits p imports k n [] h t = tracks_as t (sym (append-nil p)) (ap (λ x. InLiteral imports x n) (omega arith))
 literal_digits p imports k n (c ∷ cs) h t =
     tracks_as (literal_digits (p ++ c ∷ []) imports (k + 1) n cs h.1 (tracks_more p _ _ c t (literal_digit imports k n c h.0)))
@@ -64,7 +64,7 @@ tracks_literal p imports n (c ∷ d ∷ ds) (inr h) t =
     let digits = tracks_rest (p ++ minus ∷ []) imports n d ds h.1.2 h.1.3 (tracks_more (p ++ minus ∷ []) _ _ d signed (minus_digit imports n d h.1.0 h.1.1)) in
     tracks_as digits (append_assoc p (minus ∷ []) ((d ∷ ds) ++ space ∷ []) ∙ ap (λ x. p ++ (x ∷ ((d ∷ ds) ++ space ∷ []))) (sym h.0)) refl
 
-tracks_literals : (p : List ℕ) (imports : Bool) (n : ℕ) (zs : List ℤ) → AllByRecursion IsStreamLiteral zs → Tracks p (BeforeLiteral imports n) → Tracks (p ++ literals_text zs) (BeforeLiteral imports (n + length zs))
+pub tracks_literals : (p : List ℕ) (imports : Bool) (n : ℕ) (zs : List ℤ) → AllByRecursion IsStreamLiteral zs → Tracks p (BeforeLiteral imports n) → Tracks (p ++ literals_text zs) (BeforeLiteral imports (n + length zs))
 unfolding literals_text
 tracks_literals p imports n [] h t = tracks_as t (sym (append-nil p)) (ap (BeforeLiteral imports) (omega arith))
 tracks_literals p imports n (z ∷ zs) h t =

@@ -1,76 +1,128 @@
--- Faults of texts of some kind: at the first byte, and after a beginning that was read.
-use Rattle.std.proofs.Common.{◌≡◌, ℕ, inl, inr, false, List, [], ◌∷◌, ◌++◌, refl, sym, ◌∙◌, ap, subst}
-use Rattle.std.proofs.lemmas.List.{append_assoc}
+-- The faults of a cube's text are those of the import's line that it is the list of.
+use Rattle.std.proofs.Common.{◌≡◌, ℕ, ◌+◌, ◌≤◌, inl, inr, Bool, true, false, List, [], ◌∷◌, ◌++◌, length, sym, ◌∙◌, ap, subst, refl, arith}
+use Rattle.std.proofs.lemmas.Bool.{cases_eq}
+use Rattle.std.proofs.lemmas.List.{append_assoc, append-nil}
+use Rattle.lrup_text.specs.declared.LineFault.{LineFault}
+use Rattle.lrup_text.specs.declared.LineFault.TheVariants as lines
 use Rattle.lrup_text.specs.declared.cube.CubeFault.{CubeFault}
-use Rattle.lrup_text.specs.declared.cube.CubeFault.TheVariants.{Spelling, TooLong, Range, Memory}
-use Rattle.lrup_text.specs.Cubes.{BeginsOne, BeginsOneLifted, BeginsNone, IsTextFault}
-use Rattle.lrup_text.specs.Grammar.{Limits, AreLifted, standard}
-use Rattle.lrup_text.proofs.Steps.{standard_lifted}
+use Rattle.lrup_text.specs.declared.cube.CubeFault.TheVariants.{Spelling, TooLong}
+use Rattle.lrup_text.specs.CubeReading.{EndsAtSpot, IsRestFault, import_front}
+use Rattle.lrup_text.specs.Cubes.{IsCubeLine, BeginsOne, BeginsOneLifted, BeginsNone, IsTextFault}
+use Rattle.lrup_text.specs.Faults.{Decides}
+use Rattle.lrup_text.specs.Grammar.{Limits, AreLifted, standard, IsLine, BeginsWithin, clause_text, line_feed, space, letter_i, zero_digit}
+use Rattle.lrup_text.specs.Rests.{Spot, AtStart, InLead, AfterImport, BeforeLiteral, AtEnd, BodyFollows, Moves, Blocks}
+use Rattle.lrup_text.proofs.Decisions.{decides_spelling, decides_long}
+use Rattle.lrup_text.proofs.Steps.{IsBounded, Exceeds, tracks_more, tracks_begins, standard_lifted, at_start, start_digit, lead_space, body_import, import_space, body_end, end_blocks}
+use Rattle.lrup_text.proofs.Streams.{texts_are_lines}
+use Rattle.lrup_text.proofs.TextLaws.{tracks_pending}
 
--- after what was read, just the texts of another kind complete one
-pub record Continues (One Next : Limits → List ℕ → Type 0) (read : List ℕ) : Type 0 where
-  pub to : (limits : Limits) → AreLifted false limits → (rest : List ℕ) → One limits (read ++ rest) → Next limits rest
-  pub from : (limits : Limits) → AreLifted false limits → (rest : List ℕ) → Next limits rest → One limits (read ++ rest)
+pub nothing_read : EndsAtSpot [] (BeforeLiteral true 0)
+nothing_read =
+    let lead = tracks_more [] AtStart (InLead 1) 49 at_start (start_digit 49 (omega arith) (omega arith)) in
+    let body = tracks_more (49 ∷ []) (InLead 1) (BeforeLiteral false 0) space lead (lead_space 1 (omega arith)) in
+    let letter = tracks_more (49 ∷ space ∷ []) (BeforeLiteral false 0) AfterImport letter_i body body_import in
+    tracks_more (49 ∷ space ∷ letter_i ∷ []) AfterImport (BeforeLiteral true 0) space letter import_space
 
-pub continues_then : (One Next Last : Limits → List ℕ → Type 0) (read more : List ℕ) → Continues One Next read → Continues Next Last more → Continues One Last (read ++ more)
-continues_then One Next Last read more first second = record {
-  to = λ limits lifted rest h. second.to limits lifted rest (first.to limits lifted (more ++ rest) (subst (One limits) (append_assoc read more rest) h));
-  from = λ limits lifted rest h. subst (One limits) (sym (append_assoc read more rest)) (first.from limits lifted (more ++ rest) (second.from limits lifted rest h));
-}
+-- The text is one exactly where the line is.
 
-module _ (One Next : Limits → List ℕ → Type 0) (read : List ℕ) (goes : Continues One Next read) where
-  begins_to : (limits : Limits) → AreLifted false limits → (bytes : List ℕ) → BeginsOne One limits (read ++ bytes) → BeginsOne Next limits bytes
-  begins_to limits lifted bytes h = (h.0, goes.to limits lifted (bytes ++ h.0) (subst (One limits) (append_assoc read bytes h.0) h.1))
+module _ (limits : Limits) (lifted : AreLifted false limits) (bytes : List ℕ) where
+  line_of_cube : IsCubeLine limits bytes → IsLine limits (import_front ++ bytes)
+  line_of_cube h =
+      let few : length h.0 ≤ limits.literals = h.1.count in
+      nothing_read.line false limits lifted bytes (inl (record { words = h.0; count = omega arith; each = h.1.each; after = line_feed ∷ []; is = h.2; end = refl }))
 
-  begins_from : (limits : Limits) → AreLifted false limits → (bytes : List ℕ) → BeginsOne Next limits bytes → BeginsOne One limits (read ++ bytes)
-  begins_from limits lifted bytes h = (h.0, subst (One limits) (sym (append_assoc read bytes h.0)) (goes.from limits lifted (bytes ++ h.0) h.1))
+  cube_of_line : IsLine limits (import_front ++ bytes) → IsCubeLine limits bytes
+  cube_of_line h = list (nothing_read.completes false limits lifted bytes h)
+    where
+      list : BodyFollows limits true 0 bytes → IsCubeLine limits bytes
+      list (inl c) = let few : 0 + length c.words ≤ limits.literals = c.count in (c.words, record { count = omega arith; each = c.each }, c.is ∙ ap (clause_text c.words) c.end)
+      list (inr c) = let e : true ≡ false = c.1 in cc
 
-  none_after : (bytes : List ℕ) (Shortest Whole : List ℕ → Type 0) → ((s : List ℕ) → Shortest s → Whole (read ++ s)) → BeginsNone Next bytes Shortest → BeginsNone One (read ++ bytes) Whole
-  none_after bytes Shortest Whole more h =
-      let longer : (read ++ h.read) ++ h.byte ∷ [] ≡ read ++ (h.read ++ h.byte ∷ []) = append_assoc read h.read (h.byte ∷ []) in
-      record {
-        read = read ++ h.read;
-        byte = h.byte;
-        after = h.after;
-        is = ap (λ t. read ++ t) h.is ∙ sym (append_assoc read h.read (h.byte ∷ h.after));
-        before = begins_from standard standard_lifted h.read h.before;
-        none = λ b. h.none (begins_to standard standard_lifted (h.read ++ h.byte ∷ []) (subst (BeginsOne One standard) longer b));
-        shortest = subst Whole (sym longer) (more (h.read ++ h.byte ∷ []) h.shortest);
-      }
+begins_line : (limits : Limits) → AreLifted false limits → (bytes : List ℕ) → BeginsOne IsCubeLine limits bytes → BeginsWithin limits (import_front ++ bytes)
+begins_line limits lifted bytes h = (h.0, line_of_cube limits lifted (bytes ++ h.0) h.1)
 
-  -- the fault of the rest is that of the whole
-  pub fault_after : (bytes : List ℕ) (fault : CubeFault) → IsTextFault Next bytes fault → IsTextFault One (read ++ bytes) fault
-  fault_after bytes Spelling (inl early) = inl (begins_from standard standard_lifted bytes early.0, λ one. early.1 (goes.to standard standard_lifted bytes one))
-  fault_after bytes Spelling (inr none) =
-      inr (none_after bytes (λ s. ¬ BeginsOneLifted Next s) (λ s. ¬ BeginsOneLifted One s) (λ s never l. never (l.0, l.1, begins_to l.0 l.1 s l.2)) none)
-  fault_after bytes TooLong none = none_after bytes (BeginsOneLifted Next) (BeginsOneLifted One) (λ s l. (l.0, l.1, begins_from l.0 l.1 s l.2)) none
-  fault_after bytes Range h = h
-  fault_after bytes Memory h = h
+begins_cube : (limits : Limits) → AreLifted false limits → (bytes : List ℕ) → BeginsWithin limits (import_front ++ bytes) → BeginsOne IsCubeLine limits bytes
+begins_cube limits lifted bytes h = (h.0, cube_of_line limits lifted (bytes ++ h.0) h.1)
 
--- The first byte stops, where some text is of the kind.
-module _ (One : Limits → List ℕ → Type 0) (b : ℕ) (after : List ℕ) (begins : BeginsOne One standard []) where
-  pub stops_spelling : ((limits : Limits) → AreLifted false limits → (rest : List ℕ) → ¬ One limits (b ∷ rest)) → IsTextFault One (b ∷ after) Spelling
-  stops_spelling blocks = inr (record {
-    read = [];
-    byte = b;
+-- A byte that decides it of the line decides it of the text.
+
+module _ (read : List ℕ) (spot : Spot) (byte : ℕ) (after : List ℕ) (stands : EndsAtSpot read spot) (bounded : IsBounded spot) where
+  none : (fault : LineFault) (Shortest : List ℕ → Type 0) → Decides (import_front ++ read) byte fault → Shortest (read ++ byte ∷ []) → BeginsNone IsCubeLine (read ++ byte ∷ after) Shortest
+  none fault Shortest h shortest = record {
+    read = read;
+    byte = byte;
     after = after;
     is = refl;
-    before = begins;
-    none = λ h. blocks standard standard_lifted h.0 h.1;
-    shortest = λ h. blocks h.0 h.1 h.2.0 h.2.1;
-  })
-
-  pub stops_long : ((rest : List ℕ) → ¬ One standard (b ∷ rest)) → BeginsOneLifted One (b ∷ []) → IsTextFault One (b ∷ after) TooLong
-  stops_long blocks lifted = record {
-    read = [];
-    byte = b;
-    after = after;
-    is = refl;
-    before = begins;
-    none = λ h. blocks h.0 h.1;
-    shortest = lifted;
+    before = begins_cube standard standard_lifted read h.before.begins;
+    none = λ b. h.after (begins_line standard standard_lifted (read ++ byte ∷ []) b);
+    shortest = shortest;
   }
 
--- the text ends, where more should follow
-pub stops_early : (One : Limits → List ℕ → Type 0) → BeginsOne One standard [] → ¬ One standard [] → IsTextFault One [] Spelling
-stops_early One begins none = inl (begins, none)
+  pub misspelled : ((signed : Bool) → Blocks signed spot byte) → IsTextFault IsCubeLine (read ++ byte ∷ after) Spelling
+  misspelled blocks =
+      let h = decides_spelling (import_front ++ read) spot byte stands bounded blocks in
+      inr (none lines.Spelling (λ s. ¬ BeginsOneLifted IsCubeLine s) h (λ l. h.why.0 (l.0, l.1, begins_line l.0 l.1 (read ++ byte ∷ []) l.2)))
+
+  pub too_long : Exceeds spot byte → IsTextFault IsCubeLine (read ++ byte ∷ after) TooLong
+  too_long exceeds =
+      let h = decides_long (import_front ++ read) spot byte stands bounded exceeds in
+      none lines.TooLong (BeginsOneLifted IsCubeLine) h (h.why.0, h.why.1, begins_cube h.why.0 h.why.1 (read ++ byte ∷ []) h.why.2)
+
+-- the fault of the rest after a byte
+pub rest_fault : (spot next : ℕ → Spot) (byte : ℕ) (after : List ℕ) (fault : CubeFault) → ((n : ℕ) → Moves (spot n) byte (next n)) → IsRestFault next after fault → IsRestFault spot (byte ∷ after) fault
+rest_fault spot next byte after fault moves h read n few stands =
+    subst (λ t. IsTextFault IsCubeLine t fault) (append_assoc read (byte ∷ []) after) (h (read ++ byte ∷ []) n few (tracks_more (import_front ++ read) (spot n) (next n) byte stands (moves n)))
+
+-- the text ends inside the line
+pub too_short : (read : List ℕ) (spot : Spot) → EndsAtSpot read spot → IsBounded spot → IsTextFault IsCubeLine (read ++ []) Spelling
+too_short read spot stands bounded =
+    let line = import_front ++ read in
+    subst (λ t. IsTextFault IsCubeLine t Spelling) (sym (append-nil read))
+    (inl (
+      begins_cube standard standard_lifted read (tracks_begins line spot stands bounded),
+      λ cube.
+          let whole = (texts_are_lines line).0 (line_of_cube standard standard_lifted read cube) in
+          (tracks_pending line spot stands bounded).whole whole.0 [] whole.1.0 (whole.1.1 ∙ sym (append-nil _)),
+    ))
+
+-- more follows its LF
+too_much : (read : List ℕ) (byte : ℕ) (after : List ℕ) → EndsAtSpot read AtEnd → IsTextFault IsCubeLine (read ++ line_feed ∷ byte ∷ after) Spelling
+too_much read byte after stands = inr (record {
+  read = line;
+  byte = byte;
+  after = after;
+  is = sym (append_assoc read (line_feed ∷ []) (byte ∷ after));
+  before = begins_cube standard standard_lifted line ([], subst (λ t. IsLine standard (import_front ++ t)) (sym (append-nil line)) (stands.line false standard standard_lifted (line_feed ∷ []) refl));
+  none = λ h. never standard standard_lifted h.0 h.1;
+  shortest = λ l. never l.0 l.1 l.2.0 l.2.1;
+})
+  where
+    line : List ℕ
+    line = read ++ line_feed ∷ []
+
+    never : (limits : Limits) → AreLifted false limits → (rest : List ℕ) → ¬ IsCubeLine limits ((line ++ byte ∷ []) ++ rest)
+    never limits lifted rest h =
+        let longer : (line ++ byte ∷ []) ++ rest ≡ read ++ line_feed ∷ byte ∷ rest = append_assoc line (byte ∷ []) rest ∙ append_assoc read (line_feed ∷ []) (byte ∷ rest) in
+        let end : line_feed ∷ byte ∷ rest ≡ line_feed ∷ [] = stands.completes false limits lifted _ (subst (λ t. IsLine limits (import_front ++ t)) longer (line_of_cube limits lifted _ h)) in
+        cc
+
+-- the end isn't LF alone
+pub wrong_end : (read : List ℕ) (n : ℕ) (after : List ℕ) → EndsAtSpot read (BeforeLiteral true n) → n ≤ 65535 → ¬ (after ≡ line_feed ∷ []) → IsTextFault IsCubeLine (read ++ zero_digit ∷ after) Spelling
+wrong_end read n after stands few other = subst (λ t. IsTextFault IsCubeLine t Spelling) (append_assoc read (zero_digit ∷ []) after) (cases after other)
+  where
+    closed : List ℕ
+    closed = read ++ zero_digit ∷ []
+
+    ends : EndsAtSpot closed AtEnd
+    ends = tracks_more (import_front ++ read) (BeforeLiteral true n) AtEnd zero_digit stands (body_end n few)
+
+    cases : (after : List ℕ) → ¬ (after ≡ line_feed ∷ []) → IsTextFault IsCubeLine (closed ++ after) Spelling
+    cases [] other = too_short closed AtEnd ends tt
+    cases (c ∷ more) other = elim (cases_eq c line_feed) [
+      | inl e ↦ subst (λ x. IsTextFault IsCubeLine (closed ++ x ∷ more) Spelling) (sym e) (follows more (λ is. other (ap (λ x. x ∷ more) e ∙ ap (λ t. line_feed ∷ t) is)))
+      | inr ne ↦ misspelled closed AtEnd c more ends tt (λ signed. end_blocks signed c ne)
+    ]
+      where
+        follows : (more : List ℕ) → ¬ (more ≡ []) → IsTextFault IsCubeLine (closed ++ line_feed ∷ more) Spelling
+        follows [] some = absurd (some refl)
+        follows (d ∷ more) some = too_much closed d more ends

@@ -1,24 +1,15 @@
 -- The text of a cube has no fault.
-use Rattle.std.proofs.Common.{ℕ, ℤ, inl, inr, List, [], ◌∷◌, map, sym, ◌∙◌, subst, arith}
+use Rattle.std.proofs.Common.{ℕ, ℤ, inl, inr, List, [], ◌∷◌, map, sym, ◌∙◌, subst}
 use Rattle.std.specs.Fmt.{signed_decimal}
-use Rattle.std.specs.List.{AllByRecursion}
-use Rattle.std.proofs.lemmas.List.{append_assoc, length-map}
+use Rattle.std.proofs.lemmas.List.{append_assoc}
 use Rattle.lrup_text.specs.declared.cube.CubeFault.TheVariants.{Spelling, TooLong, Range, Memory}
 use Rattle.lrup_text.specs.Cubes.{IsLiteralsText, IsCubeLine, BeginsNone, TextHasNoFault}
 use Rattle.lrup_text.specs.Grammar.{standard, SpellsLiteral}
 use Rattle.lrup_text.specs.Lines.{IsStreamLiteral}
-use Rattle.lrup_text.proofs.TextLaws.{signed_word}
-
-each_word : (literals : List ℤ) → AllByRecursion IsStreamLiteral literals → AllByRecursion (SpellsLiteral 18) (map signed_decimal literals)
-each_word [] h = tt
-each_word (z ∷ zs) h = (signed_word z h.0, each_word zs h.1)
+use Rattle.lrup_text.proofs.TextLaws.{signed_word, few_map}
 
 text_is_line : (literals : List ℤ) (bytes : List ℕ) → IsLiteralsText literals bytes → IsCubeLine standard bytes
-text_is_line literals bytes text = (
-  map signed_decimal literals,
-  record { count = omega (arith, length-map literals signed_decimal, text.few.count); each = each_word literals text.few.each },
-  text.is,
-)
+text_is_line literals bytes text = (map signed_decimal literals, few_map 65535 signed_decimal IsStreamLiteral (SpellsLiteral 18) signed_word literals text.few, text.is)
 
 -- no beginning of a line begins none
 none_breaks : (bytes : List ℕ) (Shortest : List ℕ → Type 0) → IsCubeLine standard bytes → BeginsNone IsCubeLine bytes Shortest → ⊥

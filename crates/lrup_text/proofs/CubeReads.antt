@@ -1,5 +1,5 @@
 -- A cube's text as far as it was read: a number, and literals.
-use Rattle.std.proofs.Common.{◌≡◌, ℕ, ℤ, ◌+◌, ◌-◌, ◌*◌, ◌<◌, ◌≤◌, true, false, List, [], ◌∷◌, ◌++◌, length, unsigned_abs, Ok, Err, refl, sym, ◌∙◌, ap, subst, arith}
+use Rattle.std.proofs.Common.{◌≡◌, ℕ, ℤ, ◌+◌, ◌-◌, ◌*◌, ◌^◌, ◌<◌, ◌≤◌, true, List, [], ◌∷◌, ◌++◌, length, Ok, Err, refl, sym, ◌∙◌, ap, subst, arith}
 use Rattle.std.specs.Prelude.{Result, IfOk, IfErr, MatchResult}
 use Rattle.std.specs.Fmt.{decimal, signed_decimal}
 use Rattle.std.specs.List.{AllByRecursion}
@@ -8,41 +8,44 @@ use Rattle.lrup_model.specs.Cube.{IsCubeOver}
 use Rattle.lrup_model.specs.ListLemmas.{All-push}
 use Rattle.lrup_text.specs.declared.cube.CubeFault.{CubeFault}
 use Rattle.lrup_text.specs.declared.cube.CubeFault.TheVariants.{Spelling, TooLong, Range, Memory}
-use Rattle.lrup_text.specs.CubeReading.{CubeFollows, DigitsFollowIn, IsRestFault, BeginsWithNumber, ReadsLiteral, AreKept, AreNotKept}
+use Rattle.lrup_text.specs.CubeReading.{EndsAtSpot, import_front, IsRestFault, BeginsWithNumber, ReadsLiteral, AreKept, AreNotKept}
 use Rattle.lrup_text.specs.Cubes.{IsCubeLine, IsLiteralsText, IsTextFault, IsCubeFault}
-use Rattle.lrup_text.specs.Grammar.{IsDigit, line_feed, space, minus, zero_digit}
-use Rattle.lrup_text.specs.Lines.{IsStreamNumber, IsStreamLiteral}
-use Rattle.lrup_text.specs.Reading.{FitsDigits, literals_text, literal_front}
-use Rattle.lrup_text.proofs.Bytes.{first_digit, more_digits, decimal_next, positive, text_more, literals_end}
-use Rattle.lrup_text.proofs.CubeFaults.{Continues, continues_then, fault_after}
-use Rattle.lrup_text.proofs.CubeRests.{line_start, digit_continues, word_continues}
+use Rattle.lrup_text.specs.Grammar.{IsDigit, line_feed, space, zero_digit}
+use Rattle.lrup_text.specs.Lines.{IsStreamLiteral}
+use Rattle.lrup_text.specs.Reading.{FitsDigits, literals_text}
+use Rattle.lrup_text.proofs.Bytes.{first_digit, more_digits, below_limit, decimal_next, positive, text_more, literals_end}
+use Rattle.lrup_text.specs.Rests.{BeforeLiteral, InLiteral}
+use Rattle.lrup_text.proofs.Ahead.{tracks_as, literal_digits, tracks_literals}
+use Rattle.lrup_text.proofs.CubeFaults.{nothing_read}
 use Rattle.lrup_text.proofs.Numerals.{decimal_one}
-use Rattle.lrup_text.proofs.TextLaws.{signed_word}
 
 -- A number: digits were read after the first.
 
 pub record DigitsSoFar (first : ℕ) (after : List ℕ) (number digits : ℕ) (rest : List ℕ) : Type 0 where
   pub more : List ℕ
+  pub each : AllByRecursion IsDigit more
+  pub size : digits ≡ 1 + length more
   pub is : after ≡ more ++ rest
   pub word : decimal number ≡ first ∷ more
   pub fits : FitsDigits number digits
-  pub goes : (n : ℕ) → Continues (DigitsFollowIn 1 n) (DigitsFollowIn digits n) more
-
-nothing_read : (n : ℕ) → Continues (DigitsFollowIn 1 n) (DigitsFollowIn 1 n) []
-nothing_read n = record { to = λ limits lifted rest h. h; from = λ limits lifted rest h. h }
 
 pub digits_start : (first : ℕ) (after : List ℕ) → 49 ≤ first → first ≤ 57 → DigitsSoFar first after (first - 48) 1 after
-digits_start first after low high = record { more = []; is = refl; word = decimal_one first (omega arith, high); fits = first_digit first low high; goes = nothing_read }
+digits_start first after low high = record { more = []; each = tt; size = refl; is = refl; word = decimal_one first (omega arith, high); fits = first_digit first low high }
 
 pub digits_next : (first : ℕ) (after : List ℕ) (number digits : ℕ) (rest next : List ℕ) (b : ℕ) → DigitsSoFar first after number digits rest → rest ≡ b ∷ next → IsDigit b → digits < 18
     → DigitsSoFar first after (number * 10 + (b - 48)) (digits + 1) next
 digits_next first after number digits rest next b so is digit few = record {
   more = so.more ++ b ∷ [];
+  each = All-push IsDigit so.more b so.each digit;
+  size = omega (arith, so.size, length-append so.more (b ∷ []));
   is = so.is ∙ ap (λ t. so.more ++ t) is ∙ sym (append_assoc so.more (b ∷ []) next);
   word = decimal_next number digits b so.fits few digit ∙ ap (λ t. t ++ b ∷ []) so.word;
   fits = more_digits number digits b so.fits few digit;
-  goes = λ n. continues_then (DigitsFollowIn 1 n) (DigitsFollowIn digits n) (DigitsFollowIn (digits + 1) n) so.more (b ∷ []) (so.goes n) (digit_continues digits n b digit);
 }
+
+-- it keeps below the limit
+pub next_fits : (first : ℕ) (after : List ℕ) (number digits : ℕ) (rest : List ℕ) (b : ℕ) → DigitsSoFar first after number digits rest → IsDigit b → digits < 18 → number * 10 + (b - 48) < 10 ^ 18
+next_fits first after number digits rest b so digit few = below_limit (number * 10 + (b - 48)) (digits + 1) (more_digits number digits b so.fits few digit)
 
 pub digits_read : (first : ℕ) (after : List ℕ) (number digits : ℕ) (rest next : List ℕ) → DigitsSoFar first after number digits rest → rest ≡ space ∷ next → BeginsWithNumber (first ∷ after) number next
 digits_read first after number digits rest next so is = record {
@@ -50,35 +53,23 @@ digits_read first after number digits rest next so is = record {
   is = ap (λ t. first ∷ t) (so.is ∙ ap (λ t. so.more ++ t) is) ∙ ap (λ t. t ++ space ∷ next) (sym so.word);
 }
 
-pub digits_fault : (first : ℕ) (after : List ℕ) (number digits : ℕ) (rest : List ℕ) (fault : CubeFault) → DigitsSoFar first after number digits rest → IsRestFault (DigitsFollowIn digits) rest fault
-    → IsRestFault (DigitsFollowIn 1) after fault
-digits_fault first after number digits rest fault so h n few =
-    subst (λ t. IsTextFault (DigitsFollowIn 1 n) t fault) (sym so.is) (fault_after (DigitsFollowIn 1 n) (DigitsFollowIn digits n) so.more (so.goes n) rest fault (h n few))
+pub digits_fault : (first : ℕ) (after : List ℕ) (number digits : ℕ) (rest : List ℕ) (fault : CubeFault) → DigitsSoFar first after number digits rest → IsRestFault (InLiteral true digits) rest fault
+    → IsRestFault (InLiteral true 1) after fault
+digits_fault first after number digits rest fault so h read n few stands =
+    let here : EndsAtSpot (read ++ so.more) (InLiteral true digits n) = tracks_as (literal_digits (import_front ++ read) true 1 n so.more so.each stands) refl (ap (λ k. InLiteral true k n) (sym so.size)) in
+    subst (λ t. IsTextFault IsCubeLine t fault) (append_assoc read so.more rest ∙ ap (λ t. read ++ t) (sym so.is)) (h (read ++ so.more) n few here)
 
 -- Literals.
-
-pub literal_negative : (rest next : List ℕ) (number : ℕ) (z : ℤ) → BeginsWithNumber rest number next → signed_decimal z ≡ literal_front true number → unsigned_abs z ≡ number → ReadsLiteral (minus ∷ rest) z next
-literal_negative rest next number z read text size = record {
-  fits = subst IsStreamNumber (sym size) read.fits;
-  is = ap (λ t. minus ∷ t) read.is ∙ ap (λ t. t ++ space ∷ next) (sym text);
-}
-
-pub literal_positive : (text next : List ℕ) (number : ℕ) (z : ℤ) → BeginsWithNumber text number next → signed_decimal z ≡ literal_front false number → unsigned_abs z ≡ number → ReadsLiteral text z next
-literal_positive text next number z read value size = record {
-  fits = subst IsStreamNumber (sym size) read.fits;
-  is = read.is ∙ ap (λ t. t ++ space ∷ next) (sym value);
-}
 
 pub record LiteralsSoFar (text : List ℕ) (literals : List ℤ) (count : ℕ) (rest : List ℕ) : Type 0 where
   pub size : length literals ≡ count
   pub few : count ≤ 65535
   pub each : AllByRecursion IsStreamLiteral literals
   pub is : text ≡ literals_text literals ++ rest
-  pub goes : Continues IsCubeLine (CubeFollows count) (literals_text literals)
 
 pub literals_start : (text : List ℕ) → LiteralsSoFar text [] 0 text
 unfolding literals_text
-literals_start text = record { size = refl; few = omega arith; each = tt; is = refl; goes = line_start }
+literals_start text = record { size = refl; few = omega arith; each = tt; is = refl }
 
 pub literals_next : (text : List ℕ) (literals : List ℤ) (count : ℕ) (rest next : List ℕ) (z : ℤ) → LiteralsSoFar text literals count rest → ReadsLiteral rest z next → count < 65535
     → LiteralsSoFar text (literals ++ z ∷ []) (count + 1) next
@@ -93,14 +84,13 @@ literals_next text literals count rest next z so read few =
       is =
           so.is ∙ ap (λ t. literals_text literals ++ t) (read.is ∙ sym (append_assoc (signed_decimal z) (space ∷ []) next))
           ∙ sym (append_assoc (literals_text literals) word next) ∙ ap (λ t. t ++ next) (sym longer);
-      goes = subst (Continues IsCubeLine (CubeFollows (count + 1))) (sym longer)
-          (continues_then IsCubeLine (CubeFollows count) (CubeFollows (count + 1)) (literals_text literals) word so.goes (word_continues count (signed_decimal z) (signed_word z read.fits)));
     }
 
-pub literals_fault : (text : List ℕ) (literals : List ℤ) (count : ℕ) (rest : List ℕ) (fault : CubeFault) → LiteralsSoFar text literals count rest → IsTextFault (CubeFollows count) rest fault
-    → IsTextFault IsCubeLine text fault
+pub literals_fault : (text : List ℕ) (literals : List ℤ) (count : ℕ) (rest : List ℕ) (fault : CubeFault) → LiteralsSoFar text literals count rest
+    → ((read : List ℕ) → EndsAtSpot read (BeforeLiteral true count) → IsTextFault IsCubeLine (read ++ rest) fault) → IsTextFault IsCubeLine text fault
 literals_fault text literals count rest fault so h =
-    subst (λ t. IsTextFault IsCubeLine t fault) (sym so.is) (fault_after IsCubeLine (CubeFollows count) (literals_text literals) so.goes rest fault h)
+    let here : EndsAtSpot (literals_text literals) (BeforeLiteral true count) = tracks_as (tracks_literals import_front true 0 literals so.each nothing_read) refl (ap (BeforeLiteral true) (omega (arith, so.size))) in
+    subst (λ t. IsTextFault IsCubeLine t fault) (sym so.is) (h (literals_text literals) here)
 
 pub text_read : (text : List ℕ) (literals : List ℤ) (count : ℕ) (rest : List ℕ) → LiteralsSoFar text literals count rest → rest ≡ zero_digit ∷ line_feed ∷ [] → IsLiteralsText literals text
 text_read text literals count rest so is = record {

@@ -12,7 +12,6 @@ pub mod WholeLines
 pub mod Ahead
 pub mod Cuts
 pub mod CubeFaults
-pub mod CubeRests
 pub mod CubeReads
 pub mod CubeTexts
 pub mod CubeLaws

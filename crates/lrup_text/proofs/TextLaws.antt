@@ -156,7 +156,7 @@ all_map : {X : Type 0} (f : X → List ℕ) (P : X → Type 0) (Q : List ℕ →
 all_map f P Q each [] h = tt
 all_map f P Q each (x ∷ xs) h = (each x h.0, all_map f P Q each xs h.1)
 
-few_map : {X : Type 0} (most : ℕ) (f : X → List ℕ) (P : X → Type 0) (Q : List ℕ → Type 0) → ((x : X) → P x → Q (f x)) → (xs : List X) → AreFew most P xs → AreWords most Q (map f xs)
+pub few_map : {X : Type 0} (most : ℕ) (f : X → List ℕ) (P : X → Type 0) (Q : List ℕ → Type 0) → ((x : X) → P x → Q (f x)) → (xs : List X) → AreFew most P xs → AreWords most Q (map f xs)
 few_map most f P Q each xs h = record { count = omega (arith, length-map xs f, h.count); each = all_map f P Q each xs h.each }
 
 pub decimal_word : (n : ℕ) → IsStreamNumber n → SpellsNumber 18 (decimal n)

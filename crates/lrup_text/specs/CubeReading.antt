@@ -1,34 +1,27 @@
 -- The text of a cube as far as it was read: the words of this crate's own functions.
-use Rattle.std.specs.Prelude.{◌≡◌, ℕ, ◌+◌, ◌<◌, ◌≤◌, ℤ, List, [], ◌∷◌, ◌++◌, length}
+use Rattle.std.specs.Prelude.{◌≡◌, ℕ, ◌<◌, ℤ, List, [], ◌∷◌, ◌++◌}
 use Rattle.std.specs.Fmt.{decimal, signed_decimal}
-use Rattle.std.specs.List.{AllByRecursion}
 use Rattle.lrup_model.specs.Cube.{IsCubeOver}
 use Rattle.lrup_text.specs.declared.cube.CubeFault.{CubeFault}
 use Rattle.lrup_text.specs.declared.cube.CubeFault.TheVariants.{Spelling, TooLong, Range, Memory}
-use Rattle.lrup_text.specs.Grammar.{Limits, SpellsLiteral, clause_text, line_feed, space}
+use Rattle.lrup_text.specs.Grammar.{letter_i, space}
 use Rattle.lrup_text.specs.Lines.{IsStreamNumber, IsStreamLiteral}
-use Rattle.lrup_text.specs.Rests.{DigitsFollow, NumberFollows}
-use Rattle.lrup_text.specs.Cubes.{IsTextFault}
+use Rattle.lrup_text.specs.Rests.{Spot, Tracks}
+use Rattle.lrup_text.specs.Cubes.{IsCubeLine, IsTextFault}
 
--- the rest of a cube's text after so many literals
-pub record CubeFollows (count : ℕ) (limits : Limits) (rest : List ℕ) : Type 0 where
-  pub words : List (List ℕ)
-  pub few : count + length words ≤ limits.literals
-  pub each : AllByRecursion (SpellsLiteral limits.digits) words
-  pub is : rest ≡ clause_text words (line_feed ∷ [])
+-- What stands in front of a cube's text where it is the list of an import: the number 1 and the letter.
+abbrev pub import_front : List ℕ
+import_front = 49 ∷ space ∷ letter_i ∷ space ∷ []
 
--- the rest of it inside the next literal, after its sign; and after so many of its digits
-abbrev pub NumberFollowsIn : ℕ → Limits → List ℕ → Type 0
-NumberFollowsIn count limits rest = NumberFollows limits (CubeFollows (count + 1) limits) rest
+-- what was read of a cube's text ends at a spot of that line
+abbrev pub EndsAtSpot : List ℕ → Spot → Type 0
+EndsAtSpot read spot = Tracks (import_front ++ read) spot
 
-abbrev pub DigitsFollowIn : ℕ → ℕ → Limits → List ℕ → Type 0
-DigitsFollowIn digits count limits rest =
-    DigitsFollow limits digits (CubeFollows (count + 1) limits) rest
-
--- the fault of a rest of some kind, where there is room for one more literal
-abbrev pub IsRestFault : (ℕ → Limits → List ℕ → Type 0) → List ℕ → CubeFault → Type 0
-IsRestFault Follows rest fault =
-    (count : ℕ) → count < 65535 → IsTextFault (Follows count) rest fault
+-- the fault of a rest at spots of some kind, where there is room for one more literal
+abbrev pub IsRestFault : (ℕ → Spot) → List ℕ → CubeFault → Type 0
+IsRestFault spot_after rest fault =
+    (read : List ℕ) (count : ℕ) → count < 65535 → EndsAtSpot read (spot_after count)
+    → IsTextFault IsCubeLine (read ++ rest) fault
 
 -- a number, and the space after it, stand in front of a rest
 pub record BeginsWithNumber (text : List ℕ) (number : ℕ) (rest : List ℕ) : Type 0 where

@@ -1,5 +1,8 @@
 -- What is known of sources of one kind, and reads of one of them up to the last.
-use Rattle.std.specs.Prelude.{◌<◌, ℕ, Bool, true, false, List, [], Option, Some, None}
+use Rattle.std.specs.Prelude.{◌≡◌, ◌<◌, ℕ, Bool, true, false, List, [], Option, Some, None}
+use Rattle.std.specs.Io.KnownBytes.{IsAtEnd}
+use Rattle.lrup_text.specs.declared.device.StreamEnd.{StreamEnd}
+use Rattle.lrup_text.specs.declared.device.StreamEnd.TheVariants as stream_ends
 use Rattle.lrup_text.specs.Reads.{Gave, ReadsOf}
 
 -- what is known of each source: the bytes left, where the device tells them, and whether a read has failed; and what a read does
@@ -14,15 +17,20 @@ abbrev pub source_view : {S : Type 0} → (S → Option (List ℕ)) → (S → B
 source_view left has_failed reads =
     record { left = left; has_failed = has_failed; reads = reads }
 
+-- At the end of a stream no byte is left; and the source has failed where the stream ended at a failure, and only there.
+abbrev pub EndsSo : StreamEnd → Option (List ℕ) → Bool → Type 0
+EndsSo stream_ends.Ended left has_failed = IsAtEnd left × (has_failed ≡ false)
+EndsSo stream_ends.Failed left has_failed = has_failed ≡ true
+
 -- the read that is a source's last: one that failed, or else one that gave nothing, though its buffer had room
-abbrev pub IsLastRead : (S : Type 0) → ReadsOf S → Bool → S → S → Type 0
-IsLastRead S reads true before after = (room : ℕ) × reads before room None after
-IsLastRead S reads false before after =
+abbrev pub IsLastRead : (S : Type 0) → ReadsOf S → StreamEnd → S → S → Type 0
+IsLastRead S reads stream_ends.Failed before after = (room : ℕ) × reads before room None after
+IsLastRead S reads stream_ends.Ended before after =
     (room : ℕ) × (0 < room) × reads before room (Some []) after
 
 -- Reads of a source, from the first on, gave these bytes together, and then came one last read.
-pub record ReadOut (S : Type 0) (reads : ReadsOf S) (failed : Bool) (first : S) (bytes : List ℕ)
+pub record ReadOut (S : Type 0) (reads : ReadsOf S) (end : StreamEnd) (first : S) (bytes : List ℕ)
     (after : S) : Type 0 where
   pub last : S
   pub given : Gave S reads first bytes last
-  pub end : IsLastRead S reads failed last after
+  pub ends : IsLastRead S reads end last after

@@ -1,10 +1,11 @@
 //! Reads the text of a cube.
-ghost use Rattle.std.specs.Prelude.{◌≡◌, ◌≢◌, ◌↔◌, ◌≤◌, [], ◌∷◌, ◌++◌, ℕ, ℤ, List, IfOk, IfErr, IfSome, IsSome, IsTrue, MatchResult};
+ghost use Rattle.std.specs.Prelude.{◌≡◌, ◌≢◌, ◌↔◌, ◌≤◌, [], ◌∷◌, ◌++◌, ℕ, ℤ, true, List, IfOk, IfErr, IfSome, IsSome, IsTrue, MatchResult};
 ghost use Rattle.lrup_model.specs.Cube.{IsCubeOver};
 ghost use Rattle.lrup_model.specs.Literal.{IsLiteral, max_variable};
-ghost use Rattle.lrup_text.specs.CubeReading.{CubeFollows, NumberFollowsIn, DigitsFollowIn, IsRestFault, BeginsWithNumber, ReadsLiteral, AreKept, AreNotKept};
-ghost use Rattle.lrup_text.specs.Cubes.{IsLiteralsText, IsCubeText, IsTextFault, IsCubeFault};
+ghost use Rattle.lrup_text.specs.CubeReading.{EndsAtSpot, IsRestFault, BeginsWithNumber, ReadsLiteral, AreKept, AreNotKept};
+ghost use Rattle.lrup_text.specs.Cubes.{IsLiteralsText, IsCubeText, IsCubeLine, IsTextFault, IsCubeFault};
 ghost use Rattle.lrup_text.specs.Grammar.{IsDigit, line_feed, zero_digit};
+ghost use Rattle.lrup_text.specs.Rests.{BeforeLiteral, AfterMinus, InLiteral};
 ghost use Rattle.lrup_text.specs.declared.cube.CubeFault.TheVariants.{Memory};
 
 use crate::machine::{MOST_DIGITS, MOST_LITERALS, literal_of};
@@ -87,7 +88,8 @@ fn is_end(rest: &[u8]) -> bool
 /// The fault of a byte that stands after the most literals in place of the `0`.
 fn after_most(byte: u8) -> CubeFault
     requires { byte ≢ zero_digit }
-    ensures { (after : List ℕ) → IsTextFault (CubeFollows 65535) (byte ∷ after) result }
+    ensures { (read after : List ℕ) → EndsAtSpot read (BeforeLiteral true 65535)
+        → IsTextFault IsCubeLine (read ++ byte ∷ after) result }
 {
     if byte == b'-' || begins_number(byte) {
         CubeFault::TooLong
@@ -114,7 +116,7 @@ fn is_digit(byte: u8) -> bool
 fn read_literal(first: u8, after: &[u8]) -> Result<(i64, &[u8]), CubeFault>
     requires { first ≢ zero_digit }
     ensures literal { IfOk result (λ read. ReadsLiteral (first ∷ after.now) read.0 read.1.now) }
-    ensures fault { IfErr result (IsRestFault CubeFollows (first ∷ after.now)) }
+    ensures fault { IfErr result (IsRestFault (BeforeLiteral true) (first ∷ after.now)) }
 {
     if first == b'-' {
         let (number, rest) = read_number(after)?;
@@ -130,7 +132,7 @@ fn read_literal(first: u8, after: &[u8]) -> Result<(i64, &[u8]), CubeFault>
 /// Reads a number and the space after it, and says what is left.
 fn read_number(text: &[u8]) -> Result<(u64, &[u8]), CubeFault>
     ensures number { IfOk result (λ read. BeginsWithNumber text.now read.0 read.1.now) }
-    ensures fault { IfErr result (IsRestFault NumberFollowsIn text.now) }
+    ensures fault { IfErr result (IsRestFault (AfterMinus true) text.now) }
 {
     let Some((&first, after)) = text.split_first() else {
         return Err(CubeFault::Spelling);
@@ -146,7 +148,7 @@ fn read_digits(first: u8, after: &[u8]) -> Result<(u64, &[u8]), CubeFault>
     requires low { 49 ≤ first }
     requires high { first ≤ 57 }
     ensures number { IfOk result (λ read. BeginsWithNumber (first ∷ after.now) read.0 read.1.now) }
-    ensures fault { IfErr result (IsRestFault (DigitsFollowIn 1) after.now) }
+    ensures fault { IfErr result (IsRestFault (InLiteral true 1) after.now) }
 {
     let mut number = u64::from(first - b'0');
     let mut digits = 1;

@@ -11,6 +11,15 @@ use thiserror::Error;
 #[error("read failed")]
 pub struct ReadFault;
 
+/// How a stream ended.
+#[derive(Clone, Copy, Debug, PartialEq, Eq)]
+pub enum StreamEnd {
+    /// After its last byte.
+    Ended,
+    /// At a read that failed.
+    Failed,
+}
+
 /// A write failed.
 #[derive(Clone, Copy, Debug, PartialEq, Eq, Error)]
 #[error("write failed")]

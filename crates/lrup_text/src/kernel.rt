@@ -33,7 +33,8 @@ pub struct Whole {
     pub identity_count: usize,
 }
 
-/// Reads a slice that is a line's text, its lists to the front of buffers. `None` says nothing of the slice.
+/// Reads a slice that is a line's text, its lists to the front of buffers. `None` leaves it open whether it is one:
+/// then the caller reads it byte by byte.
 #[inline(never)]
 pub fn read_line(line: &[u8], literals: &mut [i64], identities: &mut [u64]) -> Option<Whole>
     requires ends { EndsLine line.now }

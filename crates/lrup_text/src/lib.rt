@@ -13,7 +13,7 @@ mod reader;
 mod writer;
 
 pub use cube::{CubeFault, read_cube};
-pub use device::{ReadFault, Reading, Sink, Source, WriteFault, Writing};
+pub use device::{ReadFault, Reading, Sink, Source, StreamEnd, WriteFault, Writing};
 use machine::{MOST_IDENTITIES, MOST_LITERALS, MOST_NUMBER};
 pub use reader::{End, Fed, LineReader, ReaderTurn};
 use thiserror::Error;
@@ -80,7 +80,7 @@ fn are_few_identities(ids: &[u64]) -> bool
 /// Why a text is no line.
 #[derive(Clone, Copy, Debug, PartialEq, Eq, Error)]
 pub enum LineFault {
-    /// No other fault holds.
+    /// It is none of the other three: no line begins so, whatever the limits.
     #[error("spelling")]
     Spelling,
     /// Without the limits on digits, literals, hints and identities it would begin a line.

@@ -3,7 +3,7 @@ ghost use Rattle.std.specs.Prelude.{◌≡◌, ◌≤◌, [], Ok, IfOk, length};
 ghost use Rattle.lrup_text.specs.Feeding.{Feeds, ReaderEnds};
 ghost use Rattle.lrup_text.specs.Lines.{IsPending};
 
-use crate::machine::{PartialLine, ByteStep};
+use crate::machine::{ByteStep, PartialLine};
 use crate::{Line, LineFault};
 use std::alloc::{AllocError, Global};
 use std::marker::Model;

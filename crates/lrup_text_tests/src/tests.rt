@@ -3,7 +3,7 @@ ghost use Rattle.std.specs.Prelude.{◌≡◌, Some, IfOk, IsTrue};
 
 use lrup_model::Lit;
 use lrup_text::{
-    CubeFault, End, Line, LineFault, LineReader, ReadFault, Reading, Sink, Source, ReaderTurn,
+    CubeFault, End, Line, LineFault, LineReader, ReadFault, ReaderTurn, Reading, Sink, Source,
     WriteBuffer, WriteFault, Writing, read_cube, write_all, write_line,
 };
 use std::alloc::{AllocError, Global};

@@ -7,6 +7,7 @@ use Rattle.lrup_model.specs.Event as events
 use Rattle.lrup_model.specs.Event.{Event, History, Reply}
 use Rattle.lrup_model.specs.Distinct.{distinct}
 use Rattle.lrup_text.specs.Lines.{StreamLine, Addition, Deletion, Import}
+use Rattle.lrup_text.specs.declared.device.StreamEnd.{StreamEnd}
 use Rattle.stream_check.specs.declared.fault.Fault.{Fault}
 use Rattle.stream_check.specs.declared.fault.Fault.TheVariants as faults
 use Rattle.stream_check.specs.declared.report.Ending.{Ending}
@@ -18,7 +19,7 @@ use Rattle.stream_check.specs.Asking.{AsksAt, AsksThen}
 use Rattle.stream_check.specs.Additions.{AtReply, JudgesHints, published_by, JudgesAddition}
 use Rattle.stream_check.specs.Deletions.{RetiresThen, DropsThen, DeletesAt, JudgesIdentities}
 use Rattle.stream_check.specs.Imports.{AtImported, JudgesImport}
-use Rattle.stream_check.specs.Judging.{JudgesLine, AreGood, report_of, EndsAfter, StreamEnd}
+use Rattle.stream_check.specs.Judging.{JudgesLine, AreGood, report_of, EndsAfter}
 use Rattle.stream_check.specs.ReportLemmas.{all_only_empty}
 use Rattle.outcome_laws.specs.Outcomes.{bare_setting, bare_report}
 use Rattle.outcome_laws.specs.Laws.{NoCubeJudgesAlike}

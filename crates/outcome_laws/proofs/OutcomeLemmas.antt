@@ -11,10 +11,10 @@ use Rattle.dimacs.specs.FormulaText.{IsFormulaText}
 use Rattle.stream_check.specs.declared.report.Ending.{Ending}
 use Rattle.stream_check.specs.declared.report.Report.{Report}
 use Rattle.runs.specs.Closed.{IsOfStream}
-use Rattle.runs.specs.Streams.{Telling, Terms, StandsOnStreams, tellings}
+use Rattle.runs.specs.Streams.{Telling, TermsValue, StandsOnStreams, tellings}
 use Rattle.runs.specs.StreamLemmas.{told_as_many, told_count, telling_at}
-use Rattle.groups.specs.Groups.{IsRun}
-use Rattle.groups.specs.Laws.{SerialRun}
+use Rattle.run_laws.specs.Groups.{IsRun}
+use Rattle.run_laws.specs.GroupLaws.{SerialRun}
 use Rattle.portfolio.specs.Outcomes.{OptionsValue, layout_of}
 use Rattle.portfolio.specs.ReportText.{ending_text, stream_line}
 use Rattle.command.specs.Commands.{AreReported, FilesView, IsFormulaAt, IsOutcome, Text, layout_at, options_of, terms_given}
@@ -26,7 +26,7 @@ use Rattle.outcome_laws.specs.Laws.{SameBytesSayTheSame, OutcomesAgree}
 abbrev OneFormula : Type 0
 OneFormula = (bytes : List ℕ) (one other : Cnf) → IsFormulaText bytes one → IsFormulaText bytes other → one ≡ other
 
-is_run : SerialRun → (serial : Bool) (f : Cnf) (terms : Terms) (told : List Telling) (reports : List Report)
+is_run : SerialRun → (serial : Bool) (f : Cnf) (terms : TermsValue) (told : List Telling) (reports : List Report)
     → length told ≡ terms.layout.streams → StandsOnStreams told (AreReported serial f terms reports) → IsRun f terms told reports
 is_run law true f terms told reports count stands = law f terms told reports count stands
 is_run law false f terms told reports count stands = record {

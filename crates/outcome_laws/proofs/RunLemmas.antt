@@ -5,23 +5,22 @@ use Rattle.std.proofs.lemmas.Option.{slice_get-map}
 use Rattle.lrup_model.specs.Event.{History}
 use Rattle.lrup_model.specs.Formula.{Cnf}
 use Rattle.stream_check.specs.declared.report.Report.{Report}
-use Rattle.stream_check.specs.Judging.{ended, failed}
+use Rattle.lrup_text.specs.declared.device.StreamEnd.TheVariants as stream_ends
 use Rattle.stream_check.specs.Setting.{Setting}
 use Rattle.runs.specs.Closed.{IsOfStream}
 use Rattle.runs.specs.Headline.{AreJudgedIn}
-use Rattle.runs.specs.Streams.{Stop, at_end, at_failure, early, Stream, Telling, JudgesTo, Terms, setting_of}
-use Rattle.groups.specs.Groups.{IsRun}
-use Rattle.groups.specs.Laws.{SameBytesAgree}
+use Rattle.runs.specs.Streams.{Stop, read_out, early, Stream, Telling, JudgesTo, TermsValue, setting_of}
+use Rattle.run_laws.specs.Groups.{IsRun}
+use Rattle.run_laws.specs.GroupLaws.{SameBytesAgree}
 use Rattle.outcome_laws.specs.Outcomes.{bare_setting, bare_terms, bare_report}
 use Rattle.outcome_laws.specs.Laws.{NoCubeJudgesAlike, SameBytesSayTheSame}
 
 judges_bare : NoCubeJudgesAlike → (stop : Stop) (c : Setting) (bytes : List ℕ) (blocks : List History) (report : Report)
     → JudgesTo stop c bytes blocks report → JudgesTo stop (bare_setting c) bytes blocks (bare_report report)
-judges_bare law at_end c bytes blocks report j = law c bytes ended blocks report j
-judges_bare law at_failure c bytes blocks report j = law c bytes failed blocks report j
-judges_bare law (early unneeded) c bytes blocks report j = (j.0, law c bytes ended blocks report j.1, law c bytes failed blocks report j.2)
+judges_bare law (read_out end) c bytes blocks report j = law c bytes end blocks report j
+judges_bare law (early unneeded) c bytes blocks report j = (j.0, law c bytes stream_ends.Ended blocks report j.1, law c bytes stream_ends.Failed blocks report j.2)
 
-judged_bare : NoCubeJudgesAlike → (terms : Terms) (set : ℕ → Bool) (h : History) (s : ℕ) (streams : List Stream) (reports : List Report)
+judged_bare : NoCubeJudgesAlike → (terms : TermsValue) (set : ℕ → Bool) (h : History) (s : ℕ) (streams : List Stream) (reports : List Report)
     → AreJudgedIn terms set h s streams reports → AreJudgedIn (bare_terms terms) set h s streams (map bare_report reports)
 judged_bare law terms set h s [] [] judged = tt
 judged_bare law terms set h s [] (r ∷ rs) judged = absurd judged
@@ -31,7 +30,7 @@ judged_bare law terms set h s (t ∷ ts) (r ∷ rs) judged = (
   judged_bare law terms set h (s + 1) ts rs judged.1,
 )
 
-run_bare : NoCubeJudgesAlike → (f : Cnf) (terms : Terms) (told : List Telling) (reports : List Report)
+run_bare : NoCubeJudgesAlike → (f : Cnf) (terms : TermsValue) (told : List Telling) (reports : List Report)
     → IsRun f terms told reports → IsRun f (bare_terms terms) told (map bare_report reports)
 run_bare law f terms told reports a = record {
   streams = a.streams;
@@ -45,7 +44,7 @@ run_bare law f terms told reports a = record {
 at_bare : (reports : List Report) (s : ℕ) (report : Report) → IsOfStream reports s report → IsOfStream (map bare_report reports) s (bare_report report)
 at_bare reports s report at = (at.0, slice_get-map bare_report reports (s - 1) ∙ ap (option_map bare_report) at.1)
 
-same_terms : (terms other : Terms) → other.layout ≡ terms.layout → other.tries ≡ terms.tries → bare_terms other ≡ bare_terms terms
+same_terms : (terms other : TermsValue) → other.layout ≡ terms.layout → other.tries ≡ terms.tries → bare_terms other ≡ bare_terms terms
 same_terms terms other layout tries =
     ap (λ p. record { layout = p; cube = []; tries = other.tries }) layout
     ∙ ap (λ (n : ℕ). record { layout = terms.layout; cube = []; tries = n }) tries
@@ -54,7 +53,7 @@ pub same_bytes_say_the_same : NoCubeJudgesAlike → SameBytesAgree → SameBytes
 same_bytes_say_the_same law agree f terms other_terms s whole told other_told telling other_telling reports other_reports report other
     fits layout tries cites a b here entry there known says too memory failure none never =
     let mine = run_bare law f terms told reports a in
-    let theirs = subst (λ (t : Terms). IsRun f t other_told (map bare_report other_reports))
+    let theirs = subst (λ (t : TermsValue). IsRun f t other_told (map bare_report other_reports))
     (same_terms terms other_terms layout tries) (run_bare law f other_terms other_told other_reports b) in
     let same : bare_report report ≡ bare_report other =
     agree f (bare_terms terms) s whole told other_told telling other_telling (map bare_report reports) (map bare_report other_reports)

@@ -3,13 +3,14 @@ use Rattle.std.specs.Prelude.{◌≡◌, ◌⊎◌, ℕ, List, length, Some}
 use Rattle.lrup_model.specs.Event.{History}
 use Rattle.lrup_model.specs.Formula.{Cnf}
 use Rattle.lrup_model.specs.Layout.{Fits}
+use Rattle.lrup_text.specs.declared.device.StreamEnd.{StreamEnd}
 use Rattle.stream_check.specs.declared.report.Report.{Report}
-use Rattle.stream_check.specs.Judging.{StreamEnd, JudgesBlocks}
+use Rattle.stream_check.specs.Judging.{JudgesBlocks}
 use Rattle.stream_check.specs.Laws.{IsOfMemory, IsOfFailure}
 use Rattle.stream_check.specs.Setting.{Setting}
 use Rattle.runs.specs.Closed.{IsOfStream, CiteWithin}
-use Rattle.runs.specs.Streams.{Telling, Terms}
-use Rattle.groups.specs.Groups.{one, IsRun}
+use Rattle.runs.specs.Streams.{Telling, TermsValue}
+use Rattle.run_laws.specs.Groups.{one, IsRun}
 use Rattle.portfolio.specs.ReportText.{stream_line}
 use Rattle.portfolio.specs.declared.outcome.Verdict.{Verdict}
 use Rattle.command_line.specs.CommandLine.{IsCommandLineOf}
@@ -31,7 +32,7 @@ NoCubeJudgesAlike = (c : Setting) (bytes : List ℕ) (end : StreamEnd) (blocks :
 -- clauses within a cube, where both readers have the same bytes left at first, unless memory ran out or a read failed: whatever the
 -- cubes and the other streams are, and whichever runs have threads.
 abbrev pub SameBytesSayTheSame : Type 0
-SameBytesSayTheSame = (f : Cnf) (terms other_terms : Terms) (s : ℕ) (whole : List ℕ)
+SameBytesSayTheSame = (f : Cnf) (terms other_terms : TermsValue) (s : ℕ) (whole : List ℕ)
     (told other_told : List Telling) (telling other_telling : Telling)
     (reports other_reports : List Report) (report other_report : Report)
     → Fits terms.layout f → other_terms.layout ≡ terms.layout → other_terms.tries ≡ terms.tries

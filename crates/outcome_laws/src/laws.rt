@@ -4,7 +4,7 @@ ghost use Rattle.outcome_laws.specs.Laws.{NoCubeJudgesAlike, SameBytesSayTheSame
 
 use command::Files;
 use dimacs::laws::one_formula;
-use groups::laws::{same_bytes_agree, serial_run};
+use run_laws::groups::{same_bytes_agree, serial_run};
 
 /// What a stream is judged by under a cube, it is judged by without one, and its report says the same, but of clauses within the
 /// cube.

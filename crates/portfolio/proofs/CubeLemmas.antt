@@ -15,6 +15,8 @@ use Rattle.lrup_model.specs.State.{State, opening, after}
 use Rattle.lrup_model.specs.History.{LegalFrom, IsLegal, IsPublishable}
 use Rattle.lrup_model.specs.declared.clause_map.Published.TheVariants as publishing
 use Rattle.lrup_text.specs.Lines.{StreamLine, Addition, Deletion, Import}
+use Rattle.lrup_text.specs.declared.device.StreamEnd.{StreamEnd}
+use Rattle.lrup_text.specs.declared.device.StreamEnd.TheVariants as stream_ends
 use Rattle.stream_check.specs.declared.fault.Fault.TheVariants as faults
 use Rattle.stream_check.specs.declared.report.Report.{Report}
 use Rattle.stream_check.specs.Setting.{Setting}
@@ -22,11 +24,11 @@ use Rattle.stream_check.specs.Standing.{Standing, adds_within, is_within}
 use Rattle.stream_check.specs.CubeLemmas.{is_within-decides}
 use Rattle.stream_check.specs.Verdicts.{Good}
 use Rattle.stream_check.specs.Additions.{published_by}
-use Rattle.stream_check.specs.Judging.{JudgesLine, AreGood, joined, StreamEnd, ended, failed, JudgesBlocks}
+use Rattle.stream_check.specs.Judging.{JudgesLine, AreGood, joined, JudgesBlocks}
 use Rattle.stream_check.specs.ReportLemmas.{said_within}
-use Rattle.runs.specs.Streams.{Stop, at_end, at_failure, early, Stream, JudgesTo, JudgesStream, Block, blocks_of, events_in, AreJudged, IsOrdered, Terms, setting_of}
+use Rattle.runs.specs.Streams.{Stop, read_out, early, Stream, JudgesTo, JudgesStream, Block, blocks_of, events_in, AreJudged, IsOrdered, TermsValue, setting_of}
 use Rattle.runs.specs.Headline.{AreJudgedIn}
-use Rattle.orders.specs.Lines.{publishes_within}
+use Rattle.run_laws.specs.Lines.{publishes_within}
 use Rattle.portfolio.specs.declared.outcome.Verdict.{Verdict}
 use Rattle.portfolio.specs.declared.outcome.Verdict.TheVariants.{Unsatisfiable, UnsatisfiableUnder, Unknown}
 use Rattle.portfolio.specs.Outcomes.{verdict_of}
@@ -70,9 +72,8 @@ within_is_published c bytes end blocks report judged is =
 
 stream_publishes : (c : Setting) (stop : Stop) (bytes : List ℕ) (blocks : List History) (report : Report)
     → JudgesTo stop c bytes blocks report → IsTrue report.within → IsTrue (list_any (publishes_within c.cube) (joined blocks))
-stream_publishes c at_end bytes blocks report judged is = within_is_published c bytes ended blocks report judged is
-stream_publishes c at_failure bytes blocks report judged is = within_is_published c bytes failed blocks report judged is
-stream_publishes c (early unneeded) bytes blocks report judged is = within_is_published c bytes ended blocks report judged.1 is
+stream_publishes c (read_out end) bytes blocks report judged is = within_is_published c bytes end blocks report judged is
+stream_publishes c (early unneeded) bytes blocks report judged is = within_is_published c bytes stream_ends.Ended blocks report judged.1 is
 
 -- ---- the formula under the cube
 
@@ -111,7 +112,7 @@ sound_in_order f p order s c stream report legal judged is =
 -- ---- a run
 
 -- with two threads for each stream
-sound_by : (f : Cnf) (terms : Terms) (h : History) → IsLegal f terms.layout h → (s : ℕ) (streams : List Stream) (reports : List Report)
+sound_by : (f : Cnf) (terms : TermsValue) (h : History) → IsLegal f terms.layout h → (s : ℕ) (streams : List Stream) (reports : List Report)
     → AreJudgedIn terms (λ t. true) h s streams reports → list_any (λ report. report.within) reports ≡ true → IsUnsatisfiableUnder f terms.cube
 sound_by f terms h legal s [] [] judged is = absurd (let no : false ≡ true = is in cc)
 sound_by f terms h legal s [] (r ∷ rs) judged is = absurd judged
@@ -124,7 +125,7 @@ sound_by f terms h legal s (t ∷ ts) (r ∷ rs) judged is =
     ]
 
 -- by turns
-sound_among : (f : Cnf) (terms : Terms) (blocks : List Block) (k : ℕ) (streams : List Stream) (reports : List Report) → IsLegal f terms.layout (events_in blocks)
+sound_among : (f : Cnf) (terms : TermsValue) (blocks : List Block) (k : ℕ) (streams : List Stream) (reports : List Report) → IsLegal f terms.layout (events_in blocks)
     → AreJudged terms (λ s. true) blocks k streams reports → list_any (λ report. report.within) reports ≡ true → IsUnsatisfiableUnder f terms.cube
 sound_among f terms blocks k [] [] legal judged some = absurd (let none : false ≡ true = some in cc)
 sound_among f terms blocks k [] (r ∷ reports) legal judged some = absurd judged
@@ -148,13 +149,13 @@ is_within_some reports verdict of is =
     some_within (list_any (λ (report : Report). report.empty) reports) (list_any (λ (report : Report). report.within) reports) (sym of ∙ is)
 
 -- so it is true, with two threads for each stream
-pub sound_under_run : (f : Cnf) (terms : Terms) (h : History) (streams : List Stream) (reports : List Report) (verdict : Verdict)
+pub sound_under_run : (f : Cnf) (terms : TermsValue) (h : History) (streams : List Stream) (reports : List Report) (verdict : Verdict)
     → IsLegal f terms.layout h → AreJudgedIn terms (λ t. true) h 1 streams reports → verdict ≡ verdict_of reports → verdict ≡ UnsatisfiableUnder
     → IsUnsatisfiableUnder f terms.cube
 sound_under_run f terms h streams reports verdict legal judged of is = sound_by f terms h legal 1 streams reports judged (is_within_some reports verdict of is)
 
 -- and by turns
-pub sound_under_order : (f : Cnf) (terms : Terms) (streams : List Stream) (reports : List Report) (verdict : Verdict)
+pub sound_under_order : (f : Cnf) (terms : TermsValue) (streams : List Stream) (reports : List Report) (verdict : Verdict)
     → IsOrdered f terms (λ s. true) streams reports → verdict ≡ verdict_of reports → verdict ≡ UnsatisfiableUnder → IsUnsatisfiableUnder f terms.cube
 sound_under_order f terms streams reports verdict ordered of is =
     sound_among f terms ordered.blocks 1 streams reports ordered.legal ordered.judged (is_within_some reports verdict of is)

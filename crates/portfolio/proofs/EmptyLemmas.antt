@@ -16,6 +16,8 @@ use Rattle.lrup_model.specs.State.{State, opening, after}
 use Rattle.lrup_model.specs.History.{LegalFrom, IsLegal}
 use Rattle.lrup_model.specs.declared.clause_map.Published.TheVariants as publishing
 use Rattle.lrup_text.specs.Lines.{StreamLine, Addition, Deletion, Import}
+use Rattle.lrup_text.specs.declared.device.StreamEnd.{StreamEnd}
+use Rattle.lrup_text.specs.declared.device.StreamEnd.TheVariants as stream_ends
 use Rattle.stream_check.specs.declared.fault.Fault.{Fault}
 use Rattle.stream_check.specs.declared.fault.Fault.TheVariants as faults
 use Rattle.stream_check.specs.declared.report.Report.{Report}
@@ -23,9 +25,9 @@ use Rattle.stream_check.specs.Setting.{Setting}
 use Rattle.stream_check.specs.Standing.{Standing, adds_empty}
 use Rattle.stream_check.specs.Verdicts.{Good, Bad, Fails}
 use Rattle.stream_check.specs.Additions.{AtConflict, AtReply, JudgesHints, published_by}
-use Rattle.stream_check.specs.Judging.{JudgesLine, AreGood, joined, StreamEnd, ended, failed, JudgesBlocks}
+use Rattle.stream_check.specs.Judging.{JudgesLine, AreGood, joined, JudgesBlocks}
 use Rattle.stream_check.specs.ReportLemmas.{said_empty}
-use Rattle.runs.specs.Streams.{Stop, at_end, at_failure, early, Stream, JudgesTo, JudgesStream, Block, blocks_of, events_in}
+use Rattle.runs.specs.Streams.{Stop, read_out, early, Stream, JudgesTo, JudgesStream, Block, blocks_of, events_in}
 
 -- ---- some element of a list
 
@@ -120,9 +122,8 @@ empty_is_published c bytes end blocks report judged is =
 
 pub stream_publishes : (c : Setting) (stop : Stop) (bytes : List ℕ) (blocks : List History) (report : Report)
     → JudgesTo stop c bytes blocks report → IsTrue report.empty → IsTrue (list_any publishes_empty (joined blocks))
-stream_publishes c at_end bytes blocks report judged is = empty_is_published c bytes ended blocks report judged is
-stream_publishes c at_failure bytes blocks report judged is = empty_is_published c bytes failed blocks report judged is
-stream_publishes c (early unneeded) bytes blocks report judged is = empty_is_published c bytes ended blocks report judged.1 is
+stream_publishes c (read_out end) bytes blocks report judged is = empty_is_published c bytes end blocks report judged is
+stream_publishes c (early unneeded) bytes blocks report judged is = empty_is_published c bytes stream_ends.Ended blocks report judged.1 is
 
 -- ---- the formula
 

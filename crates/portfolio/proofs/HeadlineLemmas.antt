@@ -31,7 +31,7 @@ use Rattle.runs.specs.Headline.{HaveCalls, HaveOneHistory, IsJudgedBy, AreJudged
 use Rattle.stream_threads.specs.Jobs.{JobsValue, FoundValue, CanBegin, Finishes, AllFinish, AreJobs}
 use Rattle.lrup_text.specs.ReadOut.{SourceView}
 use Rattle.runs.specs.Readings.{AreRead, IsStreamOf}
-use Rattle.runs.specs.Streams.{Stream, IsReadOut, tellings, AreTold, JudgesStream, StandsOnStreams, Terms, setting_of}
+use Rattle.runs.specs.Streams.{Stream, IsReadOut, tellings, AreTold, JudgesStream, StandsOnStreams, TermsValue, setting_of}
 use Rattle.portfolio.proofs.EmptyLemmas.{sound}
 
 -- ---- the layout
@@ -102,14 +102,14 @@ opened_room f p store s q same opened =
 
 -- Each report is the judgement of what the stream's reader told and of the calls of the stream's pass, for the streams counted
 -- on from s.
-abbrev pub AreJudgedBy : Terms → ℕ → List Stream → List View → List Report → Type 0
+abbrev pub AreJudgedBy : TermsValue → ℕ → List Stream → List View → List Report → Type 0
 AreJudgedBy terms s [] [] [] = Unit {0}
 AreJudgedBy terms s (stream ∷ streams) (v ∷ vs) (report ∷ reports) =
     IsJudgedBy (setting_of terms s) stream v.mine report × AreJudgedBy terms (s + 1) streams vs reports
 AreJudgedBy terms s _ _ _ = ⊥
 
 -- these calls are the events of the one history
-judged_in : (f : Cnf) (terms : Terms) (h : History) (s : ℕ) (streams : List Stream) (vs : List View) (reports : List Report)
+judged_in : (f : Cnf) (terms : TermsValue) (h : History) (s : ℕ) (streams : List Stream) (vs : List View) (reports : List Report)
     → AreJudgedBy terms s streams vs reports → HaveCalls f terms.layout h s vs → AreJudgedIn terms (λ t. true) h s streams reports
 judged_in f terms h s [] [] [] judged calls = tt
 judged_in f terms h s [] [] (r ∷ rs) judged calls = absurd judged
@@ -125,17 +125,17 @@ judged_in f terms h s (t ∷ ts) (v ∷ vs) (r ∷ rs) judged calls = (
 
 module _ {S : Type 0} (view : SourceView S) where
   -- the jobs of a stream before its first byte, at the pass that the store opened
-  pub record IsReady (store : StoreValue) (f : Cnf) (terms : Terms) (s : ℕ) (first : S) (jobs : JobsValue S) : Type 0 where
+  pub record IsReady (store : StoreValue) (f : Cnf) (terms : TermsValue) (s : ℕ) (first : S) (jobs : JobsValue S) : Type 0 where
     pub reader_is : jobs.reader ≡ first
     pub checker : IsNew terms.layout terms.cube s terms.tries jobs.checker
     pub opened : IsOpened store f s jobs.pass
 
-  abbrev pub AreReady : StoreValue → Cnf → Terms → ℕ → List S → List (JobsValue S) → Type 0
+  abbrev pub AreReady : StoreValue → Cnf → TermsValue → ℕ → List S → List (JobsValue S) → Type 0
   AreReady store f terms s [] [] = Unit {0}
   AreReady store f terms s (e ∷ es) (j ∷ js) = IsReady store f terms s e j × AreReady store f terms (s + 1) es js
   AreReady store f terms s _ _ = ⊥
 
-  pub are_ready : (store : StoreValue) (f : Cnf) (terms : Terms) (s : ℕ) (firsts : List S) (ps : List PassValue) (js : List (JobsValue S))
+  pub are_ready : (store : StoreValue) (f : Cnf) (terms : TermsValue) (s : ℕ) (firsts : List S) (ps : List PassValue) (js : List (JobsValue S))
       → AreJobs terms s firsts ps js → AreOpened store f s ps → AreReady store f terms s firsts js
   are_ready store f terms s [] [] [] all opened = tt
   are_ready store f terms s [] [] (j ∷ js) all opened = absurd all
@@ -148,7 +148,7 @@ module _ {S : Type 0} (view : SourceView S) where
   )
 
   -- the first byte may be taken where nothing was called yet
-  ready_can : (f : Cnf) (terms : Terms) (store : StoreValue) (s : ℕ) (first : S) (j : JobsValue S)
+  ready_can : (f : Cnf) (terms : TermsValue) (store : StoreValue) (s : ℕ) (first : S) (j : JobsValue S)
       → Fits terms.layout f → store.layout ≡ terms.layout → IsReady store f terms s first j → CanBegin store j
   ready_can f terms store s first j fits same ready =
       let opened = ready.opened in
@@ -169,7 +169,7 @@ module _ {S : Type 0} (view : SourceView S) where
         };
       }
 
-  pub all_can_begin : (f : Cnf) (terms : Terms) (store : StoreValue) → Fits terms.layout f → store.layout ≡ terms.layout
+  pub all_can_begin : (f : Cnf) (terms : TermsValue) (store : StoreValue) → Fits terms.layout f → store.layout ≡ terms.layout
       → (s : ℕ) (firsts : List S) (js : List (JobsValue S)) → AreReady store f terms s firsts js → AllByRecursion (CanBegin store) js
   all_can_begin f terms store fits same s [] [] ready = tt
   all_can_begin f terms store fits same s [] (j ∷ js) ready = absurd ready
@@ -177,7 +177,7 @@ module _ {S : Type 0} (view : SourceView S) where
   all_can_begin f terms store fits same s (e ∷ es) (j ∷ js) ready =
       (ready_can f terms store s e j fits same ready.0, all_can_begin f terms store fits same (s + 1) es js ready.1)
 
-  pub ready_count : (store : StoreValue) (f : Cnf) (terms : Terms) (s : ℕ) (firsts : List S) (js : List (JobsValue S))
+  pub ready_count : (store : StoreValue) (f : Cnf) (terms : TermsValue) (s : ℕ) (firsts : List S) (js : List (JobsValue S))
       → AreReady store f terms s firsts js → length js ≡ length firsts
   ready_count store f terms s [] [] ready = refl
   ready_count store f terms s [] (j ∷ js) ready = absurd ready
@@ -186,7 +186,7 @@ module _ {S : Type 0} (view : SourceView S) where
 
   -- ---- what was found, and the passes when all have met
 
-  pub finish_of : (store : StoreValue) (f : Cnf) (terms : Terms) (s : ℕ) (firsts : List S) (js : List (JobsValue S)) (fs : List (FoundValue S))
+  pub finish_of : (store : StoreValue) (f : Cnf) (terms : TermsValue) (s : ℕ) (firsts : List S) (js : List (JobsValue S)) (fs : List (FoundValue S))
       → AreReady store f terms s firsts js → AllFinish view js fs → AreOf store (map (λ x. x.pass) fs)
   finish_of store f terms s [] [] [] ready all = tt
   finish_of store f terms s [] [] (x ∷ fs) ready all = absurd all
@@ -215,7 +215,7 @@ module _ {S : Type 0} (view : SourceView S) where
     fair = fair;
   }
 
-  have_calls : (f : Cnf) (terms : Terms) (store : StoreValue) (h : History) → store.layout ≡ terms.layout
+  have_calls : (f : Cnf) (terms : TermsValue) (store : StoreValue) (h : History) → store.layout ≡ terms.layout
       → (s : ℕ) (firsts : List S) (js : List (JobsValue S)) (fs : List (FoundValue S)) (vs : List View)
       → AreReady store f terms s firsts js → AllFinish view js fs → AreMet (views (map (λ x. x.pass) fs)) vs → AllSaw h vs → HaveCalls f terms.layout h s vs
   have_calls f terms store h same s [] [] [] [] ready all met saw = tt
@@ -229,7 +229,7 @@ module _ {S : Type 0} (view : SourceView S) where
       let end = ends f terms.layout store s j x v same ready.0.opened all.0 met.0 met.1 in
       (end.caller, saw.0, ends_own f terms.layout s (joined all.0.blocks) h v end saw.0, have_calls f terms store h same (s + 1) es js fs vs ready.1 all.1 met.2 saw.1)
 
-  have_legal : (f : Cnf) (terms : Terms) (store : StoreValue) (h : History) → store.layout ≡ terms.layout
+  have_legal : (f : Cnf) (terms : TermsValue) (store : StoreValue) (h : History) → store.layout ≡ terms.layout
       → (s : ℕ) (firsts : List S) (js : List (JobsValue S)) (fs : List (FoundValue S)) (vs : List View)
       → AreReady store f terms s firsts js → AllFinish view js fs → AreMet (views (map (λ x. x.pass) fs)) vs → AllSaw h vs → 0 < length js → IsLegal f terms.layout h
   have_legal f terms store h same s firsts [] fs vs ready all met saw some = absurd (omega arith)
@@ -240,7 +240,7 @@ module _ {S : Type 0} (view : SourceView S) where
       ends_legal f terms.layout s (joined all.0.blocks) h v (ends f terms.layout store s j x v same ready.0.opened all.0 met.0 met.1) saw.0
 
   -- all passes of a run have one history
-  pub one_history : (f : Cnf) (terms : Terms) (store : StoreValue) (firsts : List S) (js : List (JobsValue S)) (fs : List (FoundValue S)) (vs : List View)
+  pub one_history : (f : Cnf) (terms : TermsValue) (store : StoreValue) (firsts : List S) (js : List (JobsValue S)) (fs : List (FoundValue S)) (vs : List View)
       → IsLayout terms.layout → store.layout ≡ terms.layout → length js ≡ terms.layout.streams
       → AreReady store f terms 1 firsts js → AllFinish view js fs → AreMet (views (map (λ x. x.pass) fs)) vs → HaveMet vs → HaveOneHistory f terms.layout (seen_by vs) vs
   one_history f terms store firsts js fs vs is same count ready all met one =
@@ -256,14 +256,14 @@ module _ {S : Type 0} (view : SourceView S) where
   -- ---- the reports
 
   -- The streams that the readers told, and that their reads gave, by which the reports hold.
-  pub record Judged (terms : Terms) (s : ℕ) (firsts : List S) (fs : List (FoundValue S)) (vs : List View) : Type 0 where
+  pub record Judged (terms : TermsValue) (s : ℕ) (firsts : List S) (fs : List (FoundValue S)) (vs : List View) : Type 0 where
     pub streams : List Stream
     pub out : AllByRecursion IsReadOut streams
     pub told : AreTold (tellings view firsts (map (λ x. x.reader) fs)) streams
     pub judged : AreJudgedBy terms s streams vs (map (λ x. x.report) fs)
     pub read : AreRead S view.reads firsts (map (λ x. x.reader) fs) streams
 
-  pub judged_by : (f : Cnf) (terms : Terms) (store : StoreValue) → store.layout ≡ terms.layout
+  pub judged_by : (f : Cnf) (terms : TermsValue) (store : StoreValue) → store.layout ≡ terms.layout
       → (s : ℕ) (firsts : List S) (js : List (JobsValue S)) (fs : List (FoundValue S)) (vs : List View)
       → AreReady store f terms s firsts js → AllFinish view js fs → AreMet (views (map (λ x. x.pass) fs)) vs → Judged terms s firsts fs vs
   judged_by f terms store same s [] [] [] [] ready all met = record { streams = []; out = tt; told = tt; judged = tt; read = tt }
@@ -290,7 +290,7 @@ module _ {S : Type 0} (view : SourceView S) where
       }
 
   -- so of the streams before one, where those before it alone were found
-  pub were_judged : (f : Cnf) (terms : Terms) (store : StoreValue) → store.layout ≡ terms.layout
+  pub were_judged : (f : Cnf) (terms : TermsValue) (store : StoreValue) → store.layout ≡ terms.layout
       → (s : ℕ) (firsts : List S) (js : List (JobsValue S)) (n : ℕ) (fs : List (FoundValue S))
       → AreReady store f terms s firsts js → AllFinish view (take n js) fs → WereJudged view terms s (take n firsts)
   were_judged f terms store same s [] [] zero fs ready all = tt
@@ -308,14 +308,14 @@ module _ {S : Type 0} (view : SourceView S) where
       ((x.reader, one.0, all.0.blocks, x.report, one.1, of, judged), were_judged f terms store same (s + 1) es js n fs ready.1 all.1)
 
   -- the same in the words of the lists that are given back, and of the one history
-  pub judged_so : (f : Cnf) (terms wanted : Terms) (firsts lasts : List S) (reports : List Report) (fs : List (FoundValue S)) (vs : List View)
+  pub judged_so : (f : Cnf) (terms wanted : TermsValue) (firsts lasts : List S) (reports : List Report) (fs : List (FoundValue S)) (vs : List View)
       → Judged terms 1 firsts fs vs → terms ≡ wanted → HaveOneHistory f wanted.layout (seen_by vs) vs
       → lasts ≡ map (λ x. x.reader) fs → reports ≡ map (λ x. x.report) fs
       → StandsOnStreams (tellings view firsts lasts)
       (λ streams. AllByRecursion IsReadOut streams × AreJudgedIn wanted (λ s. true) (seen_by vs) 1 streams reports × AreRead S view.reads firsts lasts streams)
   judged_so f terms wanted firsts lasts reports fs vs j same one readers said =
       let judged : AreJudgedBy wanted 1 j.streams vs (map (λ x. x.report) fs) =
-      subst (λ (t : Terms). AreJudgedBy t 1 j.streams vs (map (λ x. x.report) fs)) same j.judged in
+      subst (λ (t : TermsValue). AreJudgedBy t 1 j.streams vs (map (λ x. x.report) fs)) same j.judged in
       record {
         streams = j.streams;
         are_told = subst (λ (ls : List S). AreTold (tellings view firsts ls) j.streams) (sym readers) j.told;
@@ -329,7 +329,7 @@ module _ {S : Type 0} (view : SourceView S) where
 -- ---- 'unsatisfiable'
 
 -- where one of the reports says 'empty', no assignment makes every clause of the formula true
-sound_by : (f : Cnf) (terms : Terms) (h : History) → IsLegal f terms.layout h → (s : ℕ) (streams : List Stream) (reports : List Report)
+sound_by : (f : Cnf) (terms : TermsValue) (h : History) → IsLegal f terms.layout h → (s : ℕ) (streams : List Stream) (reports : List Report)
     → AreJudgedIn terms (λ t. true) h s streams reports → list_any (λ report. report.empty) reports ≡ true → IsUnsatisfiable f
 sound_by f terms h legal s [] [] judged is = absurd (let no : false ≡ true = is in cc)
 sound_by f terms h legal s [] (r ∷ rs) judged is = absurd judged
@@ -353,6 +353,6 @@ is_empty reports verdict of is =
     some_empty (list_any (λ (report : Report). report.empty) reports) (list_any (λ (report : Report). report.within) reports) (sym of ∙ is)
 
 -- so it is true
-pub sound_run : (f : Cnf) (terms : Terms) (h : History) (streams : List Stream) (reports : List Report) (verdict : Verdict)
+pub sound_run : (f : Cnf) (terms : TermsValue) (h : History) (streams : List Stream) (reports : List Report) (verdict : Verdict)
     → IsLegal f terms.layout h → AreJudgedIn terms (λ t. true) h 1 streams reports → verdict ≡ verdict_of reports → verdict ≡ Unsatisfiable → IsUnsatisfiable f
 sound_run f terms h streams reports verdict legal judged of is = sound_by f terms h legal 1 streams reports judged (is_empty reports verdict of is)

@@ -29,7 +29,7 @@ use Rattle.portfolio.proofs.WorkingLemmas.{not_over}
 use Rattle.portfolio.specs.Outcomes.{OptionsValue, layout_of}
 use Rattle.lrup_text.specs.ReadOut.{SourceView}
 use Rattle.runs.specs.Readings.{AreRead, IsStreamOf}
-use Rattle.runs.specs.Streams.{Stream, tellings, AreTold, JudgesStream, Block, blocks_of, events_in, IsBlockWithin, setting_of, AreJudged, IsOrdered, StandsOnStreams, Terms, terms_at}
+use Rattle.runs.specs.Streams.{Stream, tellings, AreTold, JudgesStream, Block, blocks_of, events_in, IsBlockWithin, setting_of, AreJudged, IsOrdered, StandsOnStreams, TermsValue, terms_at}
 use Rattle.portfolio.specs.Working.{WorkerValue, WorksBy, Works, WorksOn, IsStarted}
 use Rattle.portfolio.specs.Turns.{HasRun, IsWorking, AreWorking, Runs, IsRunning, GoesOn, IsOver, AreOver, IsOverAt, AreStarted, HaveReports}
 
@@ -159,7 +159,7 @@ report_at_end (Some ending) t r over is = (ending, refl, is)
 
 module _ {S : Type 0} (view : SourceView S) where
   -- the worker whose turn it was
-  working_on : (terms : Terms) (blocks : List Block) (m n : Plain) (s : ℕ) (bs : List History) (first : S) (w v : WorkerValue S) → IsWorking view terms blocks m s first w
+  working_on : (terms : TermsValue) (blocks : List Block) (m n : Plain) (s : ℕ) (bs : List History) (first : S) (w v : WorkerValue S) → IsWorking view terms blocks m s first w
       → WorksOn view w (free_at m s) bs v (free_at n s) → IsReadyAt v.checker (plain_place n s) → v.checker.setting ≡ w.checker.setting → IsWorking view terms (blocks ++ tagged s bs) n s first v
   working_on terms blocks m n s bs first w v working on ready setting = record {
     setting = setting ∙ working.setting;
@@ -168,7 +168,7 @@ module _ {S : Type 0} (view : SourceView S) where
   }
 
   -- the other workers
-  module _ (law : ReadyBeside) (terms : Terms) (blocks : List Block) (m n : Plain) (s : ℕ) (bs : List History) (moves : PlainMoves m n s (joined bs)) where
+  module _ (law : ReadyBeside) (terms : TermsValue) (blocks : List Block) (m n : Plain) (s : ℕ) (bs : List History) (moves : PlainMoves m n s (joined bs)) where
     working_beside : (t : ℕ) (first : S) (w : WorkerValue S) → 0 < t → s ≢ t → IsWorking view terms blocks m t first w → IsWorking view terms (blocks ++ tagged s bs) n t first w
     working_beside t first w positive other working =
         let stream : w.checker.setting.stream ≡ t = ap (λ (c : Setting). c.stream) working.setting in
@@ -208,7 +208,7 @@ module _ {S : Type 0} (view : SourceView S) where
   -- ---- what a worker has before its turn
 
   -- the worker at place i, where they are counted on from k
-  pub working_at : (terms : Terms) (blocks : List Block) (m : Plain) (k i : ℕ) (firsts : List S) (ws : List (WorkerValue S)) (d w : WorkerValue S) → i < length ws → get_or ws i d ≡ w
+  pub working_at : (terms : TermsValue) (blocks : List Block) (m : Plain) (k i : ℕ) (firsts : List S) (ws : List (WorkerValue S)) (d w : WorkerValue S) → i < length ws → get_or ws i d ≡ w
       → AreWorking view terms blocks m k firsts ws → IsReadyAt w.checker (plain_place m (k + i))
   working_at terms blocks m k i [] [] d w within is working = absurd (omega (arith, within))
   working_at terms blocks m k i [] (x ∷ ws) d w within is working = absurd working
@@ -235,7 +235,7 @@ module _ {S : Type 0} (view : SourceView S) where
       subst (λ t. IsReadyAt (get_or ws i d).checker (plain_place m t)) place here
 
   -- a run goes on by a turn of the worker at place i
-  pub runs_more : (law : ReadyBeside) (f : Cnf) (terms : Terms) (firsts : List S) (m n : Plain) (ws : List (WorkerValue S)) (i : ℕ) (d v : WorkerValue S) (bs : List History)
+  pub runs_more : (law : ReadyBeside) (f : Cnf) (terms : TermsValue) (firsts : List S) (m n : Plain) (ws : List (WorkerValue S)) (i : ℕ) (d v : WorkerValue S) (bs : List History)
       → i < length ws → PlainMoves m n (i + 1) (joined bs)
       → WorksOn view (get_or ws i d) (free_at m (i + 1)) bs v (free_at n (i + 1)) → IsReadyAt v.checker (plain_place n (i + 1)) → v.checker.setting ≡ (get_or ws i d).checker.setting
       → Runs view f terms firsts m ws → Runs view f terms firsts n (set ws i v)
@@ -288,7 +288,7 @@ module _ {S : Type 0} (view : SourceView S) where
   -- ---- before the first turn
 
   -- one worker more
-  started_more : (terms : Terms) (k : ℕ) (firsts : List S) (ws : List (WorkerValue S)) (first : S) (w : WorkerValue S)
+  started_more : (terms : TermsValue) (k : ℕ) (firsts : List S) (ws : List (WorkerValue S)) (first : S) (w : WorkerValue S)
       → AreStarted view terms k firsts ws → IsStarted view terms (k + length ws) first w → AreStarted view terms k (firsts ++ first ∷ []) (ws ++ w ∷ [])
   started_more terms k [] [] first w started here = let place : k + 0 ≡ k = omega arith in (subst (λ s. IsStarted view terms s first w) place here, tt)
   started_more terms k [] (v ∷ ws) first w started here = absurd started
@@ -297,14 +297,14 @@ module _ {S : Type 0} (view : SourceView S) where
       let place : k + length (v ∷ ws) ≡ k + 1 + length ws = omega arith in
       (started.0, started_more terms (k + 1) firsts ws first w started.1 (subst (λ s. IsStarted view terms s first w) place here))
 
-  pub started_pushed : {X : Type 0} (terms : Terms) (s : ℕ) (f : X → S) (xs : List X) (x : X) (ws vs : List (WorkerValue S)) (w : WorkerValue S)
+  pub started_pushed : {X : Type 0} (terms : TermsValue) (s : ℕ) (f : X → S) (xs : List X) (x : X) (ws vs : List (WorkerValue S)) (w : WorkerValue S)
       → vs ≡ ws ++ w ∷ [] → s ≡ length ws + 1 → AreStarted view terms 1 (map f xs) ws → IsStarted view terms s (f x) w → AreStarted view terms 1 (map f (xs ++ x ∷ [])) vs
   started_pushed {X} terms s f xs x ws vs w pushed place started here =
       let next : s ≡ 1 + length ws = omega (arith, place) in
       let more : AreStarted view terms 1 (map f xs ++ f x ∷ []) (ws ++ w ∷ []) = started_more terms 1 (map f xs) ws (f x) w started (subst (λ k. IsStarted view terms k (f x) w) next here) in
       subst (AreStarted view terms 1 (map f (xs ++ x ∷ []))) (sym pushed) (subst (λ firsts. AreStarted view terms 1 firsts (ws ++ w ∷ [])) (sym (map-append f xs (x ∷ []))) more)
 
-  count_started : (terms : Terms) (k : ℕ) (firsts : List S) (ws : List (WorkerValue S)) → AreStarted view terms k firsts ws → length ws ≡ length firsts
+  count_started : (terms : TermsValue) (k : ℕ) (firsts : List S) (ws : List (WorkerValue S)) → AreStarted view terms k firsts ws → length ws ≡ length firsts
   count_started terms k [] [] started = refl
   count_started terms k [] (w ∷ ws) started = absurd started
   count_started terms k (first ∷ firsts) [] started = absurd started
@@ -367,7 +367,7 @@ module _ {S : Type 0} (view : SourceView S) where
   told_over o ending first w free blocks is works = let at : WorksBy view (Some ending) first w free blocks = subst (λ e. WorksBy view e first w free blocks) is works in at
 
   -- each stream is what its reader told, and is judged by its blocks
-  pub streams_over : (terms : Terms) (blocks : List Block) (m : Plain) (k : ℕ) (firsts : List S) (ws : List (WorkerValue S)) (reports : List Report)
+  pub streams_over : (terms : TermsValue) (blocks : List Block) (m : Plain) (k : ℕ) (firsts : List S) (ws : List (WorkerValue S)) (reports : List Report)
       → AreWorking view terms blocks m k firsts ws → HaveReports ws reports
       → (streams : List Stream) × AreTold (tellings view firsts (map (λ w. w.reader) ws)) streams × AreRead S view.reads firsts (map (λ w. w.reader) ws) streams × AreJudged terms (λ s. true) blocks k streams reports
   streams_over terms blocks m k [] [] [] working have = ([], tt, tt, tt)
@@ -384,7 +384,7 @@ module _ {S : Type 0} (view : SourceView S) where
       (told.0 ∷ others.0, (told.1.0, others.1), (told.1.1, others.2), (λ all. judged, others.3))
 
   -- the reports have an order of lines
-  pub ordered_over : (f : Cnf) (terms : Terms) (firsts : List S) (m : Plain) (ws : List (WorkerValue S)) (reports : List Report) → Runs view f terms firsts m ws → HaveReports ws reports
+  pub ordered_over : (f : Cnf) (terms : TermsValue) (firsts : List S) (m : Plain) (ws : List (WorkerValue S)) (reports : List Report) → Runs view f terms firsts m ws → HaveReports ws reports
       → (streams : List Stream) × AreTold (tellings view firsts (map (λ w. w.reader) ws)) streams × AreRead S view.reads firsts (map (λ w. w.reader) ws) streams × IsOrdered f terms (λ s. true) streams reports
   ordered_over f terms firsts m ws reports runs have =
       let streams = streams_over terms runs.blocks m 1 firsts ws reports runs.workers_are have in (
@@ -400,7 +400,7 @@ module _ {S : Type 0} (view : SourceView S) where
       )
 
 -- where one of the reports says 'empty', no assignment makes every clause of the formula true
-sound_among : (f : Cnf) (terms : Terms) (blocks : List Block) (k : ℕ) (streams : List Stream) (reports : List Report) → IsLegal f terms.layout (events_in blocks)
+sound_among : (f : Cnf) (terms : TermsValue) (blocks : List Block) (k : ℕ) (streams : List Stream) (reports : List Report) → IsLegal f terms.layout (events_in blocks)
     → AreJudged terms (λ s. true) blocks k streams reports → IsTrue (list_any (λ report. report.empty) reports) → IsUnsatisfiable f
 sound_among f terms blocks k [] [] legal judged some = absurd (let none : false ≡ true = some in cc)
 sound_among f terms blocks k [] (r ∷ reports) legal judged some = absurd judged
@@ -411,12 +411,12 @@ sound_among f terms blocks k (stream ∷ streams) (r ∷ reports) legal judged s
       | inr none ↦ sound_among f terms blocks (k + 1) streams reports legal judged.1 (ap (λ b. b || list_any (λ (report : Report). report.empty) reports) (sym none) ∙ some)
     ]
 
-pub sound_over : (f : Cnf) (terms : Terms) (streams : List Stream) (reports : List Report) → IsOrdered f terms (λ s. true) streams reports
+pub sound_over : (f : Cnf) (terms : TermsValue) (streams : List Stream) (reports : List Report) → IsOrdered f terms (λ s. true) streams reports
     → IsTrue (list_any (λ report. report.empty) reports) → IsUnsatisfiable f
 sound_over f terms streams reports ordered some = sound_among f terms ordered.blocks 1 streams reports ordered.legal ordered.judged some
 
 -- the whole run: opened, gone on with, and over
-pub run_ordered : {S : Type 0} (view : SourceView S) (f : Cnf) (p : LayoutValue) (cube : CubeValue) (tries : ℕ) (wanted : Terms) (firsts lasts : List S) (m n : Plain) (us vs ws xs : List (WorkerValue S)) (reports : List Report)
+pub run_ordered : {S : Type 0} (view : SourceView S) (f : Cnf) (p : LayoutValue) (cube : CubeValue) (tries : ℕ) (wanted : TermsValue) (firsts lasts : List S) (m n : Plain) (us vs ws xs : List (WorkerValue S)) (reports : List Report)
     → IsOpened f p m → terms_at p cube tries ≡ wanted → length firsts ≡ p.streams → AreStarted view (terms_at p cube tries) 1 firsts us
     → vs ≡ us → GoesOn view m vs n ws → xs ≡ ws → HaveReports xs reports → lasts ≡ map (λ w. w.reader) xs
     → StandsOnStreams (tellings view firsts lasts)
@@ -430,7 +430,7 @@ run_ordered {S} view f p cube tries wanted firsts lasts m n us vs ws xs reports 
       streams = ordered.0;
       are_told = subst (λ (ls : List S). AreTold (tellings view firsts ls) ordered.0) (sym readers) ordered.1;
       judged = (
-        subst (λ (t : Terms). IsOrdered f t (λ s. true) ordered.0 reports) same ordered.3,
+        subst (λ (t : TermsValue). IsOrdered f t (λ s. true) ordered.0 reports) same ordered.3,
         subst (λ (ls : List S). AreRead S view.reads firsts ls ordered.0) (sym readers) ordered.2,
       );
     }

@@ -7,19 +7,21 @@ use Rattle.std.proofs.Math.Seq.{take-add}
 use Rattle.std.proofs.lemmas.List.{take-take, drop-drop}
 use Rattle.lrup_model.specs.Event.{History}
 use Rattle.lrup_text.specs.Lines.{StreamLine}
+use Rattle.lrup_text.specs.declared.device.StreamEnd.{StreamEnd}
+use Rattle.lrup_text.specs.declared.device.StreamEnd.TheVariants as stream_ends
 use Rattle.stream_check.specs.declared.report.Ending.{Ending}
 use Rattle.stream_check.specs.declared.report.Ending.TheVariants as endings
 use Rattle.stream_check.specs.declared.report.Report.{Report}
 use Rattle.stream_check.specs.Setting.{Setting}
-use Rattle.stream_check.specs.Judging.{StreamEnd, ended, failed, ending_at, EndsAfter, JudgesBlocks}
+use Rattle.stream_check.specs.Judging.{ending_at, EndsAfter, JudgesBlocks}
 use Rattle.stream_check.specs.Leaving.{Leaves}
 use Rattle.stream_check.specs.CheckerValue.{CheckerValue}
 use Rattle.stream_check.specs.Checker.{state_by, checker_state, report_at, LeavesOn, EndsBy, Ends, ReportsEnd}
 use Rattle.lrup_text.specs.ReadLemmas.{gave_more}
-use Rattle.lrup_text.specs.ReadOut.{SourceView}
+use Rattle.lrup_text.specs.ReadOut.{EndsSo, IsLastRead, SourceView}
 use Rattle.lrup_text.specs.Reads.{Gave}
 use Rattle.runs.specs.Readings.{IsReadTo}
-use Rattle.runs.specs.Streams.{Stop, early, read_to, StopsSo, StopsReading, JudgesTo}
+use Rattle.runs.specs.Streams.{Stop, early, read_to, StopsSo, StopsReading, JudgesTo, read_out}
 use Rattle.portfolio.specs.Working.{WorkerValue, WorksBy, Works, WorksOn}
 
 -- ---- going on
@@ -34,24 +36,24 @@ not_over over ending is going = none_of ending (λ some. let yes : over ≡ true
 
 -- ---- a report that is right for either end tells of neither
 
-ends_not_ended : (c : Setting) (lines : List StreamLine) (rest : List ℕ) (blocks : List History) (report : Report) → EndsAfter c lines rest failed blocks report → report.ending ≡ endings.Ended → ⊥
+ends_not_ended : (c : Setting) (lines : List StreamLine) (rest : List ℕ) (blocks : List History) (report : Report) → EndsAfter c lines rest stream_ends.Failed blocks report → report.ending ≡ endings.Ended → ⊥
 ends_not_ended c lines rest blocks report (inl line) e = let f = sym e ∙ ap (λ (r : Report). r.ending) line.says in cc
 ends_not_ended c lines rest blocks report (inr (inl text)) e = let f = sym e ∙ ap (λ (r : Report). r.ending) text.says in cc
 ends_not_ended c lines rest blocks report (inr (inr (inl memory))) e = let f = sym e ∙ ap (λ (r : Report). r.ending) memory.says in cc
 ends_not_ended c lines rest blocks report (inr (inr (inr ending))) e = let f = sym e ∙ ap (λ (r : Report). r.ending) ending.says in cc
 
-end_not_failed : (rest : List ℕ) (n line : ℕ) → ending_at ended rest n ≡ endings.ReadFailed line → ⊥
+end_not_failed : (rest : List ℕ) (n line : ℕ) → ending_at stream_ends.Ended rest n ≡ endings.ReadFailed line → ⊥
 end_not_failed [] n line e = cc
 end_not_failed (byte ∷ bytes) n line e = cc
 
-ends_not_failed : (c : Setting) (lines : List StreamLine) (rest : List ℕ) (blocks : List History) (report : Report) (n : ℕ) → EndsAfter c lines rest ended blocks report → report.ending ≡ endings.ReadFailed n → ⊥
+ends_not_failed : (c : Setting) (lines : List StreamLine) (rest : List ℕ) (blocks : List History) (report : Report) (n : ℕ) → EndsAfter c lines rest stream_ends.Ended blocks report → report.ending ≡ endings.ReadFailed n → ⊥
 ends_not_failed c lines rest blocks report n (inl line) e = let f = sym e ∙ ap (λ (r : Report). r.ending) line.says in cc
 ends_not_failed c lines rest blocks report n (inr (inl text)) e = let f = sym e ∙ ap (λ (r : Report). r.ending) text.says in cc
 ends_not_failed c lines rest blocks report n (inr (inr (inl memory))) e = let f = sym e ∙ ap (λ (r : Report). r.ending) memory.says in cc
 ends_not_failed c lines rest blocks report n (inr (inr (inr ending))) e = end_not_failed rest _ n (sym (ap (λ (r : Report). r.ending) ending.says) ∙ e)
 
 stops_reading : (c : Setting) (bytes : List ℕ) (blocks : List History) (report : Report) (ending : Ending) → report.ending ≡ ending
-    → JudgesBlocks c bytes ended blocks report → JudgesBlocks c bytes failed blocks report → StopsReading ending
+    → JudgesBlocks c bytes stream_ends.Ended blocks report → JudgesBlocks c bytes stream_ends.Failed blocks report → StopsReading ending
 stops_reading c bytes blocks report endings.Ended is at_end at_failure = ends_not_ended c at_failure.lines at_failure.rest at_failure.back report at_failure.ends is
 stops_reading c bytes blocks report (endings.Bad line fault) is at_end at_failure = tt
 stops_reading c bytes blocks report (endings.ReadFailed line) is at_end at_failure = ends_not_failed c at_end.lines at_end.rest at_end.back report line at_end.ends is
@@ -88,13 +90,11 @@ module _ {S : Type 0} (view : SourceView S) where
       (here.0, Consumes-trans (view.left first) (view.left old) (view.left new) here.0 piece given told, gave_more S view.reads first old new here.0 piece (here.0 ++ piece) size gave read some refl, here.3))
 
   -- the end, or a read that failed
-  pub works_over : (stop : Stop) (end : StreamEnd) (old new : S) (unread rest : List ℕ) (v u : CheckerValue) (room : ℕ)
-      → ((c : Setting) (bytes : List ℕ) (blocks : List History) (report : Report) → JudgesBlocks c bytes end blocks report → JudgesTo stop c bytes blocks report)
-      → ((bytes : List ℕ) → read_to stop bytes ≡ bytes) → StopsSo stop (view.left new) (view.has_failed new)
-      → ((first : S) (bytes : List ℕ) → Gave S view.reads first bytes old → IsReadTo S view.reads stop first bytes new)
+  pub works_over : (end : StreamEnd) (old new : S) (unread rest : List ℕ) (v u : CheckerValue) (room : ℕ)
+      → EndsSo end (view.left new) (view.has_failed new) → IsLastRead S view.reads end old new
       → Consumes (view.left old) (view.left new) [] → unread ≡ [] → v.ending ≡ None → Ends end v u → ReportsEnd end v u
       → WorksOn view (worker_of old unread v) room [] (worker_of new rest u) room
-  works_over stop end old new unread rest v u room judges needed stops reads told none going ends reports first before works =
+  works_over end old new unread rest v u room stops last told none going ends reports first before works =
       let here = subst (λ e. WorksBy view e first (worker_of old unread v) room before) going works in
       let all : here.0 ++ unread ≡ here.0 = ap (λ (t : List ℕ). here.0 ++ t) none ∙ append-nil here.0 in
       let given : Consumes (view.left first) (view.left old) here.0 = subst (Consumes (view.left first) (view.left old)) all here.1 in
@@ -104,16 +104,16 @@ module _ {S : Type 0} (view : SourceView S) where
       let report = report_at u.tally judged.0 in
       subst (λ e. WorksBy view e first (worker_of new rest u) room (before ++ [])) (sym judged.1)
       (subst (λ (bs : List History). WorksBy view (Some judged.0) first (worker_of new rest u) room bs) (sym (append-nil before)) (
-        record { bytes = here.0; stop = stop },
+        record { bytes = here.0; stop = read_out end },
         (
           record {
-            consumes = subst (Consumes (view.left first) (view.left new)) (append-nil here.0 ∙ sym (needed here.0))
+            consumes = subst (Consumes (view.left first) (view.left new)) (append-nil here.0)
                 (Consumes-trans (view.left first) (view.left old) (view.left new) here.0 [] given told);
             stops = stops;
           },
-          reads first here.0 gave,
+          record { last = old; given = gave; ends = last },
         ),
-        subst (λ (c : Setting). JudgesTo stop c here.0 before report) (sym same) (judges v.setting here.0 before report judged.2),
+        subst (λ (c : Setting). JudgesBlocks c here.0 end before report) (sym same) judged.2,
       ))
 
   -- the bytes so far left the checker so, and it is over or not

@@ -10,7 +10,7 @@ use Rattle.portfolio.specs.declared.outcome.RunFault.{RunFault}
 use Rattle.portfolio.specs.declared.outcome.RunFault.TheVariants.{Layout}
 use Rattle.portfolio.specs.declared.outcome.Verdict.{Verdict}
 use Rattle.portfolio.specs.declared.outcome.Verdict.TheVariants.{Unsatisfiable, UnsatisfiableUnder, Unknown}
-use Rattle.runs.specs.Streams.{Terms, terms_at}
+use Rattle.runs.specs.Streams.{TermsValue, terms_at}
 
 -- how often a hint of another stream is fetched again while it is vacant; and for each stream, identities and room in literals
 pub record OptionsValue : Type 0 where
@@ -24,7 +24,7 @@ layout_of options f streams =
     layout_value f.vars (length f.clauses) (formula_literals f) streams options.lines options.room
 
 -- what a run of a formula and so many streams is checked by, under a cube
-abbrev pub terms_of : OptionsValue → CubeValue → Cnf → ℕ → Terms
+abbrev pub terms_of : OptionsValue → CubeValue → Cnf → ℕ → TermsValue
 terms_of options cube f streams = terms_at (layout_of options f streams) cube options.tries
 
 -- The verdict: 'unsatisfiable' exactly if some stream added the empty clause; else 'unsatisfiable under assumptions' exactly if

@@ -10,7 +10,7 @@ use Rattle.lrup_model.specs.Plain.{Plain, formula_of, plain_state, free_at, plai
 use Rattle.stream_check.specs.declared.report.Ending.{Ending}
 use Rattle.stream_check.specs.declared.report.Report.{Report}
 use Rattle.stream_check.specs.Checker.{IsReadyAt, report_at}
-use Rattle.runs.specs.Streams.{Block, blocks_of, events_in, IsBlockWithin, Terms, setting_of}
+use Rattle.runs.specs.Streams.{Block, blocks_of, events_in, IsBlockWithin, TermsValue, setting_of}
 use Rattle.lrup_text.specs.ReadOut.{SourceView}
 use Rattle.portfolio.specs.Working.{WorkerValue, Works, IsStarted}
 
@@ -24,14 +24,14 @@ pub record HasRun (f : Cnf) (p : LayoutValue) (blocks : List Block) (map : Plain
   pub room : (s : ℕ) → IsStream p s → free_at map s + spent s (events_in blocks) ≡ p.room
 
 -- the worker is stream s's, has come to this by the stream's blocks, and can go on at the map
-pub record IsWorking {S : Type 0} (view : SourceView S) (terms : Terms) (blocks : List Block)
+pub record IsWorking {S : Type 0} (view : SourceView S) (terms : TermsValue) (blocks : List Block)
     (map : Plain) (s : ℕ) (first : S) (w : WorkerValue S) : Type 0 where
   pub setting : w.checker.setting ≡ setting_of terms s
   pub works : Works view first w (free_at map s) (blocks_of s blocks)
   pub ready : IsReadyAt w.checker (plain_place map s)
 
 -- so it is with each worker, counted on from s
-abbrev pub AreWorking : {S : Type 0} → SourceView S → Terms → List Block → Plain → ℕ → List S
+abbrev pub AreWorking : {S : Type 0} → SourceView S → TermsValue → List Block → Plain → ℕ → List S
     → List (WorkerValue S) → Type 0
 AreWorking view terms blocks map s [] [] = Unit {0}
 AreWorking view terms blocks map s (first ∷ firsts) (w ∷ ws) =
@@ -39,7 +39,7 @@ AreWorking view terms blocks map s (first ∷ firsts) (w ∷ ws) =
 AreWorking view terms blocks map s _ _ = ⊥
 
 -- A run between two turns: its map is that of the blocks so far, and each worker has come to what its own blocks say.
-pub record Runs {S : Type 0} (view : SourceView S) (f : Cnf) (terms : Terms) (firsts : List S)
+pub record Runs {S : Type 0} (view : SourceView S) (f : Cnf) (terms : TermsValue) (firsts : List S)
     (map : Plain) (workers : List (WorkerValue S)) : Type 0 where
   pub count : length workers ≡ terms.layout.streams
   pub blocks : List Block
@@ -49,13 +49,13 @@ pub record Runs {S : Type 0} (view : SourceView S) (f : Cnf) (terms : Terms) (fi
 -- the run of some formula, layout and readers stands here
 abbrev pub IsRunning : {S : Type 0} → SourceView S → Plain → List (WorkerValue S) → Type 0
 IsRunning {S} view map workers =
-    (f : Cnf) × (terms : Terms) × (firsts : List S) × Runs view f terms firsts map workers
+    (f : Cnf) × (terms : TermsValue) × (firsts : List S) × Runs view f terms firsts map workers
 
 -- whatever run stood at the one moment stands at the other
 abbrev pub GoesOn : {S : Type 0} → SourceView S → Plain → List (WorkerValue S) → Plain
     → List (WorkerValue S) → Type 0
 GoesOn {S} view map workers later after =
-    (f : Cnf) (terms : Terms) (firsts : List S)
+    (f : Cnf) (terms : TermsValue) (firsts : List S)
     → Runs view f terms firsts map workers → Runs view f terms firsts later after
 
 abbrev pub IsOver : {S : Type 0} → WorkerValue S → Type 0
@@ -69,7 +69,7 @@ abbrev pub IsOverAt : {S : Type 0} → List (WorkerValue S) → ℕ → Type 0
 IsOverAt ws i = IfSome (slice_get ws i) IsOver
 
 -- the workers of the streams counted on from s, before their first bytes
-abbrev pub AreStarted : {S : Type 0} → SourceView S → Terms → ℕ → List S → List (WorkerValue S)
+abbrev pub AreStarted : {S : Type 0} → SourceView S → TermsValue → ℕ → List S → List (WorkerValue S)
     → Type 0
 AreStarted view terms s [] [] = Unit {0}
 AreStarted view terms s (first ∷ firsts) (w ∷ ws) =

@@ -9,7 +9,7 @@ use Rattle.stream_check.specs.Leaving.{Leaves}
 use Rattle.lrup_text.specs.ReadOut.{SourceView}
 use Rattle.lrup_text.specs.Reads.{Gave}
 use Rattle.runs.specs.Readings.{IsStreamOf}
-use Rattle.runs.specs.Streams.{Stream, JudgesStream, Terms, setting_of}
+use Rattle.runs.specs.Streams.{Stream, JudgesStream, TermsValue, setting_of}
 
 -- the reader, the bytes read and not checked yet, and the checker
 pub record WorkerValue (S : Type 0) : Type 0 where
@@ -47,7 +47,7 @@ pub record IsWorker (has_failed : Bool) (size from to : ℕ) (ending : Option En
   pub running : ending ≡ None → has_failed ≡ false
 
 -- a worker of this stream before its first byte, whose reader is this
-pub record IsStarted {S : Type 0} (view : SourceView S) (terms : Terms) (s : ℕ) (first : S)
+pub record IsStarted {S : Type 0} (view : SourceView S) (terms : TermsValue) (s : ℕ) (first : S)
     (w : WorkerValue S) : Type 0 where
   pub setting : w.checker.setting ≡ setting_of terms s
   pub last : w.checker.last ≡ terms.layout.clauses

@@ -8,21 +8,21 @@ ghost use Rattle.lrup_model.specs.Layout.{IsStream};
 ghost use Rattle.lrup_model.specs.Plain.{PlainMoves, free_at, plain_place};
 ghost use Rattle.stream_check.specs.Checker.{IsReadyAt};
 ghost use Rattle.stream_check.specs.Judging.{joined};
-ghost use Rattle.groups.specs.Groups.{AreIsolated};
+ghost use Rattle.run_laws.specs.Groups.{AreIsolated, HaveReportsAlone};
 ghost use Rattle.portfolio.specs.Outcomes.{IsLayoutFault, layout_of, terms_of, verdict_of};
-ghost use Rattle.stream_check.specs.Setting.{max_tries};
 ghost use Rattle.lrup_text.specs.ReadOut.{source_view};
 ghost use Rattle.runs.specs.Readings.{AreRead};
-ghost use Rattle.runs.specs.Streams.{IsOrdered, StandsOnStreams, tellings, terms_at};
+ghost use Rattle.runs.specs.Streams.{IsOrdered, StandsOnStreams, tellings};
 ghost use Rattle.portfolio.specs.Turns.{AreOver, AreStarted, GoesOn, HaveReports, IsOverAt, IsRunning};
 ghost use Rattle.portfolio.specs.Working.{WorksOn};
 
 use crate::options::Options;
 use crate::outcome::{RunFault, SerialOutcome, Verdict};
 use crate::worker::Worker;
-use groups::laws::serial_isolated;
-use lrup_model::{Cube, Formula, Layout, PlainMap};
+use lrup_model::{Cube, Formula, PlainMap};
 use lrup_text::Source;
+use run_laws::groups::{alone_has_one_report, serial_isolated};
+use runs::Terms;
 use std::alloc::{AllocError, Global};
 use std::sync::Wait;
 use stream_check::laws::ready_beside;
@@ -45,7 +45,7 @@ pub fn run_serial<W: Wait, R: Source + Drop, G: Gate + Drop>(
     requires running { AllByRecursion (λ r. R.has_failed r ≡ false) readers.items }
     // `Layout` is answered exactly where these numbers have no layout, whatever is read.
     ensures layout { IsLayoutFault result (layout_of options formula.now (length readers.items)) }
-    ensures alone { (stream : ℕ) → result ≢ Err (RunFault.Spawn stream) }
+    ensures no_spawn { (stream : ℕ) → result ≢ Err (RunFault.Spawn stream) }
     ensures no_ring { (stream : ℕ) → result ≢ Err (RunFault.Ring stream) }
     // Each stream is what its reader told, and what the reader's reads gave, and the reports have an
     // order of lines.
@@ -61,6 +61,12 @@ pub fn run_serial<W: Wait, R: Source + Drop, G: Gate + Drop>(
         (tellings (source_view R.left R.has_failed R.reads) readers.items outcome.readers.items)
         (λ streams. IsOrdered formula.now terms (λ s. true) streams outcome.reports.items)
         outcome.reports.items) }
+    // A stream that is a closed set by itself has the one report that it may have alone.
+    ensures alone { let terms = terms_of options cube.now formula.now (length readers.items) in
+        IfOk result (λ outcome. HaveReportsAlone formula.now terms
+        (tellings (source_view R.left R.has_failed R.reads) readers.items outcome.readers.items)
+        (λ streams. IsOrdered formula.now terms (λ s. true) streams outcome.reports.items)
+        outcome.reports.items) }
     ensures verdict { IfOk result (λ outcome.
         outcome.verdict ≡ verdict_of outcome.reports.items) }
     // What a user relies on.
@@ -70,9 +76,11 @@ pub fn run_serial<W: Wait, R: Source + Drop, G: Gate + Drop>(
         → IsUnsatisfiableUnder formula.now cube.now) }
 {
     serial_isolated();
+    alone_has_one_report();
     let layout = options.layout(formula, readers.len())?;
     let mut map = PlainMap::open(alloc, formula, &layout)?;
-    let mut workers = workers_of(alloc, &layout, cube, options.tries(), readers, gates)?;
+    let terms = Terms::new(&layout, cube, options.tries());
+    let mut workers = workers_of(alloc, &terms, readers, gates)?;
     let reports = Vec::with_capacity(alloc, workers.len())?;
     let readers = Vec::with_capacity(alloc, workers.len())?;
     take_turns(wait, &mut map, &mut workers);
@@ -82,23 +90,20 @@ pub fn run_serial<W: Wait, R: Source + Drop, G: Gate + Drop>(
 /// A worker for each stream.
 pub(crate) fn workers_of<R: Source + Drop, G: Gate + Drop>(
     alloc: Global,
-    layout: &Layout,
-    cube: &Cube,
-    tries: u64,
+    terms: &Terms<'_>,
     readers: Vec<R>,
     gates: Vec<G>,
 ) -> Result<Vec<Worker<R, G>>, AllocError>
     requires gates { vec_len gates ≡ vec_len readers }
     requires running { AllByRecursion (λ r. R.has_failed r ≡ false) readers.items }
-    requires streams { layout.now.streams ≡ length readers.items }
-    requires tries { tries ≤ max_tries }
+    requires streams { terms.now.layout.streams ≡ length readers.items }
     ensures { IfOk result (λ workers. AreStarted (source_view R.left R.has_failed R.reads)
-        (terms_at layout.now cube.now tries) 1 readers.items workers.items) }
+        terms.now 1 readers.items workers.items) }
 {
     let mut workers = Vec::with_capacity(alloc, readers.len())?;
     for (reader, gate) in readers.into_iter().zip(gates) {
         let stream = workers.len() as u64 + 1;
-        workers.push_reserved(Worker::new(alloc, reader, gate, stream, layout, cube, tries)?);
+        workers.push_reserved(Worker::new(alloc, reader, gate, stream, terms)?);
     }
     Ok(workers)
 }

@@ -11,21 +11,22 @@ ghost use Rattle.runs.specs.Readings.{AreRead};
 ghost use Rattle.runs.specs.Headline.{AreJudgedIn, HaveOneHistory, WereJudged, seen_by};
 ghost use Rattle.portfolio.specs.Outcomes.{IsLayoutFault, layout_of, terms_of, verdict_of};
 ghost use Rattle.runs.specs.Streams.{IsReadOut, StandsOnStreams, tellings};
-ghost use Rattle.groups.specs.Groups.{AreIsolated};
-ghost use Rattle.orders.specs.Serializable.{IsSerializable};
+ghost use Rattle.run_laws.specs.Groups.{AreIsolated, HaveReportsAlone};
+ghost use Rattle.run_laws.specs.Serializable.{IsSerializable};
 
 use crate::options::Options;
 use crate::outcome::{Outcome, RunFault, Verdict};
 use clause_store::{Pass, Store};
-use groups::laws::run_isolated;
 use lrup_model::{Cube, Formula};
 use lrup_text::Source;
-use orders::laws::run_serializable;
+use run_laws::groups::{alone_has_one_report, run_isolated};
+use run_laws::orders::run_serializable;
+use runs::Terms;
 use std::alloc::{AllocError, Global};
 use std::sync::Wait;
 use std::thread::Threads;
 use stream_check::{Gate, Report};
-use stream_threads::{StreamResult, Room, ThreadFault, check_all, jobs_of};
+use stream_threads::{Room, StreamResult, ThreadFault, check_all, jobs_of};
 
 /// Checks the streams that the readers give, each in two threads of its own, one that reads it to its end and one that checks what
 /// was read, against one store of clauses, and says whether one derived a clause that contradicts the cube. As many gates are
@@ -73,8 +74,14 @@ pub fn run<T: Threads + Wait + Sync, R: Source + Send + Drop, G: Gate + Send + D
         (tellings (source_view R.left R.has_failed R.reads) readers.items outcome.readers.items)
         (λ streams. AreJudgedIn terms (λ s. true) (seen_by (views outcome.passes.items)) 1
         streams outcome.reports.items) outcome.reports.items) }
+    // A stream that is a closed set by itself has the one report that it may have alone.
+    ensures alone { let terms = terms_of options cube.now formula.now (length readers.items) in
+        IfOk result (λ outcome. HaveReportsAlone formula.now terms
+        (tellings (source_view R.left R.has_failed R.reads) readers.items outcome.readers.items)
+        (λ streams. AreJudgedIn terms (λ s. true) (seen_by (views outcome.passes.items)) 1
+        streams outcome.reports.items) outcome.reports.items) }
     // The lines are serializable: those of each closed set of streams have an order, where what
-    // they found live of one another isn't left retired.
+    // they found live of one another isn't left retired; and all together have the verdict.
     ensures serializable { let terms = terms_of options cube.now formula.now
         (length readers.items) in
         IfOk result (λ outcome. IsSerializable formula.now terms
@@ -89,18 +96,12 @@ pub fn run<T: Threads + Wait + Sync, R: Source + Send + Drop, G: Gate + Send + D
         → IsUnsatisfiableUnder formula.now cube.now) }
 {
     run_isolated();
+    alone_has_one_report();
     run_serializable();
     let layout = options.layout(formula, readers.len())?;
     let (store, passes) = Store::open(alloc, formula, layout)?;
-    let jobs = jobs_of(
-        alloc,
-        &layout,
-        cube,
-        options.tries(),
-        readers,
-        gates,
-        passes,
-    )?;
+    let terms = Terms::new(&layout, cube, options.tries());
+    let jobs = jobs_of(alloc, &terms, readers, gates, passes)?;
     let Lists {
         room,
         reports,

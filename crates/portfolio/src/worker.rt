@@ -6,17 +6,15 @@ ghost use Rattle.lrup_model.specs.Layout.{IsStream};
 ghost use Rattle.lrup_text.specs.ReadOut.{source_view};
 ghost use Rattle.stream_check.specs.Checker.{Ends, IsReadyAt, ReportsEnd, report_at};
 ghost use Rattle.stream_check.specs.Judging.{joined};
-ghost use Rattle.stream_jobs.specs.Judged.{end_of};
-ghost use Rattle.stream_check.specs.Setting.{max_tries};
-ghost use Rattle.runs.specs.Streams.{terms_at};
 ghost use Rattle.portfolio.specs.Working.{IsStarted, WorksOn};
 
-use lrup_model::{ClauseMap, Cube, Layout};
-use lrup_text::Source;
+use lrup_model::ClauseMap;
+use lrup_text::{Source, StreamEnd};
+use runs::Terms;
 use std::alloc::{AllocError, Global};
 use std::marker::Model;
 use std::sync::Wait;
-use stream_check::{Checker, Gate, Report, CheckTurn};
+use stream_check::{CheckTurn, Checker, Gate, Report};
 
 /// The most bytes that one read asks for.
 const PIECE: usize = 65_536;
@@ -49,27 +47,24 @@ impl<R: Source + Drop, G: Gate + Drop> Model for Worker<R, G> {
 }
 
 impl<R: Source + Drop, G: Gate + Drop> Worker<R, G> {
-    /// A worker of stream `stream`, from 1 on, under this cube, before its first byte. It takes all memory that it will need, but
+    /// A worker of stream `stream`, from 1 on, before its first byte. It takes all memory that it will need, but
     /// for the identities that the stream drops.
     pub fn new(
         alloc: Global,
         reader: R,
         gate: G,
         stream: u64,
-        layout: &Layout,
-        cube: &Cube,
-        tries: u64,
+        terms: &Terms<'_>,
     ) -> Result<Worker<R, G>, AllocError>
         requires running { R.has_failed reader ≡ false }
-        requires stream { IsStream layout.now stream }
-        requires tries { tries ≤ max_tries }
+        requires stream { IsStream terms.now.layout stream }
         ensures { IfOk result (IsStarted (source_view R.left R.has_failed R.reads)
-            (terms_at layout.now cube.now tries) stream reader) }
+            terms.now stream reader) }
     {
         Ok(Worker {
             reader,
             gate,
-            checker: Checker::new(alloc, stream, layout, cube, tries)?,
+            checker: Checker::new(alloc, stream, terms.layout(), terms.cube(), terms.tries())?,
             buffer: vec![in alloc; 0; PIECE]?,
             from: 0,
             to: 0,
@@ -121,7 +116,7 @@ impl<R: Source + Drop, G: Gate + Drop> Worker<R, G> {
         }
         match self.reader.read(&mut self.buffer) {
             Ok(0) => {
-                close(&mut self.checker, false);
+                close(&mut self.checker, StreamEnd::Ended);
                 false
             }
             Ok(count) => {
@@ -130,7 +125,7 @@ impl<R: Source + Drop, G: Gate + Drop> Worker<R, G> {
                 true
             }
             Err(_) => {
-                close(&mut self.checker, true);
+                close(&mut self.checker, StreamEnd::Failed);
                 false
             }
         }
@@ -170,13 +165,12 @@ impl<R: Source + Drop, G: Gate + Drop> Worker<R, G> {
 }
 
 /// Takes the end of the stream, or a read that failed.
-fn close(checker: &mut Checker, has_failed: bool)
-    ensures ends { Ends (end_of has_failed) checker.old checker.new }
-    ensures reports { ReportsEnd (end_of has_failed) checker.old checker.new }
+fn close(checker: &mut Checker, end: StreamEnd)
+    ensures ends { Ends end checker.old checker.new }
+    ensures reports { ReportsEnd end checker.old checker.new }
 {
-    if has_failed {
-        checker.read_failed();
-    } else {
-        checker.end();
+    match end {
+        StreamEnd::Ended => checker.end(),
+        StreamEnd::Failed => checker.read_failed(),
     }
 }

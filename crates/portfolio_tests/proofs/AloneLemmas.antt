@@ -2,7 +2,7 @@
 use Rattle.std.proofs.Common.{◌≡◌, ◌≤◌, ◌<◌, ◌^◌, ℕ, ℤ, zero, suc, ◌+◌, ◌-◌, Bool, true, false, Option, List, [], ◌∷◌, ◌++◌, length, map, Some, None, pos, negsuc, refl, sym, ap, subst, ◌∙◌, inl, inr, arith}
 use Rattle.std.specs.Fmt.{digits}
 use Rattle.std.proofs.lemmas.Bool.Decides.{eqb_tells}
-use Rattle.std.specs.Prelude.{IsTrue, slice_get, codes, ◌==◌, Result, Ok, Err, IfOk}
+use Rattle.std.specs.Prelude.{IsTrue, slice_get, codes, ◌==◌, ◌↔◌, Result, Ok, Err, IfOk, if◌then◌else◌}
 use Rattle.lrup_model.specs.Layout.{LayoutValue, Owns, owner}
 use Rattle.lrup_model.specs.declared.layout.Owner.{Owner}
 use Rattle.lrup_model.specs.declared.layout.Owner.TheVariants as owners
@@ -10,26 +10,29 @@ use Rattle.lrup_text.specs.Grammar.{space}
 use Rattle.lrup_text.specs.Lines.{StreamLine, Addition, Deletion, Import, Cut, HasNoLine, line_text}
 use Rattle.lrup_text.specs.Laws.{OneCut}
 use Rattle.stream_check.specs.declared.report.Report.{Report}
-use Rattle.stream_check.specs.Judging.{ended}
-use Rattle.std.specs.List.{AllByRecursion}
+use Rattle.lrup_text.specs.declared.device.StreamEnd.TheVariants as stream_ends
+use Rattle.std.specs.List.{AllByRecursion, list_any}
 use Rattle.stream_check.specs.Laws.{IsOfMemory, cited_by}
 use Rattle.lrup_model.specs.Cube.{CubeValue}
 use Rattle.lrup_model.specs.Formula.{Cnf}
-use Rattle.portfolio.specs.Outcomes.{OptionsValue, terms_of}
+use Rattle.lrup_model.specs.Event.{History, publishes_empty}
+use Rattle.portfolio.specs.declared.outcome.Verdict.{Verdict}
+use Rattle.portfolio.specs.declared.outcome.Verdict.TheVariants.{Unsatisfiable, UnsatisfiableUnder, Unknown}
+use Rattle.portfolio.specs.Outcomes.{OptionsValue, terms_of, verdict_of}
+use Rattle.run_laws.specs.Serializable.{ComeToVerdict}
+use Rattle.run_laws.specs.Premises.{FoundStays}
 use Rattle.runs.specs.StreamLemmas.{same_at}
 use Rattle.lrup_text.specs.ReadOut.{SourceView}
 use Rattle.runs.specs.Readings.{AreRead}
-use Rattle.runs.specs.Streams.{Stream, Telling, telling_of, tellings, AreTold}
+use Rattle.runs.specs.Streams.{Stream, Telling, TermsValue, telling_of, tellings, AreTold, IsOrdered, events_in}
 use Rattle.runs.specs.Closed.{IsOfStream, IsOwnedWithin, CiteWithin}
-use Rattle.groups.specs.Groups.{one, AreIsolated}
-use Rattle.groups.specs.Laws.{ReadersClosed, ToldIsReading, AloneHasOneReport}
+use Rattle.run_laws.specs.Groups.{one, AreIsolated, HaveReportsAlone}
+use Rattle.run_laws.specs.ReportLemmas.{only}
+use Rattle.run_laws.specs.GroupLaws.{ReadersClosed, ToldIsReading}
 use Rattle.test_support.specs.Worked.{four}
-use Rattle.portfolio_tests.specs.Alone.{first_bytes, usual, layout_of_two, two_terms, IsReportAlone}
+use Rattle.portfolio_tests.specs.Alone.{first_bytes, usual, layout_of_two, two_terms, HasOrder, IsOnlyReport}
 
 -- Places
-
-only_one : (s : ℕ) → IsTrue (one 1 s) → s ≡ 1
-only_one s member = elim (eqb_tells s 1) [ inl same ↦ same.1 | inr other ↦ absurd (let no : true ≡ false = sym member ∙ other.0 in cc) ]
 
 -- the first stream, and what its reader told, which hasn't failed
 record IsFirst (told : List Telling) (streams : List Stream) (bytes : List ℕ) : Type 0 where
@@ -55,52 +58,88 @@ first_told view (first ∷ firsts) (last ∷ lasts) (stream ∷ streams) bytes r
 first_told view _ _ _ bytes read entry fine = absurd read
 
 -- the terms of such a run are those of two streams over the four clauses
-pub of_two : (options : OptionsValue) (cube : CubeValue) (f : Cnf) (count : ℕ) (told : List Telling)
-    (Judged : List Stream → Type 0) (reports : List Report)
-    → options ≡ usual → cube ≡ [] → f ≡ four → count ≡ 2
-    → AreIsolated f (terms_of options cube f count) told Judged reports → AreIsolated four two_terms told Judged reports
-of_two options cube f count told Judged reports same none formula two isolated =
-    subst (λ n. AreIsolated four (terms_of usual [] four n) told Judged reports) two
-    (subst (λ g. AreIsolated g (terms_of usual [] g count) told Judged reports) formula
-    (subst (λ k. AreIsolated f (terms_of usual k f count) told Judged reports) none
-    (subst (λ o. AreIsolated f (terms_of o cube f count) told Judged reports) same isolated)))
+of_two : (Holds : Cnf → TermsValue → Type 0) (options : OptionsValue) (cube : CubeValue) (f : Cnf) (count : ℕ)
+    → options ≡ usual → cube ≡ [] → f ≡ four → count ≡ 2 → Holds f (terms_of options cube f count) → Holds four two_terms
+of_two Holds options cube f count same none formula two holds =
+    subst (λ n. Holds four (terms_of usual [] four n)) two
+    (subst (λ g. Holds g (terms_of usual [] g count)) formula
+    (subst (λ k. Holds f (terms_of usual k f count)) none
+    (subst (λ o. Holds f (terms_of o cube f count)) same holds)))
 
--- A report of stream 1 is one that it may have alone, where the reports of the run are isolated.
+pub two_isolated : (options : OptionsValue) (cube : CubeValue) (f : Cnf) (count : ℕ) (told : List Telling)
+    (Judged : List Stream → Type 0) (reports : List Report) → options ≡ usual → cube ≡ [] → f ≡ four → count ≡ 2
+    → AreIsolated f (terms_of options cube f count) told Judged reports → AreIsolated four two_terms told Judged reports
+two_isolated options cube f count told Judged reports = of_two (λ g terms. AreIsolated g terms told Judged reports) options cube f count
+
+pub two_alone : (options : OptionsValue) (cube : CubeValue) (f : Cnf) (count : ℕ) (told : List Telling)
+    (Judged : List Stream → Type 0) (reports : List Report) → options ≡ usual → cube ≡ [] → f ≡ four → count ≡ 2
+    → HaveReportsAlone f (terms_of options cube f count) told Judged reports → HaveReportsAlone four two_terms told Judged reports
+two_alone options cube f count told Judged reports = of_two (λ g terms. HaveReportsAlone g terms told Judged reports) options cube f count
+
+-- the streams of this history have an order that comes to the verdict, where it leaves what they found of one another
+abbrev pub HaveOrder : Cnf → TermsValue → History → List Stream → List Report → Type 0
+HaveOrder f terms h streams reports = FoundStays f terms.layout (λ s. true) h
+    → (order : IsOrdered f terms (λ s. true) streams reports) × ComeToVerdict terms.cube (events_in order.blocks) reports
+
+pub two_ordered : (options : OptionsValue) (cube : CubeValue) (f : Cnf) (count : ℕ) (h : History) (streams : List Stream)
+    (reports : List Report) → options ≡ usual → cube ≡ [] → f ≡ four → count ≡ 2
+    → HaveOrder f (terms_of options cube f count) h streams reports → HaveOrder four two_terms h streams reports
+two_ordered options cube f count h streams reports = of_two (λ g terms. HaveOrder g terms h streams reports) options cube f count
+
+-- A report of stream 1 is the one that it may have alone, by what a run promises.
 pub report_alone : ReadersClosed → ToldIsReading → {S : Type 0} (view : SourceView S) (firsts lasts : List S) (bytes : List ℕ)
     (Judged : List Stream → Type 0) (reports : List Report) (report : Report) (streams : List Stream)
     → AreIsolated four two_terms (tellings view firsts lasts) Judged reports
+    → HaveReportsAlone four two_terms (tellings view firsts lasts) Judged reports
     → AreTold (tellings view firsts lasts) streams → AreRead S view.reads firsts lasts streams → Judged streams
     → CiteWithin layout_of_two (one 1) bytes
     → IsOfStream (map view.left firsts) 1 (Some bytes) → IsOfStream (map view.has_failed lasts) 1 false
-    → IsOfStream reports 1 report → ¬ IsOfMemory report → IsReportAlone bytes report
-report_alone closes reads view firsts lasts bytes Judged reports report streams isolated told read judged cites entry fine says memory =
+    → IsOfStream reports 1 report → ¬ IsOfMemory report → IsOnlyReport bytes report
+report_alone closes reads view firsts lasts bytes Judged reports report streams isolated unique told read judged cites entry fine says memory =
     let tells = tellings view firsts lasts in
     let first = first_told view firsts lasts streams bytes read entry fine in
+    let closed = closes layout_of_two (one 1) tells streams told
+    (λ s other member at.
+    let same = same_at tells 1 other first.telling (subst (λ n. IsOfStream tells n other) (only 1 s member) at) first.telling_at in
+    (bytes, ap (λ (t : Telling). t.entry) same ∙ first.entry, cites)) in
+    let is_reading = reads tells streams 1 first.telling first.stream bytes told first.telling_at first.at first.entry first.running in
     record {
-      streams = streams;
-      reports = reports;
-      stream = first.stream;
-      alone = isolated streams told judged (one 1)
-          (closes layout_of_two (one 1) tells streams told
-          (λ s other member at.
-          let same = same_at tells 1 other first.telling (subst (λ n. IsOfStream tells n other) (only_one s member) at) first.telling_at in
-          (bytes, ap (λ (t : Telling). t.entry) same ∙ first.entry, cites)))
-          (λ s other member at. subst (λ r. ¬ IsOfMemory r)
-          (same_at reports 1 report other says (subst (λ n. IsOfStream reports n other) (only_one s member) at)) memory);
-      at = first.at;
-      reads = reads tells streams 1 first.telling first.stream bytes told first.telling_at first.at first.entry first.running;
-      says = says;
+      alone = record {
+        streams = streams;
+        reports = reports;
+        stream = first.stream;
+        alone = isolated streams told judged (one 1) closed
+            (λ s other member at. subst (λ r. ¬ IsOfMemory r)
+            (same_at reports 1 report other says (subst (λ n. IsOfStream reports n other) (only 1 s member) at)) memory);
+        at = first.at;
+        reads = is_reading;
+        says = says;
+      };
+      only = unique streams told judged 1 first.stream report first.at says closed memory bytes stream_ends.Ended is_reading;
     }
+
+-- The verdict of an order of lines
+
+says_so : (verdict : Verdict) (a b c : Bool) → a ≡ c → verdict ≡ (if a then Unsatisfiable else if b then UnsatisfiableUnder else Unknown) → (verdict ≡ Unsatisfiable) ↔ IsTrue c
+says_so verdict true b true same is = ((λ e. refl), λ t. is)
+says_so verdict true b false same is = absurd (let no : true ≡ false = same in cc)
+says_so verdict false b true same is = absurd (let no : false ≡ true = same in cc)
+says_so verdict false true false same is = ((λ e. absurd (let no : UnsatisfiableUnder ≡ Unsatisfiable = sym is ∙ e in cc)), λ t. absurd (let no : false ≡ true = t in cc))
+says_so verdict false false false same is = ((λ e. absurd (let no : Unknown ≡ Unsatisfiable = sym is ∙ e in cc)), λ t. absurd (let no : false ≡ true = t in cc))
+
+pub has_order : (streams : List Stream) (reports : List Report) (verdict : Verdict)
+    → (order : IsOrdered four two_terms (λ s. true) streams reports) × ComeToVerdict two_terms.cube (events_in order.blocks) reports
+    → verdict ≡ verdict_of reports → HasOrder verdict
+has_order streams reports verdict (order, comes) is = record {
+  lines = order.blocks;
+  legal = order.legal;
+  says = says_so verdict (list_any (λ report. report.empty) reports) (list_any (λ report. report.within) reports) (list_any publishes_empty (events_in order.blocks)) comes.empty is;
+}
 
 -- two facts of a value that is there give a third
 pub if_both : {T E : Type 0} {A B C : T → Type 0} (result : Result T E) → IfOk result A → IfOk result B → ((x : T) → A x → B x → C x) → IfOk result C
 if_both (Ok x) a b gives = gives x a b
 if_both (Err e) a b gives = tt
-
--- Two such reports are equal.
-pub reports_alike : AloneHasOneReport → (bytes : List ℕ) (report other : Report) → IsReportAlone bytes report → IsReportAlone bytes other → report ≡ other
-reports_alike law bytes report other a b =
-    law four two_terms 1 bytes ended a.streams b.streams a.reports b.reports a.stream b.stream report other a.alone b.alone a.at b.at a.reads b.reads a.says b.says
 
 -- The lines of the first stream, and of one that imports alone
 

@@ -1,12 +1,16 @@
 -- The row 'a neighbour': its first stream, and what two runs say of it (this project's own).
-use Rattle.std.specs.Prelude.{ℕ, List, [], codes}
+use Rattle.std.specs.Prelude.{◌≡◌, ◌↔◌, ℕ, IsTrue, List, [], codes}
+use Rattle.std.specs.List.{list_any}
 use Rattle.lrup_model.specs.Layout.{LayoutValue}
+use Rattle.lrup_model.specs.Event.{publishes_empty}
+use Rattle.lrup_model.specs.History.{IsLegal}
 use Rattle.stream_check.specs.declared.report.Report.{Report}
-use Rattle.stream_check.specs.Judging.{ended}
+use Rattle.lrup_text.specs.declared.device.StreamEnd.TheVariants as stream_ends
 use Rattle.portfolio.specs.Outcomes.{OptionsValue, layout_of, terms_of}
-use Rattle.runs.specs.Streams.{Stream, Terms}
-use Rattle.runs.specs.Closed.{IsOfStream}
-use Rattle.groups.specs.Groups.{IsAlone, IsReadingOf}
+use Rattle.portfolio.specs.declared.outcome.Verdict.{Verdict}
+use Rattle.portfolio.specs.declared.outcome.Verdict.TheVariants.{Unsatisfiable}
+use Rattle.runs.specs.Streams.{Block, TermsValue, events_in}
+use Rattle.run_laws.specs.Groups.{IsReportAlone}
 use Rattle.test_support.specs.Worked.{four}
 
 -- the first stream's bytes
@@ -21,15 +25,17 @@ usual = record { tries = 1000; lines = 65536; room = 1048576 }
 abbrev pub layout_of_two : LayoutValue
 layout_of_two = layout_of usual four 2
 
-abbrev pub two_terms : Terms
+abbrev pub two_terms : TermsValue
 two_terms = terms_of usual [] four 2
 
--- the report is one that stream 1 may have alone, where it has these bytes and ends after them
-pub record IsReportAlone (bytes : List ℕ) (report : Report) : Type 0 where
-  pub streams : List Stream
-  pub reports : List Report
-  pub stream : Stream
-  pub alone : IsAlone four two_terms 1 streams reports
-  pub at : IsOfStream streams 1 stream
-  pub reads : IsReadingOf bytes ended stream
-  pub says : IsOfStream reports 1 report
+-- the report is one that stream 1 may have alone, where it has these bytes and ends after them, and the only one
+pub record IsOnlyReport (bytes : List ℕ) (report : Report) : Type 0 where
+  pub alone : IsReportAlone four two_terms 1 bytes stream_ends.Ended report
+  pub only : (other : Report) → IsReportAlone four two_terms 1 bytes stream_ends.Ended other
+      → other ≡ report
+
+-- a legal history of whole lines publishes the empty clause exactly where this is the verdict 'unsatisfiable'
+pub record HasOrder (verdict : Verdict) : Type 0 where
+  pub lines : List Block
+  pub legal : IsLegal four layout_of_two (events_in lines)
+  pub says : (verdict ≡ Unsatisfiable) ↔ IsTrue (list_any publishes_empty (events_in lines))

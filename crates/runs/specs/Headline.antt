@@ -10,7 +10,7 @@ use Rattle.stream_check.specs.Setting.{Setting}
 use Rattle.stream_check.specs.Judging.{joined}
 use Rattle.lrup_text.specs.ReadOut.{SourceView}
 use Rattle.runs.specs.Readings.{IsStreamOf}
-use Rattle.runs.specs.Streams.{Stream, IsReadOut, JudgesStream, Terms, setting_of}
+use Rattle.runs.specs.Streams.{Stream, IsReadOut, JudgesStream, TermsValue, setting_of}
 
 -- The passes, of the streams counted on from s: each is that stream's at this formula and layout, has seen the history, and
 -- its calls are the history's events of that stream, in order.
@@ -38,7 +38,7 @@ IsJudgedBy c stream es report =
     (blocks : List History) × (es ≡ joined blocks) × JudgesStream c stream blocks report
 
 -- Each stream of the set, counted on from s, is judged by its own events of the history, as its report says.
-abbrev pub AreJudgedIn : Terms → (ℕ → Bool) → History → ℕ → List Stream → List Report → Type 0
+abbrev pub AreJudgedIn : TermsValue → (ℕ → Bool) → History → ℕ → List Stream → List Report → Type 0
 AreJudgedIn terms set h s [] [] = Unit {0}
 AreJudgedIn terms set h s (stream ∷ streams) (report ∷ reports) =
     (IsTrue (set s) → IsJudgedBy (setting_of terms s) stream (own h s) report)
@@ -46,7 +46,7 @@ AreJudgedIn terms set h s (stream ∷ streams) (report ∷ reports) =
 AreJudgedIn terms set h s _ _ = ⊥
 
 -- Each stream of these readers, counted on from s, was read out, and judged by some blocks of events: where a run has no outcome.
-abbrev pub WereJudged : {S : Type 0} → SourceView S → Terms → ℕ → List S → Type 0
+abbrev pub WereJudged : {S : Type 0} → SourceView S → TermsValue → ℕ → List S → Type 0
 WereJudged view terms s [] = Unit {0}
 WereJudged {S} view terms s (first ∷ firsts) =
     ((last : S) × (stream : Stream) × (blocks : List History) × (report : Report)

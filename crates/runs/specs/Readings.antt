@@ -1,14 +1,13 @@
 -- Which reads gave a run's streams (this project's own).
-use Rattle.std.specs.Prelude.{◌++◌, ℕ, true, false, List, [], ◌∷◌}
+use Rattle.std.specs.Prelude.{◌++◌, ℕ, List, [], ◌∷◌}
 use Rattle.lrup_text.specs.ReadOut.{ReadOut, SourceView}
 use Rattle.lrup_text.specs.Reads.{Gave, ReadsOf}
-use Rattle.runs.specs.Streams.{Stop, at_end, at_failure, early, Stream, IsTold, telling_of}
+use Rattle.runs.specs.Streams.{Stop, read_out, early, Stream, IsTold, telling_of}
 
--- Reads of a reader gave these bytes: all that it gave up to its first end, or to a read that failed; or, of one that was stopped
+-- Reads of a reader gave these bytes: all that it gave up to its first end or to the read that failed; or, of one that was stopped
 -- early, all that it gave but for what wasn't needed.
 abbrev pub IsReadTo : (S : Type 0) → ReadsOf S → Stop → S → List ℕ → S → Type 0
-IsReadTo S reads at_end first bytes last = ReadOut S reads false first bytes last
-IsReadTo S reads at_failure first bytes last = ReadOut S reads true first bytes last
+IsReadTo S reads (read_out end) first bytes last = ReadOut S reads end first bytes last
 IsReadTo S reads (early unneeded) first bytes last = Gave S reads first (bytes ++ unneeded) last
 
 -- the stream is what reads of a reader gave, from the first on

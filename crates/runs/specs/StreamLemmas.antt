@@ -6,7 +6,7 @@ use Rattle.std.proofs.lemmas.Bool.{cond-true, cond-false}
 use Rattle.lrup_text.specs.ReadOut.{SourceView}
 use Rattle.runs.specs.Closed.{IsOfStream}
 use Rattle.runs.specs.Readings.{AreRead}
-use Rattle.runs.specs.Streams.{Stop, at_end, at_failure, early, Stream, Telling, read_to, telling_of, tellings, IsTold, AreTold, Block, blocks_of}
+use Rattle.runs.specs.Streams.{Stop, read_out, early, Stream, Telling, read_to, telling_of, tellings, IsTold, AreTold, Block, blocks_of}
 
 -- at one place stands one thing
 pub same_at : {X : Type 0} (xs : List X) (s : ℕ) (x y : X)
@@ -61,8 +61,7 @@ told_from _ _ k stream are_told at = absurd are_told
 -- the bytes that were needed begin those that were read
 read_begins : (stop : Stop) (bytes : List ℕ)
     → (more : List ℕ) × (read_to stop bytes ≡ bytes ++ more)
-read_begins at_end bytes = ([], sym (append-nil bytes))
-read_begins at_failure bytes = ([], sym (append-nil bytes))
+read_begins (read_out end) bytes = ([], sym (append-nil bytes))
 read_begins (early unneeded) bytes = (unneeded, refl)
 
 begins : (left : Option (List ℕ)) (whole : List ℕ) (stop : Stop) (bytes : List ℕ)

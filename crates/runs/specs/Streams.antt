@@ -1,24 +1,25 @@
 -- What a run's streams told, and in which order of lines their reports hold (this project's own).
-use Rattle.std.specs.Prelude.{◌≡◌, ◌+◌, ◌++◌, ◌==◌, ◌⊎◌, ℕ, Bool, true, false, IsTrue, List, [], ◌∷◌, Option, if◌then◌else◌}
-use Rattle.std.specs.Io.KnownBytes.{Consumes, IsAtEnd}
+use Rattle.std.specs.Prelude.{◌≡◌, ◌+◌, ◌++◌, ◌==◌, ℕ, Bool, true, false, IsTrue, List, [], ◌∷◌, Option, if◌then◌else◌}
+use Rattle.std.specs.Io.KnownBytes.{Consumes}
 use Rattle.std.specs.List.{AllByRecursion, flat_map}
 use Rattle.lrup_model.specs.Formula.{Cnf}
 use Rattle.lrup_model.specs.Cube.{CubeValue}
 use Rattle.lrup_model.specs.Layout.{LayoutValue, IsStream}
 use Rattle.lrup_model.specs.Event.{History, stream_of}
 use Rattle.lrup_model.specs.History.{IsLegal}
-use Rattle.lrup_text.specs.ReadOut.{SourceView}
+use Rattle.lrup_text.specs.ReadOut.{EndsSo, SourceView}
+use Rattle.lrup_text.specs.declared.device.StreamEnd.{StreamEnd}
+use Rattle.lrup_text.specs.declared.device.StreamEnd.TheVariants as stream_ends
 use Rattle.stream_check.specs.declared.report.Ending.{Ending}
 use Rattle.stream_check.specs.declared.report.Ending.TheVariants as endings
 use Rattle.stream_check.specs.declared.report.Report.{Report}
 use Rattle.stream_check.specs.Setting.{Setting}
-use Rattle.stream_check.specs.Judging.{ended, failed, JudgesBlocks}
+use Rattle.stream_check.specs.Judging.{JudgesBlocks}
 
--- Where the reading of a stream stopped: at its end, at a read that failed, or before either, since nothing more was needed than
--- what came before these last bytes that were read.
+-- Where the reading of a stream stopped: at the end that it came to; or before, since nothing more was needed than what came
+-- before these last bytes that were read.
 pub data Stop : Type 0 where
-  at_end : Stop
-  at_failure : Stop
+  read_out : (end : StreamEnd) → Stop
   early : (unneeded : List ℕ) → Stop
 
 -- the bytes of a stream that were needed, and where its reading stopped
@@ -28,12 +29,11 @@ pub record Stream : Type 0 where
 
 -- the stream was read to its end, or to the read that failed
 abbrev pub IsReadOut : Stream → Type 0
-IsReadOut stream = (stream.stop ≡ at_end) ⊎ (stream.stop ≡ at_failure)
+IsReadOut stream = (end : StreamEnd) × (stream.stop ≡ read_out end)
 
 -- all bytes that were read, where these were needed
 abbrev pub read_to : Stop → List ℕ → List ℕ
-read_to at_end bytes = bytes
-read_to at_failure bytes = bytes
+read_to (read_out end) bytes = bytes
 read_to (early unneeded) bytes = bytes ++ unneeded
 
 -- What a reader tells: which bytes it has left at first and which in the end, where the device tells them, and whether it has
@@ -58,10 +58,9 @@ tellings view (first ∷ firsts) [] = []
 tellings view (first ∷ firsts) (last ∷ lasts) =
     telling_of view first last ∷ tellings view firsts lasts
 
--- at the end no byte is left; and the reader has failed if its reading stopped at a failure, and only then
+-- the reader has what a reading that stopped so leaves
 abbrev pub StopsSo : Stop → Option (List ℕ) → Bool → Type 0
-StopsSo at_end left has_failed = IsAtEnd left × (has_failed ≡ false)
-StopsSo at_failure left has_failed = has_failed ≡ true
+StopsSo (read_out end) left has_failed = EndsSo end left has_failed
 StopsSo (early unneeded) left has_failed = has_failed ≡ false
 
 -- The stream is what a reader told: the bytes read are a beginning of those left at first. Where the reader doesn't tell what it has
@@ -79,11 +78,10 @@ StopsReading (endings.Memory line) = Unit {0}
 
 -- a stream is judged by these blocks of events; one that was stopped early is judged so whatever its end would have been
 abbrev pub JudgesTo : Stop → Setting → List ℕ → List History → Report → Type 0
-JudgesTo at_end c bytes blocks report = JudgesBlocks c bytes ended blocks report
-JudgesTo at_failure c bytes blocks report = JudgesBlocks c bytes failed blocks report
+JudgesTo (read_out end) c bytes blocks report = JudgesBlocks c bytes end blocks report
 JudgesTo (early unneeded) c bytes blocks report =
-    StopsReading report.ending × JudgesBlocks c bytes ended blocks report
-    × JudgesBlocks c bytes failed blocks report
+    StopsReading report.ending × JudgesBlocks c bytes stream_ends.Ended blocks report
+    × JudgesBlocks c bytes stream_ends.Failed blocks report
 
 -- the stream is judged by these blocks of events, as its stop wants
 abbrev pub JudgesStream : Setting → Stream → List History → Report → Type 0
@@ -125,22 +123,22 @@ IsBlockWithin p set block =
     × AllByRecursion (λ e. stream_of e ≡ block.stream) block.events
 
 -- What the streams of a run are all checked by: the layout, the cube, and how often a hint of another stream is fetched again.
-pub record Terms : Type 0 where
+pub record TermsValue : Type 0 where
   pub layout : LayoutValue
   pub cube : CubeValue
   pub tries : ℕ
 
 -- the record of these
-abbrev pub terms_at : LayoutValue → CubeValue → ℕ → Terms
+abbrev pub terms_at : LayoutValue → CubeValue → ℕ → TermsValue
 terms_at p cube tries = record { layout = p; cube = cube; tries = tries }
 
 -- the setting of stream s under these terms
-abbrev pub setting_of : Terms → ℕ → Setting
+abbrev pub setting_of : TermsValue → ℕ → Setting
 setting_of terms s =
     record { layout = terms.layout; cube = terms.cube; stream = s; tries = terms.tries }
 
 -- each stream of the set, counted on from s, is judged by its blocks
-abbrev pub AreJudged : Terms → (ℕ → Bool) → List Block → ℕ → List Stream → List Report → Type 0
+abbrev pub AreJudged : TermsValue → (ℕ → Bool) → List Block → ℕ → List Stream → List Report → Type 0
 AreJudged terms set blocks s [] [] = Unit {0}
 AreJudged terms set blocks s (stream ∷ streams) (report ∷ reports) =
     (IsTrue (set s) → JudgesStream (setting_of terms s) stream (blocks_of s blocks) report)
@@ -149,7 +147,7 @@ AreJudged terms set blocks s _ _ = ⊥
 
 -- The reports of a set of streams have an order of lines: a legal history of whole lines of these streams, each stream's in
 -- its order, by which each stream is judged so.
-pub record IsOrdered (f : Cnf) (terms : Terms) (set : ℕ → Bool) (streams : List Stream)
+pub record IsOrdered (f : Cnf) (terms : TermsValue) (set : ℕ → Bool) (streams : List Stream)
     (reports : List Report) : Type 0 where
   pub blocks : List Block
   pub within : AllByRecursion (IsBlockWithin terms.layout set) blocks

@@ -1,5 +1,5 @@
 -- An addition that is checked and published.
-use Rattle.std.proofs.Common.{◌≡◌, ◌≤◌, ◌<◌, ℕ, ℤ, nat_abs, Bool, true, false, cond, List, [], ◌∷◌, length, None, refl, sym, ap, subst, ◌∙◌, arith}
+use Rattle.std.proofs.Common.{◌≡◌, ◌≤◌, ◌<◌, ℕ, ℤ, nat_abs, Bool, true, false, cond, List, [], ◌∷◌, length, Ok, refl, sym, ap, subst, ◌∙◌, arith}
 use Rattle.std.specs.Prelude.{not, ◌==◌}
 use Rattle.std.specs.Ordering.{int_eq}
 use Rattle.std.specs.List.{AllByRecursion, sum_by}
@@ -87,11 +87,11 @@ clause_is c st id lits old new clause admits kept is = is ∙ kept.1 ∙ ap (λ 
 
 -- the hints show the addition's clause
 pub shown_is : (c : Setting) (st : Standing) (gone : ℕ → Bool) (f : Cnf) (id : ℕ) (lits : List ℤ) (hints : List ℕ) (marks : Propagation) (es : History) → Admits c st id lits marks
-    → Shows c gone f marks.falses hints es None → Shows c gone f (distinct lits) hints es None
-shown_is c st gone f id lits hints marks es admits shown = subst (λ (d : Clause). Shows c gone f d hints es None) (ap (λ (m : Propagation). m.falses) admits.marks_are) shown
+    → Shows c gone f marks.falses hints es (Ok tt) → Shows c gone f (distinct lits) hints es (Ok tt)
+shown_is c st gone f id lits hints marks es admits shown = subst (λ (d : Clause). Shows c gone f d hints es (Ok tt)) (ap (λ (m : Propagation). m.falses) admits.marks_are) shown
 
 pub publishable : (c : Setting) (p q : Place) (st : Standing) (gone : ℕ → Bool) (es : History) (id : ℕ) (lits : List ℤ) (hints : List ℕ) (marks : Propagation) → PropagationSound → Tells p q es
-    → Admits c st id lits marks → length lits ≤ max_line_literals → Shows c gone p.caller.formula (distinct lits) hints es None → IsPublishable q.caller.formula (distinct lits)
+    → Admits c st id lits marks → length lits ≤ max_line_literals → Shows c gone p.caller.formula (distinct lits) hints es (Ok tt) → IsPublishable q.caller.formula (distinct lits)
 publishable c p q st gone es id lits hints marks sound tells admits few shown =
     subst (λ (f : Cnf). IsPublishable f (distinct lits)) (sym (ap (λ (r : Caller). r.formula) tells.caller))
     (record {

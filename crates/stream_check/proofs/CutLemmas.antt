@@ -4,11 +4,12 @@ use Rattle.std.specs.List.{AllByRecursion, flat_map}
 use Rattle.lrup_model.specs.Event.{History}
 use Rattle.lrup_model.specs.ListLemmas.{All-append}
 use Rattle.lrup_text.specs.Lines.{StreamLine, Deletion, IsWithinLimits, line_text, HasNoLine}
+use Rattle.lrup_text.specs.declared.device.StreamEnd.{StreamEnd}
 use Rattle.stream_check.specs.declared.report.Report.{Report}
 use Rattle.stream_check.specs.Setting.{Setting}
 use Rattle.stream_check.specs.Standing.{standing_of}
 use Rattle.stream_check.specs.Verdicts.{Good, Bad}
-use Rattle.stream_check.specs.Judging.{AreGood, joined, EndsAfter, StreamEnd}
+use Rattle.stream_check.specs.Judging.{AreGood, joined, EndsAfter}
 use Rattle.stream_check.specs.Laws.{cited_by, FetchesOnly, JudgedLinesCut, CitedFetched}
 use Rattle.stream_check.specs.ReportLemmas.{split_first, joined-append}
 use Rattle.stream_check.proofs.EventLemmas.{line_fetches}

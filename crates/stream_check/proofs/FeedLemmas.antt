@@ -1,6 +1,6 @@
 -- What a piece leaves of a checker.
 use Rattle.std.specs.Fmt.{decimal, signed_decimal}
-use Rattle.std.proofs.Common.{◌≡◌, ◌<◌, ◌^◌, ◌+◌, ℕ, Bool, true, false, List, [], ◌∷◌, ◌++◌, length, take, Option, None, Some, inl, inr, Ok, refl, sym, ap, subst, ◌∙◌, append_assoc, arith}
+use Rattle.std.proofs.Common.{◌≡◌, ◌<◌, ◌^◌, ◌+◌, ℕ, Bool, true, false, List, [], ◌∷◌, ◌++◌, length, take, Option, None, Some, Ok, refl, sym, ap, subst, ◌∙◌, append_assoc, arith}
 use Rattle.std.specs.Prelude.{◌&&◌, is_some, map}
 use Rattle.std.specs.List.{flat_map}
 use Rattle.std.proofs.lemmas.List.{take_all}
@@ -15,23 +15,24 @@ use Rattle.lrup_text.specs.Feeding.{ReaderState}
 use Rattle.lrup_text.specs.declared.reader.End.TheVariants as ends
 use Rattle.lrup_text.specs.declared.LineFault.TheVariants as texts
 use Rattle.lrup_text.specs.declared.LineFault.{LineFault}
+use Rattle.lrup_text.specs.declared.device.StreamEnd.{StreamEnd}
+use Rattle.lrup_text.specs.declared.device.StreamEnd.TheVariants as stream_ends
 use Rattle.stream_check.specs.Laws.{FreshLeft}
 use Rattle.stream_check.specs.declared.fault.Fault.TheVariants as faults
 use Rattle.stream_check.specs.declared.report.Ending.TheVariants as endings
 use Rattle.stream_check.specs.declared.report.Ending.{Ending}
 use Rattle.stream_check.specs.declared.report.Report.{Report}
 use Rattle.stream_check.specs.declared.held.Held.{Held}
-use Rattle.stream_check.specs.declared.deletion.LineStop.{LineStop}
-use Rattle.stream_check.specs.declared.line.Taken.TheVariants as taken
 use Rattle.stream_check.specs.Setting.{Setting, side_of, is_shared}
 use Rattle.stream_check.specs.Standing.{Tally, tally_of, is_among, capped}
-use Rattle.stream_check.specs.Judging.{StreamEnd, ended, failed, ending_at, report_of, JudgesBlocks}
+use Rattle.stream_check.specs.Judging.{ending_at, report_of, JudgesBlocks}
 use Rattle.stream_check.specs.Leaving.{Going, Over, Leaves, IsFresh}
 use Rattle.stream_check.specs.CheckerValue.{CheckerValue}
-use Rattle.stream_check.specs.Checker.{read_of, value_of, checker_state, state_by, holding_of, report_at, tally_at, IsReadyAt, IsSound, LeavesOn, StopsAt, IsNew, EndsBy, Ends, ReportsEnd}
-use Rattle.stream_check.specs.Taking.{IsReady, hold, StopsBy, TakesNext, ending_of}
+use Rattle.stream_check.specs.Checker.{read_of, value_of, checker_state, state_by, holding_of, report_at, tally_at, IsReadyAt, IsSound, LeavesOn, IsNew, EndsBy, Ends, ReportsEnd}
+use Rattle.stream_check.specs.Taking.{IsReady, hold}
 use Rattle.stream_check.proofs.LeavingLemmas.{end_judged, line_grows, all_snoc}
 use Rattle.stream_check.proofs.StandingLemmas.{same_tally}
+use Rattle.stream_check.proofs.TakeLemmas.{leaves_front}
 
 pub some_of : (o : Option Ending) → is_some o ≡ true → (ending : Ending) × (o ≡ Some ending)
 some_of None some = absurd (cc)
@@ -54,14 +55,12 @@ feeds_line h n read r used blocks free left ending none reads leaves =
     (subst (λ (text : List ℕ). LeavesOn h.setting (Going (hold h read free)) used blocks (Going (hold n text left))) (sym (ap read_of reads)) leaves)
 
 -- the front of a line is taken
-pub feeds_more : (h n : Held) (read : List ℕ) (r : ReaderState) (piece : List ℕ) (blocks : List History) (free left : ℕ) (ending : Option Ending) → ending ≡ None → r ≡ Ok (read ++ piece)
-    → TakesNext h read free piece blocks taken.More n left
-    → LeavesOn h.setting (checker_state (value_of h read ending) free) (take (length piece) piece) blocks (checker_state (value_of n (read_of r) ending) left)
-feeds_more h n read r piece blocks free left ending none reads takes =
-    let whole : LeavesOn h.setting (Going (hold h read free)) (take (length piece) piece) blocks (Going (hold n (read ++ piece) left)) =
-    subst (λ (used : List ℕ). LeavesOn h.setting (Going (hold h read free)) used blocks (Going (hold n (read ++ piece) left))) (sym (take_all (length piece) piece (omega arith))) takes.1 in
-    subst (λ (o : Option Ending). LeavesOn h.setting (checker_state (value_of h read o) free) (take (length piece) piece) blocks (checker_state (value_of n (read_of r) o) left)) (sym none)
-    (subst (λ (text : List ℕ). LeavesOn h.setting (Going (hold h read free)) (take (length piece) piece) blocks (Going (hold n text left))) (sym (ap read_of reads)) whole)
+pub feeds_more : (h : Held) (read : List ℕ) (r : ReaderState) (piece : List ℕ) (used free : ℕ) (ending : Option Ending) → ending ≡ None → r ≡ Ok (read ++ piece) → used ≡ length piece → IsPending (read ++ piece)
+    → LeavesOn h.setting (checker_state (value_of h read ending) free) (take used piece) [] (checker_state (value_of h (read_of r) ending) free)
+feeds_more h read r piece used free ending none reads all pending =
+    subst (λ (o : Option Ending). LeavesOn h.setting (checker_state (value_of h read o) free) (take used piece) [] (checker_state (value_of h (read_of r) o) free)) (sym none)
+    (subst (λ (text : List ℕ). LeavesOn h.setting (Going (hold h read free)) (take used piece) [] (Going (hold h text free))) (sym (ap read_of reads))
+    (subst (λ (b : List ℕ). LeavesOn h.setting (Going (hold h read free)) b [] (Going (hold h (read ++ piece) free))) (sym (take_all used piece (omega (arith, all)))) (leaves_front h free read piece pending)))
 
 -- and the lines are cut as before
 pub front_cut : (bytes pending piece : List ℕ) (lines : List StreamLine) → IsPending (pending ++ piece) → Cut bytes lines pending → Cut (bytes ++ piece) lines (pending ++ piece)
@@ -107,23 +106,15 @@ pub reads_on : (r : ReaderState) (read : List ℕ) → r ≡ Ok read → r ≡ O
 reads_on r read e = e ∙ ap (λ (b : List ℕ). Ok b) (sym (ap read_of e))
 
 -- the reading ends
-pub feeds_stopped : (h n : Held) (read piece : List ℕ) (used : ℕ) (blocks : List History) (free left : ℕ) (stop : LineStop) (old : Option Ending) (new : Ending) → old ≡ None → new ≡ ending_of n.line stop
-    → TakesNext h read free piece blocks (taken.Stopped used stop) n left
-    → LeavesOn h.setting (checker_state (value_of h read old) free) (take used piece) blocks (Over (report_at (tally_at n) new))
-feeds_stopped h n read piece used blocks free left stop old new none is takes =
-    subst (λ (o : Option Ending). LeavesOn h.setting (checker_state (value_of h read o) free) (take used piece) blocks (Over (report_at (tally_at n) new))) (sym none)
-    (subst (λ (e : Ending). LeavesOn h.setting (Going (hold h read free)) (take used piece) blocks (Over (report_at (tally_at n) e))) (sym is) takes.1)
-
--- at the text that stopped
-pub stops_at : (line : ℕ) (stop : LineStop) (ending : Ending) (text : List ℕ) → ending ≡ ending_of line stop → StopsBy stop text → StopsAt ending text
-stops_at line stop ending text is (inl whole) = inl whole
-stops_at line stop ending text is (inr refused) = inr (line, refused.0, is ∙ ap (ending_of line) refused.1, refused.2)
+pub feeds_over : (h : Held) (read used : List ℕ) (blocks : List History) (free : ℕ) (ending : Option Ending) (report : Report) → ending ≡ None
+    → LeavesOn h.setting (Going (hold h read free)) used blocks (Over report) → LeavesOn h.setting (checker_state (value_of h read ending) free) used blocks (Over report)
+feeds_over h read used blocks free ending report none leaves = subst (λ (o : Option Ending). LeavesOn h.setting (checker_state (value_of h read o) free) used blocks (Over report)) (sym none) leaves
 
 -- The end of the stream, or a failed read
 
 either_report : (c : Setting) (bytes : List ℕ) (blocks : List History) (end : StreamEnd) (report : Report) → Leaves c bytes blocks (Over report) → JudgesBlocks c bytes end blocks report
-either_report c bytes blocks ended report over = over.0
-either_report c bytes blocks failed report over = over.1
+either_report c bytes blocks stream_ends.Ended report over = over.0
+either_report c bytes blocks stream_ends.Failed report over = over.1
 
 -- a checker that is over stays as it is
 pub ends_over : (end : StreamEnd) (v : CheckerValue) (ending : Ending) → v.ending ≡ Some ending → Ends end v v
@@ -152,14 +143,14 @@ reports_now end old new none tally ending bytes blocks free leaves =
 
 -- the end of the lines, where a line is open and where none is
 
-pub ended_clean : (r : ReaderState) (line : ℕ) → r ≡ Ok [] → ending_at ended (read_of r) line ≡ endings.Ended
-ended_clean r line reads = ap (λ (s : ReaderState). ending_at ended (read_of s) line) reads
+pub ended_clean : (r : ReaderState) (line : ℕ) → r ≡ Ok [] → ending_at stream_ends.Ended (read_of r) line ≡ endings.Ended
+ended_clean r line reads = ap (λ (s : ReaderState). ending_at stream_ends.Ended (read_of s) line) reads
 
-ended_open : (read : List ℕ) (line : ℕ) (fault : LineFault) → (read ≡ [] → ⊥) → fault ≡ texts.Truncated → ending_at ended read line ≡ endings.Bad line (faults.Text fault)
+ended_open : (read : List ℕ) (line : ℕ) (fault : LineFault) → (read ≡ [] → ⊥) → fault ≡ texts.Truncated → ending_at stream_ends.Ended read line ≡ endings.Bad line (faults.Text fault)
 ended_open [] line fault unread is = absurd (unread refl)
 ended_open (byte ∷ bytes) line fault unread is = ap (λ (f : LineFault). endings.Bad line (faults.Text f)) (sym is)
 
-pub ended_fault : (r new : ReaderState) (line : ℕ) (fault : LineFault) → r ≡ Ok (read_of r) → feeding.ReaderEnds r (ends.Fault fault) new → ending_at ended (read_of r) line ≡ endings.Bad line (faults.Text fault)
+pub ended_fault : (r new : ReaderState) (line : ℕ) (fault : LineFault) → r ≡ Ok (read_of r) → feeding.ReaderEnds r (ends.Fault fault) new → ending_at stream_ends.Ended (read_of r) line ≡ endings.Bad line (faults.Text fault)
 ended_fault r new line fault reads at_end =
     let left = subst (λ (s : ReaderState). feeding.ReaderEnds s (ends.Fault fault) new) reads at_end in
     ended_open (read_of r) line fault left.0 left.1

@@ -7,6 +7,8 @@ use Rattle.lrup_text.specs.declared.LineFault.{LineFault}
 use Rattle.lrup_text.specs.Lines.{StreamLine, Deletion, IsWithinLimits, LineText, line_text, Cut, IsPending}
 use Rattle.lrup_text.specs.Faults.{IsRefused, HasTextFault}
 use Rattle.lrup_text.specs.Laws.{TextsAreLines, EmptyCut}
+use Rattle.lrup_text.specs.declared.device.StreamEnd.{StreamEnd}
+use Rattle.lrup_text.specs.declared.device.StreamEnd.TheVariants as stream_ends
 use Rattle.stream_check.specs.declared.fault.Fault.TheVariants as faults
 use Rattle.stream_check.specs.declared.report.Ending.{Ending}
 use Rattle.stream_check.specs.declared.report.Ending.TheVariants as endings
@@ -15,7 +17,7 @@ use Rattle.stream_check.specs.Setting.{Setting}
 use Rattle.stream_check.specs.Standing.{Standing, standing_of, tally_of, line_number}
 use Rattle.stream_check.specs.Verdicts.{Good, Bad}
 use Rattle.stream_check.specs.Deletions.{StopsDeletion}
-use Rattle.stream_check.specs.Judging.{JudgesLine, AreGood, BeginsGood, report_of, EndsAtLine, EndsAtText, EndsAtMemory, EndsAtEnd, EndsAfter, StreamEnd, ended, failed, ending_at, JudgesBlocks}
+use Rattle.stream_check.specs.Judging.{JudgesLine, AreGood, BeginsGood, report_of, EndsAtLine, EndsAtText, EndsAtMemory, EndsAtEnd, EndsAfter, ending_at, JudgesBlocks}
 use Rattle.stream_check.specs.Leaving.{Holding, SameStanding, LeavesGoing, standing_after, tally_after}
 use Rattle.stream_check.specs.Laws.{FreshLeft, PendingGrows, GoodLineTaken, BadLineTaken, BadTextRead, MemoryWanted, EndJudged, OverStays, IsDecided, EitherEnd, DecidedBeforeFailure}
 use Rattle.stream_check.proofs.StandingLemmas.{standing_of-snoc, tally_of-snoc, same_standing}
@@ -158,7 +160,7 @@ bad_line_taken c bytes piece blocks block old line deleted fault before text jud
     } in
     let judges : (end : StreamEnd) → JudgesBlocks c (bytes ++ piece) end (blocks ++ block ∷ []) (report_of old.tally deleted (endings.Bad old.line fault)) =
     λ end. ends_behind c bytes piece blocks (block ∷ []) old end (report_of old.tally deleted (endings.Bad old.line fault)) before (inl at_line) in
-    (judges ended, judges failed)
+    (judges stream_ends.Ended, judges stream_ends.Failed)
 
 pub memory_wanted : MemoryWanted
 memory_wanted c bytes piece blocks block old lead ids earlier before text stops =
@@ -177,7 +179,7 @@ memory_wanted c bytes piece blocks block old lead ids earlier before text stops 
     } in
     let judges : (end : StreamEnd) → JudgesBlocks c (bytes ++ piece) end (blocks ++ block ∷ []) (report_of old.tally (length earlier) (endings.Memory old.line)) =
     λ end. ends_behind c bytes piece blocks (block ∷ []) old end (report_of old.tally (length earlier) (endings.Memory old.line)) before (inr (inr (inl at_memory))) in
-    (judges ended, judges failed)
+    (judges stream_ends.Ended, judges stream_ends.Failed)
 
 refused_alone : (bytes : List ℕ) (fault : LineFault) → IsRefused bytes fault → HasTextFault bytes fault
 refused_alone bytes fault refused = (bytes, [], sym (append-nil bytes), refused)
@@ -195,7 +197,7 @@ bad_text_read c bytes piece blocks old fault before refused =
     let judges : (end : StreamEnd) → JudgesBlocks c (bytes ++ piece) end blocks report =
     λ end. subst (λ b. JudgesBlocks c (bytes ++ piece) end b report) (append-nil blocks)
     (ends_behind c bytes piece blocks [] old end report before (inr (inl at_text))) in
-    (judges ended, judges failed)
+    (judges stream_ends.Ended, judges stream_ends.Failed)
 
 pub end_judged : EndJudged
 end_judged c bytes blocks old end before =
@@ -280,32 +282,32 @@ before_end c bytes more end other blocks report j at_end =
 
 -- an ending by the end isn't decided before it
 not_decided : (end : StreamEnd) (rest : List ℕ) (number : ℕ) → IsDecided (ending_at end rest number) → ⊥
-not_decided ended [] number decided = decided
-not_decided ended (byte ∷ rest) number decided = decided refl
-not_decided failed rest number decided = decided
+not_decided stream_ends.Ended [] number decided = decided
+not_decided stream_ends.Ended (byte ∷ rest) number decided = decided refl
+not_decided stream_ends.Failed rest number decided = decided
 
 pub either_end : EitherEnd
 either_end c bytes more end other blocks report decided j = before_end c bytes more end other blocks report j
     (λ last. absurd (not_decided end j.rest (line_number (length j.lines)) (subst IsDecided (ap (λ (r : Report). r.ending) last.says) decided)))
 
 pub decided_before_failure : DecidedBeforeFailure
-decided_before_failure c bytes more end blocks report untold j = before_end c bytes more failed end blocks report j
+decided_before_failure c bytes more end blocks report untold j = before_end c bytes more stream_ends.Failed end blocks report j
     (λ last. absurd (untold (line_number (length j.lines), ap (λ (r : Report). r.ending) last.says)))
 
 -- the ending that a failed read has is no other's
 says_failed : (c : Setting) (lines others : List StreamLine) (rest left : List ℕ) (report : Report)
-    → report ≡ report_of (tally_of c lines) 0 (ending_at ended rest (line_number (length lines)))
-    → report ≡ report_of (tally_of c others) 0 (ending_at failed left (line_number (length others))) → ⊥
+    → report ≡ report_of (tally_of c lines) 0 (ending_at stream_ends.Ended rest (line_number (length lines)))
+    → report ≡ report_of (tally_of c others) 0 (ending_at stream_ends.Failed left (line_number (length others))) → ⊥
 says_failed c lines others [] left report a b = let e : endings.Ended ≡ endings.ReadFailed (line_number (length others)) = ap (λ (r : Report). r.ending) (sym a ∙ b) in cc
 says_failed c lines others (byte ∷ rest) left report a b = let e : endings.Bad (line_number (length lines)) _ ≡ endings.ReadFailed (line_number (length others)) = ap (λ (r : Report). r.ending) (sym a ∙ b) in cc
 
 -- A report that fits both ends is decided before the end, so that it fits whatever follows.
 over_longer : (c : Setting) (bytes more : List ℕ) (blocks : List History) (report : Report) (end : StreamEnd)
-    → JudgesBlocks c bytes ended blocks report → JudgesBlocks c bytes failed blocks report → JudgesBlocks c (bytes ++ more) end blocks report
+    → JudgesBlocks c bytes stream_ends.Ended blocks report → JudgesBlocks c bytes stream_ends.Failed blocks report → JudgesBlocks c (bytes ++ more) end blocks report
 over_longer c bytes more blocks report end a b =
-    before_end c bytes more ended end blocks report a
-    (λ at_end. before_end c bytes more failed end blocks report b
+    before_end c bytes more stream_ends.Ended end blocks report a
+    (λ at_end. before_end c bytes more stream_ends.Failed end blocks report b
     (λ failed_end. absurd (says_failed c a.lines b.lines a.rest b.rest report at_end.says failed_end.says)))
 
 pub over_stays : OverStays
-over_stays c bytes more blocks report over = (over_longer c bytes more blocks report ended over.0 over.1, over_longer c bytes more blocks report failed over.0 over.1)
+over_stays c bytes more blocks report over = (over_longer c bytes more blocks report stream_ends.Ended over.0 over.1, over_longer c bytes more blocks report stream_ends.Failed over.0 over.1)

@@ -1,5 +1,5 @@
 -- What one line leaves of what is held, and of the place.
-use Rattle.std.proofs.Common.{◌≡◌, ◌<◌, ◌+◌, ◌-◌, ℕ, ℤ, Bool, true, false, List, [], ◌∷◌, ◌++◌, length, None, Some, refl, sym, ap, subst, ◌∙◌, inl, inr, arith}
+use Rattle.std.proofs.Common.{◌≡◌, ◌<◌, ◌+◌, ◌-◌, ℕ, ℤ, Bool, true, false, List, [], ◌∷◌, ◌++◌, length, Ok, Err, refl, sym, ap, subst, ◌∙◌, inl, inr, arith}
 use Rattle.std.specs.Prelude.{◌||◌, ◌&&◌, ◌==◌, min, ◌^◌}
 use Rattle.std.specs.List.{AllByRecursion}
 use Rattle.std.proofs.lemmas.Bool.{cases_eq}
@@ -84,7 +84,7 @@ ready_retires old new p q es tells quiet setting last ready = record {
 published_run : (m : State) (fetches : History) (c : Setting) (id : ℕ) (lits : List ℤ) → AllByRecursion IsFetch fetches → run m (fetches ++ published_by c id lits ∷ []) ≡ put m id (live (distinct lits))
 published_run m fetches c id lits quiet = run-append m fetches (published_by c id lits ∷ []) ∙ ap (λ (n : State). put n id (live (distinct lits))) (run-fetches m fetches quiet)
 
-pub ready_publish : (old new : Held) (p q : Place) (es : History) (id : ℕ) (lits : List ℤ) → Tells p q es → MakesEvents old.setting id lits es None → new.setting ≡ old.setting → new.last ≡ id → old.last < id
+pub ready_publish : (old new : Held) (p q : Place) (es : History) (id : ℕ) (lits : List ℤ) → Tells p q es → MakesEvents old.setting id lits es (Ok tt) → new.setting ≡ old.setting → new.last ≡ id → old.last < id
     → IsReady old p → IsReady new q
 ready_publish old new p q es id lits tells made setting last above ready =
     let c = old.setting in
@@ -99,7 +99,7 @@ ready_publish old new p q es id lits tells made setting last above ready =
           owned j theirs ∙ put-other p.own id (live (distinct lits)) j other ∙ ready.vacant j (own_before p q es j tells theirs) (omega (arith, over, above));
     }
 
-pub room_publish : (old : Held) (p q : Place) (es : History) (id : ℕ) (lits : List ℤ) → IsPlaceOf old.setting p → Tells p q es → MakesEvents old.setting id lits es None → q.room ≡ p.room - length (distinct lits)
+pub room_publish : (old : Held) (p q : Place) (es : History) (id : ℕ) (lits : List ℤ) → IsPlaceOf old.setting p → Tells p q es → MakesEvents old.setting id lits es (Ok tt) → q.room ≡ p.room - length (distinct lits)
 room_publish old p q es id lits at tells made =
     let e : Event = published_by old.setting id lits in
     let one : spent p.caller.stream (e ∷ []) ≡ length (distinct lits) = spent_one p.caller.stream e (sym at.stream) in
@@ -135,7 +135,7 @@ pub record Adds (old new : Held) (id : ℕ) (is_empty within_cube : Bool) : Type
 
 pub takes_addition : (old new : Held) (free left : ℕ) (id : ℕ) (lits : List ℤ) (hints : List ℕ) (es : History) (is_empty within_cube : Bool) → Adds old new id is_empty within_cube
     → is_empty ≡ (length lits == 0) → within_cube ≡ is_within old.setting.cube (distinct lits) → left ≡ free - length (distinct lits)
-    → JudgesAddition old.setting (standing_at old free) id lits hints es Good → TakesBy old free new left (Addition id lits hints) es None
+    → JudgesAddition old.setting (standing_at old free) id lits hints es Good → TakesBy old free new left (Addition id lits hints) es (Ok tt)
 takes_addition old new free left id lits hints es is_empty within_cube adds is within room judged =
     let line : StreamLine = Addition id lits hints in (
       judged,
@@ -165,7 +165,7 @@ pub record Counts (mid new : Held) : Type 0 where
   pub retired : new.retired ≡ mid.retired
 
 pub takes_deletion : (old mid new : Held) (free left : ℕ) (lead : ℕ) (ids : List ℕ) (es : History) (count : ℕ) → KeepsLines old mid → Counts mid new → deleted_at mid ≡ capped (deleted_at old + count) → left ≡ free
-    → Deletes old.setting old.dropped.ids mid.dropped.ids ids es count None → TakesBy old free new left (Deletion lead ids) es None
+    → Deletes old.setting old.dropped.ids mid.dropped.ids ids es count (Ok tt) → TakesBy old free new left (Deletion lead ids) es (Ok tt)
 takes_deletion old mid new free left lead ids es count kept counts more room deletes =
     let line : StreamLine = Deletion lead ids in (
       deletes.0,
@@ -186,7 +186,7 @@ takes_deletion old mid new free left lead ids es count kept counts more room del
     )
 
 pub takes_import : (old new : Held) (free left : ℕ) (id : ℕ) (lits : List ℤ) (es : History) → Counts old new → left ≡ free
-    → JudgesImport old.setting (standing_at old free) id lits es Good → TakesBy old free new left (Import id lits) es None
+    → JudgesImport old.setting (standing_at old free) id lits es Good → TakesBy old free new left (Import id lits) es (Ok tt)
 takes_import old new free left id lits es counts room judged =
     let line : StreamLine = Import id lits in (
       judged,
@@ -219,17 +219,17 @@ pub deletes_more : (old mid : Held) (count : ℕ) → KeepsLines old mid → del
 deletes_more old mid count kept more = record { added = kept.added; deleted = more; empty = kept.empty; within = kept.within; line = kept.line }
 
 pub stops_deletion : (old mid : Held) (free left : ℕ) (lead : ℕ) (ids : List ℕ) (es : History) (count : ℕ) (stop : LineStop) → KeepsLines old mid → deleted_at mid ≡ capped (deleted_at old + count)
-    → Deletes old.setting old.dropped.ids mid.dropped.ids ids es count (Some stop) → TakesBy old free mid left (Deletion lead ids) es (Some stop)
+    → Deletes old.setting old.dropped.ids mid.dropped.ids ids es count (Err stop) → TakesBy old free mid left (Deletion lead ids) es (Err stop)
 stops_deletion old mid free left lead ids es count (stops.Bad fault) kept more deletes = (count, deletes, deletes_more old mid count kept more)
 stops_deletion old mid free left lead ids es count stops.Memory kept more deletes =
     (lead, ids, deletes.0, refl, deletes.2, deletes_more old mid (length deletes.0) kept (omega (arith, more, deletes.1)))
 
 pub stops_addition : (old : Held) (free left : ℕ) (id : ℕ) (lits : List ℤ) (hints : List ℕ) (es : History) (fault : Fault)
-    → JudgesAddition old.setting (standing_at old free) id lits hints es (Bad 0 fault) → TakesBy old free old left (Addition id lits hints) es (Some (stops.Bad fault))
+    → JudgesAddition old.setting (standing_at old free) id lits hints es (Bad 0 fault) → TakesBy old free old left (Addition id lits hints) es (Err (stops.Bad fault))
 stops_addition old free left id lits hints es fault judged = (0, judged, record { added = refl; deleted = omega arith; empty = refl; within = refl; line = refl })
 
 pub stops_import : (old : Held) (free left : ℕ) (id : ℕ) (lits : List ℤ) (es : History) (fault : Fault)
-    → JudgesImport old.setting (standing_at old free) id lits es (Bad 0 fault) → TakesBy old free old left (Import id lits) es (Some (stops.Bad fault))
+    → JudgesImport old.setting (standing_at old free) id lits es (Bad 0 fault) → TakesBy old free old left (Import id lits) es (Err (stops.Bad fault))
 stops_import old free left id lits es fault judged = (0, judged, record { added = refl; deleted = omega arith; empty = refl; within = refl; line = refl })
 
 -- a good addition's identity is above the last one

@@ -8,6 +8,7 @@ use Rattle.lrup_model.specs.Event as events
 use Rattle.lrup_model.specs.Event.{Event, History, Reply, stream_of}
 use Rattle.lrup_text.specs.Lines.{StreamLine, Addition, Deletion, Import}
 use Rattle.lrup_model.specs.Distinct.{distinct}
+use Rattle.lrup_text.specs.declared.device.StreamEnd.{StreamEnd}
 use Rattle.stream_check.specs.declared.fault.Fault.{Fault}
 use Rattle.stream_check.specs.declared.fault.Fault.TheVariants as faults
 use Rattle.stream_check.specs.declared.report.Report.{Report}
@@ -18,7 +19,7 @@ use Rattle.stream_check.specs.Asking.{AsksAt, Asks, AsksThen}
 use Rattle.stream_check.specs.Additions.{AtConflict, AtReply, JudgesHints, published_by, JudgesAddition}
 use Rattle.stream_check.specs.Deletions.{RetiresThen, DropsThen, DeletesAt, JudgesIdentities}
 use Rattle.stream_check.specs.Imports.{HasSame, AtImported, JudgesImport}
-use Rattle.stream_check.specs.Judging.{AreGood, EndsAfter, StreamEnd}
+use Rattle.stream_check.specs.Judging.{AreGood, EndsAfter}
 use Rattle.stream_check.specs.Reducing.{is_vacant, reduced}
 use Rattle.stream_check.specs.Laws.{ReducedLine, ReducedStream}
 use Rattle.stream_check.specs.ReducingLemmas.{reduced_kept, reduced_left_out, all_vacant_stay}

@@ -1,5 +1,5 @@
 -- A line that is taken, on whatever bytes and events came before it.
-use Rattle.std.proofs.Common.{◌≡◌, ◌+◌, ℕ, Bool, List, [], ◌∷◌, ◌++◌, length, take, Option, None, Some, inl, inr, refl, sym, ap, subst, ◌∙◌, append-nil, arith}
+use Rattle.std.proofs.Common.{◌≡◌, ◌+◌, ℕ, Bool, List, [], ◌∷◌, ◌++◌, length, Ok, Err, refl, sym, ap, subst, ◌∙◌, append-nil, arith}
 use Rattle.lrup_model.specs.Event.{History}
 use Rattle.lrup_text.specs.Lines.{StreamLine, LineText, IsPending}
 use Rattle.lrup_text.specs.declared.LineFault.{LineFault}
@@ -11,12 +11,11 @@ use Rattle.stream_check.specs.declared.report.Report.{Report}
 use Rattle.stream_check.specs.declared.held.Held.{Held}
 use Rattle.stream_check.specs.declared.deletion.LineStop.{LineStop}
 use Rattle.stream_check.specs.declared.deletion.LineStop.TheVariants as stops
-use Rattle.stream_check.specs.declared.line.Taken.TheVariants as taken
 use Rattle.stream_check.specs.Standing.{capped}
 use Rattle.stream_check.specs.Judging.{report_of}
 use Rattle.stream_check.specs.Leaving.{Going, Over, Leaves}
-use Rattle.stream_check.specs.Checker.{tally_at, report_at}
-use Rattle.stream_check.specs.Taking.{hold, DeletesMore, TakesBy, TakesNext, taken_of}
+use Rattle.stream_check.specs.Checker.{tally_at, report_at, LeavesOn}
+use Rattle.stream_check.specs.Taking.{hold, DeletesMore, TakesBy, ending_of}
 use Rattle.stream_check.specs.Laws.{GoodLineTaken}
 use Rattle.stream_check.proofs.LeavingLemmas.{pending_grows, bad_line_taken, bad_text_read, memory_wanted}
 
@@ -30,49 +29,32 @@ report_is old new count ending more =
     ∙ ap (λ w. made new.added (tally_at new).deleted new.empty w (ending old.line)) (sym more.within)
     ∙ ap (λ n. made new.added (tally_at new).deleted new.empty new.within (ending n)) (sym more.line)
 
--- a line that ends after so many bytes
-pub takes_line : GoodLineTaken → (old new : Held) (free left : ℕ) (read piece : List ℕ) (used : ℕ) (line : StreamLine) (es : History) (stop : Option LineStop)
-    → LineText line (read ++ take used piece) → TakesBy old free new left line es stop → TakesNext old read free piece (es ∷ []) (taken_of used stop) new left
-takes_line law old new free left read piece used line es None text takes = (
-  refl,
-  λ bytes before leaves. law old.setting bytes (take used piece) before es (hold old read free) (hold new [] left) line leaves text takes.0 (takes.1 read),
-  (line, text),
-)
-takes_line law old new free left read piece used line es (Some (stops.Bad fault)) text takes = (
-  omega arith,
-  λ bytes before leaves.
-      subst (λ (r : Report). Leaves old.setting (bytes ++ take used piece) (before ++ es ∷ []) (Over r)) (report_is old new takes.0 (λ n. endings.Bad n fault) takes.2)
-      (bad_line_taken old.setting bytes (take used piece) before es (hold old read free) line takes.0 fault leaves text takes.1),
-  inl (line, text),
-)
-takes_line law old new free left read piece used line es (Some stops.Memory) text takes = (
-  omega arith,
-  λ bytes before leaves.
-      subst (λ (r : Report). Leaves old.setting (bytes ++ take used piece) (before ++ es ∷ []) (Over r)) (report_is old new (length takes.2) (λ n. endings.Memory n) takes.5)
-      (memory_wanted old.setting bytes (take used piece) before es (hold old read free) takes.0 takes.1 takes.2 leaves (subst (λ (l : StreamLine). LineText l (read ++ take used piece)) takes.3 text) takes.4),
-  inl (line, text),
-)
+-- a good line
+pub leaves_good : GoodLineTaken → (old new : Held) (free left : ℕ) (read used : List ℕ) (line : StreamLine) (es : History) → LineText line (read ++ used) → TakesBy old free new left line es (Ok tt)
+    → LeavesOn old.setting (Going (hold old read free)) used (es ∷ []) (Going (hold new [] left))
+leaves_good law old new free left read used line es text takes bytes before leaves =
+    law old.setting bytes used before es (hold old read free) (hold new [] left) line leaves text takes.0 (takes.1 read)
+
+-- a line that stopped
+pub leaves_stopped : (old new : Held) (free left : ℕ) (read used : List ℕ) (line : StreamLine) (es : History) (stop : LineStop) → LineText line (read ++ used) → TakesBy old free new left line es (Err stop)
+    → LeavesOn old.setting (Going (hold old read free)) used (es ∷ []) (Over (report_at (tally_at new) (ending_of new.line stop)))
+leaves_stopped old new free left read used line es (stops.Bad fault) text takes bytes before leaves =
+    subst (λ (r : Report). Leaves old.setting (bytes ++ used) (before ++ es ∷ []) (Over r)) (report_is old new takes.0 (λ n. endings.Bad n fault) takes.2)
+    (bad_line_taken old.setting bytes used before es (hold old read free) line takes.0 fault leaves text takes.1)
+leaves_stopped old new free left read used line es stops.Memory text takes bytes before leaves =
+    subst (λ (r : Report). Leaves old.setting (bytes ++ used) (before ++ es ∷ []) (Over r)) (report_is old new (length takes.2) (λ n. endings.Memory n) takes.5)
+    (memory_wanted old.setting bytes used before es (hold old read free) takes.0 takes.1 takes.2 leaves (subst (λ (l : StreamLine). LineText l (read ++ used)) takes.3 text) takes.4)
 
 -- the front of a line
-pub takes_more : (old : Held) (free left : ℕ) (read piece : List ℕ) → left ≡ free → IsPending (read ++ piece) → TakesNext old read free piece [] taken.More old left
-takes_more old free left read piece same pending = (
-  refl,
-  λ bytes before leaves.
-      subst (λ n. Leaves old.setting (bytes ++ piece) (before ++ []) (Going (hold old (read ++ piece) n))) (sym same)
-      (subst (λ (blocks : List History). Leaves old.setting (bytes ++ piece) blocks (Going (hold old (read ++ piece) free))) (sym (append-nil before))
-      (pending_grows old.setting bytes piece before (hold old read free) leaves pending)),
-  pending,
-)
+pub leaves_front : (old : Held) (free : ℕ) (read piece : List ℕ) → IsPending (read ++ piece) → LeavesOn old.setting (Going (hold old read free)) piece [] (Going (hold old (read ++ piece) free))
+leaves_front old free read piece pending bytes before leaves =
+    subst (λ (blocks : List History). Leaves old.setting (bytes ++ piece) blocks (Going (hold old (read ++ piece) free))) (sym (append-nil before)) (pending_grows old.setting bytes piece before (hold old read free) leaves pending)
 
 -- a text that begins no line
-pub takes_fault : (old : Held) (free left : ℕ) (read piece : List ℕ) (used : ℕ) (fault : LineFault) → IsRefused (read ++ take used piece) fault
-    → TakesNext old read free piece [] (taken.Stopped used (stops.Bad (faults.Text fault))) old left
-takes_fault old free left read piece used fault refused = (
-  omega arith,
-  λ bytes before leaves.
-      subst (λ (r : Report). Leaves old.setting (bytes ++ take used piece) (before ++ []) (Over r))
-      (report_is old old 0 (λ n. endings.Bad n (faults.Text fault)) (record { added = refl; deleted = omega arith; empty = refl; within = refl; line = refl }))
-      (subst (λ (blocks : List History). Leaves old.setting (bytes ++ take used piece) blocks (Over (report_of (tally_at old) 0 (endings.Bad old.line (faults.Text fault))))) (sym (append-nil before))
-      (bad_text_read old.setting bytes (take used piece) before (hold old read free) fault leaves refused)),
-  inr (fault, refl, refused),
-)
+pub leaves_refused : (old : Held) (free : ℕ) (read used : List ℕ) (fault : LineFault) → IsRefused (read ++ used) fault
+    → LeavesOn old.setting (Going (hold old read free)) used [] (Over (report_at (tally_at old) (endings.Bad old.line (faults.Text fault))))
+leaves_refused old free read used fault refused bytes before leaves =
+    subst (λ (r : Report). Leaves old.setting (bytes ++ used) (before ++ []) (Over r))
+    (report_is old old 0 (λ n. endings.Bad n (faults.Text fault)) (record { added = refl; deleted = omega arith; empty = refl; within = refl; line = refl }))
+    (subst (λ (blocks : List History). Leaves old.setting (bytes ++ used) blocks (Over (report_of (tally_at old) 0 (endings.Bad old.line (faults.Text fault))))) (sym (append-nil before))
+    (bad_text_read old.setting bytes used before (hold old read free) fault leaves refused))

@@ -1,5 +1,5 @@
--- A hint that is fetched and tried, and hints one after the other.
-use Rattle.std.proofs.Common.{◌≡◌, ◌≤◌, ◌+◌, ◌∙◌, ℕ, zero, suc, ℤ, neg_ℤ, Bool, false, List, [], ◌∷◌, ◌++◌, length, Some, inl, inr, refl, sym, ap, subst, arith, append_assoc, append-nil}
+-- An identity that is looked up, and hints one after the other.
+use Rattle.std.proofs.Common.{◌≡◌, ◌≤◌, ◌+◌, ◌∙◌, ℕ, zero, suc, ℤ, neg_ℤ, Bool, false, List, [], ◌∷◌, ◌++◌, length, Err, inl, inr, refl, sym, ap, subst, arith, append_assoc, append-nil}
 use Rattle.std.specs.Prelude.{replicate}
 use Rattle.std.specs.List.{AllByRecursion}
 use Rattle.std.proofs.lemmas.List.{replicate-append-replicate}
@@ -11,18 +11,16 @@ use Rattle.lrup_model.specs.Event as events
 use Rattle.lrup_model.specs.Event.{Event, History, Reply}
 use Rattle.lrup_model.specs.Place.{Caller, Place, Tells, ClipValue, IsKnown, AllFollow, clip_clause}
 use Rattle.lrup_model.specs.PassLemmas.{known_follows}
-use Rattle.propagate.specs.Marks.{Propagation, Steps}
-use Rattle.propagate.specs.declared.marks.Step.TheVariants as steps
+use Rattle.lrup_model.specs.Propagation.{IsConflict, IsUnit}
 use Rattle.propagate.specs.Hints.{Leads}
 use Rattle.propagate.specs.Laws.{LeadsOn, AcceptsExactly}
 use Rattle.stream_check.specs.declared.fault.Fault.{Fault}
 use Rattle.stream_check.specs.declared.fault.Fault.TheVariants as faults
-use Rattle.stream_check.specs.declared.hints.Tried.TheVariants as tried
 use Rattle.stream_check.specs.Setting.{Setting, Side, formula, own, foreign, outside, side_of}
-use Rattle.stream_check.specs.Verdicts.{LineVerdict, Good, Bad}
-use Rattle.stream_check.specs.Asking.{AsksAt, Asks}
-use Rattle.stream_check.specs.Additions.{AtReply, JudgesHints}
-use Rattle.stream_check.specs.Checking.{IsPlaceOf, IsFetch, Tries, Shows, excess_of}
+use Rattle.stream_check.specs.Verdicts.{LineVerdict, Good, Bad, Fails, Test}
+use Rattle.stream_check.specs.Asking.{AsksAt, Asks, AsksThen}
+use Rattle.stream_check.specs.Additions.{AtClause, AtReply, JudgesHints}
+use Rattle.stream_check.specs.Checking.{IsPlaceOf, IsFetch, LooksUp, Shows, excess_of}
 
 -- one more at the end
 pub replicate-more : (k : ℕ) (e : Event) → replicate k e ++ e ∷ [] ≡ replicate (k + 1) e
@@ -48,50 +46,29 @@ asks_fetches_at outside c h es r asks = subst (AllByRecursion IsFetch) (sym asks
 pub asks_fetches : (c : Setting) (h : ℕ) (es : History) (r : Reply) → Asks c h es r → AllByRecursion IsFetch es
 asks_fetches c h es r asks = asks_fetches_at (side_of c h) c h es r asks
 
--- One hint
+-- One identity that is looked up
 
--- a hint that isn't gone and is asked: its reply decides
-pub reply_decides : (c : Setting) (gone : ℕ → Bool) (e : Event) (n : List ℤ) (h : ℕ) (hints : List ℕ) (es rest : History) (r : Reply) (v : LineVerdict)
-    → gone h ≡ false → Asks c h es r → AtReply r n h hints e rest v (λ m. JudgesHints c gone e m hints rest v) → JudgesHints c gone e n (h ∷ hints) (es ++ rest) v
-reply_decides c gone e n h hints es rest r v kept asks next = inr (kept, record { asked = es; reply = r; rest = rest; events = refl; asks = asks; next = next })
+-- one that isn't gone and is asked: its reply decides
+pub asked_then : (c : Setting) (gone : ℕ → Bool) (id : ℕ) (es rest : History) (r : Reply) (v : LineVerdict) (Next : Reply → History → Type 0) → gone id ≡ false → Asks c id es r → Next r rest
+    → Test (gone id ≡ false) (faults.Dropped id) (es ++ rest) v (AsksThen c id (es ++ rest) Next)
+asked_then c gone id es rest r v Next kept asks next = inr (kept, record { asked = es; reply = r; rest = rest; events = refl; asks = asks; next = next })
 
 -- the same where there are no more events
-pub reply_ends : (c : Setting) (gone : ℕ → Bool) (e : Event) (n : List ℤ) (h : ℕ) (hints : List ℕ) (es : History) (r : Reply) (v : LineVerdict)
-    → gone h ≡ false → Asks c h es r → AtReply r n h hints e [] v (λ m. JudgesHints c gone e m hints [] v) → JudgesHints c gone e n (h ∷ hints) es v
-reply_ends c gone e n h hints es r v kept asks next =
-    subst (λ (x : History). JudgesHints c gone e n (h ∷ hints) x v) (append-nil es) (reply_decides c gone e n h hints es [] r v kept asks next)
+pub asked_last : (c : Setting) (gone : ℕ → Bool) (id : ℕ) (es : History) (r : Reply) (v : LineVerdict) (Next : Reply → History → Type 0) → gone id ≡ false → Asks c id es r → Next r []
+    → Test (gone id ≡ false) (faults.Dropped id) es v (AsksThen c id es Next)
+asked_last c gone id es r v Next kept asks next = inr (kept, record { asked = es; reply = r; rest = []; events = sym (append-nil es); asks = asks; next = next })
 
-pub tries_vacant : (c : Setting) (gone : ℕ → Bool) (f : Cnf) (old new : Propagation) (h : ℕ) (es : History) → gone h ≡ false → Asks c h es events.vacant → Tries c gone f old h es (tried.Fails (faults.Missing h)) new
-tries_vacant c gone f old new h es kept asks e hints = reply_ends c gone e old.falses h hints es events.vacant (Bad 0 (faults.Missing h)) kept asks (refl, refl)
-
-pub tries_retired : (c : Setting) (gone : ℕ → Bool) (f : Cnf) (old new : Propagation) (h : ℕ) (es : History) → gone h ≡ false → Asks c h es events.retired → Tries c gone f old h es (tried.Fails (faults.Retired h)) new
-tries_retired c gone f old new h es kept asks e hints = reply_ends c gone e old.falses h hints es events.retired (Bad 0 (faults.Retired h)) kept asks (refl, refl)
-
-pub tries_unit : (c : Setting) (gone : ℕ → Bool) (f : Cnf) (old new : Propagation) (h : ℕ) (es : History) (d : Clause) → gone h ≡ false → Asks c h es (events.live d) → IsDerived f d → Steps old d steps.Unit new → Tries c gone f old h es tried.Unit new
-tries_unit c gone f old new h es d kept asks derived step =
-    let falses : new.falses ≡ old.falses ++ neg_ℤ step.0 ∷ [] = ap (λ (m : Propagation). m.falses) step.2 in (
-      d,
-      step.0,
-      derived,
-      step.1,
-      step.2,
-      λ e hints rest v next. reply_decides c gone e old.falses h hints es rest (events.live d) v kept asks
-          (inr (inl (step.0, step.1, subst (λ (n : List ℤ). JudgesHints c gone e n hints rest v) falses next))),
-    )
-
-pub tries_conflict : (c : Setting) (gone : ℕ → Bool) (f : Cnf) (old new : Propagation) (h : ℕ) (es : History) (d : Clause) → gone h ≡ false → Asks c h es (events.live d) → IsDerived f d → f.vars ≡ c.layout.vars → Steps old d steps.Conflict new
-    → Tries c gone f old h es tried.Conflict new
-tries_conflict c gone f old new h es d kept asks derived variables step = (
-  d,
-  derived,
-  step.0,
-  variables,
-  λ e hints rest v next. reply_decides c gone e old.falses h hints es rest (events.live d) v kept asks (inl (step.0, next)),
-)
-
-pub tries_not_unit : (c : Setting) (gone : ℕ → Bool) (f : Cnf) (old new : Propagation) (h : ℕ) (es : History) (d : Clause) → gone h ≡ false → Asks c h es (events.live d) → Steps old d steps.NotUnit new → Tries c gone f old h es (tried.Fails (faults.NotUnit h)) new
-tries_not_unit c gone f old new h es d kept asks step e hints =
-    reply_ends c gone e old.falses h hints es (events.live d) (Bad 0 (faults.NotUnit h)) kept asks (inr (inr (step.0, step.1, (refl, refl))))
+-- the fault of a lookup is that of its hint or import
+pub lookup_fails : (c : Setting) (gone : ℕ → Bool) (id : ℕ) (p : Place) (es : History) (fault : Fault) (Next : Reply → History → Type 0) → LooksUp c gone id p es (Err fault)
+    → (Fails (faults.Missing id) [] (Bad 0 fault) → Next events.vacant []) → (Fails (faults.Retired id) [] (Bad 0 fault) → Next events.retired [])
+    → Test (gone id ≡ false) (faults.Dropped id) es (Bad 0 fault) (AsksThen c id es Next)
+lookup_fails c gone id p es fault Next looks missing retired = elim looks [
+  | inl dropped ↦ inl dropped
+  | inr asked ↦ elim asked.1 [
+    | inl is ↦ asked_last c gone id es events.vacant (Bad 0 fault) Next asked.0 is.0 (missing (refl, ap (λ f. Bad 0 f) is.1))
+    | inr is ↦ asked_last c gone id es events.retired (Bad 0 fault) Next asked.0 is.0 (retired (refl, ap (λ f. Bad 0 f) is.1))
+  ]
+]
 
 -- a clip that is known follows, as the place before sees it
 pub derived_before : (p q : Place) (es : History) (clip : ClipValue) → Tells p q es → IsKnown q clip → AllFollow q → IsDerived p.caller.formula (clip_clause q clip)
@@ -120,45 +97,56 @@ GoesOn c gone n hints m left es = (e : Event) (rest : History) (v : LineVerdict)
 abbrev pub HasLed : Cnf → List ℤ → List ℤ → Type 0
 HasLed f n m = (ds : List Clause) × AllByRecursion (IsDerived f) ds × Leads n ds m
 
-pub goes_on : (c : Setting) (gone : ℕ → Bool) (f : Cnf) (n : List ℤ) (hints : List ℕ) (old new : Propagation) (h : ℕ) (left rest : List ℕ) (es fs : History) → left ≡ h ∷ rest
-    → GoesOn c gone n hints old.falses left es → Tries c gone f old h fs tried.Unit new → GoesOn c gone n hints new.falses rest (es ++ fs)
-goes_on c gone f n hints old new h left rest es fs is before tries e more v judged =
-    subst (λ (x : History). JudgesHints c gone e n hints x v) (sym (append_assoc es fs more))
-    (before e (fs ++ more) v (subst (λ (hs : List ℕ). JudgesHints c gone e old.falses hs (fs ++ more) v) (sym is) (tries.5 e rest more v judged)))
+module _ (c : Setting) (gone : ℕ → Bool) (n m : List ℤ) (hints : List ℕ) (h : ℕ) (left rest : List ℕ) (es fs : History) (is : left ≡ h ∷ rest) (before : GoesOn c gone n hints m left es) where
+  -- what the next hint is judged to be, all are
+  next_hint : (e : Event) (more : History) (v : LineVerdict) → JudgesHints c gone e m (h ∷ rest) (fs ++ more) v → JudgesHints c gone e n hints ((es ++ fs) ++ more) v
+  next_hint e more v judged =
+      subst (λ (x : History). JudgesHints c gone e n hints x v) (sym (append_assoc es fs more))
+      (before e (fs ++ more) v (subst (λ (hs : List ℕ). JudgesHints c gone e m hs (fs ++ more) v) (sym is) judged))
 
-pub has_led : (c : Setting) (gone : ℕ → Bool) (f : Cnf) (n : List ℤ) (old new : Propagation) (h : ℕ) (fs : History) → LeadsOn → HasLed f n old.falses → Tries c gone f old h fs tried.Unit new → HasLed f n new.falses
-has_led c gone f n old new h fs leads_on led tries = (
-  led.0 ++ tries.0 ∷ [],
-  all_derived f led.0 tries.0 led.1 tries.2,
-  subst (Leads n (led.0 ++ tries.0 ∷ [])) (sym (ap (λ (m : Propagation). m.falses) tries.4)) (leads_on n old.falses led.0 tries.0 tries.1 led.2 tries.3),
-)
+  -- the same where there are no more events
+  last_hint : (e : Event) (v : LineVerdict) → JudgesHints c gone e m (h ∷ rest) fs v → JudgesHints c gone e n hints (es ++ fs) v
+  last_hint e v judged = before e fs v (subst (λ (hs : List ℕ). JudgesHints c gone e m hs fs v) (sym is) judged)
 
--- a hint that fails
-pub shows_fails : (c : Setting) (gone : ℕ → Bool) (f : Cnf) (n : List ℤ) (hints : List ℕ) (old new : Propagation) (h : ℕ) (left rest : List ℕ) (es fs : History) (fault : Fault) → left ≡ h ∷ rest
-    → GoesOn c gone n hints old.falses left es → Tries c gone f old h fs (tried.Fails fault) new → Shows c gone f n hints (es ++ fs) (Some fault)
-shows_fails c gone f n hints old new h left rest es fs fault is before tries e =
-    before e fs (Bad 0 fault) (subst (λ (hs : List ℕ). JudgesHints c gone e old.falses hs fs (Bad 0 fault)) (sym is) (tries e rest))
+  -- its lookup has a fault
+  pub shows_unfound : (f : Cnf) (p : Place) (fault : Fault) → LooksUp c gone h p fs (Err fault) → Shows c gone f n hints (es ++ fs) (Err fault)
+  shows_unfound f p fault looks e =
+      last_hint e (Bad 0 fault) (lookup_fails c gone h p fs fault (λ r more. AtReply r m h rest e more (Bad 0 fault) (λ k. JudgesHints c gone e k rest more (Bad 0 fault))) looks (λ x. x) (λ x. x))
+
+  module _ (d : Clause) (kept : gone h ≡ false) (asks : Asks c h fs (events.live d)) where
+    -- its clause decides
+    at_clause : (e : Event) (more : History) (v : LineVerdict) → AtClause m d h rest e more v (λ k. JudgesHints c gone e k rest more v) → JudgesHints c gone e n hints ((es ++ fs) ++ more) v
+    at_clause e more v next = next_hint e more v (asked_then c gone h fs more (events.live d) v (λ r x. AtReply r m h rest e x v (λ k. JudgesHints c gone e k rest x v)) kept asks next)
+
+    -- the same where there are no more events
+    ends_at_clause : (e : Event) (v : LineVerdict) → AtClause m d h rest e [] v (λ k. JudgesHints c gone e k rest [] v) → JudgesHints c gone e n hints (es ++ fs) v
+    ends_at_clause e v next = subst (λ (x : History). JudgesHints c gone e n hints x v) (append-nil (es ++ fs)) (at_clause e [] v next)
+
+    pub goes_on : (l : ℤ) → IsUnit m d l → GoesOn c gone n hints (m ++ neg_ℤ l ∷ []) rest (es ++ fs)
+    goes_on l unit e more v judged = at_clause e more v (inr (inl (l, unit, judged)))
+
+    pub shows_not_unit : (f : Cnf) → ¬ IsConflict m d → ((l : ℤ) → ¬ IsUnit m d l) → Shows c gone f n hints (es ++ fs) (Err (faults.NotUnit h))
+    shows_not_unit f conflict unit e = ends_at_clause e (Bad 0 (faults.NotUnit h)) (inr (inr (conflict, unit, (refl, refl))))
+
+pub has_led : (f : Cnf) (n m : List ℤ) (d : Clause) (l : ℤ) → LeadsOn → HasLed f n m → IsDerived f d → IsUnit m d l → HasLed f n (m ++ neg_ℤ l ∷ [])
+has_led f n m d l leads_on led derived unit = (led.0 ++ d ∷ [], all_derived f led.0 d led.1 derived, leads_on n m led.0 d l led.2 unit)
 
 -- no hint is left
 pub shows_none : (c : Setting) (gone : ℕ → Bool) (f : Cnf) (n : List ℤ) (hints : List ℕ) (m : List ℤ) (left : List ℕ) (es : History) → length left ≡ 0
-    → GoesOn c gone n hints m left es → Shows c gone f n hints es (Some faults.NoConflict)
+    → GoesOn c gone n hints m left es → Shows c gone f n hints es (Err faults.NoConflict)
 shows_none c gone f n hints m [] es none before e =
     subst (λ (x : History). JudgesHints c gone e n hints x (Bad 0 faults.NoConflict)) (append-nil es) (before e [] (Bad 0 faults.NoConflict) (refl, refl))
 shows_none c gone f n hints m (h ∷ left) es none before e = absurd (omega (arith, none))
 
 -- the conflict
-pub shows_conflict : (c : Setting) (gone : ℕ → Bool) (f : Cnf) (n : List ℤ) (hints : List ℕ) (old new : Propagation) (h : ℕ) (left rest : List ℕ) (es fs : History) → AcceptsExactly → ¬ IsTautology n → left ≡ h ∷ rest
-    → GoesOn c gone n hints old.falses left es → HasLed f n old.falses → Tries c gone f old h fs tried.Conflict new → Shows c gone f n hints (es ++ fs) (excess_of rest)
-shows_conflict c gone f n hints old new h left [] es fs exactly consistent is before led tries = (
-  led.0 ++ tries.0 ∷ [],
-  all_derived f led.0 tries.0 led.1 tries.1,
-  (exactly n led.0 tries.0).1 (consistent, (old.falses, led.2, tries.2)),
-  tries.3,
-  λ e. subst (λ (x : History). JudgesHints c gone e n hints x Good) (sym (append_assoc es fs (e ∷ [])))
-      (before e (fs ++ e ∷ []) Good (subst (λ (hs : List ℕ). JudgesHints c gone e old.falses hs (fs ++ e ∷ []) Good) (sym is) (tries.4 e [] (e ∷ []) Good (refl, refl)))),
+pub shows_conflict : (c : Setting) (gone : ℕ → Bool) (f : Cnf) (n m : List ℤ) (hints : List ℕ) (h : ℕ) (left rest : List ℕ) (es fs : History) (d : Clause) → AcceptsExactly → ¬ IsTautology n → left ≡ h ∷ rest → GoesOn c gone n hints m left es
+    → gone h ≡ false → Asks c h fs (events.live d) → HasLed f n m → IsDerived f d → f.vars ≡ c.layout.vars → IsConflict m d → Shows c gone f n hints (es ++ fs) (excess_of rest)
+shows_conflict c gone f n m hints h left [] es fs d exactly consistent is before kept asks led derived variables conflict = (
+  led.0 ++ d ∷ [],
+  all_derived f led.0 d led.1 derived,
+  (exactly n led.0 d).1 (consistent, (m, led.2, conflict)),
+  variables,
+  λ e. at_clause c gone n m hints h left [] es fs is before d kept asks e (e ∷ []) Good (inl (conflict, (refl, refl))),
 )
-shows_conflict c gone f n hints old new h left (i ∷ rest) es fs exactly consistent is before led tries = λ e.
-    let fault : Fault = faults.Excess i in
-    let here : JudgesHints c gone e old.falses (h ∷ i ∷ rest) fs (Bad 0 fault) =
-    subst (λ (x : History). JudgesHints c gone e old.falses (h ∷ i ∷ rest) x (Bad 0 fault)) (append-nil fs) (tries.4 e (i ∷ rest) [] (Bad 0 fault) (refl, refl)) in
-    before e fs (Bad 0 fault) (subst (λ (hs : List ℕ). JudgesHints c gone e old.falses hs fs (Bad 0 fault)) (sym is) here)
+shows_conflict c gone f n m hints h left (i ∷ rest) es fs d exactly consistent is before kept asks led derived variables conflict =
+    λ e. ends_at_clause c gone n m hints h left (i ∷ rest) es fs is before d kept asks e (Bad 0 (faults.Excess i)) (inl (conflict, (refl, refl)))

@@ -12,6 +12,7 @@ use Rattle.lrup_model.specs.Event.{Event, History, Reply, own}
 use Rattle.lrup_model.specs.State.{State, run, opening}
 use Rattle.lrup_text.specs.Lines.{StreamLine, Addition, Deletion, Import}
 use Rattle.lrup_model.specs.Distinct.{distinct}
+use Rattle.lrup_text.specs.declared.device.StreamEnd.{StreamEnd}
 use Rattle.stream_check.specs.declared.fault.Fault.{Fault}
 use Rattle.stream_check.specs.declared.fault.Fault.TheVariants as faults
 use Rattle.stream_check.specs.declared.report.Report.{Report}
@@ -21,7 +22,7 @@ use Rattle.stream_check.specs.Verdicts.{LineVerdict, Good, Bad, Fails, Test}
 use Rattle.stream_check.specs.Additions.{AtConflict, AtReply, JudgesHints, published_by, JudgesAddition}
 use Rattle.stream_check.specs.Asking.{AsksThen}
 use Rattle.stream_check.specs.Imports.{AtImported, JudgesImport}
-use Rattle.stream_check.specs.Judging.{JudgesLine, AreGood, joined, EndsAfter, StreamEnd}
+use Rattle.stream_check.specs.Judging.{JudgesLine, AreGood, joined, EndsAfter}
 use Rattle.stream_check.specs.Laws.{CountsWithin}
 use Rattle.stream_check.specs.ReportLemmas.{joined-append}
 use Rattle.stream_check.proofs.StandingLemmas.{last_below, same_last}

@@ -1,5 +1,5 @@
 -- What a checker holds, and what it takes of a piece of its stream (this project's own).
-use Rattle.std.specs.Prelude.{◌≡◌, ◌⊎◌, ◌≤◌, ◌<◌, ◌^◌, ◌+◌, ◌++◌, ℕ, ℤ, true, List, [], ◌∷◌, length, Option, Some, None, Ok, Err}
+use Rattle.std.specs.Prelude.{◌≡◌, ◌⊎◌, ◌≤◌, ◌<◌, ◌^◌, ◌+◌, ◌++◌, ℕ, ℤ, true, List, [], ◌∷◌, length, Option, Some, None, Result, Ok, Err}
 use Rattle.lrup_model.specs.Clause.{IsClause, IsTautology}
 use Rattle.lrup_model.specs.Cube.{CubeValue}
 use Rattle.lrup_model.specs.Event.{History}
@@ -11,6 +11,7 @@ use Rattle.lrup_text.specs.Lines.{StreamLine, Cut, LineText}
 use Rattle.lrup_text.specs.Faults.{IsRefused}
 use Rattle.lrup_model.specs.Distinct.{distinct}
 use Rattle.propagate.specs.Marks.{Propagation}
+use Rattle.lrup_text.specs.declared.device.StreamEnd.{StreamEnd}
 use Rattle.stream_check.specs.declared.fault.Fault.{Fault}
 use Rattle.stream_check.specs.declared.fault.Fault.TheVariants as faults
 use Rattle.stream_check.specs.declared.report.Ending.{Ending}
@@ -23,7 +24,7 @@ use Rattle.stream_check.specs.Setting.{Setting}
 use Rattle.stream_check.specs.Standing.{capped, Standing, Tally, is_among}
 use Rattle.stream_check.specs.Verdicts.{LineVerdict, Bad}
 use Rattle.stream_check.specs.Additions.{JudgesHints, JudgesAddition, published_by}
-use Rattle.stream_check.specs.Judging.{StreamEnd, ending_at, JudgesBlocks}
+use Rattle.stream_check.specs.Judging.{ending_at, JudgesBlocks}
 use Rattle.stream_check.specs.Leaving.{Holding, CheckerState, Going, Over, Leaves}
 use Rattle.stream_check.specs.Checking.{IsPlaceOf}
 use Rattle.stream_check.specs.CheckerValue.{CheckerValue}
@@ -65,13 +66,14 @@ pub record Admits (c : Setting) (st : Standing) (id : ℕ) (lits : List ℤ)
       }
 
 -- the tests before the hints: they hold, and the hints decide, or one fails
-abbrev pub AdmitsBy : Setting → Standing → ℕ → List ℤ → Propagation → Option Fault → Type 0
-AdmitsBy c st id lits marks None =
+abbrev pub AdmitsBy : Setting → Standing → ℕ → List ℤ → Propagation → Result (Unit {0}) Fault
+    → Type 0
+AdmitsBy c st id lits marks (Ok _) =
     Admits c st id lits marks
     × ((hints : List ℕ) (es : History) (v : LineVerdict)
     → JudgesHints c st.gone (published_by c id lits) (distinct lits) hints es v
     → JudgesAddition c st id lits hints es v)
-AdmitsBy c st id lits marks (Some fault) =
+AdmitsBy c st id lits marks (Err fault) =
     (hints : List ℕ) → JudgesAddition c st id lits hints [] (Bad 0 fault)
 
 -- the text that a reader has read of a line

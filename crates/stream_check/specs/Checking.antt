@@ -1,13 +1,13 @@
--- What the parts of a checker do: a hint, the hints of an addition, an addition, the identities of a deletion (this project's own).
-use Rattle.std.specs.Prelude.{◌≡◌, ◌==◌, ◌++◌, ◌||◌, ◌&&◌, ℕ, ℤ, neg_ℤ, Bool, true, false, List, [], ◌∷◌, length, Option, Some, None}
+-- What the parts of a checker do: a lookup, the hints of an addition, an addition, the identities of a deletion (this project's own).
+use Rattle.std.specs.Prelude.{◌≡◌, ◌⊎◌, ◌==◌, ◌++◌, ◌||◌, ◌&&◌, ℕ, ℤ, Bool, true, false, List, [], ◌∷◌, length, Result, Ok, Err}
 use Rattle.std.specs.List.{AllByRecursion}
 use Rattle.lrup_model.specs.Clause.{Clause}
 use Rattle.lrup_model.specs.Formula.{Cnf}
 use Rattle.lrup_model.specs.Entailment.{IsDerived}
 use Rattle.lrup_model.specs.Event as events
 use Rattle.lrup_model.specs.Event.{Event, History}
-use Rattle.lrup_model.specs.Place.{Place, IsKnown, AllFollow}
-use Rattle.lrup_model.specs.Propagation.{IsConflict, IsUnit, Accepts}
+use Rattle.lrup_model.specs.Place.{Place, ClipValue, IsKnown, AllFollow, clip_clause}
+use Rattle.lrup_model.specs.Propagation.{Accepts}
 use Rattle.lrup_model.specs.declared.clause_map.Fetched.{Fetched}
 use Rattle.lrup_model.specs.declared.clause_map.Fetched.TheVariants as fetched
 use Rattle.lrup_model.specs.declared.clause_map.Retired.TheVariants as retiring
@@ -16,17 +16,14 @@ use Rattle.stream_check.specs.declared.fault.Fault.{Fault}
 use Rattle.stream_check.specs.declared.fault.Fault.TheVariants as faults
 use Rattle.stream_check.specs.declared.setting.Side.{Side}
 use Rattle.stream_check.specs.declared.setting.Side.TheVariants as sides
-use Rattle.stream_check.specs.declared.hints.Tried.{Tried}
-use Rattle.stream_check.specs.declared.hints.Tried.TheVariants as tried
-use Rattle.stream_check.specs.declared.deletion.Deleted.{Deleted}
-use Rattle.stream_check.specs.declared.deletion.Deleted.TheVariants as deleting
 use Rattle.stream_check.specs.declared.deletion.LineStop.{LineStop}
 use Rattle.stream_check.specs.declared.deletion.LineStop.TheVariants as stops
 use Rattle.stream_check.specs.Setting as setting
 use Rattle.stream_check.specs.Setting.{Setting, side_of, is_shared}
 use Rattle.stream_check.specs.Standing.{is_among}
-use Rattle.stream_check.specs.Verdicts.{LineVerdict, Good, Bad}
-use Rattle.stream_check.specs.Additions.{AtConflict, JudgesHints, published_by}
+use Rattle.stream_check.specs.Verdicts.{LineVerdict, Good, Bad, Test}
+use Rattle.stream_check.specs.Asking.{Asks}
+use Rattle.stream_check.specs.Additions.{JudgesHints, published_by}
 use Rattle.stream_check.specs.Deletions.{JudgesDeletion, StopsDeletion}
 
 -- the side that a `Side` is
@@ -66,78 +63,77 @@ IsRetire (events.retire s id r) = Unit {0}
 abbrev pub KeepsClause : Propagation → Propagation → Type 0
 KeepsClause old new = (new.vars ≡ old.vars) × (new.clause ≡ old.clause)
 
--- What one hint did, by its events. Whatever hints come after it, and whatever is published in the end, it judges them so.
-abbrev pub Tries : Setting → (ℕ → Bool) → Cnf → Propagation → ℕ → History → Tried → Propagation
-    → Type 0
-Tries c gone f old h es tried.Unit new =
-    (d : Clause) × (l : ℤ) × IsDerived f d × IsUnit old.falses d l
-    × (new ≡ record old { falses = old.falses ++ neg_ℤ l ∷ [] })
-    × ((e : Event) (hints : List ℕ) (rest : History) (v : LineVerdict)
-    → JudgesHints c gone e new.falses hints rest v
-    → JudgesHints c gone e old.falses (h ∷ hints) (es ++ rest) v)
-Tries c gone f old h es tried.Conflict new =
-    (d : Clause) × IsDerived f d × IsConflict old.falses d × (f.vars ≡ c.layout.vars)
-    × ((e : Event) (hints : List ℕ) (rest : History) (v : LineVerdict) → AtConflict hints e rest v
-    → JudgesHints c gone e old.falses (h ∷ hints) (es ++ rest) v)
-Tries c gone f old h es (tried.Fails fault) new =
-    (e : Event) (hints : List ℕ) → JudgesHints c gone e old.falses (h ∷ hints) es (Bad 0 fault)
+-- what a lookup found: the clip of a live clause that the stream didn't drop, or the fault of a dropped, missing or retired one
+abbrev pub LooksUp : Setting → (ℕ → Bool) → ℕ → Place → History → Result ClipValue Fault → Type 0
+LooksUp c gone id p es (Ok clip) =
+    (gone id ≡ false) × Asks c id es (events.live (clip_clause p clip))
+LooksUp c gone id p es (Err fault) =
+    Test (gone id ≡ false) (faults.Dropped id) es (Bad 0 fault)
+    ((Asks c id es events.vacant × (fault ≡ faults.Missing id))
+    ⊎ (Asks c id es events.retired × (fault ≡ faults.Retired id)))
 
 -- what the hints of an addition come to: they show its clause, or there is a fault
-abbrev pub Shows : Setting → (ℕ → Bool) → Cnf → Clause → List ℕ → History → Option Fault → Type 0
-Shows c gone f clause hints es None =
+abbrev pub Shows : Setting → (ℕ → Bool) → Cnf → Clause → List ℕ → History → Result (Unit {0}) Fault
+    → Type 0
+Shows c gone f clause hints es (Ok _) =
     (ds : List Clause) × AllByRecursion (IsDerived f) ds × Accepts clause ds
     × (f.vars ≡ c.layout.vars)
     × ((e : Event) → JudgesHints c gone e clause hints (es ++ e ∷ []) Good)
-Shows c gone f clause hints es (Some fault) =
+Shows c gone f clause hints es (Err fault) =
     (e : Event) → JudgesHints c gone e clause hints es (Bad 0 fault)
 
--- the fault of the hints that are left after the conflict, if any
-abbrev pub excess_of : List ℕ → Option Fault
-excess_of [] = None
-excess_of (h ∷ hints) = Some (faults.Excess h)
+-- no hint may be left after the conflict
+abbrev pub excess_of : List ℕ → Result (Unit {0}) Fault
+excess_of [] = Ok tt
+excess_of (h ∷ hints) = Err (faults.Excess h)
 
--- the verdict of an addition that has this fault, if any
-abbrev pub line_verdict : Option Fault → LineVerdict
-line_verdict None = Good
-line_verdict (Some fault) = Bad 0 fault
+-- the verdict of an addition or an import that is good, or has this fault
+abbrev pub line_verdict : Result (Unit {0}) Fault → LineVerdict
+line_verdict (Ok _) = Good
+line_verdict (Err fault) = Bad 0 fault
 
 -- a good addition makes fetches and is published, and a bad one makes fetches alone
-abbrev pub MakesEvents : Setting → ℕ → List ℤ → History → Option Fault → Type 0
-MakesEvents c id lits es None = (fetches : History) × AllByRecursion IsFetch fetches
+abbrev pub MakesEvents : Setting → ℕ → List ℤ → History → Result (Unit {0}) Fault → Type 0
+MakesEvents c id lits es (Ok _) = (fetches : History) × AllByRecursion IsFetch fetches
     × (es ≡ fetches ++ published_by c id lits ∷ [])
-MakesEvents c id lits es (Some fault) = AllByRecursion IsFetch es
+MakesEvents c id lits es (Err fault) = AllByRecursion IsFetch es
 
 -- Deletions
 
 -- An identity to delete that is an own one: the reply to one retire decides. No other has an event.
-abbrev pub DeletesOwn : Setting → ℕ → List ℕ → List ℕ → History → Deleted → Type 0
-DeletesOwn c id old new es deleting.Done =
+abbrev pub DeletesOwn : Setting → ℕ → List ℕ → List ℕ → History → Result (Unit {0}) LineStop
+    → Type 0
+DeletesOwn c id old new es (Ok _) =
     (es ≡ events.retire c.stream id retiring.Done ∷ []) × (new ≡ old)
-DeletesOwn c id old new es deleting.NotLive = es ≡ events.retire c.stream id retiring.NotLive ∷ []
-DeletesOwn c id old new es deleting.NoMemory = ⊥
+DeletesOwn c id old new es (Err (stops.Bad fault)) =
+    (es ≡ events.retire c.stream id retiring.NotLive ∷ []) × (fault ≡ faults.NotLive id)
+DeletesOwn c id old new es (Err stops.Memory) = ⊥
 
 -- one of the formula's or of another stream's: it is kept among the dropped ones, where it isn't yet
-abbrev pub DropsShared : ℕ → List ℕ → List ℕ → Deleted → Type 0
-DropsShared id old new deleting.Done =
+abbrev pub DropsShared : ℕ → List ℕ → List ℕ → Result (Unit {0}) LineStop → Type 0
+DropsShared id old new (Ok _) =
     (is_among old id ≡ false) × ((j : ℕ) → is_among new j ≡ (is_among old j || id == j))
-DropsShared id old new deleting.NotLive = is_among old id ≡ true
-DropsShared id old new deleting.NoMemory = is_among old id ≡ false
+DropsShared id old new (Err (stops.Bad fault)) =
+    (is_among old id ≡ true) × (fault ≡ faults.NotLive id)
+DropsShared id old new (Err stops.Memory) = is_among old id ≡ false
 
-abbrev pub DeletesSide : setting.Side → Setting → ℕ → List ℕ → List ℕ → History → Deleted → Type 0
+abbrev pub DeletesSide : setting.Side → Setting → ℕ → List ℕ → List ℕ → History
+    → Result (Unit {0}) LineStop → Type 0
 DeletesSide setting.formula c id old new es result = (es ≡ []) × DropsShared id old new result
 DeletesSide setting.own c id old new es result = DeletesOwn c id old new es result
 DeletesSide setting.foreign c id old new es result = (es ≡ []) × DropsShared id old new result
-DeletesSide setting.outside c id old new es result = (es ≡ []) × (result ≡ deleting.NotLive)
+DeletesSide setting.outside c id old new es result =
+    (es ≡ []) × (result ≡ Err (stops.Bad (faults.NotLive id)))
 
 -- what became of one identity to delete, where these were dropped before, and these are afterwards
-abbrev pub DeletesOne : Setting → ℕ → List ℕ → List ℕ → History → Deleted → Type 0
+abbrev pub DeletesOne : Setting → ℕ → List ℕ → List ℕ → History → Result (Unit {0}) LineStop
+    → Type 0
 DeletesOne c id old new es result = DeletesSide (side_of c id) c id old new es result
 
 -- so many identities more were deleted with this one
-abbrev pub counted : Deleted → ℕ
-counted deleting.Done = 1
-counted deleting.NotLive = 0
-counted deleting.NoMemory = 0
+abbrev pub counted : Result (Unit {0}) LineStop → ℕ
+counted (Ok _) = 1
+counted (Err stop) = 0
 
 -- The dropped ones are those of before, and the shared ones of these identities.
 abbrev pub AreDropped : Setting → List ℕ → List ℕ → List ℕ → Type 0
@@ -145,10 +141,11 @@ AreDropped c old ids new =
     (id : ℕ) → is_among new id ≡ (is_among old id || is_shared (side_of c id) && is_among ids id)
 
 -- What a deletion came to: it is good, or bad, or out of memory, after so many identities.
-abbrev pub Deletes : Setting → List ℕ → List ℕ → List ℕ → History → ℕ → Option LineStop → Type 0
-Deletes c old new ids es count None =
+abbrev pub Deletes : Setting → List ℕ → List ℕ → List ℕ → History → ℕ → Result (Unit {0}) LineStop
+    → Type 0
+Deletes c old new ids es count (Ok _) =
     JudgesDeletion c (is_among old) ids es Good × (count ≡ length ids) × AreDropped c old ids new
-Deletes c old new ids es count (Some (stops.Bad fault)) =
+Deletes c old new ids es count (Err (stops.Bad fault)) =
     JudgesDeletion c (is_among old) ids es (Bad count fault)
-Deletes c old new ids es count (Some stops.Memory) =
+Deletes c old new ids es count (Err stops.Memory) =
     (earlier : List ℕ) × (count ≡ length earlier) × StopsDeletion c (is_among old) ids es earlier

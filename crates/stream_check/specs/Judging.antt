@@ -6,6 +6,8 @@ use Rattle.lrup_text.specs.declared.LineFault.TheVariants as texts
 use Rattle.lrup_text.specs.declared.LineFault.{LineFault}
 use Rattle.lrup_text.specs.Lines.{StreamLine, Addition, Deletion, Import, IsWithinLimits, line_text, IsPending}
 use Rattle.lrup_text.specs.Faults.{HasTextFault}
+use Rattle.lrup_text.specs.declared.device.StreamEnd.{StreamEnd}
+use Rattle.lrup_text.specs.declared.device.StreamEnd.TheVariants as stream_ends
 use Rattle.stream_check.specs.declared.fault.Fault.{Fault}
 use Rattle.stream_check.specs.declared.fault.Fault.TheVariants as faults
 use Rattle.stream_check.specs.declared.report.Ending.{Ending}
@@ -94,16 +96,11 @@ pub record EndsAtMemory (c : Setting) (lines : List StreamLine) (rest : List ℕ
   pub says : report ≡ report_of (tally_of c lines) (length earlier)
       (endings.Memory (line_number (length lines)))
 
--- how the reader of a stream ended
-pub data StreamEnd : Type 0 where
-  ended : StreamEnd
-  failed : StreamEnd
-
 -- the ending where all lines are good and this rest begins a line, which has this number
 abbrev pub ending_at : StreamEnd → List ℕ → ℕ → Ending
-ending_at ended [] number = endings.Ended
-ending_at ended (byte ∷ bytes) number = endings.Bad number (faults.Text texts.Truncated)
-ending_at failed rest number = endings.ReadFailed number
+ending_at stream_ends.Ended [] number = endings.Ended
+ending_at stream_ends.Ended (byte ∷ bytes) number = endings.Bad number (faults.Text texts.Truncated)
+ending_at stream_ends.Failed rest number = endings.ReadFailed number
 
 -- After good lines: the end of the stream, with a rest that may still become a line.
 pub record EndsAtEnd (c : Setting) (lines : List StreamLine) (rest : List ℕ) (end : StreamEnd)

@@ -15,6 +15,8 @@ use Rattle.lrup_text.specs.declared.LineFault.{LineFault}
 use Rattle.lrup_text.specs.declared.LineFault.TheVariants as texts
 use Rattle.lrup_text.specs.Lines.{StreamLine, Addition, Deletion, Import, Cut, LineText, IsPending}
 use Rattle.lrup_text.specs.Faults.{IsRefused}
+use Rattle.lrup_text.specs.declared.device.StreamEnd.{StreamEnd}
+use Rattle.lrup_text.specs.declared.device.StreamEnd.TheVariants as stream_ends
 use Rattle.stream_check.specs.declared.fault.Fault.{Fault}
 use Rattle.stream_check.specs.declared.fault.Fault.TheVariants as faults
 use Rattle.stream_check.specs.declared.report.Ending.{Ending}
@@ -22,7 +24,7 @@ use Rattle.stream_check.specs.declared.report.Ending.TheVariants as endings
 use Rattle.stream_check.specs.declared.report.Report.{Report}
 use Rattle.stream_check.specs.Setting.{Setting}
 use Rattle.stream_check.specs.Deletions.{StopsDeletion}
-use Rattle.stream_check.specs.Judging.{JudgesLine, joined, report_of, StreamEnd, failed, ending_at, JudgesBlocks, Judges}
+use Rattle.stream_check.specs.Judging.{JudgesLine, joined, report_of, ending_at, JudgesBlocks, Judges}
 use Rattle.stream_check.specs.Forks.{NeverFork}
 use Rattle.lrup_model.specs.Distinct.{distinct}
 use Rattle.stream_check.specs.Standing.{Standing}
@@ -113,7 +115,7 @@ IsOfFailure report = (line : ℕ) × (report.ending ≡ endings.ReadFailed line)
 abbrev pub DecidedBeforeFailure : Type 0
 DecidedBeforeFailure = (c : Setting) (bytes more : List ℕ) (end : StreamEnd) (blocks : List History)
     (report : Report)
-    → ¬ IsOfFailure report → JudgesBlocks c bytes failed blocks report
+    → ¬ IsOfFailure report → JudgesBlocks c bytes stream_ends.Failed blocks report
     → JudgesBlocks c (bytes ++ more) end blocks report
 
 -- Where a checker may be fed

@@ -2,10 +2,11 @@
 use Rattle.std.specs.Prelude.{◌≡◌, ◌+◌, ◌-◌, ◌&&◌, ◌||◌, ℕ, List, [], length}
 use Rattle.lrup_model.specs.Event.{History}
 use Rattle.lrup_text.specs.Lines.{StreamLine, Addition, Deletion, Import, Cut, IsPending}
+use Rattle.lrup_text.specs.declared.device.StreamEnd.TheVariants as stream_ends
 use Rattle.stream_check.specs.declared.report.Report.{Report}
 use Rattle.stream_check.specs.Setting.{Setting, side_of, is_shared}
 use Rattle.stream_check.specs.Standing.{Standing, standing_of, is_among, line_size, deleted_by, added_by, adds_empty, adds_within, Tally, tally_of, capped, line_number}
-use Rattle.stream_check.specs.Judging.{AreGood, ended, failed, JudgesBlocks}
+use Rattle.stream_check.specs.Judging.{AreGood, JudgesBlocks}
 
 -- what a checker holds that isn't over: its counts, what good lines left, the text read of the next line, and that line's number
 pub record Holding : Type 0 where
@@ -39,7 +40,8 @@ pub record LeavesGoing (c : Setting) (bytes : List ℕ) (blocks : List History)
 abbrev pub Leaves : Setting → List ℕ → List History → CheckerState → Type 0
 Leaves c bytes blocks (Going now) = LeavesGoing c bytes blocks now
 Leaves c bytes blocks (Over report) =
-    JudgesBlocks c bytes ended blocks report × JudgesBlocks c bytes failed blocks report
+    JudgesBlocks c bytes stream_ends.Ended blocks report
+    × JudgesBlocks c bytes stream_ends.Failed blocks report
 
 -- One good line more
 

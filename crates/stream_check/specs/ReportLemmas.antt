@@ -5,10 +5,11 @@ use Rattle.std.specs.List.{flat_map, list_any}
 use Rattle.std.proofs.lemmas.Grind.{flat_map-append}
 use Rattle.lrup_model.specs.Event.{History}
 use Rattle.lrup_text.specs.Lines.{StreamLine, Addition, Deletion, Import, line_text}
+use Rattle.lrup_text.specs.declared.device.StreamEnd.{StreamEnd}
 use Rattle.stream_check.specs.declared.report.Report.{Report}
 use Rattle.stream_check.specs.Setting.{Setting}
 use Rattle.stream_check.specs.Standing.{adds_empty, adds_within}
-use Rattle.stream_check.specs.Judging.{EndsAfter, StreamEnd, joined}
+use Rattle.stream_check.specs.Judging.{EndsAfter, joined}
 use Rattle.stream_check.specs.Leaving.{CheckerState, Leaves}
 use Rattle.stream_check.specs.Checker.{LeavesOn}
 

@@ -1,5 +1,5 @@
 //! One addition against a clause map.
-ghost use Rattle.std.specs.Prelude.{◌≡◌, None, ◌↔◌, ◌≤◌, ◌<◌, ◌^◌, IsTrue, length, IfOk, vec_capacity};
+ghost use Rattle.std.specs.Prelude.{◌≡◌, ◌↔◌, ◌≤◌, ◌<◌, ◌^◌, IsTrue, length, IfOk, OnOk, vec_capacity};
 ghost use Rattle.std.specs.Bool.{OnTrue};
 ghost use Rattle.std.specs.List.{AllByRecursion};
 ghost use Rattle.lrup_model.specs.Literal.{IsLiteral, max_variable};
@@ -48,7 +48,13 @@ impl Buffers {
     }
 
     /// The tests of an addition that ask the map for no clause, in their order. The clause is taken up where all hold.
-    fn admit<M: ClauseMap>(&mut self, held: &Held, map: &M, id: Id, lits: &[i64]) -> Option<Fault>
+    fn admit<M: ClauseMap>(
+        &mut self,
+        held: &Held,
+        map: &M,
+        id: Id,
+        lits: &[i64],
+    ) -> Result<(), Fault>
         requires at { IsPlaceOf held.now.setting (M.place map.now) }
         requires variables { held.now.setting.layout.vars ≡ self.old.vars }
         requires count { length lits.now ≤ max_line_literals }
@@ -58,18 +64,18 @@ impl Buffers {
             AdmitsBy held.now.setting standing id lits.now self.new.marks result }
     {
         if !map.owns(id) || id <= held.last {
-            return Some(Fault::Identity);
+            return Err(Fault::Identity);
         }
         if !read_literals(&mut self.literals, lits, self.vars) {
-            return Some(Fault::Literal);
+            return Err(Fault::Literal);
         }
         if self.marks.begin(&self.literals).is_err() {
-            return Some(Fault::Tautology);
+            return Err(Fault::Tautology);
         }
         if self.marks.clause().len() as u64 > map.room() {
-            return Some(Fault::NoRoom);
+            return Err(Fault::NoRoom);
         }
-        None
+        Ok(())
     }
 
     /// The clause of the last addition, where it was published.
@@ -88,7 +94,7 @@ impl Buffers {
         id: Id,
         lits: &[i64],
         hints: &[Id],
-    ) -> Option<Fault>
+    ) -> Result<(), Fault>
         requires at { IsPlaceOf held.now.setting (M.place map.old) }
         requires variables { held.now.setting.layout.vars ≡ self.old.vars }
         requires tries { held.now.setting.tries < 2 ^ 63 }
@@ -96,30 +102,19 @@ impl Buffers {
         requires count { length lits.now ≤ max_line_literals }
         requires nonzero { AllByRecursion IsStreamLiteral lits.now }
         ensures vars { self.new.vars ≡ self.old.vars }
-        ensures clause { result ≡ None → self.new.marks.clause ≡ distinct lits.now }
+        ensures clause { OnOk result (self.new.marks.clause ≡ distinct lits.now) }
         ensures judged { let standing = standing_at held.now (M.place map.old).room in
             (es : History) × M.moves map.old map.new es
             × MakesEvents held.now.setting id lits.now es result
             × JudgesAddition held.now.setting standing id lits.now hints.now es
             (line_verdict result) }
     {
-        if let Some(fault) = self.admit(held, map, id, lits) {
-            return Some(fault);
-        }
-        if let Some(fault) = try_hints(
-            &held.setting,
-            &held.dropped,
-            map,
-            gate,
-            &mut self.marks,
-            hints,
-        ) {
-            return Some(fault);
-        }
+        self.admit(held, map, id, lits)?;
+        try_hints(held, map, gate, &mut self.marks, hints)?;
         match map.publish(id, self.marks.clause()) {
             Published::Done => {
                 gate.after_publish(map.stream(), id);
-                None
+                Ok(())
             }
             Published::Taken => unreachable!(),
         }

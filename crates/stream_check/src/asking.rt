@@ -1,14 +1,18 @@
 //! How a hint is fetched.
-ghost use Rattle.std.specs.Prelude.{◌∷◌, ◌<◌, ◌^◌};
+ghost use Rattle.std.specs.Prelude.{◌∷◌, ◌<◌, ◌^◌, IfOk};
+ghost use Rattle.std.specs.List.{AllByRecursion};
 ghost use Rattle.lrup_model.specs.Event.{History, vacant, fetch};
 ghost use Rattle.lrup_model.specs.Layout.{IsIdentity};
 ghost use Rattle.lrup_model.specs.Replies.{reply_of};
 ghost use Rattle.stream_check.specs.Asking.{Asks, FetchesUpTo};
-ghost use Rattle.stream_check.specs.Checking.{IsPlaceOf, Gives};
+ghost use Rattle.stream_check.specs.Standing.{is_among};
+ghost use Rattle.stream_check.specs.Checking.{IsPlaceOf, Gives, IsFetch, LooksUp};
 
+use crate::fault::Fault;
 use crate::gate::Gate;
+use crate::held::Held;
 use crate::setting::Setting;
-use lrup_model::{ClauseMap, Fetched, Id};
+use lrup_model::{ClauseMap, Clip, Fetched, Id};
 
 /// Fetches an identity that was vacant again, until the reply isn't vacant, and so many times at most.
 // Where it or `ask` is called and doesn't stand in place, each reply goes back through memory, also where there is no second fetch.
@@ -36,7 +40,7 @@ fn fetch_again<M: ClauseMap, G: Gate>(most: u64, map: &mut M, gate: &mut G, id: 
 /// What the map has under a hint. One of another stream is fetched again while it is vacant, up to the setting's tries.
 /// Whose it is matters only where it was vacant: so a hint that is found at once costs one fetch and no division.
 #[inline(always)]
-pub fn ask<M: ClauseMap, G: Gate>(setting: &Setting, map: &mut M, gate: &mut G, hint: Id) -> Fetched
+fn ask<M: ClauseMap, G: Gate>(setting: &Setting, map: &mut M, gate: &mut G, hint: Id) -> Fetched
     requires at { IsPlaceOf setting.now (M.place map.old) }
     requires tries { setting.now.tries < 2 ^ 63 }
     ensures asked { (es : History) × M.moves map.old map.new es
@@ -50,5 +54,29 @@ pub fn ask<M: ClauseMap, G: Gate>(setting: &Setting, map: &mut M, gate: &mut G, 
     match map.fetch(hint) {
         Fetched::Vacant => fetch_again(setting.tries_for(hint), map, gate, hint),
         answer => answer,
+    }
+}
+
+/// The clause of a hint or of an import's identity; a fault where the stream dropped it, or where the map has none.
+#[inline(always)]
+pub fn look_up<M: ClauseMap, G: Gate>(
+    held: &Held,
+    map: &mut M,
+    gate: &mut G,
+    id: Id,
+) -> Result<Clip, Fault>
+    requires at { IsPlaceOf held.now.setting (M.place map.old) }
+    requires tries { held.now.setting.tries < 2 ^ 63 }
+    ensures looked { (es : History) × M.moves map.old map.new es × AllByRecursion IsFetch es
+        × LooksUp held.now.setting (is_among held.now.dropped.ids) id (M.place map.new) es result }
+    ensures gives { IfOk result (λ clip. Gives (M.place map.new) (Fetched.Live clip)) }
+{
+    if held.dropped.has(id) {
+        return Err(Fault::Dropped(id));
+    }
+    match ask(&held.setting, map, gate, id) {
+        Fetched::Vacant => Err(Fault::Missing(id)),
+        Fetched::Retired => Err(Fault::Retired(id)),
+        Fetched::Live(clip) => Ok(clip),
     }
 }

@@ -3,19 +3,21 @@ ghost use Rattle.std.specs.Prelude.{◌≡◌, ◌↔◌, ◌≤◌, ◌<◌, Is
 ghost use Rattle.lrup_model.specs.Event.{History};
 ghost use Rattle.lrup_model.specs.Layout.{IsStream};
 ghost use Rattle.stream_check.specs.Setting.{max_tries};
-ghost use Rattle.stream_check.specs.Judging.{joined, ended, failed};
+ghost use Rattle.lrup_text.specs.declared.device.StreamEnd.TheVariants as stream_ends;
+ghost use Rattle.stream_check.specs.Judging.{joined};
 ghost use Rattle.stream_check.specs.Checker.{checker_state, report_at, IsReadyAt, LeavesOn, AreBlocksOf, Turns, StaysOver, IsNew, Ends, ReportsEnd};
 
 use crate::addition::Buffers;
 use crate::fault::Fault;
 use crate::gate::Gate;
 use crate::held::Held;
-use crate::laws::fresh_left;
-use crate::line::{Taken, take_line};
-use crate::progress::{Progress, CheckTurn};
+use crate::laws::{fresh_left, good_line_taken};
+use crate::line::take_line;
+use crate::progress::{CheckTurn, Progress};
 use crate::report::{Ending, Report};
+use crate::setting::Setting;
 use lrup_model::{ClauseMap, Cube, Layout};
-use lrup_text::{End, LineReader};
+use lrup_text::{End, LineReader, ReaderTurn};
 use std::alloc::{AllocError, Global};
 use std::marker::Model;
 
@@ -61,8 +63,9 @@ impl Checker {
         ensures { IfOk result (IsNew layout.now cube.now stream tries) }
     {
         fresh_left();
+        let setting = Setting::new(layout, cube.try_clone()?, stream, tries);
         Ok(Checker {
-            held: Held::new(alloc, layout, cube.try_clone()?, stream, tries),
+            held: Held::new(alloc, setting),
             buffers: Buffers::new(alloc, layout.vars())?,
             reader: LineReader::new(alloc)?,
             ending: None,
@@ -97,46 +100,52 @@ impl Checker {
                 turn: CheckTurn::Over,
             };
         }
-        match take_line(
-            &mut self.held,
-            &mut self.buffers,
-            &mut self.reader,
-            map,
-            gate,
-            piece,
-        ) {
-            Taken::Line(used) => Progress {
+        good_line_taken();
+        let fed = self.reader.feed(piece);
+        let used = fed.used;
+        match fed.turn {
+            ReaderTurn::NeedMore => Progress {
                 used,
-                turn: CheckTurn::Line,
-            },
-            Taken::More => Progress {
-                used: piece.len(),
                 turn: CheckTurn::More,
             },
-            Taken::Stopped(used, stop) => {
-                self.ending = Some(stop.ending(self.held.line));
-                self.tell(gate);
-                Progress {
-                    used,
-                    turn: CheckTurn::Over,
+            ReaderTurn::Line(line) => {
+                match take_line(&mut self.held, &mut self.buffers, map, gate, line) {
+                    Ok(()) => Progress {
+                        used,
+                        turn: CheckTurn::Line,
+                    },
+                    Err(stop) => {
+                        self.ending = Some(stop.ending(self.held.line));
+                        self.tell(gate, used)
+                    }
                 }
+            }
+            ReaderTurn::Fault(fault) => {
+                self.ending = Some(Ending::Bad(self.held.line, Fault::Text(fault)));
+                self.tell(gate, used)
             }
         }
     }
 
-    /// Tells the gate how the stream is judged, which is over. Where the compiler knows that this is rare, lines before it are faster.
+    /// Tells the gate how the stream is judged, which is over through so many bytes. Where the compiler knows that this is rare,
+    /// lines before it are faster.
     #[cold]
     #[inline(never)]
-    fn tell<G: Gate>(&self, gate: &mut G)
+    fn tell<G: Gate>(&self, gate: &mut G, used: usize) -> Progress
         requires { IsSome self.now.ending }
+        ensures { result ≡ record { used = used; turn = CheckTurn.Over } }
     {
         gate.when_over(self.stream(), &self.report());
+        Progress {
+            used,
+            turn: CheckTurn::Over,
+        }
     }
 
     /// Takes the end of the stream.
     pub fn end(&mut self)
-        ensures ends { Ends ended self.old self.new }
-        ensures reports { ReportsEnd ended self.old self.new }
+        ensures ends { Ends stream_ends.Ended self.old self.new }
+        ensures reports { ReportsEnd stream_ends.Ended self.old self.new }
     {
         if self.ending.is_some() {
             return;
@@ -149,8 +158,8 @@ impl Checker {
 
     /// Records a read failure.
     pub fn read_failed(&mut self)
-        ensures ends { Ends failed self.old self.new }
-        ensures reports { ReportsEnd failed self.old self.new }
+        ensures ends { Ends stream_ends.Failed self.old self.new }
+        ensures reports { ReportsEnd stream_ends.Failed self.old self.new }
     {
         if self.ending.is_some() {
             return;

@@ -1,5 +1,5 @@
 //! One deletion against a clause map.
-ghost use Rattle.std.specs.Prelude.{◌≡◌, ◌+◌, ℕ, length};
+ghost use Rattle.std.specs.Prelude.{◌≡◌, ◌+◌, ℕ, length, IsErrOf};
 ghost use Rattle.std.specs.List.{AllByRecursion};
 ghost use Rattle.lrup_model.specs.Event.{History};
 ghost use Rattle.lrup_model.specs.Layout.{Owns};
@@ -13,17 +13,6 @@ use crate::held::Held;
 use crate::setting::Side;
 use lrup_model::{ClauseMap, Id, Retired};
 
-/// What became of an identity to delete.
-#[derive(Clone, Copy)]
-pub enum Deleted {
-    /// It is retired, or dropped.
-    Done,
-    /// It is neither: it isn't live, or was dropped before, or is no identity.
-    NotLive,
-    /// There is no memory to keep it among the dropped ones.
-    NoMemory,
-}
-
 /// Why a line wasn't taken as a good one.
 #[derive(Clone, Copy)]
 pub enum LineStop {
@@ -33,24 +22,31 @@ pub enum LineStop {
     Memory,
 }
 
-/// Drops an identity that isn't the stream's own. It is looked for first, so that one that was dropped before never wants
-/// memory.
-fn drop_shared(dropped: &mut Dropped, id: Id) -> Deleted
-    ensures drops { DropsShared id dropped.old.ids dropped.new.ids result }
-    ensures count { length dropped.new.ids ≡ length dropped.old.ids + counted result }
-    ensures spare { result ≡ Deleted.NoMemory → dropped.old.spare ≡ 0 }
-{
-    if dropped.has(id) {
-        return Deleted::NotLive;
-    }
-    match dropped.add(id) {
-        Ok(()) => Deleted::Done,
-        Err(_) => Deleted::NoMemory,
+impl From<Fault> for LineStop {
+    ghost use Rattle.stream_check.specs.declared.deletion.LineStop.TheVariants.{Bad};
+
+    ghost from_gives = { λ fault stop. stop ≡ Bad fault };
+
+    fn from(fault: Fault) -> LineStop {
+        LineStop::Bad(fault)
     }
 }
 
+/// Drops an identity that isn't the stream's own. It is looked for first, so that one that was dropped before never wants
+/// memory.
+fn drop_shared(dropped: &mut Dropped, id: Id) -> Result<(), LineStop>
+    ensures drops { DropsShared id dropped.old.ids dropped.new.ids result }
+    ensures count { length dropped.new.ids ≡ length dropped.old.ids + counted result }
+    ensures spare { IsErrOf result LineStop.Memory → dropped.old.spare ≡ 0 }
+{
+    if dropped.has(id) {
+        return Err(LineStop::Bad(Fault::NotLive(id)));
+    }
+    dropped.add(id).map_err(|_| LineStop::Memory)
+}
+
 /// Retires an identity of the stream's own.
-fn retire_own<M: ClauseMap>(held: &mut Held, map: &mut M, id: Id) -> Deleted
+fn retire_own<M: ClauseMap>(held: &mut Held, map: &mut M, id: Id) -> Result<(), LineStop>
     requires at { IsPlaceOf held.old.setting (M.place map.old) }
     requires owns { Owns held.old.setting.layout held.old.setting.stream id }
     ensures deletes { (es : History) × M.moves map.old map.new es × AllByRecursion IsRetire es
@@ -62,18 +58,18 @@ fn retire_own<M: ClauseMap>(held: &mut Held, map: &mut M, id: Id) -> Deleted
     match map.retire(id) {
         Retired::Done => {
             held.retired = held.retired.saturating_add(1);
-            Deleted::Done
+            Ok(())
         }
-        Retired::NotLive => Deleted::NotLive,
+        Retired::NotLive => Err(LineStop::Bad(Fault::NotLive(id))),
     }
 }
 
 /// Deletes one identity.
-fn delete_one<M: ClauseMap>(held: &mut Held, map: &mut M, id: Id) -> Deleted
+fn delete_one<M: ClauseMap>(held: &mut Held, map: &mut M, id: Id) -> Result<(), LineStop>
     requires at { IsPlaceOf held.old.setting (M.place map.old) }
     ensures deletes { (es : History) × M.moves map.old map.new es × AllByRecursion IsRetire es
         × DeletesOne held.old.setting id held.old.dropped.ids held.new.dropped.ids es result }
-    ensures spare { result ≡ Deleted.NoMemory → held.old.dropped.spare ≡ 0 }
+    ensures spare { IsErrOf result LineStop.Memory → held.old.dropped.spare ≡ 0 }
     ensures count { deleted_at held.new ≡ capped (deleted_at held.old + counted result) }
     ensures kept { KeepsLines held.old held.new }
 {
@@ -81,12 +77,12 @@ fn delete_one<M: ClauseMap>(held: &mut Held, map: &mut M, id: Id) -> Deleted
         Side::Own => retire_own(held, map, id),
         Side::Formula => drop_shared(&mut held.dropped, id),
         Side::Foreign => drop_shared(&mut held.dropped, id),
-        Side::Outside => Deleted::NotLive,
+        Side::Outside => Err(LineStop::Bad(Fault::NotLive(id))),
     }
 }
 
-/// Deletes the identities one after the other. None where all are deleted.
-pub fn delete<M: ClauseMap>(held: &mut Held, map: &mut M, ids: &[Id]) -> Option<LineStop>
+/// Deletes the identities one after the other.
+pub fn delete<M: ClauseMap>(held: &mut Held, map: &mut M, ids: &[Id]) -> Result<(), LineStop>
     requires at { IsPlaceOf held.old.setting (M.place map.old) }
     ensures deleted { (es : History) × M.moves map.old map.new es × AllByRecursion IsRetire es
         × ((count : ℕ) × (deleted_at held.new ≡ capped (deleted_at held.old + count))
@@ -95,11 +91,7 @@ pub fn delete<M: ClauseMap>(held: &mut Held, map: &mut M, ids: &[Id]) -> Option<
     ensures kept { KeepsLines held.old held.new }
 {
     for id in ids {
-        match delete_one(held, map, *id) {
-            Deleted::Done => {}
-            Deleted::NotLive => return Some(LineStop::Bad(Fault::NotLive(*id))),
-            Deleted::NoMemory => return Some(LineStop::Memory),
-        }
+        delete_one(held, map, *id)?;
     }
-    None
+    Ok(())
 }

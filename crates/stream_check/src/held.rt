@@ -3,7 +3,7 @@ ghost use Rattle.std.specs.Prelude.{◌≡◌, ◌≤◌, ◌<◌, ◌^◌, ◌+
 
 use crate::dropped::Dropped;
 use crate::setting::Setting;
-use lrup_model::{Cube, Id, Layout};
+use lrup_model::Id;
 use std::alloc::Global;
 
 /// What a checker keeps of the good lines, and whose they are.
@@ -29,10 +29,9 @@ pub struct Held {
 
 impl Held {
     /// Before the first line.
-    pub fn new(alloc: Global, layout: &Layout, cube: Cube, stream: u64, tries: u64) -> Held
-        ensures setting { result.setting
-            ≡ record { layout = layout.now; cube = cube; stream = stream; tries = tries } }
-        ensures last { result.last ≡ layout.now.clauses }
+    pub fn new(alloc: Global, setting: Setting) -> Held
+        ensures setting { result.setting ≡ setting }
+        ensures last { result.last ≡ setting.layout.clauses }
         ensures dropped { result.dropped.ids ≡ [] }
         ensures retired { result.retired ≡ 0 }
         ensures added { result.added ≡ 0 }
@@ -41,8 +40,8 @@ impl Held {
         ensures line { result.line ≡ 1 }
     {
         Held {
-            setting: Setting::new(layout, cube, stream, tries),
-            last: u64::from(layout.clauses()),
+            last: u64::from(setting.clauses()),
+            setting,
             dropped: Dropped::new(alloc),
             retired: 0,
             added: 0,

@@ -9,11 +9,11 @@ ghost use Rattle.stream_check.specs.Checking.{IsPlaceOf, IsFetch, line_verdict};
 ghost use Rattle.stream_check.specs.Checker.{standing_at};
 
 use crate::addition::{Buffers, read_literals};
-use crate::asking::ask;
+use crate::asking::look_up;
 use crate::fault::Fault;
 use crate::gate::Gate;
 use crate::held::Held;
-use lrup_model::{ClauseMap, Fetched, Id};
+use lrup_model::{ClauseMap, Id};
 
 impl Buffers {
     /// Compares an import with the clause of its identity, which is fetched as a hint is.
@@ -24,7 +24,7 @@ impl Buffers {
         gate: &mut G,
         id: Id,
         lits: &[i64],
-    ) -> Option<Fault>
+    ) -> Result<(), Fault>
         requires at { IsPlaceOf held.now.setting (M.place map.old) }
         requires variables { held.now.setting.layout.vars ≡ self.old.vars }
         requires tries { held.now.setting.tries < 2 ^ 63 }
@@ -36,24 +36,15 @@ impl Buffers {
             × JudgesImport held.now.setting standing id lits.now es (line_verdict result) }
     {
         if !held.setting.shares(id) {
-            return Some(Fault::Identity);
+            return Err(Fault::Identity);
         }
         if !read_literals(&mut self.literals, lits, self.vars) {
-            return Some(Fault::Literal);
+            return Err(Fault::Literal);
         }
-        if held.dropped.has(id) {
-            return Some(Fault::Dropped(id));
+        let clip = look_up(held, map, gate, id)?;
+        if !self.marks.same(map, &clip, &self.literals) {
+            return Err(Fault::Differs(id));
         }
-        match ask(&held.setting, map, gate, id) {
-            Fetched::Vacant => Some(Fault::Missing(id)),
-            Fetched::Retired => Some(Fault::Retired(id)),
-            Fetched::Live(clip) => {
-                if self.marks.same(map, &clip, &self.literals) {
-                    None
-                } else {
-                    Some(Fault::Differs(id))
-                }
-            }
-        }
+        Ok(())
     }
 }

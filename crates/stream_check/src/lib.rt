@@ -21,5 +21,5 @@ mod setting;
 pub use checker::Checker;
 pub use fault::Fault;
 pub use gate::Gate;
-pub use progress::{Progress, CheckTurn};
+pub use progress::{CheckTurn, Progress};
 pub use report::{Ending, Report};

@@ -68,6 +68,13 @@ impl Setting {
         }
     }
 
+    /// The count of the formula's clauses.
+    pub fn clauses(&self) -> u32
+        ensures { result ≡ self.now.layout.clauses }
+    {
+        self.layout.clauses()
+    }
+
     pub fn stream(&self) -> u64
         ensures { result ≡ self.now.stream }
     {

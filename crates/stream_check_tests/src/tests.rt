@@ -10,7 +10,7 @@ use std::alloc::Global;
 use std::fmt;
 use std::process::Abort;
 use std::test::Fail;
-use stream_check::{Checker, Ending, Fault, Gate, Report, CheckTurn};
+use stream_check::{CheckTurn, Checker, Ending, Fault, Gate, Report};
 
 mod assumptions;
 mod imports;

@@ -1,21 +1,18 @@
 -- What a checker took, piece by piece, and what both ends know together.
 use Rattle.std.proofs.Common.{◌≡◌, ◌++◌, ◌∙◌, ◌⊎◌, inl, inr, ℕ, Bool, true, false, List, [], Option, Some, None, IsSome, IfSome, refl, sym, ap, subst, append_assoc, append-nil}
-use Rattle.std.specs.Io.KnownBytes.{Consumes, IsAtEnd}
 use Rattle.lrup_model.specs.Event.{History}
-use Rattle.lrup_text.specs.ReadOut.{ReadOut, SourceView}
-use Rattle.runs.specs.Readings.{IsStreamOf}
-use Rattle.runs.specs.Streams.{Stream, at_end, at_failure, IsReadOut, JudgesStream}
+use Rattle.lrup_text.specs.declared.device.StreamEnd.{StreamEnd}
+use Rattle.lrup_text.specs.declared.device.StreamEnd.TheVariants as stream_ends
 use Rattle.stream_check.specs.declared.report.Ending.{Ending}
 use Rattle.stream_check.specs.declared.report.Report.{Report}
 use Rattle.stream_check.specs.declared.progress.CheckTurn.{CheckTurn}
 use Rattle.stream_check.specs.declared.progress.CheckTurn.TheVariants as turns
 use Rattle.stream_check.specs.Checker.{state_by, checker_state, report_at, LeavesOn, Turns, EndsBy, Ends, ReportsEnd}
 use Rattle.stream_check.specs.CheckerValue.{CheckerValue}
-use Rattle.stream_check.specs.Judging.{StreamEnd, JudgesBlocks}
+use Rattle.stream_check.specs.Judging.{JudgesBlocks}
 use Rattle.stream_check.specs.Laws.{OverStays}
 use Rattle.stream_check.specs.Leaving.{CheckerState, Over, Leaves}
 use Rattle.stream_check.specs.Setting.{Setting}
-use Rattle.stream_jobs.specs.Judged.{end_of}
 
 pub leaves_append : (c : Setting) (one two three : CheckerState) (xs ys : List ℕ) (front back : List History)
     → LeavesOn c one xs front two → LeavesOn c two ys back three → LeavesOn c one (xs ++ ys) (front ++ back) three
@@ -57,26 +54,6 @@ ends_by (Some ending) end old new is ends = subst (λ (e : Option Ending). IsSom
 -- the end, or a failed read, leaves a checker over
 pub ends_over : (end : StreamEnd) (old new : CheckerValue) → Ends end old new → IsSome new.ending
 ends_over end old new ends = ends_by old.ending end old new refl ends
-
--- what was sent is the stream that was judged
-pub told_and_judged : (S : Type 0) (view : SourceView S) (first last : S) (failed has : Bool) (bytes : List ℕ) (c : Setting) (blocks : List History) (report : Report)
-    → failed ≡ has → view.has_failed last ≡ has → Consumes (view.left first) (view.left last) bytes → (has ≡ false → IsAtEnd (view.left last))
-    → ReadOut S view.reads has first bytes last → JudgesBlocks c bytes (end_of failed) blocks report
-    → (stream : Stream) × IsReadOut stream × IsStreamOf view first last stream × JudgesStream c stream blocks report
-told_and_judged S view first last true true bytes c blocks report same has told all read judged = (
-  record { bytes = bytes; stop = at_failure },
-  inr refl,
-  (record { consumes = told; stops = has }, read),
-  judged,
-)
-told_and_judged S view first last false false bytes c blocks report same has told all read judged = (
-  record { bytes = bytes; stop = at_end },
-  inl refl,
-  (record { consumes = told; stops = (all refl, has) }, read),
-  judged,
-)
-told_and_judged S view first last true false bytes c blocks report same has told all read judged = absurd (cc)
-told_and_judged S view first last false true bytes c blocks report same has told all read judged = absurd (cc)
 
 -- what was taken so far, and then more, with the same setting
 pub leaves_more : (c d : Setting) (one two three : CheckerState) (xs ys all : List ℕ) (front back : List History) → d ≡ c → all ≡ xs ++ ys

@@ -1,5 +1,5 @@
 //! The two jobs of a stream before their threads start, and what came of them after both have ended.
-ghost use Rattle.std.specs.Prelude.{◌≡◌, ◌≤◌, ℕ, List, [], false, IfOk};
+ghost use Rattle.std.specs.Prelude.{◌≡◌, ℕ, List, [], false, IfOk};
 ghost use Rattle.lrup_model.specs.Event.{History};
 ghost use Rattle.lrup_model.specs.Layout.{IsStream};
 ghost use Rattle.lrup_text.specs.ReadOut.{source_view};
@@ -10,14 +10,13 @@ ghost use Rattle.stream_check.specs.declared.report.Report.{Report};
 ghost use Rattle.stream_check.specs.Checker.{IsNew, checker_state};
 ghost use Rattle.stream_check.specs.CheckerValue.{CheckerValue};
 ghost use Rattle.stream_check.specs.Leaving.{Leaves};
-ghost use Rattle.stream_check.specs.Setting.{max_tries};
 ghost use Rattle.stream_jobs.specs.Judged.{JudgesAtMark};
 ghost use Rattle.stream_ring.specs.Items.{SendsAll};
 
 use crate::checking::{Checked, CheckingJob};
 use crate::reading::{ReadingJob, Sent};
-use lrup_model::{Cube, Layout};
 use lrup_text::Source;
+use runs::Terms;
 use std::alloc::{AllocError, Global};
 use stream_check::Gate;
 use stream_ring::{came_through, ring};
@@ -25,29 +24,27 @@ use stream_ring::{came_through, ring};
 /// The items of a ring: two bytes each.
 const CAPACITY: usize = 65_536;
 
-/// The two jobs of stream `stream`, from 1 on, under this cube, at the two ends of one ring. All memory is taken here, but for the
-/// identities that the stream drops. A hint of another stream is fetched again while it is vacant, up to `tries` times, at most 1,000,000.
+/// The two jobs of stream `stream`, from 1 on, at the two ends of one ring. All memory is taken here, but for the identities that
+/// the stream drops.
 pub fn jobs<R: Source + Drop, G: Gate + Drop>(
     alloc: Global,
     reader: R,
     gate: G,
     stream: u64,
-    layout: &Layout,
-    cube: &Cube,
-    tries: u64,
+    terms: &Terms<'_>,
 ) -> Result<(ReadingJob<R>, CheckingJob<G>), AllocError>
     requires running { R.has_failed reader ≡ false }
-    requires stream { IsStream layout.now stream }
-    requires tries { tries ≤ max_tries }
+    requires stream { IsStream terms.now.layout stream }
     ensures pair { IfOk result (λ both.
         IsPair both.0.sender.producer both.1.receiver.consumer) }
     ensures reader { IfOk result (λ both. both.0.reader ≡ reader) }
     ensures gate { IfOk result (λ both. both.1.gate ≡ gate) }
-    ensures checker { IfOk result (λ both. IsNew layout.now cube.now stream tries both.1.checker) }
+    ensures checker { IfOk result (λ both. let t = terms.now in
+        IsNew t.layout t.cube stream t.tries both.1.checker) }
 {
     let (sender, receiver) = ring(alloc, CAPACITY)?;
     let reading = ReadingJob::new(alloc, reader, sender)?;
-    let checking = CheckingJob::new(alloc, receiver, gate, stream, layout, cube, tries)?;
+    let checking = CheckingJob::new(alloc, receiver, gate, stream, terms)?;
     Ok((reading, checking))
 }
 

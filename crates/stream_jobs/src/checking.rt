@@ -6,16 +6,17 @@ ghost use Rattle.rtrb.specs.Ring.{received, SameConsumer};
 ghost use Rattle.stream_check.specs.Checker.{IsNew, IsReadyAt, LeavesOn, checker_state};
 ghost use Rattle.stream_check.specs.Judging.{joined, JudgesBlocks};
 ghost use Rattle.stream_check.specs.Leaving.{Leaves};
-ghost use Rattle.stream_check.specs.Setting.{max_tries};
-ghost use Rattle.stream_jobs.specs.Judged.{JudgesAtMark, end_of};
+ghost use Rattle.stream_jobs.specs.Judged.{JudgesAtMark};
 ghost use Rattle.stream_ring.specs.Items.{EndsAtMark};
 
-use lrup_model::{ClauseMap, Cube, Layout};
+use lrup_model::ClauseMap;
+use lrup_text::StreamEnd;
 use rtrb::Consumer;
+use runs::Terms;
 use std::alloc::{AllocError, Global};
 use std::sync::{OnceLock, OnceToken, Wait};
 use stream_check::laws::over_stays;
-use stream_check::{Checker, Gate, Report, CheckTurn};
+use stream_check::{CheckTurn, Checker, Gate, Report};
 use stream_ring::{Received, Receiver, told};
 
 /// The most items that are popped, and the most bytes that are fed, at once.
@@ -46,25 +47,22 @@ pub struct Checked {
 }
 
 impl<G: Gate + Drop> CheckingJob<G> {
-    /// The job of stream `stream`, from 1 on, under this cube, with the memory that it will need, but for the identities that the stream drops. A
-    /// hint of another stream is fetched again while it is vacant, up to `tries` times, at most 1,000,000.
+    /// The job of stream `stream`, from 1 on, with the memory that it will need, but for the identities that the stream drops.
     pub(crate) fn new(
         alloc: Global,
         receiver: Receiver,
         gate: G,
         stream: u64,
-        layout: &Layout,
-        cube: &Cube,
-        tries: u64,
+        terms: &Terms<'_>,
     ) -> Result<CheckingJob<G>, AllocError>
-        requires stream { IsStream layout.now stream }
-        requires tries { tries ≤ max_tries }
+        requires stream { IsStream terms.now.layout stream }
         requires nothing { received receiver.consumer ≡ [] }
-        ensures checker { IfOk result (λ job. IsNew layout.now cube.now stream tries job.checker) }
+        ensures checker { IfOk result (λ job. let t = terms.now in
+            IsNew t.layout t.cube stream t.tries job.checker) }
         ensures gate { IfOk result (λ job. job.gate ≡ gate) }
         ensures receiver { IfOk result (λ job. job.receiver ≡ receiver) }
     {
-        let checker = Checker::new(alloc, stream, layout, cube, tries)?;
+        let checker = Checker::new(alloc, stream, terms.layout(), terms.cube(), terms.tries())?;
         let items = vec![in alloc; 0u16; POPPED]?;
         let bytes = vec![in alloc; 0u8; POPPED]?;
         Ok(CheckingJob {
@@ -77,25 +75,25 @@ impl<G: Gate + Drop> CheckingJob<G> {
     }
 }
 
-/// Waits for the word, and then checks what is received, up to the mark; after a bad line the rest is received and nothing more is
-/// said of it. Where the word is to leave, nothing is received, and the word's token is the answer. It blocks while the ring is
+/// Waits for the start signal, and then checks what is received, up to the mark; after a bad line the rest is received and nothing more is
+/// said of it. Where it says to leave, nothing is received, and the signal's token is the answer. It blocks while the ring is
 /// empty.
 pub fn check_when_told<'a, W: Wait, G: Gate + Drop, M: ClauseMap>(
     wait: &W,
-    word: &'a OnceLock<bool>,
+    signal: &'a OnceLock<bool>,
     job: CheckingJob<G>,
     map: &mut M,
 ) -> Result<Checked, OnceToken<'a, bool>>
     requires { IsReadyAt job.checker (M.place map.old) }
-    ensures leaves { IfErr result (λ token. (token.of ≡ word.now.id) × (token.value ≡ false)) }
+    ensures leaves { IfErr result (λ token. (token.of ≡ signal.now.id) × (token.value ≡ false)) }
     ensures ring { IfOk result (λ checked. SameConsumer job.receiver.consumer checked.consumer) }
     ensures judged { IfOk result (λ checked. IfSome checked.report (λ report.
         (blocks : List History) × M.moves map.old map.new (joined blocks)
         × JudgesAtMark job.checker (M.place map.old).room (received checked.consumer)
         blocks report)) }
 {
-    let token = told(wait, word);
-    if !*word.value(&token) {
+    let token = told(wait, signal);
+    if !*signal.value(&token) {
         return Err(token);
     }
     let CheckingJob {
@@ -140,18 +138,18 @@ fn judge<W: Wait, G: Gate, M: ClauseMap>(
         × JudgesAtMark checker.old (M.place map.old).room (received receiver.new.consumer)
         blocks report) }
 {
-    let has_failed = check_received(wait, checker, gate, receiver, items, bytes, map)?;
-    Some(settle(checker, gate, has_failed))
+    let end = check_received(wait, checker, gate, receiver, items, bytes, map)?;
+    Some(settle(checker, gate, end))
 }
 
 /// Takes the end of the stream, or a read that failed, and says how the stream is judged; to the gate too, where it wasn't over before.
-fn settle<G: Gate>(checker: &mut Checker, gate: &mut G, has_failed: bool) -> Report
+fn settle<G: Gate>(checker: &mut Checker, gate: &mut G, end: StreamEnd) -> Report
     ensures { (bytes : List ℕ) (blocks : List History) (free : ℕ)
         → Leaves checker.old.setting bytes blocks (checker_state checker.old free)
-        → JudgesBlocks checker.old.setting bytes (end_of has_failed) blocks result }
+        → JudgesBlocks checker.old.setting bytes end blocks result }
 {
     let was_over = checker.is_over();
-    let report = close(checker, has_failed);
+    let report = close(checker, end);
     if !was_over {
         gate.when_over(checker.stream(), &report);
     }
@@ -159,20 +157,19 @@ fn settle<G: Gate>(checker: &mut Checker, gate: &mut G, has_failed: bool) -> Rep
 }
 
 /// Takes the end of the stream, or a read that failed, and says how the stream is judged.
-fn close(checker: &mut Checker, has_failed: bool) -> Report
+fn close(checker: &mut Checker, end: StreamEnd) -> Report
     ensures { (bytes : List ℕ) (blocks : List History) (free : ℕ)
         → Leaves checker.old.setting bytes blocks (checker_state checker.old free)
-        → JudgesBlocks checker.old.setting bytes (end_of has_failed) blocks result }
+        → JudgesBlocks checker.old.setting bytes end blocks result }
 {
-    if has_failed {
-        checker.read_failed();
-        return checker.report();
+    match end {
+        StreamEnd::Ended => checker.end(),
+        StreamEnd::Failed => checker.read_failed(),
     }
-    checker.end();
     checker.report()
 }
 
-/// Checks what is received, up to the mark. Did the read fail? None where no mark came.
+/// Checks what is received, up to the mark, and says which end that tells. None where no mark came.
 fn check_received<W: Wait, G: Gate, M: ClauseMap>(
     wait: &W,
     checker: &mut Checker,
@@ -181,7 +178,7 @@ fn check_received<W: Wait, G: Gate, M: ClauseMap>(
     items: &mut [u16],
     bytes: &mut [u8],
     map: &mut M,
-) -> Option<bool>
+) -> Option<StreamEnd>
     requires ready { IsReadyAt checker.old (M.place map.old) }
     requires some { 0 < length items.old }
     requires room { length items.old ≡ length bytes.old }
@@ -190,17 +187,17 @@ fn check_received<W: Wait, G: Gate, M: ClauseMap>(
     ensures setting { checker.new.setting ≡ checker.old.setting }
     ensures took { let old = checker_state checker.old (M.place map.old).room in
         let new = checker_state checker.new (M.place map.new).room in
-        IfSome result (λ failed. (fed : List ℕ) × (blocks : List History)
+        IfSome result (λ end. (fed : List ℕ) × (blocks : List History)
         × M.moves map.old map.new (joined blocks)
-        × EndsAtMark fed failed (received receiver.new.consumer)
+        × EndsAtMark fed end (received receiver.new.consumer)
         × LeavesOn checker.old.setting old fed blocks new) }
 {
     for _ in wait.forever() {
         match receiver.receive(wait, items, bytes) {
             Received::Bytes(count) => take_all(checker, gate, map, &bytes[..count]),
-            Received::Mark(count, failed) => {
+            Received::Mark(count, end) => {
                 take_all(checker, gate, map, &bytes[..count]);
-                return Some(failed);
+                return Some(end);
             }
             Received::Gone => return None,
         }

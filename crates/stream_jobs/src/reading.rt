@@ -58,20 +58,20 @@ impl<R: Source + Drop> ReadingJob<R> {
     }
 }
 
-/// Waits for the word, and then reads all and sends it, and one mark. Where the word is to leave, nothing is read, and the word's
+/// Waits for the start signal, and then reads all and sends it, and one mark. Where it says to leave, nothing is read, and the signal's
 /// token is the answer. It blocks while the reader does, or while the ring is full.
 pub fn read_when_told<'a, W: Wait, R: Source + Drop>(
     wait: &W,
-    word: &'a OnceLock<bool>,
+    signal: &'a OnceLock<bool>,
     job: ReadingJob<R>,
 ) -> Result<Sent<R>, OnceToken<'a, bool>>
-    ensures leaves { IfErr result (λ token. (token.of ≡ word.now.id) × (token.value ≡ false)) }
+    ensures leaves { IfErr result (λ token. (token.of ≡ signal.now.id) × (token.value ≡ false)) }
     ensures ring { IfOk result (λ sent. SameProducer job.sender.producer sent.producer) }
     ensures sent { IfOk result (λ s. SendsAll _ (source_view R.left R.has_failed R.reads)
         job.reader s.reader (sent s.producer)) }
 {
-    let token = told(wait, word);
-    if !*word.value(&token) {
+    let token = told(wait, signal);
+    if !*signal.value(&token) {
         return Err(token);
     }
     let ReadingJob {

@@ -10,6 +10,7 @@ ghost use Rattle.stream_check.specs.Setting.{max_tries};
 use checker_support::open_map;
 use lrup_model::{Cube, Id, Layout, PlainMap};
 use lrup_text::{LineFault, ReadFault, Source};
+use runs::Terms;
 use std::alloc::{AllocError, Global};
 use std::fmt;
 use std::process::Abort;
@@ -61,14 +62,16 @@ fn open_pair<R: Source + Drop, G: Gate + Drop>(
 {
     ready_new();
     let map = open_map(alloc, 1, lines, 65_536)?;
-    let (reading, job) = jobs(alloc, reader, gate, 1, map.layout(), &Cube::empty(alloc), 3)?;
+    let cube = Cube::empty(alloc);
+    let terms = Terms::new(map.layout(), &cube, 3);
+    let (reading, job) = jobs(alloc, reader, gate, 1, &terms)?;
     Ok((reading, Checking { map, job }))
 }
 
-/// Sets the word, and checks what comes, at the map's desk. None where the word was to leave.
+/// Sets the signal, and checks what comes, at the map's desk. None where it says to leave.
 fn check<W: Wait, G: Gate + Drop>(
     wait: &W,
-    word: &OnceLock<bool>,
+    signal: &OnceLock<bool>,
     go: bool,
     checking: Checking<G>,
 ) -> Option<Checked>
@@ -76,23 +79,23 @@ fn check<W: Wait, G: Gate + Drop>(
         SameConsumer checking.job.receiver.consumer checked.consumer) }
 {
     let Checking { mut map, job } = checking;
-    let _ = word.set(wait, go);
+    let _ = signal.set(wait, go);
     let mut desk = map.desk(1);
-    check_when_told(wait, word, job, &mut desk).ok()
+    check_when_told(wait, signal, job, &mut desk).ok()
 }
 
-/// Reads and sends all. None where the word was to leave.
+/// Reads and sends all. None where it says to leave.
 fn read<W: Wait, R: Source + Drop>(
     wait: &W,
-    word: &OnceLock<bool>,
+    signal: &OnceLock<bool>,
     reading: ReadingJob<R>,
 ) -> Option<Sent<R>>
     ensures { IfSome result (λ sent. SameProducer reading.sender.producer sent.producer) }
 {
-    read_when_told(wait, word, reading).ok()
+    read_when_told(wait, signal, reading).ok()
 }
 
-/// Both jobs, each in a thread of its own. What is said of the stream, and its reader. None where the word was to leave.
+/// Both jobs, each in a thread of its own. What is said of the stream, and its reader. None where it says to leave.
 fn run_pair<T: Threads + Wait + Sync, R: Source + Send + Drop, G: Gate + Send + Drop>(
     rt: &T,
     go: bool,
@@ -101,18 +104,18 @@ fn run_pair<T: Threads + Wait + Sync, R: Source + Send + Drop, G: Gate + Send + 
 ) -> Option<(Option<Report>, R)>
     requires { IsPair reading.sender.producer checking.job.receiver.consumer }
 {
-    let word = OnceLock::new();
-    let word = &word;
+    let signal = OnceLock::new();
+    let signal = &signal;
     let (sent, checked) = join(
         rt,
         || -> Option<Sent<R>>
             ensures { IfSome result (λ sent.
                 SameProducer reading.sender.producer sent.producer) }
-        { read(rt, word, reading) },
+        { read(rt, signal, reading) },
         || -> Option<Checked>
             ensures { IfSome result (λ checked.
                 SameConsumer checking.job.receiver.consumer checked.consumer) }
-        { check(rt, word, go, checking) },
+        { check(rt, signal, go, checking) },
     );
     let (mut sent, mut checked) = (sent?, checked?);
     meet(&mut sent, &mut checked);
@@ -484,11 +487,11 @@ fn a_reading_job_that_goes(rt: HostRuntime) -> Result<(), Fail> {
     for _ in 0..100 {
         let reader = Pieces::new(REFUTATION, 12, 0);
         let (reading, checking) = open_pair(rt.alloc(), reader, Open, 2)?;
-        let word = OnceLock::new();
+        let signal = OnceLock::new();
         let (_, checked) = join(
             &rt,
             || leave(&rt, reading),
-            || check(&rt, &word, true, checking),
+            || check(&rt, &signal, true, checking),
         );
         let checked = checked.ok_or("told to leave")?;
         same(&rt, checked.report, None);
@@ -506,25 +509,11 @@ fn jobs_again(
         IsPair both.0.sender.producer both.1.receiver.consumer) }
     ensures checker { IfOk result (λ both. IsNew layout.now [] 1 3 both.1.checker) }
 {
-    match jobs(
-        alloc,
-        Pieces::new(REFUTATION, 12, 0),
-        Open,
-        1,
-        layout,
-        &Cube::empty(alloc),
-        3,
-    ) {
+    let cube = Cube::empty(alloc);
+    let terms = Terms::new(layout, &cube, 3);
+    match jobs(alloc, Pieces::new(REFUTATION, 12, 0), Open, 1, &terms) {
         Ok(both) => Ok(both),
-        Err(_) => jobs(
-            alloc,
-            Pieces::new(REFUTATION, 12, 0),
-            Open,
-            1,
-            layout,
-            &Cube::empty(alloc),
-            3,
-        ),
+        Err(_) => jobs(alloc, Pieces::new(REFUTATION, 12, 0), Open, 1, &terms),
     }
 }
 

@@ -1,10 +1,12 @@
 -- Bytes and a mark, sent and received.
-use Rattle.std.proofs.Common.{◌≡◌, ℕ, suc, ◌<◌, ◌≤◌, ◌+◌, ◌-◌, List, [], ◌∷◌, ◌++◌, Bool, true, false, length, take, get_or, nat_eq, map, refl, ap, sym, ◌∙◌, arith, append_assoc}
+use Rattle.std.proofs.Common.{◌≡◌, ℕ, suc, ◌<◌, ◌≤◌, ◌+◌, ◌-◌, List, [], ◌∷◌, ◌++◌, length, take, get_or, map, refl, ap, sym, ◌∙◌, arith, append_assoc}
 use Rattle.std.specs.Prelude.{All}
 use native.Mathlib.Numerals.{unary_clauses}
 use Rattle.std.proofs.Math.Seq.{take-suc, take-append_seam}
 use Rattle.std.proofs.lemmas.List.{map-append, length-map, length-take-le, length-append}
-use Rattle.stream_ring.specs.Items.{EndsAtMark, IsSentOf, mark_of, byte_of}
+use Rattle.lrup_text.specs.declared.device.StreamEnd.{StreamEnd}
+use Rattle.lrup_text.specs.declared.device.StreamEnd.TheVariants as stream_ends
+use Rattle.stream_ring.specs.Items.{EndsAtMark, IsSentOf, mark_of, end_told, byte_of}
 
 head_below : (x : ℕ) (xs : List ℕ) → All (λ b. b < 256) (x ∷ xs) → x < 256
 head_below x xs h = h 0 0 (omega arith)
@@ -43,7 +45,7 @@ same_mark (x ∷ taken) (y ∷ bytes) rest mark m b p q e =
 -- the last item popped is a mark
 pub last_is_mark : (past items bytes : List ℕ) (n : ℕ) → 0 < n → n ≤ length items
     → 256 ≤ get_or items (n - 1) 0 → take (n - 1) bytes ≡ map byte_of (take (n - 1) items)
-    → EndsAtMark (map byte_of past ++ take (n - 1) bytes) (nat_eq (get_or items (n - 1) 0) 257) (past ++ take n items)
+    → EndsAtMark (map byte_of past ++ take (n - 1) bytes) (end_told (get_or items (n - 1) 0)) (past ++ take n items)
 last_is_mark past items bytes n some fits m same =
     let i : suc (n - 1) ≡ n = omega (arith, some) in
     let below : n - 1 < length items = omega (arith, some, fits) in
@@ -53,7 +55,7 @@ last_is_mark past items bytes n some fits m same =
       mark = get_or items (n - 1) 0;
       bytes_are = ap (λ u. map byte_of past ++ u) same ∙ sym (map-append byte_of past (take (n - 1) items));
       is_mark = m;
-      failed_is = refl;
+      end_is = refl;
       items_are = ap (λ u. past ++ u) e ∙ sym (append_assoc past (take (n - 1) items) (get_or items (n - 1) 0 ∷ []));
     }
 
@@ -71,11 +73,11 @@ front_bytes items rest k n i fits =
     ∙ (ap (λ m. take m (map byte_of t ++ b ∷ rest)) (sym j) ∙ take-append_seam (map byte_of t) (b ∷ rest)))
 
 -- the last item popped is a mark, and all of them are narrowed
-pub ends_there : (past items new rest : List ℕ) (n count : ℕ) (failed : Bool) → 0 < n → n ≤ length items
+pub ends_there : (past items new rest : List ℕ) (n count : ℕ) (end : StreamEnd) → 0 < n → n ≤ length items
     → 256 ≤ get_or items (n - 1) 0 → new ≡ map byte_of (take n items)
-    → n - 1 ≡ count → nat_eq (get_or items (n - 1) 0) 257 ≡ failed
-    → (count ≤ length (new ++ rest)) × EndsAtMark (map byte_of past ++ take count (new ++ rest)) failed (past ++ take n items)
-ends_there past items new rest n count failed some fits m are at f =
+    → n - 1 ≡ count → end_told (get_or items (n - 1) 0) ≡ end
+    → (count ≤ length (new ++ rest)) × EndsAtMark (map byte_of past ++ take count (new ++ rest)) end (past ++ take n items)
+ends_there past items new rest n count end some fits m are at f =
     let i : suc (n - 1) ≡ n = omega (arith, some) in
     let same : take (n - 1) (new ++ rest) ≡ map byte_of (take (n - 1) items) =
     ap (λ u. take (n - 1) (u ++ rest)) are ∙ front_bytes items rest (n - 1) n i fits in
@@ -85,17 +87,17 @@ ends_there past items new rest n count failed some fits m are at f =
       rw (f, at) at ends,
     )
 
-mark_is : (failed : Bool) → 256 ≤ mark_of failed
-mark_is true = omega arith
-mark_is false = omega arith
+mark_is : (end : StreamEnd) → 256 ≤ mark_of end
+mark_is stream_ends.Ended = omega arith
+mark_is stream_ends.Failed = omega arith
 
-mark_tells : (failed : Bool) → nat_eq (mark_of failed) 257 ≡ failed
-mark_tells true = refl
-mark_tells false = refl
+mark_tells : (end : StreamEnd) → end_told (mark_of end) ≡ end
+mark_tells stream_ends.Ended = refl
+mark_tells stream_ends.Failed = refl
 
-pub came_by : (items received known : List ℕ) → received ++ known ≡ items → (bytes came : List ℕ) (has failed : Bool)
-    → IsSentOf bytes has items → EndsAtMark came failed received → (came ≡ bytes) × (failed ≡ has)
-came_by items received known whole bytes came has failed s t =
-    let both : t.taken ++ t.mark ∷ known ≡ bytes ++ mark_of has ∷ [] = sym (append_assoc t.taken (t.mark ∷ []) known) ∙ (ap (λ u. u ++ known) (sym t.items_are) ∙ (whole ∙ s.items_are)) in
-    let same = same_mark t.taken bytes known t.mark (mark_of has) s.small t.is_mark (mark_is has) both in
-    (t.bytes_are ∙ same.0, t.failed_is ∙ (ap (λ u. nat_eq u 257) same.1 ∙ mark_tells has))
+pub came_by : (items received known : List ℕ) → received ++ known ≡ items → (bytes came : List ℕ) (sent end : StreamEnd)
+    → IsSentOf bytes sent items → EndsAtMark came end received → (came ≡ bytes) × (end ≡ sent)
+came_by items received known whole bytes came sent end s t =
+    let both : t.taken ++ t.mark ∷ known ≡ bytes ++ mark_of sent ∷ [] = sym (append_assoc t.taken (t.mark ∷ []) known) ∙ (ap (λ u. u ++ known) (sym t.items_are) ∙ (whole ∙ s.items_are)) in
+    let same = same_mark t.taken bytes known t.mark (mark_of sent) s.small t.is_mark (mark_is sent) both in
+    (t.bytes_are ∙ same.0, t.end_is ∙ (ap end_told same.1 ∙ mark_tells sent))

@@ -1,37 +1,44 @@
 -- What goes through a ring: the bytes of a stream, and then one mark.
-use Rattle.std.specs.Prelude.{◌≡◌, ℕ, ◌<◌, ◌≤◌, ◌%◌, Bool, true, false, List, [], ◌∷◌, ◌++◌, All, map, nat_eq}
-use Rattle.std.specs.Io.KnownBytes.{Consumes, IsAtEnd}
-use Rattle.lrup_text.specs.ReadOut.{ReadOut, SourceView}
+use Rattle.std.specs.Prelude.{◌≡◌, ℕ, ◌<◌, ◌≤◌, ◌%◌, List, [], ◌∷◌, ◌++◌, All, map, nat_eq, if◌then◌else◌}
+use Rattle.std.specs.Io.KnownBytes.{Consumes}
+use Rattle.lrup_text.specs.declared.device.StreamEnd.{StreamEnd}
+use Rattle.lrup_text.specs.declared.device.StreamEnd.TheVariants as stream_ends
+use Rattle.lrup_text.specs.ReadOut.{EndsSo, ReadOut, SourceView}
 
 -- the mark of a stream that ended, and of one whose read failed
-abbrev pub mark_of : Bool → ℕ
-mark_of true = 257
-mark_of false = 256
+abbrev pub mark_of : StreamEnd → ℕ
+mark_of stream_ends.Ended = 256
+mark_of stream_ends.Failed = 257
+
+-- the end that a mark tells
+abbrev pub end_told : ℕ → StreamEnd
+end_told mark = if nat_eq mark 257 then stream_ends.Failed else stream_ends.Ended
 
 -- the byte of an item
 abbrev pub byte_of : ℕ → ℕ
 byte_of item = item % 256
 
 -- what was sent of these bytes: the bytes, and then one mark
-pub record IsSentOf (bytes : List ℕ) (failed : Bool) (items : List ℕ) : Type 0 where
+pub record IsSentOf (bytes : List ℕ) (end : StreamEnd) (items : List ℕ) : Type 0 where
   pub small : All (λ b. b < 256) bytes
-  pub items_are : items ≡ bytes ++ mark_of failed ∷ []
+  pub items_are : items ≡ bytes ++ mark_of end ∷ []
 
 -- What a reading worker sent: the bytes that its reader told, which are those that the reader's reads gave up to the last, and
--- then the mark of that one.
+-- then the mark of that one, which is the end that the reader came to.
 pub record SendsAll (S : Type 0) (view : SourceView S) (first last : S)
     (items : List ℕ) : Type 0 where
   pub bytes : List ℕ
+  pub end : StreamEnd
   pub told : Consumes (view.left first) (view.left last) bytes
-  pub all : view.has_failed last ≡ false → IsAtEnd (view.left last)
-  pub read : ReadOut S view.reads (view.has_failed last) first bytes last
-  pub sent : IsSentOf bytes (view.has_failed last) items
+  pub ends : EndsSo end (view.left last) (view.has_failed last)
+  pub read : ReadOut S view.reads end first bytes last
+  pub sent : IsSentOf bytes end items
 
 -- what was received up to a mark: the bytes of the items before it
-pub record EndsAtMark (bytes : List ℕ) (failed : Bool) (items : List ℕ) : Type 0 where
+pub record EndsAtMark (bytes : List ℕ) (end : StreamEnd) (items : List ℕ) : Type 0 where
   pub taken : List ℕ
   pub mark : ℕ
   pub bytes_are : bytes ≡ map byte_of taken
   pub is_mark : 256 ≤ mark
-  pub failed_is : failed ≡ nat_eq mark 257
+  pub end_is : end ≡ end_told mark
   pub items_are : items ≡ taken ++ mark ∷ []

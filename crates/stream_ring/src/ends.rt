@@ -1,13 +1,13 @@
 //! The two ends of a ring, and what each thread does at its own.
-ghost use Rattle.std.specs.Prelude.{◌≡◌, ◌<◌, ◌≤◌, ℕ, Bool, List, [], ◌++◌, ◌∷◌, true, false, length, take, map, All, IfOk};
+ghost use Rattle.std.specs.Prelude.{◌≡◌, ◌<◌, ◌≤◌, ℕ, List, [], ◌++◌, ◌∷◌, false, length, take, map, All, IfOk};
 ghost use Rattle.rtrb.specs.Ring.{sent, received, SameProducer, SameConsumer, IsPair};
-ghost use Rattle.lrup_text.specs.ReadOut.{source_view};
-ghost use Rattle.stream_ring.specs.Items.{EndsAtMark, IsSentOf, SendsAll, byte_of};
+ghost use Rattle.lrup_text.specs.ReadOut.{EndsSo, source_view};
+ghost use Rattle.stream_ring.specs.Items.{EndsAtMark, IsSentOf, SendsAll, byte_of, end_told};
 
 use crate::blocks::{narrow, widen};
 use crossbeam_utils::Backoff;
 use crossbeam_utils::sync::{Parker, Unparker};
-use lrup_text::Source;
+use lrup_text::{Source, StreamEnd};
 use rtrb::{Consumer, Producer, RingBuffer};
 use std::alloc::{AllocError, Global};
 use std::sync::Wait;
@@ -55,8 +55,8 @@ pub struct Receiver {
 pub enum Received {
     /// So many bytes, and more may come.
     Bytes(usize),
-    /// So many bytes, and then the mark: nothing more comes. Did the read fail?
-    Mark(usize, bool),
+    /// So many bytes, and then the mark of this end: nothing more comes.
+    Mark(usize, StreamEnd),
     /// Nothing: the other end is gone, and there was no mark.
     Gone,
 }
@@ -141,20 +141,20 @@ impl Sender {
         unreachable!()
     }
 
-    /// Reads a source to its end or until it fails, and sends what was read and then one mark. Did it fail? `piece` is what a
-    /// read fills, `items` what is pushed at once.
+    /// Reads a source to its end or until it fails, and sends what was read and then one mark. The answer is the end that it came
+    /// to. `piece` is what a read fills, `items` what is pushed at once.
     pub fn send_all<W: Wait, R: Source>(
         &mut self,
         wait: &W,
         reader: &mut R,
         piece: &mut [u8],
         items: &mut [u16],
-    ) -> bool
+    ) -> StreamEnd
         requires running { R.has_failed reader.old ≡ false }
         requires fresh { sent self.old.producer ≡ [] }
         requires room { (0 < length piece.old) × (0 < length items.old) }
         ensures ring { SameProducer self.old.producer self.new.producer }
-        ensures failed { result ≡ R.has_failed reader.new }
+        ensures ends { EndsSo result (R.left reader.new) (R.has_failed reader.new) }
         ensures sent { SendsAll _ (source_view R.left R.has_failed R.reads) reader.old reader.new
             (sent self.new.producer) }
     {
@@ -162,12 +162,12 @@ impl Sender {
             match reader.read(piece) {
                 Ok(0) => {
                     self.push_all(wait, &[END]);
-                    return false;
+                    return StreamEnd::Ended;
                 }
                 Ok(count) => self.push_bytes(wait, &piece[..count], items),
                 Err(_) => {
                     self.push_all(wait, &[FAILURE]);
-                    return true;
+                    return StreamEnd::Failed;
                 }
             }
         }
@@ -227,10 +227,10 @@ impl Receiver {
         ensures bytes { (count : ℕ) → result ≡ Received.Bytes count →
             (count ≤ length bytes.new) × (map byte_of (received self.new.consumer)
             ≡ map byte_of (received self.old.consumer) ++ take count bytes.new) }
-        ensures mark { (count : ℕ) (failed : Bool) → result ≡ Received.Mark count failed →
+        ensures mark { (count : ℕ) (end : StreamEnd) → result ≡ Received.Mark count end →
             (count ≤ length bytes.new) × EndsAtMark
             (map byte_of (received self.old.consumer) ++ take count bytes.new)
-            failed (received self.new.consumer) }
+            end (received self.new.consumer) }
     {
         let count = self.pop_some(wait, items);
         if count == 0 {
@@ -238,21 +238,31 @@ impl Receiver {
         }
         let last = items[count - 1];
         narrow(&items[..count], &mut bytes[..count]);
-        if last >= END {
-            Received::Mark(count - 1, last == FAILURE)
-        } else {
-            Received::Bytes(count)
+        if last < END {
+            return Received::Bytes(count);
         }
+        Received::Mark(count - 1, end_of(last))
+    }
+}
+
+/// The end that a mark tells.
+fn end_of(mark: u16) -> StreamEnd
+    ensures { result ≡ end_told mark }
+{
+    if mark == FAILURE {
+        StreamEnd::Failed
+    } else {
+        StreamEnd::Ended
     }
 }
 
 /// Both ends in one thread again, after what was received ended at a mark: the bytes and the mark are those that were sent.
 pub fn came_through(producer: &mut Producer<u16>, consumer: &mut Consumer<u16>)
     requires { IsPair producer.old consumer.old }
-    ensures { (bytes came : List ℕ) (has_failed failed : Bool)
-        → IsSentOf bytes has_failed (sent producer.old)
-        → EndsAtMark came failed (received consumer.old)
-        → (came ≡ bytes) × (failed ≡ has_failed) }
+    ensures { (bytes came : List ℕ) (sent_end end : StreamEnd)
+        → IsSentOf bytes sent_end (sent producer.old)
+        → EndsAtMark came end (received consumer.old)
+        → (came ≡ bytes) × (end ≡ sent_end) }
 {
     consumer.slots_beside(producer);
 }

@@ -1,15 +1,15 @@
-//! The word for which all threads wait before they do anything.
+//! The signal for which all threads wait before they do anything: to start, or to leave.
 ghost use Rattle.std.specs.Prelude.{◌≡◌};
 
 use std::sync::{OnceLock, OnceToken, Wait};
 
-/// Waits for the word, which says whether all threads were started.
-pub fn told<'a, W: Wait>(wait: &W, word: &'a OnceLock<bool>) -> OnceToken<'a, bool>
-    ensures { result.of ≡ word.now.id }
+/// Waits for the signal, which says whether all threads were started.
+pub fn told<'a, W: Wait>(wait: &W, signal: &'a OnceLock<bool>) -> OnceToken<'a, bool>
+    ensures { result.of ≡ signal.now.id }
 {
     for _ in wait.forever() {
-        word.wait(wait);
-        if let Some(token) = word.witness() {
+        signal.wait(wait);
+        if let Some(token) = signal.witness() {
             return token;
         }
     }

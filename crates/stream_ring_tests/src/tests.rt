@@ -2,7 +2,7 @@
 ghost use Rattle.std.specs.Prelude.{◌≡◌, ◌<◌, ◌≤◌, [], None, false, length, vec_len, IfOk};
 ghost use Rattle.rtrb.specs.Ring.{sent};
 
-use lrup_text::{ReadFault, Source};
+use lrup_text::{ReadFault, Source, StreamEnd};
 use std::alloc::{AllocError, Global};
 use std::fmt;
 use std::process::Abort;
@@ -143,21 +143,21 @@ fn ends_of<R: Source + Drop>(
 }
 
 impl<R: Source + Drop> Sending<R> {
-    /// Sends all. Did the reader fail?
-    fn send<W: Wait>(self, wait: &W) -> (R, bool) {
+    /// Sends all, and says how the reader ended.
+    fn send<W: Wait>(self, wait: &W) -> (R, StreamEnd) {
         let Sending {
             mut reader,
             mut sender,
             mut piece,
             mut items,
         } = self;
-        let failed = sender.send_all(
+        let end = sender.send_all(
             wait,
             &mut reader,
             piece.as_mut_slice(),
             items.as_mut_slice(),
         );
-        (reader, failed)
+        (reader, end)
     }
 }
 
@@ -167,8 +167,8 @@ trait Ear {
 }
 
 impl Hearing {
-    /// Receives up to the mark, and says whether the read failed. None where no mark came.
-    fn hear_all<W: Wait, E: Ear>(self, wait: &W, ear: &mut E) -> Option<bool> {
+    /// Receives up to the mark, and says which end that tells. None where no mark came.
+    fn hear_all<W: Wait, E: Ear>(self, wait: &W, ear: &mut E) -> Option<StreamEnd> {
         let Hearing {
             mut receiver,
             mut items,
@@ -190,16 +190,16 @@ fn hear_all<W: Wait, E: Ear>(
     items: &mut [u16],
     bytes: &mut [u8],
     ear: &mut E,
-) -> Option<bool>
+) -> Option<StreamEnd>
     requires some { 0 < length items.old }
     requires room { length items.old ≡ length bytes.old }
 {
     for _ in wait.forever() {
         match receiver.receive(wait, items, bytes) {
             Received::Bytes(count) => ear.hear(&bytes[..count]),
-            Received::Mark(count, failed) => {
+            Received::Mark(count, end) => {
                 ear.hear(&bytes[..count]);
-                return Some(failed);
+                return Some(end);
             }
             Received::Gone => return None,
         }
@@ -222,7 +222,7 @@ impl Ear for Heard {
 }
 
 /// Receives all, and says what came.
-fn hear<W: Wait>(wait: &W, hearing: Hearing) -> (Heard, Option<bool>) {
+fn hear<W: Wait>(wait: &W, hearing: Hearing) -> (Heard, Option<StreamEnd>) {
     let mut heard = Heard { count: 0, wrong: 0 };
     let mark = hearing.hear_all(wait, &mut heard);
     (heard, mark)
@@ -233,9 +233,9 @@ fn through<T: Threads + Wait + Sync>(
     rt: &T,
     sending: Sending<Stream>,
     hearing: Hearing,
-) -> (bool, (Heard, Option<bool>)) {
-    let ((_, failed), heard) = join(rt, || sending.send(rt), || hear(rt, hearing));
-    (failed, heard)
+) -> (StreamEnd, (Heard, Option<StreamEnd>)) {
+    let ((_, end), heard) = join(rt, || sending.send(rt), || hear(rt, hearing));
+    (end, heard)
 }
 
 /// The stream comes whole, with its mark.
@@ -372,7 +372,7 @@ fn step_through<T: Threads + Wait + Clock + Sync>(
     ring: usize,
     count: u64,
     pauses: u64,
-) -> Result<(bool, (Heard, Option<bool>)), AllocError> {
+) -> Result<(bool, (Heard, Option<StreamEnd>)), AllocError> {
     let counter = AtomicU64::new(0);
     let counter = &counter;
     let steps = Steps {
@@ -405,14 +405,18 @@ fn a_receiver_that_sleeps_is_woken(rt: HostRuntime) -> Result<(), Fail> {
         same(
             &rt,
             (ring, count, came),
-            (ring, count, (false, (heard, Some(false)))),
+            (
+                ring,
+                count,
+                (StreamEnd::Ended, (heard, Some(StreamEnd::Ended))),
+            ),
         );
     }
     Ok(())
 }
 
 /// Receives after a pause each time, so that the sender sleeps at a full ring.
-fn hear_late<T: Wait + Clock>(rt: &T, hearing: Hearing) -> (Heard, Option<bool>) {
+fn hear_late<T: Wait + Clock>(rt: &T, hearing: Hearing) -> (Heard, Option<StreamEnd>) {
     let mut late = Late {
         clock: rt,
         heard: Heard { count: 0, wrong: 0 },
@@ -445,15 +449,15 @@ fn a_sender_that_sleeps_is_woken(rt: HostRuntime) -> Result<(), Fail> {
             popped,
         };
         let (sending, hearing) = ends_of(rt.alloc(), Stream::new(count, 65_536, true), sizes)?;
-        let ((_, failed), came) = join(&rt, || sending.send(&rt), || hear_late(&rt, hearing));
+        let ((_, end), came) = join(&rt, || sending.send(&rt), || hear_late(&rt, hearing));
         let heard = Heard {
             count: count as u64,
             wrong: 0,
         };
         same(
             &rt,
-            (sizes, failed, came),
-            (sizes, true, (heard, Some(true))),
+            (sizes, end, came),
+            (sizes, StreamEnd::Failed, (heard, Some(StreamEnd::Failed))),
         );
     }
     Ok(())
@@ -486,21 +490,21 @@ fn a_sender_that_goes_wakes_the_receiver(rt: HostRuntime) -> Result<(), Fail> {
     Ok(())
 }
 
-/// Both wait for the word, which comes after a pause.
+/// Both wait for the signal, which comes after a pause.
 #[test]
 fn all_are_told_the_word(rt: HostRuntime) -> Result<(), Fail> {
     for round in 0..200u64 {
-        let word = OnceLock::new();
+        let signal = OnceLock::new();
         let wanted = round % 2 == 0;
         let (first, second) = join(
             &rt,
-            || *word.value(&told(&rt, &word)),
+            || *signal.value(&told(&rt, &signal)),
             || {
                 if round % 3 > 0 {
                     pause(&rt);
                 }
-                let _ = word.set(&rt, wanted);
-                *word.value(&told(&rt, &word))
+                let _ = signal.set(&rt, wanted);
+                *signal.value(&told(&rt, &signal))
             },
         );
         same(&rt, (round, first, second), (round, wanted, wanted));

@@ -15,7 +15,7 @@ use Rattle.lrup_text.specs.ReadOut.{SourceView}
 use Rattle.stream_threads.specs.Jobs.{AllEnd, AllFinish, AreJobs, Finishes, FoundValue, IsFaultWithin, IsFirstFault, IsJob, JobsValue, JudgesAtPass}
 use Rattle.stream_threads.specs.declared.jobs.ThreadFault.{ThreadFault}
 use Rattle.stream_threads.specs.declared.jobs.ThreadFault.TheVariants.{Ring}
-use Rattle.runs.specs.Streams.{Terms}
+use Rattle.runs.specs.Streams.{TermsValue}
 
 -- what was judged at a desk was judged at its pass
 pub judged_at : (v : CheckerValue) (old new : Desk) (from to : PassValue) (items : List ℕ) (report : Option Report) → old.pass ≡ from → to ≡ new.pass
@@ -101,7 +101,7 @@ first_fault {A} {S} view jobs ends (Err fault) all first =
 
 -- ---- the jobs of all streams
 
-jobs_more : {S : Type 0} (terms : Terms) (k : ℕ) (readers : List S) (ps : List PassValue) (js : List (JobsValue S)) (reader : S) (p : PassValue) (j : JobsValue S)
+jobs_more : {S : Type 0} (terms : TermsValue) (k : ℕ) (readers : List S) (ps : List PassValue) (js : List (JobsValue S)) (reader : S) (p : PassValue) (j : JobsValue S)
     → AreJobs terms k readers ps js → IsJob terms (k + length js) reader p j → AreJobs terms k (readers ++ reader ∷ []) (ps ++ p ∷ []) (js ++ j ∷ [])
 jobs_more terms k [] [] [] reader p j all here = let place : k + 0 ≡ k = omega arith in (subst (λ s. IsJob terms s reader p j) place here, tt)
 jobs_more terms k [] [] (i ∷ js) reader p j all here = absurd all
@@ -113,7 +113,7 @@ jobs_more terms k (e ∷ readers) (q ∷ ps) (i ∷ js) reader p j all here =
     (all.0, jobs_more terms (k + 1) readers ps js reader p j all.1 (subst (λ s. IsJob terms s reader p j) place here))
 
 -- one stream's more, and of what they are
-pub jobs_pushed : {S X : Type 0} (terms : Terms) (s : ℕ) (read : X → S) (pass : X → PassValue) (xs : List X) (x : X) (js new : List (JobsValue S)) (j : JobsValue S)
+pub jobs_pushed : {S X : Type 0} (terms : TermsValue) (s : ℕ) (read : X → S) (pass : X → PassValue) (xs : List X) (x : X) (js new : List (JobsValue S)) (j : JobsValue S)
     → new ≡ js ++ j ∷ [] → s ≡ length js + 1 → AreJobs terms 1 (map read xs) (map pass xs) js → IsJob terms s (read x) (pass x) j
     → AreJobs terms 1 (map read (xs ++ x ∷ [])) (map pass (xs ++ x ∷ [])) new
 jobs_pushed {S} {X} terms s read pass xs x js new j pushed place all here =
@@ -128,7 +128,7 @@ pub none_to_come : {A Z : Type 0} (s : IntoIter A Z) → into_iter_len s ≡ 0 �
 none_to_come s none = nil_from_length s.rest.items (sym s.rest.ok.0 ∙ none)
 
 -- the jobs of all, where none is left
-pub jobs_whole : {S : Type 0} (terms : Terms) (rs readers more : List S) (ps passes others : List PassValue) (js : List (JobsValue S))
+pub jobs_whole : {S : Type 0} (terms : TermsValue) (rs readers more : List S) (ps passes others : List PassValue) (js : List (JobsValue S))
     → AreJobs terms 1 rs ps js → rs ++ more ≡ readers → ps ++ others ≡ passes → more ≡ [] → others ≡ [] → AreJobs terms 1 readers passes js
 jobs_whole {S} terms rs readers more ps passes others js all first second none no_more =
     let here : rs ≡ readers = sym (append-nil rs) ∙ ap (λ xs. rs ++ xs) (sym none) ∙ first in

@@ -10,7 +10,7 @@ use Rattle.stream_check.specs.Judging.{joined}
 use Rattle.stream_check.specs.Leaving.{Leaves}
 use Rattle.lrup_text.specs.ReadOut.{SourceView}
 use Rattle.runs.specs.Readings.{IsStreamOf}
-use Rattle.runs.specs.Streams.{Stream, IsReadOut, JudgesStream, Terms}
+use Rattle.runs.specs.Streams.{Stream, IsReadOut, JudgesStream, TermsValue}
 use Rattle.stream_jobs.specs.Judged.{JudgesAtMark}
 use Rattle.stream_threads.specs.declared.jobs.ThreadFault.{ThreadFault}
 use Rattle.stream_threads.specs.declared.jobs.ThreadFault.TheVariants.{Spawn, Ring}
@@ -22,14 +22,14 @@ pub record JobsValue (S : Type 0) : Type 0 where
   pub pass : PassValue
 
 -- the jobs of a stream, from 1 on, before its first byte: its reader, a checker of that stream, and its pass
-pub record IsJob {S : Type 0} (terms : Terms) (s : ℕ) (reader : S) (at : PassValue)
+pub record IsJob {S : Type 0} (terms : TermsValue) (s : ℕ) (reader : S) (at : PassValue)
     (jobs : JobsValue S) : Type 0 where
   pub reader_is : jobs.reader ≡ reader
   pub checker : IsNew terms.layout terms.cube s terms.tries jobs.checker
   pub pass : jobs.pass ≡ at
 
 -- those of the streams counted on from s
-abbrev pub AreJobs : {S : Type 0} → Terms → ℕ → List S → List PassValue → List (JobsValue S)
+abbrev pub AreJobs : {S : Type 0} → TermsValue → ℕ → List S → List PassValue → List (JobsValue S)
     → Type 0
 AreJobs terms s [] [] [] = Unit {0}
 AreJobs terms s (reader ∷ readers) (pass ∷ passes) (jobs ∷ all) =

@@ -50,24 +50,24 @@ impl<G: Gate + Drop> Promise<Option<CheckedPass>> for CheckTask<G> {
         (received e.checked.consumer))) };
 }
 
-/// Waits for the word, and then reads all and sends it. None where the word is to leave.
+/// Waits for the start signal, and then reads all and sends it. None where it says to leave.
 pub(crate) fn read<W: Wait, R: Source + Drop>(
     wait: &W,
-    word: &OnceLock<bool>,
+    signal: &OnceLock<bool>,
     job: ReadingJob<R>,
 ) -> Option<Sent<R>>
     ensures ring { IfSome result (λ s. SameProducer job.sender.producer s.producer) }
     ensures sent { IfSome result (λ s. SendsAll _ (source_view R.left R.has_failed R.reads)
         job.reader s.reader (Rattle.rtrb.specs.Ring.sent s.producer)) }
 {
-    read_when_told(wait, word, job).ok()
+    read_when_told(wait, signal, job).ok()
 }
 
-/// Waits for the word, and then checks what is received. None where the word is to leave.
+/// Waits for the start signal, and then checks what is received. None where it says to leave.
 pub(crate) fn check<W: Wait, G: Gate + Drop>(
     wait: &W,
     store: &Store,
-    word: &OnceLock<bool>,
+    signal: &OnceLock<bool>,
     job: CheckingJob<G>,
     pass: Pass,
 ) -> Option<CheckedPass>
@@ -78,7 +78,7 @@ pub(crate) fn check<W: Wait, G: Gate + Drop>(
         (JudgesAtPass job.checker pass e.pass (received e.checked.consumer))) }
 {
     let mut desk = Desk::new(store, pass);
-    let Ok(checked) = check_when_told(wait, word, job, &mut desk) else {
+    let Ok(checked) = check_when_told(wait, signal, job, &mut desk) else {
         return None;
     };
     Some(CheckedPass {

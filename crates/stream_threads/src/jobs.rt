@@ -2,15 +2,13 @@
 ghost use Rattle.std.specs.Prelude.{◌≡◌, ◌≤◌, false, IfOk, length, vec_len};
 ghost use Rattle.std.specs.List.{AllByRecursion};
 ghost use Rattle.lrup_model.specs.Layout.{IsStream};
-ghost use Rattle.runs.specs.Streams.{terms_at};
 ghost use Rattle.stream_check.specs.Checker.{IsNew};
-ghost use Rattle.stream_check.specs.Setting.{max_tries};
 ghost use Rattle.stream_threads.specs.Jobs.{AreJobs};
 
 use crate::ends::{CheckTask, CheckedPass, ReadTask};
 use clause_store::Pass;
-use lrup_model::{Cube, Layout};
 use lrup_text::Source;
+use runs::Terms;
 use std::alloc::{AllocError, Global};
 use std::marker::Model;
 use std::thread::PromisedHandle;
@@ -50,28 +48,24 @@ impl<R: Source + Drop, G: Gate + Drop> Model for StreamJobs<R, G> {
 }
 
 impl<R: Source + Drop, G: Gate + Drop> StreamJobs<R, G> {
-    /// The jobs of stream `stream`, from 1 on, under this cube, whose calls go through this pass. All memory is taken here, but for the identities
-    /// that the stream drops. A hint of another stream is fetched again while it is vacant, up to `tries` times, at most
-    /// 1,000,000.
+    /// The jobs of stream `stream`, from 1 on, whose calls go through this pass. All memory is taken here, but for the identities
+    /// that the stream drops.
     pub fn new(
         alloc: Global,
         reader: R,
         gate: G,
         pass: Pass,
         stream: u64,
-        layout: &Layout,
-        cube: &Cube,
-        tries: u64,
+        terms: &Terms<'_>,
     ) -> Result<StreamJobs<R, G>, AllocError>
         requires running { R.has_failed reader ≡ false }
-        requires stream { IsStream layout.now stream }
-        requires tries { tries ≤ max_tries }
+        requires stream { IsStream terms.now.layout stream }
         ensures reader { IfOk result (λ jobs. jobs.reader ≡ reader) }
-        ensures checker { IfOk result
-            (λ jobs. IsNew layout.now cube.now stream tries jobs.checker) }
+        ensures checker { IfOk result (λ jobs. let t = terms.now in
+            IsNew t.layout t.cube stream t.tries jobs.checker) }
         ensures pass { IfOk result (λ jobs. jobs.pass ≡ pass) }
     {
-        let (reading, checking) = jobs(alloc, reader, gate, stream, layout, cube, tries)?;
+        let (reading, checking) = jobs(alloc, reader, gate, stream, terms)?;
         Ok(StreamJobs {
             reading,
             checking,
@@ -83,9 +77,7 @@ impl<R: Source + Drop, G: Gate + Drop> StreamJobs<R, G> {
 /// The jobs of all streams, in order: as many gates and passes as readers are wanted.
 pub fn jobs_of<R: Source + Drop, G: Gate + Drop>(
     alloc: Global,
-    layout: &Layout,
-    cube: &Cube,
-    tries: u64,
+    terms: &Terms<'_>,
     readers: Vec<R>,
     gates: Vec<G>,
     passes: Vec<Pass>,
@@ -93,15 +85,14 @@ pub fn jobs_of<R: Source + Drop, G: Gate + Drop>(
     requires gates { vec_len gates ≡ vec_len readers }
     requires passes { vec_len passes ≡ vec_len readers }
     requires running { AllByRecursion (λ r. R.has_failed r ≡ false) readers.items }
-    requires streams { layout.now.streams ≡ length readers.items }
-    requires tries { tries ≤ max_tries }
-    ensures { IfOk result (λ all. AreJobs (terms_at layout.now cube.now tries) 1
-        readers.items passes.items all.items) }
+    requires streams { terms.now.layout.streams ≡ length readers.items }
+    ensures { IfOk result
+        (λ all. AreJobs terms.now 1 readers.items passes.items all.items) }
 {
     let mut all = Vec::with_capacity(alloc, readers.len())?;
     for ((reader, gate), pass) in readers.into_iter().zip(gates).zip(passes) {
         let stream = all.len() as u64 + 1;
-        all.push_reserved(StreamJobs::new(alloc, reader, gate, pass, stream, layout, cube, tries)?);
+        all.push_reserved(StreamJobs::new(alloc, reader, gate, pass, stream, terms)?);
     }
     Ok(all)
 }

@@ -156,7 +156,7 @@ fn all_found<R: Source + Drop>(
     Ok(found)
 }
 
-/// Starts all threads, gives the word, and joins them.
+/// Starts all threads, gives the signal, and joins them.
 fn start_and_join<
     's,
     E,
@@ -167,7 +167,7 @@ fn start_and_join<
     scope: &Scope<'s, E>,
     threads: &'s T,
     store: &'s Store,
-    word: &'s OnceLock<bool>,
+    signal: &'s OnceLock<bool>,
     all: Vec<StreamJobs<R, G>>,
     room: Room<R, G>,
 ) -> Result<Vec<StreamResult<R>>, ThreadFault>
@@ -185,15 +185,15 @@ fn start_and_join<
         ends,
         found,
     } = room;
-    if let Err(stream) = start_all_checking(scope, threads, store, word, all, &mut halves) {
-        let _ = word.set(threads, false);
+    if let Err(stream) = start_all_checking(scope, threads, store, signal, all, &mut halves) {
+        let _ = signal.set(threads, false);
         return Err(ThreadFault::Spawn(stream));
     }
-    if let Err(stream) = start_all_reading(scope, threads, word, halves, &mut started) {
-        let _ = word.set(threads, false);
+    if let Err(stream) = start_all_reading(scope, threads, signal, halves, &mut started) {
+        let _ = signal.set(threads, false);
         return Err(ThreadFault::Spawn(stream));
     }
-    let _ = word.set(threads, true);
+    let _ = signal.set(threads, true);
     let ends = join_all(threads, started, ends);
     all_found(ends, found)
 }
@@ -216,7 +216,7 @@ pub fn check_all<T: Threads + Wait + Sync, R: Source + Send + Drop, G: Gate + Se
         (IsFirstFault (source_view R.left R.has_failed R.reads) all.items) }
 {
     let start = OnceLock::new();
-    let word = &start;
+    let signal = &start;
     thread::scope(
         thread::scope_env(),
         threads,
@@ -228,6 +228,6 @@ pub fn check_all<T: Threads + Wait + Sync, R: Source + Send + Drop, G: Gate + Se
             ensures fault { IfErr result (IsFaultWithin (vec_len all)) }
             ensures first { IfErr result
                 (IsFirstFault (source_view R.left R.has_failed R.reads) all.items) }
-        { start_and_join(scope, threads, store, word, all, room) },
+        { start_and_join(scope, threads, store, signal, all, room) },
     )
 }

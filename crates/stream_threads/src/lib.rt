@@ -7,4 +7,4 @@ mod joining;
 mod starting;
 
 pub use jobs::{StreamJobs, ThreadFault, jobs_of};
-pub use joining::{StreamResult, Room, check_all};
+pub use joining::{Room, StreamResult, check_all};

@@ -17,7 +17,7 @@ fn start_checking<'s, E, W: Wait + Sync, R: Source + Drop, G: Gate + Send + Drop
     scope: &Scope<'s, E>,
     wait: &'s W,
     store: &'s Store,
-    word: &'s OnceLock<bool>,
+    signal: &'s OnceLock<bool>,
     jobs: StreamJobs<R, G>,
 ) -> Option<HalfStarted<R, G>>
     requires { CanBegin store.now jobs }
@@ -33,7 +33,7 @@ fn start_checking<'s, E, W: Wait + Sync, R: Source + Drop, G: Gate + Send + Drop
         pass: Snapshot::of(&pass),
     };
     let checking = scope
-        .spawn_with(task, move || check(wait, store, word, job, pass))
+        .spawn_with(task, move || check(wait, store, signal, job, pass))
         .ok()?;
     Some(HalfStarted { reading, checking })
 }
@@ -42,7 +42,7 @@ fn start_checking<'s, E, W: Wait + Sync, R: Source + Drop, G: Gate + Send + Drop
 fn start_reading<'s, E, W: Wait + Sync, R: Source + Send + Drop + 's, G: Gate + Drop + 's>(
     scope: &Scope<'s, E>,
     wait: &'s W,
-    word: &'s OnceLock<bool>,
+    signal: &'s OnceLock<bool>,
     half: HalfStarted<R, G>,
 ) -> Option<Started<R, G>>
     ensures { IfSome result (λ started. started ≡ half) }
@@ -54,7 +54,9 @@ fn start_reading<'s, E, W: Wait + Sync, R: Source + Send + Drop + 's, G: Gate + 
     let task = ReadTask {
         job: Snapshot::of(&job),
     };
-    let reading = scope.spawn_with(task, move || read(wait, word, job)).ok()?;
+    let reading = scope
+        .spawn_with(task, move || read(wait, signal, job))
+        .ok()?;
     Some(Started { reading, checking })
 }
 
@@ -69,7 +71,7 @@ pub(crate) fn start_all_checking<
     scope: &Scope<'s, E>,
     wait: &'s W,
     store: &'s Store,
-    word: &'s OnceLock<bool>,
+    signal: &'s OnceLock<bool>,
     all: Vec<StreamJobs<R, G>>,
     halves: &mut Vec<HalfStarted<R, G>>,
 ) -> Result<(), u64>
@@ -80,7 +82,7 @@ pub(crate) fn start_all_checking<
     ensures spawn { IfErr result (λ stream. (0 < stream) × (stream ≤ vec_len all)) }
 {
     for jobs in all {
-        let Some(half) = start_checking(scope, wait, store, word, jobs) else {
+        let Some(half) = start_checking(scope, wait, store, signal, jobs) else {
             return Err(halves.len() as u64 + 1);
         };
         halves.push_reserved(half);
@@ -98,7 +100,7 @@ pub(crate) fn start_all_reading<
 >(
     scope: &Scope<'s, E>,
     wait: &'s W,
-    word: &'s OnceLock<bool>,
+    signal: &'s OnceLock<bool>,
     halves: Vec<HalfStarted<R, G>>,
     started: &mut Vec<Started<R, G>>,
 ) -> Result<(), u64>
@@ -108,7 +110,7 @@ pub(crate) fn start_all_reading<
     ensures spawn { IfErr result (λ stream. (0 < stream) × (stream ≤ vec_len halves)) }
 {
     for half in halves {
-        let Some(one) = start_reading(scope, wait, word, half) else {
+        let Some(one) = start_reading(scope, wait, signal, half) else {
             return Err(started.len() as u64 + 1);
         };
         started.push_reserved(one);

@@ -1,7 +1,7 @@
 // Texts of imports, in every cutting, and writing them.
 
 use crate::tests::{feed_every_way, feed_repeated, holds, same};
-use lrup_text::{Line, LineFault, LineReader, Sink, ReaderTurn, Writing, write_line};
+use lrup_text::{Line, LineFault, LineReader, ReaderTurn, Sink, Writing, write_line};
 use std::test::Fail;
 use test_support::Paper;
 

@@ -1,17 +1,21 @@
 //! What the contracts of runs say of a stream that cites within itself: one report, whatever its neighbour is.
-ghost use Rattle.std.specs.Prelude.{◌≡◌, [], Some, false, codes, length, map, IfOk};
+ghost use Rattle.std.specs.Prelude.{◌≡◌, [], Some, false, true, codes, length, map, IfOk};
 ghost use Rattle.std.specs.List.{AllByRecursion};
 ghost use Rattle.stream_check.specs.Laws.{IsOfMemory};
 ghost use Rattle.runs.specs.Closed.{CiteWithin, IsOfStream};
-ghost use Rattle.groups.specs.Groups.{one};
-ghost use Rattle.portfolio_tests.specs.Alone.{first_bytes, layout_of_two, usual, IsReportAlone};
+ghost use Rattle.run_laws.specs.Groups.{one};
+ghost use Rattle.runs.specs.Headline.{seen_by};
+ghost use Rattle.clause_store.specs.Passes.{views};
+ghost use Rattle.run_laws.specs.Premises.{FoundStays};
+ghost use Rattle.test_support.specs.Worked.{four};
+ghost use Rattle.portfolio_tests.specs.Alone.{first_bytes, layout_of_two, usual, HasOrder, IsOnlyReport};
 
 use super::{BOTH, By, Open, bad_line, defaults, ended, readers_of, reports_of, same};
-use groups::laws::{alone_has_one_report, readers_closed, told_is_reading};
 use lrup_model::Cube;
 use lrup_text::Source;
 use lrup_text::laws::a_stream_is_cut_in_one_way;
-use portfolio::{Options, run, run_serial};
+use portfolio::{Options, Outcome, Verdict, run, run_serial};
+use run_laws::groups::{readers_closed, told_is_reading};
 use std::alloc::Global;
 use std::process::Abort;
 use std::sync::Wait;
@@ -65,7 +69,7 @@ fn said_by_threads<T: Threads + Wait + Sync>(
     neighbour: &str,
 ) -> Result<Report, Fail>
     requires { CiteWithin layout_of_two (one 1) first.now }
-    ensures { IfOk result (λ report. ¬ IsOfMemory report → IsReportAlone first.now report) }
+    ensures { IfOk result (λ report. ¬ IsOfMemory report → IsOnlyReport first.now report) }
 {
     readers_closed();
     told_is_reading();
@@ -92,7 +96,7 @@ fn said_by_turns<W: Wait>(
     neighbour: &str,
 ) -> Result<Report, Fail>
     requires { CiteWithin layout_of_two (one 1) first.now }
-    ensures { IfOk result (λ report. ¬ IsOfMemory report → IsReportAlone first.now report) }
+    ensures { IfOk result (λ report. ¬ IsOfMemory report → IsOnlyReport first.now report) }
 {
     readers_closed();
     told_is_reading();
@@ -111,14 +115,40 @@ fn said_by_turns<W: Wait>(
     first_report(&outcome.reports, &outcome.readers)
 }
 
-/// What is said of the row's first stream beside this neighbour: a report that it may have alone.
+/// A run of two streams with threads. That its verdict is the one of an order of the lines, where no stream found live what is
+/// retired in the end, follows from its contract alone.
+fn run_in_threads<'a, T: Threads + Wait + Sync>(
+    rt: &T,
+    alloc: Global,
+    first: &'a str,
+    neighbour: &'a str,
+) -> Result<Outcome<Pieces<'a>>, Fail>
+    ensures { IfOk result (λ outcome. let history = seen_by (views outcome.passes.items) in
+        FoundStays four layout_of_two (λ s. true) history → HasOrder outcome.verdict) }
+{
+    let formula = four_clauses(alloc)?;
+    let readers = two_readers(alloc, first, neighbour)?;
+    let gates = vec![in alloc; Open; readers.len()]?;
+    let outcome = run(
+        rt,
+        alloc,
+        &formula,
+        &Cube::empty(alloc),
+        usual_options(),
+        readers,
+        gates,
+    )?;
+    Ok(outcome)
+}
+
+/// What is said of the row's first stream beside this neighbour: the report that it may have alone.
 fn said_beside<T: Threads + Wait + Sync>(
     rt: &T,
     alloc: Global,
     by: By,
     neighbour: &str,
 ) -> Result<Report, Fail>
-    ensures { IfOk result (λ report. ¬ IsOfMemory report → IsReportAlone first_bytes report) }
+    ensures { IfOk result (λ report. ¬ IsOfMemory report → IsOnlyReport first_bytes report) }
 {
     match by {
         By::Threads => said_by_threads(rt, alloc, FIRST, neighbour),
@@ -136,7 +166,6 @@ fn said_in_two_runs<T: Threads + Wait + Sync>(
     ensures { IfOk result (λ said.
         ¬ IsOfMemory said.0 → ¬ IsOfMemory said.1 → said.0 ≡ said.1) }
 {
-    alone_has_one_report();
     let first = said_beside(rt, alloc, one_run.0, one_run.1)?;
     let second = said_beside(rt, alloc, other_run.0, other_run.1)?;
     Ok((first, second))
@@ -179,6 +208,19 @@ fn reports_of_an_import(rt: HostRuntime) -> Result<(), Fail> {
         let reports = reports_of(&rt, rt.alloc(), By::Turns, defaults(), readers)?;
         let said = reports.get(1).copied();
         same(&rt, (neighbour, said), (neighbour, Some(wanted)));
+    }
+    Ok(())
+}
+
+/// A refutation, and a beginning of it.
+#[test]
+fn the_verdict_is_that_of_an_order(rt: HostRuntime) -> Result<(), Fail> {
+    for (first, wanted) in [
+        (FIRST, Verdict::Unsatisfiable),
+        ("5 2 0 1 2 0\n", Verdict::Unknown),
+    ] {
+        let outcome = run_in_threads(&rt, rt.alloc(), first, "6 -2 0 3 4 0\n")?;
+        same(&rt, (first, outcome.verdict), (first, wanted));
     }
     Ok(())
 }

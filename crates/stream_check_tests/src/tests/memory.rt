@@ -8,7 +8,7 @@ use checker_support::{checker_at, open_map};
 use lrup_model::ClauseMap;
 use std::process::Abort;
 use std::test::Fail;
-use stream_check::{Checker, Ending, Report, CheckTurn};
+use stream_check::{CheckTurn, Checker, Ending, Report};
 
 /// The first line is an addition, with three literals, and takes no memory. Each other deletes one identity more that is
 /// kept, and the second an own one before it: where line `L` is the one that wants memory, `L - 1` identities were deleted

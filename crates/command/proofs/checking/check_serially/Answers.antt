@@ -8,7 +8,7 @@ pub returns-in_err-outcome-clause-cause : goal.returns-in_err-outcome-clause-cau
 returns-in_err-outcome-clause-cause g c =
     let p = layout_of c.args.options c.args.formula.now (length c.args.readers.items) in
     let cause = run_cause true p c.run_serial.result c.in_err-outcome.field-0.0 c.in_err-outcome.was c.run_serial.ensures.layout
-    (λ stream is. absurd (c.run_serial.ensures.alone stream is)) (λ stream is. absurd (c.run_serial.ensures.no_ring stream is)) in
+    (λ stream is. absurd (c.run_serial.ensures.no_spawn stream is)) (λ stream is. absurd (c.run_serial.ensures.no_ring stream is)) in
     err_given c.from_residual-in_err-outcome.result _ (IsRunCause true p)
     (λ fault is. subst (IsRunCause true p) (sym is) cause) c.from_residual-in_err-outcome.ensures.1
 

@@ -31,7 +31,7 @@ broken_off R reading first last after bytes room fault gave consumed read failed
     let broken : HasBrokenOff reading first = record {
       bytes = bytes;
       after = after;
-      read = record { last = last; given = gave; end = (room, read) };
+      read = record { last = last; given = gave; ends = (room, read) };
       failed = failed;
       told = consumed_begins _ _ bytes consumed;
     } in

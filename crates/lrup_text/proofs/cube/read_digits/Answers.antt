@@ -1,11 +1,12 @@
-use Rattle.std.proofs.Common.{ℕ, List, ◌∷◌, ◌+◌, ◌-◌, ◌*◌, ◌^◌, ◌<◌, ◌∙◌, ap, sym, subst, arith}
+use Rattle.std.proofs.Common.{ℕ, true, List, ◌∷◌, ◌++◌, ◌+◌, ◌*◌, ◌<◌, ◌∙◌, ap, sym, subst, arith}
 use Rattle.std.proofs.lemmas.List.{nil_from_length}
 use Rattle.lrup_text.specs.declared.cube.CubeFault.TheVariants.{Spelling, TooLong}
-use Rattle.lrup_text.specs.CubeReading.{DigitsFollowIn}
-use Rattle.lrup_text.specs.Cubes.{IsTextFault}
-use Rattle.lrup_text.proofs.Bytes.{below_limit, more_digits}
-use Rattle.lrup_text.proofs.CubeReads.{DigitsSoFar, digits_start, digits_next, digits_read, digits_fault}
-use Rattle.lrup_text.proofs.CubeRests.{digits_early, digits_spelling, digits_long}
+use Rattle.lrup_text.specs.CubeReading.{IsRestFault}
+use Rattle.lrup_text.specs.Cubes.{IsCubeLine, IsTextFault}
+use Rattle.lrup_text.specs.Rests.{InLiteral}
+use Rattle.lrup_text.proofs.CubeReads.{DigitsSoFar, digits_start, digits_next, next_fits, digits_read, digits_fault}
+use Rattle.lrup_text.proofs.CubeFaults.{misspelled, too_long, too_short}
+use Rattle.lrup_text.proofs.Steps.{literal_blocks, literal_exceeds}
 use Rattle.lrup_text.proofs.cube.read_digits.Goals as goal
 
 pub loop-byte-init : goal.loop-byte-init
@@ -21,35 +22,30 @@ pub returns-then-not-is_digit-clause-fault : goal.returns-then-not-is_digit-clau
 returns-then-not-is_digit-clause-fault c =
     let k = c.loop-byte.digits in
     digits_fault c.args.first c.args.after.now c.loop-byte.number k c.loop-byte.rest.now Spelling c.loop-byte.invariant
-    (λ n few. subst (λ (t : List ℕ). IsTextFault (DigitsFollowIn k n) t Spelling) (sym c.in-Some.ensures.cases.0)
-    (digits_spelling k n c.in-Some.field-0-0.now c.in-Some.next.now c.loop-byte.invariant.fits.few few (λ low high. let wrong = c.if-not-is_digit.ensures.1 (low, high) in cc) c.if-byte-eq32.false))
+    (λ read n few stands. subst (λ (t : List ℕ). IsTextFault IsCubeLine (read ++ t) Spelling) (sym c.in-Some.ensures.cases.0)
+    (misspelled read (InLiteral true k n) c.in-Some.field-0-0.now c.in-Some.next.now stands (c.loop-byte.invariant.fits.few, few)
+    (λ signed. literal_blocks signed true k n c.in-Some.field-0-0.now (λ low high. let wrong = c.if-not-is_digit.ensures.1 (low, high) in cc) c.if-byte-eq32.false)))
 
 pub returns-then-digits-eq-MOST_DIGITS-clause-fault :
     goal.returns-then-digits-eq-MOST_DIGITS-clause-fault
 returns-then-digits-eq-MOST_DIGITS-clause-fault c =
     let digit = c.is_digit.ensures.0 c.if-not-is_digit.false in
     digits_fault c.args.first c.args.after.now c.loop-byte.number c.loop-byte.digits c.loop-byte.rest.now TooLong c.loop-byte.invariant
-    (λ n few. subst (λ (t : List ℕ). IsTextFault (DigitsFollowIn c.loop-byte.digits n) t TooLong) (sym c.in-Some.ensures.cases.0)
-    (subst (λ k. IsTextFault (DigitsFollowIn k n) (c.in-Some.field-0-0.now ∷ c.in-Some.next.now) TooLong) (sym c.if-digits-eq-MOST_DIGITS.true)
-    (digits_long n c.in-Some.field-0-0.now c.in-Some.next.now few digit)))
+    (subst (λ k. IsRestFault (InLiteral true k) c.loop-byte.rest.now TooLong) (sym c.if-digits-eq-MOST_DIGITS.true)
+    (λ read n few stands. subst (λ (t : List ℕ). IsTextFault IsCubeLine (read ++ t) TooLong) (sym c.in-Some.ensures.cases.0)
+    (too_long read (InLiteral true 18 n) c.in-Some.field-0-0.now c.in-Some.next.now stands (omega arith, few) (literal_exceeds true n c.in-Some.field-0-0.now few digit))))
 
 pub overflow_mul-number : goal.overflow_mul-number
 overflow_mul-number c =
-    let digit = c.is_digit.ensures.0 c.if-not-is_digit.false in
     let few : c.loop-byte.digits < 18 = omega (arith, c.loop-byte.invariant.fits.few, c.if-digits-eq-MOST_DIGITS.false) in
-    let byte = c.in-Some.field-0-0.now in
-    let fits : c.loop-byte.number * 10 + (byte - 48) < 10 ^ 18 =
-    below_limit (c.loop-byte.number * 10 + (byte - 48)) (c.loop-byte.digits + 1) (more_digits c.loop-byte.number c.loop-byte.digits byte c.loop-byte.invariant.fits few digit) in
-    omega (arith, fits)
+    let digit = c.is_digit.ensures.0 c.if-not-is_digit.false in
+    omega (arith, next_fits c.args.first c.args.after.now c.loop-byte.number c.loop-byte.digits c.loop-byte.rest.now c.in-Some.field-0-0.now c.loop-byte.invariant digit few)
 
 pub overflow_add-number : goal.overflow_add-number
 overflow_add-number c =
-    let digit = c.is_digit.ensures.0 c.if-not-is_digit.false in
     let few : c.loop-byte.digits < 18 = omega (arith, c.loop-byte.invariant.fits.few, c.if-digits-eq-MOST_DIGITS.false) in
-    let byte = c.in-Some.field-0-0.now in
-    let fits : c.loop-byte.number * 10 + (byte - 48) < 10 ^ 18 =
-    below_limit (c.loop-byte.number * 10 + (byte - 48)) (c.loop-byte.digits + 1) (more_digits c.loop-byte.number c.loop-byte.digits byte c.loop-byte.invariant.fits few digit) in
-    omega (arith, fits, c.from.ensures)
+    let digit = c.is_digit.ensures.0 c.if-not-is_digit.false in
+    omega (arith, next_fits c.args.first c.args.after.now c.loop-byte.number c.loop-byte.digits c.loop-byte.rest.now c.in-Some.field-0-0.now c.loop-byte.invariant digit few, c.from.ensures)
 
 pub loop-byte-preserved : goal.loop-byte-preserved
 loop-byte-preserved c =
@@ -63,4 +59,5 @@ pub returns-clause-fault : goal.returns-clause-fault
 returns-clause-fault c =
     let k = c.loop-byte.digits in
     digits_fault c.args.first c.args.after.now c.loop-byte.number k c.loop-byte.rest.now Spelling c.loop-byte.invariant
-    (λ n few. subst (λ (t : List ℕ). IsTextFault (DigitsFollowIn k n) t Spelling) (sym (nil_from_length c.loop-byte.rest.now c.in_default.ensures.cases)) (digits_early k n c.loop-byte.invariant.fits.few few))
+    (λ read n few stands. subst (λ (t : List ℕ). IsTextFault IsCubeLine (read ++ t) Spelling) (sym (nil_from_length c.loop-byte.rest.now c.in_default.ensures.cases))
+    (too_short read (InLiteral true k n) stands (c.loop-byte.invariant.fits.few, few)))

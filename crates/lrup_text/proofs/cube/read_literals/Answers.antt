@@ -1,13 +1,14 @@
-use Rattle.std.proofs.Common.{ℕ, List, [], ◌∷◌, ◌++◌, ◌<◌, MatchResult, w64, ap, sym, subst, ◌∙◌, arith}
+use Rattle.std.proofs.Common.{ℕ, true, List, [], ◌∷◌, ◌++◌, ◌<◌, MatchResult, w64, ap, sym, subst, ◌∙◌, arith}
 use Rattle.std.proofs.lemmas.Bool.{true≢false}
 use Rattle.std.proofs.lemmas.Int.{to_z-of_z, fits_signed_from_abs}
 use Rattle.std.proofs.lemmas.List.{nil_from_length}
 use Rattle.std.proofs.lemmas.Result.{err_from_is_err_and}
 use Rattle.lrup_text.specs.declared.cube.CubeFault.TheVariants.{Spelling}
-use Rattle.lrup_text.specs.CubeReading.{CubeFollows, ReadsLiteral, AreKept, AreNotKept}
-use Rattle.lrup_text.specs.Cubes.{IsTextFault}
+use Rattle.lrup_text.specs.CubeReading.{EndsAtSpot, ReadsLiteral, AreKept, AreNotKept}
+use Rattle.lrup_text.specs.Cubes.{IsCubeLine, IsTextFault}
+use Rattle.lrup_text.specs.Rests.{BeforeLiteral}
+use Rattle.lrup_text.proofs.CubeFaults.{too_short, wrong_end}
 use Rattle.lrup_text.proofs.CubeReads.{literals_start, literals_next, literals_fault, text_read, kept_text, kept_fault, spelling_fault}
-use Rattle.lrup_text.proofs.CubeRests.{literals_early, end_spelling}
 use Rattle.lrup_text.proofs.cube.read_literals.Goals as goal
 
 pub loop-first-init : goal.loop-first-init
@@ -29,8 +30,8 @@ pub returns-else-is_end-clause-fault : goal.returns-else-is_end-clause-fault
 returns-else-is_end-clause-fault c =
     let read = c.loop-first.invariant in
     literals_fault c.args.text.now read.0 c.loop-first.count c.loop-first.rest.now Spelling read.1
-    (subst (λ (t : List ℕ). IsTextFault (CubeFollows c.loop-first.count) t Spelling) (sym (c.in-Some.ensures.cases.0 ∙ ap (λ b. b ∷ c.in-Some.after.now) c.if-first-eq48.true))
-    (end_spelling c.loop-first.count c.in-Some.after.now read.1.few (λ is. true≢false (sym (c.is_end.ensures.1 is) ∙ c.if-is_end.false))))
+    (λ before stands. subst (λ (t : List ℕ). IsTextFault IsCubeLine (before ++ t) Spelling) (sym (c.in-Some.ensures.cases.0 ∙ ap (λ b. b ∷ c.in-Some.after.now) c.if-first-eq48.true))
+    (wrong_end before c.loop-first.count c.in-Some.after.now stands read.1.few (λ is. true≢false (sym (c.is_end.ensures.1 is) ∙ c.if-is_end.false))))
 
 pub returns-then-count-eq-MOST_LITERALS-clause-fault :
     goal.returns-then-count-eq-MOST_LITERALS-clause-fault
@@ -39,8 +40,8 @@ returns-then-count-eq-MOST_LITERALS-clause-fault c =
     let fault = c.after_most.result in
     spelling_fault c.args.vars c.args.text.now fault
     (literals_fault c.args.text.now read.0 c.loop-first.count c.loop-first.rest.now fault read.1
-    (subst (λ (t : List ℕ). IsTextFault (CubeFollows c.loop-first.count) t fault) (sym c.in-Some.ensures.cases.0)
-    (subst (λ n. IsTextFault (CubeFollows n) (c.in-Some.field-0-0.now ∷ c.in-Some.after.now) fault) (sym c.if-count-eq-MOST_LITERALS.true) (c.after_most.ensures c.in-Some.after.now))))
+    (λ before stands. subst (λ (t : List ℕ). IsTextFault IsCubeLine (before ++ t) fault) (sym c.in-Some.ensures.cases.0)
+    (c.after_most.ensures before c.in-Some.after.now (subst (λ n. EndsAtSpot before (BeforeLiteral true n)) c.if-count-eq-MOST_LITERALS.true stands))))
 
 pub returns-in_err-literal-clause-fault : goal.returns-in_err-literal-clause-fault
 returns-in_err-literal-clause-fault c =
@@ -50,7 +51,7 @@ returns-in_err-literal-clause-fault c =
     let few : c.loop-first.count < 65535 = omega (arith, read.1.few, c.if-count-eq-MOST_LITERALS.false) in
     rw (p.1, p.2) (spelling_fault c.args.vars c.args.text.now fault
     (literals_fault c.args.text.now read.0 c.loop-first.count c.loop-first.rest.now fault read.1
-    (subst (λ (t : List ℕ). IsTextFault (CubeFollows c.loop-first.count) t fault) (sym c.in-Some.ensures.cases.0) (c.in_err-literal.ensures.fault c.loop-first.count few))))
+    (λ before stands. subst (λ (t : List ℕ). IsTextFault IsCubeLine (before ++ t) fault) (sym c.in-Some.ensures.cases.0) (c.in_err-literal.ensures.fault before c.loop-first.count few stands))))
 
 pub loop-first-preserved : goal.loop-first-preserved
 loop-first-preserved c =
@@ -70,4 +71,5 @@ pub returns-clause-fault : goal.returns-clause-fault
 returns-clause-fault c =
     let read = c.loop-first.invariant in
     literals_fault c.args.text.now read.0 c.loop-first.count c.loop-first.rest.now Spelling read.1
-    (subst (λ (t : List ℕ). IsTextFault (CubeFollows c.loop-first.count) t Spelling) (sym (nil_from_length c.loop-first.rest.now c.in_default.ensures.cases)) (literals_early c.loop-first.count read.1.few))
+    (λ before stands. subst (λ (t : List ℕ). IsTextFault IsCubeLine (before ++ t) Spelling) (sym (nil_from_length c.loop-first.rest.now c.in_default.ensures.cases))
+    (too_short before (BeforeLiteral true c.loop-first.count) stands read.1.few))

@@ -1,10 +1,11 @@
 use Rattle.std.proofs.Common.{◌≡◌, ℕ, ◌∙◌, length, map, drop, refl, sym, ap, ap₂, subst, arith}
 use Rattle.lrup_model.specs.Layout.{LayoutValue, IsFault, Fits}
 use Rattle.lrup_text.specs.ReadOut.{source_view}
+use Rattle.run_laws.specs.ReportLemmas.{reports_alone}
 use Rattle.portfolio.specs.Outcomes.{layout_of, terms_of}
 use Rattle.runs.specs.StreamLemmas.{told_as_many}
-use Rattle.runs.specs.Streams.{tellings, terms_at}
-use Rattle.portfolio.specs.Turns.{AreOver, Runs}
+use Rattle.runs.specs.Streams.{TermsValue, tellings, terms_at}
+use Rattle.portfolio.specs.Turns.{AreOver, AreStarted, Runs}
 use Rattle.portfolio.proofs.CubeLemmas.{sound_under_order}
 use Rattle.portfolio.proofs.HeadlineLemmas.{is_empty, no_fault}
 use Rattle.portfolio.proofs.TurnsLemmas.{IsOpened, runs_opened, run_ordered, sound_over, streams_asked, written_back}
@@ -13,7 +14,7 @@ use Rattle.portfolio.proofs.serial.run_serial.Goals as goal
 pub workers_of-requires-clause-streams : goal.workers_of-requires-clause-streams
 workers_of-requires-clause-streams g c =
     let same = streams_asked c.args.options c.args.formula.now c.len.result c.in_ok-layout.layout c.in_ok-layout.ensures.layout.0 in
-    same ∙ c.len.ensures ∙ c.args.readers.ok.0
+    ap (λ (t : TermsValue). t.layout.streams) c.new-terms.ensures ∙ same ∙ c.len.ensures ∙ c.args.readers.ok.0
 
 pub take_turns-requires : goal.take_turns-requires
 take_turns-requires g c =
@@ -32,7 +33,7 @@ take_turns-requires g c =
     let same : p.streams ≡ c.len.result = streams_asked c.args.options f c.len.result p c.in_ok-layout.ensures.layout.0 in
     let count : length firsts ≡ p.streams = omega (arith, same, c.len.ensures, c.args.readers.ok.0) in
     record {
-      running = (f, terms_at p c.args.cube.now c.tries.result, firsts, subst (Runs view f (terms_at p c.args.cube.now c.tries.result) firsts m) (sym c.deref_mut.ensures.value) (runs_opened view f p m opened c.args.cube.now c.tries.result firsts c.in_ok-workers.workers.items count c.in_ok-workers.ensures));
+      running = (f, terms_at p c.args.cube.now c.tries.result, firsts, subst (Runs view f (terms_at p c.args.cube.now c.tries.result) firsts m) (sym c.deref_mut.ensures.value) (runs_opened view f p m opened c.args.cube.now c.tries.result firsts c.in_ok-workers.workers.items count (subst (λ (t : TermsValue). AreStarted (source_view g.R.Source.left g.R.Source.has_failed g.R.Source.reads) t 1 c.args.readers.items c.in_ok-workers.workers.items) c.new-terms.ensures c.in_ok-workers.ensures)));
     }
 
 pub outcome_of-requires-clause-over : goal.outcome_of-requires-clause-over
@@ -77,7 +78,7 @@ returns-clause-ordered g c =
     let wanted = terms_of c.args.options c.args.cube.now f (length readers) in
     let terms : terms_at p c.args.cube.now c.tries.result ≡ wanted = ap₂ (λ (l : LayoutValue) (n : ℕ). terms_at l c.args.cube.now n) same c.tries.ensures.tries in
     run_ordered view f p c.args.cube.now c.tries.result wanted readers outcome.readers.items
-    m c.take_turns.new.map started.items c.deref_mut.result.now worked _ outcome.reports.items opened terms count c.in_ok-workers.ensures
+    m c.take_turns.new.map started.items c.deref_mut.result.now worked _ outcome.reports.items opened terms count (subst (λ (t : TermsValue). AreStarted (source_view g.R.Source.left g.R.Source.has_failed g.R.Source.reads) t 1 c.args.readers.items c.in_ok-workers.workers.items) c.new-terms.ensures c.in_ok-workers.ensures)
     c.deref_mut.ensures.value c.take_turns.ensures.runs back c.outcome_of.ensures.reports c.outcome_of.ensures.readers
 
 -- the law's premise is the layout of the formula and the readers
@@ -91,6 +92,9 @@ returns-clause-isolated g c =
     let fits : Fits terms.layout f = record { vars = refl; clauses = refl; literals = refl } in
     c.serial_isolated.ensures f terms (tellings view readers out.readers.items) out.reports.items fits
     (told_as_many view readers out.readers.items _ (returns-clause-ordered g c).judged.1)
+
+pub returns-clause-alone : goal.returns-clause-alone
+returns-clause-alone g c = reports_alone c.alone_has_one_report.ensures _ _ _ _ _ (returns-clause-isolated g c)
 
 pub returns-clause-sound : goal.returns-clause-sound
 returns-clause-sound g c unsatisfiable =

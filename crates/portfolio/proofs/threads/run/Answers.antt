@@ -4,8 +4,9 @@ use Rattle.runs.specs.Headline.{HaveOneHistory, WereJudged, seen_by}
 use Rattle.lrup_text.specs.ReadOut.{source_view}
 use Rattle.portfolio.specs.Outcomes.{layout_of, terms_of}
 use Rattle.runs.specs.StreamLemmas.{told_as_many}
-use Rattle.runs.specs.Streams.{Terms, tellings, terms_at}
-use Rattle.stream_threads.specs.Jobs.{IsFirstFault, fault_stream}
+use Rattle.runs.specs.Streams.{TermsValue, tellings, terms_at}
+use Rattle.stream_threads.specs.Jobs.{AreJobs, IsFirstFault, fault_stream}
+use Rattle.run_laws.specs.ReportLemmas.{reports_alone}
 use Rattle.portfolio.proofs.CubeLemmas.{sound_under_run}
 use Rattle.portfolio.proofs.HeadlineLemmas.{no_fault, not_layout, AreOpened, are_opened, are_ready, all_can_begin, ready_count, finish_of, finish_count, one_history, judged_by, judged_so, were_judged, sound_run}
 use Rattle.portfolio.proofs.threads.run.Goals as goal
@@ -27,7 +28,7 @@ check_all-requires-clause-begin g c κs within =
     let view = source_view g.R.Source.left g.R.Source.has_failed g.R.Source.reads in
     let firsts = c.args.readers.items in
     let opened : AreOpened c.in_ok-store.store f 1 passes.items = are_opened c.in_ok-store.store f p passes.items (sym passes.ok.0 ∙ opens.count) opens.passes in
-    let ready = are_ready view c.in_ok-store.store f terms 1 firsts passes.items jobs.items c.in_ok-jobs.ensures opened in
+    let ready = are_ready view c.in_ok-store.store f terms 1 firsts passes.items jobs.items (subst (λ (t : TermsValue). AreJobs t 1 c.args.readers.items c.in_ok-store.passes.items c.in_ok-jobs.jobs.items) c.new-terms.ensures c.in_ok-jobs.ensures) opened in
     all_can_begin view f terms c.in_ok-store.store c.in_ok-layout.ensures.layout.2 opens.layout 1 firsts jobs.items ready
 
 pub outcome_of-requires-clause-store : goal.outcome_of-requires-clause-store
@@ -41,7 +42,7 @@ outcome_of-requires-clause-store g c =
     let view = source_view g.R.Source.left g.R.Source.has_failed g.R.Source.reads in
     let firsts = c.args.readers.items in
     let opened : AreOpened c.in_ok-store.store f 1 passes.items = are_opened c.in_ok-store.store f p passes.items (sym passes.ok.0 ∙ opens.count) opens.passes in
-    let ready = are_ready view c.in_ok-store.store f terms 1 firsts passes.items jobs.items c.in_ok-jobs.ensures opened in
+    let ready = are_ready view c.in_ok-store.store f terms 1 firsts passes.items jobs.items (subst (λ (t : TermsValue). AreJobs t 1 c.args.readers.items c.in_ok-store.passes.items c.in_ok-jobs.jobs.items) c.new-terms.ensures c.in_ok-jobs.ensures) opened in
     finish_of view c.in_ok-store.store f terms 1 firsts jobs.items c.in-Ok.found.items ready c.in-Ok.ensures.found
 
 pub outcome_of-requires-clause-reports : goal.outcome_of-requires-clause-reports
@@ -88,7 +89,7 @@ returns-in-Ok-clause-history g c =
     let view = source_view g.R.Source.left g.R.Source.has_failed g.R.Source.reads in
     let firsts = c.args.readers.items in
     let opened : AreOpened c.in_ok-store.store f 1 passes.items = are_opened c.in_ok-store.store f p passes.items (sym passes.ok.0 ∙ opens.count) opens.passes in
-    let ready = are_ready view c.in_ok-store.store f terms 1 firsts passes.items jobs.items c.in_ok-jobs.ensures opened in
+    let ready = are_ready view c.in_ok-store.store f terms 1 firsts passes.items jobs.items (subst (λ (t : TermsValue). AreJobs t 1 c.args.readers.items c.in_ok-store.passes.items c.in_ok-jobs.jobs.items) c.new-terms.ensures c.in_ok-jobs.ensures) opened in
     let vs = map (λ q. q.view) c.outcome_of.result.passes.items in
     let same : p ≡ layout_of c.args.options f (length c.args.readers.items) =
     c.in_ok-layout.ensures.layout.0 ∙ ap (λ (n : ℕ). layout_of c.args.options f n) (c.len.ensures ∙ c.args.readers.ok.0) in
@@ -110,7 +111,7 @@ returns-in-Ok-clause-reports g c =
     let view = source_view g.R.Source.left g.R.Source.has_failed g.R.Source.reads in
     let firsts = c.args.readers.items in
     let opened : AreOpened c.in_ok-store.store f 1 passes.items = are_opened c.in_ok-store.store f p passes.items (sym passes.ok.0 ∙ opens.count) opens.passes in
-    let ready = are_ready view c.in_ok-store.store f terms 1 firsts passes.items jobs.items c.in_ok-jobs.ensures opened in
+    let ready = are_ready view c.in_ok-store.store f terms 1 firsts passes.items jobs.items (subst (λ (t : TermsValue). AreJobs t 1 c.args.readers.items c.in_ok-store.passes.items c.in_ok-jobs.jobs.items) c.new-terms.ensures c.in_ok-jobs.ensures) opened in
     let found = c.in-Ok.found.items in
     let out = c.outcome_of in
     let vs = map (λ q. q.view) out.result.passes.items in
@@ -134,6 +135,9 @@ returns-in-Ok-clause-isolated g c =
     let fits : Fits terms.layout f = record { vars = refl; clauses = refl; literals = refl } in
     c.run_isolated.ensures f terms (seen_by vs) vs (tellings view readers out.readers.items) out.reports.items
     fits (told_as_many view readers out.readers.items _ (returns-in-Ok-clause-reports g c).judged.2) (returns-in-Ok-clause-history g c)
+
+pub returns-in-Ok-clause-alone : goal.returns-in-Ok-clause-alone
+returns-in-Ok-clause-alone g c = reports_alone c.alone_has_one_report.ensures _ _ _ _ _ (returns-in-Ok-clause-isolated g c)
 
 pub returns-in-Ok-clause-serializable : goal.returns-in-Ok-clause-serializable
 returns-in-Ok-clause-serializable g c =
@@ -195,7 +199,7 @@ returns-in-Err-Spawn-clause-spawn g c = λ stream e.
     let view = source_view g.R.Source.left g.R.Source.has_failed g.R.Source.reads in
     let firsts = c.args.readers.items in
     let opened : AreOpened c.in_ok-store.store f 1 passes.items = are_opened c.in_ok-store.store f p passes.items (sym passes.ok.0 ∙ opens.count) opens.passes in
-    let ready = are_ready view c.in_ok-store.store f terms 1 firsts passes.items jobs.items c.in_ok-jobs.ensures opened in
+    let ready = are_ready view c.in_ok-store.store f terms 1 firsts passes.items jobs.items (subst (λ (t : TermsValue). AreJobs t 1 c.args.readers.items c.in_ok-store.passes.items c.in_ok-jobs.jobs.items) c.new-terms.ensures c.in_ok-jobs.ensures) opened in
     let each : length jobs.items ≡ length firsts = ready_count view c.in_ok-store.store f terms 1 firsts jobs.items ready in
     let within = c.in-Err-Spawn.ensures.fault in
     let is : fault_stream c.in-Err-Spawn.field-0 ≡ c.in-Err-Spawn.stream = ap fault_stream c.in-Err-Spawn.field-0-is in (
@@ -215,7 +219,7 @@ returns-clause-ring g c = λ stream e.
     let view = source_view g.R.Source.left g.R.Source.has_failed g.R.Source.reads in
     let firsts = c.args.readers.items in
     let opened : AreOpened c.in_ok-store.store f 1 passes.items = are_opened c.in_ok-store.store f p passes.items (sym passes.ok.0 ∙ opens.count) opens.passes in
-    let ready = are_ready view c.in_ok-store.store f terms 1 firsts passes.items jobs.items c.in_ok-jobs.ensures opened in
+    let ready = are_ready view c.in_ok-store.store f terms 1 firsts passes.items jobs.items (subst (λ (t : TermsValue). AreJobs t 1 c.args.readers.items c.in_ok-store.passes.items c.in_ok-jobs.jobs.items) c.new-terms.ensures c.in_ok-jobs.ensures) opened in
     let each : length jobs.items ≡ length firsts = ready_count view c.in_ok-store.store f terms 1 firsts jobs.items ready in
     let within = c.in-Err-Ring.ensures.fault in
     let is : fault_stream c.in-Err-Ring.field-0 ≡ c.in-Err-Ring.stream = ap fault_stream c.in-Err-Ring.field-0-is in (
@@ -236,11 +240,11 @@ returns-clause-first g c = λ stream e.
     let view = source_view g.R.Source.left g.R.Source.has_failed g.R.Source.reads in
     let firsts = c.args.readers.items in
     let opened : AreOpened c.in_ok-store.store f 1 passes.items = are_opened c.in_ok-store.store f p passes.items (sym passes.ok.0 ∙ opens.count) opens.passes in
-    let ready = are_ready view c.in_ok-store.store f terms 1 firsts passes.items jobs.items c.in_ok-jobs.ensures opened in
+    let ready = are_ready view c.in_ok-store.store f terms 1 firsts passes.items jobs.items (subst (λ (t : TermsValue). AreJobs t 1 c.args.readers.items c.in_ok-store.passes.items c.in_ok-jobs.jobs.items) c.new-terms.ensures c.in_ok-jobs.ensures) opened in
     let same : p ≡ layout_of c.args.options f (length firsts) =
     c.in_ok-layout.ensures.layout.0 ∙ ap (λ (n : ℕ). layout_of c.args.options f n) (c.len.ensures ∙ c.args.readers.ok.0) in
     let are : terms ≡ wanted = ap₂ (λ (l : LayoutValue) (n : ℕ). terms_at l c.args.cube.now n) same c.tries.ensures.tries in
     let before = subst (IsFirstFault view jobs.items) (c.in-Err-Ring.field-0-is) c.in-Err-Ring.ensures.first in
     let judged = were_judged view f terms c.in_ok-store.store opens.layout 1 firsts jobs.items (c.in-Err-Ring.stream - 1) before.0 ready before.1 in
     subst (λ (n : ℕ). WereJudged view wanted 1 (take (n - 1) firsts)) here
-    (subst (λ (t : Terms). WereJudged view t 1 (take (c.in-Err-Ring.stream - 1) firsts)) are judged)
+    (subst (λ (t : TermsValue). WereJudged view t 1 (take (c.in-Err-Ring.stream - 1) firsts)) are judged)

@@ -1,12 +1,12 @@
-use Rattle.std.proofs.Common.{Bool, sym, subst}
+use Rattle.std.proofs.Common.{sym, subst}
+use Rattle.lrup_text.specs.declared.device.StreamEnd.{StreamEnd}
 use Rattle.stream_check.specs.Checker.{ReportsEnd}
-use Rattle.stream_jobs.specs.Judged.{end_of}
 use Rattle.portfolio.proofs.worker.close.Goals as goal
 
-pub returns-then-has_failed-clause-reports : goal.returns-then-has_failed-clause-reports
-returns-then-has_failed-clause-reports c =
-    subst (λ (b : Bool). ReportsEnd (end_of b) c.args.checker.now c.read_failed.new.self) (sym c.if-has_failed.true) c.read_failed.ensures.reports
+pub returns-in-Ended-clause-reports : goal.returns-in-Ended-clause-reports
+returns-in-Ended-clause-reports c =
+    subst (λ (e : StreamEnd). ReportsEnd e c.args.checker.now c.end.new.self) (sym c.in-Ended.is) c.end.ensures.reports
 
-pub returns-else-has_failed-clause-reports : goal.returns-else-has_failed-clause-reports
-returns-else-has_failed-clause-reports c =
-    subst (λ (b : Bool). ReportsEnd (end_of b) c.args.checker.now c.end.new.self) (sym c.if-has_failed.false) c.end.ensures.reports
+pub returns-in-Failed-clause-reports : goal.returns-in-Failed-clause-reports
+returns-in-Failed-clause-reports c =
+    subst (λ (e : StreamEnd). ReportsEnd e c.args.checker.now c.read_failed.new.self) (sym c.in-Failed.is) c.read_failed.ensures.reports

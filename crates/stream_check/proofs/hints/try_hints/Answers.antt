@@ -1,13 +1,12 @@
-use Rattle.std.proofs.Common.{◌≡◌, ◌∙◌, ℕ, Bool, Option, [], ◌++◌, refl, sym, ap, subst}
-use Rattle.lrup_model.specs.Place.{Caller}
-use Rattle.lrup_model.specs.Formula.{Cnf}
+use Rattle.std.proofs.Common.{◌≡◌, ◌∙◌, ℕ, ℤ, neg_ℤ, Bool, Result, List, [], ◌∷◌, ◌++◌, refl, sym, ap, subst, append-nil}
+use Rattle.std.proofs.lemmas.Result.{err_from_is_err_and}
+use Rattle.lrup_model.specs.Place.{clip_clause}
 use Rattle.propagate.specs.Marks.{Propagation}
 use Rattle.propagate.specs.HintLemmas.{leads_on, accepts_exactly}
 use Rattle.stream_check.specs.declared.fault.Fault.{Fault}
-use Rattle.stream_check.specs.declared.hints.Tried.TheVariants as tried
 use Rattle.stream_check.specs.Standing.{is_among}
-use Rattle.stream_check.specs.Checking.{KeepsClause, Tries, Shows}
-use Rattle.stream_check.proofs.TryLemmas.{fetches-append, goes_on, has_led, shows_fails, shows_none, shows_conflict}
+use Rattle.stream_check.specs.Checking.{Shows}
+use Rattle.stream_check.proofs.TryLemmas.{fetches-append, derived_before, variables_before, GoesOn, HasLed, goes_on, has_led, shows_unfound, shows_not_unit, shows_none, shows_conflict}
 use Rattle.stream_check.proofs.hints.try_hints.Goals as goal
 
 pub hints-init : goal.hints-init
@@ -17,68 +16,92 @@ hints-init g c = record {
   led = ([], g.met.M.ClauseMap.moves_none c.args.map.now, tt, ([], tt, refl), λ e rest v judged. judged);
 }
 
-keeps_on : (a b c : Propagation) → KeepsClause a b → KeepsClause b c → KeepsClause a c
-keeps_on a b c h k = (k.0 ∙ h.0, k.1 ∙ h.1)
-
 pub hints-preserved : goal.hints-preserved
 hints-preserved g c =
-    let s = c.args.setting.now in
-    let f = (g.M.ClauseMap.place c.args.map.now).caller.formula in
-    let q = g.M.ClauseMap.place c.hints.map in
-    let gone : ℕ → Bool = is_among c.args.dropped.now.ids in
+    let s = c.args.held.now.setting in
+    let p = g.M.ClauseMap.place c.args.map.now in
+    let q = g.M.ClauseMap.place c.look_up.new.map in
+    let gone : ℕ → Bool = is_among c.args.held.now.dropped.ids in
     let led = c.hints.invariant.led in
-    let tries = c.in-Unit.ensures.tried in
-    let same : q.caller.formula ≡ f = ap (λ (r : Caller). r.formula) (g.met.M.ClauseMap.moves_tells c.args.map.now c.hints.map led.0 led.1).caller in
-    let unit : Tries s gone f c.hints.marks c.in-Some.hint.now tries.0 tried.Unit c.try_hint.new.marks =
-    subst (λ (h : Cnf). Tries s gone h c.hints.marks c.in-Some.hint.now tries.0 tried.Unit c.try_hint.new.marks) same tries.3 in
+    let looked = c.in_ok-clip.ensures.looked in
+    let gives = c.in_ok-clip.ensures.gives in
+    let step = c.in-Unit.ensures.step in
+    let falses : c.hint.new.self.falses ≡ c.hints.marks.falses ++ neg_ℤ step.0 ∷ [] = ap (λ (m : Propagation). m.falses) step.2 in
+    let moved = g.met.M.ClauseMap.moves_append c.args.map.now c.hints.map c.look_up.new.map led.0 looked.0 led.1 looked.1 in
+    let tried = g.met.M.ClauseMap.moves_append c.args.map.now c.look_up.new.map c.hint.new.map (led.0 ++ looked.0) [] moved c.hint.ensures.event in
+    let derived = derived_before p q (led.0 ++ looked.0) c.in_ok-clip.clip (g.met.M.ClauseMap.moves_tells c.args.map.now c.look_up.new.map (led.0 ++ looked.0) moved) gives.0 gives.1 in
     record {
-      ready = ap (λ (m : Propagation). m.ready) unit.4 ∙ c.hints.invariant.ready;
-      kept = keeps_on c.args.marks.now c.hints.marks c.try_hint.new.marks c.hints.invariant.kept c.try_hint.ensures.kept;
+      ready = ap (λ (m : Propagation). m.ready) step.2 ∙ c.hints.invariant.ready;
+      kept = (ap (λ (m : Propagation). m.vars) step.2 ∙ c.hints.invariant.kept.0, ap (λ (m : Propagation). m.clause) step.2 ∙ c.hints.invariant.kept.1);
       led = (
-        led.0 ++ tries.0,
-        g.met.M.ClauseMap.moves_append c.args.map.now c.hints.map c.try_hint.new.map led.0 tries.0 led.1 tries.1,
-        fetches-append led.0 tries.0 led.2 tries.2,
-        has_led s gone f c.args.marks.now.falses c.hints.marks c.try_hint.new.marks c.in-Some.hint.now tries.0 leads_on led.3 unit,
-        goes_on s gone f c.args.marks.now.falses c.args.hints.now c.hints.marks c.try_hint.new.marks c.in-Some.hint.now c.hints.left.now c.in-Some.rest.now led.0 tries.0 c.in-Some.ensures.cases.0 led.4 unit,
+        led.0 ++ looked.0,
+        subst (g.M.ClauseMap.moves c.args.map.now c.hint.new.map) (append-nil (led.0 ++ looked.0)) tried,
+        fetches-append led.0 looked.0 led.2 looked.2,
+        subst (HasLed p.caller.formula c.args.marks.now.falses) (sym falses) (has_led p.caller.formula c.args.marks.now.falses c.hints.marks.falses (clip_clause q c.in_ok-clip.clip) step.0 leads_on led.3 derived step.1),
+        subst (λ (n : List ℤ). GoesOn s gone c.args.marks.now.falses c.args.hints.now n c.in-Some.rest.now (led.0 ++ looked.0)) (sym falses)
+            (goes_on s gone c.args.marks.now.falses c.hints.marks.falses c.args.hints.now c.in-Some.hint.now c.hints.left.now c.in-Some.rest.now led.0 looked.0 c.in-Some.ensures.cases.0 led.4 (clip_clause q c.in_ok-clip.clip) looked.3.0 looked.3.1 step.0 step.1),
       );
     }
 
 pub returns-in-Conflict-clause-shown : goal.returns-in-Conflict-clause-shown
 returns-in-Conflict-clause-shown g c =
-    let s = c.args.setting.now in
-    let f = (g.M.ClauseMap.place c.args.map.now).caller.formula in
-    let q = g.M.ClauseMap.place c.hints.map in
-    let gone : ℕ → Bool = is_among c.args.dropped.now.ids in
+    let s = c.args.held.now.setting in
+    let p = g.M.ClauseMap.place c.args.map.now in
+    let q = g.M.ClauseMap.place c.look_up.new.map in
+    let gone : ℕ → Bool = is_among c.args.held.now.dropped.ids in
     let led = c.hints.invariant.led in
-    let tries = c.in-Conflict.ensures.tried in
-    let same : q.caller.formula ≡ f = ap (λ (r : Caller). r.formula) (g.met.M.ClauseMap.moves_tells c.args.map.now c.hints.map led.0 led.1).caller in
-    let conflict : Tries s gone f c.hints.marks c.in-Some.hint.now tries.0 tried.Conflict c.try_hint.new.marks =
-    subst (λ (h : Cnf). Tries s gone h c.hints.marks c.in-Some.hint.now tries.0 tried.Conflict c.try_hint.new.marks) same tries.3 in
-    let shown = shows_conflict s gone f c.args.marks.now.falses c.args.hints.now c.hints.marks c.try_hint.new.marks c.in-Some.hint.now c.hints.left.now c.in-Some.rest.now led.0 tries.0
-    accepts_exactly c.requires.consistent c.in-Some.ensures.cases.0 led.4 led.3 conflict in (
-      led.0 ++ tries.0,
-      g.met.M.ClauseMap.moves_append c.args.map.now c.hints.map c.try_hint.new.map led.0 tries.0 led.1 tries.1,
-      fetches-append led.0 tries.0 led.2 tries.2,
-      subst (λ (r : Option Fault). Shows s gone f c.args.marks.now.falses c.args.hints.now (led.0 ++ tries.0) r) (sym c.excess.ensures) shown,
+    let looked = c.in_ok-clip.ensures.looked in
+    let gives = c.in_ok-clip.ensures.gives in
+    let moved = g.met.M.ClauseMap.moves_append c.args.map.now c.hints.map c.look_up.new.map led.0 looked.0 led.1 looked.1 in
+    let tried = g.met.M.ClauseMap.moves_append c.args.map.now c.look_up.new.map c.hint.new.map (led.0 ++ looked.0) [] moved c.hint.ensures.event in
+    let tells = g.met.M.ClauseMap.moves_tells c.args.map.now c.look_up.new.map (led.0 ++ looked.0) moved in
+    let derived = derived_before p q (led.0 ++ looked.0) c.in_ok-clip.clip tells gives.0 gives.1 in
+    let variables = variables_before s p q (led.0 ++ looked.0) c.requires.at tells gives.2 in
+    let shown = shows_conflict s gone p.caller.formula c.args.marks.now.falses c.hints.marks.falses c.args.hints.now c.in-Some.hint.now c.hints.left.now c.in-Some.rest.now led.0 looked.0 (clip_clause q c.in_ok-clip.clip)
+    accepts_exactly c.requires.consistent c.in-Some.ensures.cases.0 led.4 looked.3.0 looked.3.1 led.3 derived variables c.in-Conflict.ensures.step.0 in (
+      led.0 ++ looked.0,
+      subst (g.M.ClauseMap.moves c.args.map.now c.hint.new.map) (append-nil (led.0 ++ looked.0)) tried,
+      fetches-append led.0 looked.0 led.2 looked.2,
+      subst (λ (r : Result (Unit {0}) Fault). Shows s gone p.caller.formula c.args.marks.now.falses c.args.hints.now (led.0 ++ looked.0) r) (sym c.excess.ensures) shown,
     )
 
-pub returns-in-Fails-clause-shown : goal.returns-in-Fails-clause-shown
-returns-in-Fails-clause-shown g c =
-    let s = c.args.setting.now in
-    let f = (g.M.ClauseMap.place c.args.map.now).caller.formula in
-    let gone : ℕ → Bool = is_among c.args.dropped.now.ids in
+pub returns-in-NotUnit-clause-shown : goal.returns-in-NotUnit-clause-shown
+returns-in-NotUnit-clause-shown g c =
+    let s = c.args.held.now.setting in
+    let p = g.M.ClauseMap.place c.args.map.now in
+    let q = g.M.ClauseMap.place c.look_up.new.map in
+    let gone : ℕ → Bool = is_among c.args.held.now.dropped.ids in
     let led = c.hints.invariant.led in
-    let tries = c.in-Fails.ensures.tried in (
-      led.0 ++ tries.0,
-      g.met.M.ClauseMap.moves_append c.args.map.now c.hints.map c.try_hint.new.map led.0 tries.0 led.1 tries.1,
-      fetches-append led.0 tries.0 led.2 tries.2,
-      shows_fails s gone f c.args.marks.now.falses c.args.hints.now c.hints.marks c.try_hint.new.marks c.in-Some.hint.now c.hints.left.now c.in-Some.rest.now led.0 tries.0 c.in-Fails.fault c.in-Some.ensures.cases.0 led.4 tries.3,
+    let looked = c.in_ok-clip.ensures.looked in
+    let step = c.in-NotUnit.ensures.step in
+    let moved = g.met.M.ClauseMap.moves_append c.args.map.now c.hints.map c.look_up.new.map led.0 looked.0 led.1 looked.1 in
+    let tried = g.met.M.ClauseMap.moves_append c.args.map.now c.look_up.new.map c.hint.new.map (led.0 ++ looked.0) [] moved c.hint.ensures.event in (
+      led.0 ++ looked.0,
+      subst (g.M.ClauseMap.moves c.args.map.now c.hint.new.map) (append-nil (led.0 ++ looked.0)) tried,
+      fetches-append led.0 looked.0 led.2 looked.2,
+      shows_not_unit s gone c.args.marks.now.falses c.hints.marks.falses c.args.hints.now c.in-Some.hint.now c.hints.left.now c.in-Some.rest.now led.0 looked.0 c.in-Some.ensures.cases.0 led.4
+          (clip_clause q c.in_ok-clip.clip) looked.3.0 looked.3.1 p.caller.formula step.0 step.1,
+    )
+
+pub returns-in_err-clip-clause-shown : goal.returns-in_err-clip-clause-shown
+returns-in_err-clip-clause-shown g c =
+    let s = c.args.held.now.setting in
+    let f = (g.M.ClauseMap.place c.args.map.now).caller.formula in
+    let q = g.M.ClauseMap.place c.look_up.new.map in
+    let gone : ℕ → Bool = is_among c.args.held.now.dropped.ids in
+    let led = c.hints.invariant.led in
+    let looked = c.in_err-clip.ensures.looked in
+    let given = err_from_is_err_and c.from_residual.result c.from_residual.ensures.1 in (
+      led.0 ++ looked.0,
+      g.met.M.ClauseMap.moves_append c.args.map.now c.hints.map c.look_up.new.map led.0 looked.0 led.1 looked.1,
+      fetches-append led.0 looked.0 led.2 looked.2,
+      rw (given.1, given.2) (shows_unfound s gone c.args.marks.now.falses c.hints.marks.falses c.args.hints.now c.in-Some.hint.now c.hints.left.now c.in-Some.rest.now led.0 looked.0 c.in-Some.ensures.cases.0 led.4 f q c.in_err-clip.field-0.0 looked.3),
     )
 
 pub returns-clause-shown : goal.returns-clause-shown
 returns-clause-shown g c =
-    let s = c.args.setting.now in
+    let s = c.args.held.now.setting in
     let f = (g.M.ClauseMap.place c.args.map.now).caller.formula in
-    let gone : ℕ → Bool = is_among c.args.dropped.now.ids in
+    let gone : ℕ → Bool = is_among c.args.held.now.dropped.ids in
     let led = c.hints.invariant.led in
     (led.0, led.1, led.2, shows_none s gone f c.args.marks.now.falses c.args.hints.now c.hints.marks.falses c.hints.left.now led.0 c.in_default.ensures.cases led.4)

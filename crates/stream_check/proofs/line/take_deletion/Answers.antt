@@ -1,22 +1,24 @@
+use Rattle.std.proofs.lemmas.Result.{err_from_is_err_and}
 use Rattle.stream_check.proofs.LineLemmas.{Counts, ready_retires, room_retires, takes_deletion, stops_deletion, still_ready}
 use Rattle.stream_check.proofs.line.take_deletion.Goals as goal
 
-pub returns-in-Some-clause-taken : goal.returns-in-Some-clause-taken
-returns-in-Some-clause-taken g c =
+pub returns-in_err-delete-clause-taken : goal.returns-in_err-delete-clause-taken
+returns-in_err-delete-clause-taken g c =
     let old = c.args.held.now in
     let mid = c.delete.new.held in
     let p = g.M.ClauseMap.place c.args.map.now in
     let q = g.M.ClauseMap.place c.delete.new.map in
-    let deleted = c.in-Some.ensures.deleted in
-    (deleted.0, deleted.1, λ lead. stops_deletion old mid p.room q.room lead c.args.ids.now deleted.0 deleted.3.0 c.in-Some.stop c.delete.ensures.kept deleted.3.1 deleted.3.2)
+    let deleted = c.in_err-delete.ensures.deleted in
+    let given = err_from_is_err_and c.from_residual.result c.from_residual.ensures.1 in
+    rw (given.1, given.2) (deleted.0, deleted.1, λ lead. stops_deletion old mid p.room q.room lead c.args.ids.now deleted.0 deleted.3.0 c.in_err-delete.field-0.0 c.delete.ensures.kept deleted.3.1 deleted.3.2)
 
-pub returns-in-Some-clause-ready : goal.returns-in-Some-clause-ready
-returns-in-Some-clause-ready g c =
+pub returns-in_err-delete-clause-ready : goal.returns-in_err-delete-clause-ready
+returns-in_err-delete-clause-ready g c =
     let old = c.args.held.now in
     let mid = c.delete.new.held in
     let p = g.M.ClauseMap.place c.args.map.now in
     let q = g.M.ClauseMap.place c.delete.new.map in
-    let deleted = c.in-Some.ensures.deleted in
+    let deleted = c.in_err-delete.ensures.deleted in
     ready_retires old mid p q deleted.0 (g.met.M.ClauseMap.moves_tells c.args.map.now c.delete.new.map deleted.0 deleted.1) deleted.2 c.delete.ensures.kept.setting c.delete.ensures.kept.last c.requires.ready
 
 pub returns-clause-taken : goal.returns-clause-taken
@@ -26,7 +28,7 @@ returns-clause-taken g c =
     let new = c.pass_line.new.self in
     let p = g.M.ClauseMap.place c.args.map.now in
     let q = g.M.ClauseMap.place c.delete.new.map in
-    let deleted = c.in_default.ensures.deleted in
+    let deleted = c.in_ok-delete.ensures.deleted in
     let taken = c.pass_line.ensures in
     let counts : Counts mid new = record { line = taken.line; last = taken.last; added = taken.added; empty = taken.empty; within = taken.within; dropped = taken.dropped; retired = taken.retired } in
     let room = room_retires p q deleted.0 (g.met.M.ClauseMap.moves_tells c.args.map.now c.delete.new.map deleted.0 deleted.1) deleted.2 in
@@ -38,6 +40,6 @@ returns-clause-ready g c =
     let mid = c.delete.new.held in
     let p = g.M.ClauseMap.place c.args.map.now in
     let q = g.M.ClauseMap.place c.delete.new.map in
-    let deleted = c.in_default.ensures.deleted in
+    let deleted = c.in_ok-delete.ensures.deleted in
     let ready = ready_retires old mid p q deleted.0 (g.met.M.ClauseMap.moves_tells c.args.map.now c.delete.new.map deleted.0 deleted.1) deleted.2 c.delete.ensures.kept.setting c.delete.ensures.kept.last c.requires.ready in
     still_ready mid c.pass_line.new.self q c.pass_line.ensures.setting c.pass_line.ensures.last ready

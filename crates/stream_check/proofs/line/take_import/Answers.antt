@@ -1,19 +1,21 @@
+use Rattle.std.proofs.lemmas.Result.{err_from_is_err_and}
 use Rattle.stream_check.proofs.AddLemmas.{room_stays}
 use Rattle.stream_check.proofs.LineLemmas.{Counts, ready_fetches, takes_import, stops_import, still_ready}
 use Rattle.stream_check.proofs.line.take_import.Goals as goal
 
-pub returns-in-Some-clause-taken : goal.returns-in-Some-clause-taken
-returns-in-Some-clause-taken g c =
+pub returns-in_err-import-clause-taken : goal.returns-in_err-import-clause-taken
+returns-in_err-import-clause-taken g c =
     let p = g.M.ClauseMap.place c.args.map.now in
     let q = g.M.ClauseMap.place c.import.new.map in
-    let judged = c.in-Some.ensures.judged in
-    (judged.0, judged.1, stops_import c.args.held.now p.room q.room c.args.id c.args.lits.now judged.0 c.in-Some.fault judged.3)
+    let judged = c.in_err-import.ensures.judged in
+    let given = err_from_is_err_and c.from_residual.result c.from_residual.ensures.1 in
+    rw (given.1, given.2) (judged.0, judged.1, stops_import c.args.held.now p.room q.room c.args.id c.args.lits.now judged.0 c.in_err-import.field-0.0 judged.3)
 
-pub returns-in-Some-clause-ready : goal.returns-in-Some-clause-ready
-returns-in-Some-clause-ready g c =
+pub returns-in_err-import-clause-ready : goal.returns-in_err-import-clause-ready
+returns-in_err-import-clause-ready g c =
     let p = g.M.ClauseMap.place c.args.map.now in
     let q = g.M.ClauseMap.place c.import.new.map in
-    let judged = c.in-Some.ensures.judged in
+    let judged = c.in_err-import.ensures.judged in
     ready_fetches c.args.held.now p q judged.0 (g.met.M.ClauseMap.moves_tells c.args.map.now c.import.new.map judged.0 judged.1) judged.2 c.requires.ready
 
 pub returns-clause-taken : goal.returns-clause-taken
@@ -22,7 +24,7 @@ returns-clause-taken g c =
     let new = c.pass_line.new.self in
     let p = g.M.ClauseMap.place c.args.map.now in
     let q = g.M.ClauseMap.place c.import.new.map in
-    let judged = c.in_default.ensures.judged in
+    let judged = c.in_ok-import.ensures.judged in
     let taken = c.pass_line.ensures in
     let counts : Counts old new = record { line = taken.line; last = taken.last; added = taken.added; empty = taken.empty; within = taken.within; dropped = taken.dropped; retired = taken.retired } in
     let room = room_stays p q judged.0 (g.met.M.ClauseMap.moves_tells c.args.map.now c.import.new.map judged.0 judged.1) judged.2 in
@@ -33,6 +35,6 @@ returns-clause-ready g c =
     let old = c.args.held.now in
     let p = g.M.ClauseMap.place c.args.map.now in
     let q = g.M.ClauseMap.place c.import.new.map in
-    let judged = c.in_default.ensures.judged in
+    let judged = c.in_ok-import.ensures.judged in
     let ready = ready_fetches old p q judged.0 (g.met.M.ClauseMap.moves_tells c.args.map.now c.import.new.map judged.0 judged.1) judged.2 c.requires.ready in
     still_ready old c.pass_line.new.self q c.pass_line.ensures.setting c.pass_line.ensures.last ready

@@ -1,15 +1,15 @@
 use Rattle.std.proofs.Common.{List, ℕ, refl, subst}
-use Rattle.lrup_text.specs.ReadOut.{source_view}
+use Rattle.lrup_text.specs.declared.device.StreamEnd.{StreamEnd}
 use Rattle.stream_check.specs.Judging.{JudgesBlocks}
-use Rattle.stream_jobs.specs.Judged.{end_of}
-use Rattle.stream_jobs.proofs.JudgingLemmas.{told_and_judged}
+use Rattle.runs.specs.Streams.{read_out}
 use Rattle.stream_jobs.proofs.both.meet.Goals as goal
 
 pub returns-clause-judged : goal.returns-clause-judged
 returns-clause-judged g c first v room blocks report sent marked fresh =
-    let last = c.args.sent.now.reader in
-    let view = source_view g.R.Source.left g.R.Source.has_failed g.R.Source.reads in
-    let same = c.came_through.ensures sent.bytes marked.bytes (view.has_failed last) marked.has_failed sent.sent marked.marked in
-    let judged = subst (λ (bytes : List ℕ). JudgesBlocks v.setting bytes (end_of marked.has_failed) blocks report) same.0 (marked.judged fresh) in
-    told_and_judged _ view first last marked.has_failed (view.has_failed last) sent.bytes v.setting blocks report
-    same.1 refl sent.told sent.all sent.read judged
+    let same = c.came_through.ensures sent.bytes marked.bytes sent.end marked.end sent.sent marked.marked in (
+      record { bytes = sent.bytes; stop = read_out sent.end },
+      (sent.end, refl),
+      (record { consumes = sent.told; stops = sent.ends }, sent.read),
+      subst (λ (end : StreamEnd). JudgesBlocks v.setting sent.bytes end blocks report) same.1
+          (subst (λ (bytes : List ℕ). JudgesBlocks v.setting bytes marked.end blocks report) same.0 (marked.judged fresh)),
+    )

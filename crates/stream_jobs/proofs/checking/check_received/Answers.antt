@@ -53,11 +53,11 @@ loop-preserved g c =
     }
 
 pub slice_bounds-take_all-end-in-Mark : goal.slice_bounds-take_all-end-in-Mark
-slice_bounds-take_all-end-in-Mark g c = (c.receive.ensures.mark c.in-Mark.count c.in-Mark.failed c.in-Mark.is).0
+slice_bounds-take_all-end-in-Mark g c = (c.receive.ensures.mark c.in-Mark.count c.in-Mark.end c.in-Mark.is).0
 
 pub slice_bounds-take_all-end-in-Mark-2 : goal.slice_bounds-take_all-end-in-Mark-2
 slice_bounds-take_all-end-in-Mark-2 g c =
-    sym (length-take-le c.in-Mark.count c.receive.new.bytes (c.receive.ensures.mark c.in-Mark.count c.in-Mark.failed c.in-Mark.is).0)
+    sym (length-take-le c.in-Mark.count c.receive.new.bytes (c.receive.ensures.mark c.in-Mark.count c.in-Mark.end c.in-Mark.is).0)
 
 pub returns-in-Mark-clause-took : goal.returns-in-Mark-clause-took
 returns-in-Mark-clause-took g c =
@@ -66,7 +66,7 @@ returns-in-Mark-clause-took g c =
     let end = c.take_all-in-Mark.new.map in
     let old = c.loop.invariant.took in
     let fed = c.take_all-in-Mark.ensures.took in
-    let came = c.receive.ensures.mark c.in-Mark.count c.in-Mark.failed c.in-Mark.is in
+    let came = c.receive.ensures.mark c.in-Mark.count c.in-Mark.end c.in-Mark.is in
     let bytes = map byte_of (received c.loop.receiver.consumer) ++ take c.in-Mark.count c.receive.new.bytes in (
       bytes,
       old.0 ++ fed.0,

@@ -1,15 +1,18 @@
-use Rattle.std.proofs.Common.{Bool, sym, subst}
-use Rattle.stream_check.specs.Judging.{ended, failed, JudgesBlocks}
-use Rattle.stream_jobs.specs.Judged.{end_of}
+use Rattle.std.proofs.Common.{sym, subst}
+use Rattle.lrup_text.specs.declared.device.StreamEnd.{StreamEnd}
+use Rattle.lrup_text.specs.declared.device.StreamEnd.TheVariants as stream_ends
+use Rattle.stream_check.specs.Checker.{ReportsEnd}
 use Rattle.stream_jobs.proofs.JudgingLemmas.{closes}
 use Rattle.stream_jobs.proofs.checking.close.Goals as goal
-
-pub returns-then-has_failed : goal.returns-then-has_failed
-returns-then-has_failed c bytes blocks free left =
-    subst (λ (b : Bool). JudgesBlocks c.args.checker.now.setting bytes (end_of b) blocks c.report.result) (sym c.if-has_failed.true)
-    (closes failed c.args.checker.now c.read_failed.new.self c.report.result c.read_failed.ensures.reports c.report.ensures bytes blocks free left)
+use Rattle.stream_jobs.proofs.checking.close.Goals.{in-Ended, in-Failed}
 
 pub returns : goal.returns
-returns c bytes blocks free left =
-    subst (λ (b : Bool). JudgesBlocks c.args.checker.now.setting bytes (end_of b) blocks c.report-2.result) (sym c.if-has_failed.false)
-    (closes ended c.args.checker.now c.end.new.self c.report-2.result c.end.ensures.reports c.report-2.ensures bytes blocks free left)
+returns c =
+    let old = c.args.checker.now in
+    let reports : ReportsEnd c.args.end old c.match-end.checker = elim c.match-end.branch [
+      | in-Ended w ↦ subst (λ (e : StreamEnd). ReportsEnd e old c.match-end.checker) (sym w.in-Ended.is)
+          (subst (ReportsEnd stream_ends.Ended old) (sym w.checker-is) w.end.ensures.reports)
+      | in-Failed w ↦ subst (λ (e : StreamEnd). ReportsEnd e old c.match-end.checker) (sym w.in-Failed.is)
+          (subst (ReportsEnd stream_ends.Failed old) (sym w.checker-is) w.read_failed.ensures.reports)
+    ] in
+    closes c.args.end old c.match-end.checker c.report.result reports c.report.ensures

@@ -3,7 +3,6 @@ use Rattle.std.specs.Iterator.Adapters.{zip_first, zip_second}
 use Rattle.std.specs.List.{AllByRecursion}
 use Rattle.std.specs.Vec.Iter.{into_iter_items, into_iter_len}
 use Rattle.lrup_model.specs.ListLemmas.{taken_next}
-use Rattle.runs.specs.Streams.{terms_at}
 use Rattle.stream_threads.proofs.ThreadLemmas.{jobs_pushed, jobs_whole, none_to_come}
 use Rattle.stream_threads.proofs.jobs.jobs_of.Goals as goal
 
@@ -22,7 +21,7 @@ loop-reader-preserved g c =
     let new = c.in_ok-new.ensures in
     record {
       running = running.1;
-      jobs = jobs_pushed (terms_at c.args.layout.now c.args.cube.now c.args.tries) _ (λ x. x.0.0) (λ x. x.1) now.yielded item now.all.items c.push_reserved.new.self.items c.in_ok-new.field-0
+      jobs = jobs_pushed c.args.terms.now _ (λ x. x.0.0) (λ x. x.1) now.yielded item now.all.items c.push_reserved.new.self.items c.in_ok-new.field-0
           pushed.items (omega (arith, now.all.ok.0, c.len-in-loop-reader.ensures)) now.invariant.jobs (record { reader_is = new.reader; checker = new.checker; pass = new.pass });
       readers = taken_next (λ x. x.0.0) now.yielded item before rest reader _ steps.0.0.0 refl now.invariant.readers;
       passes = taken_next (λ x. x.1) now.yielded item (into_iter_items (zip_second now.reader-iterator)) others pass _ steps.1.0 refl now.invariant.passes;
@@ -42,5 +41,5 @@ returns g c =
       | inr e ↦ omega (arith, e.1.0, now.invariant.others)
     ] in
     let no_more : into_iter_len third ≡ 0 = omega (arith, none, now.invariant.others) in
-    jobs_whole (terms_at c.args.layout.now c.args.cube.now c.args.tries) _ _ (into_iter_items first) _ _ (into_iter_items third) now.all.items
+    jobs_whole c.args.terms.now _ _ (into_iter_items first) _ _ (into_iter_items third) now.all.items
     now.invariant.jobs now.invariant.readers now.invariant.passes (none_to_come first none) (none_to_come third no_more)

@@ -2,7 +2,6 @@ use Rattle.std.proofs.Common.{◌≡◌, ◌+◌, ◌++◌, false, map, vec_len,
 use Rattle.std.specs.Iterator.Adapters.{zip_first, zip_second}
 use Rattle.std.specs.List.{AllByRecursion}
 use Rattle.std.specs.Vec.Iter.{into_iter_items, into_iter_len}
-use Rattle.runs.specs.Streams.{terms_at}
 use Rattle.stream_threads.specs.Jobs.{AreJobs}
 use Rattle.stream_threads.proofs.jobs.jobs_of.Given as goal
 
@@ -13,7 +12,7 @@ invariant-loop-reader g l =
     let third = zip_second l.reader-iterator in
     record {
       running : AllByRecursion (λ r. g.R.Source.has_failed r ≡ false) (into_iter_items first);
-      jobs : AreJobs (terms_at l.layout l.cube l.tries) 1 (map (λ x. x.0.0) l.yielded) (map (λ x. x.1) l.yielded) l.all.items;
+      jobs : AreJobs l.terms 1 (map (λ x. x.0.0) l.yielded) (map (λ x. x.1) l.yielded) l.all.items;
       readers : map (λ x. x.0.0) l.yielded ++ into_iter_items first ≡ l.fn.readers.items;
       passes : map (λ x. x.1) l.yielded ++ into_iter_items third ≡ l.fn.passes.items;
       count : vec_len l.all + into_iter_len first ≡ vec_len l.fn.readers;

@@ -3,9 +3,8 @@ use Rattle.std.specs.Io.KnownBytes.{Consumes}
 use Rattle.std.specs.Vec.{with_items}
 use Rattle.std.proofs.lemmas.List.{length-take-le, with_items_is}
 use Rattle.std.proofs.KnownBytes.{Consumes-nil, Consumes-kept}
-use Rattle.stream_check.specs.Judging.{ended, failed}
-use Rattle.runs.specs.Streams.{at_end, at_failure, StopsSo}
-use Rattle.lrup_text.specs.ReadOut.{source_view}
+use Rattle.lrup_text.specs.declared.device.StreamEnd.TheVariants as stream_ends
+use Rattle.lrup_text.specs.ReadOut.{EndsSo, source_view}
 use Rattle.portfolio.specs.Working.{WorkerValue, WorksOn}
 use Rattle.portfolio.proofs.WorkingLemmas.{worker_of, works_read, works_over, none_between}
 use Rattle.portfolio.proofs.worker.Worker.read.Goals as goal
@@ -28,9 +27,9 @@ returns-in-Ok-eq0-clause-works g c room =
     let none : Consumes old new [] = subst (Consumes old new) (ap (λ k. take k c.read.new.buffer) c.in-Ok-eq0.field-0-test) read.0 in
     let some : 0 < length c.read.new.buffer = omega (arith, c.read.auto.buffer, ap length c.deref_mut.ensures.value, c.self.invariant.some) in
     let last = subst (λ (k : ℕ). view.reads w.reader (length c.read.new.buffer) (Some (take k c.read.new.buffer)) reader) c.in-Ok-eq0.field-0-test c.in-Ok-eq0.ensures.reads in
-    let stops : StopsSo at_end new has = (read.1 c.in-Ok-eq0.field-0-test some, c.in-Ok-eq0.ensures.failed) in
-    let over = works_over view at_end ended w.reader reader _ rest w.checker c.close.new.checker room (λ d bytes blocks report judged. judged) (λ bytes. refl) stops
-    (λ first bytes gave. record { last = w.reader; given = gave; end = (length c.read.new.buffer, some, last) }) none taken going c.close.ensures.ends c.close.ensures.reports in
+    let stops : EndsSo stream_ends.Ended new has = (read.1 c.in-Ok-eq0.field-0-test some, c.in-Ok-eq0.ensures.failed) in
+    let over = works_over view stream_ends.Ended w.reader reader _ rest w.checker c.close.new.checker room stops
+    (length c.read.new.buffer, some, last) none taken going c.close.ensures.ends c.close.ensures.reports in
     subst (λ (v : WorkerValue g.row.R.Denot). WorksOn view v room [] (worker_of reader rest c.close.new.checker) room) c.self.view_is over
 
 pub returns-in-Ok-clause-works : goal.returns-in-Ok-clause-works
@@ -67,6 +66,6 @@ returns-in-Err-clause-works g c room =
     let going : w.checker.ending ≡ None = ap (λ (v : WorkerValue g.row.R.Denot). v.checker.ending) c.self.view_is ∙ c.requires in
     let taken : take (w.to - w.from) (drop w.from w.buffer.items) ≡ [] = none_between w.buffer.items w.from w.to c.if-self.false in
     let none = Consumes-kept old old new [] (Consumes-nil old) c.in-Err.ensures.bytes in
-    let over = works_over view at_failure failed w.reader reader _ rest w.checker c.close-in-Err.new.checker room (λ d bytes blocks report judged. judged) (λ bytes. refl) c.in-Err.ensures.failed
-    (λ first bytes gave. record { last = w.reader; given = gave; end = (length c.read.new.buffer, c.in-Err.ensures.reads) }) none taken going c.close-in-Err.ensures.ends c.close-in-Err.ensures.reports in
+    let over = works_over view stream_ends.Failed w.reader reader _ rest w.checker c.close-in-Err.new.checker room c.in-Err.ensures.failed
+    (length c.read.new.buffer, c.in-Err.ensures.reads) none taken going c.close-in-Err.ensures.ends c.close-in-Err.ensures.reports in
     subst (λ (v : WorkerValue g.row.R.Denot). WorksOn view v room [] (worker_of reader rest c.close-in-Err.new.checker) room) c.self.view_is over

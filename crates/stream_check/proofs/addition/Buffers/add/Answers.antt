@@ -1,4 +1,5 @@
 use Rattle.std.proofs.Common.{◌≡◌, ◌++◌, ◌∷◌, [], sym, subst, ap, length, refl, arith}
+use Rattle.std.proofs.lemmas.Result.{err_from_is_err_and}
 use Rattle.lrup_model.specs.Clause.{Clause, IsTautology}
 use Rattle.lrup_model.specs.Event.{Event}
 use Rattle.lrup_model.specs.History.{IsPublishable}
@@ -13,30 +14,34 @@ use Rattle.stream_check.specs.Checker.{standing_at}
 use Rattle.stream_check.proofs.AddLemmas.{owns_at, still_at, room_stays, clause_is, shown_is, publishable, still_vacant, published_is}
 use Rattle.stream_check.proofs.addition.Buffers.add.Goals as goal
 
-pub returns-in-Some-clause-judged : goal.returns-in-Some-clause-judged
-returns-in-Some-clause-judged g c = ([], g.met.M.ClauseMap.moves_none c.args.map.now, tt, c.in-Some.ensures.admitted c.args.hints.now)
+pub returns-in_err-admit-clause-judged : goal.returns-in_err-admit-clause-judged
+returns-in_err-admit-clause-judged g c =
+    let given = err_from_is_err_and c.from_residual.result c.from_residual.ensures.1 in
+    rw (given.1, given.2) ([], g.met.M.ClauseMap.moves_none c.args.map.now, tt, c.in_err-admit.ensures.admitted c.args.hints.now)
 
-pub returns-in-Some-try_hints-clause-judged : goal.returns-in-Some-try_hints-clause-judged
-returns-in-Some-try_hints-clause-judged g c =
+pub returns-in_err-try_hints-clause-judged : goal.returns-in_err-try_hints-clause-judged
+returns-in_err-try_hints-clause-judged g c =
     let p = g.M.ClauseMap.place c.args.map.now in
     let s = c.args.held.now.setting in
     let st : Standing = standing_at c.args.held.now p.room in
-    let admitted = c.in_default.ensures.admitted in
-    let shown = c.in-Some-try_hints.ensures.shown in
+    let admitted = c.in_ok-admit.ensures.admitted in
+    let shown = c.in_err-try_hints.ensures.shown in
+    let fault = c.in_err-try_hints.field-0.0 in
     let e : Event = published_by s c.args.id c.args.lits.now in
-    let bad : JudgesHints s st.gone e (distinct c.args.lits.now) c.args.hints.now shown.0 (Bad 0 c.in-Some-try_hints.fault) =
-    subst (λ n. JudgesHints s st.gone e n c.args.hints.now shown.0 (Bad 0 c.in-Some-try_hints.fault)) (ap (λ (m : Propagation). m.falses) admitted.0.marks_are) (shown.3 e) in
-    (shown.0, shown.1, shown.2, admitted.1 c.args.hints.now shown.0 (Bad 0 c.in-Some-try_hints.fault) bad)
+    let bad : JudgesHints s st.gone e (distinct c.args.lits.now) c.args.hints.now shown.0 (Bad 0 fault) =
+    subst (λ n. JudgesHints s st.gone e n c.args.hints.now shown.0 (Bad 0 fault)) (ap (λ (m : Propagation). m.falses) admitted.0.marks_are) (shown.3 e) in
+    let given = err_from_is_err_and c.from_residual-in_err-try_hints.result c.from_residual-in_err-try_hints.ensures.1 in
+    rw (given.1, given.2) (shown.0, shown.1, shown.2, admitted.1 c.args.hints.now shown.0 (Bad 0 fault) bad)
 
 pub try_hints-requires-clause-ready : goal.try_hints-requires-clause-ready
-try_hints-requires-clause-ready g c = ap (λ (m : Propagation). m.ready) c.in_default.ensures.admitted.0.marks_are
+try_hints-requires-clause-ready g c = ap (λ (m : Propagation). m.ready) c.in_ok-admit.ensures.admitted.0.marks_are
 
 pub try_hints-requires-clause-variables : goal.try_hints-requires-clause-variables
-try_hints-requires-clause-variables g c = omega (arith, ap (λ (m : Propagation). m.vars) c.in_default.ensures.admitted.0.marks_are)
+try_hints-requires-clause-variables g c = omega (arith, ap (λ (m : Propagation). m.vars) c.in_ok-admit.ensures.admitted.0.marks_are)
 
 pub try_hints-requires-clause-consistent : goal.try_hints-requires-clause-consistent
 try_hints-requires-clause-consistent g c =
-    let admits = c.in_default.ensures.admitted.0 in
+    let admits = c.in_ok-admit.ensures.admitted.0 in
     subst (λ (d : Clause). ¬ IsTautology d) (sym (ap (λ (m : Propagation). m.falses) admits.marks_are)) admits.consistent
 
 pub publish-requires-clause-owns : goal.publish-requires-clause-owns
@@ -44,9 +49,9 @@ publish-requires-clause-owns g c =
     let p = g.M.ClauseMap.place c.args.map.now in
     let q = g.M.ClauseMap.place c.try_hints.new.map in
     let s = c.args.held.now.setting in
-    let shown = c.in_default-try_hints.ensures.shown in
+    let shown = c.in_ok-try_hints.ensures.shown in
     let tells = g.met.M.ClauseMap.moves_tells c.args.map.now c.try_hints.new.map shown.0 shown.1 in
-    owns_at s q c.args.id (still_at s p q shown.0 c.requires.at tells) c.in_default.ensures.admitted.0.owns
+    owns_at s q c.args.id (still_at s p q shown.0 c.requires.at tells) c.in_ok-admit.ensures.admitted.0.owns
 
 pub publish-requires-clause-clause : goal.publish-requires-clause-clause
 publish-requires-clause-clause g c =
@@ -54,8 +59,8 @@ publish-requires-clause-clause g c =
     let q = g.M.ClauseMap.place c.try_hints.new.map in
     let s = c.args.held.now.setting in
     let st : Standing = standing_at c.args.held.now p.room in
-    let admits = c.in_default.ensures.admitted.0 in
-    let shown = c.in_default-try_hints.ensures.shown in
+    let admits = c.in_ok-admit.ensures.admitted.0 in
+    let shown = c.in_ok-try_hints.ensures.shown in
     let tells = g.met.M.ClauseMap.moves_tells c.args.map.now c.try_hints.new.map shown.0 shown.1 in
     let is = clause_is s st c.args.id c.args.lits.now c.admit.new.self.marks c.try_hints.new.marks c.clause.result.now admits c.try_hints.ensures.kept c.clause.ensures in
     let good = shown_is s st st.gone p.caller.formula c.args.id c.args.lits.now c.args.hints.now c.admit.new.self.marks shown.0 admits shown.3 in
@@ -68,8 +73,8 @@ publish-requires-clause-room g c =
     let q = g.M.ClauseMap.place c.try_hints.new.map in
     let s = c.args.held.now.setting in
     let st : Standing = standing_at c.args.held.now p.room in
-    let admits = c.in_default.ensures.admitted.0 in
-    let shown = c.in_default-try_hints.ensures.shown in
+    let admits = c.in_ok-admit.ensures.admitted.0 in
+    let shown = c.in_ok-try_hints.ensures.shown in
     let tells = g.met.M.ClauseMap.moves_tells c.args.map.now c.try_hints.new.map shown.0 shown.1 in
     let is = clause_is s st c.args.id c.args.lits.now c.admit.new.self.marks c.try_hints.new.marks c.clause.result.now admits c.try_hints.ensures.kept c.clause.ensures in
     omega (arith, ap length is, room_stays p q shown.0 tells shown.2, admits.fits)
@@ -78,8 +83,8 @@ pub unreachable-requires : goal.unreachable-requires
 unreachable-requires g c =
     let p = g.M.ClauseMap.place c.args.map.now in
     let q = g.M.ClauseMap.place c.try_hints.new.map in
-    let admits = c.in_default.ensures.admitted.0 in
-    let shown = c.in_default-try_hints.ensures.shown in
+    let admits = c.in_ok-admit.ensures.admitted.0 in
+    let shown = c.in_ok-try_hints.ensures.shown in
     let tells = g.met.M.ClauseMap.moves_tells c.args.map.now c.try_hints.new.map shown.0 shown.1 in
     let done : c.publish.result ≡ publishing.Done =
     c.publish.ensures.done.1 (still_vacant c.args.held.now.setting p q shown.0 c.args.held.now.last c.args.id c.requires.at tells shown.2 c.requires.vacant admits.owns admits.above) in
@@ -92,8 +97,8 @@ returns-clause-judged g c =
     let q = g.M.ClauseMap.place c.try_hints.new.map in
     let s = c.args.held.now.setting in
     let st : Standing = standing_at c.args.held.now p.room in
-    let admitted = c.in_default.ensures.admitted in
-    let shown = c.in_default-try_hints.ensures.shown in
+    let admitted = c.in_ok-admit.ensures.admitted in
+    let shown = c.in_ok-try_hints.ensures.shown in
     let tells = g.met.M.ClauseMap.moves_tells c.args.map.now c.try_hints.new.map shown.0 shown.1 in
     let is = clause_is s st c.args.id c.args.lits.now c.admit.new.self.marks c.try_hints.new.marks c.clause.result.now admitted.0 c.try_hints.ensures.kept c.clause.ensures in
     let good = shown_is s st st.gone p.caller.formula c.args.id c.args.lits.now c.args.hints.now c.admit.new.self.marks shown.0 admitted.0 shown.3 in

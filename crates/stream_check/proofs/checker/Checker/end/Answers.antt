@@ -1,6 +1,7 @@
 use Rattle.std.proofs.Common.{◌≡◌, ◌∙◌, Some, refl, sym, ap, subst}
+use Rattle.lrup_text.specs.declared.device.StreamEnd.TheVariants as stream_ends
 use Rattle.stream_check.specs.declared.report.Ending.{Ending}
-use Rattle.stream_check.specs.Judging.{ended, ending_at}
+use Rattle.stream_check.specs.Judging.{ending_at}
 use Rattle.stream_check.specs.CheckerValue.{CheckerValue}
 use Rattle.stream_check.specs.Checker.{read_of, value_of, Ends, ReportsEnd}
 use Rattle.stream_check.proofs.FeedLemmas.{some_of, none_of, ends_over, reports_over, ends_now, reports_now, ended_clean, ended_fault}
@@ -12,35 +13,35 @@ use Rattle.stream_check.proofs.checker.Checker.end.Goals as goal
 pub returns-then-is_some-clause-ends : goal.returns-then-is_some-clause-ends
 returns-then-is_some-clause-ends c =
     let over = some_of c.self.inside.ending (sym c.is_some.ensures ∙ c.if-is_some.true) in
-    ends_over ended c.args.self.now over.0 (sym (ap (λ (v : CheckerValue). v.ending) c.self.view_is) ∙ over.1)
+    ends_over stream_ends.Ended c.args.self.now over.0 (sym (ap (λ (v : CheckerValue). v.ending) c.self.view_is) ∙ over.1)
 
 pub returns-then-is_some-clause-reports : goal.returns-then-is_some-clause-reports
 returns-then-is_some-clause-reports c =
     let over = some_of c.self.inside.ending (sym c.is_some.ensures ∙ c.if-is_some.true) in
-    reports_over ended c.args.self.now over.0 (sym (ap (λ (v : CheckerValue). v.ending) c.self.view_is) ∙ over.1)
+    reports_over stream_ends.Ended c.args.self.now over.0 (sym (ap (λ (v : CheckerValue). v.ending) c.self.view_is) ∙ over.1)
 
 pub returns-clause-ends : goal.returns-clause-ends
 returns-clause-ends c =
     let h = c.self.inside.held in
     let r = c.self.inside.reader in
     let none = none_of c.self.inside.ending (sym c.is_some.ensures ∙ c.if-is_some.false) in
-    let says : c.match-end.self ≡ ending_at ended (read_of r) h.line = elim c.match-end.branch [
+    let says : c.match-end.self ≡ ending_at stream_ends.Ended (read_of r) h.line = elim c.match-end.branch [
       | in-Clean w ↦ w.self-is ∙ sym (ended_clean r h.line (subst (λ (e : End). feeding.ReaderEnds r e c.end.new.self) w.in-Clean.is c.end.ensures).0)
       | in-Fault w ↦ w.self-is ∙ sym (ended_fault r c.end.new.self h.line w.in-Fault.fault (c.self.invariant.reads none) (subst (λ (e : End). feeding.ReaderEnds r e c.end.new.self) w.in-Fault.is c.end.ensures))
     ] in
     let old = value_of h (read_of r) c.self.inside.ending in
     let new = value_of h (read_of c.end.new.self) (Some c.match-end.self) in
-    subst (λ (v : CheckerValue). Ends ended v new) c.self.view_is (ends_now ended old new none refl refl (ap (λ (e : Ending). Some e) says) refl)
+    subst (λ (v : CheckerValue). Ends stream_ends.Ended v new) c.self.view_is (ends_now stream_ends.Ended old new none refl refl (ap (λ (e : Ending). Some e) says) refl)
 
 pub returns-clause-reports : goal.returns-clause-reports
 returns-clause-reports c =
     let h = c.self.inside.held in
     let r = c.self.inside.reader in
     let none = none_of c.self.inside.ending (sym c.is_some.ensures ∙ c.if-is_some.false) in
-    let says : c.match-end.self ≡ ending_at ended (read_of r) h.line = elim c.match-end.branch [
+    let says : c.match-end.self ≡ ending_at stream_ends.Ended (read_of r) h.line = elim c.match-end.branch [
       | in-Clean w ↦ w.self-is ∙ sym (ended_clean r h.line (subst (λ (e : End). feeding.ReaderEnds r e c.end.new.self) w.in-Clean.is c.end.ensures).0)
       | in-Fault w ↦ w.self-is ∙ sym (ended_fault r c.end.new.self h.line w.in-Fault.fault (c.self.invariant.reads none) (subst (λ (e : End). feeding.ReaderEnds r e c.end.new.self) w.in-Fault.is c.end.ensures))
     ] in
     let old = value_of h (read_of r) c.self.inside.ending in
     let new = value_of h (read_of c.end.new.self) (Some c.match-end.self) in
-    subst (λ (v : CheckerValue). ReportsEnd ended v new) c.self.view_is (reports_now ended old new none refl (ap (λ (e : Ending). Some e) says))
+    subst (λ (v : CheckerValue). ReportsEnd stream_ends.Ended v new) c.self.view_is (reports_now stream_ends.Ended old new none refl (ap (λ (e : Ending). Some e) says))

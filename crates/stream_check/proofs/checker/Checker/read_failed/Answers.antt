@@ -1,6 +1,6 @@
 use Rattle.std.proofs.Common.{◌∙◌, Some, refl, sym, ap, subst}
 use Rattle.stream_check.specs.declared.report.Ending.TheVariants as endings
-use Rattle.stream_check.specs.Judging.{failed}
+use Rattle.lrup_text.specs.declared.device.StreamEnd.TheVariants as stream_ends
 use Rattle.stream_check.specs.CheckerValue.{CheckerValue}
 use Rattle.stream_check.specs.Checker.{read_of, value_of, Ends, ReportsEnd}
 use Rattle.stream_check.proofs.FeedLemmas.{some_of, none_of, ends_over, reports_over, ends_now, reports_now}
@@ -9,12 +9,12 @@ use Rattle.stream_check.proofs.checker.Checker.read_failed.Goals as goal
 pub returns-then-is_some-clause-ends : goal.returns-then-is_some-clause-ends
 returns-then-is_some-clause-ends c =
     let over = some_of c.self.inside.ending (sym c.is_some.ensures ∙ c.if-is_some.true) in
-    ends_over failed c.args.self.now over.0 (sym (ap (λ (v : CheckerValue). v.ending) c.self.view_is) ∙ over.1)
+    ends_over stream_ends.Failed c.args.self.now over.0 (sym (ap (λ (v : CheckerValue). v.ending) c.self.view_is) ∙ over.1)
 
 pub returns-then-is_some-clause-reports : goal.returns-then-is_some-clause-reports
 returns-then-is_some-clause-reports c =
     let over = some_of c.self.inside.ending (sym c.is_some.ensures ∙ c.if-is_some.true) in
-    reports_over failed c.args.self.now over.0 (sym (ap (λ (v : CheckerValue). v.ending) c.self.view_is) ∙ over.1)
+    reports_over stream_ends.Failed c.args.self.now over.0 (sym (ap (λ (v : CheckerValue). v.ending) c.self.view_is) ∙ over.1)
 
 pub returns-clause-ends : goal.returns-clause-ends
 returns-clause-ends c =
@@ -23,7 +23,7 @@ returns-clause-ends c =
     let none = none_of c.self.inside.ending (sym c.is_some.ensures ∙ c.if-is_some.false) in
     let old = value_of h (read_of r) c.self.inside.ending in
     let new = value_of h (read_of r) (Some (endings.ReadFailed h.line)) in
-    subst (λ (v : CheckerValue). Ends failed v new) c.self.view_is (ends_now failed old new none refl refl refl refl)
+    subst (λ (v : CheckerValue). Ends stream_ends.Failed v new) c.self.view_is (ends_now stream_ends.Failed old new none refl refl refl refl)
 
 pub returns-clause-reports : goal.returns-clause-reports
 returns-clause-reports c =
@@ -32,4 +32,4 @@ returns-clause-reports c =
     let none = none_of c.self.inside.ending (sym c.is_some.ensures ∙ c.if-is_some.false) in
     let old = value_of h (read_of r) c.self.inside.ending in
     let new = value_of h (read_of r) (Some (endings.ReadFailed h.line)) in
-    subst (λ (v : CheckerValue). ReportsEnd failed v new) c.self.view_is (reports_now failed old new none refl refl)
+    subst (λ (v : CheckerValue). ReportsEnd stream_ends.Failed v new) c.self.view_is (reports_now stream_ends.Failed old new none refl refl)

@@ -1,6 +1,0 @@
-mod Places
-mod GroupLemmas
-mod OrderLemmas
-mod AloneLemmas
-mod EmptiedLemmas
-mod RunLemmas

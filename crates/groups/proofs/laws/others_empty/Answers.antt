@@ -1,5 +1,0 @@
-use Rattle.groups.proofs.EmptiedLemmas.{others_empty as lemma}
-use Rattle.groups.proofs.laws.others_empty.Goals as goal
-
-pub returns : goal.returns
-returns c = lemma c.fresh_left.ensures c.end_judged.ensures

@@ -1,5 +1,0 @@
-use Rattle.groups.proofs.RunLemmas.{same_reading_agrees as lemma}
-use Rattle.groups.proofs.laws.same_reading_agrees.Goals as goal
-
-pub returns : goal.returns
-returns c = lemma c.beginnings_within.ensures c.closed_is_group.ensures c.alone_has_one_report.ensures

@@ -1,5 +1,0 @@
-use Rattle.orders.proofs.JudgedLemmas.{deleted_retired as lemma}
-use Rattle.orders.proofs.laws.deleted_retired.Goals as goal
-
-pub returns : goal.returns
-returns c = lemma c.bytes_begin_with_one_line.ensures

@@ -1,5 +1,0 @@
-use Rattle.orders.proofs.JudgedLemmas.{judged_blocks as lemma}
-use Rattle.orders.proofs.laws.judged_blocks.Goals as goal
-
-pub returns : goal.returns
-returns c = lemma c.early_events.ensures c.vacant_tries_again.ensures

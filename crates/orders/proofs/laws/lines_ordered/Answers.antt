@@ -1,5 +1,0 @@
-use Rattle.orders.proofs.OrderLemmas.{lines_ordered as lemma}
-use Rattle.orders.proofs.laws.lines_ordered.Goals as goal
-
-pub returns : goal.returns
-returns c = lemma c.restriction_legal.ensures c.among_members.ensures c.among_keeps_own.ensures

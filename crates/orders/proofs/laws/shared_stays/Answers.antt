@@ -1,5 +1,0 @@
-use Rattle.orders.proofs.PremiseLemmas.{shared_stays as lemma}
-use Rattle.orders.proofs.laws.shared_stays.Goals as goal
-
-pub returns : goal.returns
-returns c = lemma c.cited_fetched.ensures c.deleted_retired.ensures

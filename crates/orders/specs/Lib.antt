@@ -1,4 +1,0 @@
-pub mod Lines
-pub mod Premises
-pub mod Serializable
-pub mod Laws

@@ -1,0 +1,29 @@
+use Rattle.std.proofs.Common.{ℕ, [], Option, sym, subst}
+use Rattle.std.proofs.KnownBytes.{Consumes-nil}
+use Rattle.lrup_model.specs.Cube.{CubeValue}
+use Rattle.lrup_model.specs.Layout.{LayoutValue}
+use Rattle.lrup_text.specs.ReadLemmas.{gave_none}
+use Rattle.lrup_text.specs.ReadOut.{source_view}
+use Rattle.stream_check.specs.declared.report.Ending.{Ending}
+use Rattle.stream_check.specs.Checker.{IsNew}
+use Rattle.portfolio.specs.Working.{WorksBy}
+use Rattle.portfolio.proofs.worker.Worker.new.Goals as goal
+
+pub returns : goal.returns
+returns g c =
+    let terms = c.args.terms.now in
+    let s = c.args.stream in
+    let first = c.args.reader in
+    let v = c.in_ok-new.field-0 in
+    let view = source_view g.R.Source.left g.R.Source.has_failed g.R.Source.reads in
+    let made : IsNew terms.layout terms.cube s terms.tries v =
+    subst (λ (p : LayoutValue). IsNew p terms.cube s terms.tries v) c.layout.ensures
+    (subst (λ (cube : CubeValue). IsNew c.layout.result.now cube s terms.tries v) c.cube.ensures
+    (subst (λ (n : ℕ). IsNew c.layout.result.now c.cube.result.now s n v) c.tries.ensures.tries c.in_ok-new.ensures)) in
+    record {
+      setting = made.setting;
+      last = made.last;
+      ending = made.ending;
+      works = subst (λ (e : Option Ending). WorksBy view e first (record { reader = first; unread = []; checker = v }) terms.layout.room [])
+          (sym made.ending) ([], Consumes-nil (view.left first), gave_none _ view.reads first, made.left);
+    }

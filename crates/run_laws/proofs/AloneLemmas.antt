@@ -1,0 +1,72 @@
+-- One stream alone.
+use Rattle.std.proofs.Common.{◌≡◌, ℕ, true, false, eqb, List, [], ◌∷◌, refl, sym, ap, subst, ◌∙◌, eq-eqb, inl, inr}
+use Rattle.std.specs.Prelude.{IsTrue}
+use Rattle.std.specs.List.{AllByRecursion}
+use Rattle.std.proofs.lemmas.Bool.Decides.{eqb_tells}
+use Rattle.std.proofs.lemmas.Bool.{cond-true}
+use Rattle.lrup_model.specs.Formula.{Cnf}
+use Rattle.lrup_model.specs.Event.{History, stream_of, own}
+use Rattle.lrup_text.specs.Laws.{EveryCut, BeginningCut}
+use Rattle.lrup_model.specs.ListLemmas.{All-front}
+use Rattle.lrup_text.specs.declared.device.StreamEnd.{StreamEnd}
+use Rattle.lrup_text.specs.declared.device.StreamEnd.TheVariants as stream_ends
+use Rattle.stream_check.specs.declared.report.Report.{Report}
+use Rattle.stream_check.specs.Setting.{Setting}
+use Rattle.stream_check.specs.Judging.{JudgesBlocks, Judges}
+use Rattle.stream_check.specs.Laws.{cited_by, OverStays, AloneDecides}
+use Rattle.runs.specs.Streams.{Stop, read_out, early, Stream, JudgesTo, TermsValue, setting_of}
+use Rattle.runs.specs.Closed.{IsOfStream, IsOwnedWithin}
+use Rattle.run_laws.specs.Groups.{one, IsAlone, IsReadingTo, IsReadingOf}
+use Rattle.run_laws.specs.GroupLaws.{AloneHasOneReport, BeginningsWithin}
+use Rattle.run_laws.proofs.Places.{judged_at}
+
+-- however much of a stream was read, all of it is judged so
+judged_whole : OverStays → (c : Setting) (stop : Stop) (bytes whole : List ℕ) (end : StreamEnd) (blocks : List History) (report : Report)
+    → IsReadingTo stop bytes whole end → JudgesTo stop c bytes blocks report → JudgesBlocks c whole end blocks report
+judged_whole law c (read_out stop) bytes whole end blocks report is j =
+    subst (λ b. JudgesBlocks c b end blocks report) (sym is.0) (subst (λ e. JudgesBlocks c bytes e blocks report) (sym is.1) j)
+judged_whole law c (early unneeded) bytes whole stream_ends.Ended blocks report is j =
+    subst (λ b. JudgesBlocks c b stream_ends.Ended blocks report) (sym is.1) (law c bytes is.0 blocks report (j.1, j.2)).0
+judged_whole law c (early unneeded) bytes whole stream_ends.Failed blocks report is j =
+    subst (λ b. JudgesBlocks c b stream_ends.Failed blocks report) (sym is.1) (law c bytes is.0 blocks report (j.1, j.2)).1
+
+pub me : (s : ℕ) → IsTrue (one s s)
+me s = eq-eqb s s refl
+
+pub own-one : (s : ℕ) (h : History) → AllByRecursion (λ e. IsTrue (one s (stream_of e))) h → own h s ≡ h
+own-one s [] all = refl
+own-one s (e ∷ h) all = cond-true (eqb (stream_of e) s) (e ∷ own h s) (own h s) all.0 ∙ ap (λ (k : History). e ∷ k) (own-one s h all.1)
+
+-- the group of one stream is a judgement of all its bytes
+alone_judged : OverStays → (f : Cnf) (terms : TermsValue) (s : ℕ) (streams : List Stream) (reports : List Report)
+    (whole : List ℕ) (end : StreamEnd) (stream : Stream) (report : Report)
+    → (g : IsAlone f terms s streams reports) → IsOfStream streams s stream → IsReadingOf whole end stream → IsOfStream reports s report
+    → Judges (setting_of terms s) whole end g.history report
+alone_judged law f terms s streams reports whole end stream report g at reads says =
+    let j = judged_at terms (one s) g.history streams reports g.judged s stream report (me s) at says in
+    record {
+      blocks = j.0;
+      events = sym (own-one s g.history g.members) ∙ j.1;
+      judges = judged_whole law (setting_of terms s) stream.stop stream.bytes whole end j.0 report reads j.2;
+    }
+
+pub alone_has_one_report : OverStays → AloneDecides → AloneHasOneReport
+alone_has_one_report stays decides f terms s whole end streams others reports other_reports stream other report other_report g h at there reads also says too =
+    (decides f terms.layout (setting_of terms s) whole end g.history h.history report other_report g.legal h.legal
+    (alone_judged stays f terms s streams reports whole end stream report g at reads says)
+    (alone_judged stays f terms s others other_reports whole end other other_report h there also too)
+    (g.memory s report (me s) says) (h.memory s other_report (me s) too)).1
+
+-- Beginnings of bytes
+
+pub beginnings_within : EveryCut → BeginningCut → BeginningsWithin
+beginnings_within every alike p set bytes more cites =
+    let front = every bytes in
+    let others = alike bytes more front.0 cites.lines front.1 cites.rest front.2 cites.cut in
+    record {
+      lines = front.0;
+      rest = front.1;
+      cut = front.2;
+      within = All-front (λ line. AllByRecursion (IsOwnedWithin p set) (cited_by line)) front.0 others.0
+          (subst (AllByRecursion (λ line. AllByRecursion (IsOwnedWithin p set) (cited_by line))) others.1 cites.within);
+    }

@@ -1,0 +1,162 @@
+-- A closed set of streams is a group.
+use Rattle.std.proofs.Common.{◌≡◌, ℕ, ◌+◌, ◌<◌, ◌≤◌, Bool, true, false, ◌&&◌, nat_lt, nat_le, List, [], ◌∷◌, length, refl, sym, subst, ◌∙◌, inl, inr, arith, lt-ltb, le-leb, ltb-true, leb-true}
+use Rattle.std.specs.Prelude.{IsTrue}
+use Rattle.std.specs.List.{AllByRecursion}
+use Rattle.std.proofs.lemmas.Bool.{cases_Bool, cases_eq, and_from, true≢false, and_parts}
+use Rattle.lrup_model.specs.declared.layout.Owner.{Owner}
+use Rattle.lrup_model.specs.declared.layout.Owner.TheVariants as owners
+use Rattle.lrup_model.specs.Layout.{LayoutValue, IsStream, Owns, owner}
+use Rattle.lrup_model.specs.OwnerLemmas.{owned}
+use Rattle.lrup_model.specs.Event as events
+use Rattle.lrup_model.specs.Event.{Event, History, stream_of, own}
+use Rattle.lrup_model.specs.Laws.{among, FindsWithin}
+use Rattle.lrup_model.specs.HistoryLemmas.{own-mine, own-other}
+use Rattle.lrup_model.specs.RestrictionLemmas.{among-members, own-among, restriction_legal}
+use Rattle.lrup_model.specs.ListLemmas.{All-map}
+use Rattle.lrup_text.specs.Lines.{StreamLine}
+use Rattle.lrup_text.specs.declared.device.StreamEnd.TheVariants as stream_ends
+use Rattle.stream_check.specs.declared.report.Report.{Report}
+use Rattle.stream_check.specs.Setting.{Setting}
+use Rattle.stream_check.specs.Judging.{joined}
+use Rattle.stream_check.specs.Laws.{cited_by, FetchesOnly, CitedFetched}
+use Rattle.runs.specs.Streams.{Stop, read_out, early, Stream, JudgesTo, TermsValue, setting_of}
+use Rattle.runs.specs.Headline.{IsJudgedBy, AreJudgedIn}
+use Rattle.runs.specs.Closed.{IsOwnedWithin, CiteWithin, IsClosed}
+use Rattle.run_laws.specs.GroupLaws.{ClosedIsGroup}
+use Rattle.run_laws.proofs.Places.{has_place, judged_count, judged_at}
+
+-- The set's streams that are streams of the layout
+
+pub inside : LayoutValue → (ℕ → Bool) → ℕ → Bool
+inside p set s = set s && (nat_lt 0 s && nat_le s p.streams)
+
+pub is_inside : (p : LayoutValue) (set : ℕ → Bool) (s : ℕ) → IsTrue (set s) → IsStream p s → IsTrue (inside p set s)
+unfolding inside
+is_inside p set s member is =
+    and_from (set s) (nat_lt 0 s && nat_le s p.streams) member
+    (and_from (nat_lt 0 s) (nat_le s p.streams) (lt-ltb 0 s is.0) (le-leb s p.streams is.1))
+
+pub inside_is : (p : LayoutValue) (set : ℕ → Bool) (s : ℕ) → IsTrue (inside p set s) → IsTrue (set s) × IsStream p s
+unfolding inside
+inside_is p set s member =
+    let parts = and_parts (set s) (nat_lt 0 s && nat_le s p.streams) member in
+    let bounds = and_parts (nat_lt 0 s) (nat_le s p.streams) parts.1 in
+    (parts.0, (ltb-true 0 s bounds.0, leb-true s p.streams bounds.1))
+
+-- What is fetched
+
+-- no stream outside the set owns what has this owner
+owned_by : (ℕ → Bool) → Owner → Bool
+owned_by set owners.Formula = true
+owned_by set (owners.Stream t) = set t
+owned_by set owners.Outside = true
+
+is_within : LayoutValue → (ℕ → Bool) → ℕ → Bool
+is_within p set id = owned_by set (owner p id)
+
+within_owner : (p : LayoutValue) (set : ℕ → Bool) (id : ℕ) (o : Owner) → 0 < p.streams → owner p id ≡ o → IsOwnedWithin p set id → IsTrue (owned_by (inside p set) o)
+unfolding owned_by
+within_owner p set id owners.Formula some is within = refl
+within_owner p set id (owners.Stream t) some is within =
+    let o = owned p t id some is in
+    is_inside p set t (within t is) (o.first, o.last)
+within_owner p set id owners.Outside some is within = refl
+
+passes : (p : LayoutValue) (set : ℕ → Bool) (id : ℕ) → 0 < p.streams → IsOwnedWithin p set id → IsTrue (is_within p (inside p set) id)
+unfolding is_within
+passes p set id some within = within_owner p set id (owner p id) some refl within
+
+owners_within : (p : LayoutValue) (set : ℕ → Bool) (id t : ℕ) → IsTrue (is_within p set id) → Owns p t id → IsTrue (set t)
+unfolding is_within owned_by
+owners_within p set id t within owns = subst (λ (o : Owner). IsTrue (owned_by set o)) owns within
+
+finds_within : (p : LayoutValue) (set : ℕ → Bool) (es : History) → AllByRecursion (FetchesOnly (is_within p set)) es → AllByRecursion (FindsWithin p set) es
+finds_within p set [] only = tt
+finds_within p set (events.fetch s id r ∷ es) only = (λ member found t owns. owners_within p set id t only.0 owns, finds_within p set es only.1)
+finds_within p set (events.publish s id c r ∷ es) only = (tt, finds_within p set es only.1)
+finds_within p set (events.retire s id r ∷ es) only = (tt, finds_within p set es only.1)
+
+CitePass : (ℕ → Bool) → List StreamLine → Type 0
+CitePass test lines = AllByRecursion (λ line. AllByRecursion (λ id. IsTrue (test id)) (cited_by line)) lines
+
+cites_pass : (p : LayoutValue) (set : ℕ → Bool) (lines : List StreamLine) → 0 < p.streams
+    → AllByRecursion (λ line. AllByRecursion (IsOwnedWithin p set) (cited_by line)) lines → CitePass (is_within p (inside p set)) lines
+unfolding CitePass
+cites_pass p set lines some within =
+    All-map (λ line. AllByRecursion (IsOwnedWithin p set) (cited_by line)) (λ line. AllByRecursion (λ id. IsTrue (is_within p (inside p set) id)) (cited_by line))
+    (λ line all. All-map (IsOwnedWithin p set) (λ id. IsTrue (is_within p (inside p set) id)) (λ id w. passes p set id some w) (cited_by line) all)
+    lines within
+
+-- what a stream that cites within the set fetches is within it
+fetches_within : CitedFetched → (p : LayoutValue) (set : ℕ → Bool) (c : Setting) (stop : Stop) (bytes : List ℕ) (blocks : List History) (report : Report)
+    → 0 < p.streams → CiteWithin p set bytes → JudgesTo stop c bytes blocks report → AllByRecursion (FetchesOnly (is_within p (inside p set))) (joined blocks)
+unfolding CitePass
+fetches_within law p set c (read_out end) bytes blocks report some cites j =
+    law c bytes end blocks report cites.lines cites.rest (is_within p (inside p set)) j cites.cut (cites_pass p set cites.lines some cites.within)
+fetches_within law p set c (early unneeded) bytes blocks report some cites j =
+    law c bytes stream_ends.Ended blocks report cites.lines cites.rest (is_within p (inside p set)) j.1 cites.cut (cites_pass p set cites.lines some cites.within)
+
+-- The history
+
+-- what holds of each event of the set's streams, and of every event of others, holds of all
+each_stream : (P : Event → Type 0) (set : ℕ → Bool) (h : History)
+    → ((s : ℕ) → IsTrue (set s) → AllByRecursion P (own h s)) → ((e : Event) → set (stream_of e) ≡ false → P e) → AllByRecursion P h
+each_stream P set [] mine theirs = tt
+each_stream P set (e ∷ h) mine theirs = (
+  elim (cases_Bool (set (stream_of e))) [
+    | inl member ↦ (subst (λ (k : History). AllByRecursion P k) (own-mine e h (stream_of e) refl) (mine (stream_of e) member)).0
+    | inr other ↦ theirs e other
+  ],
+  each_stream P set h (λ s member. elim (cases_eq (stream_of e) s) [
+    | inl same ↦ (subst (λ (k : History). AllByRecursion P k) (own-mine e h s same) (mine s member)).1
+    | inr other ↦ subst (λ (k : History). AllByRecursion P k) (own-other e h s other) (mine s member)
+  ]) theirs,
+)
+
+finds_outside : (p : LayoutValue) (set : ℕ → Bool) (e : Event) → set (stream_of e) ≡ false → FindsWithin p set e
+finds_outside p set (events.fetch s id r) out = λ member. absurd (true≢false (sym member ∙ out))
+finds_outside p set (events.publish s id c r) out = tt
+finds_outside p set (events.retire s id r) out = tt
+
+-- a history by which the streams of a closed set are judged finds within the set
+pub closed_finds : CitedFetched → (terms : TermsValue) (set : ℕ → Bool) (h : History) (streams : List Stream) (reports : List Report)
+    → length streams ≡ terms.layout.streams → AreJudgedIn terms set h 1 streams reports → IsClosed terms.layout set streams
+    → AllByRecursion (FindsWithin terms.layout (inside terms.layout set)) h
+closed_finds law terms set h streams reports count judged closed =
+    let p = terms.layout in
+    let many = judged_count terms set h 1 streams reports judged in
+    each_stream (FindsWithin p (inside p set)) (inside p set) h
+    (λ s member.
+    let is = inside_is p set s member in
+    let some : 0 < p.streams = omega (arith, is.1.0, is.1.1) in
+    let stream = has_place streams s is.1.0 (omega (arith, is.1.1, count)) in
+    let report = has_place reports s is.1.0 (omega (arith, is.1.1, count, many)) in
+    let j = judged_at terms set h streams reports judged s stream.0 report.0 is.0 stream.1 report.1 in
+    subst (λ (es : History). AllByRecursion (FindsWithin p (inside p set)) es) (sym j.1) (finds_within p (inside p set) (joined j.0)
+    (fetches_within law p set (setting_of terms s) stream.0.stop stream.0.bytes j.0 report.0 some (closed s stream.0 is.0 stream.1) j.2)))
+    (finds_outside p (inside p set))
+
+judged_among : (terms : TermsValue) (set : ℕ → Bool) (h : History) (s : ℕ) (streams : List Stream) (reports : List Report)
+    → 0 < s → s + length streams ≤ terms.layout.streams + 1
+    → AreJudgedIn terms set h s streams reports → AreJudgedIn terms set (among (inside terms.layout set) h) s streams reports
+judged_among terms set h s [] [] first last judged = tt
+judged_among terms set h s [] (r ∷ rs) first last judged = absurd judged
+judged_among terms set h s (t ∷ ts) [] first last judged = absurd judged
+judged_among terms set h s (t ∷ ts) (r ∷ rs) first last judged = (
+  λ member.
+      let is = is_inside terms.layout set s member (first, omega (arith, last)) in
+      subst (λ (es : History). IsJudgedBy (setting_of terms s) t es r) (sym (own-among (inside terms.layout set) h s is)) (judged.0 member),
+  judged_among terms set h (s + 1) ts rs (omega arith) (omega (arith, last)) judged.1,
+)
+
+pub closed_is_group : CitedFetched → ClosedIsGroup
+closed_is_group law f terms set h streams reports fits count legal judged closed memory =
+    let p = terms.layout in
+    record {
+      history = among (inside p set) h;
+      members = All-map (λ e. IsTrue (inside p set (stream_of e))) (λ e. IsTrue (set (stream_of e))) (λ e member. (inside_is p set (stream_of e) member).0)
+          (among (inside p set) h) (among-members (inside p set) h);
+      legal = restriction_legal f p (inside p set) h fits legal (closed_finds law terms set h streams reports count judged closed);
+      judged = judged_among terms set h 1 streams reports (omega arith) (omega (arith, count)) judged;
+      memory = memory;
+    }

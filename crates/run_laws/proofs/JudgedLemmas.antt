@@ -1,0 +1,176 @@
+-- The blocks by which a stream is judged, and what it retires.
+use Rattle.std.proofs.Common.{◌≡◌, ℕ, Bool, List, [], ◌∷◌, ◌++◌, refl, sym, ap, subst, ◌∙◌, inl, inr, append-nil}
+use Rattle.std.specs.Prelude.{IsTrue}
+use Rattle.std.specs.List.{AllByRecursion, flat_map}
+use Rattle.lrup_model.specs.Event.{Event, History}
+use Rattle.lrup_model.specs.ListLemmas.{All-append}
+use Rattle.lrup_text.specs.Lines.{StreamLine, Deletion, IsWithinLimits, line_text, HasNoLine}
+use Rattle.lrup_text.specs.Laws.{OneFirstLine}
+use Rattle.lrup_text.specs.declared.device.StreamEnd.{StreamEnd}
+use Rattle.stream_check.specs.declared.report.Report.{Report}
+use Rattle.stream_check.specs.Setting.{Setting}
+use Rattle.stream_check.specs.Standing.{Standing, standing_of, deleted_by}
+use Rattle.stream_check.specs.Verdicts.{LineVerdict, Good, Bad}
+use Rattle.stream_check.specs.Judging.{JudgesLine, AreGood, EndsAfter, joined}
+use Rattle.stream_check.specs.Reducing.{IsEarly}
+use Rattle.stream_check.specs.Laws.{EarlyEvents, VacantTriesAgain}
+use Rattle.stream_check.specs.ReportLemmas.{split_first, joined-append}
+use Rattle.run_laws.specs.Lines.{IsEarlyBefore, AreEarly, IsLineBlock}
+use Rattle.run_laws.specs.OrderLaws.{JudgedBlocks, RetiresOnly, DeletedRetired}
+use Rattle.run_laws.proofs.KindLemmas.{line_last, line_retires}
+
+-- Early events
+
+last_of : (e : Event) (es : History) → (front : History) × (last : Event) × (e ∷ es ≡ front ++ last ∷ [])
+last_of e [] = ([], e, refl)
+last_of e (d ∷ es) =
+    let rest : (front : History) × (last : Event) × (d ∷ es ≡ front ++ last ∷ []) = last_of d es in
+    (e ∷ rest.0, rest.1, ap (λ (g : History). e ∷ g) rest.2)
+
+abbrev EarlyFront : History → Type 0
+EarlyFront es = (front : History) (last : Event) → es ≡ front ++ last ∷ [] → AllByRecursion IsEarly front
+
+early_before : (e : Event) (es : History) → EarlyFront (e ∷ es) → IsEarlyBefore es e
+early_before e [] early = tt
+early_before e (d ∷ es) early =
+    let rest : (front : History) × (last : Event) × (d ∷ es ≡ front ++ last ∷ []) = last_of d es in
+    (early (e ∷ rest.0) rest.1 (ap (λ (g : History). e ∷ g) rest.2)).0
+
+are_early : (es : History) → EarlyFront es → AreEarly es
+are_early [] early = tt
+are_early (e ∷ es) early = (
+  early_before e es early,
+  are_early es (λ front last is. (early (e ∷ front) last (ap (λ (g : History). e ∷ g) is)).1),
+)
+
+-- The blocks of a stream
+
+module _ (early_events : EarlyEvents) (vacant_tries_again : VacantTriesAgain) (c : Setting) where
+  line_block : (st : Standing) (line : StreamLine) (es : History) (v : LineVerdict) → JudgesLine c st line es v → IsLineBlock es
+  line_block st line es v judged = record {
+    early = are_early es (λ front last is. early_events c st line es front last v judged is);
+    again = vacant_tries_again c st line es v judged;
+    apart = line_last c st line es v judged;
+  }
+
+  good_blocks : (before lines : List StreamLine) (blocks : List History)
+      → AreGood c before lines blocks → AllByRecursion IsLineBlock blocks
+  good_blocks before [] [] good = tt
+  good_blocks before [] (block ∷ blocks) good = absurd good
+  good_blocks before (line ∷ lines) [] good = absurd good
+  good_blocks before (line ∷ lines) (block ∷ blocks) good =
+      (line_block (standing_of c before) line block Good good.0, good_blocks (before ++ line ∷ []) lines blocks good.1)
+
+  one_block : (block : History) (blocks : List History) → blocks ≡ block ∷ [] → IsLineBlock block → AllByRecursion IsLineBlock blocks
+  one_block block blocks is line = subst (AllByRecursion IsLineBlock) (sym is) (line, tt)
+
+  end_blocks : (lines : List StreamLine) (rest : List ℕ) (end : StreamEnd) (back : List History) (report : Report)
+      → EndsAfter c lines rest end back report → AllByRecursion IsLineBlock back
+  end_blocks lines rest end back report (inl e) =
+      one_block e.block back e.one_block (line_block (standing_of c lines) e.line e.block (Bad e.deleted e.fault) e.bad)
+  end_blocks lines rest end back report (inr (inl e)) = subst (AllByRecursion IsLineBlock) (sym e.no_block) tt
+  end_blocks lines rest end back report (inr (inr (inl e))) =
+      one_block e.block back e.one_block (line_block (standing_of c lines) (Deletion e.lead e.earlier) e.block Good e.stops.before)
+  end_blocks lines rest end back report (inr (inr (inr e))) = subst (AllByRecursion IsLineBlock) (sym e.no_block) tt
+
+pub judged_blocks : EarlyEvents → VacantTriesAgain → JudgedBlocks
+judged_blocks early_events vacant_tries_again c bytes end blocks report j =
+    subst (AllByRecursion IsLineBlock) (sym j.split)
+    (All-append IsLineBlock j.front j.back
+    (good_blocks early_events vacant_tries_again c [] j.lines j.front j.begins.good)
+    (end_blocks early_events vacant_tries_again c j.lines j.rest end j.back report j.ends))
+
+-- Which of the lines that the bytes are cut into are judged
+
+-- the lines that were found whole at the front of a cut's bytes are its first
+record AreFirst (lines all : List StreamLine) (left rest : List ℕ) : Type 0 where
+  more : List StreamLine
+  is : all ≡ lines ++ more
+  bytes : left ≡ flat_map line_text more ++ rest
+
+lines_first : OneFirstLine → (lines all : List StreamLine) (left rest : List ℕ)
+    → AllByRecursion IsWithinLimits lines → AllByRecursion IsWithinLimits all → HasNoLine rest
+    → flat_map line_text lines ++ left ≡ flat_map line_text all ++ rest → AreFirst lines all left rest
+lines_first first [] all left rest fit fits none is = record { more = all; is = refl; bytes = is }
+lines_first first (line ∷ lines) [] left rest fit fits none is =
+    absurd (none line (flat_map line_text lines ++ left) fit.0 (sym is ∙ split_first line lines left))
+lines_first first (line ∷ lines) (other ∷ all) left rest fit fits none is =
+    let same : (line ≡ other) × (flat_map line_text lines ++ left ≡ flat_map line_text all ++ rest)
+    = first line other (flat_map line_text lines ++ left) (flat_map line_text all ++ rest) fit.0 fits.0
+    (sym (split_first line lines left) ∙ is ∙ split_first other all rest) in
+    let later : AreFirst lines all left rest = lines_first first lines all left rest fit.1 fits.1 none same.1 in
+    record {
+      more = later.more;
+      is = ap (λ (x : StreamLine). x ∷ all) (sym same.0) ∙ ap (λ (xs : List StreamLine). line ∷ xs) later.is;
+      bytes = later.bytes;
+    }
+
+line_first : OneFirstLine → (line : StreamLine) (all : List StreamLine) (after left rest : List ℕ)
+    → IsWithinLimits line → AllByRecursion IsWithinLimits all → HasNoLine rest
+    → left ≡ line_text line ++ after → left ≡ flat_map line_text all ++ rest
+    → (others : List StreamLine) × (all ≡ line ∷ others)
+line_first first line [] after left rest fit fits none begins is = absurd (none line after fit (sym is ∙ begins))
+line_first first line (other ∷ all) after left rest fit fits none begins is =
+    let same : (line ≡ other) × (after ≡ flat_map line_text all ++ rest)
+    = first line other after (flat_map line_text all ++ rest) fit fits.0 (sym begins ∙ is ∙ split_first other all rest) in
+    (all, ap (λ (x : StreamLine). x ∷ all) (sym same.0))
+
+-- What a stream retires
+
+parts : {X : Type 0} (P : X → Type 0) (a b : List X) → AllByRecursion P (a ++ b) → AllByRecursion P a × AllByRecursion P b
+parts P [] b all = (tt, all)
+parts P (x ∷ a) b all = let rest : AllByRecursion P a × AllByRecursion P b = parts P a b all.1 in ((all.0, rest.0), rest.1)
+
+module _ (c : Setting) (p : ℕ → Bool) where
+  abbrev Passes : StreamLine → Type 0
+  Passes line = AllByRecursion (λ id. IsTrue (p id)) (deleted_by line)
+
+  abbrev Retires : History → Type 0
+  Retires es = AllByRecursion (RetiresOnly p) es
+
+  good_retire : (before lines : List StreamLine) (blocks : List History)
+      → AllByRecursion Passes lines → AreGood c before lines blocks → Retires (joined blocks)
+  good_retire before [] [] all good = tt
+  good_retire before [] (block ∷ blocks) all good = absurd good
+  good_retire before (line ∷ lines) [] all good = absurd good
+  good_retire before (line ∷ lines) (block ∷ blocks) all good =
+      All-append (RetiresOnly p) block (joined blocks) (line_retires c p (standing_of c before) line block Good all.0 good.0)
+      (good_retire (before ++ line ∷ []) lines blocks all.1 good.1)
+
+  one_retires : (block : History) (back : List History) → back ≡ block ∷ [] → Retires block → Retires (joined back)
+  one_retires block back is all = subst (λ (bs : List History). Retires (joined bs)) (sym is) (subst Retires (sym (append-nil block)) all)
+
+  none_retires : (back : List History) → back ≡ [] → Retires (joined back)
+  none_retires back is = subst (λ (bs : List History). Retires (joined bs)) (sym is) tt
+
+  ends_retire : OneFirstLine → (lines more : List StreamLine) (left rest : List ℕ) (end : StreamEnd) (back : List History) (report : Report)
+      → left ≡ flat_map line_text more ++ rest → AllByRecursion IsWithinLimits more → HasNoLine rest
+      → AllByRecursion Passes more → EndsAfter c lines left end back report → Retires (joined back)
+  ends_retire first lines more left rest end back report is fits none all (inl e) =
+      let found : (others : List StreamLine) × (more ≡ e.line ∷ others)
+      = line_first first e.line more e.more left rest e.fits fits none e.text is in
+      one_retires e.block back e.one_block
+      (line_retires c p (standing_of c lines) e.line e.block (Bad e.deleted e.fault) (subst (AllByRecursion Passes) found.1 all).0 e.bad)
+  ends_retire first lines more left rest end back report is fits none all (inr (inl e)) = none_retires back e.no_block
+  ends_retire first lines more left rest end back report is fits none all (inr (inr (inl e))) =
+      let found : (others : List StreamLine) × (more ≡ Deletion e.lead e.ids ∷ others)
+      = line_first first (Deletion e.lead e.ids) more e.more left rest e.fits fits none e.text is in
+      let ids : AllByRecursion (λ id. IsTrue (p id)) (e.earlier ++ e.stops.id ∷ e.stops.later)
+      = subst (AllByRecursion (λ id. IsTrue (p id))) e.stops.identities (subst (AllByRecursion Passes) found.1 all).0 in
+      one_retires e.block back e.one_block
+      (line_retires c p (standing_of c lines) (Deletion e.lead e.earlier) e.block Good
+      (parts (λ id. IsTrue (p id)) e.earlier (e.stops.id ∷ e.stops.later) ids).0 e.stops.before)
+  ends_retire first lines more left rest end back report is fits none all (inr (inr (inr e))) = none_retires back e.no_block
+
+pub deleted_retired : OneFirstLine → DeletedRetired
+deleted_retired first c bytes end blocks report all rest p j cut passes =
+    let begins : AreFirst j.lines all j.rest rest
+    = lines_first first j.lines all j.rest rest j.begins.fits cut.each cut.last (sym j.begins.text ∙ cut.bytes) in
+    let pass : AllByRecursion (Passes c p) j.lines × AllByRecursion (Passes c p) begins.more
+    = parts (Passes c p) j.lines begins.more (subst (AllByRecursion (Passes c p)) begins.is passes) in
+    let fit : AllByRecursion IsWithinLimits j.lines × AllByRecursion IsWithinLimits begins.more
+    = parts IsWithinLimits j.lines begins.more (subst (AllByRecursion IsWithinLimits) begins.is cut.each) in
+    subst (AllByRecursion (RetiresOnly p)) (sym (ap joined j.split ∙ joined-append j.front j.back))
+    (All-append (RetiresOnly p) (joined j.front) (joined j.back)
+    (good_retire c p [] j.lines j.front pass.0 j.begins.good)
+    (ends_retire c p first j.lines begins.more j.rest rest end j.back report begins.bytes fit.1 cut.last pass.1 j.ends))

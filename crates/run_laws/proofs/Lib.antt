@@ -1,0 +1,16 @@
+mod Places
+mod GroupLemmas
+mod RestrictingLemmas
+mod AloneLemmas
+mod EmptiedLemmas
+mod RunLemmas
+pub mod SwapLemmas
+pub mod BlockLemmas
+pub mod AheadLemmas
+pub mod WalkLemmas
+pub mod OrderLemmas
+pub mod KindLemmas
+pub mod JudgedLemmas
+pub mod StreamLemmas
+pub mod PremiseLemmas
+pub mod VerdictLemmas

@@ -1,0 +1,190 @@
+-- What readers told, and two runs of one stream.
+use Rattle.std.proofs.Common.{◌≡◌, ℕ, ◌-◌, Bool, true, false, Option, List, ◌++◌, Some, None, refl, sym, ap, subst, ◌∙◌, append_assoc, append-nil, arith}
+use Rattle.std.specs.Io.KnownBytes.{Consumes}
+use Rattle.std.proofs.lemmas.List.{append_cancel_right}
+use Rattle.std.proofs.lemmas.Option.{slice_get_within}
+use Rattle.lrup_model.specs.Formula.{Cnf}
+use Rattle.lrup_model.specs.Layout.{LayoutValue, Fits}
+use Rattle.lrup_model.specs.Event.{History}
+use Rattle.lrup_model.specs.History.{IsLegal}
+use Rattle.lrup_text.specs.declared.device.StreamEnd.{StreamEnd}
+use Rattle.lrup_text.specs.declared.device.StreamEnd.TheVariants as stream_ends
+use Rattle.stream_check.specs.declared.report.Report.{Report}
+use Rattle.stream_check.specs.Setting.{Setting}
+use Rattle.stream_check.specs.Judging.{JudgesBlocks, Judges}
+use Rattle.stream_check.specs.Laws.{AloneDecides, DecidedBeforeFailure, IsOfMemory, IsOfFailure}
+use Rattle.runs.specs.Streams.{Stop, read_out, early, Stream, Telling, read_to, StopsSo, IsTold, AreTold, JudgesTo, TermsValue, setting_of}
+use Rattle.runs.specs.Closed.{IsOfStream, CiteWithin}
+use Rattle.runs.specs.StreamLemmas.{told_count, told_from, told_begins, same_at}
+use Rattle.run_laws.specs.Groups.{one, IsAlone, IsRun, IsReadingTo}
+use Rattle.run_laws.specs.GroupLaws.{BeginningsWithin, ReadersClosed, ClosedIsGroup, OrderedIsGroup, AloneHasOneReport, RunIsolated, SerialIsolated, ThreadsRun, SerialRun, ToldIsReading, FailedIsReading, SameReadingAgrees, SameBytesAgree}
+use Rattle.run_laws.proofs.Places.{has_place, judged_count, judged_at, judged_fewer}
+use Rattle.run_laws.proofs.RestrictingLemmas.{ordered_judged}
+use Rattle.run_laws.specs.ReportLemmas.{only}
+use Rattle.run_laws.proofs.AloneLemmas.{me, own-one}
+
+-- What a reader told
+
+-- what a reader of known place told
+told_at : (told : List Telling) (streams : List Stream) (s : ℕ) (telling : Telling) (stream : Stream)
+    → AreTold told streams → IsOfStream told s telling → IsOfStream streams s stream → IsTold telling stream
+told_at told streams s telling stream are_told here at =
+    let was = told_from told streams (s - 1) stream are_told at.1 in
+    subst (λ (t : Telling). IsTold t stream) (same_at told s was.telling telling (here.0, was.at) here) was.is_told
+
+told_within : BeginningsWithin → (p : LayoutValue) (set : ℕ → Bool) (telling : Telling) (whole : List ℕ) (stream : Stream)
+    → IsTold telling stream → telling.entry ≡ Some whole → CiteWithin p set whole → CiteWithin p set stream.bytes
+told_within law p set telling whole stream told entry cites =
+    let front = told_begins telling whole stream told entry in
+    law p set stream.bytes front.0 (subst (CiteWithin p set) front.1 cites)
+
+pub readers_closed : BeginningsWithin → ReadersClosed
+readers_closed law p set told streams are_told closed s stream member at =
+    let was = told_from told streams (s - 1) stream are_told at.1 in
+    let known = closed s was.telling member (at.0, was.at) in
+    told_within law p set was.telling known.0 stream was.is_told known.1 known.2
+
+told_reads : (left : Option (List ℕ)) (stop : Stop) (whole bytes : List ℕ)
+    → Consumes (Some whole) left (read_to stop bytes) → StopsSo stop left false → IsReadingTo stop bytes whole stream_ends.Ended
+told_reads None stop whole bytes took stops = absurd took
+told_reads (Some left) (read_out stream_ends.Ended) whole bytes took stops = (took ∙ ap (λ l. bytes ++ l) stops.0 ∙ append-nil bytes, refl)
+told_reads (Some left) (read_out stream_ends.Failed) whole bytes took stops = absurd (let no : false ≡ true = stops in cc)
+told_reads (Some left) (early unneeded) whole bytes took stops = (unneeded ++ left, took ∙ append_assoc bytes unneeded left)
+
+pub told_is_reading : ToldIsReading
+told_is_reading told streams s telling stream whole are_told here at entry fine =
+    let is = told_at told streams s telling stream are_told here at in
+    told_reads telling.left stream.stop whole stream.bytes
+    (subst (λ (e : Option (List ℕ)). Consumes e telling.left (read_to stream.stop stream.bytes)) entry is.consumes)
+    (subst (StopsSo stream.stop telling.left) fine is.stops)
+
+failure_reads : (left : List ℕ) (stop : Stop) (whole bytes : List ℕ)
+    → whole ++ left ≡ read_to stop bytes ++ left → StopsSo stop (Some left) true → IsReadingTo stop bytes whole stream_ends.Failed
+failure_reads left (read_out stream_ends.Ended) whole bytes took stops = absurd (let no : true ≡ false = stops.1 in cc)
+failure_reads left (read_out stream_ends.Failed) whole bytes took stops = (append_cancel_right whole bytes left took, refl)
+failure_reads left (early unneeded) whole bytes took stops = absurd (let no : true ≡ false = stops in cc)
+
+pub failed_is_reading : FailedIsReading
+failed_is_reading told streams s telling stream whole left are_told here at entry has fails =
+    let is = told_at told streams s telling stream are_told here at in
+    let read = read_to stream.stop stream.bytes in
+    failure_reads left stream.stop whole stream.bytes
+    (subst (λ (l : Option (List ℕ)). Consumes (Some (whole ++ left)) l read) has
+    (subst (λ (e : Option (List ℕ)). Consumes e telling.left read) entry is.consumes))
+    (subst (λ (l : Option (List ℕ)). StopsSo stream.stop l true) has
+    (subst (StopsSo stream.stop telling.left) fails is.stops))
+
+-- Both kinds of run
+
+pub run_isolated : ClosedIsGroup → RunIsolated
+run_isolated law f terms h passes told reports fits count one streams are_told judged set closed memory =
+    law f terms set h streams reports fits (told_count told streams are_told ∙ count) one.legal
+    (judged_fewer terms (λ s. true) set h (λ s member. refl) 1 streams reports judged) closed memory
+
+pub serial_isolated : OrderedIsGroup → SerialIsolated
+serial_isolated law f terms told reports fits count streams are_told ordered set closed memory =
+    law f terms (λ s. true) set streams reports fits (told_count told streams are_told ∙ count) (λ s member. refl) ordered closed memory
+
+pub threads_run : ThreadsRun
+threads_run f terms h passes told reports count one stands = record {
+  streams = stands.streams;
+  are_told = stands.are_told;
+  count = told_count told stands.streams stands.are_told ∙ count;
+  history = h;
+  legal = one.legal;
+  judged = stands.judged;
+}
+
+pub serial_run : SerialRun
+serial_run f terms told reports count stands =
+    let o = stands.judged in
+    record {
+      streams = stands.streams;
+      are_told = stands.are_told;
+      count = told_count told stands.streams stands.are_told ∙ count;
+      history = _;
+      legal = o.legal;
+      judged = ordered_judged terms (λ s. true) (λ s. true) o.blocks 1 stands.streams reports o.within o.judged;
+    }
+
+-- Two runs
+
+-- a stream that cites within itself is alone
+run_alone : ClosedIsGroup → (f : Cnf) (terms : TermsValue) (s : ℕ) (told : List Telling) (reports : List Report)
+    (stream : Stream) (report : Report) → Fits terms.layout f → (a : IsRun f terms told reports)
+    → IsOfStream a.streams s stream → IsOfStream reports s report → CiteWithin terms.layout (one s) stream.bytes → ¬ IsOfMemory report
+    → IsAlone f terms s a.streams reports
+run_alone law f terms s told reports stream report fits a at says cites memory =
+    law f terms (one s) a.history a.streams reports fits a.count a.legal
+    (judged_fewer terms (λ t. true) (one s) a.history (λ t member. refl) 1 a.streams reports a.judged)
+    (λ t other member there.
+    let here = subst (λ n. IsOfStream a.streams n other) (only s t member) there in
+    subst (λ (x : Stream). CiteWithin terms.layout (one s) x.bytes) (same_at a.streams s stream other at here) cites)
+    (λ t other member there.
+    let here = subst (λ n. IsOfStream reports n other) (only s t member) there in
+    subst (λ (r : Report). ¬ IsOfMemory r) (same_at reports s report other says here) memory)
+
+reading_within : BeginningsWithin → (p : LayoutValue) (set : ℕ → Bool) (stop : Stop) (bytes whole : List ℕ) (end : StreamEnd)
+    → IsReadingTo stop bytes whole end → CiteWithin p set whole → CiteWithin p set bytes
+reading_within law p set (read_out stop) bytes whole end is cites = subst (CiteWithin p set) is.0 cites
+reading_within law p set (early unneeded) bytes whole end is cites = law p set bytes is.0 (subst (CiteWithin p set) is.1 cites)
+
+pub same_reading_agrees : BeginningsWithin → ClosedIsGroup → AloneHasOneReport → SameReadingAgrees
+same_reading_agrees within group alone f terms s whole end told other_told reports other_reports stream other report other_report
+    fits cites a b at there reads also says too memory none =
+    let p = terms.layout in
+    alone f terms s whole end a.streams b.streams reports other_reports stream other report other_report
+    (run_alone group f terms s told reports stream report fits a at says
+    (reading_within within p (one s) stream.stop stream.bytes whole end reads cites) memory)
+    (run_alone group f terms s other_told other_reports other other_report fits b there too
+    (reading_within within p (one s) other.stop other.bytes whole end also cites) none)
+    at there reads also says too
+
+judged_to : DecidedBeforeFailure → (c : Setting) (stop : Stop) (bytes whole : List ℕ) (left : Option (List ℕ)) (has_failed : Bool) (blocks : List History) (report : Report)
+    → Consumes (Some whole) left (read_to stop bytes) → StopsSo stop left has_failed → ¬ IsOfFailure report → JudgesTo stop c bytes blocks report → JudgesBlocks c whole stream_ends.Ended blocks report
+judged_to law c stop bytes whole None has_failed blocks report took stops machine j = absurd took
+judged_to law c (read_out stream_ends.Ended) bytes whole (Some left) has_failed blocks report took stops machine j =
+    subst (λ b. JudgesBlocks c b stream_ends.Ended blocks report) (sym (took ∙ ap (λ l. bytes ++ l) stops.0 ∙ append-nil bytes)) j
+judged_to law c (read_out stream_ends.Failed) bytes whole (Some left) has_failed blocks report took stops machine j =
+    subst (λ b. JudgesBlocks c b stream_ends.Ended blocks report) (sym took) (law c bytes left stream_ends.Ended blocks report machine j)
+judged_to law c (early unneeded) bytes whole (Some left) has_failed blocks report took stops machine j =
+    subst (λ b. JudgesBlocks c b stream_ends.Ended blocks report) (sym (took ∙ append_assoc bytes unneeded left)) (law c bytes (unneeded ++ left) stream_ends.Ended blocks report machine j.2)
+
+-- a legal history judges all these bytes so
+record IsJudgedWhole (f : Cnf) (terms : TermsValue) (s : ℕ) (whole : List ℕ) (report : Report) : Type 0 where
+  history : History
+  legal : IsLegal f terms.layout history
+  judges : Judges (setting_of terms s) whole stream_ends.Ended history report
+
+whole_judged : BeginningsWithin → ClosedIsGroup → DecidedBeforeFailure
+    → (f : Cnf) (terms : TermsValue) (s : ℕ) (whole : List ℕ) (told : List Telling) (telling : Telling) (reports : List Report) (report : Report)
+    → Fits terms.layout f → CiteWithin terms.layout (one s) whole → IsRun f terms told reports
+    → IsOfStream told s telling → telling.entry ≡ Some whole → IsOfStream reports s report → ¬ IsOfMemory report → ¬ IsOfFailure report
+    → IsJudgedWhole f terms s whole report
+whole_judged within group decided f terms s whole told telling reports report fits cites a here entry says memory machine =
+    let many = judged_count terms (λ t. true) a.history 1 a.streams reports a.judged in
+    let last = slice_get_within reports (s - 1) report says.1 in
+    let first = says.0 in
+    let place = has_place a.streams s first (omega (arith, last, many, first)) in
+    let stream = place.0 in
+    let is = told_at told a.streams s telling stream a.are_told here place.1 in
+    let g = run_alone group f terms s told reports stream report fits a place.1 says
+    (told_within within terms.layout (one s) telling whole stream is entry cites) memory in
+    let j = judged_at terms (one s) g.history a.streams reports g.judged s stream report (me s) place.1 says in
+    record {
+      history = g.history;
+      legal = g.legal;
+      judges = record {
+        blocks = j.0;
+        events = sym (own-one s g.history g.members) ∙ j.1;
+        judges = judged_to decided (setting_of terms s) stream.stop stream.bytes whole telling.left telling.has_failed j.0 report
+            (subst (λ (e : Option (List ℕ)). Consumes e telling.left (read_to stream.stop stream.bytes)) entry is.consumes) is.stops machine j.2;
+      };
+    }
+
+pub same_bytes_agree : BeginningsWithin → ClosedIsGroup → AloneDecides → DecidedBeforeFailure → SameBytesAgree
+same_bytes_agree within group decides decided f terms s whole told other_told telling other_telling reports other_reports report other_report
+    fits cites a b here entry there known says too memory failure none never =
+    let mine = whole_judged within group decided f terms s whole told telling reports report fits cites a here entry says memory failure in
+    let theirs = whole_judged within group decided f terms s whole other_told other_telling other_reports other_report fits cites b there known too none never in
+    (decides f terms.layout (setting_of terms s) whole stream_ends.Ended mine.history theirs.history report other_report mine.legal theirs.legal mine.judges theirs.judges memory none).1

@@ -1,0 +1,299 @@
+-- The order of the lines of streams: each one's blocks, gathered from what it is judged by.
+use Rattle.std.proofs.Common.{◌≡◌, ◌+◌, ◌-◌, ◌<◌, ◌≤◌, ℕ, zero, suc, Bool, true, cond, eqb, List, [], ◌∷◌, map, length, Some, refl, sym, subst, ◌∙◌, inl, inr, arith, ne_eqb, eq-eqb}
+use Rattle.std.specs.Prelude.{IsTrue, slice_get}
+use Rattle.std.specs.List.{AllByRecursion}
+use Rattle.std.proofs.lemmas.Bool.{cases_Bool, cond-true, cond-false, true≢false}
+use Rattle.lrup_model.specs.Layout.{LayoutValue, IsStream, Owns, owner}
+use Rattle.lrup_model.specs.declared.layout.Owner.{Owner}
+use Rattle.lrup_model.specs.declared.layout.Owner.TheVariants as owners
+use Rattle.lrup_model.specs.Event as events
+use Rattle.lrup_model.specs.Event.{Event, History, stream_of, own}
+use Rattle.lrup_model.specs.OwnerLemmas.{IsOwned, owned}
+use Rattle.lrup_model.specs.Laws.{FindsWithin}
+use Rattle.lrup_text.specs.Lines.{StreamLine}
+use Rattle.lrup_text.specs.Laws.{EveryCut}
+use Rattle.lrup_text.specs.declared.device.StreamEnd.{StreamEnd}
+use Rattle.lrup_text.specs.declared.device.StreamEnd.TheVariants as stream_ends
+use Rattle.stream_check.specs.declared.report.Report.{Report}
+use Rattle.stream_check.specs.Setting.{Setting}
+use Rattle.stream_check.specs.Judging.{joined, JudgesBlocks}
+use Rattle.stream_check.specs.Reducing.{reduced}
+use Rattle.stream_check.specs.Laws.{cited_by, FetchesOnly, CitedFetched, ReducedStream}
+use Rattle.runs.specs.Streams.{Stop, read_out, early, Stream, JudgesTo, JudgesStream, Block, blocks_of, IsBlockWithin, AreJudged, TermsValue, setting_of}
+use Rattle.runs.specs.Headline.{IsJudgedBy, AreJudgedIn}
+use Rattle.runs.specs.Closed.{IsOfStream, IsOwnedWithin, CiteWithin}
+use Rattle.runs.specs.StreamLemmas.{told_count}
+use Rattle.run_laws.specs.Lines.{IsOrder}
+use Rattle.run_laws.specs.OrderLaws.{JudgedBlocks, LinesOrdered, ClosedOrdered, AllClosed, AllOrdered, RunSerializable}
+use Rattle.run_laws.proofs.OrderLemmas.{streams_in, streams_are, are_streams, own_each}
+
+-- One stream's blocks
+
+-- some end for which the stream is judged by these blocks
+pub some_end : (stop : Stop) (c : Setting) (bytes : List ℕ) (blocks : List History) (report : Report)
+    → JudgesTo stop c bytes blocks report → (end : StreamEnd) × JudgesBlocks c bytes end blocks report
+some_end (read_out end) c bytes blocks report judged = (end, judged)
+some_end (early unneeded) c bytes blocks report judged = (stream_ends.Ended, judged.1)
+
+reduced_judged : ReducedStream → (stop : Stop) (c : Setting) (bytes : List ℕ) (blocks : List History) (report : Report)
+    → JudgesTo stop c bytes blocks report → JudgesTo stop c bytes (map reduced blocks) report
+reduced_judged law (read_out end) c bytes blocks report judged = law c bytes end blocks report judged
+reduced_judged law (early unneeded) c bytes blocks report judged =
+    (judged.0, law c bytes stream_ends.Ended blocks report judged.1, law c bytes stream_ends.Failed blocks report judged.2)
+
+module _ (terms : TermsValue) (set : ℕ → Bool) (h : History) where
+  -- if the stream is of the set, these blocks are its own events, and it is judged by them
+  abbrev IsJudgedWith : ℕ → Stream → Report → List History → Type 0
+  IsJudgedWith s stream report bs = IsTrue (set s) → (own h s ≡ joined bs) × JudgesStream (setting_of terms s) stream bs report
+
+  chosen : (s : ℕ) (stream : Stream) (report : Report) → (IsTrue (set s) → IsJudgedBy (setting_of terms s) stream (own h s) report)
+      → (bs : List History) × IsJudgedWith s stream report bs
+  chosen s stream report judged =
+      elim (cases_Bool (set s)) [
+        | inl member ↦ ((judged member).0, (λ also. ((judged member).1, (judged member).2)))
+        | inr out ↦ ([], (λ member. absurd (true≢false (sym member ∙ out))))
+      ]
+
+  -- so for each stream, counted on from s
+  abbrev AreJudgedWith : (ℕ → List History) → ℕ → List Stream → List Report → Type 0
+  AreJudgedWith blocks s [] [] = Unit {0}
+  AreJudgedWith blocks s (stream ∷ streams) (report ∷ reports) =
+      IsJudgedWith s stream report (blocks s) × AreJudgedWith blocks (s + 1) streams reports
+  AreJudgedWith blocks s _ _ = ⊥
+
+  judged_alike : (blocks others : ℕ → List History) (s : ℕ) (streams : List Stream) (reports : List Report)
+      → ((t : ℕ) → s ≤ t → blocks t ≡ others t) → AreJudgedWith blocks s streams reports → AreJudgedWith others s streams reports
+  judged_alike blocks others s [] [] same judged = tt
+  judged_alike blocks others s [] (report ∷ reports) same judged = absurd judged
+  judged_alike blocks others s (stream ∷ streams) [] same judged = absurd judged
+  judged_alike blocks others s (stream ∷ streams) (report ∷ reports) same judged = (
+    subst (IsJudgedWith s stream report) (same s (omega arith)) judged.0,
+    judged_alike blocks others (s + 1) streams reports (λ t above. same t (omega (arith, above))) judged.1,
+  )
+
+  gathered : (s : ℕ) (streams : List Stream) (reports : List Report) → AreJudgedIn terms set h s streams reports
+      → (blocks : ℕ → List History) × AreJudgedWith blocks s streams reports
+  gathered s [] [] judged = ((λ t. []), tt)
+  gathered s [] (report ∷ reports) judged = absurd judged
+  gathered s (stream ∷ streams) [] judged = absurd judged
+  gathered s (stream ∷ streams) (report ∷ reports) judged =
+      let rest : (blocks : ℕ → List History) × AreJudgedWith blocks (s + 1) streams reports = gathered (s + 1) streams reports judged.1 in
+      let mine : (bs : List History) × IsJudgedWith s stream report bs = chosen s stream report judged.0 in
+      let blocks : ℕ → List History = λ t. cond (eqb t s) mine.0 (rest.0 t) in (
+        blocks,
+        (
+          subst (IsJudgedWith s stream report) (sym (cond-true (eqb s s) mine.0 (rest.0 s) (eq-eqb s s refl))) mine.1,
+          judged_alike rest.0 blocks (s + 1) streams reports
+              (λ t above. sym (cond-false (eqb t s) mine.0 (rest.0 t) (ne_eqb t s (λ same. omega (arith, above, same))))) rest.1,
+        ),
+      )
+
+  -- a stream of the set, as it stands in the list
+  record IsJudgedAt (blocks : ℕ → List History) (streams : List Stream) (k s : ℕ) : Type 0 where
+    stream : Stream
+    report : Report
+    at : slice_get streams k ≡ Some stream
+    own_events : own h s ≡ joined (blocks s)
+    judges : JudgesStream (setting_of terms s) stream (blocks s) report
+
+  judged_from : (blocks : ℕ → List History) (s : ℕ) (streams : List Stream) (reports : List Report)
+      → AreJudgedWith blocks s streams reports
+      → (k : ℕ) → k < length streams → IsTrue (set (s + k)) → IsJudgedAt blocks streams k (s + k)
+  judged_from blocks s [] [] judged k below member = absurd (omega (arith, below))
+  judged_from blocks s [] (report ∷ reports) judged k below member = absurd judged
+  judged_from blocks s (stream ∷ streams) [] judged k below member = absurd judged
+  judged_from blocks s (stream ∷ streams) (report ∷ reports) judged zero below member =
+      let here : s + 0 ≡ s = omega arith in
+      let mine : (own h s ≡ joined (blocks s)) × JudgesStream (setting_of terms s) stream (blocks s) report
+      = judged.0 (subst (λ (t : ℕ). IsTrue (set t)) here member) in
+      subst (IsJudgedAt blocks (stream ∷ streams) zero) (sym here)
+      (record { stream = stream; report = report; at = refl; own_events = mine.0; judges = mine.1 })
+  judged_from blocks s (stream ∷ streams) (report ∷ reports) judged (suc k) below member =
+      let next : s + 1 + k ≡ s + suc k = omega arith in
+      let later : IsJudgedAt blocks streams k (s + 1 + k)
+      = judged_from blocks (s + 1) streams reports judged.1 k (omega (arith, below)) (subst (λ (t : ℕ). IsTrue (set t)) (sym next) member) in
+      subst (IsJudgedAt blocks (stream ∷ streams) (suc k)) next
+      (record { stream = later.stream; report = later.report; at = later.at; own_events = later.own_events; judges = later.judges })
+
+  judged_at : (blocks : ℕ → List History) (streams : List Stream) (reports : List Report) → AreJudgedWith blocks 1 streams reports
+      → (s : ℕ) → 0 < s → s ≤ length streams → IsTrue (set s) → IsJudgedAt blocks streams (s - 1) s
+  judged_at blocks streams reports judged s first last member =
+      let here : 1 + (s - 1) ≡ s = omega (arith, first) in
+      subst (λ (t : ℕ). IsJudgedAt blocks streams (s - 1) t) here
+      (judged_from blocks 1 streams reports judged (s - 1) (omega (arith, first, last)) (subst (λ (t : ℕ). IsTrue (set t)) (sym here) member))
+
+  -- in an order of these lines, reduced, each stream is judged the same
+  are_judged : ReducedStream → (blocks : ℕ → List History) (order : List Block) (s : ℕ) (streams : List Stream) (reports : List Report)
+      → ((t : ℕ) → IsStream terms.layout t → IsTrue (set t) → blocks_of t order ≡ map reduced (blocks t))
+      → 0 < s → s + length streams ≤ terms.layout.streams + 1
+      → AreJudgedWith blocks s streams reports → AreJudged terms set order s streams reports
+  are_judged law blocks order s [] [] lines first last judged = tt
+  are_judged law blocks order s [] (report ∷ reports) lines first last judged = absurd judged
+  are_judged law blocks order s (stream ∷ streams) [] lines first last judged = absurd judged
+  are_judged law blocks order s (stream ∷ streams) (report ∷ reports) lines first last judged = (
+    λ member. subst (λ (bs : List History). JudgesStream (setting_of terms s) stream bs report)
+        (sym (lines s (first, omega (arith, last)) member))
+        (reduced_judged law stream.stop (setting_of terms s) stream.bytes (blocks s) report (judged.0 member).1),
+    are_judged law blocks order (s + 1) streams reports lines (omega arith) (omega (arith, last)) judged.1,
+  )
+
+-- Each stream of a set, and its own events
+
+-- what is known of a stream of the set that one history judges
+pub record IsJudgedStream (terms : TermsValue) (h : History) (streams : List Stream) (s : ℕ) : Type 0 where
+  pub stream : Stream
+  pub report : Report
+  pub end : StreamEnd
+  pub blocks : List History
+  pub at : IsOfStream streams s stream
+  pub own_events : own h s ≡ joined blocks
+  pub judges : JudgesBlocks (setting_of terms s) stream.bytes end blocks report
+
+pub judged_stream : (terms : TermsValue) (set : ℕ → Bool) (h : History) (streams : List Stream) (reports : List Report)
+    → length streams ≡ terms.layout.streams → AreJudgedIn terms set h 1 streams reports
+    → (s : ℕ) → IsStream terms.layout s → IsTrue (set s) → IsJudgedStream terms h streams s
+judged_stream terms set h streams reports count judged s is member =
+    let all : (blocks : ℕ → List History) × AreJudgedWith terms set h blocks 1 streams reports
+    = gathered terms set h 1 streams reports judged in
+    let found : IsJudgedAt terms set h all.0 streams (s - 1) s
+    = judged_at terms set h all.0 streams reports all.1 s is.0 (omega (arith, is.1, count)) member in
+    let way : (end : StreamEnd) × JudgesBlocks (setting_of terms s) found.stream.bytes end (all.0 s) found.report
+    = some_end found.stream.stop (setting_of terms s) found.stream.bytes (all.0 s) found.report found.judges in
+    record {
+      stream = found.stream;
+      report = found.report;
+      end = way.0;
+      blocks = all.0 s;
+      at = (is.0, found.at);
+      own_events = found.own_events;
+      judges = way.1;
+    }
+
+-- Closed sets
+
+-- no stream outside the set owns what has this owner
+pub inside_for : (ℕ → Bool) → Owner → Bool
+inside_for set owners.Formula = true
+inside_for set (owners.Stream t) = set t
+inside_for set owners.Outside = true
+
+pub is_inside : LayoutValue → (ℕ → Bool) → ℕ → Bool
+is_inside p set id = inside_for set (owner p id)
+
+within_inside : (p : LayoutValue) (set : ℕ → Bool) (id : ℕ) (o : Owner) → owner p id ≡ o → IsOwnedWithin p set id → IsTrue (inside_for set o)
+unfolding inside_for
+within_inside p set id owners.Formula is within = refl
+within_inside p set id (owners.Stream t) is within = within t is
+within_inside p set id owners.Outside is within = refl
+
+pub inside_owner : (p : LayoutValue) (set : ℕ → Bool) (id t : ℕ) → IsTrue (is_inside p set id) → Owns p t id → IsTrue (set t)
+unfolding inside_for is_inside
+inside_owner p set id t inside owns = subst (λ (o : Owner). IsTrue (inside_for set o)) owns inside
+
+ids_inside : (p : LayoutValue) (set : ℕ → Bool) (ids : List ℕ)
+    → AllByRecursion (IsOwnedWithin p set) ids → AllByRecursion (λ id. IsTrue (is_inside p set id)) ids
+unfolding is_inside
+ids_inside p set [] all = tt
+ids_inside p set (id ∷ ids) all = (within_inside p set id (owner p id) refl all.0, ids_inside p set ids all.1)
+
+lines_inside : (p : LayoutValue) (set : ℕ → Bool) (lines : List StreamLine)
+    → AllByRecursion (λ line. AllByRecursion (IsOwnedWithin p set) (cited_by line)) lines
+    → AllByRecursion (λ line. AllByRecursion (λ id. IsTrue (is_inside p set id)) (cited_by line)) lines
+lines_inside p set [] all = tt
+lines_inside p set (line ∷ lines) all = (ids_inside p set (cited_by line) all.0, lines_inside p set lines all.1)
+
+-- a stream of a closed set fetches no identity of a stream outside it
+pub fetched_inside : CitedFetched → (terms : TermsValue) (set : ℕ → Bool) (h : History) (streams : List Stream) (s : ℕ)
+    → (judged : IsJudgedStream terms h streams s) → CiteWithin terms.layout set judged.stream.bytes
+    → AllByRecursion (FetchesOnly (is_inside terms.layout set)) (own h s)
+fetched_inside law terms set h streams s judged closed =
+    subst (AllByRecursion (FetchesOnly (is_inside terms.layout set))) (sym judged.own_events)
+    (law (setting_of terms s) judged.stream.bytes judged.end judged.blocks judged.report closed.lines closed.rest
+    (is_inside terms.layout set) judged.judges closed.cut (lines_inside terms.layout set closed.lines closed.within))
+
+finds_within : (p : LayoutValue) (set : ℕ → Bool) (h : History)
+    → AllByRecursion (λ e. IsTrue (streams_in p set (stream_of e)) → FetchesOnly (is_inside p set) e) h
+    → AllByRecursion (FindsWithin p (streams_in p set)) h
+finds_within p set [] all = tt
+finds_within p set (events.fetch s id r ∷ h) all = (
+  λ member found t owns.
+      let caller : IsTrue (set s) × IsStream p s = streams_are p set s member in
+      let theirs : IsOwned p t id = owned p t id (omega (arith, caller.1.0, caller.1.1)) owns in
+      are_streams p set t (inside_owner p set id t (all.0 member) owns) (theirs.first, theirs.last),
+  finds_within p set h all.1,
+)
+finds_within p set (events.publish s id c r ∷ h) all = (tt, finds_within p set h all.1)
+finds_within p set (events.retire s id r ∷ h) all = (tt, finds_within p set h all.1)
+
+-- The order
+
+blocks_within : (p : LayoutValue) (set : ℕ → Bool) (order : List Block)
+    → AllByRecursion (IsBlockWithin p (streams_in p set)) order → AllByRecursion (IsBlockWithin p set) order
+blocks_within p set [] all = tt
+blocks_within p set (block ∷ order) all =
+    ((all.0.0, (streams_are p set block.stream all.0.1).0, all.0.2), blocks_within p set order all.1)
+
+pub closed_ordered : LinesOrdered → JudgedBlocks → CitedFetched → ReducedStream → ClosedOrdered
+closed_ordered lines_ordered judged_blocks cited_fetched reduced_stream f terms set h streams reports fits count legal judged closed stays =
+    let p : LayoutValue = terms.layout in
+    let inside : ℕ → Bool = streams_in p set in
+    let all : (blocks : ℕ → List History) × AreJudgedWith terms set h blocks 1 streams reports
+    = gathered terms set h 1 streams reports judged in
+    let found : (s : ℕ) → IsStream p s → IsTrue (set s) → IsJudgedAt terms set h all.0 streams (s - 1) s
+    = λ s is member. judged_at terms set h all.0 streams reports all.1 s is.0 (omega (arith, is.1, count)) member in
+    let finds : AllByRecursion (FindsWithin p inside) h
+    = finds_within p set h (own_each (FetchesOnly (is_inside p set)) inside h (λ s member.
+    let is : IsTrue (set s) × IsStream p s = streams_are p set s member in
+    let one : IsJudgedStream terms h streams s = judged_stream terms set h streams reports count judged s is.1 is.0 in
+    fetched_inside cited_fetched terms set h streams s one (closed s one.stream is.0 one.at))) in
+    let made : (order : List Block) × IsOrder f p inside all.0 order
+    = lines_ordered f p inside h all.0 fits legal finds
+    (λ s is member. (found s is (streams_are p set s member).0).own_events)
+    (λ s is member.
+    let one : IsJudgedAt terms set h all.0 streams (s - 1) s = found s is (streams_are p set s member).0 in
+    let way : (end : StreamEnd) × JudgesBlocks (setting_of terms s) one.stream.bytes end (all.0 s) one.report
+    = some_end one.stream.stop (setting_of terms s) one.stream.bytes (all.0 s) one.report one.judges in
+    judged_blocks (setting_of terms s) one.stream.bytes way.0 (all.0 s) one.report way.1)
+    (λ s is member. stays s is (streams_are p set s member).0) in
+    record {
+      blocks = made.0;
+      within = blocks_within p set made.0 made.1.within;
+      legal = made.1.legal;
+      judged = are_judged terms set h reduced_stream all.0 made.0 1 streams reports
+          (λ s is member. made.1.lines s is (are_streams p set s member is)) (omega arith) (omega (arith, count)) all.1;
+    }
+
+-- All streams
+
+ids_of_all : (p : LayoutValue) (ids : List ℕ) → AllByRecursion (IsOwnedWithin p (λ s. true)) ids
+ids_of_all p [] = tt
+ids_of_all p (id ∷ ids) = ((λ t owns. refl), ids_of_all p ids)
+
+lines_of_all : (p : LayoutValue) (lines : List StreamLine)
+    → AllByRecursion (λ line. AllByRecursion (IsOwnedWithin p (λ s. true)) (cited_by line)) lines
+lines_of_all p [] = tt
+lines_of_all p (line ∷ lines) = (ids_of_all p (cited_by line), lines_of_all p lines)
+
+pub all_closed : EveryCut → AllClosed
+all_closed every_cut p streams s stream member at =
+    let cut = every_cut stream.bytes in
+    record { lines = cut.0; rest = cut.1; cut = cut.2; within = lines_of_all p cut.0 }
+
+-- Runs
+
+-- streams that are all judged so are judged so where they are of a set
+judged_members : (terms : TermsValue) (set : ℕ → Bool) (h : History) (s : ℕ) (streams : List Stream) (reports : List Report)
+    → AreJudgedIn terms (λ t. true) h s streams reports → AreJudgedIn terms set h s streams reports
+judged_members terms set h s [] [] judged = tt
+judged_members terms set h s [] (report ∷ reports) judged = absurd judged
+judged_members terms set h s (stream ∷ streams) [] judged = absurd judged
+judged_members terms set h s (stream ∷ streams) (report ∷ reports) judged =
+    ((λ member. judged.0 refl), judged_members terms set h (s + 1) streams reports judged.1)
+
+pub run_serializable : ClosedOrdered → AllOrdered → RunSerializable
+run_serializable closed_ordered all_ordered f terms h passes told reports fits count one streams are_told judged =
+    let many = told_count told streams are_told ∙ count in (
+      (λ set closed stays. closed_ordered f terms set h streams reports fits many one.legal
+          (judged_members terms set h 1 streams reports judged) closed stays),
+      (λ stays. all_ordered f terms h streams reports fits many one.legal judged stays),
+    )

@@ -1,0 +1,297 @@
+-- The verdict that an order of lines comes to: some stream says that it added the empty clause, or one within the cube, exactly if
+-- the order publishes one.
+use Rattle.std.proofs.Common.{◌≡◌, ◌||◌, ◌+◌, ◌-◌, ◌<◌, ◌≤◌, ℕ, zero, suc, ℤ, Bool, true, false, List, [], ◌∷◌, ◌++◌, length, refl, sym, ap, subst, ◌∙◌, inl, inr, arith, ne_eqb}
+use Rattle.std.specs.Prelude.{◌==◌}
+use Rattle.std.specs.List.{AllByRecursion, list_any}
+use Rattle.std.proofs.lemmas.Bool.{cases_eq, cases_Bool, true≢false, or_right, or_left, or_cases}
+use Rattle.std.proofs.lemmas.List.Folds.{list_any-append}
+use Rattle.std.proofs.Math.Bool.{or-false}
+use Rattle.lrup_model.specs.Layout.{LayoutValue, IsStream}
+use Rattle.lrup_model.specs.Event as events
+use Rattle.lrup_model.specs.Event.{Event, History, Reply, publishes_empty}
+use Rattle.lrup_model.specs.declared.clause_map.Retired.{Retired}
+use Rattle.lrup_text.specs.Lines.{StreamLine, Addition, Deletion, Import}
+use Rattle.lrup_text.specs.declared.device.StreamEnd.{StreamEnd}
+use Rattle.stream_check.specs.declared.fault.Fault.{Fault}
+use Rattle.stream_check.specs.declared.report.Report.{Report}
+use Rattle.stream_check.specs.Setting.{Setting}
+use Rattle.stream_check.specs.Standing.{Standing, standing_of, adds_empty, adds_within}
+use Rattle.stream_check.specs.Verdicts.{Good, Bad}
+use Rattle.stream_check.specs.Additions.{published_by}
+use Rattle.stream_check.specs.Finding.{IsGoodAddition}
+use Rattle.stream_check.specs.Judging.{JudgesLine, AreGood, EndsAfter, joined, JudgesBlocks}
+use Rattle.stream_check.specs.Laws.{GoodExactlyIf}
+use Rattle.stream_check.specs.ReportLemmas.{said_empty, said_within, joined-append}
+use Rattle.runs.specs.Streams.{Stream, JudgesStream, Block, blocks_of, events_in, IsBlockWithin, AreJudged, TermsValue, setting_of, IsOrdered}
+use Rattle.runs.specs.StreamLemmas.{blocks-same, blocks-other}
+use Rattle.run_laws.specs.Lines.{publishes_within}
+use Rattle.run_laws.specs.OrderLaws.{ClosedOrdered, AllClosed, AllOrdered}
+use Rattle.run_laws.proofs.KindLemmas.{addition_all, import_all, identities_all}
+use Rattle.run_laws.proofs.StreamLemmas.{some_end}
+
+-- Truth values
+
+or_none : (a b : Bool) → a ≡ false → b ≡ false → (a || b) ≡ false
+or_none true b first rest = first
+or_none false b first rest = rest
+
+both_ways : (a b : Bool) → (a ≡ true → b ≡ true) → (b ≡ true → a ≡ true) → a ≡ b
+both_ways true b to back = sym (to refl)
+both_ways false true to back = back refl
+both_ways false false to back = refl
+
+-- What is told of
+
+-- A test of events, one of lines and one of reports that tell of the same: no fetch and no retire passes, the publish of an addition
+-- passes exactly if the addition does, no other line passes, and a report passes exactly if one of its good lines does.
+record Tells (c : Setting) (passes : Event → Bool) (adds : StreamLine → Bool) (says : Report → Bool) : Type 0 where
+  fetches_none : (id : ℕ) (r : Reply) → passes (events.fetch c.stream id r) ≡ false
+  retires_none : (id : ℕ) (r : Retired) → passes (events.retire c.stream id r) ≡ false
+  publishes_added : (id : ℕ) (lits : List ℤ) (hints : List ℕ) → passes (published_by c id lits) ≡ adds (Addition id lits hints)
+  deletions_none : (lead : ℕ) (ids : List ℕ) → adds (Deletion lead ids) ≡ false
+  imports_none : (id : ℕ) (lits : List ℤ) → adds (Import id lits) ≡ false
+  of_good : (lines : List StreamLine) (rest : List ℕ) (end : StreamEnd) (back : List History) (report : Report)
+      → EndsAfter c lines rest end back report → says report ≡ list_any adds lines
+
+some_literal : (l : ℤ) (lits : List ℤ) → (length (l ∷ lits) == 0) ≡ false
+some_literal l lits = ne_eqb (length (l ∷ lits)) 0 (λ none. omega (arith, none))
+
+empty_added : (c : Setting) (id : ℕ) (lits : List ℤ) (hints : List ℕ) → publishes_empty (published_by c id lits) ≡ adds_empty (Addition id lits hints)
+empty_added c id [] hints = refl
+empty_added c id (l ∷ lits) hints = some_literal l _
+
+-- of the empty clause
+empty_tells : (c : Setting) → Tells c publishes_empty adds_empty (λ report. report.empty)
+empty_tells c = record {
+  fetches_none = λ id r. refl;
+  retires_none = λ id r. refl;
+  publishes_added = empty_added c;
+  deletions_none = λ lead ids. refl;
+  imports_none = λ id lits. refl;
+  of_good = said_empty c;
+}
+
+-- and of a clause within the cube
+within_tells : (c : Setting) → Tells c (publishes_within c.cube) (adds_within c.cube) (λ report. report.within)
+within_tells c = record {
+  fetches_none = λ id r. refl;
+  retires_none = λ id r. refl;
+  publishes_added = λ id lits hints. refl;
+  deletions_none = λ lead ids. refl;
+  imports_none = λ id lits. refl;
+  of_good = said_within c;
+}
+
+-- The events of a line
+
+module _ (passes : Event → Bool) where
+  -- the event doesn't pass
+  abbrev IsQuiet : Event → Type 0
+  IsQuiet e = passes e ≡ false
+
+  quiet_none : (es : History) → AllByRecursion IsQuiet es → list_any passes es ≡ false
+  quiet_none [] all = refl
+  quiet_none (e ∷ es) all = or_none (passes e) (list_any passes es) all.0 (quiet_none es all.1)
+
+module _ (law : GoodExactlyIf) (c : Setting) (passes : Event → Bool) (adds : StreamLine → Bool) (says : Report → Bool) (tells : Tells c passes adds says) where
+  quiet_retires : (ids : List ℕ) → AllByRecursion (λ id. (r : Retired) → IsQuiet passes (events.retire c.stream id r)) ids
+  quiet_retires [] = tt
+  quiet_retires (id ∷ ids) = (tells.retires_none id, quiet_retires ids)
+
+  -- a good addition publishes what passes exactly if it passes
+  good_addition : (st : Standing) (id : ℕ) (lits : List ℤ) (hints : List ℕ) (es : History)
+      → JudgesLine c st (Addition id lits hints) es Good → list_any passes es ≡ adds (Addition id lits hints)
+  good_addition st id lits hints es judged =
+      elim (cases_Bool (adds (Addition id lits hints))) [
+        | inl is ↦
+            let good : IsGoodAddition c st id lits hints es = (law c st id lits hints es).0 judged in
+            let last : list_any passes (published_by c id lits ∷ []) ≡ true
+            = or_left (passes (published_by c id lits)) false (tells.publishes_added id lits hints ∙ is) in
+            ap (list_any passes) good.published
+            ∙ list_any-append passes good.fetches (published_by c id lits ∷ [])
+            ∙ or_right (list_any passes good.fetches) (list_any passes (published_by c id lits ∷ [])) last
+            ∙ sym is
+        | inr none ↦
+            quiet_none passes es (addition_all c (IsQuiet passes) tells.fetches_none id lits Good (λ good. tells.publishes_added id lits hints ∙ none) st hints es judged)
+            ∙ sym none
+      ]
+
+  -- as does any good line
+  good_line : (st : Standing) (line : StreamLine) (es : History) → JudgesLine c st line es Good → list_any passes es ≡ adds line
+  good_line st (Addition id lits hints) es judged = good_addition st id lits hints es judged
+  good_line st (Import id lits) es judged =
+      quiet_none passes es (import_all c (IsQuiet passes) tells.fetches_none st id lits es Good judged) ∙ sym (tells.imports_none id lits)
+  good_line st (Deletion lead ids) es judged =
+      quiet_none passes es (identities_all c (IsQuiet passes) st.gone [] ids es Good (quiet_retires ids) judged) ∙ sym (tells.deletions_none lead ids)
+
+  -- a bad line doesn't
+  bad_line : (st : Standing) (line : StreamLine) (es : History) (deleted : ℕ) (fault : Fault)
+      → JudgesLine c st line es (Bad deleted fault) → list_any passes es ≡ false
+  bad_line st (Addition id lits hints) es deleted fault judged =
+      quiet_none passes es (addition_all c (IsQuiet passes) tells.fetches_none id lits (Bad deleted fault) (λ good. absurd (cc)) st hints es judged)
+  bad_line st (Import id lits) es deleted fault judged =
+      quiet_none passes es (import_all c (IsQuiet passes) tells.fetches_none st id lits es (Bad deleted fault) judged)
+  bad_line st (Deletion lead ids) es deleted fault judged =
+      quiet_none passes es (identities_all c (IsQuiet passes) st.gone [] ids es (Bad deleted fault) (quiet_retires ids) judged)
+
+  -- The events of a stream
+
+  good_lines : (before lines : List StreamLine) (blocks : List History)
+      → AreGood c before lines blocks → list_any passes (joined blocks) ≡ list_any adds lines
+  good_lines before [] [] good = refl
+  good_lines before [] (block ∷ blocks) good = absurd good
+  good_lines before (line ∷ lines) [] good = absurd good
+  good_lines before (line ∷ lines) (block ∷ blocks) good =
+      list_any-append passes block (joined blocks)
+      ∙ ap (λ (b : Bool). b || list_any passes (joined blocks)) (good_line (standing_of c before) line block good.0)
+      ∙ ap (λ (b : Bool). adds line || b) (good_lines (before ++ line ∷ []) lines blocks good.1)
+
+  one_quiet : (block : History) (back : List History) → back ≡ block ∷ [] → list_any passes block ≡ false
+      → list_any passes (joined back) ≡ false
+  one_quiet block back is quiet =
+      ap (λ (bs : List History). list_any passes (joined bs)) is
+      ∙ list_any-append passes block [] ∙ or-false (list_any passes block) ∙ quiet
+
+  no_quiet : (back : List History) → back ≡ [] → list_any passes (joined back) ≡ false
+  no_quiet back is = ap (λ (bs : List History). list_any passes (joined bs)) is
+
+  -- what ends a stream publishes nothing that passes
+  ends_quiet : (lines : List StreamLine) (rest : List ℕ) (end : StreamEnd) (back : List History) (report : Report)
+      → EndsAfter c lines rest end back report → list_any passes (joined back) ≡ false
+  ends_quiet lines rest end back report (inl e) =
+      one_quiet e.block back e.one_block (bad_line (standing_of c lines) e.line e.block e.deleted e.fault e.bad)
+  ends_quiet lines rest end back report (inr (inl e)) = no_quiet back e.no_block
+  ends_quiet lines rest end back report (inr (inr (inl e))) =
+      one_quiet e.block back e.one_block (quiet_none passes e.block
+      (identities_all c (IsQuiet passes) (standing_of c lines).gone [] e.earlier e.block Good (quiet_retires e.earlier) e.stops.before))
+  ends_quiet lines rest end back report (inr (inr (inr e))) = no_quiet back e.no_block
+
+  -- a stream publishes what passes exactly if its report passes
+  stream_tells : (bytes : List ℕ) (end : StreamEnd) (blocks : List History) (report : Report)
+      → JudgesBlocks c bytes end blocks report → list_any passes (joined blocks) ≡ says report
+  stream_tells bytes end blocks report j =
+      ap (λ (bs : List History). list_any passes (joined bs)) j.split
+      ∙ ap (list_any passes) (joined-append j.front j.back)
+      ∙ list_any-append passes (joined j.front) (joined j.back)
+      ∙ ap (λ (b : Bool). b || list_any passes (joined j.back)) (good_lines [] j.lines j.front j.begins.good)
+      ∙ ap (λ (b : Bool). list_any adds j.lines || b) (ends_quiet j.lines j.rest end j.back report j.ends)
+      ∙ or-false (list_any adds j.lines) ∙ sym (tells.of_good j.lines j.rest end j.back report j.ends)
+
+-- The blocks of an order
+
+module _ (passes : Event → Bool) where
+  -- what one of a stream's blocks publishes the order does
+  in_order : (s : ℕ) (order : List Block) → list_any passes (joined (blocks_of s order)) ≡ true
+      → list_any passes (events_in order) ≡ true
+  in_order s [] is = is
+  in_order s (block ∷ order) is =
+      list_any-append passes block.events (events_in order)
+      ∙ elim (cases_eq block.stream s) [
+        | inl same ↦ elim (or_cases (list_any passes block.events) (list_any passes (joined (blocks_of s order)))
+            (sym (list_any-append passes block.events (joined (blocks_of s order)))
+            ∙ sym (ap (λ (bs : List History). list_any passes (joined bs)) (blocks-same block order s same)) ∙ is)) [
+              | inl here ↦ or_left (list_any passes block.events) (list_any passes (events_in order)) here
+              | inr later ↦ or_right (list_any passes block.events) (list_any passes (events_in order)) (in_order s order later)
+            ]
+        | inr other ↦ or_right (list_any passes block.events) (list_any passes (events_in order))
+            (in_order s order (sym (ap (λ (bs : List History). list_any passes (joined bs)) (blocks-other block order s other)) ∙ is))
+      ]
+
+  one_more : (s : ℕ) (block : Block) (order : List Block) → list_any passes (joined (blocks_of s order)) ≡ true
+      → list_any passes (joined (blocks_of s (block ∷ order))) ≡ true
+  one_more s block order is =
+      elim (cases_eq block.stream s) [
+        | inl same ↦ ap (λ (bs : List History). list_any passes (joined bs)) (blocks-same block order s same)
+            ∙ list_any-append passes block.events (joined (blocks_of s order))
+            ∙ or_right (list_any passes block.events) (list_any passes (joined (blocks_of s order))) is
+        | inr other ↦ ap (λ (bs : List History). list_any passes (joined bs)) (blocks-other block order s other) ∙ is
+      ]
+
+  -- what an order publishes a block of one of its streams does
+  by_stream : (p : LayoutValue) (set : ℕ → Bool) (order : List Block) → AllByRecursion (IsBlockWithin p set) order
+      → list_any passes (events_in order) ≡ true
+      → (s : ℕ) × IsStream p s × (list_any passes (joined (blocks_of s order)) ≡ true)
+  by_stream p set [] within is = absurd (true≢false (sym is))
+  by_stream p set (block ∷ order) within is =
+      elim (or_cases (list_any passes block.events) (list_any passes (events_in order))
+      (sym (list_any-append passes block.events (events_in order)) ∙ is)) [
+        | inl here ↦ (
+          block.stream,
+          within.0.0,
+          ap (λ (bs : List History). list_any passes (joined bs)) (blocks-same block order block.stream refl)
+              ∙ list_any-append passes block.events (joined (blocks_of block.stream order))
+              ∙ or_left (list_any passes block.events) (list_any passes (joined (blocks_of block.stream order))) here,
+        )
+        | inr later ↦
+            let found : (s : ℕ) × IsStream p s × (list_any passes (joined (blocks_of s order)) ≡ true)
+            = by_stream p set order within.1 later in
+            (found.0, found.1, one_more found.0 block order found.2)
+      ]
+
+-- Reports
+
+module _ (law : GoodExactlyIf) (terms : TermsValue) (order : List Block) (passes : Event → Bool) (adds : StreamLine → Bool) (says : Report → Bool)
+    (tells : (s : ℕ) → Tells (setting_of terms s) passes adds says) where
+  told_by : (s : ℕ) (stream : Stream) (report : Report) → JudgesStream (setting_of terms s) stream (blocks_of s order) report
+      → list_any passes (joined (blocks_of s order)) ≡ says report
+  told_by s stream report judged =
+      let way : (end : StreamEnd) × JudgesBlocks (setting_of terms s) stream.bytes end (blocks_of s order) report
+      = some_end stream.stop (setting_of terms s) stream.bytes (blocks_of s order) report judged in
+      stream_tells law (setting_of terms s) passes adds says (tells s) stream.bytes way.0 (blocks_of s order) report way.1
+
+  said_published : (s : ℕ) (streams : List Stream) (reports : List Report) → AreJudged terms (λ t. true) order s streams reports
+      → list_any says reports ≡ true → list_any passes (events_in order) ≡ true
+  said_published s [] [] judged is = absurd (true≢false (sym is))
+  said_published s [] (report ∷ reports) judged is = absurd judged
+  said_published s (stream ∷ streams) [] judged is = absurd judged
+  said_published s (stream ∷ streams) (report ∷ reports) judged is =
+      elim (or_cases (says report) (list_any says reports) is) [
+        | inl here ↦ in_order passes s order (told_by s stream report (judged.0 refl) ∙ here)
+        | inr later ↦ said_published (s + 1) streams reports judged.1 later
+      ]
+
+  published_said : (s : ℕ) (streams : List Stream) (reports : List Report) → AreJudged terms (λ t. true) order s streams reports
+      → (k : ℕ) → k < length streams → list_any passes (joined (blocks_of (s + k) order)) ≡ true
+      → list_any says reports ≡ true
+  published_said s [] [] judged k below is = absurd (omega (arith, below))
+  published_said s [] (report ∷ reports) judged k below is = absurd judged
+  published_said s (stream ∷ streams) [] judged k below is = absurd judged
+  published_said s (stream ∷ streams) (report ∷ reports) judged zero below is =
+      let here : s + 0 ≡ s = omega arith in
+      or_left (says report) (list_any says reports)
+      (sym (told_by s stream report (judged.0 refl)) ∙ subst (λ (t : ℕ). list_any passes (joined (blocks_of t order)) ≡ true) here is)
+  published_said s (stream ∷ streams) (report ∷ reports) judged (suc k) below is =
+      let next : s + suc k ≡ s + 1 + k = omega arith in
+      or_right (says report) (list_any says reports)
+      (published_said (s + 1) streams reports judged.1 k (omega (arith, below))
+      (subst (λ (t : ℕ). list_any passes (joined (blocks_of t order)) ≡ true) next is))
+
+  -- some report passes exactly if the order publishes what does
+  reports_tell : (streams : List Stream) (reports : List Report) → length streams ≡ terms.layout.streams
+      → AllByRecursion (IsBlockWithin terms.layout (λ s. true)) order → AreJudged terms (λ s. true) order 1 streams reports
+      → list_any says reports ≡ list_any passes (events_in order)
+  reports_tell streams reports count within judged =
+      both_ways (list_any says reports) (list_any passes (events_in order))
+      (said_published 1 streams reports judged)
+      (λ is.
+      let found : (s : ℕ) × IsStream terms.layout s × (list_any passes (joined (blocks_of s order)) ≡ true)
+      = by_stream passes terms.layout (λ s. true) order within is in
+      let s : ℕ = found.0 in
+      let first : 0 < s = found.1.0 in
+      let last : s ≤ terms.layout.streams = found.1.1 in
+      let here : s ≡ 1 + (s - 1) = omega (arith, first) in
+      published_said 1 streams reports judged (s - 1) (omega (arith, first, last, count))
+      (subst (λ (t : ℕ). list_any passes (joined (blocks_of t order)) ≡ true) here found.2))
+
+pub all_ordered : GoodExactlyIf → ClosedOrdered → AllClosed → AllOrdered
+all_ordered law closed_ordered all_closed f terms h streams reports fits count legal judged stays =
+    let order : IsOrdered f terms (λ s. true) streams reports
+    = closed_ordered f terms (λ s. true) h streams reports fits count legal judged (all_closed terms.layout streams) stays in (
+      order,
+      record {
+        empty = reports_tell law terms order.blocks publishes_empty adds_empty (λ report. report.empty) (λ s. empty_tells (setting_of terms s))
+            streams reports count order.within order.judged;
+        within = reports_tell law terms order.blocks (publishes_within terms.cube) (adds_within terms.cube) (λ report. report.within) (λ s. within_tells (setting_of terms s))
+            streams reports count order.within order.judged;
+      },
+    )

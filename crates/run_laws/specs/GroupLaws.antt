@@ -1,0 +1,150 @@
+-- Laws of groups of streams. Each is the contract of a function of laws.
+use Rattle.std.specs.Prelude.{◌≡◌, ◌++◌, ℕ, Bool, true, false, IsTrue, List, length, Some}
+use Rattle.lrup_model.specs.Formula.{Cnf}
+use Rattle.lrup_model.specs.Layout.{LayoutValue, Fits}
+use Rattle.lrup_model.specs.Event.{History}
+use Rattle.lrup_model.specs.History.{IsLegal}
+use Rattle.lrup_model.specs.Pass.{View}
+use Rattle.stream_check.specs.declared.report.Report.{Report}
+use Rattle.lrup_text.specs.declared.device.StreamEnd.{StreamEnd}
+use Rattle.lrup_text.specs.declared.device.StreamEnd.TheVariants as stream_ends
+use Rattle.stream_check.specs.Laws.{IsOfMemory, IsOfFailure}
+use Rattle.runs.specs.Streams.{Stream, Telling, TermsValue, AreTold, StandsOnStreams, IsOrdered}
+use Rattle.runs.specs.Headline.{HaveOneHistory, AreJudgedIn}
+use Rattle.runs.specs.Closed.{IsOfStream, CiteWithin, IsClosed}
+use Rattle.run_laws.specs.Groups.{one, AreClosedReaders, NoneOutOfMemory, IsGroup, IsAlone, AreIsolated, empty_stream, empty_report, with_others, IsRun, IsReadingOf}
+
+-- Closed sets
+
+-- where the lines of some bytes cite within a set, those of a beginning of them do
+abbrev pub BeginningsWithin : Type 0
+BeginningsWithin = (p : LayoutValue) (set : ℕ → Bool) (bytes more : List ℕ)
+    → CiteWithin p set (bytes ++ more) → CiteWithin p set bytes
+
+-- so a set is closed where all bytes that its readers have left at first cite within it
+abbrev pub ReadersClosed : Type 0
+ReadersClosed = (p : LayoutValue) (set : ℕ → Bool) (told : List Telling) (streams : List Stream)
+    → AreTold told streams → AreClosedReaders p set told → IsClosed p set streams
+
+-- Groups
+
+-- a closed set of streams that one legal history judges is a group
+abbrev pub ClosedIsGroup : Type 0
+ClosedIsGroup = (f : Cnf) (terms : TermsValue) (set : ℕ → Bool) (h : History)
+    (streams : List Stream) (reports : List Report)
+    → Fits terms.layout f → length streams ≡ terms.layout.streams
+    → IsLegal f terms.layout h → AreJudgedIn terms set h 1 streams reports
+    → IsClosed terms.layout set streams → NoneOutOfMemory set reports
+    → IsGroup f terms set streams reports
+
+-- so is a closed set of streams whose lines have an order, with others or not
+abbrev pub OrderedIsGroup : Type 0
+OrderedIsGroup = (f : Cnf) (terms : TermsValue) (all set : ℕ → Bool) (streams : List Stream)
+    (reports : List Report)
+    → Fits terms.layout f → length streams ≡ terms.layout.streams
+    → ((s : ℕ) → IsTrue (set s) → IsTrue (all s)) → IsOrdered f terms all streams reports
+    → IsClosed terms.layout set streams → NoneOutOfMemory set reports
+    → IsGroup f terms set streams reports
+
+-- and the lines of the set have an order by themselves
+abbrev pub OrderedRestricts : Type 0
+OrderedRestricts = (f : Cnf) (terms : TermsValue) (all set : ℕ → Bool) (streams : List Stream)
+    (reports : List Report)
+    → Fits terms.layout f → length streams ≡ terms.layout.streams
+    → ((s : ℕ) → IsTrue (set s) → IsTrue (all s)) → IsOrdered f terms all streams reports
+    → IsClosed terms.layout set streams → IsOrdered f terms set streams reports
+
+-- A group is judged as in a run in which all other streams are empty.
+abbrev pub OthersEmpty : Type 0
+OthersEmpty = (f : Cnf) (terms : TermsValue) (set : ℕ → Bool) (streams : List Stream)
+    (reports : List Report)
+    → IsGroup f terms set streams reports
+    → (h : History) × IsLegal f terms.layout h
+    × AreJudgedIn terms (λ s. true) h 1 (with_others set empty_stream 1 streams)
+    (with_others set empty_report 1 reports)
+
+-- at most one report fits a stream that is alone, however much of it was read
+abbrev pub AloneHasOneReport : Type 0
+AloneHasOneReport = (f : Cnf) (terms : TermsValue) (s : ℕ) (whole : List ℕ) (end : StreamEnd)
+    (streams others : List Stream) (reports other_reports : List Report) (stream other : Stream)
+    (report other_report : Report)
+    → IsAlone f terms s streams reports → IsAlone f terms s others other_reports
+    → IsOfStream streams s stream → IsOfStream others s other → IsReadingOf whole end stream
+    → IsReadingOf whole end other
+    → IsOfStream reports s report → IsOfStream other_reports s other_report → report ≡ other_report
+
+-- Runs
+
+-- the reports of a run with threads are isolated
+abbrev pub RunIsolated : Type 0
+RunIsolated = (f : Cnf) (terms : TermsValue) (h : History) (passes : List View)
+    (told : List Telling) (reports : List Report)
+    → Fits terms.layout f → length told ≡ terms.layout.streams
+    → HaveOneHistory f terms.layout h passes
+    → AreIsolated f terms told
+    (λ streams. AreJudgedIn terms (λ s. true) h 1 streams reports) reports
+
+-- and so are those of a run on one thread
+abbrev pub SerialIsolated : Type 0
+SerialIsolated = (f : Cnf) (terms : TermsValue) (told : List Telling) (reports : List Report)
+    → Fits terms.layout f → length told ≡ terms.layout.streams
+    → AreIsolated f terms told
+    (λ streams. IsOrdered f terms (λ s. true) streams reports) reports
+
+-- a run with threads, and one on one thread, is a run
+abbrev pub ThreadsRun : Type 0
+ThreadsRun = (f : Cnf) (terms : TermsValue) (h : History) (passes : List View) (told : List Telling)
+    (reports : List Report)
+    → length told ≡ terms.layout.streams → HaveOneHistory f terms.layout h passes
+    → StandsOnStreams told (λ streams. AreJudgedIn terms (λ s. true) h 1 streams reports)
+    → IsRun f terms told reports
+
+abbrev pub SerialRun : Type 0
+SerialRun = (f : Cnf) (terms : TermsValue) (told : List Telling) (reports : List Report)
+    → length told ≡ terms.layout.streams
+    → StandsOnStreams told (λ streams. IsOrdered f terms (λ s. true) streams reports)
+    → IsRun f terms told reports
+
+-- a reader that hasn't failed told a reading of the bytes that it had left at first, which end
+abbrev pub ToldIsReading : Type 0
+ToldIsReading = (told : List Telling) (streams : List Stream) (s : ℕ) (telling : Telling)
+    (stream : Stream) (whole : List ℕ)
+    → AreTold told streams → IsOfStream told s telling → IsOfStream streams s stream
+    → telling.entry ≡ Some whole → telling.has_failed ≡ false
+    → IsReadingOf whole stream_ends.Ended stream
+
+-- a reader that failed told all bytes before those that it has left then
+abbrev pub FailedIsReading : Type 0
+FailedIsReading = (told : List Telling) (streams : List Stream) (s : ℕ) (telling : Telling)
+    (stream : Stream) (whole left : List ℕ)
+    → AreTold told streams → IsOfStream told s telling → IsOfStream streams s stream
+    → telling.entry ≡ Some (whole ++ left) → telling.left ≡ Some left → telling.has_failed ≡ true
+    → IsReadingOf whole stream_ends.Failed stream
+
+-- In two runs of one formula, by the same terms, a stream that cites within itself has one report where the readers told the
+-- same bytes and end of it, unless memory ran out: whatever the other streams are, and whichever runs have threads.
+abbrev pub SameReadingAgrees : Type 0
+SameReadingAgrees = (f : Cnf) (terms : TermsValue) (s : ℕ) (whole : List ℕ) (end : StreamEnd)
+    (told other_told : List Telling) (reports other_reports : List Report) (stream other : Stream)
+    (report other_report : Report)
+    → Fits terms.layout f → CiteWithin terms.layout (one s) whole
+    → (a : IsRun f terms told reports) (b : IsRun f terms other_told other_reports)
+    → IsOfStream a.streams s stream → IsOfStream b.streams s other → IsReadingOf whole end stream
+    → IsReadingOf whole end other
+    → IsOfStream reports s report → IsOfStream other_reports s other_report
+    → ¬ IsOfMemory report → ¬ IsOfMemory other_report → report ≡ other_report
+
+-- So it has where both readers have the same bytes left at first, unless memory ran out or a read failed.
+abbrev pub SameBytesAgree : Type 0
+SameBytesAgree = (f : Cnf) (terms : TermsValue) (s : ℕ) (whole : List ℕ)
+    (told other_told : List Telling) (telling other_telling : Telling)
+    (reports other_reports : List Report)
+    (report other_report : Report)
+    → Fits terms.layout f → CiteWithin terms.layout (one s) whole
+    → IsRun f terms told reports → IsRun f terms other_told other_reports
+    → IsOfStream told s telling → telling.entry ≡ Some whole
+    → IsOfStream other_told s other_telling → other_telling.entry ≡ Some whole
+    → IsOfStream reports s report → IsOfStream other_reports s other_report
+    → ¬ IsOfMemory report → ¬ IsOfFailure report → ¬ IsOfMemory other_report
+    → ¬ IsOfFailure other_report
+    → report ≡ other_report

@@ -1,0 +1,125 @@
+-- Groups of streams: what holds of their reports whatever the streams outside the group do (this project's own).
+use Rattle.std.specs.Prelude.{◌≡◌, ◌+◌, ◌==◌, ◌++◌, ℕ, Bool, true, false, IsTrue, List, [], ◌∷◌, length, Some, if◌then◌else◌}
+use Rattle.std.specs.List.{AllByRecursion}
+use Rattle.lrup_model.specs.Formula.{Cnf}
+use Rattle.lrup_model.specs.Layout.{LayoutValue}
+use Rattle.lrup_model.specs.Event.{History, stream_of}
+use Rattle.lrup_model.specs.History.{IsLegal}
+use Rattle.stream_check.specs.declared.report.Ending.TheVariants as endings
+use Rattle.stream_check.specs.declared.report.Report.{Report}
+use Rattle.lrup_text.specs.declared.device.StreamEnd.{StreamEnd}
+use Rattle.lrup_text.specs.declared.device.StreamEnd.TheVariants as stream_ends
+use Rattle.stream_check.specs.Laws.{IsOfMemory}
+use Rattle.runs.specs.Closed.{IsOfStream, CiteWithin, IsClosed}
+use Rattle.runs.specs.Streams.{Stop, read_out, early, Stream, Telling, TermsValue, AreTold}
+use Rattle.runs.specs.Headline.{AreJudgedIn}
+
+-- one stream, as a set
+abbrev pub one : ℕ → ℕ → Bool
+one s = λ t. t == s
+
+-- Closed sets
+
+-- each reader of the set's streams has known bytes left at first, and all of them cite within the set
+abbrev pub AreClosedReaders : LayoutValue → (ℕ → Bool) → List Telling → Type 0
+AreClosedReaders p set told =
+    (s : ℕ) (telling : Telling) → IsTrue (set s) → IsOfStream told s telling
+    → (bytes : List ℕ) × (telling.entry ≡ Some bytes) × CiteWithin p set bytes
+
+-- Readings
+
+-- one reading of a stream that has these bytes and this end: all of it, or a beginning after which no more was needed
+abbrev pub IsReadingTo : Stop → List ℕ → List ℕ → StreamEnd → Type 0
+IsReadingTo (read_out stop) bytes whole end = (whole ≡ bytes) × (end ≡ stop)
+IsReadingTo (early unneeded) bytes whole end = (more : List ℕ) × (whole ≡ bytes ++ more)
+
+abbrev pub IsReadingOf : List ℕ → StreamEnd → Stream → Type 0
+IsReadingOf whole end stream = IsReadingTo stream.stop stream.bytes whole end
+
+-- Groups
+
+-- no report of the set tells that memory ran out
+abbrev pub NoneOutOfMemory : (ℕ → Bool) → List Report → Type 0
+NoneOutOfMemory set reports =
+    (s : ℕ) (report : Report) → IsTrue (set s) → IsOfStream reports s report → ¬ IsOfMemory report
+
+-- The reports of a set of streams are those of the set alone: a legal history, with events of its streams and of no others,
+-- judges each of them so, and none tells that memory ran out.
+pub record IsGroup (f : Cnf) (terms : TermsValue) (set : ℕ → Bool) (streams : List Stream)
+    (reports : List Report) : Type 0 where
+  pub history : History
+  pub members : AllByRecursion (λ e. IsTrue (set (stream_of e))) history
+  pub legal : IsLegal f terms.layout history
+  pub judged : AreJudgedIn terms set history 1 streams reports
+  pub memory : NoneOutOfMemory set reports
+
+-- the report of stream s is that of a group of this stream alone
+abbrev pub IsAlone : Cnf → TermsValue → ℕ → List Stream → List Report → Type 0
+IsAlone f terms s streams reports = IsGroup f terms (one s) streams reports
+
+-- The reports are isolated: for every list of streams that the readers told and by which they are judged, and for every
+-- closed set of these streams none of whose reports tells that memory ran out, the set's reports are such as it may have alone.
+abbrev pub AreIsolated : Cnf → TermsValue → List Telling → (List Stream → Type 0) → List Report
+    → Type 0
+AreIsolated f terms told Judged reports =
+    (streams : List Stream) → AreTold told streams → Judged streams
+    → (set : ℕ → Bool) → IsClosed terms.layout set streams → NoneOutOfMemory set reports
+    → IsGroup f terms set streams reports
+
+-- a report that stream s may have alone, where these are its bytes and its end
+pub record IsReportAlone (f : Cnf) (terms : TermsValue) (s : ℕ) (whole : List ℕ) (end : StreamEnd)
+    (report : Report) : Type 0 where
+  pub streams : List Stream
+  pub reports : List Report
+  pub stream : Stream
+  pub alone : IsAlone f terms s streams reports
+  pub at : IsOfStream streams s stream
+  pub reads : IsReadingOf whole end stream
+  pub says : IsOfStream reports s report
+
+-- Each stream that is a closed set by itself, and whose report doesn't tell that memory ran out, has the one report that it may
+-- have alone: for every list of streams that the readers told and by which they are judged, and for all bytes and any end of
+-- which the stream is a reading, every report that it may have alone with these bytes and this end is its report.
+abbrev pub HaveReportsAlone : Cnf → TermsValue → List Telling → (List Stream → Type 0) → List Report
+    → Type 0
+HaveReportsAlone f terms told Judged reports =
+    (streams : List Stream) → AreTold told streams → Judged streams
+    → (s : ℕ) (stream : Stream) (report : Report)
+    → IsOfStream streams s stream → IsOfStream reports s report
+    → IsClosed terms.layout (one s) streams → ¬ IsOfMemory report
+    → (whole : List ℕ) (end : StreamEnd) → IsReadingOf whole end stream
+    → (other : Report) → IsReportAlone f terms s whole end other → other ≡ report
+
+-- A run in which the other streams are empty
+
+-- no bytes, read to the end
+abbrev pub empty_stream : Stream
+empty_stream = record { bytes = []; stop = read_out stream_ends.Ended }
+
+-- what is said of them
+abbrev pub empty_report : Report
+empty_report = record {
+  added = 0;
+  deleted = 0;
+  empty = false;
+  within = false;
+  ending = endings.Ended;
+}
+
+-- the list, of the streams counted on from s, with this one in place of each that is of a stream outside the set
+abbrev pub with_others : {X : Type 0} → (ℕ → Bool) → X → ℕ → List X → List X
+with_others set x s [] = []
+with_others set x s (y ∷ ys) = (if set s then y else x) ∷ with_others set x (s + 1) ys
+
+-- Two runs
+
+-- What a run promises of its reports, with threads or on one: the readers told streams, as many as the layout has, and one
+-- legal history judges each by its own events, as its report says.
+pub record IsRun (f : Cnf) (terms : TermsValue) (told : List Telling)
+    (reports : List Report) : Type 0 where
+  pub streams : List Stream
+  pub are_told : AreTold told streams
+  pub count : length streams ≡ terms.layout.streams
+  pub history : History
+  pub legal : IsLegal f terms.layout history
+  pub judged : AreJudgedIn terms (λ s. true) history 1 streams reports

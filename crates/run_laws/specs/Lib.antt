@@ -1,0 +1,7 @@
+pub mod Groups
+pub mod GroupLaws
+pub mod ReportLemmas
+pub mod Lines
+pub mod Premises
+pub mod Serializable
+pub mod OrderLaws

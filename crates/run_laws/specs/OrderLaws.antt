@@ -1,0 +1,127 @@
+-- Laws of the order of lines. Each is the contract of a function of laws.
+use Rattle.std.specs.Prelude.{◌≡◌, ◌↔◌, ◌++◌, ℕ, Bool, true, IsTrue, List, length}
+use Rattle.std.specs.List.{AllByRecursion}
+use Rattle.lrup_model.specs.Formula.{Cnf}
+use Rattle.lrup_model.specs.Layout.{LayoutValue, Fits, IsStream}
+use Rattle.lrup_model.specs.Event as events
+use Rattle.lrup_model.specs.Event.{Event, History, own}
+use Rattle.lrup_model.specs.State.{state}
+use Rattle.lrup_model.specs.History.{IsLegal}
+use Rattle.lrup_model.specs.Pass.{View}
+use Rattle.lrup_model.specs.Laws.{FindsWithin}
+use Rattle.lrup_text.specs.Lines.{StreamLine, Cut}
+use Rattle.lrup_text.specs.declared.device.StreamEnd.{StreamEnd}
+use Rattle.stream_check.specs.declared.report.Report.{Report}
+use Rattle.stream_check.specs.Setting.{Setting}
+use Rattle.stream_check.specs.Standing.{deleted_by}
+use Rattle.stream_check.specs.Judging.{joined, JudgesBlocks}
+use Rattle.runs.specs.Streams.{Stream, Block, events_in, Telling, TermsValue, AreTold, IsOrdered}
+use Rattle.runs.specs.Headline.{HaveOneHistory, AreJudgedIn}
+use Rattle.runs.specs.Closed.{IsClosed}
+use Rattle.run_laws.specs.Lines.{IsLineBlock, IsOrder}
+use Rattle.run_laws.specs.Premises.{FindsKept, FoundStays, FindsUnretired, OwnersAloneMeetRetired, Cites, SomeLineDeletes, KeepShared, ReadersKeepShared}
+use Rattle.run_laws.specs.Serializable.{ComeToVerdict, IsSerializable}
+
+-- The lines of a stream
+
+-- the blocks by which a stream is judged are like those of lines
+abbrev pub JudgedBlocks : Type 0
+JudgedBlocks = (c : Setting) (bytes : List ℕ) (end : StreamEnd) (blocks : List History)
+    (report : Report)
+    → JudgesBlocks c bytes end blocks report → AllByRecursion IsLineBlock blocks
+
+-- a retire is of an identity that passes the test
+abbrev pub RetiresOnly : (ℕ → Bool) → Event → Type 0
+RetiresOnly p (events.fetch s id r) = Unit {0}
+RetiresOnly p (events.publish s id c r) = Unit {0}
+RetiresOnly p (events.retire s id r) = IsTrue (p id)
+
+-- A stream retires no identity that its lines don't delete: where all that they delete pass a test, so does what it retires.
+abbrev pub DeletedRetired : Type 0
+DeletedRetired = (c : Setting) (bytes : List ℕ) (end : StreamEnd) (blocks : List History)
+    (report : Report)
+    (all : List StreamLine) (rest : List ℕ) (p : ℕ → Bool)
+    → JudgesBlocks c bytes end blocks report → Cut bytes all rest
+    → AllByRecursion (λ line. AllByRecursion (λ id. IsTrue (p id)) (deleted_by line)) all
+    → AllByRecursion (RetiresOnly p) (joined blocks)
+
+-- An order of lines
+
+-- Lines of streams that find no clause of streams outside their set have an order, where what they found live of one another
+-- isn't left retired.
+abbrev pub LinesOrdered : Type 0
+LinesOrdered = (f : Cnf) (p : LayoutValue) (set : ℕ → Bool) (h : History) (blocks : ℕ
+    → List History)
+    → Fits p f → IsLegal f p h → AllByRecursion (FindsWithin p set) h
+    → ((s : ℕ) → IsStream p s → IsTrue (set s) → own h s ≡ joined (blocks s))
+    → ((s : ℕ) → IsStream p s → IsTrue (set s) → AllByRecursion IsLineBlock (blocks s))
+    → FoundStays f p set h
+    → (order : List Block) × IsOrder f p set blocks order
+
+-- The reports of a closed set of streams that one legal history judges have an order of lines, where what the streams found live
+-- of one another isn't left retired.
+abbrev pub ClosedOrdered : Type 0
+ClosedOrdered = (f : Cnf) (terms : TermsValue) (set : ℕ → Bool) (h : History)
+    (streams : List Stream) (reports : List Report)
+    → Fits terms.layout f → length streams ≡ terms.layout.streams
+    → IsLegal f terms.layout h → AreJudgedIn terms set h 1 streams reports
+    → IsClosed terms.layout set streams → FoundStays f terms.layout set h
+    → IsOrdered f terms set streams reports
+
+-- all streams together are a closed set
+abbrev pub AllClosed : Type 0
+AllClosed = (p : LayoutValue) (streams : List Stream) → IsClosed p (λ s. true) streams
+
+-- The reports of all streams have an order of lines, and the verdict that these lines come to is that of the reports: a stream
+-- said that it added the empty clause exactly if the order publishes it, and one within the cube exactly if the order publishes one.
+abbrev pub AllOrdered : Type 0
+AllOrdered = (f : Cnf) (terms : TermsValue) (h : History)
+    (streams : List Stream) (reports : List Report)
+    → Fits terms.layout f → length streams ≡ terms.layout.streams
+    → IsLegal f terms.layout h → AreJudgedIn terms (λ s. true) h 1 streams reports
+    → FoundStays f terms.layout (λ s. true) h
+    → (order : IsOrdered f terms (λ s. true) streams reports)
+    × ComeToVerdict terms.cube (events_in order.blocks) reports
+
+-- The premise
+
+-- it is the same to say by events what a legal history leaves retired
+abbrev pub KeptByEvents : Type 0
+KeptByEvents = (f : Cnf) (p : LayoutValue) (h : History) → IsLegal f p h
+    → (e : Event) → FindsKept p (state f h) e ↔ FindsUnretired p h e
+
+-- what no stream but its owner found, live or retired, if the history retires it, stays
+abbrev pub OwnersAloneSuffices : Type 0
+OwnersAloneSuffices = (f : Cnf) (p : LayoutValue) (set : ℕ → Bool) (h : History)
+    → IsLegal f p h → OwnersAloneMeetRetired p set h → FoundStays f p set h
+
+-- a closed set of streams that retire nothing of their own that another cites leaves what they found of one another
+abbrev pub SharedStays : Type 0
+SharedStays = (f : Cnf) (terms : TermsValue) (set : ℕ → Bool) (h : History) (streams : List Stream)
+    (reports : List Report)
+    → Fits terms.layout f → length streams ≡ terms.layout.streams
+    → IsLegal f terms.layout h → AreJudgedIn terms set h 1 streams reports
+    → IsClosed terms.layout set streams → KeepShared terms.layout set streams
+    → FoundStays f terms.layout set h
+
+-- what the lines of some bytes cite or delete, those of all bytes that begin with them do
+abbrev pub BeginningsCite : Type 0
+BeginningsCite = (bytes more : List ℕ) (id : ℕ)
+    → (Cites bytes id → Cites (bytes ++ more) id)
+    × (SomeLineDeletes bytes id → SomeLineDeletes (bytes ++ more) id)
+
+-- So where the streams keep what they share in all bytes that their readers have left at first, they keep it in those that were
+-- needed.
+abbrev pub ReadersShare : Type 0
+ReadersShare = (p : LayoutValue) (set : ℕ → Bool) (told : List Telling) (streams : List Stream)
+    → AreTold told streams → ReadersKeepShared p set told → KeepShared p set streams
+
+-- Runs
+
+-- The lines of a run with threads are serializable.
+abbrev pub RunSerializable : Type 0
+RunSerializable = (f : Cnf) (terms : TermsValue) (h : History) (passes : List View)
+    (told : List Telling) (reports : List Report)
+    → Fits terms.layout f → length told ≡ terms.layout.streams
+    → HaveOneHistory f terms.layout h passes
+    → IsSerializable f terms told h reports

@@ -1,0 +1,113 @@
+//! Laws of groups. Each function does nothing; its contract is the law, which holds of every formula, layout, set and run.
+ghost use Rattle.run_laws.specs.GroupLaws.{BeginningsWithin, ReadersClosed, ClosedIsGroup, OrderedIsGroup, OrderedRestricts, OthersEmpty, AloneHasOneReport, RunIsolated, SerialIsolated, ThreadsRun, SerialRun, ToldIsReading, FailedIsReading, SameReadingAgrees, SameBytesAgree};
+
+use lrup_text::laws::{a_beginning_is_cut_alike, every_stream_is_cut};
+use stream_check::laws::{
+    alone_decides, cited_fetched, decided_before_failure, end_judged, fresh_left, over_stays,
+};
+
+/// Where the lines of some bytes cite within a set of streams, those of a beginning of them do.
+pub fn beginnings_within()
+    ensures { BeginningsWithin }
+{
+    every_stream_is_cut();
+    a_beginning_is_cut_alike();
+}
+
+/// A set of streams is closed where all bytes that its readers have left at first cite within it.
+pub fn readers_closed()
+    ensures { ReadersClosed }
+{
+    beginnings_within();
+}
+
+/// A closed set of streams that one legal history judges is a group.
+pub fn closed_is_group()
+    ensures { ClosedIsGroup }
+{
+    cited_fetched();
+}
+
+/// A closed set of streams whose lines have an order is a group.
+pub fn ordered_is_group()
+    ensures { OrderedIsGroup }
+{
+    closed_is_group();
+}
+
+/// The lines of a closed set of streams have an order by themselves where those of all have one.
+pub fn ordered_restricts()
+    ensures { OrderedRestricts }
+{
+    cited_fetched();
+}
+
+/// A group is judged as in a run in which all other streams are empty.
+pub fn others_empty()
+    ensures { OthersEmpty }
+{
+    fresh_left();
+    end_judged();
+}
+
+/// At most one report fits a stream that is alone, however much of it was read.
+pub fn alone_has_one_report()
+    ensures { AloneHasOneReport }
+{
+    over_stays();
+    alone_decides();
+}
+
+/// The reports of a run with threads are isolated.
+pub fn run_isolated()
+    ensures { RunIsolated }
+{
+    closed_is_group();
+}
+
+/// The reports of a run on one thread are isolated.
+pub fn serial_isolated()
+    ensures { SerialIsolated }
+{
+    ordered_is_group();
+}
+
+/// What a run with threads promises of its reports.
+pub fn threads_run()
+    ensures { ThreadsRun }
+{}
+
+/// What a run on one thread promises of its reports.
+pub fn serial_run()
+    ensures { SerialRun }
+{}
+
+/// A reader that hasn't failed told a reading of the bytes that it had left at first.
+pub fn told_is_reading()
+    ensures { ToldIsReading }
+{}
+
+/// A reader that failed told all bytes before those that it has left then.
+pub fn failed_is_reading()
+    ensures { FailedIsReading }
+{}
+
+/// A stream that cites within itself has one report where the readers told the same bytes and end, unless memory ran out.
+pub fn same_reading_agrees()
+    ensures { SameReadingAgrees }
+{
+    beginnings_within();
+    closed_is_group();
+    alone_has_one_report();
+}
+
+/// A stream that cites within itself has one report where the readers have the same bytes left at first, unless memory ran out
+/// or a read failed.
+pub fn same_bytes_agree()
+    ensures { SameBytesAgree }
+{
+    beginnings_within();
+    closed_is_group();
+    alone_decides();
+    decided_before_failure();
+}

@@ -1,0 +1,102 @@
+//! Laws of the order of lines. Each function does nothing; its contract is the law, which holds of every formula, layout, set and
+//! history.
+ghost use Rattle.run_laws.specs.OrderLaws.{JudgedBlocks, DeletedRetired, LinesOrdered, ClosedOrdered, AllClosed, AllOrdered, KeptByEvents, OwnersAloneSuffices, SharedStays, BeginningsCite, ReadersShare, RunSerializable};
+
+use lrup_model::laws::{among_keeps_own, among_members, restriction_legal};
+use lrup_text::laws::{a_beginning_is_cut_alike, bytes_begin_with_one_line, every_stream_is_cut};
+use stream_check::laws::{
+    cited_fetched, early_events, good_exactly_if, reduced_stream, vacant_tries_again,
+};
+
+/// The blocks by which a stream is judged are like those of lines.
+pub fn judged_blocks()
+    ensures { JudgedBlocks }
+{
+    early_events();
+    vacant_tries_again();
+}
+
+/// A stream retires no identity that its lines don't delete.
+pub fn deleted_retired()
+    ensures { DeletedRetired }
+{
+    bytes_begin_with_one_line();
+}
+
+/// Lines of streams that find no clause of streams outside their set have an order.
+pub fn lines_ordered()
+    ensures { LinesOrdered }
+{
+    restriction_legal();
+    among_members();
+    among_keeps_own();
+}
+
+/// The reports of a closed set of streams that one legal history judges have an order of lines.
+pub fn closed_ordered()
+    ensures { ClosedOrdered }
+{
+    lines_ordered();
+    judged_blocks();
+    cited_fetched();
+    reduced_stream();
+}
+
+/// All streams together are a closed set.
+pub fn all_closed()
+    ensures { AllClosed }
+{
+    every_stream_is_cut();
+}
+
+/// The reports of all streams have an order of lines, which comes to the verdict of the reports.
+pub fn all_ordered()
+    ensures { AllOrdered }
+{
+    closed_ordered();
+    all_closed();
+    good_exactly_if();
+}
+
+/// The premise on what is found live is the same by events.
+pub fn kept_by_events()
+    ensures { KeptByEvents }
+{}
+
+/// Where only its owner found an identity that the history retires, what a stream found live of another stays.
+pub fn owners_alone_suffices()
+    ensures { OwnersAloneSuffices }
+{
+    kept_by_events();
+}
+
+/// Where no stream deletes an identity of its own that another stream's line cites, what a stream found live of another stays.
+pub fn shared_stays()
+    ensures { SharedStays }
+{
+    cited_fetched();
+    deleted_retired();
+}
+
+/// What the lines of some bytes cite or delete, those of all bytes that begin with them do.
+pub fn beginnings_cite()
+    ensures { BeginningsCite }
+{
+    a_beginning_is_cut_alike();
+    every_stream_is_cut();
+}
+
+/// Where streams keep what they share in all bytes that their readers have left at first, they keep it in those that were needed.
+pub fn readers_share()
+    ensures { ReadersShare }
+{
+    beginnings_cite();
+}
+
+/// The lines of a run with threads are serializable.
+pub fn run_serializable()
+    ensures { RunSerializable }
+{
+    closed_ordered();
+    all_ordered();
+}
