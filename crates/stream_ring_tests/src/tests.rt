@@ -246,7 +246,7 @@ fn comes_through<T: Threads + Wait + Sync + Abort>(
     count: usize,
     most: usize,
 ) -> Result<(), Fail> {
-    for fails in [false, true] {
+    for (fails, end) in [(false, StreamEnd::Ended), (true, StreamEnd::Failed)] {
         let (sending, hearing) = ends_of(alloc, Stream::new(count, most, fails), sizes)?;
         let heard = Heard {
             count: count as u64,
@@ -255,7 +255,7 @@ fn comes_through<T: Threads + Wait + Sync + Abort>(
         same(
             rt,
             (sizes, count, most, through(rt, sending, hearing)),
-            (sizes, count, most, (fails, (heard, Some(fails)))),
+            (sizes, count, most, (end, (heard, Some(end)))),
         );
     }
     Ok(())
@@ -405,11 +405,7 @@ fn a_receiver_that_sleeps_is_woken(rt: HostRuntime) -> Result<(), Fail> {
         same(
             &rt,
             (ring, count, came),
-            (
-                ring,
-                count,
-                (StreamEnd::Ended, (heard, Some(StreamEnd::Ended))),
-            ),
+            (ring, count, (false, (heard, Some(StreamEnd::Ended)))),
         );
     }
     Ok(())
