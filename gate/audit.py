@@ -519,7 +519,8 @@ class Page:
     def __init__(self, file, blocks, other=None, cited=()):
         self.file, self.blocks, self.other = file, blocks, other
         self.anchors, self.wrong, slugs = {}, [], {}
-        self.named = {thing.kind + thing.name: [thing] for thing in cited}
+        self.cited = {thing.key() for thing in cited}
+        self.named = {getattr(thing, "kind", "") + thing.name: [thing] for thing in cited}
         for block in blocks:
             for title in [block.name] if not isinstance(block, str) else re.findall(r"^#+ (.*)$", block, re.M):
                 slug = slug_of(title)
@@ -536,7 +537,7 @@ class Page:
             return "#" + self.anchors[thing.key()]
         if self.other and thing.key() in self.other.anchors:
             return f"{self.other.file}#{self.other.anchors[thing.key()]}"
-        if isinstance(thing, Contract):
+        if thing.key() in self.cited:
             return f"../{thing.path.relative_to(ROOT)}"
         self.wrong.append(f"{self.file}: '{thing.name}' stands on no page")
         return ""
@@ -646,8 +647,8 @@ AUDIT_TOP = f"""# What there is to believe: status 0 and 8
 
 The prover shows that the code keeps its contracts. That the contracts say what one wants to rely on is for a reader to judge.
 This page has all that the clauses behind status 0 and 8 rest on, down to names of libraries, which have a line each; whole runs
-are on [AUDIT-RUNS](AUDIT-RUNS.md). At each definition ask: is this what the words mean? [DEFINITIONS](DEFINITIONS.md) shows
-them at work, by examples.
+are on [AUDIT-RUNS](AUDIT-RUNS.md). At each definition ask: is this what the words mean? [DEFINITIONS](DEFINITIONS.md) has
+examples.
 
 No clause says that something is answered: 'out of memory' may always come.
 
@@ -714,7 +715,8 @@ STATUS_8_PHRASES = [
 
 AUDIT_LIBRARIES = """## What the libraries define
 
-In short; `clap` says it in full, in the modules named, and Rattle's library `std` where no module is."""
+In short. In full it stands in the module of `clap` that is named (`clap.specs.Words` is `rattle/clap/specs/Words.antt`, beside
+the page that `rt doc` prints), else in Rattle's `std`."""
 
 TRUST = """## What one has to trust
 
@@ -870,9 +872,9 @@ HEADLINE_PHRASES = [
     ("promises of each call of the store", """the contracts of [[fn Store::fetch]], [[fn Store::literal]], [[fn Store::publish]]
      and [[fn Store::retire]], whoever calls them. A [[Pass]] comes of [[fn Store::open]] alone, and moves by
      these calls and by meeting alone. That the threads made their calls through the passes that the run gives back is said under
-     it, by [[fn check_all.found]]: each pass moved by the events by which its stream's report is judged,
-     in `Finishes` of `stream_threads`: `PassMoves jobs.pass.view found.pass.view (joined blocks)`. That a pass can't be made or copied otherwise
-     is by its fields, which are private."""),
+     it, by [[fn check_all.found]]: each pass moved by the events by which its stream's report is judged, [[Finishes: moves :
+     PassMoves jobs.pass.view found.pass.view (joined blocks)]]. That a pass can't be made or copied otherwise is by its fields,
+     which are private."""),
     ("the rest is one of the run", "[[fn run.history+reports+sound+sound_under]]."),
 ]
 
@@ -1030,7 +1032,8 @@ def runs_page(audit):
         RUNS_LIBRARIES, libraries(things, [audit])]
     below = Contract("stream_threads/src/joining.rt: check_all", ["found"])
     blocks[0] = RUNS_TOP.replace("{contents}", contents(blocks))
-    page = Page("AUDIT-RUNS.md", blocks, other=audit, cited=[below])
+    finishes = specs("stream_threads", "Jobs").definitions["Finishes"]
+    page = Page("AUDIT-RUNS.md", blocks, other=audit, cited=[below, finishes])
     page.run = run
     return page
 

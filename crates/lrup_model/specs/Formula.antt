@@ -21,6 +21,7 @@ max_clause_literals = 1048575
 abbrev pub IsFormulaClause : ℕ → Clause → Type 0
 IsFormulaClause vars c = IsClause vars c × (length c ≤ max_clause_literals)
 
+-- a formula within the limits
 pub record IsCnf (f : Cnf) : Type 0 where
   pub vars : f.vars ≤ max_variable
   pub count : length f.clauses ≤ max_clauses

@@ -488,7 +488,7 @@ fn a_sender_that_goes_wakes_the_receiver(rt: HostRuntime) -> Result<(), Fail> {
 
 /// Both wait for the signal, which comes after a pause.
 #[test]
-fn all_are_told_the_word(rt: HostRuntime) -> Result<(), Fail> {
+fn both_see_the_signal(rt: HostRuntime) -> Result<(), Fail> {
     for round in 0..200u64 {
         let signal = OnceLock::new();
         let wanted = round % 2 == 0;
