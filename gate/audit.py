@@ -23,8 +23,8 @@ ROOT = Path(__file__).resolve().parent.parent
 CRATES = ROOT / "crates"
 DOCS = ROOT / "docs"
 
-NAME = re.compile(r"[^\s(){}\[\];,.:λ→×⊎≡≢¬↔≤<>+*/%^∷&|=]+")
-WORDS = set("record data where let in if then else λ _ Type Unit ⊥".split())
+NAME = re.compile(r"[^\s(){}\[\];,.:λ→×⊎≡≢¬↔↦≤<>+*/%^∷&|=]+")
+WORDS = set("record data where let in if then else elim λ _ Type Unit ⊥".split())
 HEAD = re.compile(r"^(?P<kind>(?:abbrev |unfoldable )?(?:pub )?(?:record |data )?)(?P<name>[^\s:({]+)(?P<rest>[\s:({].*)?$")
 ITEM = re.compile(r"((?:^(?:///|#\[).*\n)*)^pub (?:struct|enum|trait) (?:[^\n{]*;$|[\s\S]*?^\}$)", re.M)
 
@@ -82,6 +82,8 @@ class Definition:
         for group in re.findall(r"λ ([^.(]*)\.", self.text):
             names.update(NAME.findall(group))
         names.update(re.findall(r"\blet ([^\s:=]+)", self.text))
+        for pattern in re.findall(r"\| ([^|↦]*) ↦", self.text):
+            names.update(word for word in NAME.findall(pattern) if not self.file.is_constructor(word))
         if re.match(r"record ", self.text):
             for line in self.text.split("\n")[1:]:
                 member = re.match(r"^  ([^\s:]+) :", line)
@@ -756,6 +758,7 @@ buffer isn't empty; if it is `Err`, what is known is as it was
 `decimal n` n in decimal, without leading zeros
 `fault_of app words` the errors that the command finds in the words, asking for help among them: `[]` if there is none
 `filter f xs` the elements that pass the test
+`fold f a xs` f over the elements, from a on: of x and y it is `f (f a x) y`
 `first_of name rows` an argument's first value as it was given, if it has any
 `flat_map f xs` the lists that f gives of the elements, one after the other
 `int_eq a b` a is b, of whole numbers
@@ -942,7 +945,8 @@ RUNS_HOW = """## How to read it
 As [on AUDIT](AUDIT.md#how-to-read-it); and besides:
 
 - **Signs.** `¬ A` is 'not A', `≢` 'is not', `m - n` is 0 where n is greater, `m / n` is rounded down, `&&` is 'and' of tests.
-  `(x y : A)` are two; `r.0` and `r.1` the parts of a pair. A `data` is one of its cases, with what that case takes. `R.left` is the
+  `(x y : A)` are two; `r.0` and `r.1` the parts of a pair. A `data` is one of its cases, with what that case takes.
+  `elim x [ | p ↦ a | q ↦ b ]` is a where x is p, and b where it is q. `R.left` is the
   member `left` of the trait for the type R. Contracts see a slice or a `Vec` as a list (`v.items`), a `u64` and an `Id` as ℕ, a
   `Lit` as ℤ. A type that they see as something else they know by that alone, whatever its members are.
 {constructors}
