@@ -6,7 +6,7 @@ use Rattle.std.specs.Prelude.{IsTrue, slice_get, codes, ◌==◌, ◌↔◌, Res
 use Rattle.lrup_model.specs.Layout.{LayoutValue, Owns, owner}
 use Rattle.lrup_model.specs.declared.layout.Owner.{Owner}
 use Rattle.lrup_model.specs.declared.layout.Owner.TheVariants as owners
-use Rattle.lrup_text.specs.Grammar.{space}
+use Rattle.lrup_text.specs.ByteNames.{space}
 use Rattle.lrup_text.specs.Lines.{StreamLine, Addition, Deletion, Import, Cut, HasNoLine, line_text}
 use Rattle.lrup_text.specs.Laws.{OneCut}
 use Rattle.stream_check.specs.declared.report.Report.{Report}

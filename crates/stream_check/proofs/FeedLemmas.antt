@@ -8,7 +8,8 @@ use Rattle.lrup_model.specs.Cube.{CubeValue}
 use Rattle.lrup_model.specs.Layout.{LayoutValue}
 use Rattle.lrup_model.specs.Event.{History}
 use Rattle.lrup_model.specs.Place.{Place}
-use Rattle.lrup_text.specs.Grammar.{space, letter_d, letter_i, clause_text, list_text}
+use Rattle.lrup_text.specs.ByteNames.{space, letter_d, letter_i}
+use Rattle.lrup_text.specs.Grammar.{clause_text, list_text}
 use Rattle.lrup_text.specs.Lines.{StreamLine, Addition, Deletion, Import, Cut, IsPending, HasNoLine, LineText, line_text}
 use Rattle.lrup_text.specs.Feeding as feeding
 use Rattle.lrup_text.specs.Feeding.{ReaderState}

@@ -66,18 +66,17 @@ goes_on read byte after more text (y ∷ x) whole e split =
 pub faulty_has_no_line : TextLaws → (rest : List ℕ) (fault : LineFault) → HasTextFault rest fault → HasNoLine rest
 faulty_has_no_line laws rest fault text line more fits e =
     let refused = text.3 in
-    let read = refused.0 in
-    let byte = refused.1 in
-    let decides = refused.3 in
+    let read = refused.read in
+    let byte = refused.byte in
     let whole : IsLine standard (line_text line) = (laws.lines (line_text line)).1 (line, (fits, refl)) in
     let split : read ++ (byte ∷ text.1) ≡ line_text line ++ more =
-    sym (append_assoc read (byte ∷ []) text.1) ∙ ap (λ b. b ++ text.1) (sym refused.2) ∙ sym text.2 ∙ e in
+    sym (append_assoc read (byte ∷ []) text.1) ∙ ap (λ b. b ++ text.1) (sym refused.is) ∙ sym text.2 ∙ e in
     elim (one_begins read (line_text line) (byte ∷ text.1) more split) [
       | inl longer ↦ elim (goes_on read byte text.1 more (line_text line) longer.0 whole longer.1 split) [
-        | inl same ↦ decides.before.whole line [] fits (sym same ∙ sym (append-nil (line_text line)))
-        | inr begins ↦ decides.after begins
+        | inl same ↦ refused.before.whole line [] fits (sym same ∙ sym (append-nil (line_text line)))
+        | inr begins ↦ refused.after (subst Begins (sym refused.is) begins)
       ]
-      | inr longer ↦ decides.before.whole line longer.0 fits longer.1
+      | inr longer ↦ refused.before.whole line longer.0 fits longer.1
     ]
 
 -- After the same good lines
