@@ -8,14 +8,14 @@ use Rattle.std.proofs.lemmas.List.Folds.{list_any-append}
 use Rattle.std.proofs.Math.Bool.{or-false}
 use Rattle.lrup_model.specs.Layout.{LayoutValue, IsStream}
 use Rattle.lrup_model.specs.Event as events
-use Rattle.lrup_model.specs.Event.{Event, History, Reply, publishes_empty}
+use Rattle.lrup_model.specs.Event.{Event, History, Reply}
 use Rattle.lrup_model.specs.declared.clause_map.Retired.{Retired}
 use Rattle.lrup_text.specs.Lines.{StreamLine, Addition, Deletion, Import}
 use Rattle.lrup_text.specs.declared.device.StreamEnd.{StreamEnd}
 use Rattle.stream_check.specs.declared.fault.Fault.{Fault}
 use Rattle.stream_check.specs.declared.report.Report.{Report}
 use Rattle.stream_check.specs.Setting.{Setting}
-use Rattle.stream_check.specs.Standing.{Standing, standing_of, adds_empty, adds_within}
+use Rattle.stream_check.specs.Standing.{Standing, standing_of, adds_empty, adds_within, is_within}
 use Rattle.stream_check.specs.Verdicts.{Good, Bad}
 use Rattle.stream_check.specs.Additions.{published_by}
 use Rattle.stream_check.specs.Finding.{IsGoodAddition}
@@ -24,7 +24,7 @@ use Rattle.stream_check.specs.Laws.{GoodExactlyIf}
 use Rattle.stream_check.specs.ReportLemmas.{said_empty, said_within, joined-append}
 use Rattle.runs.specs.Streams.{Stream, JudgesStream, Block, blocks_of, events_in, IsBlockWithin, AreJudged, TermsValue, setting_of, IsOrdered}
 use Rattle.runs.specs.StreamLemmas.{blocks-same, blocks-other}
-use Rattle.run_laws.specs.Lines.{publishes_within}
+use Rattle.run_laws.specs.PublishLemmas.{publishes_empty, publishes_within, published_some}
 use Rattle.run_laws.specs.OrderLaws.{ClosedOrdered, AllClosed, AllOrdered}
 use Rattle.run_laws.proofs.KindLemmas.{addition_all, import_all, identities_all}
 use Rattle.run_laws.proofs.StreamLemmas.{some_end}
@@ -290,8 +290,10 @@ all_ordered law closed_ordered all_closed f terms h streams reports fits count l
       order,
       record {
         empty = reports_tell law terms order.blocks publishes_empty adds_empty (λ report. report.empty) (λ s. empty_tells (setting_of terms s))
-            streams reports count order.within order.judged;
+            streams reports count order.within order.judged
+            ∙ published_some (λ c. length c == 0) (events_in order.blocks);
         within = reports_tell law terms order.blocks (publishes_within terms.cube) (adds_within terms.cube) (λ report. report.within) (λ s. within_tells (setting_of terms s))
-            streams reports count order.within order.judged;
+            streams reports count order.within order.judged
+            ∙ published_some (is_within terms.cube) (events_in order.blocks);
       },
     )
