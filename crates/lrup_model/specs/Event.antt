@@ -1,6 +1,6 @@
 -- Events of the clause map, one for each call of fetch, publish and retire, and histories, which are lists of them (this project's own).
 -- A clause stands in an event as the list in the order in which the map keeps it, and is read as a set.
-use Rattle.std.specs.Prelude.{◌==◌, ℕ, List, [], ◌∷◌, Bool, true, false, length}
+use Rattle.std.specs.Prelude.{◌==◌, ℕ, List, [], ◌∷◌, length}
 use Rattle.std.specs.List.{filter, sum_by}
 use Rattle.lrup_model.specs.Clause.{Clause}
 use Rattle.lrup_model.specs.declared.clause_map.Published.{Published}
@@ -43,20 +43,6 @@ size_of (retire s id r) = 0
 -- the sizes of the clauses that a stream published with Done, added up
 abbrev pub spent : ℕ → History → ℕ
 spent s h = sum_by size_of (own h s)
-
--- the event published a clause
-abbrev pub publishes : Event → Bool
-publishes (fetch s id r) = false
-publishes (publish s id c publishing.Done) = true
-publishes (publish s id c publishing.Taken) = false
-publishes (retire s id r) = false
-
--- the event published the empty clause
-abbrev pub publishes_empty : Event → Bool
-publishes_empty (fetch s id r) = false
-publishes_empty (publish s id c publishing.Done) = length c == 0
-publishes_empty (publish s id c publishing.Taken) = false
-publishes_empty (retire s id r) = false
 
 -- the identity and the clause of each event that published one, in order
 abbrev pub published : History → List (ℕ × Clause)

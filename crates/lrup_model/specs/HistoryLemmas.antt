@@ -1,6 +1,6 @@
 -- Lemmas on events, histories and the states that they leave.
 use Rattle.std.proofs.Common.{◌≡◌, ℕ, ◌+◌, ◌-◌, ◌%◌, ◌<◌, ◌≤◌, cond, eqb, ltb, leb, ◌&&◌, List, [], ◌∷◌, ◌++◌, length, get_or, refl, sym, ap, subst, ◌∙◌, inl, inr, arith, ne_eqb, eq-eqb, le-leb, lt-ltb, le-ltb}
-use Rattle.std.specs.Prelude.{if◌then◌else◌}
+use Rattle.std.specs.Prelude.{◌==◌, if◌then◌else◌}
 use Rattle.std.specs.List.{sum_by, AllByRecursion}
 use Rattle.std.proofs.lemmas.Bool.{cases_eq, cases_lt, cond-true, cond-false, and_from, and_left, and_right, lt-leb}
 use Rattle.std.proofs.lemmas.List.Sums.{sum_by-cons}
@@ -9,7 +9,7 @@ use Rattle.lrup_model.specs.Formula.{Cnf, clause_at}
 use Rattle.lrup_model.specs.Layout.{LayoutValue, Fits, Owns, owner, last_identity}
 use Rattle.lrup_model.specs.Event as events
 use Rattle.lrup_model.specs.Event.{Event, History, stream_of, size_of, own, spent, published}
-use Rattle.lrup_model.specs.State.{State, Slot, absent, live, put, retire_slot, after, opening, run, state, AreVacantAbove}
+use Rattle.lrup_model.specs.State.{State, Slot, absent, live, retire_slot, after, opening, run, state, AreVacantAbove}
 use Rattle.lrup_model.specs.History.{IsAllowed, LegalFrom, IsLegal, IsPublishable}
 use Rattle.lrup_model.specs.Running.{spent-append}
 use Rattle.lrup_model.specs.declared.clause_map.Published.TheVariants as publishing
@@ -37,6 +37,10 @@ IsLegal-front f p g h legal = record {
 }
 
 -- One slot of a state
+
+-- the state with another slot at one identity
+abbrev pub put : State → ℕ → Slot → State
+put m id slot = λ j. if j == id then slot else m j
 
 pub put-same : (m : State) (j : ℕ) (slot : Slot) (id : ℕ) → id ≡ j → put m j slot id ≡ slot
 put-same m j slot id same = cond-true (eqb id j) slot (m id) (eq-eqb id j same)

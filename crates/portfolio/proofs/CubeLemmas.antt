@@ -28,7 +28,7 @@ use Rattle.stream_check.specs.Judging.{JudgesLine, AreGood, joined, JudgesBlocks
 use Rattle.stream_check.specs.ReportLemmas.{said_within}
 use Rattle.runs.specs.Streams.{Stop, read_out, early, Stream, JudgesTo, JudgesStream, Block, blocks_of, events_in, AreJudged, IsOrdered, TermsValue, setting_of}
 use Rattle.runs.specs.Headline.{AreJudgedIn}
-use Rattle.run_laws.specs.Lines.{publishes_within}
+use Rattle.run_laws.specs.PublishLemmas.{publishes_within}
 use Rattle.portfolio.specs.declared.outcome.Verdict.{Verdict}
 use Rattle.portfolio.specs.declared.outcome.Verdict.TheVariants.{Unsatisfiable, UnsatisfiableUnder, Unknown}
 use Rattle.portfolio.specs.Outcomes.{verdict_of}

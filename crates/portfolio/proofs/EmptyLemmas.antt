@@ -12,7 +12,7 @@ use Rattle.lrup_model.specs.Entailment.{Follows, IsUnsatisfiable}
 use Rattle.lrup_model.specs.EntailmentLemmas.{empty_refutes}
 use Rattle.lrup_model.specs.Layout.{LayoutValue}
 use Rattle.lrup_model.specs.Event as events
-use Rattle.lrup_model.specs.Event.{Event, Reply, History, own, publishes_empty}
+use Rattle.lrup_model.specs.Event.{Event, Reply, History, own}
 use Rattle.lrup_model.specs.State.{State, opening, after}
 use Rattle.lrup_model.specs.History.{LegalFrom, IsLegal}
 use Rattle.lrup_model.specs.declared.clause_map.Published.TheVariants as publishing
@@ -28,6 +28,7 @@ use Rattle.stream_check.specs.Verdicts.{Good, Bad, Fails}
 use Rattle.stream_check.specs.Additions.{AtConflict, AtReply, JudgesHints, published_by}
 use Rattle.stream_check.specs.Judging.{JudgesLine, AreGood, joined, JudgesBlocks}
 use Rattle.stream_check.specs.ReportLemmas.{said_empty}
+use Rattle.run_laws.specs.PublishLemmas.{publishes_empty}
 use Rattle.runs.specs.Streams.{Stop, read_out, early, Stream, JudgesTo, JudgesStream, Block, blocks_of, events_in}
 
 -- ---- some element of a list

@@ -3,7 +3,7 @@ use Rattle.std.specs.Prelude.{◌≡◌, ◌↔◌, ℕ, List, length, Result, E
 use Rattle.std.specs.List.{list_any}
 use Rattle.lrup_model.specs.Cube.{CubeValue}
 use Rattle.lrup_model.specs.Formula.{Cnf, formula_literals}
-use Rattle.lrup_model.specs.Layout.{LayoutValue, layout_value, IsFault}
+use Rattle.lrup_model.specs.Layout.{LayoutValue, IsFault}
 use Rattle.lrup_model.specs.declared.layout.LayoutFault.{LayoutFault}
 use Rattle.stream_check.specs.declared.report.Report.{Report}
 use Rattle.portfolio.specs.declared.outcome.RunFault.{RunFault}
@@ -21,7 +21,14 @@ pub record OptionsValue : Type 0 where
 -- the layout of a formula and so many streams
 abbrev pub layout_of : OptionsValue → Cnf → ℕ → LayoutValue
 layout_of options f streams =
-    layout_value f.vars (length f.clauses) (formula_literals f) streams options.lines options.room
+    record {
+      vars = f.vars;
+      clauses = length f.clauses;
+      literals = formula_literals f;
+      streams = streams;
+      lines = options.lines;
+      room = options.room;
+    }
 
 -- what a run of a formula and so many streams is checked by, under a cube
 abbrev pub terms_of : OptionsValue → CubeValue → Cnf → ℕ → TermsValue

@@ -15,7 +15,7 @@ use Rattle.std.specs.List.{AllByRecursion, list_any}
 use Rattle.stream_check.specs.Laws.{IsOfMemory, cited_by}
 use Rattle.lrup_model.specs.Cube.{CubeValue}
 use Rattle.lrup_model.specs.Formula.{Cnf}
-use Rattle.lrup_model.specs.Event.{History, publishes_empty}
+use Rattle.lrup_model.specs.Event.{History, published}
 use Rattle.portfolio.specs.declared.outcome.Verdict.{Verdict}
 use Rattle.portfolio.specs.declared.outcome.Verdict.TheVariants.{Unsatisfiable, UnsatisfiableUnder, Unknown}
 use Rattle.portfolio.specs.Outcomes.{OptionsValue, terms_of, verdict_of}
@@ -133,7 +133,7 @@ pub has_order : (streams : List Stream) (reports : List Report) (verdict : Verdi
 has_order streams reports verdict (order, comes) is = record {
   lines = order.blocks;
   legal = order.legal;
-  says = says_so verdict (list_any (λ report. report.empty) reports) (list_any (λ report. report.within) reports) (list_any publishes_empty (events_in order.blocks)) comes.empty is;
+  says = says_so verdict (list_any (λ report. report.empty) reports) (list_any (λ report. report.within) reports) (list_any (λ p. length p.1 == 0) (published (events_in order.blocks))) comes.empty is;
 }
 
 -- two facts of a value that is there give a third

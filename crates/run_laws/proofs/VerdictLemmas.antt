@@ -11,7 +11,7 @@ use Rattle.lrup_model.specs.Cube.{CubeValue}
 use Rattle.lrup_model.specs.Distinct.{distinct}
 use Rattle.lrup_model.specs.Layout.{LayoutValue, IsStream}
 use Rattle.lrup_model.specs.Event as events
-use Rattle.lrup_model.specs.Event.{Event, History, Reply, publishes_empty}
+use Rattle.lrup_model.specs.Event.{Event, History, Reply}
 use Rattle.lrup_model.specs.declared.clause_map.Retired.{Retired}
 use Rattle.lrup_text.specs.Lines.{StreamLine, Addition, Deletion, Import}
 use Rattle.lrup_text.specs.declared.device.StreamEnd.{StreamEnd}
@@ -27,7 +27,7 @@ use Rattle.stream_check.specs.Laws.{GoodExactlyIf}
 use Rattle.stream_check.specs.ReportLemmas.{additions-append, said_empty, said_within, joined-append}
 use Rattle.runs.specs.Streams.{Stream, JudgesStream, Block, blocks_of, events_in, IsBlockWithin, AreJudged, TermsValue, setting_of, IsOrdered}
 use Rattle.runs.specs.StreamLemmas.{blocks-same, blocks-other}
-use Rattle.run_laws.specs.Lines.{publishes_within}
+use Rattle.run_laws.specs.PublishLemmas.{publishes_empty, publishes_within, published_some}
 use Rattle.run_laws.specs.OrderLaws.{ClosedOrdered, AllClosed, AllOrdered}
 use Rattle.run_laws.proofs.KindLemmas.{addition_all, import_all, identities_all}
 use Rattle.run_laws.proofs.StreamLemmas.{some_end}
@@ -284,8 +284,10 @@ all_ordered law closed_ordered all_closed f terms h streams reports fits count l
       order,
       record {
         empty = reports_tell law terms order.blocks publishes_empty adds_empty (λ report. report.empty) (λ s. empty_tells (setting_of terms s))
-            streams reports count order.within order.judged;
+            streams reports count order.within order.judged
+            ∙ published_some (λ c. length c == 0) (events_in order.blocks);
         within = reports_tell law terms order.blocks (publishes_within terms.cube) (adds_within terms.cube) (λ report. report.within) (λ s. within_tells (setting_of terms s))
-            streams reports count order.within order.judged;
+            streams reports count order.within order.judged
+            ∙ published_some (is_within terms.cube) (events_in order.blocks);
       },
     )

@@ -7,10 +7,10 @@ use Rattle.std.proofs.Math.Dec.{eqb-suc-zero}
 use Rattle.lrup_model.specs.Layout.{Owns}
 use Rattle.lrup_model.specs.Event as events
 use Rattle.lrup_model.specs.Event.{Event, History, stream_of, size_of, own, spent}
-use Rattle.lrup_model.specs.State.{State, Slot, absent, live, put, retire_slot, run}
+use Rattle.lrup_model.specs.State.{State, Slot, absent, live, retire_slot, run}
 use Rattle.lrup_model.specs.Place.{Caller, Place, Tells, IsVacantAbove}
 use Rattle.lrup_model.specs.Running.{run-append, spent-append}
-use Rattle.lrup_model.specs.HistoryLemmas.{put-same, put-other, spent_one}
+use Rattle.lrup_model.specs.HistoryLemmas.{put, put-same, put-other, spent_one}
 use Rattle.lrup_model.specs.declared.clause_map.Retired.TheVariants as retiring
 use Rattle.lrup_text.specs.Lines.{StreamLine, Addition, Deletion, Import}
 use Rattle.lrup_model.specs.Distinct.{distinct}
