@@ -2,7 +2,7 @@
 use Rattle.std.proofs.Common.{◌≡◌, ◌≢◌, IsSome, IfSome, ℕ, zero, suc, ◌+◌, ◌-◌, ◌<◌, ◌≤◌, Bool, true, false, cond, eqb, List, [], ◌∷◌, ◌++◌, length, get_or, set, take, replicate, map, Option, Some, None, refl, sym, ap, ap₂, subst, ◌∙◌, inl, inr, arith, length-set, eq-eqb, ne_eqb}
 use borrow.Author.Count.{below_more}
 use Rattle.std.specs.Prelude.{◌||◌, ◌↔◌, IsTrue}
-use Rattle.std.specs.List.{AllByRecursion, list_any, sum_by}
+use Rattle.std.specs.List.{AllByRecursion, list_any, sum_by, AllZip}
 use Rattle.std.proofs.lemmas.Bool.{cases_Bool, cases_eq, cases_lt, cond-true, cond-false}
 use Rattle.std.proofs.lemmas.List.{append-nil, map-append, get_or_default, get_or-replicate, take-append-le, take_all}
 use Rattle.std.proofs.lemmas.Grind.{flat_map-append}
@@ -29,7 +29,7 @@ use Rattle.portfolio.proofs.WorkingLemmas.{not_over}
 use Rattle.portfolio.specs.Outcomes.{OptionsValue, layout_of}
 use Rattle.lrup_text.specs.ReadOut.{SourceView}
 use Rattle.runs.specs.Readings.{AreRead, IsStreamOf}
-use Rattle.runs.specs.Streams.{Stream, tellings, AreTold, JudgesStream, Block, blocks_of, events_in, IsBlockWithin, setting_of, AreJudged, IsOrdered, StandsOnStreams, TermsValue, terms_at}
+use Rattle.runs.specs.Streams.{Stream, tellings, IsTold, JudgesStream, Block, blocks_of, events_in, IsBlockWithin, setting_of, AreJudged, IsOrdered, StandsOnStreams, TermsValue}
 use Rattle.portfolio.specs.Working.{WorkerValue, WorksBy, Works, WorksOn, IsStarted}
 use Rattle.portfolio.specs.Turns.{HasRun, IsWorking, AreWorking, Runs, IsRunning, GoesOn, IsOver, AreOver, IsOverAt, AreStarted, HaveReports}
 
@@ -310,35 +310,35 @@ module _ {S : Type 0} (view : SourceView S) where
   count_started terms k (first ∷ firsts) [] started = absurd started
   count_started terms k (first ∷ firsts) (w ∷ ws) started = omega (arith, count_started terms (k + 1) firsts ws started.1)
 
-  module _ (f : Cnf) (p : LayoutValue) (m : Plain) (opened : IsOpened f p m) where
-    room_opened : (s : ℕ) → IsStream p s → free_at m s ≡ p.room
-    room_opened s stream = ap (λ (rooms : List ℕ). get_or rooms (s - 1) 0) opened.room ∙ get_or-replicate p.streams (s - 1) p.room 0 (omega (arith, stream.0, stream.1))
+  module _ (f : Cnf) (terms : TermsValue) (m : Plain) (opened : IsOpened f terms.layout m) where
+    room_opened : (s : ℕ) → IsStream terms.layout s → free_at m s ≡ terms.layout.room
+    room_opened s stream = ap (λ (rooms : List ℕ). get_or rooms (s - 1) 0) opened.room ∙ get_or-replicate terms.layout.streams (s - 1) terms.layout.room 0 (omega (arith, stream.0, stream.1))
 
-    ready_opened : (cube : CubeValue) (tries s : ℕ) (first : S) (w : WorkerValue S) → IsStarted view (terms_at p cube tries) s first w → IsReadyAt w.checker (plain_place m s)
-    ready_opened cube tries s first w started = record {
+    ready_opened : (s : ℕ) (first : S) (w : WorkerValue S) → IsStarted view terms s first w → IsReadyAt w.checker (plain_place m s)
+    ready_opened s first w started = record {
       at = record {
         layout = opened.layout ∙ sym (ap (λ (c : Setting). c.layout) started.setting);
         stream = sym (ap (λ (c : Setting). c.stream) started.setting);
       };
       vacant = λ id owns above.
-          ap (λ (state : State). state id) opened.state ∙ opening-owned f p s id opened.fits (subst (λ (q : LayoutValue). Owns q s id) opened.layout owns);
+          ap (λ (state : State). state id) opened.state ∙ opening-owned f terms.layout s id opened.fits (subst (λ (q : LayoutValue). Owns q s id) opened.layout owns);
     }
 
-    working_started : (cube : CubeValue) (tries k : ℕ) (firsts : List S) (ws : List (WorkerValue S)) → 0 < k → k + length ws ≤ p.streams + 1 → AreStarted view (terms_at p cube tries) k firsts ws → AreWorking view (terms_at p cube tries) [] m k firsts ws
-    working_started cube tries k [] [] positive within started = tt
-    working_started cube tries k [] (w ∷ ws) positive within started = absurd started
-    working_started cube tries k (first ∷ firsts) [] positive within started = absurd started
-    working_started cube tries k (first ∷ firsts) (w ∷ ws) positive within started =
-        let room : free_at m k ≡ p.room = room_opened k (positive, omega (arith, within)) in (
+    working_started : (k : ℕ) (firsts : List S) (ws : List (WorkerValue S)) → 0 < k → k + length ws ≤ terms.layout.streams + 1 → AreStarted view terms k firsts ws → AreWorking view terms [] m k firsts ws
+    working_started k [] [] positive within started = tt
+    working_started k [] (w ∷ ws) positive within started = absurd started
+    working_started k (first ∷ firsts) [] positive within started = absurd started
+    working_started k (first ∷ firsts) (w ∷ ws) positive within started =
+        let room : free_at m k ≡ terms.layout.room = room_opened k (positive, omega (arith, within)) in (
           record {
             setting = started.0.setting;
             works = subst (λ free. Works view first w free []) (sym room) started.0.works;
-            ready = ready_opened cube tries k first w started.0;
+            ready = ready_opened k first w started.0;
           },
-          working_started cube tries (k + 1) firsts ws (omega arith) (omega (arith, within)) started.1,
+          working_started (k + 1) firsts ws (omega arith) (omega (arith, within)) started.1,
         )
 
-    run_opened : HasRun f p [] m
+    run_opened : HasRun f terms.layout [] m
     run_opened = record {
       layout = opened.layout;
       formula = opened.formula;
@@ -349,14 +349,14 @@ module _ {S : Type 0} (view : SourceView S) where
     }
 
     -- a run before its first turn
-    pub runs_opened : (cube : CubeValue) (tries : ℕ) (firsts : List S) (ws : List (WorkerValue S)) → length firsts ≡ p.streams → AreStarted view (terms_at p cube tries) 1 firsts ws → Runs view f (terms_at p cube tries) firsts m ws
-    runs_opened cube tries firsts ws count started =
-        let same : length ws ≡ p.streams = omega (arith, count_started (terms_at p cube tries) 1 firsts ws started, count) in
+    pub runs_opened : (firsts : List S) (ws : List (WorkerValue S)) → length firsts ≡ terms.layout.streams → AreStarted view terms 1 firsts ws → Runs view f terms firsts m ws
+    runs_opened firsts ws count started =
+        let same : length ws ≡ terms.layout.streams = omega (arith, count_started terms 1 firsts ws started, count) in
         record {
           count = same;
           blocks = [];
           map_is = run_opened;
-          workers_are = working_started cube tries 1 firsts ws (omega arith) (omega (arith, same)) started;
+          workers_are = working_started 1 firsts ws (omega arith) (omega (arith, same)) started;
         }
 
   -- ---- when all streams are over
@@ -369,7 +369,7 @@ module _ {S : Type 0} (view : SourceView S) where
   -- each stream is what its reader told, and is judged by its blocks
   pub streams_over : (terms : TermsValue) (blocks : List Block) (m : Plain) (k : ℕ) (firsts : List S) (ws : List (WorkerValue S)) (reports : List Report)
       → AreWorking view terms blocks m k firsts ws → HaveReports ws reports
-      → (streams : List Stream) × AreTold (tellings view firsts (map (λ w. w.reader) ws)) streams × AreRead S view.reads firsts (map (λ w. w.reader) ws) streams × AreJudged terms (λ s. true) blocks k streams reports
+      → (streams : List Stream) × AllZip IsTold (tellings view firsts (map (λ w. w.reader) ws)) streams × AreRead S view.reads firsts (map (λ w. w.reader) ws) streams × AreJudged terms (λ s. true) blocks k streams reports
   streams_over terms blocks m k [] [] [] working have = ([], tt, tt, tt)
   streams_over terms blocks m k [] [] (r ∷ reports) working have = absurd have
   streams_over terms blocks m k [] (w ∷ ws) reports working have = absurd working
@@ -385,7 +385,7 @@ module _ {S : Type 0} (view : SourceView S) where
 
   -- the reports have an order of lines
   pub ordered_over : (f : Cnf) (terms : TermsValue) (firsts : List S) (m : Plain) (ws : List (WorkerValue S)) (reports : List Report) → Runs view f terms firsts m ws → HaveReports ws reports
-      → (streams : List Stream) × AreTold (tellings view firsts (map (λ w. w.reader) ws)) streams × AreRead S view.reads firsts (map (λ w. w.reader) ws) streams × IsOrdered f terms (λ s. true) streams reports
+      → (streams : List Stream) × AllZip IsTold (tellings view firsts (map (λ w. w.reader) ws)) streams × AreRead S view.reads firsts (map (λ w. w.reader) ws) streams × IsOrdered f terms (λ s. true) streams reports
   ordered_over f terms firsts m ws reports runs have =
       let streams = streams_over terms runs.blocks m 1 firsts ws reports runs.workers_are have in (
         streams.0,
@@ -416,19 +416,18 @@ pub sound_over : (f : Cnf) (terms : TermsValue) (streams : List Stream) (reports
 sound_over f terms streams reports ordered some = sound_among f terms ordered.blocks 1 streams reports ordered.legal ordered.judged some
 
 -- the whole run: opened, gone on with, and over
-pub run_ordered : {S : Type 0} (view : SourceView S) (f : Cnf) (p : LayoutValue) (cube : CubeValue) (tries : ℕ) (wanted : TermsValue) (firsts lasts : List S) (m n : Plain) (us vs ws xs : List (WorkerValue S)) (reports : List Report)
-    → IsOpened f p m → terms_at p cube tries ≡ wanted → length firsts ≡ p.streams → AreStarted view (terms_at p cube tries) 1 firsts us
+pub run_ordered : {S : Type 0} (view : SourceView S) (f : Cnf) (terms wanted : TermsValue) (firsts lasts : List S) (m n : Plain) (us vs ws xs : List (WorkerValue S)) (reports : List Report)
+    → IsOpened f terms.layout m → terms ≡ wanted → length firsts ≡ terms.layout.streams → AreStarted view terms 1 firsts us
     → vs ≡ us → GoesOn view m vs n ws → xs ≡ ws → HaveReports xs reports → lasts ≡ map (λ w. w.reader) xs
     → StandsOnStreams (tellings view firsts lasts)
     (λ streams. IsOrdered f wanted (λ s. true) streams reports × AreRead S view.reads firsts lasts streams)
-run_ordered {S} view f p cube tries wanted firsts lasts m n us vs ws xs reports opened same count started same_start goes same_end have readers =
-    let terms = terms_at p cube tries in
-    let begun : Runs view f terms firsts m vs = subst (Runs view f terms firsts m) (sym same_start) (runs_opened view f p m opened cube tries firsts us count started) in
+run_ordered {S} view f terms wanted firsts lasts m n us vs ws xs reports opened same count started same_start goes same_end have readers =
+    let begun : Runs view f terms firsts m vs = subst (Runs view f terms firsts m) (sym same_start) (runs_opened view f terms m opened firsts us count started) in
     let ended : Runs view f terms firsts n xs = subst (Runs view f terms firsts n) (sym same_end) (goes f terms firsts begun) in
     let ordered = ordered_over view f terms firsts n xs reports ended have in
     record {
       streams = ordered.0;
-      are_told = subst (λ (ls : List S). AreTold (tellings view firsts ls) ordered.0) (sym readers) ordered.1;
+      are_told = subst (λ (ls : List S). AllZip IsTold (tellings view firsts ls) ordered.0) (sym readers) ordered.1;
       judged = (
         subst (λ (t : TermsValue). IsOrdered f t (λ s. true) ordered.0 reports) same ordered.3,
         subst (λ (ls : List S). AreRead S view.reads firsts ls ordered.0) (sym readers) ordered.2,

@@ -16,7 +16,7 @@ use Rattle.stream_check.specs.Judging.{JudgesBlocks, Judges}
 use Rattle.stream_check.specs.Laws.{cited_by, OverStays, AloneDecides}
 use Rattle.runs.specs.Streams.{Stop, read_out, early, Stream, JudgesTo, TermsValue, setting_of}
 use Rattle.runs.specs.Closed.{IsOfStream, IsOwnedWithin}
-use Rattle.run_laws.specs.Groups.{one, IsAlone, IsReadingTo, IsReadingOf}
+use Rattle.run_laws.specs.Groups.{one, IsGroup, IsReadingTo, IsReadingOf}
 use Rattle.run_laws.specs.GroupLaws.{AloneHasOneReport, BeginningsWithin}
 use Rattle.run_laws.proofs.Places.{judged_at}
 
@@ -40,7 +40,7 @@ own-one s (e ∷ h) all = cond-true (eqb (stream_of e) s) (e ∷ own h s) (own h
 -- the group of one stream is a judgement of all its bytes
 alone_judged : OverStays → (f : Cnf) (terms : TermsValue) (s : ℕ) (streams : List Stream) (reports : List Report)
     (whole : List ℕ) (end : StreamEnd) (stream : Stream) (report : Report)
-    → (g : IsAlone f terms s streams reports) → IsOfStream streams s stream → IsReadingOf whole end stream → IsOfStream reports s report
+    → (g : IsGroup f terms (one s) streams reports) → IsOfStream streams s stream → IsReadingOf whole end stream → IsOfStream reports s report
     → Judges (setting_of terms s) whole end g.history report
 alone_judged law f terms s streams reports whole end stream report g at reads says =
     let j = judged_at terms (one s) g.history streams reports g.judged s stream report (me s) at says in

@@ -33,7 +33,9 @@ use Rattle.run_laws.proofs.WalkLemmas.{walk}
 
 settles_one : (f : Cnf) (p : LayoutValue) (final m : State) (e : Event) (h : History) → LegalFrom f p m (e ∷ h)
     → ((id : ℕ) → IsRetired (run m (e ∷ h) id) → IsRetired (final id)) → FindsKept p final e → Settles p final e
-settles_one f p final m (events.fetch s id r) h legal later cites = cites
+settles_one f p final m (events.fetch s id events.vacant) h legal later cites = tt
+settles_one f p final m (events.fetch s id (events.live c)) h legal later cites = cites
+settles_one f p final m (events.fetch s id events.retired) h legal later cites = tt
 settles_one f p final m (events.publish s id c r) h legal later cites = tt
 settles_one f p final m (events.retire s id retiring.Done) h legal later cites =
     let e : Event = events.retire s id retiring.Done in

@@ -1,5 +1,6 @@
 -- What readers told, and two runs of one stream.
 use Rattle.std.proofs.Common.{◌≡◌, ℕ, ◌-◌, Bool, true, false, Option, List, ◌++◌, Some, None, refl, sym, ap, subst, ◌∙◌, append_assoc, append-nil, arith}
+use Rattle.std.specs.List.{AllZip}
 use Rattle.std.specs.Io.KnownBytes.{Consumes}
 use Rattle.std.proofs.lemmas.List.{append_cancel_right}
 use Rattle.std.proofs.lemmas.Option.{slice_get_within}
@@ -13,10 +14,10 @@ use Rattle.stream_check.specs.declared.report.Report.{Report}
 use Rattle.stream_check.specs.Setting.{Setting}
 use Rattle.stream_check.specs.Judging.{JudgesBlocks, Judges}
 use Rattle.stream_check.specs.Laws.{AloneDecides, DecidedBeforeFailure, IsOfMemory, IsOfFailure}
-use Rattle.runs.specs.Streams.{Stop, read_out, early, Stream, Telling, read_to, StopsSo, IsTold, AreTold, JudgesTo, TermsValue, setting_of}
+use Rattle.runs.specs.Streams.{Stop, read_out, early, Stream, Telling, read_to, StopsSo, IsTold, JudgesTo, TermsValue, setting_of}
 use Rattle.runs.specs.Closed.{IsOfStream, CiteWithin}
 use Rattle.runs.specs.StreamLemmas.{told_count, told_from, told_begins, same_at}
-use Rattle.run_laws.specs.Groups.{one, IsAlone, IsRun, IsReadingTo}
+use Rattle.run_laws.specs.Groups.{one, IsGroup, IsRun, IsReadingTo}
 use Rattle.run_laws.specs.GroupLaws.{BeginningsWithin, ReadersClosed, ClosedIsGroup, OrderedIsGroup, AloneHasOneReport, RunIsolated, SerialIsolated, ThreadsRun, SerialRun, ToldIsReading, FailedIsReading, SameReadingAgrees, SameBytesAgree}
 use Rattle.run_laws.proofs.Places.{has_place, judged_count, judged_at, judged_fewer}
 use Rattle.run_laws.proofs.RestrictingLemmas.{ordered_judged}
@@ -27,7 +28,7 @@ use Rattle.run_laws.proofs.AloneLemmas.{me, own-one}
 
 -- what a reader of known place told
 told_at : (told : List Telling) (streams : List Stream) (s : ℕ) (telling : Telling) (stream : Stream)
-    → AreTold told streams → IsOfStream told s telling → IsOfStream streams s stream → IsTold telling stream
+    → AllZip IsTold told streams → IsOfStream told s telling → IsOfStream streams s stream → IsTold telling stream
 told_at told streams s telling stream are_told here at =
     let was = told_from told streams (s - 1) stream are_told at.1 in
     subst (λ (t : Telling). IsTold t stream) (same_at told s was.telling telling (here.0, was.at) here) was.is_told
@@ -113,7 +114,7 @@ serial_run f terms told reports count stands =
 run_alone : ClosedIsGroup → (f : Cnf) (terms : TermsValue) (s : ℕ) (told : List Telling) (reports : List Report)
     (stream : Stream) (report : Report) → Fits terms.layout f → (a : IsRun f terms told reports)
     → IsOfStream a.streams s stream → IsOfStream reports s report → CiteWithin terms.layout (one s) stream.bytes → ¬ IsOfMemory report
-    → IsAlone f terms s a.streams reports
+    → IsGroup f terms (one s) a.streams reports
 run_alone law f terms s told reports stream report fits a at says cites memory =
     law f terms (one s) a.history a.streams reports fits a.count a.legal
     (judged_fewer terms (λ t. true) (one s) a.history (λ t member. refl) 1 a.streams reports a.judged)

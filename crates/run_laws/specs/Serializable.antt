@@ -1,12 +1,12 @@
 -- What it means that the lines of a run are serializable (this project's own).
 use Rattle.std.specs.Prelude.{◌≡◌, ◌==◌, ℕ, Bool, true, List, length}
-use Rattle.std.specs.List.{list_any}
+use Rattle.std.specs.List.{list_any, AllZip}
 use Rattle.lrup_model.specs.Cube.{CubeValue}
 use Rattle.lrup_model.specs.Formula.{Cnf}
 use Rattle.lrup_model.specs.Event.{History, published}
 use Rattle.stream_check.specs.declared.report.Report.{Report}
 use Rattle.stream_check.specs.Standing.{is_within}
-use Rattle.runs.specs.Streams.{Stream, Telling, TermsValue, AreTold, IsOrdered, events_in}
+use Rattle.runs.specs.Streams.{Stream, Telling, TermsValue, IsTold, IsOrdered, events_in}
 use Rattle.runs.specs.Headline.{AreJudgedIn}
 use Rattle.runs.specs.Closed.{IsClosed}
 use Rattle.run_laws.specs.Premises.{FoundStays}
@@ -25,7 +25,7 @@ pub record ComeToVerdict (cube : CubeValue) (es : History) (reports : List Repor
 -- this holds of all streams together, they have one that comes to the verdict of the reports besides.
 abbrev pub IsSerializable : Cnf → TermsValue → List Telling → History → List Report → Type 0
 IsSerializable f terms told h reports = (streams : List Stream)
-    → AreTold told streams → AreJudgedIn terms (λ s. true) h 1 streams reports
+    → AllZip IsTold told streams → AreJudgedIn terms (λ s. true) h 1 streams reports
     → ((set : ℕ → Bool) → IsClosed terms.layout set streams → FoundStays f terms.layout set h
     → IsOrdered f terms set streams reports)
     × (FoundStays f terms.layout (λ s. true) h

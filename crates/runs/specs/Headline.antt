@@ -9,28 +9,24 @@ use Rattle.stream_check.specs.declared.report.Report.{Report}
 use Rattle.stream_check.specs.Setting.{Setting}
 use Rattle.stream_check.specs.Judging.{joined}
 use Rattle.lrup_text.specs.ReadOut.{SourceView}
+use Rattle.runs.specs.Closed.{IsOfStream}
 use Rattle.runs.specs.Readings.{IsStreamOf}
 use Rattle.runs.specs.Streams.{Stream, IsReadOut, JudgesStream, TermsValue, setting_of}
-
--- The passes, of the streams counted on from s: each is that stream's at this formula and layout, has seen the history, and
--- its calls are the history's events of that stream, in order.
-abbrev pub HaveCalls : Cnf → LayoutValue → History → ℕ → List View → Type 0
-HaveCalls f p h s [] = Unit {0}
-HaveCalls f p h s (v ∷ vs) =
-    (v.caller ≡ record { formula = f; layout = p; stream = s }) × (v.seen ≡ h) × (v.mine ≡ own h s)
-    × HaveCalls f p h (s + 1) vs
 
 -- what the first of the passes has seen
 abbrev pub seen_by : List View → History
 seen_by [] = []
 seen_by (v ∷ vs) = v.seen
 
--- The passes have this one history of the one-thread clause map: it is legal, and has each stream's calls once, in its order.
+-- The passes have this one history of the one-thread clause map: it is legal, and each stream's pass is at this formula and
+-- layout, has seen the history, and its calls are the history's events of that stream, in order.
 pub record HaveOneHistory (f : Cnf) (p : LayoutValue) (h : History)
     (passes : List View) : Type 0 where
   pub legal : IsLegal f p h
   pub count : length passes ≡ p.streams
-  pub calls : HaveCalls f p h 1 passes
+  pub calls : (s : ℕ) (v : View) → IsOfStream passes s v
+      → (v.caller ≡ record { formula = f; layout = p; stream = s }) × (v.seen ≡ h)
+      × (v.mine ≡ own h s)
 
 -- a stream is judged by these events
 abbrev pub IsJudgedBy : Setting → Stream → History → Report → Type 0

@@ -1,19 +1,20 @@
 -- Lemmas on the streams of a run, on places in lists of them, and on the blocks of one stream.
 use Rattle.std.proofs.Common.{◌≡◌, ◌∙◌, ◌++◌, ℕ, zero, suc, List, [], ◌∷◌, Option, Some, None, length, map, eqb, refl, sym, ap, subst, append_assoc, append-nil, eq-eqb, ne_eqb}
 use Rattle.std.specs.Prelude.{slice_get}
+use Rattle.std.specs.List.{AllZip}
 use Rattle.std.specs.Io.KnownBytes.{Consumes}
 use Rattle.std.proofs.lemmas.Bool.{cond-true, cond-false}
 use Rattle.lrup_text.specs.ReadOut.{SourceView}
 use Rattle.runs.specs.Closed.{IsOfStream}
 use Rattle.runs.specs.Readings.{AreRead}
-use Rattle.runs.specs.Streams.{Stop, read_out, early, Stream, Telling, read_to, telling_of, tellings, IsTold, AreTold, Block, blocks_of}
+use Rattle.runs.specs.Streams.{Stop, read_out, early, Stream, Telling, read_to, telling_of, tellings, IsTold, Block, blocks_of}
 
 -- at one place stands one thing
 pub same_at : {X : Type 0} (xs : List X) (s : ℕ) (x y : X)
     → IsOfStream xs s x → IsOfStream xs s y → x ≡ y
 same_at xs s x y a b = let e : Some x ≡ Some y = sym a.1 ∙ b.1 in cc
 
-pub told_count : (told : List Telling) (streams : List Stream) → AreTold told streams
+pub told_count : (told : List Telling) (streams : List Stream) → AllZip IsTold told streams
     → length streams ≡ length told
 told_count [] [] are_told = refl
 told_count (t ∷ ts) (s ∷ ss) are_told = ap suc (told_count ts ss are_told.1)
@@ -48,7 +49,7 @@ pub record WasTold (told : List Telling) (k : ℕ) (stream : Stream) : Type 0 wh
   pub is_told : IsTold telling stream
 
 pub told_from : (told : List Telling) (streams : List Stream) (k : ℕ) (stream : Stream)
-    → AreTold told streams → slice_get streams k ≡ Some stream → WasTold told k stream
+    → AllZip IsTold told streams → slice_get streams k ≡ Some stream → WasTold told k stream
 told_from [] [] k stream are_told at = absurd (cc)
 told_from (t ∷ ts) (s ∷ ss) zero stream are_told at =
     let same : s ≡ stream = cc in

@@ -1,7 +1,7 @@
 -- What a run's streams told, and in which order of lines their reports hold (this project's own).
 use Rattle.std.specs.Prelude.{◌≡◌, ◌+◌, ◌++◌, ◌==◌, ℕ, Bool, true, false, IsTrue, List, [], ◌∷◌, Option, if◌then◌else◌}
 use Rattle.std.specs.Io.KnownBytes.{Consumes}
-use Rattle.std.specs.List.{AllByRecursion, flat_map}
+use Rattle.std.specs.List.{AllByRecursion, AllZip, flat_map}
 use Rattle.lrup_model.specs.Formula.{Cnf}
 use Rattle.lrup_model.specs.Cube.{CubeValue}
 use Rattle.lrup_model.specs.Layout.{LayoutValue, IsStream}
@@ -87,16 +87,10 @@ JudgesTo (early unneeded) c bytes blocks report =
 abbrev pub JudgesStream : Setting → Stream → List History → Report → Type 0
 JudgesStream c stream blocks report = JudgesTo stream.stop c stream.bytes blocks report
 
--- each stream is what its reader told
-abbrev pub AreTold : List Telling → List Stream → Type 0
-AreTold [] [] = Unit {0}
-AreTold (telling ∷ told) (stream ∷ streams) = IsTold telling stream × AreTold told streams
-AreTold _ _ = ⊥
-
--- What the reports of a run stand on: the streams that the readers told, of which the judgement holds.
+-- What the reports of a run stand on: streams, each of which is what its reader told, and of which the judgement holds.
 pub record StandsOnStreams (told : List Telling) (Judged : List Stream → Type 0) : Type 0 where
   pub streams : List Stream
-  pub are_told : AreTold told streams
+  pub are_told : AllZip IsTold told streams
   pub judged : Judged streams
 
 -- An order of lines
@@ -127,10 +121,6 @@ pub record TermsValue : Type 0 where
   pub layout : LayoutValue
   pub cube : CubeValue
   pub tries : ℕ
-
--- the record of these
-abbrev pub terms_at : LayoutValue → CubeValue → ℕ → TermsValue
-terms_at p cube tries = record { layout = p; cube = cube; tries = tries }
 
 -- the setting of stream s under these terms
 abbrev pub setting_of : TermsValue → ℕ → Setting
