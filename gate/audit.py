@@ -734,6 +734,7 @@ TRUST = """## What one has to trust
 
 GLOSSES = """
 `AllByRecursion P xs` P of each element
+`AllZip R xs ys` R of the two elements of each place; the lists are of one length
 `App` a command of `clap`: what it takes itself, `top`, and its subcommands, `subs`
 `Append` each use of the argument adds to its values
 `Consumes old new bs` if `old` is `Some xs`, `new` is `Some ys`, and xs is `bs ++ ys`; of `None` it says nothing
@@ -749,7 +750,6 @@ GLOSSES = """
 `MatchBool b P Q` P where b is `true`, Q where it is `false`
 `ReadConsumes old new r buffer` if r is `Ok n`, `Consumes` of the first n of the buffer, and `IsAtEnd new` if n is 0 and the \
 buffer isn't empty; if it is `Err`, what is known is as it was
-`Result A E` `Ok x`, or `Err e`
 `Rule` what `clap` is told of an argument; with `value_names` 0 or 1 an option has one value
 `SetTrue` an argument that takes no value: its use is 'true'
 `Text` the bytes of a word
@@ -829,7 +829,7 @@ HEADLINE_PHRASES = [
      ([[HaveOneHistory]]), and [[HaveOneHistory: legal : IsLegal f p h]]. From the formula's clauses on,
      [[IsLegal: LegalFrom f p (opening f) h]], each event answers as the map after the events before it ([[LegalFrom: Answers m
      e]]), and may be asked for ([[LegalFrom: IsAllowed f p e]])."""),
-    ("each stream's calls stand once, in its order", """[[HaveCalls: v.mine ≡ own h s]]: the calls made through the pass of
+    ("each stream's calls stand once, in its order", """[[HaveOneHistory: v.mine ≡ own h s]]: the calls made through the pass of
      stream s are the history's events of s, in order. That `mine` are the calls made is said at the store: a pass begins with
      none, [[IsOpened: mine : p.view.mine ≡ []]]; each call adds itself, [[PassMoves: mine : new.mine ≡ old.mine ++ es]] with
      [[Calls: moves : PassMoves old new (e ∷ [])]]; where two passes meet they add none, [[Meets: first : PassMoves old new
@@ -838,7 +838,7 @@ HEADLINE_PHRASES = [
      the pass had seen begins what it has seen then, [[PassMoves: seen : (more : History) × (new.seen ≡ old.seen ++ more)]], and
      the call is the last of that, [[Calls: last : EndsWith new.seen e]]; `more` isn't empty, since `mine` grew, and is what `seen`
      has of this stream ([[IsFair]]). In the end each pass has seen the one history:
-     [[HaveCalls: v.seen ≡ h]]."""),
+     [[HaveOneHistory: v.seen ≡ h]]."""),
     ("with the replies that it got", """the same clauses: the event has what the call answered.
      [[fn Store::fetch.calls: events.fetch pass.old.view.caller.stream id reply]], where
      [[fn Store::fetch.calls: reply = reply_of (pass_place pass.new.view) result]];
@@ -924,7 +924,7 @@ SERIALIZABLE_PHRASES = [
      streams]]."""),
     ("if no stream retires (deletes for all) a clause that another one found", """[[IsSerializable: FoundStays f terms.layout set
      h]]: what a stream of the set found live, and isn't its own, the run's history doesn't leave retired,
-     [[FindsKept: IsLiveReply r → ¬ Owns p s id → ¬ IsRetired (final id)]]."""),
+     [[FindsKept: FindsKept p final (events.fetch s id (events.live c)) = ¬ Owns p s id → ¬ IsRetired (final id)]]."""),
     ("have an order", """[[IsSerializable: IsOrdered f terms set streams reports]]: a list of blocks ([[Block]]), whose events
      are one after the other a legal history, [[IsOrdered: legal : IsLegal f terms.layout (events_in blocks)]]."""),
     ("one thread that takes whole lines", """a block is one stream's, [[IsBlockWithin: AllByRecursion (λ e. stream_of e ≡
