@@ -16,7 +16,6 @@ use Rattle.lrup_model.specs.History.{LegalFrom, IsLegal, IsPublishable}
 use Rattle.lrup_model.specs.declared.clause_map.Published.TheVariants as publishing
 use Rattle.lrup_text.specs.Lines.{StreamLine, Addition, Deletion, Import}
 use Rattle.lrup_text.specs.declared.device.StreamEnd.{StreamEnd}
-use Rattle.lrup_text.specs.declared.device.StreamEnd.TheVariants as stream_ends
 use Rattle.stream_check.specs.declared.fault.Fault.TheVariants as faults
 use Rattle.stream_check.specs.declared.report.Report.{Report}
 use Rattle.stream_check.specs.Setting.{Setting}
@@ -26,7 +25,8 @@ use Rattle.stream_check.specs.Verdicts.{Good}
 use Rattle.stream_check.specs.Additions.{published_by}
 use Rattle.stream_check.specs.Judging.{JudgesLine, AreGood, joined, JudgesBlocks}
 use Rattle.stream_check.specs.ReportLemmas.{said_within}
-use Rattle.runs.specs.Streams.{Stop, read_out, early, Stream, JudgesTo, JudgesStream, Block, blocks_of, events_in, AreJudged, IsOrdered, TermsValue, setting_of}
+use Rattle.runs.specs.StreamLemmas.{some_end}
+use Rattle.runs.specs.Streams.{Stream, JudgesStream, Block, blocks_of, events_in, AreJudged, IsOrdered, TermsValue, setting_of}
 use Rattle.runs.specs.Headline.{AreJudgedIn}
 use Rattle.run_laws.specs.PublishLemmas.{publishes_within}
 use Rattle.portfolio.specs.declared.outcome.Verdict.{Verdict}
@@ -46,10 +46,11 @@ within_is_published c bytes end blocks report judged is =
     ∙ ap (list_any (publishes_within c.cube)) (flat_map-append (λ (block : History). block) judged.front judged.back)
     ∙ any_front (publishes_within c.cube) (joined judged.front) (joined judged.back) front
 
-stream_publishes : (c : Setting) (stop : Stop) (bytes : List ℕ) (blocks : List History) (report : Report)
-    → JudgesTo stop c bytes blocks report → IsTrue report.within → IsTrue (list_any (publishes_within c.cube) (joined blocks))
-stream_publishes c (read_out end) bytes blocks report judged is = within_is_published c bytes end blocks report judged is
-stream_publishes c (early unneeded) bytes blocks report judged is = within_is_published c bytes stream_ends.Ended blocks report judged.1 is
+stream_publishes : (c : Setting) (stream : Stream) (blocks : List History) (report : Report)
+    → JudgesStream c stream blocks report → IsTrue report.within → IsTrue (list_any (publishes_within c.cube) (joined blocks))
+stream_publishes c stream blocks report judged is =
+    let way = some_end c stream blocks report judged in
+    within_is_published c stream.bytes way.0 blocks report way.1 is
 
 -- ---- the formula under the cube
 
@@ -74,7 +75,7 @@ refuted_from f p cube m (events.publish s id c publishing.Done ∷ es) legal h =
 sound : (f : Cnf) (p : LayoutValue) (h : History) (c : Setting) (stream : Stream) (blocks : List History) (report : Report)
     → IsLegal f p h → own h c.stream ≡ joined blocks → JudgesStream c stream blocks report → IsTrue report.within → IsUnsatisfiableUnder f c.cube
 sound f p h c stream blocks report legal mine judged is =
-    let published = stream_publishes c stream.stop stream.bytes blocks report judged is in
+    let published = stream_publishes c stream blocks report judged is in
     refuted_from f p c.cube (opening f) h legal.events
     (any_filtered (publishes_within c.cube) _ h (ap (list_any (publishes_within c.cube)) mine ∙ published))
 
@@ -83,7 +84,7 @@ sound_in_order : (f : Cnf) (p : LayoutValue) (order : List Block) (s : ℕ) (c :
     → IsLegal f p (events_in order) → JudgesStream c stream (blocks_of s order) report → IsTrue report.within → IsUnsatisfiableUnder f c.cube
 sound_in_order f p order s c stream report legal judged is =
     refuted_from f p c.cube (opening f) (events_in order) legal.events
-    (any_block (publishes_within c.cube) s order (stream_publishes c stream.stop stream.bytes (blocks_of s order) report judged is))
+    (any_block (publishes_within c.cube) s order (stream_publishes c stream (blocks_of s order) report judged is))
 
 -- ---- a run
 

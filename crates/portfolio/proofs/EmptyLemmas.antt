@@ -18,7 +18,6 @@ use Rattle.lrup_model.specs.History.{LegalFrom, IsLegal}
 use Rattle.lrup_model.specs.declared.clause_map.Published.TheVariants as publishing
 use Rattle.lrup_text.specs.Lines.{StreamLine, Addition, Deletion, Import}
 use Rattle.lrup_text.specs.declared.device.StreamEnd.{StreamEnd}
-use Rattle.lrup_text.specs.declared.device.StreamEnd.TheVariants as stream_ends
 use Rattle.stream_check.specs.declared.fault.Fault.{Fault}
 use Rattle.stream_check.specs.declared.fault.Fault.TheVariants as faults
 use Rattle.stream_check.specs.declared.report.Report.{Report}
@@ -29,7 +28,8 @@ use Rattle.stream_check.specs.Additions.{AtConflict, AtReply, JudgesHints, publi
 use Rattle.stream_check.specs.Judging.{JudgesLine, AreGood, joined, JudgesBlocks}
 use Rattle.stream_check.specs.ReportLemmas.{said_empty}
 use Rattle.run_laws.specs.PublishLemmas.{publishes_empty}
-use Rattle.runs.specs.Streams.{Stop, read_out, early, Stream, JudgesTo, JudgesStream, Block, blocks_of, events_in}
+use Rattle.runs.specs.StreamLemmas.{some_end}
+use Rattle.runs.specs.Streams.{Stream, JudgesStream, Block, blocks_of, events_in}
 
 -- ---- some element of a list
 
@@ -129,10 +129,11 @@ empty_is_published c bytes end blocks report judged is =
     ∙ ap (list_any publishes_empty) (flat_map-append (λ (block : History). block) judged.front judged.back)
     ∙ any_front publishes_empty (joined judged.front) (joined judged.back) front
 
-pub stream_publishes : (c : Setting) (stop : Stop) (bytes : List ℕ) (blocks : List History) (report : Report)
-    → JudgesTo stop c bytes blocks report → IsTrue report.empty → IsTrue (list_any publishes_empty (joined blocks))
-stream_publishes c (read_out end) bytes blocks report judged is = empty_is_published c bytes end blocks report judged is
-stream_publishes c (early unneeded) bytes blocks report judged is = empty_is_published c bytes stream_ends.Ended blocks report judged.1 is
+pub stream_publishes : (c : Setting) (stream : Stream) (blocks : List History) (report : Report)
+    → JudgesStream c stream blocks report → IsTrue report.empty → IsTrue (list_any publishes_empty (joined blocks))
+stream_publishes c stream blocks report judged is =
+    let way = some_end c stream blocks report judged in
+    empty_is_published c stream.bytes way.0 blocks report way.1 is
 
 -- ---- the formula
 
@@ -161,11 +162,11 @@ refuted f p h legal is = empty_refutes f (empty_follows f p (opening f) h legal.
 pub sound : (f : Cnf) (p : LayoutValue) (h : History) (c : Setting) (stream : Stream) (blocks : List History) (report : Report)
     → IsLegal f p h → own h c.stream ≡ joined blocks → JudgesStream c stream blocks report → IsTrue report.empty → IsUnsatisfiable f
 sound f p h c stream blocks report legal mine judged is =
-    let published = stream_publishes c stream.stop stream.bytes blocks report judged is in
+    let published = stream_publishes c stream blocks report judged is in
     refuted f p h legal (any_filtered publishes_empty _ h (ap (list_any publishes_empty) mine ∙ published))
 
 -- So it is where the stream's blocks stand in an order of lines that is legal.
 pub sound_in_order : (f : Cnf) (p : LayoutValue) (order : List Block) (s : ℕ) (c : Setting) (stream : Stream) (report : Report)
     → IsLegal f p (events_in order) → JudgesStream c stream (blocks_of s order) report → IsTrue report.empty → IsUnsatisfiable f
 sound_in_order f p order s c stream report legal judged is =
-    refuted f p (events_in order) legal (any_block publishes_empty s order (stream_publishes c stream.stop stream.bytes (blocks_of s order) report judged is))
+    refuted f p (events_in order) legal (any_block publishes_empty s order (stream_publishes c stream (blocks_of s order) report judged is))

@@ -1,7 +1,7 @@
 -- The one history of a run with threads, and what the reports say of it.
 use Rattle.std.proofs.Common.{◌≡◌, inl, inr, ℕ, zero, suc, ◌+◌, ◌-◌, ◌<◌, ◌≤◌, Bool, true, false, List, [], ◌∷◌, ◌++◌, length, map, take, Option, Some, refl, sym, ap, ap₂, subst, ◌∙◌, arith, append-nil}
 use Rattle.std.specs.Result.{IsErrAnd}
-use Rattle.std.specs.Prelude.{Result, Ok, Err, slice_get, if◌then◌else◌}
+use Rattle.std.specs.Prelude.{IsSome, Result, Ok, Err, slice_get, if◌then◌else◌}
 use Rattle.std.specs.List.{AllByRecursion, list_any, AllZip}
 use Rattle.std.proofs.lemmas.Option.{slice_get_within}
 use Rattle.std.proofs.lemmas.Bool.{or_cases}
@@ -32,7 +32,7 @@ use Rattle.runs.specs.Headline.{HaveOneHistory, IsJudgedBy, AreJudgedIn, WereJud
 use Rattle.stream_threads.specs.Jobs.{JobsValue, FoundValue, CanBegin, Finishes, AllFinish, AreJobs}
 use Rattle.lrup_text.specs.ReadOut.{SourceView}
 use Rattle.runs.specs.Readings.{AreRead, IsStreamOf}
-use Rattle.runs.specs.Streams.{Stream, IsReadOut, tellings, IsTold, JudgesStream, StandsOnStreams, TermsValue, setting_of}
+use Rattle.runs.specs.Streams.{Stream, tellings, IsTold, JudgesStream, StandsOnStreams, TermsValue, setting_of}
 use Rattle.portfolio.proofs.EmptyLemmas.{sound}
 
 -- ---- the layout
@@ -285,7 +285,7 @@ module _ {S : Type 0} (view : SourceView S) where
   -- The streams that the readers told, and that their reads gave, by which the reports hold.
   pub record Judged (terms : TermsValue) (s : ℕ) (firsts : List S) (fs : List (FoundValue S)) (vs : List View) : Type 0 where
     pub streams : List Stream
-    pub out : AllByRecursion IsReadOut streams
+    pub out : AllByRecursion (λ stream. IsSome stream.end) streams
     pub told : AllZip IsTold (tellings view firsts (map (λ x. x.reader) fs)) streams
     pub judged : AreJudgedBy terms s streams vs (map (λ x. x.report) fs)
     pub read : AreRead S view.reads firsts (map (λ x. x.reader) fs) streams
@@ -339,7 +339,7 @@ module _ {S : Type 0} (view : SourceView S) where
       → Judged terms 1 firsts fs vs → terms ≡ wanted → HaveOneHistory f wanted.layout (seen_by vs) vs
       → lasts ≡ map (λ x. x.reader) fs → reports ≡ map (λ x. x.report) fs
       → StandsOnStreams (tellings view firsts lasts)
-      (λ streams. AllByRecursion IsReadOut streams × AreJudgedIn wanted (λ s. true) (seen_by vs) 1 streams reports × AreRead S view.reads firsts lasts streams)
+      (λ streams. AllByRecursion (λ stream. IsSome stream.end) streams × AreJudgedIn wanted (λ s. true) (seen_by vs) 1 streams reports × AreRead S view.reads firsts lasts streams)
   judged_so f terms wanted firsts lasts reports fs vs j same one readers said =
       let judged : AreJudgedBy wanted 1 j.streams vs (map (λ x. x.report) fs) =
       subst (λ (t : TermsValue). AreJudgedBy t 1 j.streams vs (map (λ x. x.report) fs)) same j.judged in

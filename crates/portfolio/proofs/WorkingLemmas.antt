@@ -6,22 +6,19 @@ use Rattle.std.proofs.KnownBytes.{Consumes-trans}
 use Rattle.std.proofs.Math.Seq.{take-add}
 use Rattle.std.proofs.lemmas.List.{take-take, drop-drop}
 use Rattle.lrup_model.specs.Event.{History}
-use Rattle.lrup_text.specs.Lines.{StreamLine}
 use Rattle.lrup_text.specs.declared.device.StreamEnd.{StreamEnd}
 use Rattle.lrup_text.specs.declared.device.StreamEnd.TheVariants as stream_ends
 use Rattle.stream_check.specs.declared.report.Ending.{Ending}
-use Rattle.stream_check.specs.declared.report.Ending.TheVariants as endings
 use Rattle.stream_check.specs.declared.report.Report.{Report}
 use Rattle.stream_check.specs.Setting.{Setting}
-use Rattle.stream_check.specs.Judging.{ending_at, EndsAfter, at_line, at_text, at_memory, at_end, JudgesBlocks}
+use Rattle.stream_check.specs.Judging.{JudgesBlocks}
 use Rattle.stream_check.specs.Leaving.{Leaves}
 use Rattle.stream_check.specs.CheckerValue.{report_at, CheckerValue}
 use Rattle.stream_check.specs.Checker.{state_by, checker_state, LeavesOn, EndsBy, Ends, ReportsEnd}
 use Rattle.lrup_text.specs.ReadLemmas.{gave_more}
 use Rattle.lrup_text.specs.ReadOut.{EndsSo, IsLastRead, SourceView}
 use Rattle.lrup_text.specs.Reads.{Gave}
-use Rattle.runs.specs.Readings.{IsReadTo}
-use Rattle.runs.specs.Streams.{Stop, early, read_to, StopsSo, StopsReading, JudgesTo, read_out}
+use Rattle.runs.specs.StreamLemmas.{judged_out}
 use Rattle.portfolio.specs.Working.{WorkerValue, WorksBy, Works, WorksOn}
 
 -- ---- going on
@@ -34,30 +31,12 @@ none_of (Some ending) none = absurd (none refl)
 pub not_over : (over : Bool) (ending : Option Ending) → (IsTrue over ↔ IsSome ending) → over ≡ false → ending ≡ None
 not_over over ending is going = none_of ending (λ some. let yes : over ≡ true = is.1 some in cc)
 
--- ---- a report that is right for either end tells of neither
+-- ---- what is judged so for both ends is judged so for each
 
-ends_not_ended : (c : Setting) (lines : List StreamLine) (rest : List ℕ) (blocks : List History) (report : Report) → EndsAfter c lines rest stream_ends.Failed blocks report → report.ending ≡ endings.Ended → ⊥
-ends_not_ended c lines rest blocks report (at_line _ _ _ _ _ _ _ _ _ says) e = let f = sym e ∙ ap (λ (r : Report). r.ending) says in cc
-ends_not_ended c lines rest blocks report (at_text _ _ _ says) e = let f = sym e ∙ ap (λ (r : Report). r.ending) says in cc
-ends_not_ended c lines rest blocks report (at_memory _ _ _ _ _ _ _ _ _ says) e = let f = sym e ∙ ap (λ (r : Report). r.ending) says in cc
-ends_not_ended c lines rest blocks report (at_end _ _ says) e = let f = sym e ∙ ap (λ (r : Report). r.ending) says in cc
-
-end_not_failed : (rest : List ℕ) (n line : ℕ) → ending_at stream_ends.Ended rest n ≡ endings.ReadFailed line → ⊥
-end_not_failed [] n line e = cc
-end_not_failed (byte ∷ bytes) n line e = cc
-
-ends_not_failed : (c : Setting) (lines : List StreamLine) (rest : List ℕ) (blocks : List History) (report : Report) (n : ℕ) → EndsAfter c lines rest stream_ends.Ended blocks report → report.ending ≡ endings.ReadFailed n → ⊥
-ends_not_failed c lines rest blocks report n (at_line _ _ _ _ _ _ _ _ _ says) e = let f = sym e ∙ ap (λ (r : Report). r.ending) says in cc
-ends_not_failed c lines rest blocks report n (at_text _ _ _ says) e = let f = sym e ∙ ap (λ (r : Report). r.ending) says in cc
-ends_not_failed c lines rest blocks report n (at_memory _ _ _ _ _ _ _ _ _ says) e = let f = sym e ∙ ap (λ (r : Report). r.ending) says in cc
-ends_not_failed c lines rest blocks report n (at_end _ _ says) e = end_not_failed rest _ n (sym (ap (λ (r : Report). r.ending) says) ∙ e)
-
-stops_reading : (c : Setting) (bytes : List ℕ) (blocks : List History) (report : Report) (ending : Ending) → report.ending ≡ ending
-    → JudgesBlocks c bytes stream_ends.Ended blocks report → JudgesBlocks c bytes stream_ends.Failed blocks report → StopsReading ending
-stops_reading c bytes blocks report endings.Ended is ended failed = ends_not_ended c failed.lines failed.rest failed.back report failed.ends is
-stops_reading c bytes blocks report (endings.Bad line fault) is ended failed = tt
-stops_reading c bytes blocks report (endings.ReadFailed line) is ended failed = ends_not_failed c ended.lines ended.rest ended.back report line ended.ends is
-stops_reading c bytes blocks report (endings.Memory line) is ended failed = tt
+either_end : (c : Setting) (bytes : List ℕ) (blocks : List History) (report : Report) (end : StreamEnd)
+    → JudgesBlocks c bytes stream_ends.Ended blocks report → JudgesBlocks c bytes stream_ends.Failed blocks report → JudgesBlocks c bytes end blocks report
+either_end c bytes blocks report stream_ends.Ended at_end at_failure = at_end
+either_end c bytes blocks report stream_ends.Failed at_end at_failure = at_failure
 
 -- ---- a worker's steps
 
@@ -104,16 +83,17 @@ module _ {S : Type 0} (view : SourceView S) where
       let report = report_at u.tally judged.0 in
       subst (λ e. WorksBy view e first (worker_of new rest u) room (before ++ [])) (sym judged.1)
       (subst (λ (bs : List History). WorksBy view (Some judged.0) first (worker_of new rest u) room bs) (sym (append-nil before)) (
-        record { bytes = here.0; stop = read_out end },
+        record { bytes = here.0; unneeded = []; end = Some end },
         (
           record {
-            consumes = subst (Consumes (view.left first) (view.left new)) (append-nil here.0)
-                (Consumes-trans (view.left first) (view.left old) (view.left new) here.0 [] given told);
-            stops = stops;
+            consumes = Consumes-trans (view.left first) (view.left old) (view.left new) here.0 [] given told;
+            ends = stops;
+            needed = λ out. refl;
           },
           record { last = old; given = gave; ends = last },
         ),
-        subst (λ (c : Setting). JudgesBlocks c here.0 end before report) (sym same) judged.2,
+        judged_out u.setting here.0 [] end before report
+            (subst (λ (c : Setting). JudgesBlocks c here.0 end before report) (sym same) judged.2),
       ))
 
   -- the bytes so far left the checker so, and it is over or not
@@ -124,9 +104,9 @@ module _ {S : Type 0} (view : SourceView S) where
   works_at None first reader bytes rest v room blocks is running given gave leaves =
       (bytes, given, gave, subst (λ e. Leaves v.setting bytes blocks (state_by v room e)) (sym is) leaves)
   works_at (Some ending) first reader bytes rest v room blocks is running given gave leaves = (
-    record { bytes = bytes; stop = early rest },
-    (record { consumes = given; stops = running }, gave),
-    (stops_reading v.setting bytes blocks (report_at v.tally ending) ending refl leaves.0 leaves.1, leaves.0, leaves.1),
+    record { bytes = bytes; unneeded = rest; end = None },
+    (record { consumes = given; ends = running; needed = λ out. absurd (let no : false ≡ true = out in cc) }, gave),
+    λ end may. either_end v.setting bytes blocks (report_at v.tally ending) end leaves.0 leaves.1,
   )
 
   -- what the checker took of the bytes that were read

@@ -26,11 +26,10 @@ use Rattle.stream_check.specs.Judging.{JudgesLine, AreGood, EndsAfter, at_line, 
 use Rattle.stream_check.specs.Laws.{GoodExactlyIf}
 use Rattle.stream_check.specs.ReportLemmas.{additions-append, said_empty, said_within, joined-append}
 use Rattle.runs.specs.Streams.{Stream, JudgesStream, Block, blocks_of, events_in, IsBlockWithin, AreJudged, TermsValue, setting_of, IsOrdered}
-use Rattle.runs.specs.StreamLemmas.{blocks-same, blocks-other}
+use Rattle.runs.specs.StreamLemmas.{blocks-same, blocks-other, some_end}
 use Rattle.run_laws.specs.PublishLemmas.{publishes_empty, publishes_within, published_some}
 use Rattle.run_laws.specs.OrderLaws.{ClosedOrdered, AllClosed, AllOrdered}
 use Rattle.run_laws.proofs.KindLemmas.{addition_all, import_all, identities_all}
-use Rattle.run_laws.proofs.StreamLemmas.{some_end}
 
 -- Truth values
 
@@ -230,7 +229,7 @@ module _ (law : GoodExactlyIf) (terms : TermsValue) (order : List Block) (passes
       → list_any passes (joined (blocks_of s order)) ≡ says report
   told_by s stream report judged =
       let way : (end : StreamEnd) × JudgesBlocks (setting_of terms s) stream.bytes end (blocks_of s order) report
-      = some_end stream.stop (setting_of terms s) stream.bytes (blocks_of s order) report judged in
+      = some_end (setting_of terms s) stream (blocks_of s order) report judged in
       stream_tells law (setting_of terms s) passes adds says (tells s) stream.bytes way.0 (blocks_of s order) report way.1
 
   said_published : (s : ℕ) (streams : List Stream) (reports : List Report) → AreJudged terms (λ t. true) order s streams reports

@@ -1,5 +1,5 @@
 -- Groups of streams: what holds of their reports whatever the streams outside the group do (this project's own).
-use Rattle.std.specs.Prelude.{◌≡◌, ◌+◌, ◌==◌, ◌++◌, ℕ, Bool, true, false, IsTrue, List, [], ◌∷◌, length, Some, if◌then◌else◌}
+use Rattle.std.specs.Prelude.{◌≡◌, ◌+◌, ◌==◌, ◌++◌, ℕ, Bool, true, false, IsTrue, List, [], ◌∷◌, length, Some, MatchOption, if◌then◌else◌}
 use Rattle.std.specs.List.{AllByRecursion, AllZip}
 use Rattle.lrup_model.specs.Formula.{Cnf}
 use Rattle.lrup_model.specs.Layout.{LayoutValue}
@@ -11,7 +11,7 @@ use Rattle.lrup_text.specs.declared.device.StreamEnd.{StreamEnd}
 use Rattle.lrup_text.specs.declared.device.StreamEnd.TheVariants as stream_ends
 use Rattle.stream_check.specs.Laws.{IsOfMemory}
 use Rattle.runs.specs.Closed.{IsOfStream, CiteWithin, IsClosed}
-use Rattle.runs.specs.Streams.{Stop, read_out, early, Stream, Telling, TermsValue, IsTold}
+use Rattle.runs.specs.Streams.{Stream, Telling, TermsValue, IsTold}
 use Rattle.runs.specs.Headline.{AreJudgedIn}
 
 -- one stream, as a set
@@ -29,12 +29,10 @@ AreClosedReaders p set told =
 -- Readings
 
 -- one reading of a stream that has these bytes and this end: all of it, or a beginning after which no more was needed
-abbrev pub IsReadingTo : Stop → List ℕ → List ℕ → StreamEnd → Type 0
-IsReadingTo (read_out stop) bytes whole end = (whole ≡ bytes) × (end ≡ stop)
-IsReadingTo (early unneeded) bytes whole end = (more : List ℕ) × (whole ≡ bytes ++ more)
-
 abbrev pub IsReadingOf : List ℕ → StreamEnd → Stream → Type 0
-IsReadingOf whole end stream = IsReadingTo stream.stop stream.bytes whole end
+IsReadingOf whole end stream =
+    MatchOption stream.end ((more : List ℕ) × (whole ≡ stream.bytes ++ more))
+    (λ its. (whole ≡ stream.bytes) × (its ≡ end))
 
 -- Groups
 
@@ -90,7 +88,7 @@ HaveReportsAlone f terms told Judged reports =
 
 -- no bytes, read to the end
 abbrev pub empty_stream : Stream
-empty_stream = record { bytes = []; stop = read_out stream_ends.Ended }
+empty_stream = record { bytes = []; unneeded = []; end = Some stream_ends.Ended }
 
 -- what is said of them
 abbrev pub empty_report : Report

@@ -1,5 +1,5 @@
 -- What a run with two threads for each stream promises (this project's own).
-use Rattle.std.specs.Prelude.{◌≡◌, ◌+◌, ℕ, Bool, IsTrue, List, [], ◌∷◌, length}
+use Rattle.std.specs.Prelude.{◌≡◌, ◌+◌, ℕ, Bool, IsTrue, List, [], ◌∷◌, IsSome, length}
 use Rattle.lrup_model.specs.Formula.{Cnf}
 use Rattle.lrup_model.specs.Layout.{LayoutValue}
 use Rattle.lrup_model.specs.Event.{History, own}
@@ -11,7 +11,7 @@ use Rattle.stream_check.specs.Judging.{joined}
 use Rattle.lrup_text.specs.ReadOut.{SourceView}
 use Rattle.runs.specs.Closed.{IsOfStream}
 use Rattle.runs.specs.Readings.{IsStreamOf}
-use Rattle.runs.specs.Streams.{Stream, IsReadOut, JudgesStream, TermsValue, setting_of}
+use Rattle.runs.specs.Streams.{Stream, JudgesStream, TermsValue, setting_of}
 
 -- what the first of the passes has seen
 abbrev pub seen_by : List View → History
@@ -46,6 +46,6 @@ abbrev pub WereJudged : {S : Type 0} → SourceView S → TermsValue → ℕ →
 WereJudged view terms s [] = Unit {0}
 WereJudged {S} view terms s (first ∷ firsts) =
     ((last : S) × (stream : Stream) × (blocks : List History) × (report : Report)
-    × IsReadOut stream × IsStreamOf view first last stream
+    × IsSome stream.end × IsStreamOf view first last stream
     × JudgesStream (setting_of terms s) stream blocks report)
     × WereJudged view terms (s + 1) firsts

@@ -1,5 +1,5 @@
 -- What a run's streams told, and in which order of lines their reports hold (this project's own).
-use Rattle.std.specs.Prelude.{◌≡◌, ◌+◌, ◌++◌, ◌==◌, ℕ, Bool, true, false, IsTrue, List, [], ◌∷◌, Option, if◌then◌else◌}
+use Rattle.std.specs.Prelude.{◌≡◌, ◌+◌, ◌++◌, ◌==◌, ℕ, Bool, false, IsTrue, List, [], ◌∷◌, Option, IsSome, IfSome, MatchOption, if◌then◌else◌}
 use Rattle.std.specs.Io.KnownBytes.{Consumes}
 use Rattle.std.specs.List.{AllByRecursion, AllZip, flat_map}
 use Rattle.lrup_model.specs.Formula.{Cnf}
@@ -9,32 +9,16 @@ use Rattle.lrup_model.specs.Event.{History, stream_of}
 use Rattle.lrup_model.specs.History.{IsLegal}
 use Rattle.lrup_text.specs.ReadOut.{EndsSo, SourceView}
 use Rattle.lrup_text.specs.declared.device.StreamEnd.{StreamEnd}
-use Rattle.lrup_text.specs.declared.device.StreamEnd.TheVariants as stream_ends
-use Rattle.stream_check.specs.declared.report.Ending.{Ending}
-use Rattle.stream_check.specs.declared.report.Ending.TheVariants as endings
 use Rattle.stream_check.specs.declared.report.Report.{Report}
 use Rattle.stream_check.specs.Setting.{Setting}
 use Rattle.stream_check.specs.Judging.{JudgesBlocks}
 
--- Where the reading of a stream stopped: at the end that it came to; or before, since nothing more was needed than what came
--- before these last bytes that were read.
-pub data Stop : Type 0 where
-  read_out : (end : StreamEnd) → Stop
-  early : (unneeded : List ℕ) → Stop
-
--- the bytes of a stream that were needed, and where its reading stopped
+-- The bytes of a stream that were needed; those that were read after them, where no more was needed; and how the stream ended, if
+-- it was read to its end or to the read that failed.
 pub record Stream : Type 0 where
   pub bytes : List ℕ
-  pub stop : Stop
-
--- the stream was read to its end, or to the read that failed
-abbrev pub IsReadOut : Stream → Type 0
-IsReadOut stream = (end : StreamEnd) × (stream.stop ≡ read_out end)
-
--- all bytes that were read, where these were needed
-abbrev pub read_to : Stop → List ℕ → List ℕ
-read_to (read_out end) bytes = bytes
-read_to (early unneeded) bytes = bytes ++ unneeded
+  pub unneeded : List ℕ
+  pub end : Option StreamEnd
 
 -- What a reader tells: which bytes it has left at first and which in the end, where the device tells them, and whether it has
 -- failed then.
@@ -58,34 +42,19 @@ tellings view (first ∷ firsts) [] = []
 tellings view (first ∷ firsts) (last ∷ lasts) =
     telling_of view first last ∷ tellings view firsts lasts
 
--- the reader has what a reading that stopped so leaves
-abbrev pub StopsSo : Stop → Option (List ℕ) → Bool → Type 0
-StopsSo (read_out end) left has_failed = EndsSo end left has_failed
-StopsSo (early unneeded) left has_failed = has_failed ≡ false
-
--- The stream is what a reader told: the bytes read are a beginning of those left at first. Where the reader doesn't tell what it has
--- left, any bytes will do.
+-- The stream is what a reader told: the bytes read are a beginning of those left at first, and all were needed where the stream was
+-- read to its end. Where the reader doesn't tell what it has left, any bytes will do.
 pub record IsTold (telling : Telling) (stream : Stream) : Type 0 where
-  pub consumes : Consumes telling.entry telling.left (read_to stream.stop stream.bytes)
-  pub stops : StopsSo stream.stop telling.left telling.has_failed
+  pub consumes : Consumes telling.entry telling.left (stream.bytes ++ stream.unneeded)
+  pub ends : MatchOption stream.end (telling.has_failed ≡ false)
+      (λ end. EndsSo end telling.left telling.has_failed)
+  pub needed : IsSome stream.end → stream.unneeded ≡ []
 
--- only a bad line, or that memory ran out, stops a stream early
-abbrev pub StopsReading : Ending → Type 0
-StopsReading endings.Ended = ⊥
-StopsReading (endings.Bad line fault) = Unit {0}
-StopsReading (endings.ReadFailed line) = ⊥
-StopsReading (endings.Memory line) = Unit {0}
-
--- a stream is judged by these blocks of events; one that was stopped early is judged so whatever its end would have been
-abbrev pub JudgesTo : Stop → Setting → List ℕ → List History → Report → Type 0
-JudgesTo (read_out end) c bytes blocks report = JudgesBlocks c bytes end blocks report
-JudgesTo (early unneeded) c bytes blocks report =
-    StopsReading report.ending × JudgesBlocks c bytes stream_ends.Ended blocks report
-    × JudgesBlocks c bytes stream_ends.Failed blocks report
-
--- the stream is judged by these blocks of events, as its stop wants
+-- The stream is judged by these blocks of events; one that was stopped early is judged so whatever its end would have been.
 abbrev pub JudgesStream : Setting → Stream → List History → Report → Type 0
-JudgesStream c stream blocks report = JudgesTo stream.stop c stream.bytes blocks report
+JudgesStream c stream blocks report =
+    (end : StreamEnd) → IfSome stream.end (λ its. its ≡ end)
+    → JudgesBlocks c stream.bytes end blocks report
 
 -- What the reports of a run stand on: streams, each of which is what its reader told, and of which the judgement holds.
 pub record StandsOnStreams (told : List Telling) (Judged : List Stream → Type 0) : Type 0 where
