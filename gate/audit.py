@@ -744,6 +744,8 @@ GLOSSES = """
 `IfErr r P` if r is `Err e`, then P of e
 `IfOk r P` if r is `Ok x`, then P of x
 `IfSome o P` if o is `Some x`, then P of x
+`IsSome o` o is `Some x`
+`MatchOption o A P` A, or if o is `Some x`, P of x
 `IsAtEnd left` if left is `Some xs`, xs is `[]`
 `IsNone o` o is `None`
 `IsTrue b` b is `true`
@@ -864,7 +866,7 @@ HEADLINE_PHRASES = [
      streams]], of the same streams: [[ReadOut: given : Gave S reads first bytes last]], from each reader as it was handed in.
      Whoever hands in the readers chooses `reads`; [AUDIT](AUDIT.md#status-0) says under 'Which reads?' why that suffices. Where
      a reader tells what it has left, the bytes begin that ([[IsTold]])."""),
-    ("up to its first end or to one that failed", """[[fn run.reports: AllByRecursion IsReadOut streams]], so
+    ("up to its first end or to one that failed", """[[fn run.reports: AllByRecursion (λ stream. IsSome stream.end) streams]], so
      [[ReadOut: ends : IsLastRead S reads end last after]] for the end by which the stream is judged."""),
     ("'Unsatisfiable' means that no assignment makes every clause of the formula true", """[[fn run.sound: outcome.verdict ≡
      Verdict.Unsatisfiable → IsUnsatisfiable formula.now]]. The [[Formula]] is that of its text,
