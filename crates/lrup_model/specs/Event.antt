@@ -33,17 +33,6 @@ stream_of (retire s id r) = s
 abbrev pub own : History → ℕ → History
 own h s = filter (λ e. stream_of e == s) h
 
--- the literals that an event takes of its stream's room
-abbrev pub size_of : Event → ℕ
-size_of (fetch s id r) = 0
-size_of (publish s id c publishing.Done) = length c
-size_of (publish s id c publishing.Taken) = 0
-size_of (retire s id r) = 0
-
--- the sizes of the clauses that a stream published with Done, added up
-abbrev pub spent : ℕ → History → ℕ
-spent s h = sum_by size_of (own h s)
-
 -- the identity and the clause of each event that published one, in order
 abbrev pub published : History → List (ℕ × Clause)
 published [] = []
@@ -51,3 +40,7 @@ published (fetch s id r ∷ es) = published es
 published (publish s id c publishing.Done ∷ es) = (id, c) ∷ published es
 published (publish s id c publishing.Taken ∷ es) = published es
 published (retire s id r ∷ es) = published es
+
+-- the sizes of the clauses that a stream published with Done, added up
+abbrev pub spent : ℕ → History → ℕ
+spent s h = sum_by (λ p. length p.1) (published (own h s))

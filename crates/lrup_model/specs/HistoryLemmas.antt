@@ -8,10 +8,10 @@ use Rattle.lrup_model.specs.Clause.{Clause}
 use Rattle.lrup_model.specs.Formula.{Cnf, clause_at}
 use Rattle.lrup_model.specs.Layout.{LayoutValue, Fits, Owns, owner, last_identity}
 use Rattle.lrup_model.specs.Event as events
-use Rattle.lrup_model.specs.Event.{Event, History, stream_of, size_of, own, spent, published}
+use Rattle.lrup_model.specs.Event.{Event, History, stream_of, own, spent, published}
 use Rattle.lrup_model.specs.State.{State, Slot, absent, live, retire_slot, after, opening, run, state, AreVacantAbove}
 use Rattle.lrup_model.specs.History.{IsAllowed, LegalFrom, IsLegal, IsPublishable}
-use Rattle.lrup_model.specs.Running.{spent-append}
+use Rattle.lrup_model.specs.Running.{size_of, spent-sizes, spent-append}
 use Rattle.lrup_model.specs.declared.clause_map.Published.TheVariants as publishing
 use Rattle.lrup_model.specs.declared.clause_map.Retired.TheVariants as retiring
 use Rattle.lrup_model.specs.declared.layout.Owner.{Owner}
@@ -163,7 +163,7 @@ own-own (e ∷ h) s =
     ]
 
 pub spent-own : (s : ℕ) (h : History) → spent s (own h s) ≡ spent s h
-spent-own s h = ap (sum_by size_of) (own-own h s)
+spent-own s h = ap (λ (es : History). sum_by (λ p. length p.1) (published es)) (own-own h s)
 
 -- a stream has no event among those of others
 pub own-none : (h : History) (s : ℕ) → AllByRecursion (λ e. stream_of e ≡ s → ⊥) h → own h s ≡ []
@@ -197,7 +197,7 @@ vacant_above_stays f p m h s last legal others vacant id owns above = run-others
 -- What was published
 
 pub spent_one : (s : ℕ) (e : Event) → stream_of e ≡ s → spent s (e ∷ []) ≡ size_of e
-spent_one s e h = ap (sum_by size_of) (own-mine e [] s h) ∙ omega (arith, sum_by-cons size_of e [])
+spent_one s e h = spent-sizes s (e ∷ []) ∙ ap (sum_by size_of) (own-mine e [] s h) ∙ omega (arith, sum_by-cons size_of e [])
 
 pub published-append : (g h : History) → published (g ++ h) ≡ published g ++ published h
 published-append [] h = refl

@@ -10,7 +10,7 @@ use Rattle.lrup_model.specs.Cube.{CubeValue}
 use Rattle.lrup_model.specs.Entailment.{IsUnsatisfiable}
 use Rattle.lrup_model.specs.Formula.{Cnf}
 use Rattle.lrup_model.specs.Layout.{LayoutValue, Fits, Owns, IsStream}
-use Rattle.lrup_model.specs.Event.{History, stream_of, own, size_of, spent}
+use Rattle.lrup_model.specs.Event.{History, stream_of, own, published, spent}
 use Rattle.lrup_model.specs.State.{State, opening, run}
 use Rattle.lrup_model.specs.History.{LegalFrom, IsLegal}
 use Rattle.lrup_model.specs.HistoryLemmas.{opening-owned}
@@ -99,7 +99,7 @@ spent-others : (s t : ℕ) (es : History) → AllByRecursion (λ e. stream_of e 
 spent-others s t [] calls other = refl
 spent-others s t (e ∷ es) calls other =
     let not_mine : eqb (stream_of e) t ≡ false = ne_eqb (stream_of e) t (λ same. other (sym calls.0 ∙ same)) in
-    ap (sum_by size_of) (cond-false (eqb (stream_of e) t) (e ∷ own es t) (own es t) not_mine) ∙ spent-others s t es calls.1 other
+    ap (λ (h : History). sum_by (λ p. length p.1) (published h)) (cond-false (eqb (stream_of e) t) (e ∷ own es t) (own es t) not_mine) ∙ spent-others s t es calls.1 other
 
 -- nor what is no stream of the layout
 spent-outside : (p : LayoutValue) (t : ℕ) (blocks : List Block) → AllByRecursion (IsBlockWithin p (λ s. true)) blocks → ¬ IsStream p t → spent t (events_in blocks) ≡ 0
