@@ -17,7 +17,7 @@ use Rattle.stream_check.specs.Standing.{Standing, standing_of, tally_of}
 use Rattle.stream_check.specs.Verdicts.{LineVerdict, Good, Bad, Test}
 use Rattle.stream_check.specs.Asking.{AsksAt, AsksThen}
 use Rattle.stream_check.specs.Additions.{AtReply, JudgesHints, published_by, JudgesAddition}
-use Rattle.stream_check.specs.Deletions.{RetiresThen, DropsThen, DeletesAt, JudgesIdentities}
+use Rattle.stream_check.specs.Deletions.{RetiresThen, DropsThen, DeletesAt, JudgesDeletion}
 use Rattle.stream_check.specs.Imports.{AtImported, JudgesImport}
 use Rattle.stream_check.specs.Judging.{JudgesLine, AreGood, report_of, EndsAfter}
 use Rattle.stream_check.specs.ReportLemmas.{all_only_empty}
@@ -97,11 +97,11 @@ deletes_bare foreign c gone earlier id es v A B next at = drops_map gone earlier
 deletes_bare outside c gone earlier id es v A B next at = at
 
 identities_bare : (c : Setting) (gone : ℕ → Bool) (earlier ids : List ℕ) (es : History) (v : LineVerdict)
-    → JudgesIdentities c gone earlier ids es v → JudgesIdentities (bare_setting c) gone earlier ids es v
+    → JudgesDeletion c gone earlier ids es v → JudgesDeletion (bare_setting c) gone earlier ids es v
 identities_bare c gone earlier [] es v judged = judged
 identities_bare c gone earlier (id ∷ ids) es v judged =
     deletes_bare (side_of c id) c gone earlier id es v
-    (λ rest. JudgesIdentities c gone (earlier ++ id ∷ []) ids rest v) (λ rest. JudgesIdentities (bare_setting c) gone (earlier ++ id ∷ []) ids rest v)
+    (λ rest. JudgesDeletion c gone (earlier ++ id ∷ []) ids rest v) (λ rest. JudgesDeletion (bare_setting c) gone (earlier ++ id ∷ []) ids rest v)
     (λ rest k. identities_bare c gone (earlier ++ id ∷ []) ids rest v k) judged
 
 import_bare : (c : Setting) (st : Standing) (id : ℕ) (lits : List ℤ) (es : History) (v : LineVerdict)
@@ -186,6 +186,8 @@ no_cube_judges_alike c bytes end blocks report j = record {
   front = j.front;
   back = j.back;
   split = j.split;
-  begins = record { text = j.begins.text; fits = j.begins.fits; good = good_bare c [] j.lines j.front j.begins.good };
+  text = j.text;
+  fits = j.fits;
+  good = good_bare c [] j.lines j.front j.good;
   ends = ends_bare c j.lines j.rest end j.back report j.ends;
 }

@@ -65,7 +65,7 @@ within_is_published : (c : Setting) (bytes : List ℕ) (end : StreamEnd) (blocks
     → JudgesBlocks c bytes end blocks report → IsTrue report.within → IsTrue (list_any (publishes_within c.cube) (joined blocks))
 within_is_published c bytes end blocks report judged is =
     let said = said_within c judged.lines judged.rest end judged.back report judged.ends in
-    let front = lines_publish c [] judged.lines judged.front judged.begins.good (sym said ∙ is) in
+    let front = lines_publish c [] judged.lines judged.front judged.good (sym said ∙ is) in
     ap (λ bs. list_any (publishes_within c.cube) (joined bs)) judged.split
     ∙ ap (list_any (publishes_within c.cube)) (flat_map-append (λ (block : History). block) judged.front judged.back)
     ∙ any_front (publishes_within c.cube) (joined judged.front) (joined judged.back) front

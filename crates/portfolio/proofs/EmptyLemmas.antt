@@ -65,7 +65,7 @@ module _ (p : Event → Bool) where
 
 -- ---- the publish of a good addition
 
-pub fails_not : (fault : Fault) (es : History) → Fails fault es Good → ⊥
+pub fails_not : (fault : Fault) (es : History) → Fails 0 fault es Good → ⊥
 fails_not fault es f = let e : Good ≡ Bad 0 fault = f.1 in cc
 
 module _ (p : Event → Bool) (c : Setting) (gone : ℕ → Bool) (published : Event) (passes : p published ≡ true) where
@@ -115,7 +115,7 @@ pub empty_is_published : (c : Setting) (bytes : List ℕ) (end : StreamEnd) (blo
     → JudgesBlocks c bytes end blocks report → IsTrue report.empty → IsTrue (list_any publishes_empty (joined blocks))
 empty_is_published c bytes end blocks report judged is =
     let said = said_empty c judged.lines judged.rest end judged.back report judged.ends in
-    let front = lines_publish c [] judged.lines judged.front judged.begins.good (sym said ∙ is) in
+    let front = lines_publish c [] judged.lines judged.front judged.good (sym said ∙ is) in
     ap (λ bs. list_any publishes_empty (joined bs)) judged.split
     ∙ ap (list_any publishes_empty) (flat_map-append (λ (block : History). block) judged.front judged.back)
     ∙ any_front publishes_empty (joined judged.front) (joined judged.back) front

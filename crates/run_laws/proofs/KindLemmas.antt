@@ -13,7 +13,7 @@ use Rattle.stream_check.specs.Standing.{Standing, deleted_by}
 use Rattle.stream_check.specs.Verdicts.{LineVerdict, Good, Test}
 use Rattle.stream_check.specs.Asking.{AsksAt}
 use Rattle.stream_check.specs.Additions.{AtConflict, AtReply, JudgesHints, JudgesAddition, published_by}
-use Rattle.stream_check.specs.Deletions.{DeletesAt, JudgesIdentities}
+use Rattle.stream_check.specs.Deletions.{DeletesAt, JudgesDeletion}
 use Rattle.stream_check.specs.Imports.{AtImported, JudgesImport}
 use Rattle.stream_check.specs.Judging.{JudgesLine}
 use Rattle.stream_check.specs.Checking.{IsRetire}
@@ -37,14 +37,14 @@ module _ (c : Setting) (P : Event → Type 0) where
   at_identity outside gone earlier id es v A each next at = subst (AllByRecursion P) (sym at.0) tt
   at_identity own gone earlier id es v A each next at = elim at.decided [
     | inl good ↦ subst (AllByRecursion P) (sym good.0) (each _, next at.rest good.1)
-    | inr bad ↦ subst (AllByRecursion P) (sym bad.0) (each _, subst (AllByRecursion P) (sym bad.1) tt)
+    | inr bad ↦ subst (AllByRecursion P) (sym bad.0) (each _, subst (AllByRecursion P) (sym bad.1.0) tt)
   ]
 
   pub identities_all : (gone : ℕ → Bool) (earlier ids : List ℕ) (es : History) (v : LineVerdict)
-      → AllRetires ids → JudgesIdentities c gone earlier ids es v → AllByRecursion P es
+      → AllRetires ids → JudgesDeletion c gone earlier ids es v → AllByRecursion P es
   identities_all gone earlier [] es v each judged = subst (AllByRecursion P) (sym judged.0) tt
   identities_all gone earlier (id ∷ ids) es v each judged =
-      at_identity (side_of c id) gone earlier id es v (λ rest. JudgesIdentities c gone (earlier ++ id ∷ []) ids rest v) each.0
+      at_identity (side_of c id) gone earlier id es v (λ rest. JudgesDeletion c gone (earlier ++ id ∷ []) ids rest v) each.0
       (λ rest k. identities_all gone (earlier ++ id ∷ []) ids rest v each.1 k) judged
 
 -- Additions

@@ -173,7 +173,7 @@ module _ (law : GoodExactlyIf) (c : Setting) (passes : Event → Bool) (adds : S
       ap (λ (bs : List History). list_any passes (joined bs)) j.split
       ∙ ap (list_any passes) (joined-append j.front j.back)
       ∙ list_any-append passes (joined j.front) (joined j.back)
-      ∙ ap (λ (b : Bool). b || list_any passes (joined j.back)) (good_lines [] j.lines j.front j.begins.good)
+      ∙ ap (λ (b : Bool). b || list_any passes (joined j.back)) (good_lines [] j.lines j.front j.good)
       ∙ ap (λ (b : Bool). list_any adds j.lines || b) (ends_quiet j.lines j.rest end j.back report j.ends)
       ∙ or-false (list_any adds j.lines) ∙ sym (tells.of_good j.lines j.rest end j.back report j.ends)
 

@@ -35,7 +35,7 @@ line_begins laws line (o ∷ all) more left rest fit fits none e is =
 
 pub judged_lines_cut : TextLaws → JudgedLinesCut
 judged_lines_cut laws c bytes end blocks report all rest j cut =
-    let begins = lines_begin laws j.lines all j.rest rest j.begins.fits cut.each cut.last (sym j.begins.text ∙ cut.bytes) in (begins.0, begins.1)
+    let begins = lines_begin laws j.lines all j.rest rest j.fits cut.each cut.last (sym j.text ∙ cut.bytes) in (begins.0, begins.1)
 
 CitedPass : (ℕ → Bool) → StreamLine → Type 0
 CitedPass p line = AllByRecursion (λ h. IsTrue (p h)) (cited_by line)
@@ -78,10 +78,10 @@ ends_fetch laws c p lines more left rest end back report is fits none all (inr (
 pub cited_fetched : TextLaws → CitedFetched
 unfolding CitedPass
 cited_fetched laws c bytes end blocks report all rest p j cut passes =
-    let begins = lines_begin laws j.lines all j.rest rest j.begins.fits cut.each cut.last (sym j.begins.text ∙ cut.bytes) in
+    let begins = lines_begin laws j.lines all j.rest rest j.fits cut.each cut.last (sym j.text ∙ cut.bytes) in
     let more = begins.0 in
     let parts = lines_append (CitedPass p) j.lines more (subst (AllByRecursion (CitedPass p)) begins.1 passes) in
     let fit = lines_append IsWithinLimits j.lines more (subst (AllByRecursion IsWithinLimits) begins.1 cut.each) in
-    let whole = All-append (FetchesOnly p) (joined j.front) (joined j.back) (good_fetch c p [] j.lines j.front parts.0 j.begins.good)
+    let whole = All-append (FetchesOnly p) (joined j.front) (joined j.back) (good_fetch c p [] j.lines j.front parts.0 j.good)
     (ends_fetch laws c p j.lines more j.rest rest end j.back report begins.2 fit.1 cut.last parts.1 j.ends) in
     subst (AllByRecursion (FetchesOnly p)) (sym (ap joined j.split ∙ joined-append j.front j.back)) whole

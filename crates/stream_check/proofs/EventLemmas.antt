@@ -17,7 +17,7 @@ use Rattle.stream_check.specs.Standing.{Standing}
 use Rattle.stream_check.specs.Verdicts.{LineVerdict, Test}
 use Rattle.stream_check.specs.Asking.{AsksAt, Asks, AsksThen}
 use Rattle.stream_check.specs.Additions.{AtConflict, AtReply, JudgesHints, published_by}
-use Rattle.stream_check.specs.Deletions.{DeletesAt, JudgesIdentities}
+use Rattle.stream_check.specs.Deletions.{DeletesAt, JudgesDeletion}
 use Rattle.stream_check.specs.Imports.{AtImported}
 use Rattle.stream_check.specs.Judging.{JudgesLine}
 use Rattle.stream_check.specs.Reducing.{IsEarly, StartsWithFetchOf, TriesAgain}
@@ -78,13 +78,13 @@ module _ (c : Setting) (IsHint : ℕ → Type 0) (P : History → Type 0) (holds
   at_holds outside gone earlier id es v A next at = none_holds es at.0
   at_holds own gone earlier id es v A next at = elim at.decided [
     | inl good ↦ subst P (sym good.0) (holds.retired id at.rest (next at.rest good.1))
-    | inr bad ↦ subst P (sym (bad.0 ∙ ap (λ r. events.retire c.stream id retiring.NotLive ∷ r) bad.1)) (holds.refused id)
+    | inr bad ↦ subst P (sym (bad.0 ∙ ap (λ r. events.retire c.stream id retiring.NotLive ∷ r) bad.1.0)) (holds.refused id)
   ]
 
-  identities_hold : (gone : ℕ → Bool) (earlier ids : List ℕ) (es : History) (v : LineVerdict) → JudgesIdentities c gone earlier ids es v → P es
+  identities_hold : (gone : ℕ → Bool) (earlier ids : List ℕ) (es : History) (v : LineVerdict) → JudgesDeletion c gone earlier ids es v → P es
   identities_hold gone earlier [] es v judged = none_holds es judged.0
   identities_hold gone earlier (id ∷ ids) es v judged =
-      at_holds (side_of c id) gone earlier id es v (λ rest. JudgesIdentities c gone (earlier ++ id ∷ []) ids rest v)
+      at_holds (side_of c id) gone earlier id es v (λ rest. JudgesDeletion c gone (earlier ++ id ∷ []) ids rest v)
       (λ rest k. identities_hold gone (earlier ++ id ∷ []) ids rest v k) judged
 
   -- an import has no events behind its fetches

@@ -65,7 +65,7 @@ pub record Shown (c : Setting) (gone : ℕ → Bool) (published : Event) (n : Li
   pub refutes : Refutes n clauses
   pub ends : es ≡ fetches ++ published ∷ []
 
-fails_not : (fault : Fault) (es : History) → Fails fault es Good → ⊥
+fails_not : (fault : Fault) (es : History) → Fails 0 fault es Good → ⊥
 fails_not fault es f = let e : Good ≡ Bad 0 fault = f.1 in cc
 
 refutes_more : (n : List ℤ) (d : Clause) (ds : List Clause) (l : ℤ) → IsUnit n d l → Refutes (n ++ neg_ℤ l ∷ []) ds → Refutes n (d ∷ ds)

@@ -14,10 +14,10 @@ use Rattle.stream_check.specs.declared.report.Ending.{Ending}
 use Rattle.stream_check.specs.declared.report.Ending.TheVariants as endings
 use Rattle.stream_check.specs.declared.report.Report.{Report}
 use Rattle.stream_check.specs.Setting.{Setting}
-use Rattle.stream_check.specs.Standing.{Standing, standing_of, tally_of, line_number}
+use Rattle.stream_check.specs.Standing.{Standing, standing_of, tally_of, capped}
 use Rattle.stream_check.specs.Verdicts.{Good, Bad}
 use Rattle.stream_check.specs.Deletions.{StopsDeletion}
-use Rattle.stream_check.specs.Judging.{JudgesLine, AreGood, BeginsGood, report_of, EndsAtLine, EndsAtText, EndsAtMemory, EndsAtEnd, EndsAfter, ending_at, JudgesBlocks}
+use Rattle.stream_check.specs.Judging.{JudgesLine, AreGood, report_of, EndsAtLine, EndsAtText, EndsAtMemory, EndsAtEnd, EndsAfter, ending_at, JudgesBlocks}
 use Rattle.stream_check.specs.Leaving.{Holding, SameStanding, LeavesGoing, standing_after, tally_after}
 use Rattle.stream_check.specs.Laws.{FreshLeft, PendingGrows, GoodLineTaken, BadLineTaken, BadTextRead, MemoryWanted, EndJudged, OverStays, IsDecided, EitherEnd, DecidedBeforeFailure}
 use Rattle.stream_check.proofs.StandingLemmas.{standing_of-snoc, tally_of-snoc, same_standing}
@@ -88,7 +88,7 @@ pending_grows c bytes piece blocks old before pending = record {
 by_lines : (c : Setting) (old : Holding) (lines : List StreamLine) (P : Standing → Type 0) → SameStanding old.standing (standing_of c lines) → P old.standing → P (standing_of c lines)
 by_lines c old lines P same holds = subst P (same_standing old.standing (standing_of c lines) same) holds
 
-next_number : (lines : List StreamLine) (line : StreamLine) → min (line_number (length lines) + 1) (2 ^ 64 - 1) ≡ line_number (length (lines ++ line ∷ []))
+next_number : (lines : List StreamLine) (line : StreamLine) → min (capped (length lines + 1) + 1) (2 ^ 64 - 1) ≡ capped (length (lines ++ line ∷ []) + 1)
 next_number lines line = omega (arith, length-append lines (line ∷ []))
 
 same_trans : (a b d : Standing) → SameStanding a b → SameStanding b d → SameStanding a d
@@ -130,13 +130,15 @@ ends_behind c bytes piece blocks back old end report before ends = record {
   front = blocks;
   back = back;
   split = refl;
-  begins = record { text = text_grows (flat_map line_text before.lines) bytes old.pending piece before.cut.bytes; fits = before.cut.each; good = before.good };
+  text = text_grows (flat_map line_text before.lines) bytes old.pending piece before.cut.bytes;
+  fits = before.cut.each;
+  good = before.good;
   ends = ends;
 }
 
 -- the same report by what the checker holds and by the lines
 held_report : (c : Setting) (bytes : List ℕ) (blocks : List History) (old : Holding) (deleted : ℕ) (ending : ℕ → Ending) → (before : LeavesGoing c bytes blocks old)
-    → report_of old.tally deleted (ending old.line) ≡ report_of (tally_of c before.lines) deleted (ending (line_number (length before.lines)))
+    → report_of old.tally deleted (ending old.line) ≡ report_of (tally_of c before.lines) deleted (ending (capped (length before.lines + 1)))
 held_report c bytes blocks old deleted ending before =
     ap (λ t. report_of t deleted (ending old.line)) before.tally ∙ ap (λ n. report_of (tally_of c before.lines) deleted (ending n)) before.line
 
@@ -207,7 +209,7 @@ end_judged c bytes blocks old end before =
       pending = subst IsPending (sym (append-nil old.pending)) before.pending;
       no_block = refl;
       says = held_report c bytes blocks old 0 (λ n. ending_at end old.pending n) before
-          ∙ ap (λ rest. report_of (tally_of c lines) 0 (ending_at end rest (line_number (length lines)))) (sym (append-nil old.pending));
+          ∙ ap (λ rest. report_of (tally_of c lines) 0 (ending_at end rest (capped (length lines + 1)))) (sym (append-nil old.pending));
     } in
     subst (λ b. JudgesBlocks c b end blocks report) (append-nil bytes)
     (subst (λ b. JudgesBlocks c (bytes ++ []) end b report) (append-nil blocks)
@@ -218,9 +220,6 @@ end_judged c bytes blocks old end before =
 fault_stays : (rest more : List ℕ) (fault : LineFault) → HasTextFault rest fault → HasTextFault (rest ++ more) fault
 fault_stays rest more fault text = (text.0, text.1 ++ more, ap (λ r. r ++ more) text.2 ∙ append_assoc text.0 text.1 more, text.3)
 
-begins_longer : (c : Setting) (bytes more : List ℕ) (lines : List StreamLine) (rest : List ℕ) (front : List History) → BeginsGood c bytes lines rest front → BeginsGood c (bytes ++ more) lines (rest ++ more) front
-begins_longer c bytes more lines rest front begins = record { text = text_grows (flat_map line_text lines) bytes rest more begins.text; fits = begins.fits; good = begins.good }
-
 judges_longer : (c : Setting) (bytes more : List ℕ) (end other : StreamEnd) (blocks : List History) (report : Report) → (j : JudgesBlocks c bytes end blocks report)
     → EndsAfter c j.lines (j.rest ++ more) other j.back report → JudgesBlocks c (bytes ++ more) other blocks report
 judges_longer c bytes more end other blocks report j ends = record {
@@ -229,7 +228,9 @@ judges_longer c bytes more end other blocks report j ends = record {
   front = j.front;
   back = j.back;
   split = j.split;
-  begins = begins_longer c bytes more j.lines j.rest j.front j.begins;
+  text = text_grows (flat_map line_text j.lines) bytes j.rest more j.text;
+  fits = j.fits;
+  good = j.good;
   ends = ends;
 }
 
@@ -288,18 +289,18 @@ not_decided stream_ends.Failed rest number decided = decided
 
 pub either_end : EitherEnd
 either_end c bytes more end other blocks report decided j = before_end c bytes more end other blocks report j
-    (λ last. absurd (not_decided end j.rest (line_number (length j.lines)) (subst IsDecided (ap (λ (r : Report). r.ending) last.says) decided)))
+    (λ last. absurd (not_decided end j.rest (capped (length j.lines + 1)) (subst IsDecided (ap (λ (r : Report). r.ending) last.says) decided)))
 
 pub decided_before_failure : DecidedBeforeFailure
 decided_before_failure c bytes more end blocks report untold j = before_end c bytes more stream_ends.Failed end blocks report j
-    (λ last. absurd (untold (line_number (length j.lines), ap (λ (r : Report). r.ending) last.says)))
+    (λ last. absurd (untold (capped (length j.lines + 1), ap (λ (r : Report). r.ending) last.says)))
 
 -- the ending that a failed read has is no other's
 says_failed : (c : Setting) (lines others : List StreamLine) (rest left : List ℕ) (report : Report)
-    → report ≡ report_of (tally_of c lines) 0 (ending_at stream_ends.Ended rest (line_number (length lines)))
-    → report ≡ report_of (tally_of c others) 0 (ending_at stream_ends.Failed left (line_number (length others))) → ⊥
-says_failed c lines others [] left report a b = let e : endings.Ended ≡ endings.ReadFailed (line_number (length others)) = ap (λ (r : Report). r.ending) (sym a ∙ b) in cc
-says_failed c lines others (byte ∷ rest) left report a b = let e : endings.Bad (line_number (length lines)) _ ≡ endings.ReadFailed (line_number (length others)) = ap (λ (r : Report). r.ending) (sym a ∙ b) in cc
+    → report ≡ report_of (tally_of c lines) 0 (ending_at stream_ends.Ended rest (capped (length lines + 1)))
+    → report ≡ report_of (tally_of c others) 0 (ending_at stream_ends.Failed left (capped (length others + 1))) → ⊥
+says_failed c lines others [] left report a b = let e : endings.Ended ≡ endings.ReadFailed (capped (length others + 1)) = ap (λ (r : Report). r.ending) (sym a ∙ b) in cc
+says_failed c lines others (byte ∷ rest) left report a b = let e : endings.Bad (capped (length lines + 1)) _ ≡ endings.ReadFailed (capped (length others + 1)) = ap (λ (r : Report). r.ending) (sym a ∙ b) in cc
 
 -- A report that fits both ends is decided before the end, so that it fits whatever follows.
 over_longer : (c : Setting) (bytes more : List ℕ) (blocks : List History) (report : Report) (end : StreamEnd)

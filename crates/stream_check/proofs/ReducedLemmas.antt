@@ -17,8 +17,8 @@ use Rattle.stream_check.specs.Standing.{Standing, standing_of}
 use Rattle.stream_check.specs.Verdicts.{LineVerdict, Good, Bad, Fails, Test}
 use Rattle.stream_check.specs.Asking.{AsksAt, Asks, AsksThen}
 use Rattle.stream_check.specs.Additions.{AtConflict, AtReply, JudgesHints, published_by, JudgesAddition}
-use Rattle.stream_check.specs.Deletions.{RetiresThen, DropsThen, DeletesAt, JudgesIdentities}
-use Rattle.stream_check.specs.Imports.{HasSame, AtImported, JudgesImport}
+use Rattle.stream_check.specs.Deletions.{RetiresThen, DropsThen, DeletesAt, JudgesDeletion}
+use Rattle.stream_check.specs.Imports.{AtImported, JudgesImport}
 use Rattle.stream_check.specs.Judging.{AreGood, EndsAfter}
 use Rattle.stream_check.specs.Reducing.{is_vacant, reduced}
 use Rattle.stream_check.specs.Laws.{ReducedLine, ReducedStream}
@@ -33,7 +33,7 @@ test_maps Holds fault es fs v A B none next (inr good) = inr (good.0, next good.
 reduced_none : (es : History) → es ≡ [] → reduced es ≡ []
 reduced_none es e = ap reduced e
 
-fails_reduced : (fault : Fault) (es : History) (v : LineVerdict) → Fails fault es v → Fails fault (reduced es) v
+fails_reduced : (fault : Fault) (es : History) (v : LineVerdict) → Fails 0 fault es v → Fails 0 fault (reduced es) v
 fails_reduced fault es v f = (reduced_none es f.0, f.1)
 
 and_false : (a : Bool) → (a && false) ≡ false
@@ -161,7 +161,7 @@ drops_map gone earlier id es v A next (inr good) = inr (good.0, next good.1)
 retires_map : (c : Setting) (earlier : List ℕ) (id : ℕ) (es : History) (v : LineVerdict) (A : History → Type 0) → ((rest : History) → A rest → A (reduced rest)) → RetiresThen c earlier id es v A → RetiresThen c earlier id (reduced es) v A
 retires_map c earlier id es v A next a = elim a.decided [
   | inl good ↦ record { rest = reduced a.rest; decided = inl (ap reduced good.0, next a.rest good.1) }
-  | inr bad ↦ record { rest = reduced a.rest; decided = inr (ap reduced bad.0, ap reduced bad.1, bad.2) }
+  | inr bad ↦ record { rest = reduced a.rest; decided = inr (ap reduced bad.0, (ap reduced bad.1.0, bad.1.1)) }
 ]
 
 at_reduced : (side : Side) (c : Setting) (gone : ℕ → Bool) (earlier : List ℕ) (id : ℕ) (es : History) (v : LineVerdict) (A : History → Type 0)
@@ -171,17 +171,17 @@ at_reduced own c gone earlier id es v A next at = retires_map c earlier id es v 
 at_reduced foreign c gone earlier id es v A next at = drops_map gone earlier id es v A (next es) at
 at_reduced outside c gone earlier id es v A next at = (reduced_none es at.0, at.1)
 
-identities_reduced : (c : Setting) (gone : ℕ → Bool) (earlier ids : List ℕ) (es : History) (v : LineVerdict) → JudgesIdentities c gone earlier ids es v → JudgesIdentities c gone earlier ids (reduced es) v
+identities_reduced : (c : Setting) (gone : ℕ → Bool) (earlier ids : List ℕ) (es : History) (v : LineVerdict) → JudgesDeletion c gone earlier ids es v → JudgesDeletion c gone earlier ids (reduced es) v
 identities_reduced c gone earlier [] es v judged = (reduced_none es judged.0, judged.1)
 identities_reduced c gone earlier (id ∷ ids) es v judged =
-    at_reduced (side_of c id) c gone earlier id es v (λ rest. JudgesIdentities c gone (earlier ++ id ∷ []) ids rest v)
+    at_reduced (side_of c id) c gone earlier id es v (λ rest. JudgesDeletion c gone (earlier ++ id ∷ []) ids rest v)
     (λ rest k. identities_reduced c gone (earlier ++ id ∷ []) ids rest v k) judged
 
 imported_reduced : (x : Reply) (id : ℕ) (lits : List ℤ) (es : History) (v : LineVerdict) → AtImported x id lits es v → AtImported x id lits (reduced es) v
 imported_reduced events.vacant id lits es v at = fails_reduced (faults.Missing id) es v at
 imported_reduced events.retired id lits es v at = fails_reduced (faults.Retired id) es v at
 imported_reduced (events.live d) id lits es v at =
-    test_maps (HasSame d lits) (faults.Differs id) es (reduced es) v _ _ (reduced_none es) (λ good. (reduced_none es good.0, good.1)) at
+    test_maps _ (faults.Differs id) es (reduced es) v _ _ (reduced_none es) (λ good. (reduced_none es good.0, good.1)) at
 
 import_reduced : (c : Setting) (st : Standing) (id : ℕ) (lits : List ℤ) (es : History) (v : LineVerdict) → JudgesImport c st id lits es v → JudgesImport c st id lits (reduced es) v
 import_reduced c st id lits es v judged =
@@ -245,6 +245,8 @@ reduced_stream c bytes end blocks report j = record {
   front = map reduced j.front;
   back = map reduced j.back;
   split = ap (map reduced) j.split ∙ map-append reduced j.front j.back;
-  begins = record { text = j.begins.text; fits = j.begins.fits; good = good_reduced c [] j.lines j.front j.begins.good };
+  text = j.text;
+  fits = j.fits;
+  good = good_reduced c [] j.lines j.front j.good;
   ends = ends_reduced c j.lines j.rest end j.back report j.ends;
 }

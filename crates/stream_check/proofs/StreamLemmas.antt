@@ -1,5 +1,5 @@
 -- Two judgements of one stream, of events that never fork, agree.
-use Rattle.std.proofs.Common.{◌≡◌, ◌⊎◌, ℕ, List, [], ◌∷◌, ◌++◌, length, inl, inr, refl, sym, ap, subst, ◌∙◌, append_assoc, append-nil}
+use Rattle.std.proofs.Common.{◌≡◌, ◌⊎◌, ◌+◌, ℕ, List, [], ◌∷◌, ◌++◌, length, inl, inr, refl, sym, ap, subst, ◌∙◌, append_assoc, append-nil}
 use Rattle.std.specs.List.{AllByRecursion, flat_map}
 use Rattle.std.proofs.lemmas.List.{append_cancel_left}
 use Rattle.lrup_model.specs.Event.{History}
@@ -13,7 +13,7 @@ use Rattle.stream_check.specs.declared.fault.Fault.TheVariants as faults
 use Rattle.stream_check.specs.declared.report.Ending.TheVariants as endings
 use Rattle.stream_check.specs.declared.report.Report.{Report}
 use Rattle.stream_check.specs.Setting.{Setting}
-use Rattle.stream_check.specs.Standing.{standing_of, tally_of, line_number}
+use Rattle.stream_check.specs.Standing.{standing_of, tally_of, capped}
 use Rattle.stream_check.specs.Verdicts.{Good, Bad}
 use Rattle.stream_check.specs.Judging.{JudgesLine, AreGood, joined, report_of, EndsAtLine, EndsAtText, EndsAtMemory, EndsAtEnd, EndsAfter}
 use Rattle.stream_check.specs.Forks.{NeverFork}
@@ -94,8 +94,8 @@ lines_agree laws c lines rest back aft report other a b never =
     let deleted : a.deleted ≡ b.deleted = cc in
     let fault : a.fault ≡ b.fault = cc in (
       a.one_block ∙ ap (λ x. x ∷ []) agree.events ∙ sym b.one_block,
-      a.says ∙ ap (λ d. report_of (tally_of c lines) d (endings.Bad (line_number (length lines)) a.fault)) deleted
-          ∙ ap (λ f. report_of (tally_of c lines) b.deleted (endings.Bad (line_number (length lines)) f)) fault ∙ sym b.says,
+      a.says ∙ ap (λ d. report_of (tally_of c lines) d (endings.Bad (capped (length lines + 1)) a.fault)) deleted
+          ∙ ap (λ f. report_of (tally_of c lines) b.deleted (endings.Bad (capped (length lines + 1)) f)) fault ∙ sym b.says,
     )
 
 -- where a text has a fault or the stream ends, no line is whole
@@ -110,7 +110,7 @@ rests_agree : TextLaws → (c : Setting) (lines : List StreamLine) (rest : List 
     → (back ≡ aft) × (report ≡ other)
 rests_agree laws c lines rest end back aft report other (inl a) (inl b) = (
   a.no_block ∙ sym b.no_block,
-  a.says ∙ ap (λ f. report_of (tally_of c lines) 0 (endings.Bad (line_number (length lines)) (faults.Text f))) ((laws.fault rest a.fault b.fault a.text).0 b.text) ∙ sym b.says,
+  a.says ∙ ap (λ f. report_of (tally_of c lines) 0 (endings.Bad (capped (length lines + 1)) (faults.Text f))) ((laws.fault rest a.fault b.fault a.text).0 b.text) ∙ sym b.says,
 )
 rests_agree laws c lines rest end back aft report other (inl a) (inr b) = absurd ((laws.fault rest a.fault a.fault a.text).1 b.pending.begins)
 rests_agree laws c lines rest end back aft report other (inr a) (inl b) = absurd ((laws.fault rest b.fault b.fault b.text).1 a.pending.begins)
@@ -122,7 +122,7 @@ EndsWithout c lines rest end back report =
     EndsAtLine c lines rest back report ⊎ (EndsAtText c lines rest back report ⊎ EndsAtEnd c lines rest end back report)
 
 memory_says : (c : Setting) (lines : List StreamLine) (rest : List ℕ) (back : List History) (report : Report) → EndsAtMemory c lines rest back report → IsOfMemory report
-memory_says c lines rest back report e = (line_number (length lines), ap (λ (r : Report). r.ending) e.says)
+memory_says c lines rest back report e = (capped (length lines + 1), ap (λ (r : Report). r.ending) e.says)
 
 without : (c : Setting) (lines : List StreamLine) (rest : List ℕ) (end : StreamEnd) (back : List History) (report : Report)
     → EndsAfter c lines rest end back report → ¬ IsOfMemory report → EndsWithout c lines rest end back report
@@ -205,7 +205,7 @@ replies_decide laws c bytes end blocks others report other never a b no_memory n
     let split = subst (λ e. NeverFork e (joined b.front ++ joined b.back)) (ap joined a.split ∙ joined-append a.front a.back)
     (subst (λ e. NeverFork (joined blocks) e) (ap joined b.split ∙ joined-append b.front b.back) never) in
     let agree = streams_agree laws c end [] a.lines b.lines a.lines b.lines a.rest b.rest a.front a.back b.front b.back report other
-    refl refl (sym a.begins.text ∙ b.begins.text) a.begins.fits b.begins.fits a.begins.good b.begins.good
+    refl refl (sym a.text ∙ b.text) a.fits b.fits a.good b.good
     (without c a.lines a.rest end a.back report a.ends no_memory) (without c b.lines b.rest end b.back other b.ends none) split in
     (a.split ∙ ap (λ x. x ++ a.back) agree.0 ∙ ap (λ x. b.front ++ x) agree.1 ∙ sym b.split, agree.2)
 

@@ -19,7 +19,7 @@ use Rattle.stream_check.specs.declared.fault.Fault.TheVariants as faults
 use Rattle.stream_check.specs.Setting.{Setting, Side, formula, own, foreign, outside, side_of}
 use Rattle.stream_check.specs.Verdicts.{LineVerdict, Good, Bad, Fails, Test}
 use Rattle.stream_check.specs.Asking.{AsksAt, Asks, AsksThen}
-use Rattle.stream_check.specs.Additions.{AtClause, AtReply, JudgesHints}
+use Rattle.stream_check.specs.Additions.{AtReply, JudgesHints}
 use Rattle.stream_check.specs.Checking.{IsPlaceOf, IsFetch, LooksUp, Shows, excess_of}
 
 -- one more at the end
@@ -60,7 +60,7 @@ asked_last c gone id es r v Next kept asks next = inr (kept, record { asked = es
 
 -- the fault of a lookup is that of its hint or import
 pub lookup_fails : (c : Setting) (gone : ℕ → Bool) (id : ℕ) (p : Place) (es : History) (fault : Fault) (Next : Reply → History → Type 0) → LooksUp c gone id p es (Err fault)
-    → (Fails (faults.Missing id) [] (Bad 0 fault) → Next events.vacant []) → (Fails (faults.Retired id) [] (Bad 0 fault) → Next events.retired [])
+    → (Fails 0 (faults.Missing id) [] (Bad 0 fault) → Next events.vacant []) → (Fails 0 (faults.Retired id) [] (Bad 0 fault) → Next events.retired [])
     → Test (gone id ≡ false) (faults.Dropped id) es (Bad 0 fault) (AsksThen c id es Next)
 lookup_fails c gone id p es fault Next looks missing retired = elim looks [
   | inl dropped ↦ inl dropped
@@ -115,11 +115,11 @@ module _ (c : Setting) (gone : ℕ → Bool) (n m : List ℤ) (hints : List ℕ)
 
   module _ (d : Clause) (kept : gone h ≡ false) (asks : Asks c h fs (events.live d)) where
     -- its clause decides
-    at_clause : (e : Event) (more : History) (v : LineVerdict) → AtClause m d h rest e more v (λ k. JudgesHints c gone e k rest more v) → JudgesHints c gone e n hints ((es ++ fs) ++ more) v
+    at_clause : (e : Event) (more : History) (v : LineVerdict) → AtReply (events.live d) m h rest e more v (λ k. JudgesHints c gone e k rest more v) → JudgesHints c gone e n hints ((es ++ fs) ++ more) v
     at_clause e more v next = next_hint e more v (asked_then c gone h fs more (events.live d) v (λ r x. AtReply r m h rest e x v (λ k. JudgesHints c gone e k rest x v)) kept asks next)
 
     -- the same where there are no more events
-    ends_at_clause : (e : Event) (v : LineVerdict) → AtClause m d h rest e [] v (λ k. JudgesHints c gone e k rest [] v) → JudgesHints c gone e n hints (es ++ fs) v
+    ends_at_clause : (e : Event) (v : LineVerdict) → AtReply (events.live d) m h rest e [] v (λ k. JudgesHints c gone e k rest [] v) → JudgesHints c gone e n hints (es ++ fs) v
     ends_at_clause e v next = subst (λ (x : History). JudgesHints c gone e n hints x v) (append-nil (es ++ fs)) (at_clause e [] v next)
 
     pub goes_on : (l : ℤ) → IsUnit m d l → GoesOn c gone n hints (m ++ neg_ℤ l ∷ []) rest (es ++ fs)

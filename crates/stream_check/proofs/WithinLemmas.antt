@@ -17,7 +17,7 @@ use Rattle.stream_check.specs.declared.fault.Fault.{Fault}
 use Rattle.stream_check.specs.declared.fault.Fault.TheVariants as faults
 use Rattle.stream_check.specs.declared.report.Report.{Report}
 use Rattle.stream_check.specs.Setting.{Setting, side_for, side_of, is_shared}
-use Rattle.stream_check.specs.Standing.{Standing, standing_of, is_gone, deleted_by, added_by, last_in}
+use Rattle.stream_check.specs.Standing.{Standing, standing_of, deleted_by, added_by, last_in}
 use Rattle.stream_check.specs.Verdicts.{LineVerdict, Good, Bad, Fails, Test}
 use Rattle.stream_check.specs.Additions.{AtConflict, AtReply, JudgesHints, published_by, JudgesAddition}
 use Rattle.stream_check.specs.Asking.{AsksThen}
@@ -68,7 +68,7 @@ deleted_of : LineVerdict → ℕ
 deleted_of Good = 0
 deleted_of (Bad deleted fault) = deleted
 
-failed_none : (fault : Fault) (es : History) (v : LineVerdict) → Fails fault es v → deleted_of v ≡ 0
+failed_none : (fault : Fault) (es : History) (v : LineVerdict) → Fails 0 fault es v → deleted_of v ≡ 0
 unfolding deleted_of
 failed_none fault es v f = ap deleted_of f.1
 
@@ -123,35 +123,35 @@ import_none c st id lits es v judged =
 -- Deleted
 
 line_deletes : (c : Setting) (n : State) (before : List StreamLine) (line : StreamLine) (many deleted : ℕ) (fault : Fault) (es rest : History)
-    → JudgesLine c (standing_of c before) line es (Bad deleted fault) → OwnRun n (es ++ rest) → AreTaken c n (is_gone c before) [] many → many + deleted ≤ last_identity c.layout
+    → JudgesLine c (standing_of c before) line es (Bad deleted fault) → OwnRun n (es ++ rest) → AreTaken c n (standing_of c before).gone [] many → many + deleted ≤ last_identity c.layout
 unfolding deleted_of
 line_deletes c n before (Addition id lits hints) many deleted fault es rest judged answers are =
     let none = addition_none c (standing_of c before) id lits hints es (Bad deleted fault) judged in
-    omega (arith, none, taken_within c n (is_gone c before) [] many are)
+    omega (arith, none, taken_within c n (standing_of c before).gone [] many are)
 line_deletes c n before (Import id lits) many deleted fault es rest judged answers are =
     let none = import_none c (standing_of c before) id lits es (Bad deleted fault) judged in
-    omega (arith, none, taken_within c n (is_gone c before) [] many are)
+    omega (arith, none, taken_within c n (standing_of c before).gone [] many are)
 line_deletes c n before (Deletion lead ids) many deleted fault es rest judged answers are =
-    let took = identities_took c n (is_gone c before) [] ids many es rest (Bad deleted fault) judged answers are in
-    omega (arith, took.4, taken_within c took.0 (is_gone c before) took.1 took.2 took.3)
+    let took = identities_took c n (standing_of c before).gone [] ids many es rest (Bad deleted fault) judged answers are in
+    omega (arith, took.4, taken_within c took.0 (standing_of c before).gone took.1 took.2 took.3)
 
 ends_delete : (c : Setting) (n : State) (lines : List StreamLine) (rest : List ℕ) (end : StreamEnd) (back : List History) (report : Report)
-    → OwnRun n (joined back) → AreTaken c n (is_gone c lines) [] (sum_by (λ l. length (deleted_by l)) lines) → EndsAfter c lines rest end back report
+    → OwnRun n (joined back) → AreTaken c n (standing_of c lines).gone [] (sum_by (λ l. length (deleted_by l)) lines) → EndsAfter c lines rest end back report
     → report.deleted ≤ last_identity c.layout
 ends_delete c n lines rest end back report answers are (inl e) =
     let here = subst (λ b. OwnRun n (joined b)) e.one_block answers in
     let few = line_deletes c n lines e.line (sum_by (λ l. length (deleted_by l)) lines) e.deleted e.fault e.block [] e.bad here are in
     subst (λ (r : Report). r.deleted ≤ last_identity c.layout) (sym e.says) (omega (arith, few))
 ends_delete c n lines rest end back report answers are (inr (inl e)) =
-    let few = taken_within c n (is_gone c lines) [] (sum_by (λ l. length (deleted_by l)) lines) are in
+    let few = taken_within c n (standing_of c lines).gone [] (sum_by (λ l. length (deleted_by l)) lines) are in
     subst (λ (r : Report). r.deleted ≤ last_identity c.layout) (sym e.says) (omega (arith, few))
 ends_delete c n lines rest end back report answers are (inr (inr (inl e))) =
     let here = subst (λ b. OwnRun n (joined b)) e.one_block answers in
-    let took = identities_took c n (is_gone c lines) [] e.earlier (sum_by (λ l. length (deleted_by l)) lines) e.block [] Good e.stops.before here are in
-    let few = taken_within c (run n e.block) (is_gone c lines) e.earlier (sum_by (λ l. length (deleted_by l)) lines + length e.earlier) took in
+    let took = identities_took c n (standing_of c lines).gone [] e.earlier (sum_by (λ l. length (deleted_by l)) lines) e.block [] Good e.stops.before here are in
+    let few = taken_within c (run n e.block) (standing_of c lines).gone e.earlier (sum_by (λ l. length (deleted_by l)) lines + length e.earlier) took in
     subst (λ (r : Report). r.deleted ≤ last_identity c.layout) (sym e.says) (omega (arith, few))
 ends_delete c n lines rest end back report answers are (inr (inr (inr e))) =
-    let few = taken_within c n (is_gone c lines) [] (sum_by (λ l. length (deleted_by l)) lines) are in
+    let few = taken_within c n (standing_of c lines).gone [] (sum_by (λ l. length (deleted_by l)) lines) are in
     subst (λ (r : Report). r.deleted ≤ last_identity c.layout) (sym e.says) (omega (arith, few))
 
 -- Added
@@ -209,11 +209,11 @@ unfolding SameOwn
 counts_within f c h bytes end blocks report legal mine j =
     let answers : OwnRun (opening f) (own h c.stream) = own_runs f c.layout c.stream (opening f) (opening f) h legal.events (λ id owns. refl) in
     let split = subst (OwnRun (opening f)) (mine ∙ ap joined j.split ∙ joined-append j.front j.back) answers in
-    let none : AreTaken c (opening f) (is_gone c []) [] 0 = record { ids = []; apart = tt; taken = tt; count = refl } in
-    let taken = lines_took c (opening f) [] j.lines j.front 0 (joined j.back) j.begins.good split none in
-    let exact : AreTaken c (run (opening f) (joined j.front)) (is_gone c j.lines) [] (sum_by (λ l. length (deleted_by l)) j.lines) =
-    subst (AreTaken c (run (opening f) (joined j.front)) (is_gone c j.lines) []) (omega arith) taken in
-    let added = lines_added c [] j.lines j.front j.begins.good (record { few = omega arith; below = omega arith }) in (
+    let none : AreTaken c (opening f) (standing_of c []).gone [] 0 = record { ids = []; apart = tt; taken = tt; count = refl } in
+    let taken = lines_took c (opening f) [] j.lines j.front 0 (joined j.back) j.good split none in
+    let exact : AreTaken c (run (opening f) (joined j.front)) (standing_of c j.lines).gone [] (sum_by (λ l. length (deleted_by l)) j.lines) =
+    subst (AreTaken c (run (opening f) (joined j.front)) (standing_of c j.lines).gone []) (omega arith) taken in
+    let added = lines_added c [] j.lines j.front j.good (record { few = omega arith; below = omega arith }) in (
       omega (arith, added_is c j.lines j.rest end j.back report j.ends, added.few, added.below),
       ends_delete c (run (opening f) (joined j.front)) j.lines j.rest end j.back report (run_on (opening f) (joined j.front) (joined j.back) split) exact j.ends,
     )

@@ -144,8 +144,8 @@ AreDropped c old ids new =
 abbrev pub Deletes : Setting → List ℕ → List ℕ → List ℕ → History → ℕ → Result (Unit {0}) LineStop
     → Type 0
 Deletes c old new ids es count (Ok _) =
-    JudgesDeletion c (is_among old) ids es Good × (count ≡ length ids) × AreDropped c old ids new
+    JudgesDeletion c (is_among old) [] ids es Good × (count ≡ length ids) × AreDropped c old ids new
 Deletes c old new ids es count (Err (stops.Bad fault)) =
-    JudgesDeletion c (is_among old) ids es (Bad count fault)
+    JudgesDeletion c (is_among old) [] ids es (Bad count fault)
 Deletes c old new ids es count (Err stops.Memory) =
     (earlier : List ℕ) × (count ≡ length earlier) × StopsDeletion c (is_among old) ids es earlier

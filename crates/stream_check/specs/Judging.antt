@@ -14,7 +14,7 @@ use Rattle.stream_check.specs.declared.report.Ending.{Ending}
 use Rattle.stream_check.specs.declared.report.Ending.TheVariants as endings
 use Rattle.stream_check.specs.declared.report.Report.{Report}
 use Rattle.stream_check.specs.Setting.{Setting}
-use Rattle.stream_check.specs.Standing.{Standing, standing_of, Tally, tally_of, capped, line_number}
+use Rattle.stream_check.specs.Standing.{Standing, standing_of, Tally, tally_of, capped}
 use Rattle.stream_check.specs.Verdicts.{LineVerdict, Good, Bad}
 use Rattle.stream_check.specs.Additions.{JudgesAddition}
 use Rattle.stream_check.specs.Deletions.{JudgesDeletion, StopsDeletion}
@@ -23,7 +23,7 @@ use Rattle.stream_check.specs.Imports.{JudgesImport}
 -- a line's events and its verdict, after the lines that left this standing
 abbrev pub JudgesLine : Setting → Standing → StreamLine → History → LineVerdict → Type 0
 JudgesLine c st (Addition id lits hints) es v = JudgesAddition c st id lits hints es v
-JudgesLine c st (Deletion lead ids) es v = JudgesDeletion c st.gone ids es v
+JudgesLine c st (Deletion lead ids) es v = JudgesDeletion c st.gone [] ids es v
 JudgesLine c st (Import id lits) es v = JudgesImport c st id lits es v
 
 -- each line is good after the good lines before it, and has one block of events
@@ -38,13 +38,6 @@ AreGood c before (line ∷ lines) (block ∷ blocks) =
 -- the events of the blocks, in order
 abbrev pub joined : List History → History
 joined blocks = flat_map (λ block. block) blocks
-
--- the bytes are the texts of good lines, and a rest
-pub record BeginsGood (c : Setting) (bytes : List ℕ) (lines : List StreamLine) (rest : List ℕ)
-    (blocks : List History) : Type 0 where
-  pub text : bytes ≡ flat_map line_text lines ++ rest
-  pub fits : AllByRecursion IsWithinLimits lines
-  pub good : AreGood c [] lines blocks
 
 -- the report after these counts, some more deleted identities, and this ending
 abbrev pub report_of : Tally → ℕ → Ending → Report
@@ -70,7 +63,7 @@ pub record EndsAtLine (c : Setting) (lines : List StreamLine) (rest : List ℕ)
   pub fault : Fault
   pub bad : JudgesLine c (standing_of c lines) line block (Bad deleted fault)
   pub says : report ≡ report_of (tally_of c lines) deleted
-      (endings.Bad (line_number (length lines)) fault)
+      (endings.Bad (capped (length lines + 1)) fault)
 
 -- After good lines: a text that begins no line, whatever follows it.
 pub record EndsAtText (c : Setting) (lines : List StreamLine) (rest : List ℕ)
@@ -79,7 +72,7 @@ pub record EndsAtText (c : Setting) (lines : List StreamLine) (rest : List ℕ)
   pub text : HasTextFault rest fault
   pub no_block : blocks ≡ []
   pub says : report ≡ report_of (tally_of c lines) 0
-      (endings.Bad (line_number (length lines)) (faults.Text fault))
+      (endings.Bad (capped (length lines + 1)) (faults.Text fault))
 
 -- After good lines: a deletion that ran out of memory, whatever follows it.
 pub record EndsAtMemory (c : Setting) (lines : List StreamLine) (rest : List ℕ)
@@ -94,7 +87,7 @@ pub record EndsAtMemory (c : Setting) (lines : List StreamLine) (rest : List ℕ
   pub earlier : List ℕ
   pub stops : StopsDeletion c (standing_of c lines).gone ids block earlier
   pub says : report ≡ report_of (tally_of c lines) (length earlier)
-      (endings.Memory (line_number (length lines)))
+      (endings.Memory (capped (length lines + 1)))
 
 -- the ending where all lines are good and this rest begins a line, which has this number
 abbrev pub ending_at : StreamEnd → List ℕ → ℕ → Ending
@@ -108,7 +101,7 @@ pub record EndsAtEnd (c : Setting) (lines : List StreamLine) (rest : List ℕ) (
   pub pending : IsPending rest
   pub no_block : blocks ≡ []
   pub says : report ≡ report_of (tally_of c lines) 0
-      (ending_at end rest (line_number (length lines)))
+      (ending_at end rest (capped (length lines + 1)))
 
 -- After good lines one of four things ends the stream. The rest decides which, but for a deletion:
 -- memory may run out there before a fault is met.
@@ -128,7 +121,9 @@ pub record JudgesBlocks (c : Setting) (bytes : List ℕ) (end : StreamEnd) (bloc
   pub front : List History
   pub back : List History
   pub split : blocks ≡ front ++ back
-  pub begins : BeginsGood c bytes lines rest front
+  pub text : bytes ≡ flat_map line_text lines ++ rest
+  pub fits : AllByRecursion IsWithinLimits lines
+  pub good : AreGood c [] lines front
   pub ends : EndsAfter c lines rest end back report
 
 -- the stream of these bytes, this end and these events is judged so

@@ -5,7 +5,7 @@ use Rattle.lrup_text.specs.Lines.{StreamLine, Addition, Deletion, Import, Cut, I
 use Rattle.lrup_text.specs.declared.device.StreamEnd.TheVariants as stream_ends
 use Rattle.stream_check.specs.declared.report.Report.{Report}
 use Rattle.stream_check.specs.Setting.{Setting, side_of, is_shared}
-use Rattle.stream_check.specs.Standing.{Standing, standing_of, is_among, line_size, deleted_by, added_by, adds_empty, adds_within, Tally, tally_of, capped, line_number}
+use Rattle.stream_check.specs.Standing.{Standing, standing_of, is_among, line_size, deleted_by, added_by, adds_empty, adds_within, Tally, tally_of, capped}
 use Rattle.stream_check.specs.Judging.{AreGood, JudgesBlocks}
 
 -- what a checker holds that isn't over: its counts, what good lines left, the text read of the next line, and that line's number
@@ -34,7 +34,7 @@ pub record LeavesGoing (c : Setting) (bytes : List ℕ) (blocks : List History)
   pub good : AreGood c [] lines blocks
   pub tally : now.tally ≡ tally_of c lines
   pub standing : SameStanding now.standing (standing_of c lines)
-  pub line : now.line ≡ line_number (length lines)
+  pub line : now.line ≡ capped (length lines + 1)
 
 -- The bytes so far, whose lines have these blocks of events, leave the checker so. One that is over has a report that is right whatever the end is.
 abbrev pub Leaves : Setting → List ℕ → List History → CheckerState → Type 0

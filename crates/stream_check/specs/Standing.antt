@@ -38,17 +38,13 @@ deleted_by (Import id lits) = []
 abbrev pub is_among : List ℕ → ℕ → Bool
 is_among ids id = list_any (λ j. j == id) ids
 
--- a deletion among the lines has the identity, which is the formula's or another stream's
-abbrev pub is_gone : Setting → List StreamLine → ℕ → Bool
-is_gone c lines id =
-    is_shared (side_of c id) && list_any (λ line. is_among (deleted_by line) id) lines
-
--- the standing that these lines leave if all are good
+-- The standing that these lines leave if all are good. Those of the formula and of other streams that a deletion among them has are dropped.
 abbrev pub standing_of : Setting → List StreamLine → Standing
 standing_of c lines = record {
   last = last_in c.layout lines;
   free = c.layout.room - sum_by line_size lines;
-  gone = is_gone c lines;
+  gone = λ id.
+      is_shared (side_of c id) && list_any (λ line. is_among (deleted_by line) id) lines;
 }
 
 -- What 64 bits show of a count: above 2^64 - 1 it stands as that. Counts of additions never come
@@ -94,7 +90,3 @@ tally_of c lines = record {
   empty = list_any adds_empty lines;
   within = list_any (adds_within c.cube) lines;
 }
-
--- the number of the line after so many
-abbrev pub line_number : ℕ → ℕ
-line_number count = capped (count + 1)
