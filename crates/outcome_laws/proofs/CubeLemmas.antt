@@ -12,7 +12,9 @@ use Rattle.stream_check.specs.declared.fault.Fault.{Fault}
 use Rattle.stream_check.specs.declared.fault.Fault.TheVariants as faults
 use Rattle.stream_check.specs.declared.report.Ending.{Ending}
 use Rattle.stream_check.specs.declared.report.Report.{Report}
-use Rattle.stream_check.specs.Setting.{Setting, Side, formula, own, foreign, outside, side_of}
+use Rattle.stream_check.specs.declared.setting.Side.{Side}
+use Rattle.stream_check.specs.declared.setting.Side.TheVariants as sides
+use Rattle.stream_check.specs.Setting.{Setting, side_of}
 use Rattle.stream_check.specs.Standing.{Standing, standing_of, tally_of}
 use Rattle.stream_check.specs.Verdicts.{LineVerdict, Good, Bad, Test}
 use Rattle.stream_check.specs.Asking.{AsksAt, AsksThen}
@@ -31,10 +33,10 @@ test_maps Holds fault es v A B next (inl bad) = inl bad
 test_maps Holds fault es v A B next (inr good) = inr (good.0, next good.1)
 
 asks_bare : (side : Side) (c : Setting) (h : ℕ) (es : History) (r : Reply) → AsksAt side c h es r → AsksAt side (bare_setting c) h es r
-asks_bare formula c h es r asks = asks
-asks_bare own c h es r asks = asks
-asks_bare foreign c h es r asks = asks
-asks_bare outside c h es r asks = asks
+asks_bare sides.Formula c h es r asks = asks
+asks_bare sides.Own c h es r asks = asks
+asks_bare sides.Foreign c h es r asks = asks
+asks_bare sides.Outside c h es r asks = asks
 
 then_bare : (c : Setting) (h : ℕ) (es : History) (A B : Reply → History → Type 0) → ((x : Reply) (rest : History) → A x rest → B x rest)
     → AsksThen c h es A → AsksThen (bare_setting c) h es B
@@ -91,10 +93,10 @@ drops_map gone earlier id es v A B next (inr good) = inr (good.0, next good.1)
 
 deletes_bare : (side : Side) (c : Setting) (gone : ℕ → Bool) (earlier : List ℕ) (id : ℕ) (es : History) (v : LineVerdict) (A B : History → Type 0)
     → ((rest : History) → A rest → B rest) → DeletesAt side c gone earlier id es v A → DeletesAt side (bare_setting c) gone earlier id es v B
-deletes_bare formula c gone earlier id es v A B next at = drops_map gone earlier id es v A B (next es) at
-deletes_bare own c gone earlier id es v A B next at = retires_bare c earlier id es v A B next at
-deletes_bare foreign c gone earlier id es v A B next at = drops_map gone earlier id es v A B (next es) at
-deletes_bare outside c gone earlier id es v A B next at = at
+deletes_bare sides.Formula c gone earlier id es v A B next at = drops_map gone earlier id es v A B (next es) at
+deletes_bare sides.Own c gone earlier id es v A B next at = retires_bare c earlier id es v A B next at
+deletes_bare sides.Foreign c gone earlier id es v A B next at = drops_map gone earlier id es v A B (next es) at
+deletes_bare sides.Outside c gone earlier id es v A B next at = at
 
 identities_bare : (c : Setting) (gone : ℕ → Bool) (earlier ids : List ℕ) (es : History) (v : LineVerdict)
     → JudgesDeletion c gone earlier ids es v → JudgesDeletion (bare_setting c) gone earlier ids es v

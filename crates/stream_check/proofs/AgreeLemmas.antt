@@ -11,7 +11,9 @@ use Rattle.lrup_text.specs.Lines.{StreamLine, Addition, Deletion, Import}
 use Rattle.lrup_model.specs.Distinct.{distinct}
 use Rattle.stream_check.specs.declared.fault.Fault.{Fault}
 use Rattle.stream_check.specs.declared.fault.Fault.TheVariants as faults
-use Rattle.stream_check.specs.Setting.{Setting, Side, formula, own, foreign, outside, side_of, is_shared}
+use Rattle.stream_check.specs.declared.setting.Side.{Side}
+use Rattle.stream_check.specs.declared.setting.Side.TheVariants as sides
+use Rattle.stream_check.specs.Setting.{Setting, side_of, is_shared}
 use Rattle.stream_check.specs.Standing.{Standing}
 use Rattle.stream_check.specs.Verdicts.{LineVerdict, Fails, Test}
 use Rattle.stream_check.specs.Asking.{AsksThen}
@@ -150,10 +152,10 @@ retires_agree c earlier id es fs q r v w A B next a b never =
 at_agree : (side : Side) (c : Setting) (gone : ℕ → Bool) (earlier : List ℕ) (id : ℕ) (es fs q r : History) (v w : LineVerdict) (A B : History → Type 0)
     → ((rest left : History) → NeverFork (rest ++ q) (left ++ r) → A rest → B left → Agree rest v left w)
     → DeletesAt side c gone earlier id es v A → DeletesAt side c gone earlier id fs w B → NeverFork (es ++ q) (fs ++ r) → Agree es v fs w
-at_agree formula c gone earlier id es fs q r v w A B next a b never = drops_agree gone earlier id es fs v w A B (next es fs never) a b
-at_agree own c gone earlier id es fs q r v w A B next a b never = retires_agree c earlier id es fs q r v w A B next a b never
-at_agree foreign c gone earlier id es fs q r v w A B next a b never = drops_agree gone earlier id es fs v w A B (next es fs never) a b
-at_agree outside c gone earlier id es fs q r v w A B next a b never = fails_agree (length earlier) (faults.NotLive id) es fs v w a b
+at_agree sides.Formula c gone earlier id es fs q r v w A B next a b never = drops_agree gone earlier id es fs v w A B (next es fs never) a b
+at_agree sides.Own c gone earlier id es fs q r v w A B next a b never = retires_agree c earlier id es fs q r v w A B next a b never
+at_agree sides.Foreign c gone earlier id es fs q r v w A B next a b never = drops_agree gone earlier id es fs v w A B (next es fs never) a b
+at_agree sides.Outside c gone earlier id es fs q r v w A B next a b never = fails_agree (length earlier) (faults.NotLive id) es fs v w a b
 
 identities_agree : (c : Setting) (gone : ℕ → Bool) (earlier ids : List ℕ) (es fs q r : History) (v w : LineVerdict)
     → JudgesDeletion c gone earlier ids es v → JudgesDeletion c gone earlier ids fs w → NeverFork (es ++ q) (fs ++ r) → Agree es v fs w

@@ -8,7 +8,9 @@ use Rattle.stream_check.specs.declared.fault.Fault.{Fault}
 use Rattle.stream_check.specs.declared.fault.Fault.TheVariants as faults
 use Rattle.stream_check.specs.declared.deletion.LineStop.{LineStop}
 use Rattle.stream_check.specs.declared.deletion.LineStop.TheVariants as stops
-use Rattle.stream_check.specs.Setting.{Setting, Side, formula, own, foreign, outside, side_of, is_shared}
+use Rattle.stream_check.specs.declared.setting.Side.{Side}
+use Rattle.stream_check.specs.declared.setting.Side.TheVariants as sides
+use Rattle.stream_check.specs.Setting.{Setting, side_of, is_shared}
 use Rattle.stream_check.specs.Standing.{is_among}
 use Rattle.stream_check.specs.Verdicts.{LineVerdict, Good, Bad}
 use Rattle.stream_check.specs.Deletions.{DeletesAt, JudgesDeletion}
@@ -48,10 +50,10 @@ dropped_own c first earlier old new id mine before same j =
 
 dropped_at : (side : Side) (c : Setting) (first earlier old new : List ℕ) (id : ℕ) (es : History) → side_of c id ≡ side → AreDropped c first earlier old
     → DeletesSide side c id old new es (Ok tt) → AreDropped c first (earlier ++ id ∷ []) new
-dropped_at formula c first earlier old new id es is before deletes = dropped_shared c first earlier old new id (ap is_shared is) before deletes.1.1
-dropped_at own c first earlier old new id es is before deletes = dropped_own c first earlier old new id (ap is_shared is) before deletes.1
-dropped_at foreign c first earlier old new id es is before deletes = dropped_shared c first earlier old new id (ap is_shared is) before deletes.1.1
-dropped_at outside c first earlier old new id es is before deletes = absurd (let e : Ok tt ≡ Err (stops.Bad (faults.NotLive id)) = deletes.1 in cc)
+dropped_at sides.Formula c first earlier old new id es is before deletes = dropped_shared c first earlier old new id (ap is_shared is) before deletes.1.1
+dropped_at sides.Own c first earlier old new id es is before deletes = dropped_own c first earlier old new id (ap is_shared is) before deletes.1
+dropped_at sides.Foreign c first earlier old new id es is before deletes = dropped_shared c first earlier old new id (ap is_shared is) before deletes.1.1
+dropped_at sides.Outside c first earlier old new id es is before deletes = absurd (let e : Ok tt ≡ Err (stops.Bad (faults.NotLive id)) = deletes.1 in cc)
 
 pub dropped_more : (c : Setting) (first earlier old new : List ℕ) (id : ℕ) (es : History) → AreDropped c first earlier old → DeletesOne c id old new es (Ok tt) → AreDropped c first (earlier ++ id ∷ []) new
 dropped_more c first earlier old new id es before deletes = dropped_at (side_of c id) c first earlier old new id es refl before deletes
@@ -65,27 +67,27 @@ dropped_shared_is c first earlier old id b shared before among =
 
 done_at : (side : Side) (c : Setting) (first earlier old new : List ℕ) (id : ℕ) (es rest : History) (v : LineVerdict) (Next : History → Type 0) → side_of c id ≡ side → AreDropped c first earlier old
     → DeletesSide side c id old new es (Ok tt) → Next rest → DeletesAt side c (is_among first) earlier id (es ++ rest) v Next
-done_at formula c first earlier old new id es rest v Next is before deletes next =
+done_at sides.Formula c first earlier old new id es rest v Next is before deletes next =
     inr (dropped_shared_is c first earlier old id false (ap is_shared is) before deletes.1.0, subst Next (sym (ap (λ (x : History). x ++ rest) deletes.0)) next)
-done_at own c first earlier old new id es rest v Next is before deletes next =
+done_at sides.Own c first earlier old new id es rest v Next is before deletes next =
     record { rest = rest; decided = inl (ap (λ (x : History). x ++ rest) deletes.0, next) }
-done_at foreign c first earlier old new id es rest v Next is before deletes next =
+done_at sides.Foreign c first earlier old new id es rest v Next is before deletes next =
     inr (dropped_shared_is c first earlier old id false (ap is_shared is) before deletes.1.0, subst Next (sym (ap (λ (x : History). x ++ rest) deletes.0)) next)
-done_at outside c first earlier old new id es rest v Next is before deletes next = absurd (let e : Ok tt ≡ Err (stops.Bad (faults.NotLive id)) = deletes.1 in cc)
+done_at sides.Outside c first earlier old new id es rest v Next is before deletes next = absurd (let e : Ok tt ≡ Err (stops.Bad (faults.NotLive id)) = deletes.1 in cc)
 
 bad_at : (side : Side) (c : Setting) (first earlier old new : List ℕ) (id : ℕ) (es : History) (fault : Fault) (Next : History → Type 0) → side_of c id ≡ side → AreDropped c first earlier old
     → DeletesSide side c id old new es (Err (stops.Bad fault)) → DeletesAt side c (is_among first) earlier id es (Bad (length earlier) fault) Next
-bad_at formula c first earlier old new id es fault Next is before deletes = inl (dropped_shared_is c first earlier old id true (ap is_shared is) before deletes.1.0, (deletes.0, ap (λ f. Bad (length earlier) f) deletes.1.1))
-bad_at own c first earlier old new id es fault Next is before deletes = record { rest = []; decided = inr (deletes.0, (refl, ap (λ f. Bad (length earlier) f) deletes.1)) }
-bad_at foreign c first earlier old new id es fault Next is before deletes = inl (dropped_shared_is c first earlier old id true (ap is_shared is) before deletes.1.0, (deletes.0, ap (λ f. Bad (length earlier) f) deletes.1.1))
-bad_at outside c first earlier old new id es fault Next is before deletes = (deletes.0, ap (λ f. Bad (length earlier) f) (let e : Err (stops.Bad fault) ≡ Err (stops.Bad (faults.NotLive id)) = deletes.1 in cc))
+bad_at sides.Formula c first earlier old new id es fault Next is before deletes = inl (dropped_shared_is c first earlier old id true (ap is_shared is) before deletes.1.0, (deletes.0, ap (λ f. Bad (length earlier) f) deletes.1.1))
+bad_at sides.Own c first earlier old new id es fault Next is before deletes = record { rest = []; decided = inr (deletes.0, (refl, ap (λ f. Bad (length earlier) f) deletes.1)) }
+bad_at sides.Foreign c first earlier old new id es fault Next is before deletes = inl (dropped_shared_is c first earlier old id true (ap is_shared is) before deletes.1.0, (deletes.0, ap (λ f. Bad (length earlier) f) deletes.1.1))
+bad_at sides.Outside c first earlier old new id es fault Next is before deletes = (deletes.0, ap (λ f. Bad (length earlier) f) (let e : Err (stops.Bad fault) ≡ Err (stops.Bad (faults.NotLive id)) = deletes.1 in cc))
 
 no_memory_at : (side : Side) (c : Setting) (first earlier old new : List ℕ) (id : ℕ) (es : History) → side_of c id ≡ side → AreDropped c first earlier old
     → DeletesSide side c id old new es (Err stops.Memory) → (es ≡ []) × (is_shared (side_of c id) ≡ true) × ((is_among first id || is_among earlier id) ≡ false)
-no_memory_at formula c first earlier old new id es is before deletes = (deletes.0, ap is_shared is, dropped_shared_is c first earlier old id false (ap is_shared is) before deletes.1)
-no_memory_at own c first earlier old new id es is before deletes = absurd deletes
-no_memory_at foreign c first earlier old new id es is before deletes = (deletes.0, ap is_shared is, dropped_shared_is c first earlier old id false (ap is_shared is) before deletes.1)
-no_memory_at outside c first earlier old new id es is before deletes = absurd (let e : Err stops.Memory ≡ Err (stops.Bad (faults.NotLive id)) = deletes.1 in cc)
+no_memory_at sides.Formula c first earlier old new id es is before deletes = (deletes.0, ap is_shared is, dropped_shared_is c first earlier old id false (ap is_shared is) before deletes.1)
+no_memory_at sides.Own c first earlier old new id es is before deletes = absurd deletes
+no_memory_at sides.Foreign c first earlier old new id es is before deletes = (deletes.0, ap is_shared is, dropped_shared_is c first earlier old id false (ap is_shared is) before deletes.1)
+no_memory_at sides.Outside c first earlier old new id es is before deletes = absurd (let e : Err stops.Memory ≡ Err (stops.Bad (faults.NotLive id)) = deletes.1 in cc)
 
 -- One after the other
 

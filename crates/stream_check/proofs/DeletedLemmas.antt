@@ -16,7 +16,9 @@ use Rattle.lrup_model.specs.EntryLemmas.{retired_now}
 use Rattle.lrup_text.specs.Lines.{StreamLine, Addition, Deletion, Import}
 use Rattle.stream_check.specs.declared.fault.Fault.{Fault}
 use Rattle.stream_check.specs.declared.fault.Fault.TheVariants as faults
-use Rattle.stream_check.specs.Setting.{Setting, Side, formula, own, foreign, outside, side_of, is_shared}
+use Rattle.stream_check.specs.declared.setting.Side.{Side}
+use Rattle.stream_check.specs.declared.setting.Side.TheVariants as sides
+use Rattle.stream_check.specs.Setting.{Setting, side_of, is_shared}
 use Rattle.stream_check.specs.Standing.{standing_of, is_among, deleted_by}
 use Rattle.stream_check.specs.Verdicts.{LineVerdict, Good, Bad}
 use Rattle.stream_check.specs.Deletions.{DeletesAt, JudgesDeletion}
@@ -43,10 +45,10 @@ identity_below p id inside = elim (eqb_tells id 0) [
 
 -- it was retired, or it is among the dropped ones
 abbrev pub TakenAt : Side → State → (ℕ → Bool) → List ℕ → ℕ → Type 0
-TakenAt formula n gone earlier id = (gone id || is_among earlier id) ≡ true
-TakenAt own n gone earlier id = IsRetired (n id)
-TakenAt foreign n gone earlier id = (gone id || is_among earlier id) ≡ true
-TakenAt outside n gone earlier id = ⊥
+TakenAt sides.Formula n gone earlier id = (gone id || is_among earlier id) ≡ true
+TakenAt sides.Own n gone earlier id = IsRetired (n id)
+TakenAt sides.Foreign n gone earlier id = (gone id || is_among earlier id) ≡ true
+TakenAt sides.Outside n gone earlier id = ⊥
 
 abbrev pub Taken : Setting → State → (ℕ → Bool) → List ℕ → ℕ → Type 0
 Taken c n gone earlier id = TakenAt (side_of c id) n gone earlier id
@@ -102,10 +104,10 @@ dropped_now gone earlier id =
     ∙ or_last (gone id) (is_among earlier id)
 
 taken_more : (side : Side) (n m : State) (gone : ℕ → Bool) (earlier : List ℕ) (id y : ℕ) → (IsRetired (n y) → IsRetired (m y)) → TakenAt side n gone earlier y → TakenAt side m gone (earlier ++ id ∷ []) y
-taken_more formula n m gone earlier id y stays t = dropped_more gone earlier id y t
-taken_more own n m gone earlier id y stays t = stays t
-taken_more foreign n m gone earlier id y stays t = dropped_more gone earlier id y t
-taken_more outside n m gone earlier id y stays t = t
+taken_more sides.Formula n m gone earlier id y stays t = dropped_more gone earlier id y t
+taken_more sides.Own n m gone earlier id y stays t = stays t
+taken_more sides.Foreign n m gone earlier id y stays t = dropped_more gone earlier id y t
+taken_more sides.Outside n m gone earlier id y stays t = t
 
 -- one identity more
 take_more : (c : Setting) (n m : State) (gone : ℕ → Bool) (earlier : List ℕ) (id many : ℕ) → ((y : ℕ) → IsRetired (n y) → IsRetired (m y))
@@ -155,7 +157,7 @@ live_not_retired (live d) a b = b
 live_not_retired (retired d) a b = a
 
 -- an own identity that was live is retired
-took_own : (c : Setting) (n : State) (gone : ℕ → Bool) (earlier : List ℕ) (id many : ℕ) → side_of c id ≡ own → OwnAnswers n (events.retire c.stream id retiring.Done)
+took_own : (c : Setting) (n : State) (gone : ℕ → Bool) (earlier : List ℕ) (id many : ℕ) → side_of c id ≡ sides.Own → OwnAnswers n (events.retire c.stream id retiring.Done)
     → AreTaken c n gone earlier many → AreTaken c (after n (events.retire c.stream id retiring.Done)) gone (earlier ++ id ∷ []) (many + 1)
 unfolding OwnAnswers
 took_own c n gone earlier id many side is_live are =
@@ -166,13 +168,13 @@ took_own c n gone earlier id many side is_live are =
     (subst IsRetired (sym (put_same n id id (retire_slot (n id)) refl)) (retired_now (n id) is_live)))
     are
 
-took_formula : (c : Setting) (n : State) (gone : ℕ → Bool) (earlier : List ℕ) (id many : ℕ) → side_of c id ≡ formula → (gone id || is_among earlier id) ≡ false
+took_formula : (c : Setting) (n : State) (gone : ℕ → Bool) (earlier : List ℕ) (id many : ℕ) → side_of c id ≡ sides.Formula → (gone id || is_among earlier id) ≡ false
     → AreTaken c n gone earlier many → AreTaken c n gone (earlier ++ id ∷ []) (many + 1)
 took_formula c n gone earlier id many side new are = take_more c n n gone earlier id many (λ y is. is)
     (λ t. let d : (gone id || is_among earlier id) ≡ true = subst (λ x. TakenAt x n gone earlier id) side t in let f : true ≡ false = sym d ∙ new in cc)
     (subst (λ x. TakenAt x n gone (earlier ++ id ∷ []) id) (sym side) (dropped_now gone earlier id)) are
 
-took_foreign : (c : Setting) (n : State) (gone : ℕ → Bool) (earlier : List ℕ) (id many : ℕ) → side_of c id ≡ foreign → (gone id || is_among earlier id) ≡ false
+took_foreign : (c : Setting) (n : State) (gone : ℕ → Bool) (earlier : List ℕ) (id many : ℕ) → side_of c id ≡ sides.Foreign → (gone id || is_among earlier id) ≡ false
     → AreTaken c n gone earlier many → AreTaken c n gone (earlier ++ id ∷ []) (many + 1)
 took_foreign c n gone earlier id many side new are = take_more c n n gone earlier id many (λ y is. is)
     (λ t. let d : (gone id || is_among earlier id) ≡ true = subst (λ x. TakenAt x n gone earlier id) side t in let f : true ≡ false = sym d ∙ new in cc)
@@ -183,14 +185,14 @@ took_at : (side : Side) (c : Setting) (n : State) (gone : ℕ → Bool) (earlier
     → ((m : State) (left : History) → A left → OwnRun m (left ++ rest) → AreTaken c m gone (earlier ++ id ∷ []) (many + 1) → Took c m gone (earlier ++ id ∷ []) ids (many + 1) left v)
     → DeletesAt side c gone earlier id es v A → OwnRun n (es ++ rest) → AreTaken c n gone earlier many → Took c n gone earlier (id ∷ ids) many es v
 unfolding OwnRun
-took_at formula c n gone earlier id ids many es rest v A side next (inl bad) answers are = took_failed c n gone earlier (id ∷ ids) many es v (faults.NotLive id) bad.1.1 are
-took_at formula c n gone earlier id ids many es rest v A side next (inr good) answers are =
+took_at sides.Formula c n gone earlier id ids many es rest v A side next (inl bad) answers are = took_failed c n gone earlier (id ∷ ids) many es v (faults.NotLive id) bad.1.1 are
+took_at sides.Formula c n gone earlier id ids many es rest v A side next (inr good) answers are =
     took_back c n gone earlier id ids many es v (next n es good.1 answers (took_formula c n gone earlier id many side good.0 are))
-took_at foreign c n gone earlier id ids many es rest v A side next (inl bad) answers are = took_failed c n gone earlier (id ∷ ids) many es v (faults.NotLive id) bad.1.1 are
-took_at foreign c n gone earlier id ids many es rest v A side next (inr good) answers are =
+took_at sides.Foreign c n gone earlier id ids many es rest v A side next (inl bad) answers are = took_failed c n gone earlier (id ∷ ids) many es v (faults.NotLive id) bad.1.1 are
+took_at sides.Foreign c n gone earlier id ids many es rest v A side next (inr good) answers are =
     took_back c n gone earlier id ids many es v (next n es good.1 answers (took_foreign c n gone earlier id many side good.0 are))
-took_at outside c n gone earlier id ids many es rest v A side next at answers are = took_failed c n gone earlier (id ∷ ids) many es v (faults.NotLive id) at.1 are
-took_at own c n gone earlier id ids many es rest v A side next at answers are = elim at.decided [
+took_at sides.Outside c n gone earlier id ids many es rest v A side next at answers are = took_failed c n gone earlier (id ∷ ids) many es v (faults.NotLive id) at.1 are
+took_at sides.Own c n gone earlier id ids many es rest v A side next at answers are = elim at.decided [
   | inl good ↦
       let e = events.retire c.stream id retiring.Done in
       let here = subst (λ x. OwnRun n (x ++ rest)) good.0 answers in
@@ -225,10 +227,10 @@ gone_more c before line y shared e =
 
 taken_line : (side : Side) (c : Setting) (n m : State) (before : List StreamLine) (line : StreamLine) (y : ℕ) → side_of c y ≡ side → (IsRetired (n y) → IsRetired (m y))
     → TakenAt side n (standing_of c before).gone (deleted_by line) y → TakenAt side m (standing_of c (before ++ line ∷ [])).gone [] y
-taken_line formula c n m before line y side stays t = gone_more c before line y (ap is_shared side) t
-taken_line own c n m before line y side stays t = stays t
-taken_line foreign c n m before line y side stays t = gone_more c before line y (ap is_shared side) t
-taken_line outside c n m before line y side stays t = t
+taken_line sides.Formula c n m before line y side stays t = gone_more c before line y (ap is_shared side) t
+taken_line sides.Own c n m before line y side stays t = stays t
+taken_line sides.Foreign c n m before line y side stays t = gone_more c before line y (ap is_shared side) t
+taken_line sides.Outside c n m before line y side stays t = t
 
 line_taken : (c : Setting) (n m : State) (before : List StreamLine) (line : StreamLine) (many : ℕ) → ((y : ℕ) → IsRetired (n y) → IsRetired (m y))
     → AreTaken c n (standing_of c before).gone (deleted_by line) many → AreTaken c m (standing_of c (before ++ line ∷ [])).gone [] many

@@ -12,7 +12,9 @@ use Rattle.lrup_text.specs.declared.device.StreamEnd.{StreamEnd}
 use Rattle.stream_check.specs.declared.fault.Fault.{Fault}
 use Rattle.stream_check.specs.declared.fault.Fault.TheVariants as faults
 use Rattle.stream_check.specs.declared.report.Report.{Report}
-use Rattle.stream_check.specs.Setting.{Setting, Side, formula, own, foreign, outside, side_of, is_shared}
+use Rattle.stream_check.specs.declared.setting.Side.{Side}
+use Rattle.stream_check.specs.declared.setting.Side.TheVariants as sides
+use Rattle.stream_check.specs.Setting.{Setting, side_of, is_shared}
 use Rattle.stream_check.specs.Standing.{Standing, standing_of}
 use Rattle.stream_check.specs.Verdicts.{LineVerdict, Good, Bad, Fails, Test}
 use Rattle.stream_check.specs.Asking.{AsksAt, Asks, AsksThen}
@@ -62,18 +64,18 @@ is_no_vacant s id events.retired found = refl
 
 found_at : (side : Side) (c : Setting) (h : ℕ) (asked rest : History) (r : Reply) → (r ≡ events.vacant → ⊥) → AsksAt side c h asked r
     → (reduced (asked ++ rest) ≡ (events.fetch c.stream h r ∷ []) ++ reduced rest) × AsksAt side c h (events.fetch c.stream h r ∷ []) r
-found_at formula c h asked rest r found asks =
+found_at sides.Formula c h asked rest r found asks =
     (ap (λ a. reduced (a ++ rest)) asks ∙ other_stays (events.fetch c.stream h r) rest (is_no_vacant c.stream h r found), refl)
-found_at own c h asked rest r found asks =
+found_at sides.Own c h asked rest r found asks =
     (ap (λ a. reduced (a ++ rest)) asks ∙ other_stays (events.fetch c.stream h r) rest (is_no_vacant c.stream h r found), refl)
-found_at foreign c h asked rest r found asks =
+found_at sides.Foreign c h asked rest r found asks =
     let vacants = replicate asks.0 (events.fetch c.stream h events.vacant) in (
       ap (λ a. reduced (a ++ rest)) asks.3
           ∙ ap reduced (append_assoc vacants (events.fetch c.stream h r ∷ []) rest)
           ∙ vacants_go c.stream h asks.0 (events.fetch c.stream h r) rest (is_no_vacant c.stream h r found),
       (0, omega arith, (λ vacant. absurd (found vacant)), refl),
     )
-found_at outside c h asked rest r found asks = absurd (found asks.1)
+found_at sides.Outside c h asked rest r found asks = absurd (found asks.1)
 
 vacants_all : (s id k : ℕ) → list_all is_vacant (replicate k (events.fetch s id events.vacant) ++ events.fetch s id events.vacant ∷ []) ≡ true
 vacants_all s id zero = refl
@@ -81,10 +83,10 @@ vacants_all s id (suc k) = vacants_all s id k
 
 -- a hint that wasn't found
 missing_at : (side : Side) (c : Setting) (h : ℕ) (asked : History) → AsksAt side c h asked events.vacant → list_all is_vacant asked ≡ true
-missing_at formula c h asked asks = ap (list_all is_vacant) asks
-missing_at own c h asked asks = ap (list_all is_vacant) asks
-missing_at foreign c h asked asks = ap (list_all is_vacant) asks.3 ∙ vacants_all c.stream h asks.0
-missing_at outside c h asked asks = ap (list_all is_vacant) asks.0
+missing_at sides.Formula c h asked asks = ap (list_all is_vacant) asks
+missing_at sides.Own c h asked asks = ap (list_all is_vacant) asks
+missing_at sides.Foreign c h asked asks = ap (list_all is_vacant) asks.3 ∙ vacants_all c.stream h asks.0
+missing_at sides.Outside c h asked asks = ap (list_all is_vacant) asks.0
 
 asks_reduced_at : (reply : Reply) (c : Setting) (h : ℕ) (es asked rest : History) (A : Reply → History → Type 0)
     → ((left : History) → A events.vacant left → left ≡ []) → ((x : Reply) (left : History) → A x left → A x (reduced left))
@@ -166,10 +168,10 @@ retires_map c earlier id es v A next a = elim a.decided [
 
 at_reduced : (side : Side) (c : Setting) (gone : ℕ → Bool) (earlier : List ℕ) (id : ℕ) (es : History) (v : LineVerdict) (A : History → Type 0)
     → ((rest : History) → A rest → A (reduced rest)) → DeletesAt side c gone earlier id es v A → DeletesAt side c gone earlier id (reduced es) v A
-at_reduced formula c gone earlier id es v A next at = drops_map gone earlier id es v A (next es) at
-at_reduced own c gone earlier id es v A next at = retires_map c earlier id es v A next at
-at_reduced foreign c gone earlier id es v A next at = drops_map gone earlier id es v A (next es) at
-at_reduced outside c gone earlier id es v A next at = (reduced_none es at.0, at.1)
+at_reduced sides.Formula c gone earlier id es v A next at = drops_map gone earlier id es v A (next es) at
+at_reduced sides.Own c gone earlier id es v A next at = retires_map c earlier id es v A next at
+at_reduced sides.Foreign c gone earlier id es v A next at = drops_map gone earlier id es v A (next es) at
+at_reduced sides.Outside c gone earlier id es v A next at = (reduced_none es at.0, at.1)
 
 identities_reduced : (c : Setting) (gone : ℕ → Bool) (earlier ids : List ℕ) (es : History) (v : LineVerdict) → JudgesDeletion c gone earlier ids es v → JudgesDeletion c gone earlier ids (reduced es) v
 identities_reduced c gone earlier [] es v judged = (reduced_none es judged.0, judged.1)

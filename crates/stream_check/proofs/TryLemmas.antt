@@ -16,7 +16,9 @@ use Rattle.propagate.specs.Hints.{Leads}
 use Rattle.propagate.specs.Laws.{LeadsOn, AcceptsExactly}
 use Rattle.stream_check.specs.declared.fault.Fault.{Fault}
 use Rattle.stream_check.specs.declared.fault.Fault.TheVariants as faults
-use Rattle.stream_check.specs.Setting.{Setting, Side, formula, own, foreign, outside, side_of}
+use Rattle.stream_check.specs.declared.setting.Side.{Side}
+use Rattle.stream_check.specs.declared.setting.Side.TheVariants as sides
+use Rattle.stream_check.specs.Setting.{Setting, side_of}
 use Rattle.stream_check.specs.Verdicts.{LineVerdict, Good, Bad, Fails, Test}
 use Rattle.stream_check.specs.Asking.{AsksAt, Asks, AsksThen}
 use Rattle.stream_check.specs.Additions.{AtReply, JudgesHints}
@@ -37,11 +39,11 @@ fetches-replicate zero s id r = tt
 fetches-replicate (suc k) s id r = (tt, fetches-replicate k s id r)
 
 asks_fetches_at : (side : Side) (c : Setting) (h : ℕ) (es : History) (r : Reply) → AsksAt side c h es r → AllByRecursion IsFetch es
-asks_fetches_at formula c h es r asks = subst (AllByRecursion IsFetch) (sym asks) (tt, tt)
-asks_fetches_at own c h es r asks = subst (AllByRecursion IsFetch) (sym asks) (tt, tt)
-asks_fetches_at foreign c h es r asks =
+asks_fetches_at sides.Formula c h es r asks = subst (AllByRecursion IsFetch) (sym asks) (tt, tt)
+asks_fetches_at sides.Own c h es r asks = subst (AllByRecursion IsFetch) (sym asks) (tt, tt)
+asks_fetches_at sides.Foreign c h es r asks =
     subst (AllByRecursion IsFetch) (sym asks.3) (fetches-append (replicate asks.0 (events.fetch c.stream h events.vacant)) (events.fetch c.stream h r ∷ []) (fetches-replicate asks.0 c.stream h events.vacant) (tt, tt))
-asks_fetches_at outside c h es r asks = subst (AllByRecursion IsFetch) (sym asks.0) tt
+asks_fetches_at sides.Outside c h es r asks = subst (AllByRecursion IsFetch) (sym asks.0) tt
 
 pub asks_fetches : (c : Setting) (h : ℕ) (es : History) (r : Reply) → Asks c h es r → AllByRecursion IsFetch es
 asks_fetches c h es r asks = asks_fetches_at (side_of c h) c h es r asks

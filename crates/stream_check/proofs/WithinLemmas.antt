@@ -16,7 +16,7 @@ use Rattle.lrup_text.specs.declared.device.StreamEnd.{StreamEnd}
 use Rattle.stream_check.specs.declared.fault.Fault.{Fault}
 use Rattle.stream_check.specs.declared.fault.Fault.TheVariants as faults
 use Rattle.stream_check.specs.declared.report.Report.{Report}
-use Rattle.stream_check.specs.Setting.{Setting, side_for, side_of, is_shared}
+use Rattle.stream_check.specs.Setting.{Setting, side_of, is_shared}
 use Rattle.stream_check.specs.Standing.{Standing, standing_of, deleted_by, added_by, last_in}
 use Rattle.stream_check.specs.Verdicts.{LineVerdict, Good, Bad, Fails, Test}
 use Rattle.stream_check.specs.Additions.{AtConflict, AtReply, JudgesHints, published_by, JudgesAddition}
@@ -26,6 +26,7 @@ use Rattle.stream_check.specs.Judging.{JudgesLine, AreGood, joined, EndsAfter}
 use Rattle.stream_check.specs.Laws.{CountsWithin}
 use Rattle.stream_check.specs.ReportLemmas.{joined-append}
 use Rattle.stream_check.proofs.StandingLemmas.{last_below, same_last}
+use Rattle.stream_check.proofs.AskLemmas.{side_for}
 use Rattle.stream_check.proofs.CountLemmas.{SameOwn, OwnRun, own_runs, run_on}
 use Rattle.stream_check.proofs.DeletedLemmas.{identity_below, TakenAt, Taken, Apart, are_distinct, AreTaken, identities_took, lines_took}
 

@@ -4,7 +4,9 @@ use Rattle.lrup_model.specs.Event as events
 use Rattle.lrup_model.specs.Event.{History}
 use Rattle.lrup_model.specs.declared.clause_map.Retired.TheVariants as retiring
 use Rattle.stream_check.specs.declared.fault.Fault.TheVariants as faults
-use Rattle.stream_check.specs.Setting.{Setting, Side, formula, own, foreign, outside, side_of, is_shared}
+use Rattle.stream_check.specs.declared.setting.Side.{Side}
+use Rattle.stream_check.specs.declared.setting.Side.TheVariants as sides
+use Rattle.stream_check.specs.Setting.{Setting, side_of, is_shared}
 use Rattle.stream_check.specs.Standing.{is_among}
 use Rattle.stream_check.specs.Verdicts.{LineVerdict, Good, Fails}
 
@@ -27,10 +29,11 @@ DropsThen gone earlier id es v Next =
 -- identity is a fault
 abbrev pub DeletesAt : Side → Setting → (ℕ → Bool) → List ℕ → ℕ → History → LineVerdict
     → (History → Type 0) → Type 0
-DeletesAt formula c gone earlier id es v Next = DropsThen gone earlier id es v Next
-DeletesAt own c gone earlier id es v Next = RetiresThen c earlier id es v Next
-DeletesAt foreign c gone earlier id es v Next = DropsThen gone earlier id es v Next
-DeletesAt outside c gone earlier id es v Next = Fails (length earlier) (faults.NotLive id) es v
+DeletesAt sides.Formula c gone earlier id es v Next = DropsThen gone earlier id es v Next
+DeletesAt sides.Own c gone earlier id es v Next = RetiresThen c earlier id es v Next
+DeletesAt sides.Foreign c gone earlier id es v Next = DropsThen gone earlier id es v Next
+DeletesAt sides.Outside c gone earlier id es v Next =
+    Fails (length earlier) (faults.NotLive id) es v
 
 -- a deletion's events and its verdict, where these identities were dropped before, and these of the line were taken earlier
 abbrev pub JudgesDeletion : Setting → (ℕ → Bool) → List ℕ → List ℕ → History → LineVerdict → Type 0
