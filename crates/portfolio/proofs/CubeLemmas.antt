@@ -20,7 +20,7 @@ use Rattle.lrup_text.specs.declared.device.StreamEnd.TheVariants as stream_ends
 use Rattle.stream_check.specs.declared.fault.Fault.TheVariants as faults
 use Rattle.stream_check.specs.declared.report.Report.{Report}
 use Rattle.stream_check.specs.Setting.{Setting}
-use Rattle.stream_check.specs.Standing.{Standing, adds_within, is_within}
+use Rattle.stream_check.specs.Standing.{is_within}
 use Rattle.stream_check.specs.CubeLemmas.{is_within-decides}
 use Rattle.stream_check.specs.Verdicts.{Good}
 use Rattle.stream_check.specs.Additions.{published_by}
@@ -32,40 +32,16 @@ use Rattle.run_laws.specs.Lines.{publishes_within}
 use Rattle.portfolio.specs.declared.outcome.Verdict.{Verdict}
 use Rattle.portfolio.specs.declared.outcome.Verdict.TheVariants.{Unsatisfiable, UnsatisfiableUnder, Unknown}
 use Rattle.portfolio.specs.Outcomes.{verdict_of}
-use Rattle.portfolio.proofs.EmptyLemmas.{any_front, any_back, any_filtered, any_block, fails_not, hints_publish}
+use Rattle.portfolio.proofs.EmptyLemmas.{any_front, any_filtered, any_block, lines_publish}
 
 -- ---- the lines of a stream
-
--- a good addition of a clause within the cube publishes it
-within_line : (c : Setting) (st : Standing) (id : ℕ) (lits : List ℤ) (hints : List ℕ) (es : History)
-    → JudgesLine c st (Addition id lits hints) es Good → adds_within c.cube (Addition id lits hints) ≡ true → list_any (publishes_within c.cube) es ≡ true
-within_line c st id lits hints es (inl bad) is = absurd (fails_not faults.Identity es bad.1)
-within_line c st id lits hints es (inr (a, inl bad)) is = absurd (fails_not faults.Literal es bad.1)
-within_line c st id lits hints es (inr (a, inr (b, inl bad))) is = absurd (fails_not faults.Tautology es bad.1)
-within_line c st id lits hints es (inr (a, inr (b, inr (d, inl bad)))) is = absurd (fails_not faults.NoRoom es bad.1)
-within_line c st id lits hints es (inr (a, inr (b, inr (d, inr (e, judged))))) is =
-    hints_publish (publishes_within c.cube) c st.gone (published_by c id lits) is _ hints es judged
-
-lines_publish : (c : Setting) (before lines : List StreamLine) (blocks : List History) → AreGood c before lines blocks → list_any (adds_within c.cube) lines ≡ true
-    → list_any (publishes_within c.cube) (joined blocks) ≡ true
-lines_publish c before [] [] good e = absurd (let f : false ≡ true = e in cc)
-lines_publish c before [] (block ∷ blocks) good e = absurd good
-lines_publish c before (line ∷ lines) [] good e = absurd good
-lines_publish c before (Deletion lead ids ∷ lines) (block ∷ blocks) good e = any_back (publishes_within c.cube) block (joined blocks) (lines_publish c _ lines blocks good.1 e)
-lines_publish c before (Import id lits ∷ lines) (block ∷ blocks) good e = any_back (publishes_within c.cube) block (joined blocks) (lines_publish c _ lines blocks good.1 e)
-lines_publish c before (Addition id lits hints ∷ lines) (block ∷ blocks) good e =
-    elim (cases_Bool (adds_within c.cube (Addition id lits hints))) [
-      | inl yes' ↦ any_front (publishes_within c.cube) block (joined blocks) (within_line c _ id lits hints block good.0 yes')
-      | inr none ↦ any_back (publishes_within c.cube) block (joined blocks)
-          (lines_publish c _ lines blocks good.1 (ap (λ b. b || list_any (adds_within c.cube) lines) (sym none) ∙ e))
-    ]
 
 -- where the report says 'within', one of the events published a clause within the cube
 within_is_published : (c : Setting) (bytes : List ℕ) (end : StreamEnd) (blocks : List History) (report : Report)
     → JudgesBlocks c bytes end blocks report → IsTrue report.within → IsTrue (list_any (publishes_within c.cube) (joined blocks))
 within_is_published c bytes end blocks report judged is =
     let said = said_within c judged.lines judged.rest end judged.back report judged.ends in
-    let front = lines_publish c [] judged.lines judged.front judged.good (sym said ∙ is) in
+    let front = lines_publish (publishes_within c.cube) (λ a. is_within c.cube a.1) c (λ id lits. refl) [] judged.lines judged.front judged.good (sym said ∙ is) in
     ap (λ bs. list_any (publishes_within c.cube) (joined bs)) judged.split
     ∙ ap (list_any (publishes_within c.cube)) (flat_map-append (λ (block : History). block) judged.front judged.back)
     ∙ any_front (publishes_within c.cube) (joined judged.front) (joined judged.back) front

@@ -2,10 +2,11 @@
 use Rattle.std.proofs.Common.{◌≡◌, ℕ, ℤ, Bool, true, false, List, [], ◌∷◌, ◌++◌, length, inl, inr, refl, sym, ap, subst, ◌∙◌, arith}
 use Rattle.std.specs.Prelude.{◌||◌, ◌==◌, IsTrue, if◌then◌else◌}
 use Rattle.std.specs.List.{list_any, filter}
-use Rattle.std.proofs.lemmas.Bool.{eqb-true, or_right, or_left}
+use Rattle.std.proofs.lemmas.Bool.{cases_Bool, eqb-true, or_right, or_left}
 use Rattle.std.proofs.lemmas.Grind.{flat_map-append}
 use Rattle.std.proofs.lemmas.List.Folds.{list_any-append}
 use Rattle.lrup_model.specs.Clause.{Clause}
+use Rattle.lrup_model.specs.Distinct.{distinct}
 use Rattle.lrup_model.specs.Formula.{Cnf}
 use Rattle.lrup_model.specs.Entailment.{Follows, IsUnsatisfiable}
 use Rattle.lrup_model.specs.EntailmentLemmas.{empty_refutes}
@@ -22,7 +23,7 @@ use Rattle.stream_check.specs.declared.fault.Fault.{Fault}
 use Rattle.stream_check.specs.declared.fault.Fault.TheVariants as faults
 use Rattle.stream_check.specs.declared.report.Report.{Report}
 use Rattle.stream_check.specs.Setting.{Setting}
-use Rattle.stream_check.specs.Standing.{Standing, adds_empty}
+use Rattle.stream_check.specs.Standing.{Standing, additions_of}
 use Rattle.stream_check.specs.Verdicts.{Good, Bad, Fails}
 use Rattle.stream_check.specs.Additions.{AtConflict, AtReply, JudgesHints, published_by}
 use Rattle.stream_check.specs.Judging.{JudgesLine, AreGood, joined, JudgesBlocks}
@@ -91,31 +92,38 @@ module _ (p : Event → Bool) (c : Setting) (gone : ℕ → Bool) (published : E
       ap (list_any p) a.events
       ∙ any_back p a.asked a.rest (at_reply a.reply n h hints a.rest (λ m. JudgesHints c gone published m hints a.rest Good) (λ m k. hints_publish m hints a.rest k) a.next)
 
--- a good addition of the empty clause publishes it
-empty_line : (c : Setting) (st : Standing) (id : ℕ) (hints : List ℕ) (es : History) → JudgesLine c st (Addition id [] hints) es Good → list_any publishes_empty es ≡ true
-empty_line c st id hints es (inl bad) = absurd (fails_not faults.Identity es bad.1)
-empty_line c st id hints es (inr (a, inl bad)) = absurd (fails_not faults.Literal es bad.1)
-empty_line c st id hints es (inr (a, inr (b, inl bad))) = absurd (fails_not faults.Tautology es bad.1)
-empty_line c st id hints es (inr (a, inr (b, inr (d, inl bad)))) = absurd (fails_not faults.NoRoom es bad.1)
-empty_line c st id hints es (inr (a, inr (b, inr (d, inr (e, judged))))) = hints_publish publishes_empty c st.gone (published_by c id []) refl [] hints es judged
+-- a good addition whose publish passes
+addition_publishes : (p : Event → Bool) (c : Setting) (st : Standing) (id : ℕ) (lits : List ℤ) (hints : List ℕ) (es : History)
+    → JudgesLine c st (Addition id lits hints) es Good → p (published_by c id lits) ≡ true → list_any p es ≡ true
+addition_publishes p c st id lits hints es (inl bad) passes = absurd (fails_not faults.Identity es bad.1)
+addition_publishes p c st id lits hints es (inr (a, inl bad)) passes = absurd (fails_not faults.Literal es bad.1)
+addition_publishes p c st id lits hints es (inr (a, inr (b, inl bad))) passes = absurd (fails_not faults.Tautology es bad.1)
+addition_publishes p c st id lits hints es (inr (a, inr (b, inr (d, inl bad)))) passes = absurd (fails_not faults.NoRoom es bad.1)
+addition_publishes p c st id lits hints es (inr (a, inr (b, inr (d, inr (e, judged))))) passes =
+    hints_publish p c st.gone (published_by c id lits) passes _ hints es judged
 
 -- ---- the lines of a stream
 
-lines_publish : (c : Setting) (before lines : List StreamLine) (blocks : List History) → AreGood c before lines blocks → list_any adds_empty lines ≡ true → list_any publishes_empty (joined blocks) ≡ true
-lines_publish c before [] [] good e = absurd (let f : false ≡ true = e in cc)
-lines_publish c before [] (block ∷ blocks) good e = absurd good
-lines_publish c before (line ∷ lines) [] good e = absurd good
-lines_publish c before (Addition id [] hints ∷ lines) (block ∷ blocks) good e = any_front publishes_empty block (joined blocks) (empty_line c _ id hints block good.0)
-lines_publish c before (Addition id (l ∷ lits) hints ∷ lines) (block ∷ blocks) good e = any_back publishes_empty block (joined blocks) (lines_publish c _ lines blocks good.1 e)
-lines_publish c before (Deletion lead ids ∷ lines) (block ∷ blocks) good e = any_back publishes_empty block (joined blocks) (lines_publish c _ lines blocks good.1 e)
-lines_publish c before (Import id lits ∷ lines) (block ∷ blocks) good e = any_back publishes_empty block (joined blocks) (lines_publish c _ lines blocks good.1 e)
+-- where one of the good additions passes, one of the publishes does
+pub lines_publish : (p : Event → Bool) (adds : ℕ × Clause → Bool) (c : Setting) → ((id : ℕ) (lits : List ℤ) → p (published_by c id lits) ≡ adds (id, distinct lits))
+    → (before lines : List StreamLine) (blocks : List History) → AreGood c before lines blocks → list_any adds (additions_of lines) ≡ true → list_any p (joined blocks) ≡ true
+lines_publish p adds c same before [] [] good e = absurd (let f : false ≡ true = e in cc)
+lines_publish p adds c same before [] (block ∷ blocks) good e = absurd good
+lines_publish p adds c same before (line ∷ lines) [] good e = absurd good
+lines_publish p adds c same before (Deletion lead ids ∷ lines) (block ∷ blocks) good e = any_back p block (joined blocks) (lines_publish p adds c same _ lines blocks good.1 e)
+lines_publish p adds c same before (Import id lits ∷ lines) (block ∷ blocks) good e = any_back p block (joined blocks) (lines_publish p adds c same _ lines blocks good.1 e)
+lines_publish p adds c same before (Addition id lits hints ∷ lines) (block ∷ blocks) good e =
+    elim (cases_Bool (adds (id, distinct lits))) [
+      | inl is ↦ any_front p block (joined blocks) (addition_publishes p c _ id lits hints block good.0 (same id lits ∙ is))
+      | inr none ↦ any_back p block (joined blocks) (lines_publish p adds c same _ lines blocks good.1 (ap (λ b. b || list_any adds (additions_of lines)) (sym none) ∙ e))
+    ]
 
 -- Where the report says 'empty', one of the events published the empty clause.
 pub empty_is_published : (c : Setting) (bytes : List ℕ) (end : StreamEnd) (blocks : List History) (report : Report)
     → JudgesBlocks c bytes end blocks report → IsTrue report.empty → IsTrue (list_any publishes_empty (joined blocks))
 empty_is_published c bytes end blocks report judged is =
     let said = said_empty c judged.lines judged.rest end judged.back report judged.ends in
-    let front = lines_publish c [] judged.lines judged.front judged.good (sym said ∙ is) in
+    let front = lines_publish publishes_empty (λ a. length a.1 == 0) c (λ id lits. refl) [] judged.lines judged.front judged.good (sym said ∙ is) in
     ap (λ bs. list_any publishes_empty (joined bs)) judged.split
     ∙ ap (list_any publishes_empty) (flat_map-append (λ (block : History). block) judged.front judged.back)
     ∙ any_front publishes_empty (joined judged.front) (joined judged.back) front

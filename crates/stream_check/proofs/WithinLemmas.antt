@@ -2,7 +2,6 @@
 use Rattle.std.proofs.Common.{◌≡◌, ◌<◌, ◌≤◌, ◌+◌, ◌||◌, ℕ, ℤ, nat_abs, Bool, true, false, List, [], ◌∷◌, ◌++◌, length, eqb, inl, inr, refl, sym, ap, subst, ◌∙◌, arith, append_assoc, append-nil}
 use Rattle.std.specs.List.{AllByRecursion, list_any, sum_by}
 use Rattle.std.proofs.lemmas.Bool.Decides.{eqb_tells}
-use Rattle.std.proofs.lemmas.List.Sums.{sum_by-append}
 use Rattle.std.proofs.lemmas.Map.Steps.{length-le_from_distinct_below}
 use Rattle.lrup_model.specs.Clause.{IsTautology}
 use Rattle.lrup_model.specs.Layout.{LayoutValue, last_identity, IsIdentity, Owns}
@@ -17,7 +16,7 @@ use Rattle.stream_check.specs.declared.fault.Fault.{Fault}
 use Rattle.stream_check.specs.declared.fault.Fault.TheVariants as faults
 use Rattle.stream_check.specs.declared.report.Report.{Report}
 use Rattle.stream_check.specs.Setting.{Setting, side_of, is_shared}
-use Rattle.stream_check.specs.Standing.{Standing, standing_of, deleted_by, added_by, last_in}
+use Rattle.stream_check.specs.Standing.{Standing, standing_of, additions_of, deleted_by}
 use Rattle.stream_check.specs.Verdicts.{LineVerdict, Good, Bad, Fails, Test}
 use Rattle.stream_check.specs.Additions.{AtConflict, AtReply, JudgesHints, published_by, JudgesAddition}
 use Rattle.stream_check.specs.Asking.{AsksThen}
@@ -25,7 +24,7 @@ use Rattle.stream_check.specs.Imports.{AtImported, JudgesImport}
 use Rattle.stream_check.specs.Judging.{JudgesLine, AreGood, joined, EndsAfter}
 use Rattle.stream_check.specs.Laws.{CountsWithin}
 use Rattle.stream_check.specs.ReportLemmas.{joined-append}
-use Rattle.stream_check.proofs.StandingLemmas.{last_below, same_last}
+use Rattle.stream_check.proofs.StandingLemmas.{last_below, same_last, added-snoc}
 use Rattle.stream_check.proofs.AskLemmas.{side_for}
 use Rattle.stream_check.proofs.CountLemmas.{SameOwn, OwnRun, own_runs, run_on}
 use Rattle.stream_check.proofs.DeletedLemmas.{identity_below, TakenAt, Taken, Apart, are_distinct, AreTaken, identities_took, lines_took}
@@ -167,8 +166,8 @@ owns_below p s id owns = (identity_below p id (λ e. let f : owners.Outside ≡ 
 
 -- so many were added that the last identity is at least that far from the formula's
 record AreFewAdded (c : Setting) (lines : List StreamLine) : Type 0 where
-  few : sum_by added_by lines + c.layout.clauses ≤ last_in c.layout lines
-  below : last_in c.layout lines ≤ last_identity c.layout
+  few : length (additions_of lines) + c.layout.clauses ≤ (standing_of c lines).last
+  below : (standing_of c lines).last ≤ last_identity c.layout
 
 one_added : (c : Setting) (before : List StreamLine) (line : StreamLine) (es : History) → JudgesLine c (standing_of c before) line es Good → AreFewAdded c before → AreFewAdded c (before ++ line ∷ [])
 one_added c before (Addition id lits hints) es judged are =
@@ -176,19 +175,19 @@ one_added c before (Addition id lits hints) es judged are =
     let above = last_below c (standing_of c before) id lits hints es judged in
     let within = owns_below c.layout c.stream id (owns_good c (standing_of c before) id lits hints es judged) in
     record {
-      few = omega (arith, last, above, are.few, sum_by-append added_by before (Addition id lits hints ∷ []));
+      few = omega (arith, last, above, are.few, added-snoc before (Addition id lits hints));
       below = omega (arith, last, within);
     }
 one_added c before (Deletion lead ids) es judged are =
     let last = same_last c before (Deletion lead ids) es judged in
     record {
-      few = omega (arith, last, are.few, sum_by-append added_by before (Deletion lead ids ∷ []));
+      few = omega (arith, last, are.few, added-snoc before (Deletion lead ids));
       below = omega (arith, last, are.below);
     }
 one_added c before (Import id lits) es judged are =
     let last = same_last c before (Import id lits) es judged in
     record {
-      few = omega (arith, last, are.few, sum_by-append added_by before (Import id lits ∷ []));
+      few = omega (arith, last, are.few, added-snoc before (Import id lits));
       below = omega (arith, last, are.below);
     }
 
@@ -199,7 +198,7 @@ lines_added c before (line ∷ lines) (block ∷ blocks) good are =
     subst (AreFewAdded c) (append_assoc before (line ∷ []) lines)
     (lines_added c (before ++ line ∷ []) lines blocks good.1 (one_added c before line block good.0 are))
 
-added_is : (c : Setting) (lines : List StreamLine) (rest : List ℕ) (end : StreamEnd) (back : List History) (report : Report) → EndsAfter c lines rest end back report → report.added ≡ sum_by added_by lines
+added_is : (c : Setting) (lines : List StreamLine) (rest : List ℕ) (end : StreamEnd) (back : List History) (report : Report) → EndsAfter c lines rest end back report → report.added ≡ length (additions_of lines)
 added_is c lines rest end back report (inl e) = ap (λ (r : Report). r.added) e.says
 added_is c lines rest end back report (inr (inl e)) = ap (λ (r : Report). r.added) e.says
 added_is c lines rest end back report (inr (inr (inl e))) = ap (λ (r : Report). r.added) e.says

@@ -27,7 +27,7 @@ use Rattle.stream_check.specs.Deletions.{StopsDeletion}
 use Rattle.stream_check.specs.Judging.{JudgesLine, joined, report_of, ending_at, JudgesBlocks, Judges}
 use Rattle.stream_check.specs.Forks.{NeverFork}
 use Rattle.lrup_model.specs.Distinct.{distinct}
-use Rattle.stream_check.specs.Standing.{Standing}
+use Rattle.stream_check.specs.Standing.{Standing, additions_of}
 use Rattle.stream_check.specs.Additions.{JudgesAddition}
 use Rattle.stream_check.specs.Reducing.{reduced, IsEarly, TriesAgain}
 use Rattle.stream_check.specs.Finding.{IsGoodAddition, FindsSound}
@@ -258,18 +258,12 @@ CitedFetched = (c : Setting) (bytes : List ℕ) (end : StreamEnd) (blocks : List
 
 -- Cubes
 
--- the line adds a clause within the cube
-abbrev pub AddsWithin : CubeValue → StreamLine → Type 0
-AddsWithin cube (Addition id lits hints) = Within (distinct lits) cube
-AddsWithin cube (Deletion lead ids) = ⊥
-AddsWithin cube (Import id lits) = ⊥
-
 -- the report says 'within' exactly if a good addition's clause is within the cube
 abbrev pub WithinReported : Type 0
 WithinReported = (c : Setting) (bytes : List ℕ) (end : StreamEnd) (blocks : List History)
     (report : Report)
     → (j : JudgesBlocks c bytes end blocks report) → IsTrue report.within
-    ↔ Any (AddsWithin c.cube) j.lines
+    ↔ Any (λ a. Within a.1 c.cube) (additions_of j.lines)
 
 -- with the empty cube it says 'within' exactly if it says 'empty'
 abbrev pub EmptyCubeReported : Type 0

@@ -1,11 +1,12 @@
 -- What a checker is, and what it is left as by the bytes so far and the blocks of events of their lines (this project's own).
-use Rattle.std.specs.Prelude.{◌≡◌, ◌+◌, ◌-◌, ◌&&◌, ◌||◌, ℕ, List, [], length}
+use Rattle.std.specs.Prelude.{◌≡◌, ◌==◌, ◌+◌, ◌-◌, ◌&&◌, ◌||◌, ℕ, List, [], ◌∷◌, length}
+use Rattle.std.specs.List.{list_any, sum_by}
 use Rattle.lrup_model.specs.Event.{History}
 use Rattle.lrup_text.specs.Lines.{StreamLine, Addition, Deletion, Import, Cut, IsPending}
 use Rattle.lrup_text.specs.declared.device.StreamEnd.TheVariants as stream_ends
 use Rattle.stream_check.specs.declared.report.Report.{Report}
 use Rattle.stream_check.specs.Setting.{Setting, side_of, is_shared}
-use Rattle.stream_check.specs.Standing.{Standing, standing_of, is_among, line_size, deleted_by, added_by, adds_empty, adds_within, Tally, tally_of, capped}
+use Rattle.stream_check.specs.Standing.{Standing, standing_of, additions_of, is_among, is_within, deleted_by, Tally, tally_of, capped}
 use Rattle.stream_check.specs.Judging.{AreGood, JudgesBlocks}
 
 -- what a checker holds that isn't over: its counts, what good lines left, the text read of the next line, and that line's number
@@ -53,16 +54,16 @@ last_after last (Import id lits) = last
 abbrev pub standing_after : Setting → Standing → StreamLine → Standing
 standing_after c st line = record {
   last = last_after st.last line;
-  free = st.free - line_size line;
+  free = st.free - sum_by (λ a. length a.1) (additions_of (line ∷ []));
   gone = λ id. st.gone id || is_shared (side_of c id) && is_among (deleted_by line) id;
 }
 
 abbrev pub tally_after : Setting → Tally → StreamLine → Tally
 tally_after c t line = record {
-  added = t.added + added_by line;
+  added = t.added + length (additions_of (line ∷ []));
   deleted = capped (t.deleted + length (deleted_by line));
-  empty = t.empty || adds_empty line;
-  within = t.within || adds_within c.cube line;
+  empty = t.empty || list_any (λ a. length a.1 == 0) (additions_of (line ∷ []));
+  within = t.within || list_any (λ a. is_within c.cube a.1) (additions_of (line ∷ []));
 }
 
 -- what a checker holds after one good line more
