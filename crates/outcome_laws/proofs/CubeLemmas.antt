@@ -21,7 +21,7 @@ use Rattle.stream_check.specs.Asking.{AsksAt, AsksThen}
 use Rattle.stream_check.specs.Additions.{AtReply, JudgesHints, published_by, JudgesAddition}
 use Rattle.stream_check.specs.Deletions.{RetiresThen, DropsThen, DeletesAt, JudgesDeletion}
 use Rattle.stream_check.specs.Imports.{AtImported, JudgesImport}
-use Rattle.stream_check.specs.Judging.{JudgesLine, AreGood, report_of, EndsAfter}
+use Rattle.stream_check.specs.Judging.{JudgesLine, AreGood, report_of, EndsAfter, at_line, at_text, at_memory, at_end}
 use Rattle.stream_check.specs.ReportLemmas.{all_only_empty}
 use Rattle.outcome_laws.specs.Outcomes.{bare_setting, bare_report}
 use Rattle.outcome_laws.specs.Laws.{NoCubeJudgesAlike}
@@ -138,48 +138,21 @@ says_bare c lines deleted ending report says =
 
 ends_bare : (c : Setting) (lines : List StreamLine) (rest : List ℕ) (end : StreamEnd) (back : List History) (report : Report)
     → EndsAfter c lines rest end back report → EndsAfter (bare_setting c) lines rest end back (bare_report report)
-ends_bare c lines rest end back report (inl e) = inl (record {
-  line = e.line;
-  more = e.more;
-  text = e.text;
-  fits = e.fits;
-  block = e.block;
-  one_block = e.one_block;
-  deleted = e.deleted;
-  fault = e.fault;
-  bad = line_bare c lines e.line e.block (Bad e.deleted e.fault) e.bad;
-  says = says_bare c lines _ _ report e.says;
-})
-ends_bare c lines rest end back report (inr (inl e)) = inr (inl (record {
-  fault = e.fault;
-  text = e.text;
-  no_block = e.no_block;
-  says = says_bare c lines _ _ report e.says;
-}))
-ends_bare c lines rest end back report (inr (inr (inl e))) = inr (inr (inl (record {
-  lead = e.lead;
-  ids = e.ids;
-  more = e.more;
-  text = e.text;
-  fits = e.fits;
-  block = e.block;
-  one_block = e.one_block;
-  earlier = e.earlier;
-  stops = record {
-    id = e.stops.id;
-    later = e.stops.later;
-    identities = e.stops.identities;
-    before = identities_bare c (standing_of c lines).gone [] e.earlier e.block Good e.stops.before;
-    shared = e.stops.shared;
-    new = e.stops.new;
-  };
-  says = says_bare c lines _ _ report e.says;
-})))
-ends_bare c lines rest end back report (inr (inr (inr e))) = inr (inr (inr (record {
-  pending = e.pending;
-  no_block = e.no_block;
-  says = says_bare c lines _ _ report e.says;
-})))
+ends_bare c lines rest end back report (at_line line more text fits block one_block deleted fault bad says) =
+    at_line line more text fits block one_block deleted fault (line_bare c lines line block (Bad deleted fault) bad) (says_bare c lines _ _ report says)
+ends_bare c lines rest end back report (at_text fault text no_block says) = at_text fault text no_block (says_bare c lines _ _ report says)
+ends_bare c lines rest end back report (at_memory lead ids more text fits block one_block earlier stops says) =
+    at_memory lead ids more text fits block one_block earlier
+    (record {
+      id = stops.id;
+      later = stops.later;
+      identities = stops.identities;
+      before = identities_bare c (standing_of c lines).gone [] earlier block Good stops.before;
+      shared = stops.shared;
+      new = stops.new;
+    })
+    (says_bare c lines _ _ report says)
+ends_bare c lines rest end back report (at_end pending no_block says) = at_end pending no_block (says_bare c lines _ _ report says)
 
 pub no_cube_judges_alike : NoCubeJudgesAlike
 no_cube_judges_alike c bytes end blocks report j = record {

@@ -13,7 +13,7 @@ use Rattle.stream_check.specs.declared.report.Ending.{Ending}
 use Rattle.stream_check.specs.declared.report.Ending.TheVariants as endings
 use Rattle.stream_check.specs.declared.report.Report.{Report}
 use Rattle.stream_check.specs.Setting.{Setting}
-use Rattle.stream_check.specs.Judging.{ending_at, EndsAfter, JudgesBlocks}
+use Rattle.stream_check.specs.Judging.{ending_at, EndsAfter, at_line, at_text, at_memory, at_end, JudgesBlocks}
 use Rattle.stream_check.specs.Leaving.{Leaves}
 use Rattle.stream_check.specs.CheckerValue.{CheckerValue}
 use Rattle.stream_check.specs.Checker.{state_by, checker_state, report_at, LeavesOn, EndsBy, Ends, ReportsEnd}
@@ -37,27 +37,27 @@ not_over over ending is going = none_of ending (λ some. let yes : over ≡ true
 -- ---- a report that is right for either end tells of neither
 
 ends_not_ended : (c : Setting) (lines : List StreamLine) (rest : List ℕ) (blocks : List History) (report : Report) → EndsAfter c lines rest stream_ends.Failed blocks report → report.ending ≡ endings.Ended → ⊥
-ends_not_ended c lines rest blocks report (inl line) e = let f = sym e ∙ ap (λ (r : Report). r.ending) line.says in cc
-ends_not_ended c lines rest blocks report (inr (inl text)) e = let f = sym e ∙ ap (λ (r : Report). r.ending) text.says in cc
-ends_not_ended c lines rest blocks report (inr (inr (inl memory))) e = let f = sym e ∙ ap (λ (r : Report). r.ending) memory.says in cc
-ends_not_ended c lines rest blocks report (inr (inr (inr ending))) e = let f = sym e ∙ ap (λ (r : Report). r.ending) ending.says in cc
+ends_not_ended c lines rest blocks report (at_line _ _ _ _ _ _ _ _ _ says) e = let f = sym e ∙ ap (λ (r : Report). r.ending) says in cc
+ends_not_ended c lines rest blocks report (at_text _ _ _ says) e = let f = sym e ∙ ap (λ (r : Report). r.ending) says in cc
+ends_not_ended c lines rest blocks report (at_memory _ _ _ _ _ _ _ _ _ says) e = let f = sym e ∙ ap (λ (r : Report). r.ending) says in cc
+ends_not_ended c lines rest blocks report (at_end _ _ says) e = let f = sym e ∙ ap (λ (r : Report). r.ending) says in cc
 
 end_not_failed : (rest : List ℕ) (n line : ℕ) → ending_at stream_ends.Ended rest n ≡ endings.ReadFailed line → ⊥
 end_not_failed [] n line e = cc
 end_not_failed (byte ∷ bytes) n line e = cc
 
 ends_not_failed : (c : Setting) (lines : List StreamLine) (rest : List ℕ) (blocks : List History) (report : Report) (n : ℕ) → EndsAfter c lines rest stream_ends.Ended blocks report → report.ending ≡ endings.ReadFailed n → ⊥
-ends_not_failed c lines rest blocks report n (inl line) e = let f = sym e ∙ ap (λ (r : Report). r.ending) line.says in cc
-ends_not_failed c lines rest blocks report n (inr (inl text)) e = let f = sym e ∙ ap (λ (r : Report). r.ending) text.says in cc
-ends_not_failed c lines rest blocks report n (inr (inr (inl memory))) e = let f = sym e ∙ ap (λ (r : Report). r.ending) memory.says in cc
-ends_not_failed c lines rest blocks report n (inr (inr (inr ending))) e = end_not_failed rest _ n (sym (ap (λ (r : Report). r.ending) ending.says) ∙ e)
+ends_not_failed c lines rest blocks report n (at_line _ _ _ _ _ _ _ _ _ says) e = let f = sym e ∙ ap (λ (r : Report). r.ending) says in cc
+ends_not_failed c lines rest blocks report n (at_text _ _ _ says) e = let f = sym e ∙ ap (λ (r : Report). r.ending) says in cc
+ends_not_failed c lines rest blocks report n (at_memory _ _ _ _ _ _ _ _ _ says) e = let f = sym e ∙ ap (λ (r : Report). r.ending) says in cc
+ends_not_failed c lines rest blocks report n (at_end _ _ says) e = end_not_failed rest _ n (sym (ap (λ (r : Report). r.ending) says) ∙ e)
 
 stops_reading : (c : Setting) (bytes : List ℕ) (blocks : List History) (report : Report) (ending : Ending) → report.ending ≡ ending
     → JudgesBlocks c bytes stream_ends.Ended blocks report → JudgesBlocks c bytes stream_ends.Failed blocks report → StopsReading ending
-stops_reading c bytes blocks report endings.Ended is at_end at_failure = ends_not_ended c at_failure.lines at_failure.rest at_failure.back report at_failure.ends is
-stops_reading c bytes blocks report (endings.Bad line fault) is at_end at_failure = tt
-stops_reading c bytes blocks report (endings.ReadFailed line) is at_end at_failure = ends_not_failed c at_end.lines at_end.rest at_end.back report line at_end.ends is
-stops_reading c bytes blocks report (endings.Memory line) is at_end at_failure = tt
+stops_reading c bytes blocks report endings.Ended is ended failed = ends_not_ended c failed.lines failed.rest failed.back report failed.ends is
+stops_reading c bytes blocks report (endings.Bad line fault) is ended failed = tt
+stops_reading c bytes blocks report (endings.ReadFailed line) is ended failed = ends_not_failed c ended.lines ended.rest ended.back report line ended.ends is
+stops_reading c bytes blocks report (endings.Memory line) is ended failed = tt
 
 -- ---- a worker's steps
 

@@ -1,5 +1,5 @@
 -- The lines that a stream is judged by, and what they fetch.
-use Rattle.std.proofs.Common.{◌≡◌, ℕ, Bool, IsTrue, List, [], ◌∷◌, ◌++◌, inl, inr, refl, sym, ap, subst, ◌∙◌, append-nil}
+use Rattle.std.proofs.Common.{◌≡◌, ℕ, Bool, IsTrue, List, [], ◌∷◌, ◌++◌, refl, sym, ap, subst, ◌∙◌, append-nil}
 use Rattle.std.specs.List.{AllByRecursion, flat_map}
 use Rattle.lrup_model.specs.Event.{History}
 use Rattle.lrup_model.specs.ListLemmas.{All-append}
@@ -9,7 +9,7 @@ use Rattle.stream_check.specs.declared.report.Report.{Report}
 use Rattle.stream_check.specs.Setting.{Setting}
 use Rattle.stream_check.specs.Standing.{standing_of}
 use Rattle.stream_check.specs.Verdicts.{Good, Bad}
-use Rattle.stream_check.specs.Judging.{AreGood, joined, EndsAfter}
+use Rattle.stream_check.specs.Judging.{AreGood, joined, EndsAfter, at_line, at_text, at_memory, at_end}
 use Rattle.stream_check.specs.Laws.{cited_by, FetchesOnly, JudgedLinesCut, CitedFetched}
 use Rattle.stream_check.specs.ReportLemmas.{split_first, joined-append}
 use Rattle.stream_check.proofs.EventLemmas.{line_fetches}
@@ -67,13 +67,13 @@ ends_fetch : TextLaws → (c : Setting) (p : ℕ → Bool) (lines more : List St
     → left ≡ flat_map line_text more ++ rest → AllByRecursion IsWithinLimits more → HasNoLine rest → AllByRecursion (CitedPass p) more
     → EndsAfter c lines left end back report → AllByRecursion (FetchesOnly p) (joined back)
 unfolding CitedPass
-ends_fetch laws c p lines more left rest end back report is fits none all (inl e) =
-    let first = line_begins laws e.line more e.more left rest e.fits fits none e.text is in
-    one_fetches p e.block back e.one_block (line_fetches c p (standing_of c lines) e.line e.block (Bad e.deleted e.fault) (first_passes p e.line more first.0 first.1 all) e.bad)
-ends_fetch laws c p lines more left rest end back report is fits none all (inr (inl e)) = none_fetch p back e.no_block
-ends_fetch laws c p lines more left rest end back report is fits none all (inr (inr (inl e))) =
-    one_fetches p e.block back e.one_block (line_fetches c p (standing_of c lines) (Deletion e.lead e.earlier) e.block Good tt e.stops.before)
-ends_fetch laws c p lines more left rest end back report is fits none all (inr (inr (inr e))) = none_fetch p back e.no_block
+ends_fetch laws c p lines more left rest end back report is fits none all (at_line line after text fit block one_block deleted fault bad says) =
+    let first = line_begins laws line more after left rest fit fits none text is in
+    one_fetches p block back one_block (line_fetches c p (standing_of c lines) line block (Bad deleted fault) (first_passes p line more first.0 first.1 all) bad)
+ends_fetch laws c p lines more left rest end back report is fits none all (at_text fault text no_block says) = none_fetch p back no_block
+ends_fetch laws c p lines more left rest end back report is fits none all (at_memory lead ids after text fit block one_block earlier stops says) =
+    one_fetches p block back one_block (line_fetches c p (standing_of c lines) (Deletion lead earlier) block Good tt stops.before)
+ends_fetch laws c p lines more left rest end back report is fits none all (at_end pending no_block says) = none_fetch p back no_block
 
 pub cited_fetched : TextLaws → CitedFetched
 unfolding CitedPass

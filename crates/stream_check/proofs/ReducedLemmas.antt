@@ -21,7 +21,7 @@ use Rattle.stream_check.specs.Asking.{AsksAt, Asks, AsksThen}
 use Rattle.stream_check.specs.Additions.{AtConflict, AtReply, JudgesHints, published_by, JudgesAddition}
 use Rattle.stream_check.specs.Deletions.{RetiresThen, DropsThen, DeletesAt, JudgesDeletion}
 use Rattle.stream_check.specs.Imports.{AtImported, JudgesImport}
-use Rattle.stream_check.specs.Judging.{AreGood, EndsAfter}
+use Rattle.stream_check.specs.Judging.{AreGood, EndsAfter, at_line, at_text, at_memory, at_end}
 use Rattle.stream_check.specs.Reducing.{is_vacant, reduced}
 use Rattle.stream_check.specs.Laws.{ReducedLine, ReducedStream}
 use Rattle.stream_check.specs.ReducingLemmas.{reduced_kept, reduced_left_out, all_vacant_stay}
@@ -206,39 +206,21 @@ good_reduced c before (line ∷ lines) (block ∷ blocks) good =
     (reduced_line c (standing_of c before) line block Good good.0, good_reduced c (before ++ line ∷ []) lines blocks good.1)
 
 ends_reduced : (c : Setting) (lines : List StreamLine) (rest : List ℕ) (end : StreamEnd) (back : List History) (report : Report) → EndsAfter c lines rest end back report → EndsAfter c lines rest end (map reduced back) report
-ends_reduced c lines rest end back report (inl e) = inl (record {
-  line = e.line;
-  more = e.more;
-  text = e.text;
-  fits = e.fits;
-  block = reduced e.block;
-  one_block = ap (map reduced) e.one_block;
-  deleted = e.deleted;
-  fault = e.fault;
-  bad = reduced_line c (standing_of c lines) e.line e.block (Bad e.deleted e.fault) e.bad;
-  says = e.says;
-})
-ends_reduced c lines rest end back report (inr (inl e)) = inr (inl (record { fault = e.fault; text = e.text; no_block = ap (map reduced) e.no_block; says = e.says }))
-ends_reduced c lines rest end back report (inr (inr (inl e))) = inr (inr (inl (record {
-  lead = e.lead;
-  ids = e.ids;
-  more = e.more;
-  text = e.text;
-  fits = e.fits;
-  block = reduced e.block;
-  one_block = ap (map reduced) e.one_block;
-  earlier = e.earlier;
-  stops = record {
-    id = e.stops.id;
-    later = e.stops.later;
-    identities = e.stops.identities;
-    before = identities_reduced c (standing_of c lines).gone [] e.earlier e.block Good e.stops.before;
-    shared = e.stops.shared;
-    new = e.stops.new;
-  };
-  says = e.says;
-})))
-ends_reduced c lines rest end back report (inr (inr (inr e))) = inr (inr (inr (record { pending = e.pending; no_block = ap (map reduced) e.no_block; says = e.says })))
+ends_reduced c lines rest end back report (at_line line more text fits block one_block deleted fault bad says) =
+    at_line line more text fits (reduced block) (ap (map reduced) one_block) deleted fault (reduced_line c (standing_of c lines) line block (Bad deleted fault) bad) says
+ends_reduced c lines rest end back report (at_text fault text no_block says) = at_text fault text (ap (map reduced) no_block) says
+ends_reduced c lines rest end back report (at_memory lead ids more text fits block one_block earlier stops says) =
+    at_memory lead ids more text fits (reduced block) (ap (map reduced) one_block) earlier
+    (record {
+      id = stops.id;
+      later = stops.later;
+      identities = stops.identities;
+      before = identities_reduced c (standing_of c lines).gone [] earlier block Good stops.before;
+      shared = stops.shared;
+      new = stops.new;
+    })
+    says
+ends_reduced c lines rest end back report (at_end pending no_block says) = at_end pending (ap (map reduced) no_block) says
 
 pub reduced_stream : ReducedStream
 reduced_stream c bytes end blocks report j = record {

@@ -21,7 +21,7 @@ use Rattle.stream_check.specs.Verdicts.{LineVerdict, Good, Bad, Fails, Test}
 use Rattle.stream_check.specs.Additions.{AtConflict, AtReply, JudgesHints, published_by, JudgesAddition}
 use Rattle.stream_check.specs.Asking.{AsksThen}
 use Rattle.stream_check.specs.Imports.{AtImported, JudgesImport}
-use Rattle.stream_check.specs.Judging.{JudgesLine, AreGood, joined, EndsAfter}
+use Rattle.stream_check.specs.Judging.{JudgesLine, AreGood, joined, EndsAfter, at_line, at_text, at_memory, at_end}
 use Rattle.stream_check.specs.Laws.{CountsWithin}
 use Rattle.stream_check.specs.ReportLemmas.{joined-append}
 use Rattle.stream_check.proofs.StandingLemmas.{last_below, same_last, added-snoc}
@@ -138,21 +138,21 @@ line_deletes c n before (Deletion lead ids) many deleted fault es rest judged an
 ends_delete : (c : Setting) (n : State) (lines : List StreamLine) (rest : List ℕ) (end : StreamEnd) (back : List History) (report : Report)
     → OwnRun n (joined back) → AreTaken c n (standing_of c lines).gone [] (sum_by (λ l. length (deleted_by l)) lines) → EndsAfter c lines rest end back report
     → report.deleted ≤ last_identity c.layout
-ends_delete c n lines rest end back report answers are (inl e) =
-    let here = subst (λ b. OwnRun n (joined b)) e.one_block answers in
-    let few = line_deletes c n lines e.line (sum_by (λ l. length (deleted_by l)) lines) e.deleted e.fault e.block [] e.bad here are in
-    subst (λ (r : Report). r.deleted ≤ last_identity c.layout) (sym e.says) (omega (arith, few))
-ends_delete c n lines rest end back report answers are (inr (inl e)) =
+ends_delete c n lines rest end back report answers are (at_line line more text fits block one_block deleted fault bad says) =
+    let here = subst (λ b. OwnRun n (joined b)) one_block answers in
+    let few = line_deletes c n lines line (sum_by (λ l. length (deleted_by l)) lines) deleted fault block [] bad here are in
+    subst (λ (r : Report). r.deleted ≤ last_identity c.layout) (sym says) (omega (arith, few))
+ends_delete c n lines rest end back report answers are (at_text fault text no_block says) =
     let few = taken_within c n (standing_of c lines).gone [] (sum_by (λ l. length (deleted_by l)) lines) are in
-    subst (λ (r : Report). r.deleted ≤ last_identity c.layout) (sym e.says) (omega (arith, few))
-ends_delete c n lines rest end back report answers are (inr (inr (inl e))) =
-    let here = subst (λ b. OwnRun n (joined b)) e.one_block answers in
-    let took = identities_took c n (standing_of c lines).gone [] e.earlier (sum_by (λ l. length (deleted_by l)) lines) e.block [] Good e.stops.before here are in
-    let few = taken_within c (run n e.block) (standing_of c lines).gone e.earlier (sum_by (λ l. length (deleted_by l)) lines + length e.earlier) took in
-    subst (λ (r : Report). r.deleted ≤ last_identity c.layout) (sym e.says) (omega (arith, few))
-ends_delete c n lines rest end back report answers are (inr (inr (inr e))) =
+    subst (λ (r : Report). r.deleted ≤ last_identity c.layout) (sym says) (omega (arith, few))
+ends_delete c n lines rest end back report answers are (at_memory lead ids more text fits block one_block earlier stops says) =
+    let here = subst (λ b. OwnRun n (joined b)) one_block answers in
+    let took = identities_took c n (standing_of c lines).gone [] earlier (sum_by (λ l. length (deleted_by l)) lines) block [] Good stops.before here are in
+    let few = taken_within c (run n block) (standing_of c lines).gone earlier (sum_by (λ l. length (deleted_by l)) lines + length earlier) took in
+    subst (λ (r : Report). r.deleted ≤ last_identity c.layout) (sym says) (omega (arith, few))
+ends_delete c n lines rest end back report answers are (at_end pending no_block says) =
     let few = taken_within c n (standing_of c lines).gone [] (sum_by (λ l. length (deleted_by l)) lines) are in
-    subst (λ (r : Report). r.deleted ≤ last_identity c.layout) (sym e.says) (omega (arith, few))
+    subst (λ (r : Report). r.deleted ≤ last_identity c.layout) (sym says) (omega (arith, few))
 
 -- Added
 
@@ -199,10 +199,10 @@ lines_added c before (line ∷ lines) (block ∷ blocks) good are =
     (lines_added c (before ++ line ∷ []) lines blocks good.1 (one_added c before line block good.0 are))
 
 added_is : (c : Setting) (lines : List StreamLine) (rest : List ℕ) (end : StreamEnd) (back : List History) (report : Report) → EndsAfter c lines rest end back report → report.added ≡ length (additions_of lines)
-added_is c lines rest end back report (inl e) = ap (λ (r : Report). r.added) e.says
-added_is c lines rest end back report (inr (inl e)) = ap (λ (r : Report). r.added) e.says
-added_is c lines rest end back report (inr (inr (inl e))) = ap (λ (r : Report). r.added) e.says
-added_is c lines rest end back report (inr (inr (inr e))) = ap (λ (r : Report). r.added) e.says
+added_is c lines rest end back report (at_line _ _ _ _ _ _ _ _ _ says) = ap (λ (r : Report). r.added) says
+added_is c lines rest end back report (at_text _ _ _ says) = ap (λ (r : Report). r.added) says
+added_is c lines rest end back report (at_memory _ _ _ _ _ _ _ _ _ says) = ap (λ (r : Report). r.added) says
+added_is c lines rest end back report (at_end _ _ says) = ap (λ (r : Report). r.added) says
 
 pub counts_within : CountsWithin
 unfolding SameOwn

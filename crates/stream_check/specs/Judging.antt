@@ -50,68 +50,46 @@ report_of t deleted ending =
       ending = ending;
     }
 
--- After good lines: a line that is bad, whatever follows it.
-pub record EndsAtLine (c : Setting) (lines : List StreamLine) (rest : List ℕ)
-    (blocks : List History) (report : Report) : Type 0 where
-  pub line : StreamLine
-  pub more : List ℕ
-  pub text : rest ≡ line_text line ++ more
-  pub fits : IsWithinLimits line
-  pub block : History
-  pub one_block : blocks ≡ block ∷ []
-  pub deleted : ℕ
-  pub fault : Fault
-  pub bad : JudgesLine c (standing_of c lines) line block (Bad deleted fault)
-  pub says : report ≡ report_of (tally_of c lines) deleted
-      (endings.Bad (capped (length lines + 1)) fault)
-
--- After good lines: a text that begins no line, whatever follows it.
-pub record EndsAtText (c : Setting) (lines : List StreamLine) (rest : List ℕ)
-    (blocks : List History) (report : Report) : Type 0 where
-  pub fault : LineFault
-  pub text : HasTextFault rest fault
-  pub no_block : blocks ≡ []
-  pub says : report ≡ report_of (tally_of c lines) 0
-      (endings.Bad (capped (length lines + 1)) (faults.Text fault))
-
--- After good lines: a deletion that ran out of memory, whatever follows it.
-pub record EndsAtMemory (c : Setting) (lines : List StreamLine) (rest : List ℕ)
-    (blocks : List History) (report : Report) : Type 0 where
-  pub lead : ℕ
-  pub ids : List ℕ
-  pub more : List ℕ
-  pub text : rest ≡ line_text (Deletion lead ids) ++ more
-  pub fits : IsWithinLimits (Deletion lead ids)
-  pub block : History
-  pub one_block : blocks ≡ block ∷ []
-  pub earlier : List ℕ
-  pub stops : StopsDeletion c (standing_of c lines).gone ids block earlier
-  pub says : report ≡ report_of (tally_of c lines) (length earlier)
-      (endings.Memory (capped (length lines + 1)))
-
 -- the ending where all lines are good and this rest begins a line, which has this number
 abbrev pub ending_at : StreamEnd → List ℕ → ℕ → Ending
 ending_at stream_ends.Ended [] number = endings.Ended
 ending_at stream_ends.Ended (byte ∷ bytes) number = endings.Bad number (faults.Text texts.Truncated)
 ending_at stream_ends.Failed rest number = endings.ReadFailed number
 
--- After good lines: the end of the stream, with a rest that may still become a line.
-pub record EndsAtEnd (c : Setting) (lines : List StreamLine) (rest : List ℕ) (end : StreamEnd)
-    (blocks : List History) (report : Report) : Type 0 where
-  pub pending : IsPending rest
-  pub no_block : blocks ≡ []
-  pub says : report ≡ report_of (tally_of c lines) 0
-      (ending_at end rest (capped (length lines + 1)))
-
 -- After good lines one of four things ends the stream. The rest decides which, but for a deletion:
 -- memory may run out there before a fault is met.
-abbrev pub EndsAfter : Setting → List StreamLine → List ℕ → StreamEnd → List History → Report
-    → Type 0
-EndsAfter c lines rest end blocks report =
-    EndsAtLine c lines rest blocks report
-    ⊎ (EndsAtText c lines rest blocks report
-    ⊎ (EndsAtMemory c lines rest blocks report
-    ⊎ EndsAtEnd c lines rest end blocks report))
+pub data EndsAfter (c : Setting) (lines : List StreamLine) (rest : List ℕ) (end : StreamEnd)
+    (blocks : List History) (report : Report) : Type 0 where
+  -- a line that is bad, whatever follows it
+  at_line :
+      (line : StreamLine) (more : List ℕ) (text : rest ≡ line_text line ++ more)
+      (fits : IsWithinLimits line) (block : History) (one_block : blocks ≡ block ∷ [])
+      (deleted : ℕ) (fault : Fault)
+      (bad : JudgesLine c (standing_of c lines) line block (Bad deleted fault))
+      (says : report ≡ report_of (tally_of c lines) deleted
+      (endings.Bad (capped (length lines + 1)) fault))
+      → EndsAfter c lines rest end blocks report
+  -- a text that begins no line, whatever follows it
+  at_text :
+      (fault : LineFault) (text : HasTextFault rest fault) (no_block : blocks ≡ [])
+      (says : report ≡ report_of (tally_of c lines) 0
+      (endings.Bad (capped (length lines + 1)) (faults.Text fault)))
+      → EndsAfter c lines rest end blocks report
+  -- a deletion that ran out of memory, whatever follows it
+  at_memory :
+      (lead : ℕ) (ids more : List ℕ) (text : rest ≡ line_text (Deletion lead ids) ++ more)
+      (fits : IsWithinLimits (Deletion lead ids)) (block : History)
+      (one_block : blocks ≡ block ∷ []) (earlier : List ℕ)
+      (stops : StopsDeletion c (standing_of c lines).gone ids block earlier)
+      (says : report ≡ report_of (tally_of c lines) (length earlier)
+      (endings.Memory (capped (length lines + 1))))
+      → EndsAfter c lines rest end blocks report
+  -- the end of the stream, with a rest that may still become a line
+  at_end :
+      (pending : IsPending rest) (no_block : blocks ≡ [])
+      (says : report ≡ report_of (tally_of c lines) 0
+      (ending_at end rest (capped (length lines + 1))))
+      → EndsAfter c lines rest end blocks report
 
 -- The stream of these bytes and this end, whose lines have these blocks of events, is judged so: its good lines come first, and then what ended it.
 pub record JudgesBlocks (c : Setting) (bytes : List ℕ) (end : StreamEnd) (blocks : List History)

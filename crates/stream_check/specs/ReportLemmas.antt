@@ -1,5 +1,5 @@
 -- Lemmas on a stream's lines and blocks, and on what a report says of them.
-use Rattle.std.proofs.Common.{◌≡◌, ℕ, List, [], ◌∷◌, ◌++◌, inl, inr, refl, sym, ap, ap₂, subst, append_assoc, append-nil}
+use Rattle.std.proofs.Common.{◌≡◌, ℕ, List, [], ◌∷◌, ◌++◌, refl, sym, ap, ap₂, subst, append_assoc, append-nil}
 use Rattle.std.specs.Prelude.{◌||◌, ◌==◌, length}
 use Rattle.std.specs.List.{flat_map, list_any}
 use Rattle.std.proofs.lemmas.Grind.{flat_map-append}
@@ -12,7 +12,7 @@ use Rattle.lrup_text.specs.declared.device.StreamEnd.{StreamEnd}
 use Rattle.stream_check.specs.declared.report.Report.{Report}
 use Rattle.stream_check.specs.Setting.{Setting}
 use Rattle.stream_check.specs.Standing.{additions_of, is_within}
-use Rattle.stream_check.specs.Judging.{EndsAfter, joined}
+use Rattle.stream_check.specs.Judging.{EndsAfter, at_line, at_text, at_memory, at_end, joined}
 use Rattle.stream_check.specs.Leaving.{CheckerState, Leaves}
 use Rattle.stream_check.specs.Checker.{LeavesOn}
 
@@ -25,7 +25,8 @@ pub split_first : (line : StreamLine) (lines : List StreamLine) (rest : List ℕ
 split_first line lines rest = append_assoc (line_text line) (flat_map line_text lines) rest
 
 -- the additions of some lines, and then those of others
-pub additions-append : (a b : List StreamLine) → additions_of (a ++ b) ≡ additions_of a ++ additions_of b
+pub additions-append : (a b : List StreamLine)
+    → additions_of (a ++ b) ≡ additions_of a ++ additions_of b
 additions-append [] b = refl
 additions-append (Addition id lits hints ∷ a) b = ap (λ (x : List (ℕ × Clause)). (id, distinct lits) ∷ x) (additions-append a b)
 additions-append (Deletion lead ids ∷ a) b = additions-append a b
@@ -40,18 +41,18 @@ leaves_still c s bytes before leaves =
 pub said_within : (c : Setting) (lines : List StreamLine) (rest : List ℕ) (end : StreamEnd)
     (back : List History) (report : Report) → EndsAfter c lines rest end back report
     → report.within ≡ list_any (λ a. is_within c.cube a.1) (additions_of lines)
-said_within c lines rest end back report (inl line) = ap (λ (r : Report). r.within) line.says
-said_within c lines rest end back report (inr (inl text)) = ap (λ (r : Report). r.within) text.says
-said_within c lines rest end back report (inr (inr (inl memory))) = ap (λ (r : Report). r.within) memory.says
-said_within c lines rest end back report (inr (inr (inr ending))) = ap (λ (r : Report). r.within) ending.says
+said_within c lines rest end back report (at_line _ _ _ _ _ _ _ _ _ says) = ap (λ (r : Report). r.within) says
+said_within c lines rest end back report (at_text _ _ _ says) = ap (λ (r : Report). r.within) says
+said_within c lines rest end back report (at_memory _ _ _ _ _ _ _ _ _ says) = ap (λ (r : Report). r.within) says
+said_within c lines rest end back report (at_end _ _ says) = ap (λ (r : Report). r.within) says
 
 pub said_empty : (c : Setting) (lines : List StreamLine) (rest : List ℕ) (end : StreamEnd)
     (back : List History) (report : Report) → EndsAfter c lines rest end back report
     → report.empty ≡ list_any (λ a. length a.1 == 0) (additions_of lines)
-said_empty c lines rest end back report (inl line) = ap (λ (r : Report). r.empty) line.says
-said_empty c lines rest end back report (inr (inl text)) = ap (λ (r : Report). r.empty) text.says
-said_empty c lines rest end back report (inr (inr (inl memory))) = ap (λ (r : Report). r.empty) memory.says
-said_empty c lines rest end back report (inr (inr (inr ending))) = ap (λ (r : Report). r.empty) ending.says
+said_empty c lines rest end back report (at_line _ _ _ _ _ _ _ _ _ says) = ap (λ (r : Report). r.empty) says
+said_empty c lines rest end back report (at_text _ _ _ says) = ap (λ (r : Report). r.empty) says
+said_empty c lines rest end back report (at_memory _ _ _ _ _ _ _ _ _ says) = ap (λ (r : Report). r.empty) says
+said_empty c lines rest end back report (at_end _ _ says) = ap (λ (r : Report). r.empty) says
 
 -- within the empty cube is the empty clause alone
 only_empty : (d : Clause) → is_within [] d ≡ (length d == 0)
