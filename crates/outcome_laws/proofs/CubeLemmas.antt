@@ -15,7 +15,7 @@ use Rattle.stream_check.specs.declared.report.Report.{Report}
 use Rattle.stream_check.specs.declared.setting.Side.{Side}
 use Rattle.stream_check.specs.declared.setting.Side.TheVariants as sides
 use Rattle.stream_check.specs.Setting.{Setting, side_of}
-use Rattle.stream_check.specs.Standing.{Standing, standing_of, additions_of, tally_of}
+use Rattle.stream_check.specs.Standing.{Standing, standing_of, additions_of}
 use Rattle.stream_check.specs.Verdicts.{LineVerdict, Good, Bad, Test}
 use Rattle.stream_check.specs.Asking.{AsksAt, AsksThen}
 use Rattle.stream_check.specs.Additions.{AtReply, JudgesHints, published_by, JudgesAddition}
@@ -130,9 +130,9 @@ good_bare c before (line ∷ lines) (block ∷ blocks) good = (line_bare c befor
 -- Reports
 
 says_bare : (c : Setting) (lines : List StreamLine) (deleted : ℕ) (ending : Ending) (report : Report)
-    → report ≡ report_of (tally_of c lines) deleted ending → bare_report report ≡ report_of (tally_of (bare_setting c) lines) deleted ending
+    → report ≡ report_of c lines deleted ending → bare_report report ≡ report_of (bare_setting c) lines deleted ending
 says_bare c lines deleted ending report says =
-    let r = report_of (tally_of c lines) deleted ending in
+    let r = report_of c lines deleted ending in
     ap bare_report says
     ∙ ap (λ (w : Bool). record { added = r.added; deleted = r.deleted; empty = r.empty; within = w; ending = r.ending }) (sym (all_only_empty (additions_of lines)))
 

@@ -20,9 +20,9 @@ use Rattle.lrup_model.specs.ListLemmas.{All-append, All-front}
 use Rattle.stream_check.specs.declared.report.Ending.{Ending}
 use Rattle.stream_check.specs.declared.report.Report.{Report}
 use Rattle.stream_check.specs.Setting.{Setting}
-use Rattle.stream_check.specs.Standing.{Tally}
 use Rattle.stream_check.specs.Judging.{joined}
-use Rattle.stream_check.specs.Checker.{IsReadyAt, report_at}
+use Rattle.stream_check.specs.CheckerValue.{Tally, report_at}
+use Rattle.stream_check.specs.Checker.{IsReadyAt}
 use Rattle.stream_check.specs.Laws.{ReadyBeside}
 use Rattle.portfolio.proofs.EmptyLemmas.{sound_in_order}
 use Rattle.portfolio.proofs.WorkingLemmas.{not_over}

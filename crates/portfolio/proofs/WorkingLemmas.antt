@@ -15,8 +15,8 @@ use Rattle.stream_check.specs.declared.report.Report.{Report}
 use Rattle.stream_check.specs.Setting.{Setting}
 use Rattle.stream_check.specs.Judging.{ending_at, EndsAfter, at_line, at_text, at_memory, at_end, JudgesBlocks}
 use Rattle.stream_check.specs.Leaving.{Leaves}
-use Rattle.stream_check.specs.CheckerValue.{CheckerValue}
-use Rattle.stream_check.specs.Checker.{state_by, checker_state, report_at, LeavesOn, EndsBy, Ends, ReportsEnd}
+use Rattle.stream_check.specs.CheckerValue.{report_at, CheckerValue}
+use Rattle.stream_check.specs.Checker.{state_by, checker_state, LeavesOn, EndsBy, Ends, ReportsEnd}
 use Rattle.lrup_text.specs.ReadLemmas.{gave_more}
 use Rattle.lrup_text.specs.ReadOut.{EndsSo, IsLastRead, SourceView}
 use Rattle.lrup_text.specs.Reads.{Gave}

@@ -8,7 +8,7 @@ use Rattle.lrup_model.specs.HistoryLemmas.{own-none}
 use Rattle.lrup_text.specs.declared.device.StreamEnd.TheVariants as stream_ends
 use Rattle.stream_check.specs.declared.report.Report.{Report}
 use Rattle.stream_check.specs.Setting.{Setting}
-use Rattle.stream_check.specs.Standing.{standing_of, tally_of}
+use Rattle.stream_check.specs.Standing.{standing_of}
 use Rattle.stream_check.specs.Judging.{JudgesBlocks}
 use Rattle.stream_check.specs.Leaving.{Holding}
 use Rattle.stream_check.specs.Laws.{FreshLeft, EndJudged}
@@ -18,7 +18,7 @@ use Rattle.run_laws.specs.Groups.{empty_stream, empty_report, with_others}
 use Rattle.run_laws.specs.GroupLaws.{OthersEmpty}
 
 fresh : Setting → Holding
-fresh c = record { tally = tally_of c []; standing = standing_of c []; pending = []; line = 1 }
+fresh c = record { tally = record { added = 0; deleted = 0; empty = false; within = false }; standing = standing_of c []; pending = []; line = 1 }
 
 nothing_judged : FreshLeft → EndJudged → (c : Setting) → JudgesBlocks c [] stream_ends.Ended [] empty_report
 unfolding fresh

@@ -1,6 +1,6 @@
 -- What a piece leaves of a checker.
 use Rattle.std.specs.Fmt.{decimal, signed_decimal}
-use Rattle.std.proofs.Common.{◌≡◌, ◌<◌, ◌^◌, ◌+◌, ℕ, Bool, true, false, List, [], ◌∷◌, ◌++◌, length, take, Option, None, Some, Ok, refl, sym, ap, subst, ◌∙◌, append_assoc, arith}
+use Rattle.std.proofs.Common.{◌≡◌, ◌<◌, ◌^◌, ℕ, Bool, true, false, List, [], ◌∷◌, ◌++◌, length, take, Option, None, Some, Ok, refl, sym, ap, subst, ◌∙◌, append_assoc, arith}
 use Rattle.std.specs.Prelude.{◌&&◌, is_some, map}
 use Rattle.std.specs.List.{flat_map}
 use Rattle.std.proofs.lemmas.List.{take_all}
@@ -24,11 +24,11 @@ use Rattle.stream_check.specs.declared.report.Ending.{Ending}
 use Rattle.stream_check.specs.declared.report.Report.{Report}
 use Rattle.stream_check.specs.declared.held.Held.{Held}
 use Rattle.stream_check.specs.Setting.{Setting, side_of, is_shared}
-use Rattle.stream_check.specs.Standing.{Tally, tally_of, is_among, capped}
-use Rattle.stream_check.specs.Judging.{ending_at, report_of, JudgesBlocks}
+use Rattle.stream_check.specs.Standing.{is_among}
+use Rattle.stream_check.specs.Judging.{ending_at, JudgesBlocks}
 use Rattle.stream_check.specs.Leaving.{Going, Over, Leaves, IsFresh}
-use Rattle.stream_check.specs.CheckerValue.{CheckerValue}
-use Rattle.stream_check.specs.Checker.{read_of, value_of, checker_state, state_by, holding_of, report_at, tally_at, IsReadyAt, IsSound, LeavesOn, IsNew, EndsBy, Ends, ReportsEnd}
+use Rattle.stream_check.specs.CheckerValue.{Tally, report_at, CheckerValue}
+use Rattle.stream_check.specs.Checker.{read_of, value_of, checker_state, state_by, holding_of, tally_at, IsReadyAt, IsSound, LeavesOn, IsNew, EndsBy, Ends, ReportsEnd}
 use Rattle.stream_check.specs.Taking.{IsReady, hold}
 use Rattle.stream_check.proofs.LeavingLemmas.{end_judged, line_grows, all_snoc}
 use Rattle.stream_check.proofs.StandingLemmas.{same_tally}
@@ -128,17 +128,13 @@ reports_over end v ending over bytes blocks free leaves =
 pub ends_now : (end : StreamEnd) (old new : CheckerValue) → old.ending ≡ None → new.setting ≡ old.setting → new.tally ≡ old.tally → new.ending ≡ Some (ending_at end old.pending old.line) → new.last ≡ old.last → Ends end old new
 ends_now end old new none setting tally ending last = subst (λ (o : Option Ending). EndsBy o end old new) (sym none) (setting, tally, ending, last)
 
-report_is : (old new : Tally) (said : Ending) → capped (old.deleted + 0) ≡ old.deleted → new ≡ old → report_of old 0 said ≡ report_at new said
-report_is old new said small same = ap (λ (n : ℕ). record { added = old.added; deleted = n; empty = old.empty; within = old.within; ending = said }) small ∙ ap (λ (t : Tally). report_at t said) (sym same)
-
 pub reports_now : (end : StreamEnd) (old new : CheckerValue) → old.ending ≡ None → new.tally ≡ old.tally → new.ending ≡ Some (ending_at end old.pending old.line) → ReportsEnd end old new
 reports_now end old new none tally ending bytes blocks free leaves =
     let said : Ending = ending_at end old.pending old.line in
-    let going : Leaves old.setting bytes blocks (Going (holding_of old free)) = subst (λ (o : Option Ending). Leaves old.setting bytes blocks (state_by old free o)) none leaves in
-    let small : capped (old.tally.deleted + 0) ≡ old.tally.deleted = omega (arith, ap (λ (t : Tally). t.deleted) going.tally) in (
+    let going : Leaves old.setting bytes blocks (Going (holding_of old free)) = subst (λ (o : Option Ending). Leaves old.setting bytes blocks (state_by old free o)) none leaves in (
       said,
       ending,
-      subst (JudgesBlocks old.setting bytes end blocks) (report_is old.tally new.tally said small tally) (end_judged old.setting bytes blocks (holding_of old free) end going),
+      subst (JudgesBlocks old.setting bytes end blocks) (ap (λ (t : Tally). report_at t said) (sym tally)) (end_judged old.setting bytes blocks (holding_of old free) end going),
     )
 
 -- the end of the lines, where a line is open and where none is
@@ -167,7 +163,7 @@ new_left law layout cube stream tries h r setting last dropped retired added emp
     let c : Setting = h.setting in
     let same : c.layout ≡ layout = ap (λ (s : Setting). s.layout) setting in
     let fresh : IsFresh c (hold h (read_of r) layout.room) = record {
-      tally = same_tally (tally_at h) (tally_of c []) added (omega (arith, retired, ap (λ (ids : List ℕ). length ids) dropped)) empty within;
+      tally = same_tally (tally_at h) (record { added = 0; deleted = 0; empty = false; within = false }) added (omega (arith, retired, ap (λ (ids : List ℕ). length ids) dropped)) empty within;
       standing = record {
         last = last ∙ sym (ap (λ (l : LayoutValue). l.clauses) same);
         free = omega (arith, ap (λ (l : LayoutValue). l.room) same);

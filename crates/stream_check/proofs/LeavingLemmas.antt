@@ -1,5 +1,5 @@
 -- What a checker is left as.
-use Rattle.std.proofs.Common.{◌≡◌, ◌+◌, ◌-◌, ◌^◌, min, ℕ, List, [], ◌∷◌, ◌++◌, length, inl, inr, refl, sym, ap, subst, ◌∙◌, arith, append_assoc, append-nil, length-append}
+use Rattle.std.proofs.Common.{◌≡◌, ◌+◌, ◌-◌, ◌^◌, min, ℕ, List, [], ◌∷◌, ◌++◌, length, refl, sym, ap, subst, ◌∙◌, arith, append_assoc, append-nil, length-append}
 use Rattle.std.specs.List.{flat_map, AllByRecursion}
 use Rattle.std.proofs.lemmas.Grind.{flat_map-append}
 use Rattle.lrup_model.specs.Event.{History}
@@ -14,13 +14,14 @@ use Rattle.stream_check.specs.declared.report.Ending.{Ending}
 use Rattle.stream_check.specs.declared.report.Ending.TheVariants as endings
 use Rattle.stream_check.specs.declared.report.Report.{Report}
 use Rattle.stream_check.specs.Setting.{Setting}
-use Rattle.stream_check.specs.Standing.{Standing, standing_of, tally_of, capped}
+use Rattle.stream_check.specs.Standing.{Standing, standing_of, capped}
 use Rattle.stream_check.specs.Verdicts.{Good, Bad}
 use Rattle.stream_check.specs.Deletions.{StopsDeletion}
 use Rattle.stream_check.specs.Judging.{JudgesLine, AreGood, report_of, EndsAfter, at_line, at_text, at_memory, at_end, ending_at, JudgesBlocks}
+use Rattle.stream_check.specs.CheckerValue.{Tally, report_at}
 use Rattle.stream_check.specs.Leaving.{Holding, SameStanding, LeavesGoing, standing_after, tally_after}
 use Rattle.stream_check.specs.Laws.{FreshLeft, PendingGrows, GoodLineTaken, BadLineTaken, BadTextRead, MemoryWanted, EndJudged, OverStays, IsDecided, EitherEnd, DecidedBeforeFailure}
-use Rattle.stream_check.proofs.StandingLemmas.{standing_of-snoc, tally_of-snoc, same_standing}
+use Rattle.stream_check.proofs.StandingLemmas.{standing_of-snoc, counts_of, tally_is, tally_says, counts_of-snoc, same_standing}
 
 -- one good line more, with its block
 good_snoc : (c : Setting) (before lines : List StreamLine) (blocks : List History) (line : StreamLine) (block : History)
@@ -68,7 +69,7 @@ fresh_left texts none c now fresh =
       cut = here.0;
       pending = here.1;
       good = tt;
-      tally = fresh.tally;
+      tally = tally_says c [] now.tally fresh.tally;
       standing = fresh.standing;
       line = fresh.line;
     }
@@ -112,7 +113,8 @@ good_line_taken texts none c bytes piece blocks block old new line before text j
       cut = rest.0;
       pending = rest.1;
       good = good_snoc c [] lines blocks line block before.good here;
-      tally = taken.tally ∙ ap (λ t. tally_after c t line) before.tally ∙ tally_of-snoc c lines line;
+      tally = tally_says c (lines ++ line ∷ []) new.tally
+          (taken.tally ∙ ap (λ t. tally_after c t line) (tally_is c lines old.tally before.tally) ∙ counts_of-snoc c lines line);
       standing = same_trans new.standing (standing_after c (standing_of c lines) line) (standing_of c (lines ++ line ∷ []))
           (subst (λ st. SameStanding new.standing (standing_after c st line)) same_old taken.standing)
           (standing_of-snoc c lines line block here);
@@ -137,32 +139,46 @@ ends_behind c bytes piece blocks back old end report before ends = record {
 }
 
 -- the same report by what the checker holds and by the lines
-held_report : (c : Setting) (bytes : List ℕ) (blocks : List History) (old : Holding) (deleted : ℕ) (ending : ℕ → Ending) → (before : LeavesGoing c bytes blocks old)
-    → report_of old.tally deleted (ending old.line) ≡ report_of (tally_of c before.lines) deleted (ending (capped (length before.lines + 1)))
-held_report c bytes blocks old deleted ending before =
-    ap (λ t. report_of t deleted (ending old.line)) before.tally ∙ ap (λ n. report_of (tally_of c before.lines) deleted (ending n)) before.line
+held_report : (c : Setting) (bytes : List ℕ) (blocks : List History) (old : Holding) (ending : ℕ → Ending) → (before : LeavesGoing c bytes blocks old)
+    → report_at old.tally (ending old.line) ≡ report_of c before.lines 0 (ending (capped (length before.lines + 1)))
+held_report c bytes blocks old ending before =
+    before.tally (ending old.line) ∙ ap (λ n. report_of c before.lines 0 (ending n)) before.line
+
+-- these counts, and so many deleted identities more
+abbrev with_deleted : Tally → ℕ → Tally
+with_deleted t deleted = record t { deleted = capped (t.deleted + deleted) }
+
+-- and where so many identities more were deleted
+held_more : (c : Setting) (bytes : List ℕ) (blocks : List History) (old : Holding) (deleted : ℕ) (ending : ℕ → Ending) → (before : LeavesGoing c bytes blocks old)
+    → report_at (with_deleted old.tally deleted) (ending old.line) ≡ report_of c before.lines deleted (ending (capped (length before.lines + 1)))
+held_more c bytes blocks old deleted ending before =
+    let r : Report = report_of c before.lines deleted (ending old.line) in
+    let count : (with_deleted (counts_of c before.lines) deleted).deleted ≡ r.deleted = omega arith in
+    ap (λ (t : Tally). report_at (with_deleted t deleted) (ending old.line)) (tally_is c before.lines old.tally before.tally)
+    ∙ ap (λ (n : ℕ). record r { deleted = n }) count
+    ∙ ap (λ n. report_of c before.lines deleted (ending n)) before.line
 
 whole_text : (line : StreamLine) (bytes : List ℕ) → LineText line bytes → bytes ≡ line_text line ++ []
 whole_text line bytes text = text.1 ∙ sym (append-nil (line_text line))
 
 pub bad_line_taken : BadLineTaken
 bad_line_taken c bytes piece blocks block old line deleted fault before text judged =
-    let report = report_of old.tally deleted (endings.Bad old.line fault) in
+    let report = report_at (with_deleted old.tally deleted) (endings.Bad old.line fault) in
     let judges : (end : StreamEnd) → JudgesBlocks c (bytes ++ piece) end (blocks ++ block ∷ []) report =
     λ end. ends_behind c bytes piece blocks (block ∷ []) old end report before
     (at_line line [] (whole_text line (old.pending ++ piece) text) text.0 block refl deleted fault
     (by_lines c old before.lines (λ st. JudgesLine c st line block (Bad deleted fault)) before.standing judged)
-    (held_report c bytes blocks old deleted (λ n. endings.Bad n fault) before)) in
+    (held_more c bytes blocks old deleted (λ n. endings.Bad n fault) before)) in
     (judges stream_ends.Ended, judges stream_ends.Failed)
 
 pub memory_wanted : MemoryWanted
 memory_wanted c bytes piece blocks block old lead ids earlier before text stops =
-    let report = report_of old.tally (length earlier) (endings.Memory old.line) in
+    let report = report_at (with_deleted old.tally (length earlier)) (endings.Memory old.line) in
     let judges : (end : StreamEnd) → JudgesBlocks c (bytes ++ piece) end (blocks ++ block ∷ []) report =
     λ end. ends_behind c bytes piece blocks (block ∷ []) old end report before
     (at_memory lead ids [] (whole_text (Deletion lead ids) (old.pending ++ piece) text) text.0 block refl earlier
     (by_lines c old before.lines (λ st. StopsDeletion c st.gone ids block earlier) before.standing stops)
-    (held_report c bytes blocks old (length earlier) (λ n. endings.Memory n) before)) in
+    (held_more c bytes blocks old (length earlier) (λ n. endings.Memory n) before)) in
     (judges stream_ends.Ended, judges stream_ends.Failed)
 
 refused_alone : (bytes : List ℕ) (fault : LineFault) → IsRefused bytes fault → HasTextFault bytes fault
@@ -170,24 +186,24 @@ refused_alone bytes fault refused = (bytes, [], sym (append-nil bytes), refused)
 
 pub bad_text_read : BadTextRead
 bad_text_read c bytes piece blocks old fault before refused =
-    let report = report_of old.tally 0 (endings.Bad old.line (faults.Text fault)) in
+    let report = report_at old.tally (endings.Bad old.line (faults.Text fault)) in
     let judges : (end : StreamEnd) → JudgesBlocks c (bytes ++ piece) end blocks report =
     λ end. subst (λ b. JudgesBlocks c (bytes ++ piece) end b report) (append-nil blocks)
     (ends_behind c bytes piece blocks [] old end report before
     (at_text fault (refused_alone (old.pending ++ piece) fault refused) refl
-    (held_report c bytes blocks old 0 (λ n. endings.Bad n (faults.Text fault)) before))) in
+    (held_report c bytes blocks old (λ n. endings.Bad n (faults.Text fault)) before))) in
     (judges stream_ends.Ended, judges stream_ends.Failed)
 
 pub end_judged : EndJudged
 end_judged c bytes blocks old end before =
     let lines = before.lines in
-    let report = report_of old.tally 0 (ending_at end old.pending old.line) in
+    let report = report_at old.tally (ending_at end old.pending old.line) in
     subst (λ b. JudgesBlocks c b end blocks report) (append-nil bytes)
     (subst (λ b. JudgesBlocks c (bytes ++ []) end b report) (append-nil blocks)
     (ends_behind c bytes [] blocks [] old end report before
     (at_end (subst IsPending (sym (append-nil old.pending)) before.pending) refl
-    (held_report c bytes blocks old 0 (λ n. ending_at end old.pending n) before
-    ∙ ap (λ rest. report_of (tally_of c lines) 0 (ending_at end rest (capped (length lines + 1)))) (sym (append-nil old.pending))))))
+    (held_report c bytes blocks old (λ n. ending_at end old.pending n) before
+    ∙ ap (λ rest. report_of c lines 0 (ending_at end rest (capped (length lines + 1)))) (sym (append-nil old.pending))))))
 
 -- More bytes
 
@@ -210,7 +226,7 @@ judges_longer c bytes more end other blocks report j ends = record {
 
 -- what is judged by a line, a text or memory that ran out is so for either end, whatever follows; what is judged by its end is left
 before_end : (c : Setting) (bytes more : List ℕ) (end other : StreamEnd) (blocks : List History) (report : Report) → (j : JudgesBlocks c bytes end blocks report)
-    → (report ≡ report_of (tally_of c j.lines) 0 (ending_at end j.rest (capped (length j.lines + 1))) → JudgesBlocks c (bytes ++ more) other blocks report)
+    → (report ≡ report_of c j.lines 0 (ending_at end j.rest (capped (length j.lines + 1))) → JudgesBlocks c (bytes ++ more) other blocks report)
     → JudgesBlocks c (bytes ++ more) other blocks report
 before_end c bytes more end other blocks report j last =
     elim j.ends [
@@ -238,8 +254,8 @@ decided_before_failure c bytes more end blocks report untold j = before_end c by
 
 -- the ending that a failed read has is no other's
 says_failed : (c : Setting) (lines others : List StreamLine) (rest left : List ℕ) (report : Report)
-    → report ≡ report_of (tally_of c lines) 0 (ending_at stream_ends.Ended rest (capped (length lines + 1)))
-    → report ≡ report_of (tally_of c others) 0 (ending_at stream_ends.Failed left (capped (length others + 1))) → ⊥
+    → report ≡ report_of c lines 0 (ending_at stream_ends.Ended rest (capped (length lines + 1)))
+    → report ≡ report_of c others 0 (ending_at stream_ends.Failed left (capped (length others + 1))) → ⊥
 says_failed c lines others [] left report a b = let e : endings.Ended ≡ endings.ReadFailed (capped (length others + 1)) = ap (λ (r : Report). r.ending) (sym a ∙ b) in cc
 says_failed c lines others (byte ∷ rest) left report a b = let e : endings.Bad (capped (length lines + 1)) _ ≡ endings.ReadFailed (capped (length others + 1)) = ap (λ (r : Report). r.ending) (sym a ∙ b) in cc
 

@@ -10,9 +10,13 @@ use Rattle.lrup_model.specs.Clause.{Clause}
 use Rattle.lrup_model.specs.Event.{History}
 use Rattle.lrup_text.specs.Lines.{StreamLine, Addition, Deletion, Import}
 use Rattle.stream_check.specs.Setting.{Setting, side_of, is_shared}
-use Rattle.stream_check.specs.Standing.{Standing, Tally, additions_of, deleted_by, is_among, is_within, standing_of, tally_of}
+use Rattle.stream_check.specs.Standing.{Standing, additions_of, deleted_by, is_among, is_within, standing_of}
 use Rattle.stream_check.specs.Verdicts.{Good, Bad}
-use Rattle.stream_check.specs.Judging.{JudgesLine}
+use Rattle.stream_check.specs.declared.report.Ending.{Ending}
+use Rattle.stream_check.specs.declared.report.Ending.TheVariants as endings
+use Rattle.stream_check.specs.declared.report.Report.{Report}
+use Rattle.stream_check.specs.CheckerValue.{Tally, report_at}
+use Rattle.stream_check.specs.Judging.{JudgesLine, report_of}
 use Rattle.stream_check.specs.ReportLemmas.{additions-append}
 use Rattle.stream_check.specs.Leaving.{SameStanding, standing_after, tally_after, last_after}
 
@@ -69,9 +73,24 @@ same_tally a b added deleted empty within =
     ap (λ x. made x a.deleted a.empty a.within) added ∙ ap (λ y. made b.added y a.empty a.within) deleted
     ∙ ap (λ z. made b.added b.deleted z a.within) empty ∙ ap (λ w. made b.added b.deleted b.empty w) within
 
+-- the counts that these lines leave
+abbrev pub counts_of : Setting → List StreamLine → Tally
+counts_of c lines =
+    let r : Report = report_of c lines 0 endings.Ended in
+    record { added = r.added; deleted = r.deleted; empty = r.empty; within = r.within }
+
+-- a checker has them exactly if its reports are those of the lines
+pub tally_is : (c : Setting) (lines : List StreamLine) (t : Tally) → ((ending : Ending) → report_at t ending ≡ report_of c lines 0 ending) → t ≡ counts_of c lines
+tally_is c lines t reports =
+    let same : report_at t endings.Ended ≡ report_of c lines 0 endings.Ended = reports endings.Ended in
+    same_tally t (counts_of c lines) (ap (λ (r : Report). r.added) same) (ap (λ (r : Report). r.deleted) same) (ap (λ (r : Report). r.empty) same) (ap (λ (r : Report). r.within) same)
+
+pub tally_says : (c : Setting) (lines : List StreamLine) (t : Tally) → t ≡ counts_of c lines → (ending : Ending) → report_at t ending ≡ report_of c lines 0 ending
+tally_says c lines t same ending = ap (λ (s : Tally). report_at s ending) same
+
 -- the counts after one good line more
-pub tally_of-snoc : (c : Setting) (lines : List StreamLine) (line : StreamLine) → tally_after c (tally_of c lines) line ≡ tally_of c (lines ++ line ∷ [])
-tally_of-snoc c lines line = same_tally (tally_after c (tally_of c lines) line) (tally_of c (lines ++ line ∷ []))
+pub counts_of-snoc : (c : Setting) (lines : List StreamLine) (line : StreamLine) → tally_after c (counts_of c lines) line ≡ counts_of c (lines ++ line ∷ [])
+counts_of-snoc c lines line = same_tally (tally_after c (counts_of c lines) line) (counts_of c (lines ++ line ∷ []))
     (omega (arith, added-snoc lines line))
     (omega (arith, sum_by-append (λ l. length (deleted_by l)) lines (line ∷ [])))
     (some-snoc (λ a. length a.1 == 0) lines line)

@@ -13,7 +13,7 @@ use Rattle.stream_check.specs.declared.fault.Fault.TheVariants as faults
 use Rattle.stream_check.specs.declared.report.Ending.TheVariants as endings
 use Rattle.stream_check.specs.declared.report.Report.{Report}
 use Rattle.stream_check.specs.Setting.{Setting}
-use Rattle.stream_check.specs.Standing.{standing_of, tally_of, capped}
+use Rattle.stream_check.specs.Standing.{standing_of, capped}
 use Rattle.stream_check.specs.Verdicts.{Good, Bad}
 use Rattle.stream_check.specs.Judging.{JudgesLine, AreGood, joined, report_of, EndsAfter, at_line, at_text, at_memory, at_end}
 use Rattle.stream_check.specs.Forks.{NeverFork}
@@ -87,7 +87,7 @@ abbrev EndsWithout : Setting → List StreamLine → List ℕ → StreamEnd → 
 EndsWithout c lines rest end back report = EndsAfter c lines rest end back report × ¬ IsOfMemory report
 
 out_of_memory : (c : Setting) (lines : List StreamLine) (deleted : ℕ) (report : Report)
-    → report ≡ report_of (tally_of c lines) deleted (endings.Memory (capped (length lines + 1))) → IsOfMemory report
+    → report ≡ report_of c lines deleted (endings.Memory (capped (length lines + 1))) → IsOfMemory report
 out_of_memory c lines deleted report says = (capped (length lines + 1), ap (λ (r : Report). r.ending) says)
 
 ends_agree : TextLaws → (c : Setting) (lines : List StreamLine) (rest : List ℕ) (end : StreamEnd) (back aft : List History) (report other : Report)
@@ -103,8 +103,8 @@ ends_agree laws c lines rest end back aft report other (at_line line more text f
     let same_deleted : deleted ≡ gone = cc in
     let same_fault : fault ≡ wrong = cc in (
       one_block ∙ ap (λ x. x ∷ []) agree.events ∙ sym all_one,
-      says ∙ ap (λ d. report_of (tally_of c lines) d (endings.Bad (capped (length lines + 1)) fault)) same_deleted
-          ∙ ap (λ f. report_of (tally_of c lines) gone (endings.Bad (capped (length lines + 1)) f)) same_fault ∙ sym told,
+      says ∙ ap (λ d. report_of c lines d (endings.Bad (capped (length lines + 1)) fault)) same_deleted
+          ∙ ap (λ f. report_of c lines gone (endings.Bad (capped (length lines + 1)) f)) same_fault ∙ sym told,
     )
 ends_agree laws c lines rest end back aft report other (at_line line more text fits block one_block deleted fault bad says, no_memory) (at_text wrong words no_block told, none) never =
     absurd (faulty_has_no_line laws rest wrong words line more fits text)
@@ -116,7 +116,7 @@ ends_agree laws c lines rest end back aft report other (at_end pending no_block 
     absurd (pending.whole like much fit words)
 ends_agree laws c lines rest end back aft report other (at_text fault text no_block says, no_memory) (at_text wrong words no_more told, none) never = (
   no_block ∙ sym no_more,
-  says ∙ ap (λ f. report_of (tally_of c lines) 0 (endings.Bad (capped (length lines + 1)) (faults.Text f))) ((laws.fault rest fault wrong text).0 words) ∙ sym told,
+  says ∙ ap (λ f. report_of c lines 0 (endings.Bad (capped (length lines + 1)) (faults.Text f))) ((laws.fault rest fault wrong text).0 words) ∙ sym told,
 )
 ends_agree laws c lines rest end back aft report other (at_text fault text no_block says, no_memory) (at_end pending no_more told, none) never = absurd ((laws.fault rest fault fault text).1 pending.begins)
 ends_agree laws c lines rest end back aft report other (at_end pending no_block says, no_memory) (at_text wrong words no_more told, none) never = absurd ((laws.fault rest wrong wrong words).1 pending.begins)

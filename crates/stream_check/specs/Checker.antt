@@ -16,18 +16,17 @@ use Rattle.stream_check.specs.declared.fault.Fault.{Fault}
 use Rattle.stream_check.specs.declared.fault.Fault.TheVariants as faults
 use Rattle.stream_check.specs.declared.report.Ending.{Ending}
 use Rattle.stream_check.specs.declared.report.Ending.TheVariants as endings
-use Rattle.stream_check.specs.declared.report.Report.{Report}
 use Rattle.stream_check.specs.declared.held.Held.{Held}
 use Rattle.stream_check.specs.declared.progress.CheckTurn.{CheckTurn}
 use Rattle.stream_check.specs.declared.progress.CheckTurn.TheVariants as turns
 use Rattle.stream_check.specs.Setting.{Setting}
-use Rattle.stream_check.specs.Standing.{capped, Standing, Tally, is_among}
+use Rattle.stream_check.specs.Standing.{capped, Standing, is_among}
 use Rattle.stream_check.specs.Verdicts.{LineVerdict, Bad}
 use Rattle.stream_check.specs.Additions.{JudgesHints, JudgesAddition, published_by}
 use Rattle.stream_check.specs.Judging.{ending_at, JudgesBlocks}
 use Rattle.stream_check.specs.Leaving.{Holding, CheckerState, Going, Over, Leaves}
 use Rattle.stream_check.specs.Checking.{IsPlaceOf}
-use Rattle.stream_check.specs.CheckerValue.{CheckerValue}
+use Rattle.stream_check.specs.CheckerValue.{Tally, report_at, CheckerValue}
 
 -- what the good lines so far leave, where so much room is left
 abbrev pub standing_at : Held → ℕ → Standing
@@ -93,17 +92,6 @@ value_of h pending ending = record {
   line = h.line;
   ending = ending;
 }
-
--- the report of these counts, with this ending
-abbrev pub report_at : Tally → Ending → Report
-report_at t ending =
-    record {
-      added = t.added;
-      deleted = t.deleted;
-      empty = t.empty;
-      within = t.within;
-      ending = ending;
-    }
 
 abbrev pub holding_of : CheckerValue → ℕ → Holding
 holding_of v free = record {

@@ -1,6 +1,6 @@
 -- How a stream is judged: whole lists of lines, one block of events for each line, and no checker's state (this project's own).
-use Rattle.std.specs.Prelude.{◌≡◌, ◌⊎◌, ◌+◌, ◌++◌, ℕ, List, [], ◌∷◌, length}
-use Rattle.std.specs.List.{AllByRecursion, flat_map}
+use Rattle.std.specs.Prelude.{◌≡◌, ◌==◌, ◌+◌, ◌++◌, ℕ, List, [], ◌∷◌, length}
+use Rattle.std.specs.List.{AllByRecursion, flat_map, list_any, sum_by}
 use Rattle.lrup_model.specs.Event.{History}
 use Rattle.lrup_text.specs.declared.LineFault.TheVariants as texts
 use Rattle.lrup_text.specs.declared.LineFault.{LineFault}
@@ -14,7 +14,7 @@ use Rattle.stream_check.specs.declared.report.Ending.{Ending}
 use Rattle.stream_check.specs.declared.report.Ending.TheVariants as endings
 use Rattle.stream_check.specs.declared.report.Report.{Report}
 use Rattle.stream_check.specs.Setting.{Setting}
-use Rattle.stream_check.specs.Standing.{Standing, standing_of, Tally, tally_of, capped}
+use Rattle.stream_check.specs.Standing.{Standing, additions_of, deleted_by, standing_of, capped, is_within}
 use Rattle.stream_check.specs.Verdicts.{LineVerdict, Good, Bad}
 use Rattle.stream_check.specs.Additions.{JudgesAddition}
 use Rattle.stream_check.specs.Deletions.{JudgesDeletion, StopsDeletion}
@@ -39,14 +39,14 @@ AreGood c before (line ∷ lines) (block ∷ blocks) =
 abbrev pub joined : List History → History
 joined blocks = flat_map (λ block. block) blocks
 
--- the report after these counts, some more deleted identities, and this ending
-abbrev pub report_of : Tally → ℕ → Ending → Report
-report_of t deleted ending =
+-- the report of these good lines, some more deleted identities, and this ending
+abbrev pub report_of : Setting → List StreamLine → ℕ → Ending → Report
+report_of c lines deleted ending =
     record {
-      added = t.added;
-      deleted = capped (t.deleted + deleted);
-      empty = t.empty;
-      within = t.within;
+      added = length (additions_of lines);
+      deleted = capped (sum_by (λ line. length (deleted_by line)) lines + deleted);
+      empty = list_any (λ a. length a.1 == 0) (additions_of lines);
+      within = list_any (λ a. is_within c.cube a.1) (additions_of lines);
       ending = ending;
     }
 
@@ -66,14 +66,13 @@ pub data EndsAfter (c : Setting) (lines : List StreamLine) (rest : List ℕ) (en
       (fits : IsWithinLimits line) (block : History) (one_block : blocks ≡ block ∷ [])
       (deleted : ℕ) (fault : Fault)
       (bad : JudgesLine c (standing_of c lines) line block (Bad deleted fault))
-      (says : report ≡ report_of (tally_of c lines) deleted
-      (endings.Bad (capped (length lines + 1)) fault))
+      (says : report ≡ report_of c lines deleted (endings.Bad (capped (length lines + 1)) fault))
       → EndsAfter c lines rest end blocks report
   -- a text that begins no line, whatever follows it
   at_text :
       (fault : LineFault) (text : HasTextFault rest fault) (no_block : blocks ≡ [])
-      (says : report ≡ report_of (tally_of c lines) 0
-      (endings.Bad (capped (length lines + 1)) (faults.Text fault)))
+      (says : report
+      ≡ report_of c lines 0 (endings.Bad (capped (length lines + 1)) (faults.Text fault)))
       → EndsAfter c lines rest end blocks report
   -- a deletion that ran out of memory, whatever follows it
   at_memory :
@@ -81,14 +80,13 @@ pub data EndsAfter (c : Setting) (lines : List StreamLine) (rest : List ℕ) (en
       (fits : IsWithinLimits (Deletion lead ids)) (block : History)
       (one_block : blocks ≡ block ∷ []) (earlier : List ℕ)
       (stops : StopsDeletion c (standing_of c lines).gone ids block earlier)
-      (says : report ≡ report_of (tally_of c lines) (length earlier)
-      (endings.Memory (capped (length lines + 1))))
+      (says : report
+      ≡ report_of c lines (length earlier) (endings.Memory (capped (length lines + 1))))
       → EndsAfter c lines rest end blocks report
   -- the end of the stream, with a rest that may still become a line
   at_end :
       (pending : IsPending rest) (no_block : blocks ≡ [])
-      (says : report ≡ report_of (tally_of c lines) 0
-      (ending_at end rest (capped (length lines + 1))))
+      (says : report ≡ report_of c lines 0 (ending_at end rest (capped (length lines + 1))))
       → EndsAfter c lines rest end blocks report
 
 -- The stream of these bytes and this end, whose lines have these blocks of events, is judged so: its good lines come first, and then what ended it.

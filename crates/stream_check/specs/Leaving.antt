@@ -1,13 +1,15 @@
 -- What a checker is, and what it is left as by the bytes so far and the blocks of events of their lines (this project's own).
-use Rattle.std.specs.Prelude.{◌≡◌, ◌==◌, ◌+◌, ◌-◌, ◌&&◌, ◌||◌, ℕ, List, [], ◌∷◌, length}
+use Rattle.std.specs.Prelude.{◌≡◌, ◌==◌, ◌+◌, ◌-◌, ◌&&◌, ◌||◌, ℕ, false, List, [], ◌∷◌, length}
 use Rattle.std.specs.List.{list_any, sum_by}
 use Rattle.lrup_model.specs.Event.{History}
 use Rattle.lrup_text.specs.Lines.{StreamLine, Addition, Deletion, Import, Cut, IsPending}
 use Rattle.lrup_text.specs.declared.device.StreamEnd.TheVariants as stream_ends
+use Rattle.stream_check.specs.declared.report.Ending.{Ending}
 use Rattle.stream_check.specs.declared.report.Report.{Report}
 use Rattle.stream_check.specs.Setting.{Setting, side_of, is_shared}
-use Rattle.stream_check.specs.Standing.{Standing, standing_of, additions_of, is_among, is_within, deleted_by, Tally, tally_of, capped}
-use Rattle.stream_check.specs.Judging.{AreGood, JudgesBlocks}
+use Rattle.stream_check.specs.Standing.{Standing, standing_of, additions_of, is_among, is_within, deleted_by, capped}
+use Rattle.stream_check.specs.Judging.{AreGood, report_of, JudgesBlocks}
+use Rattle.stream_check.specs.CheckerValue.{Tally, report_at}
 
 -- what a checker holds that isn't over: its counts, what good lines left, the text read of the next line, and that line's number
 pub record Holding : Type 0 where
@@ -33,7 +35,7 @@ pub record LeavesGoing (c : Setting) (bytes : List ℕ) (blocks : List History)
   pub cut : Cut bytes lines now.pending
   pub pending : IsPending now.pending
   pub good : AreGood c [] lines blocks
-  pub tally : now.tally ≡ tally_of c lines
+  pub tally : (ending : Ending) → report_at now.tally ending ≡ report_of c lines 0 ending
   pub standing : SameStanding now.standing (standing_of c lines)
   pub line : now.line ≡ capped (length lines + 1)
 
@@ -76,7 +78,7 @@ pub record TakesLine (c : Setting) (old : Holding) (taken : StreamLine)
 
 -- what a checker holds before the first byte
 pub record IsFresh (c : Setting) (now : Holding) : Type 0 where
-  pub tally : now.tally ≡ tally_of c []
+  pub tally : now.tally ≡ record { added = 0; deleted = 0; empty = false; within = false }
   pub standing : SameStanding now.standing (standing_of c [])
   pub pending : now.pending ≡ []
   pub line : now.line ≡ 1

@@ -46,22 +46,6 @@ standing_of c lines = record {
 abbrev pub capped : ℕ → ℕ
 capped n = min n (2 ^ 64 - 1)
 
--- the good additions, the good deleted identities, whether an addition has the empty clause, and whether one's clause is within the cube
-pub record Tally : Type 0 where
-  pub added : ℕ
-  pub deleted : ℕ
-  pub empty : Bool
-  pub within : Bool
-
 -- the complement of each literal of the clause is in the cube
 abbrev pub is_within : CubeValue → Clause → Bool
 is_within cube c = list_all (λ l. list_any (λ k. int_eq k (neg_ℤ l)) cube) c
-
--- the counts of these lines if all are good
-abbrev pub tally_of : Setting → List StreamLine → Tally
-tally_of c lines = record {
-  added = length (additions_of lines);
-  deleted = capped (sum_by (λ line. length (deleted_by line)) lines);
-  empty = list_any (λ a. length a.1 == 0) (additions_of lines);
-  within = list_any (λ a. is_within c.cube a.1) (additions_of lines);
-}

@@ -7,8 +7,8 @@ use Rattle.stream_check.specs.declared.report.Ending.{Ending}
 use Rattle.stream_check.specs.declared.report.Report.{Report}
 use Rattle.stream_check.specs.declared.progress.CheckTurn.{CheckTurn}
 use Rattle.stream_check.specs.declared.progress.CheckTurn.TheVariants as turns
-use Rattle.stream_check.specs.Checker.{state_by, checker_state, report_at, LeavesOn, Turns, EndsBy, Ends, ReportsEnd}
-use Rattle.stream_check.specs.CheckerValue.{CheckerValue}
+use Rattle.stream_check.specs.Checker.{state_by, checker_state, LeavesOn, Turns, EndsBy, Ends, ReportsEnd}
+use Rattle.stream_check.specs.CheckerValue.{report_at, CheckerValue}
 use Rattle.stream_check.specs.Judging.{JudgesBlocks}
 use Rattle.stream_check.specs.Laws.{OverStays}
 use Rattle.stream_check.specs.Leaving.{CheckerState, Over, Leaves}

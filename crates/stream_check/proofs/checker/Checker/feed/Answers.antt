@@ -9,8 +9,8 @@ use Rattle.stream_check.specs.declared.fault.Fault.TheVariants as faults
 use Rattle.stream_check.specs.declared.report.Ending.{Ending}
 use Rattle.stream_check.specs.declared.report.Ending.TheVariants as endings
 use Rattle.stream_check.specs.Leaving.{Going, Over}
-use Rattle.stream_check.specs.CheckerValue.{CheckerValue}
-use Rattle.stream_check.specs.Checker.{read_of, value_of, checker_state, report_at, tally_at, LeavesOn}
+use Rattle.stream_check.specs.CheckerValue.{report_at, CheckerValue}
+use Rattle.stream_check.specs.Checker.{read_of, value_of, checker_state, tally_at, LeavesOn}
 use Rattle.stream_check.specs.Taking.{hold}
 use Rattle.stream_check.specs.ReportLemmas.{leaves_still}
 use Rattle.stream_check.proofs.TakeLemmas.{leaves_good, leaves_stopped, leaves_refused}

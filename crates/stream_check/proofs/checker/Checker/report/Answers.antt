@@ -2,8 +2,8 @@ use Rattle.std.proofs.Common.{◌≡◌, ℕ, Option, sym, ap, subst, arith}
 use Rattle.std.specs.Option.{IfSome}
 use Rattle.stream_check.specs.declared.report.Ending.{Ending}
 use Rattle.stream_check.specs.declared.report.Report.{Report}
-use Rattle.stream_check.specs.CheckerValue.{CheckerValue}
-use Rattle.stream_check.specs.Checker.{deleted_at, tally_at, report_at}
+use Rattle.stream_check.specs.CheckerValue.{report_at, CheckerValue}
+use Rattle.stream_check.specs.Checker.{deleted_at, tally_at}
 use Rattle.stream_check.proofs.checker.Checker.report.Goals as goal
 
 pub returns : goal.returns
