@@ -76,11 +76,12 @@ sound f p h c stream blocks report legal mine judged is =
     (any_filtered (publishes_within c.cube) _ h (ap (list_any (publishes_within c.cube)) mine ∙ published))
 
 -- So it is where the stream's blocks stand in an order of lines that is legal.
-sound_in_order : (f : Cnf) (p : LayoutValue) (order : List Block) (s : ℕ) (c : Setting) (stream : Stream) (report : Report)
-    → IsLegal f p (events_in order) → JudgesStream c stream (blocks_of s order) report → IsTrue report.within → IsUnsatisfiableUnder f c.cube
-sound_in_order f p order s c stream report legal judged is =
+sound_in_order : (f : Cnf) (p : LayoutValue) (order : List Block) (s : ℕ) (c : Setting) (stream : Stream) (blocks : List History) (report : Report)
+    → IsLegal f p (events_in order) → blocks ≡ blocks_of s order → JudgesStream c stream blocks report → IsTrue report.within → IsUnsatisfiableUnder f c.cube
+sound_in_order f p order s c stream blocks report legal own judged is =
     refuted_from f p c.cube (opening f) (events_in order) legal.events
-    (any_block (publishes_within c.cube) s order (stream_publishes c stream (blocks_of s order) report judged is))
+    (any_block (publishes_within c.cube) s order
+    (subst (λ (bs : List History). IsTrue (list_any (publishes_within c.cube) (joined bs))) own (stream_publishes c stream blocks report judged is)))
 
 -- ---- a run
 
@@ -99,13 +100,13 @@ sound_by f terms h legal s (t ∷ ts) (r ∷ rs) judged is =
 
 -- by turns
 sound_among : (f : Cnf) (terms : TermsValue) (blocks : List Block) (k : ℕ) (streams : List Stream) (reports : List Report) → IsLegal f terms.layout (events_in blocks)
-    → AreJudged terms (λ s. true) blocks k streams reports → list_any (λ report. report.within) reports ≡ true → IsUnsatisfiableUnder f terms.cube
+    → AreJudged terms (λ s. true) (λ s events. events ≡ blocks_of s blocks) k streams reports → list_any (λ report. report.within) reports ≡ true → IsUnsatisfiableUnder f terms.cube
 sound_among f terms blocks k [] [] legal judged some = absurd (let none : false ≡ true = some in cc)
 sound_among f terms blocks k [] (r ∷ reports) legal judged some = absurd judged
 sound_among f terms blocks k (stream ∷ streams) [] legal judged some = absurd judged
 sound_among f terms blocks k (stream ∷ streams) (r ∷ reports) legal judged some =
     elim (cases_Bool r.within) [
-      | inl yes' ↦ sound_in_order f terms.layout blocks k (setting_of terms k) stream r legal (judged.0 refl) yes'
+      | inl yes' ↦ sound_in_order f terms.layout blocks k (setting_of terms k) stream _ r legal (judged.0 refl).1 (judged.0 refl).2 yes'
       | inr none ↦ sound_among f terms blocks (k + 1) streams reports legal judged.1 (ap (λ b. b || list_any (λ (report : Report). report.within) reports) (sym none) ∙ some)
     ]
 

@@ -166,7 +166,8 @@ sound f p h c stream blocks report legal mine judged is =
     refuted f p h legal (any_filtered publishes_empty _ h (ap (list_any publishes_empty) mine ∙ published))
 
 -- So it is where the stream's blocks stand in an order of lines that is legal.
-pub sound_in_order : (f : Cnf) (p : LayoutValue) (order : List Block) (s : ℕ) (c : Setting) (stream : Stream) (report : Report)
-    → IsLegal f p (events_in order) → JudgesStream c stream (blocks_of s order) report → IsTrue report.empty → IsUnsatisfiable f
-sound_in_order f p order s c stream report legal judged is =
-    refuted f p (events_in order) legal (any_block publishes_empty s order (stream_publishes c stream (blocks_of s order) report judged is))
+pub sound_in_order : (f : Cnf) (p : LayoutValue) (order : List Block) (s : ℕ) (c : Setting) (stream : Stream) (blocks : List History) (report : Report)
+    → IsLegal f p (events_in order) → blocks ≡ blocks_of s order → JudgesStream c stream blocks report → IsTrue report.empty → IsUnsatisfiable f
+sound_in_order f p order s c stream blocks report legal own judged is =
+    refuted f p (events_in order) legal (any_block publishes_empty s order
+    (subst (λ (bs : List History). IsTrue (list_any publishes_empty (joined bs))) own (stream_publishes c stream blocks report judged is)))

@@ -28,7 +28,8 @@ use Rattle.portfolio.specs.declared.outcome.Verdict.{Verdict}
 use Rattle.portfolio.specs.declared.outcome.Verdict.TheVariants.{Unsatisfiable, UnsatisfiableUnder, Unknown}
 use Rattle.portfolio.specs.Outcomes.{verdict_of}
 use Rattle.runs.specs.Closed.{IsOfStream}
-use Rattle.runs.specs.Headline.{HaveOneHistory, IsJudgedBy, AreJudgedIn, WereJudged, seen_by}
+use Rattle.runs.specs.StreamLemmas.{IsJudgedBy}
+use Rattle.runs.specs.Headline.{HaveOneHistory, AreJudgedIn, WereJudged, seen_by}
 use Rattle.stream_threads.specs.Jobs.{JobsValue, FoundValue, CanBegin, Finishes, AllFinish, AreJobs}
 use Rattle.lrup_text.specs.ReadOut.{SourceView}
 use Rattle.runs.specs.Readings.{AreRead, IsStreamOf}

@@ -369,7 +369,7 @@ module _ {S : Type 0} (view : SourceView S) where
   -- each stream is what its reader told, and is judged by its blocks
   pub streams_over : (terms : TermsValue) (blocks : List Block) (m : Plain) (k : ℕ) (firsts : List S) (ws : List (WorkerValue S)) (reports : List Report)
       → AreWorking view terms blocks m k firsts ws → HaveReports ws reports
-      → (streams : List Stream) × AllZip IsTold (tellings view firsts (map (λ w. w.reader) ws)) streams × AreRead S view.reads firsts (map (λ w. w.reader) ws) streams × AreJudged terms (λ s. true) blocks k streams reports
+      → (streams : List Stream) × AllZip IsTold (tellings view firsts (map (λ w. w.reader) ws)) streams × AreRead S view.reads firsts (map (λ w. w.reader) ws) streams × AreJudged terms (λ s. true) (λ s events. events ≡ blocks_of s blocks) k streams reports
   streams_over terms blocks m k [] [] [] working have = ([], tt, tt, tt)
   streams_over terms blocks m k [] [] (r ∷ reports) working have = absurd have
   streams_over terms blocks m k [] (w ∷ ws) reports working have = absurd working
@@ -381,7 +381,7 @@ module _ {S : Type 0} (view : SourceView S) where
       let judged : JudgesStream (setting_of terms k) told.0 (blocks_of k blocks) r =
       subst (λ (c : Setting). JudgesStream c told.0 (blocks_of k blocks) r) working.0.setting
       (subst (λ (x : Report). JudgesStream w.checker.setting told.0 (blocks_of k blocks) x) (sym have.0.2) told.2) in
-      (told.0 ∷ others.0, (told.1.0, others.1), (told.1.1, others.2), (λ all. judged, others.3))
+      (told.0 ∷ others.0, (told.1.0, others.1), (told.1.1, others.2), (λ all. (blocks_of k blocks, refl, judged), others.3))
 
   -- the reports have an order of lines
   pub ordered_over : (f : Cnf) (terms : TermsValue) (firsts : List S) (m : Plain) (ws : List (WorkerValue S)) (reports : List Report) → Runs view f terms firsts m ws → HaveReports ws reports
@@ -401,13 +401,13 @@ module _ {S : Type 0} (view : SourceView S) where
 
 -- where one of the reports says 'empty', no assignment makes every clause of the formula true
 sound_among : (f : Cnf) (terms : TermsValue) (blocks : List Block) (k : ℕ) (streams : List Stream) (reports : List Report) → IsLegal f terms.layout (events_in blocks)
-    → AreJudged terms (λ s. true) blocks k streams reports → IsTrue (list_any (λ report. report.empty) reports) → IsUnsatisfiable f
+    → AreJudged terms (λ s. true) (λ s events. events ≡ blocks_of s blocks) k streams reports → IsTrue (list_any (λ report. report.empty) reports) → IsUnsatisfiable f
 sound_among f terms blocks k [] [] legal judged some = absurd (let none : false ≡ true = some in cc)
 sound_among f terms blocks k [] (r ∷ reports) legal judged some = absurd judged
 sound_among f terms blocks k (stream ∷ streams) [] legal judged some = absurd judged
 sound_among f terms blocks k (stream ∷ streams) (r ∷ reports) legal judged some =
     elim (cases_Bool r.empty) [
-      | inl yes' ↦ sound_in_order f terms.layout blocks k (setting_of terms k) stream r legal (judged.0 refl) yes'
+      | inl yes' ↦ sound_in_order f terms.layout blocks k (setting_of terms k) stream _ r legal (judged.0 refl).1 (judged.0 refl).2 yes'
       | inr none ↦ sound_among f terms blocks (k + 1) streams reports legal judged.1 (ap (λ b. b || list_any (λ (report : Report). report.empty) reports) (sym none) ∙ some)
     ]
 

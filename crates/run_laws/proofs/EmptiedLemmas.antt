@@ -12,8 +12,8 @@ use Rattle.stream_check.specs.Standing.{standing_of}
 use Rattle.stream_check.specs.Leaving.{Holding}
 use Rattle.stream_check.specs.Laws.{FreshLeft, EndJudged}
 use Rattle.runs.specs.Streams.{Stream, JudgesStream, TermsValue, setting_of}
-use Rattle.runs.specs.StreamLemmas.{judged_out}
-use Rattle.runs.specs.Headline.{IsJudgedBy, AreJudgedIn}
+use Rattle.runs.specs.StreamLemmas.{IsJudgedBy, judged_out}
+use Rattle.runs.specs.Headline.{AreJudgedIn}
 use Rattle.run_laws.specs.Groups.{empty_stream, empty_report, with_others}
 use Rattle.run_laws.specs.GroupLaws.{OthersEmpty}
 

@@ -18,9 +18,9 @@ use Rattle.stream_check.specs.declared.report.Report.{Report}
 use Rattle.stream_check.specs.Setting.{Setting}
 use Rattle.stream_check.specs.Judging.{joined}
 use Rattle.stream_check.specs.Laws.{cited_by, FetchesOnly, CitedFetched}
-use Rattle.runs.specs.StreamLemmas.{some_end}
+use Rattle.runs.specs.StreamLemmas.{IsJudgedBy, some_end}
 use Rattle.runs.specs.Streams.{Stream, JudgesStream, TermsValue, setting_of}
-use Rattle.runs.specs.Headline.{IsJudgedBy, AreJudgedIn}
+use Rattle.runs.specs.Headline.{AreJudgedIn}
 use Rattle.runs.specs.Closed.{IsOwnedWithin, CiteWithin, IsClosed}
 use Rattle.run_laws.specs.GroupLaws.{ClosedIsGroup}
 use Rattle.run_laws.proofs.Places.{has_place, judged_count, judged_at}

@@ -19,9 +19,9 @@ use Rattle.stream_check.specs.Judging.{joined, JudgesBlocks}
 use Rattle.stream_check.specs.Reducing.{reduced}
 use Rattle.stream_check.specs.Laws.{cited_by, FetchesOnly, CitedFetched, ReducedStream}
 use Rattle.runs.specs.Streams.{Stream, JudgesStream, Block, blocks_of, IsBlockWithin, AreJudged, TermsValue, setting_of}
-use Rattle.runs.specs.Headline.{IsJudgedBy, AreJudgedIn}
+use Rattle.runs.specs.Headline.{AreJudgedIn}
 use Rattle.runs.specs.Closed.{IsOfStream, IsOwnedWithin, CiteWithin}
-use Rattle.runs.specs.StreamLemmas.{some_end, told_count}
+use Rattle.runs.specs.StreamLemmas.{IsJudgedBy, some_end, told_count}
 use Rattle.run_laws.specs.Lines.{IsOrder}
 use Rattle.run_laws.specs.OrderLaws.{JudgedBlocks, LinesOrdered, ClosedOrdered, AllClosed, AllOrdered, RunSerializable}
 use Rattle.run_laws.proofs.OrderLemmas.{streams_in, streams_are, are_streams, own_each}
@@ -117,14 +117,16 @@ module _ (terms : TermsValue) (set : ℕ → Bool) (h : History) where
   are_judged : ReducedStream → (blocks : ℕ → List History) (order : List Block) (s : ℕ) (streams : List Stream) (reports : List Report)
       → ((t : ℕ) → IsStream terms.layout t → IsTrue (set t) → blocks_of t order ≡ map reduced (blocks t))
       → 0 < s → s + length streams ≤ terms.layout.streams + 1
-      → AreJudgedWith blocks s streams reports → AreJudged terms set order s streams reports
+      → AreJudgedWith blocks s streams reports → AreJudged terms set (λ t events. events ≡ blocks_of t order) s streams reports
   are_judged law blocks order s [] [] lines first last judged = tt
   are_judged law blocks order s [] (report ∷ reports) lines first last judged = absurd judged
   are_judged law blocks order s (stream ∷ streams) [] lines first last judged = absurd judged
   are_judged law blocks order s (stream ∷ streams) (report ∷ reports) lines first last judged = (
-    λ member. subst (λ (bs : List History). JudgesStream (setting_of terms s) stream bs report)
-        (sym (lines s (first, omega (arith, last)) member))
-        (reduced_judged law (setting_of terms s) stream (blocks s) report (judged.0 member).1),
+    λ member. (
+      map reduced (blocks s),
+      sym (lines s (first, omega (arith, last)) member),
+      reduced_judged law (setting_of terms s) stream (blocks s) report (judged.0 member).1,
+    ),
     are_judged law blocks order (s + 1) streams reports lines (omega arith) (omega (arith, last)) judged.1,
   )
 

@@ -225,14 +225,16 @@ module _ (passes : Event → Bool) where
 
 module _ (law : GoodExactlyIf) (terms : TermsValue) (order : List Block) (passes : Event → Bool) (adds : ℕ × Clause → Bool) (says : Report → Bool)
     (tells : (s : ℕ) → Tells (setting_of terms s) passes adds says) where
-  told_by : (s : ℕ) (stream : Stream) (report : Report) → JudgesStream (setting_of terms s) stream (blocks_of s order) report
+  told_by : (s : ℕ) (stream : Stream) (report : Report)
+      → (events : List History) × (events ≡ blocks_of s order) × JudgesStream (setting_of terms s) stream events report
       → list_any passes (joined (blocks_of s order)) ≡ says report
   told_by s stream report judged =
       let way : (end : StreamEnd) × JudgesBlocks (setting_of terms s) stream.bytes end (blocks_of s order) report
-      = some_end (setting_of terms s) stream (blocks_of s order) report judged in
+      = some_end (setting_of terms s) stream (blocks_of s order) report
+      (subst (λ (bs : List History). JudgesStream (setting_of terms s) stream bs report) judged.1 judged.2) in
       stream_tells law (setting_of terms s) passes adds says (tells s) stream.bytes way.0 (blocks_of s order) report way.1
 
-  said_published : (s : ℕ) (streams : List Stream) (reports : List Report) → AreJudged terms (λ t. true) order s streams reports
+  said_published : (s : ℕ) (streams : List Stream) (reports : List Report) → AreJudged terms (λ t. true) (λ t events. events ≡ blocks_of t order) s streams reports
       → list_any says reports ≡ true → list_any passes (events_in order) ≡ true
   said_published s [] [] judged is = absurd (true≢false (sym is))
   said_published s [] (report ∷ reports) judged is = absurd judged
@@ -243,7 +245,7 @@ module _ (law : GoodExactlyIf) (terms : TermsValue) (order : List Block) (passes
         | inr later ↦ said_published (s + 1) streams reports judged.1 later
       ]
 
-  published_said : (s : ℕ) (streams : List Stream) (reports : List Report) → AreJudged terms (λ t. true) order s streams reports
+  published_said : (s : ℕ) (streams : List Stream) (reports : List Report) → AreJudged terms (λ t. true) (λ t events. events ≡ blocks_of t order) s streams reports
       → (k : ℕ) → k < length streams → list_any passes (joined (blocks_of (s + k) order)) ≡ true
       → list_any says reports ≡ true
   published_said s [] [] judged k below is = absurd (omega (arith, below))
@@ -261,7 +263,7 @@ module _ (law : GoodExactlyIf) (terms : TermsValue) (order : List Block) (passes
 
   -- some report passes exactly if the order publishes what does
   reports_tell : (streams : List Stream) (reports : List Report) → length streams ≡ terms.layout.streams
-      → AllByRecursion (IsBlockWithin terms.layout (λ s. true)) order → AreJudged terms (λ s. true) order 1 streams reports
+      → AllByRecursion (IsBlockWithin terms.layout (λ s. true)) order → AreJudged terms (λ s. true) (λ s events. events ≡ blocks_of s order) 1 streams reports
       → list_any says reports ≡ list_any passes (events_in order)
   reports_tell streams reports count within judged =
       both_ways (list_any says reports) (list_any passes (events_in order))

@@ -6,12 +6,11 @@ use Rattle.lrup_model.specs.Event.{History, own}
 use Rattle.lrup_model.specs.History.{IsLegal}
 use Rattle.lrup_model.specs.Pass.{View}
 use Rattle.stream_check.specs.declared.report.Report.{Report}
-use Rattle.stream_check.specs.Setting.{Setting}
 use Rattle.stream_check.specs.Judging.{joined}
 use Rattle.lrup_text.specs.ReadOut.{SourceView}
 use Rattle.runs.specs.Closed.{IsOfStream}
 use Rattle.runs.specs.Readings.{IsStreamOf}
-use Rattle.runs.specs.Streams.{Stream, JudgesStream, TermsValue, setting_of}
+use Rattle.runs.specs.Streams.{Stream, JudgesStream, AreJudged, TermsValue, setting_of}
 
 -- what the first of the passes has seen
 abbrev pub seen_by : List View → History
@@ -28,18 +27,10 @@ pub record HaveOneHistory (f : Cnf) (p : LayoutValue) (h : History)
       → (v.caller ≡ record { formula = f; layout = p; stream = s }) × (v.seen ≡ h)
       × (v.mine ≡ own h s)
 
--- a stream is judged by these events
-abbrev pub IsJudgedBy : Setting → Stream → History → Report → Type 0
-IsJudgedBy c stream es report =
-    (blocks : List History) × (es ≡ joined blocks) × JudgesStream c stream blocks report
-
 -- Each stream of the set, counted on from s, is judged by its own events of the history, as its report says.
 abbrev pub AreJudgedIn : TermsValue → (ℕ → Bool) → History → ℕ → List Stream → List Report → Type 0
-AreJudgedIn terms set h s [] [] = Unit {0}
-AreJudgedIn terms set h s (stream ∷ streams) (report ∷ reports) =
-    (IsTrue (set s) → IsJudgedBy (setting_of terms s) stream (own h s) report)
-    × AreJudgedIn terms set h (s + 1) streams reports
-AreJudgedIn terms set h s _ _ = ⊥
+AreJudgedIn terms set h s streams reports =
+    AreJudged terms set (λ t blocks. own h t ≡ joined blocks) s streams reports
 
 -- Each stream of these readers, counted on from s, was read out, and judged by some blocks of events: where a run has no outcome.
 abbrev pub WereJudged : {S : Type 0} → SourceView S → TermsValue → ℕ → List S → Type 0

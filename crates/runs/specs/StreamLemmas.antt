@@ -10,7 +10,7 @@ use Rattle.lrup_text.specs.declared.device.StreamEnd.{StreamEnd}
 use Rattle.lrup_text.specs.declared.device.StreamEnd.TheVariants as stream_ends
 use Rattle.stream_check.specs.declared.report.Report.{Report}
 use Rattle.stream_check.specs.Setting.{Setting}
-use Rattle.stream_check.specs.Judging.{JudgesBlocks}
+use Rattle.stream_check.specs.Judging.{joined, JudgesBlocks}
 use Rattle.runs.specs.Closed.{IsOfStream}
 use Rattle.runs.specs.Readings.{AreRead}
 use Rattle.runs.specs.Streams.{Stream, Telling, telling_of, tellings, IsTold, JudgesStream, Block, blocks_of}
@@ -90,6 +90,11 @@ pub some_end : (c : Setting) (stream : Stream) (blocks : List History) (report :
     → (end : StreamEnd) × JudgesBlocks c stream.bytes end blocks report
 some_end c stream blocks report judged =
     let end = its_end stream.end in (end.0, judged end.0 end.1)
+
+-- a stream is judged by these events
+abbrev pub IsJudgedBy : Setting → Stream → History → Report → Type 0
+IsJudgedBy c stream es report =
+    (blocks : List History) × (es ≡ joined blocks) × JudgesStream c stream blocks report
 
 -- a stream that was read to this end is judged so
 pub judged_out : (c : Setting) (bytes unneeded : List ℕ) (end : StreamEnd) (blocks : List History)

@@ -96,13 +96,15 @@ abbrev pub setting_of : TermsValue → ℕ → Setting
 setting_of terms s =
     record { layout = terms.layout; cube = terms.cube; stream = s; tries = terms.tries }
 
--- each stream of the set, counted on from s, is judged by its blocks
-abbrev pub AreJudged : TermsValue → (ℕ → Bool) → List Block → ℕ → List Stream → List Report → Type 0
-AreJudged terms set blocks s [] [] = Unit {0}
-AreJudged terms set blocks s (stream ∷ streams) (report ∷ reports) =
-    (IsTrue (set s) → JudgesStream (setting_of terms s) stream (blocks_of s blocks) report)
-    × AreJudged terms set blocks (s + 1) streams reports
-AreJudged terms set blocks s _ _ = ⊥
+-- Each stream of the set, counted on from s, is judged, as its report says, by blocks of events that are the stream's own.
+abbrev pub AreJudged : TermsValue → (ℕ → Bool) → (ℕ → List History → Type 0) → ℕ → List Stream
+    → List Report → Type 0
+AreJudged terms set AreOwn s [] [] = Unit {0}
+AreJudged terms set AreOwn s (stream ∷ streams) (report ∷ reports) =
+    (IsTrue (set s) → (blocks : List History) × AreOwn s blocks
+    × JudgesStream (setting_of terms s) stream blocks report)
+    × AreJudged terms set AreOwn (s + 1) streams reports
+AreJudged terms set AreOwn s _ _ = ⊥
 
 -- The reports of a set of streams have an order of lines: a legal history of whole lines of these streams, each stream's in
 -- its order, by which each stream is judged so.
@@ -111,4 +113,4 @@ pub record IsOrdered (f : Cnf) (terms : TermsValue) (set : ℕ → Bool) (stream
   pub blocks : List Block
   pub within : AllByRecursion (IsBlockWithin terms.layout set) blocks
   pub legal : IsLegal f terms.layout (events_in blocks)
-  pub judged : AreJudged terms set blocks 1 streams reports
+  pub judged : AreJudged terms set (λ s events. events ≡ blocks_of s blocks) 1 streams reports
