@@ -859,9 +859,8 @@ HEADLINE_PHRASES = [
     ("follows from the formula", "[[IsPublishable: follows : Follows f c]], which [[IsAllowed]] asks of each publish."),
     ("Each report is the judgement of these replies", """[[fn run.reports]]: there are streams ([[StandsOnStreams]]), and
      [[fn run.reports: AreJudgedIn terms (λ s. true) (seen_by (views outcome.passes.items)) 1 streams outcome.reports.items]], by
-     the same history. Each stream is judged, as its report says, by its own events of it, [[AreJudgedIn: IsJudgedBy (setting_of
-     terms s) stream (own h s) report]]: its good lines first, each with a block of events, and then what ended it
-     ([[JudgesBlocks]])."""),
+     the same history. Each stream is judged, as its report says, by blocks of events ([[AreJudged]]) that are together its own events of it, [[AreJudgedIn: own h t ≡ joined blocks]]: its good
+     lines first, each with a block, and then what ended it ([[JudgesBlocks]])."""),
     ("of the bytes that reads of the stream gave", """[[fn run.reports: AreRead _ R.reads readers.items outcome.readers.items
      streams]], of the same streams: [[ReadOut: given : Gave S reads first bytes last]], from each reader as it was handed in.
      Whoever hands in the readers chooses `reads`; [AUDIT](AUDIT.md#status-0) says under 'Which reads?' why that suffices. Where
@@ -933,8 +932,8 @@ SERIALIZABLE_PHRASES = [
      block.stream) block.events]], and has all events of one line, [[AreGood: JudgesLine c (standing_of c before) line block
      Good]]. That is what [[fn run_serial]] promises: [[fn run_serial.ordered: IsOrdered formula.now terms (λ s. true) streams
      outcome.reports.items]]."""),
-    ("gives the same reports", """[[IsOrdered: judged : AreJudged terms set blocks 1 streams reports]], with the run's `reports`:
-     each stream is judged by its own blocks in their order, [[AreJudged: blocks_of s blocks]]."""),
+    ("gives the same reports", """[[IsOrdered: judged : AreJudged terms set]], with the run's `reports`: each stream is
+     judged by its own blocks in their order, [[IsOrdered: events ≡ blocks_of s blocks]]."""),
 ]
 
 SERIALIZABLE_VERDICT = """And the verdict: where the premise holds of all streams together, they have an order that besides
