@@ -734,7 +734,7 @@ TRUST = """## What one has to trust
 
 GLOSSES = """
 `AllByRecursion P xs` P of each element
-`AllZip R xs ys` R of the two elements of each place; the lists are of one length
+`AllZip R xs ys` R of the elements at each place of the two lists, which are equally long
 `App` a command of `clap`: what it takes itself, `top`, and its subcommands, `subs`
 `Append` each use of the argument adds to its values
 `Consumes old new bs` if `old` is `Some xs`, `new` is `Some ys`, and xs is `bs ++ ys`; of `None` it says nothing
@@ -745,7 +745,7 @@ GLOSSES = """
 `IfOk r P` if r is `Ok x`, then P of x
 `IfSome o P` if o is `Some x`, then P of x
 `IsSome o` o is `Some x`
-`MatchOption o A P` A, or if o is `Some x`, P of x
+`MatchOption o A P` P of x if o is `Some x`, and A if it is `None`
 `IsAtEnd left` if left is `Some xs`, xs is `[]`
 `IsNone o` o is `None`
 `IsTrue b` b is `true`
@@ -810,7 +810,7 @@ repeated: formulas, assignments, clauses and literals, [how to read it](AUDIT.md
 
 - **Run.** A call of [[fn run]], with two threads for each stream, or of [[fn run_serial]], on one thread; the program calls the
   second with `--serial`, and else the first.
-- **Stream.** The bytes that a reader gave, and where reading stopped ([[Stream]]): lines that add a clause with its hints, delete
+- **Stream.** The bytes that a reader gave, and how it ended, unless it was stopped early ([[Stream]]): lines that add a clause with its hints, delete
   clauses, or import one ([[StreamLine]]). Streams count from 1.
 - **Set.** A set of streams is a test on their numbers: `λ s. true` is all of them, [[one]] a single one.
 - **Identity.** A clause's number: the formula's clauses have the first ones, the streams own the others by turns ([[owner]]).
@@ -933,7 +933,7 @@ SERIALIZABLE_PHRASES = [
      Good]]. That is what [[fn run_serial]] promises: [[fn run_serial.ordered: IsOrdered formula.now terms (λ s. true) streams
      outcome.reports.items]]."""),
     ("gives the same reports", """[[IsOrdered: judged : AreJudged terms set]], with the run's `reports`: each stream is
-     judged by its own blocks in their order, [[IsOrdered: events ≡ blocks_of s blocks]]."""),
+     judged by its own blocks in their order, [[IsOrdered: own_blocks ≡ blocks_of t blocks]]."""),
 ]
 
 SERIALIZABLE_VERDICT = """And the verdict: where the premise holds of all streams together, they have an order that besides

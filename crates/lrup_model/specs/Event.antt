@@ -43,4 +43,4 @@ published (retire s id r ∷ es) = published es
 
 -- the sizes of the clauses that a stream published with Done, added up
 abbrev pub spent : ℕ → History → ℕ
-spent s h = sum_by (λ p. length p.1) (published (own h s))
+spent s h = sum_by (λ entry. length entry.1) (published (own h s))

@@ -1,4 +1,4 @@
--- The bytes of a line by their names, for what the functions that read and write them say.
+-- Names of bytes of a line, for the contracts of the functions that read and write lines.
 use Rattle.std.specs.Prelude.{ℕ}
 
 -- the byte LF

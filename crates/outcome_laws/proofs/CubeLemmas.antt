@@ -21,7 +21,7 @@ use Rattle.stream_check.specs.Asking.{AsksAt, AsksThen}
 use Rattle.stream_check.specs.Additions.{AtReply, JudgesHints, published_by, JudgesAddition}
 use Rattle.stream_check.specs.Deletions.{RetiresThen, DropsThen, DeletesAt, JudgesDeletion}
 use Rattle.stream_check.specs.Imports.{AtImported, JudgesImport}
-use Rattle.stream_check.specs.Judging.{JudgesLine, AreGood, report_of, EndsAfter, at_line, at_text, at_memory, at_end}
+use Rattle.stream_check.specs.Judging.{JudgesLine, AreGood, report_of, EndsAfter, at_bad_line, at_bad_text, at_memory, at_end}
 use Rattle.stream_check.specs.ReportLemmas.{all_only_empty}
 use Rattle.outcome_laws.specs.Outcomes.{bare_setting, bare_report}
 use Rattle.outcome_laws.specs.Laws.{NoCubeJudgesAlike}
@@ -138,9 +138,9 @@ says_bare c lines deleted ending report says =
 
 ends_bare : (c : Setting) (lines : List StreamLine) (rest : List ℕ) (end : StreamEnd) (back : List History) (report : Report)
     → EndsAfter c lines rest end back report → EndsAfter (bare_setting c) lines rest end back (bare_report report)
-ends_bare c lines rest end back report (at_line line more text fits block one_block deleted fault bad says) =
-    at_line line more text fits block one_block deleted fault (line_bare c lines line block (Bad deleted fault) bad) (says_bare c lines _ _ report says)
-ends_bare c lines rest end back report (at_text fault text no_block says) = at_text fault text no_block (says_bare c lines _ _ report says)
+ends_bare c lines rest end back report (at_bad_line line more text fits block one_block deleted fault bad says) =
+    at_bad_line line more text fits block one_block deleted fault (line_bare c lines line block (Bad deleted fault) bad) (says_bare c lines _ _ report says)
+ends_bare c lines rest end back report (at_bad_text fault text no_block says) = at_bad_text fault text no_block (says_bare c lines _ _ report says)
 ends_bare c lines rest end back report (at_memory lead ids more text fits block one_block earlier stops says) =
     at_memory lead ids more text fits block one_block earlier
     (record {

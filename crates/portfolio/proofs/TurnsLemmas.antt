@@ -21,7 +21,7 @@ use Rattle.stream_check.specs.declared.report.Ending.{Ending}
 use Rattle.stream_check.specs.declared.report.Report.{Report}
 use Rattle.stream_check.specs.Setting.{Setting}
 use Rattle.stream_check.specs.Judging.{joined}
-use Rattle.stream_check.specs.CheckerValue.{Tally, report_at}
+use Rattle.stream_check.specs.CheckerValue.{Tally, report_of_tally}
 use Rattle.stream_check.specs.Checker.{IsReadyAt}
 use Rattle.stream_check.specs.Laws.{ReadyBeside}
 use Rattle.portfolio.proofs.EmptyLemmas.{sound_in_order}
@@ -153,7 +153,7 @@ pub record IsOpened (f : Cnf) (p : LayoutValue) (m : Plain) : Type 0 where
   pub state : plain_state m ≡ opening f
   pub room : m.free ≡ replicate p.streams p.room
 
-report_at_end : (o : Option Ending) (t : Tally) (r : Report) → IsSome o → IfSome o (λ ending. r ≡ report_at t ending) → (ending : Ending) × (o ≡ Some ending) × (r ≡ report_at t ending)
+report_at_end : (o : Option Ending) (t : Tally) (r : Report) → IsSome o → IfSome o (λ ending. r ≡ report_of_tally t ending) → (ending : Ending) × (o ≡ Some ending) × (r ≡ report_of_tally t ending)
 report_at_end None t r over is = absurd (let none : false ≡ true = over in cc)
 report_at_end (Some ending) t r over is = (ending, refl, is)
 
@@ -273,7 +273,7 @@ module _ {S : Type 0} (view : SourceView S) where
 
   -- ---- the reports
 
-  reports_more : (ws : List (WorkerValue S)) (rs : List Report) (w : WorkerValue S) (r : Report) → HaveReports ws rs → IsOver w → IfSome w.checker.ending (λ ending. r ≡ report_at w.checker.tally ending)
+  reports_more : (ws : List (WorkerValue S)) (rs : List Report) (w : WorkerValue S) (r : Report) → HaveReports ws rs → IsOver w → IfSome w.checker.ending (λ ending. r ≡ report_of_tally w.checker.tally ending)
       → HaveReports (ws ++ w ∷ []) (rs ++ r ∷ [])
   reports_more [] [] w r have over is = (report_at_end w.checker.ending w.checker.tally r over is, tt)
   reports_more [] (x ∷ rs) w r have over is = absurd have
@@ -282,7 +282,7 @@ module _ {S : Type 0} (view : SourceView S) where
 
   -- one report more
   pub reports_pushed : (ws : List (WorkerValue S)) (rs ts : List Report) (w : WorkerValue S) (r : Report) → ts ≡ rs ++ r ∷ [] → HaveReports ws rs → IsOver w
-      → IfSome w.checker.ending (λ ending. r ≡ report_at w.checker.tally ending) → HaveReports (ws ++ w ∷ []) ts
+      → IfSome w.checker.ending (λ ending. r ≡ report_of_tally w.checker.tally ending) → HaveReports (ws ++ w ∷ []) ts
   reports_pushed ws rs ts w r pushed have over is = subst (HaveReports (ws ++ w ∷ [])) (sym pushed) (reports_more ws rs w r have over is)
 
   -- ---- before the first turn
@@ -363,7 +363,7 @@ module _ {S : Type 0} (view : SourceView S) where
 
   -- a worker that is over tells of its stream
   told_over : (o : Option Ending) (ending : Ending) (first : S) (w : WorkerValue S) (free : ℕ) (blocks : List History) → o ≡ Some ending → WorksBy view o first w free blocks
-      → (stream : Stream) × IsStreamOf view first w.reader stream × JudgesStream w.checker.setting stream blocks (report_at w.checker.tally ending)
+      → (stream : Stream) × IsStreamOf view first w.reader stream × JudgesStream w.checker.setting stream blocks (report_of_tally w.checker.tally ending)
   told_over o ending first w free blocks is works = let at : WorksBy view (Some ending) first w free blocks = subst (λ e. WorksBy view e first w free blocks) is works in at
 
   -- each stream is what its reader told, and is judged by its blocks

@@ -13,7 +13,7 @@ use Rattle.stream_check.specs.declared.report.Report.{Report}
 use Rattle.stream_check.specs.Setting.{Setting}
 use Rattle.stream_check.specs.Judging.{JudgesBlocks}
 use Rattle.stream_check.specs.Leaving.{Leaves}
-use Rattle.stream_check.specs.CheckerValue.{report_at, CheckerValue}
+use Rattle.stream_check.specs.CheckerValue.{report_of_tally, CheckerValue}
 use Rattle.stream_check.specs.Checker.{state_by, checker_state, LeavesOn, EndsBy, Ends, ReportsEnd}
 use Rattle.lrup_text.specs.ReadLemmas.{gave_more}
 use Rattle.lrup_text.specs.ReadOut.{EndsSo, IsLastRead, SourceView}
@@ -80,7 +80,7 @@ module _ {S : Type 0} (view : SourceView S) where
       let gave : Gave S view.reads first here.0 old = subst (λ (t : List ℕ). Gave S view.reads first t old) all here.2 in
       let same : u.setting ≡ v.setting = (subst (λ e. EndsBy e end v u) going ends).0 in
       let judged = reports here.0 before room here.3 in
-      let report = report_at u.tally judged.0 in
+      let report = report_of_tally u.tally judged.0 in
       subst (λ e. WorksBy view e first (worker_of new rest u) room (before ++ [])) (sym judged.1)
       (subst (λ (bs : List History). WorksBy view (Some judged.0) first (worker_of new rest u) room bs) (sym (append-nil before)) (
         record { bytes = here.0; unneeded = []; end = Some end },
@@ -106,7 +106,7 @@ module _ {S : Type 0} (view : SourceView S) where
   works_at (Some ending) first reader bytes rest v room blocks is running given gave leaves = (
     record { bytes = bytes; unneeded = rest; end = None },
     (record { consumes = given; ends = running; needed = λ out. absurd (let no : false ≡ true = out in cc) }, gave),
-    λ end may. either_end v.setting bytes blocks (report_at v.tally ending) end leaves.0 leaves.1,
+    λ end may. either_end v.setting bytes blocks (report_of_tally v.tally ending) end leaves.0 leaves.1,
   )
 
   -- what the checker took of the bytes that were read

@@ -39,4 +39,4 @@ pub record HasOrder (verdict : Verdict) : Type 0 where
   pub lines : List Block
   pub legal : IsLegal four layout_of_two (events_in lines)
   pub says : (verdict ≡ Unsatisfiable) ↔ IsTrue
-      (list_any (λ p. length p.1 == 0) (published (events_in lines)))
+      (list_any (λ entry. length entry.1 == 0) (published (events_in lines)))

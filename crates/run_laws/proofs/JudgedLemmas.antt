@@ -11,7 +11,7 @@ use Rattle.stream_check.specs.declared.report.Report.{Report}
 use Rattle.stream_check.specs.Setting.{Setting}
 use Rattle.stream_check.specs.Standing.{Standing, standing_of, deleted_by}
 use Rattle.stream_check.specs.Verdicts.{LineVerdict, Good, Bad}
-use Rattle.stream_check.specs.Judging.{JudgesLine, AreGood, EndsAfter, at_line, at_text, at_memory, at_end, joined}
+use Rattle.stream_check.specs.Judging.{JudgesLine, AreGood, EndsAfter, at_bad_line, at_bad_text, at_memory, at_end, joined}
 use Rattle.stream_check.specs.Reducing.{IsEarly}
 use Rattle.stream_check.specs.Laws.{EarlyEvents, VacantTriesAgain}
 use Rattle.stream_check.specs.ReportLemmas.{split_first, joined-append}
@@ -66,9 +66,9 @@ module _ (early_events : EarlyEvents) (vacant_tries_again : VacantTriesAgain) (c
 
   end_blocks : (lines : List StreamLine) (rest : List ℕ) (end : StreamEnd) (back : List History) (report : Report)
       → EndsAfter c lines rest end back report → AllByRecursion IsLineBlock back
-  end_blocks lines rest end back report (at_line line more text fits block is_one deleted fault bad says) =
+  end_blocks lines rest end back report (at_bad_line line more text fits block is_one deleted fault bad says) =
       one_block block back is_one (line_block (standing_of c lines) line block (Bad deleted fault) bad)
-  end_blocks lines rest end back report (at_text fault text no_block says) = subst (AllByRecursion IsLineBlock) (sym no_block) tt
+  end_blocks lines rest end back report (at_bad_text fault text no_block says) = subst (AllByRecursion IsLineBlock) (sym no_block) tt
   end_blocks lines rest end back report (at_memory lead ids more text fits block is_one earlier stops says) =
       one_block block back is_one (line_block (standing_of c lines) (Deletion lead earlier) block Good stops.before)
   end_blocks lines rest end back report (at_end pending no_block says) = subst (AllByRecursion IsLineBlock) (sym no_block) tt
@@ -146,12 +146,12 @@ module _ (c : Setting) (p : ℕ → Bool) where
   ends_retire : OneFirstLine → (lines more : List StreamLine) (left rest : List ℕ) (end : StreamEnd) (back : List History) (report : Report)
       → left ≡ flat_map line_text more ++ rest → AllByRecursion IsWithinLimits more → HasNoLine rest
       → AllByRecursion Passes more → EndsAfter c lines left end back report → Retires (joined back)
-  ends_retire first lines more left rest end back report is fits none all (at_line line after text fit block is_one deleted fault bad says) =
+  ends_retire first lines more left rest end back report is fits none all (at_bad_line line after text fit block is_one deleted fault bad says) =
       let found : (others : List StreamLine) × (more ≡ line ∷ others)
       = line_first first line more after left rest fit fits none text is in
       one_retires block back is_one
       (line_retires c p (standing_of c lines) line block (Bad deleted fault) (subst (AllByRecursion Passes) found.1 all).0 bad)
-  ends_retire first lines more left rest end back report is fits none all (at_text fault text no_block says) = none_retires back no_block
+  ends_retire first lines more left rest end back report is fits none all (at_bad_text fault text no_block says) = none_retires back no_block
   ends_retire first lines more left rest end back report is fits none all (at_memory lead ids after text fit block is_one earlier stops says) =
       let found : (others : List StreamLine) × (more ≡ Deletion lead ids ∷ others)
       = line_first first (Deletion lead ids) more after left rest fit fits none text is in

@@ -22,7 +22,7 @@ use Rattle.stream_check.specs.Standing.{Standing, standing_of, additions_of, is_
 use Rattle.stream_check.specs.Verdicts.{Good, Bad}
 use Rattle.stream_check.specs.Additions.{published_by}
 use Rattle.stream_check.specs.Finding.{IsGoodAddition}
-use Rattle.stream_check.specs.Judging.{JudgesLine, AreGood, EndsAfter, at_line, at_text, at_memory, at_end, joined, JudgesBlocks}
+use Rattle.stream_check.specs.Judging.{JudgesLine, AreGood, EndsAfter, at_bad_line, at_bad_text, at_memory, at_end, joined, JudgesBlocks}
 use Rattle.stream_check.specs.Laws.{GoodExactlyIf}
 use Rattle.stream_check.specs.ReportLemmas.{additions-append, said_empty, said_within, joined-append}
 use Rattle.runs.specs.Streams.{Stream, JudgesStream, Block, blocks_of, events_in, IsBlockWithin, AreJudged, TermsValue, setting_of, IsOrdered}
@@ -151,9 +151,9 @@ module _ (law : GoodExactlyIf) (c : Setting) (passes : Event → Bool) (adds : �
   -- what ends a stream publishes nothing that passes
   ends_quiet : (lines : List StreamLine) (rest : List ℕ) (end : StreamEnd) (back : List History) (report : Report)
       → EndsAfter c lines rest end back report → list_any passes (joined back) ≡ false
-  ends_quiet lines rest end back report (at_line line more text fits block one_block deleted fault bad told) =
+  ends_quiet lines rest end back report (at_bad_line line more text fits block one_block deleted fault bad told) =
       one_quiet block back one_block (bad_line (standing_of c lines) line block deleted fault bad)
-  ends_quiet lines rest end back report (at_text fault text no_block told) = no_quiet back no_block
+  ends_quiet lines rest end back report (at_bad_text fault text no_block told) = no_quiet back no_block
   ends_quiet lines rest end back report (at_memory lead ids more text fits block one_block earlier stops told) =
       one_quiet block back one_block (quiet_none passes block
       (identities_all c (IsQuiet passes) (standing_of c lines).gone [] earlier block Good (quiet_retires earlier) stops.before))

@@ -1,5 +1,5 @@
 -- Laws of groups of streams. Each is the contract of a function of laws.
-use Rattle.std.specs.Prelude.{◌≡◌, ◌++◌, ℕ, Bool, true, false, IsTrue, List, length, Some}
+use Rattle.std.specs.Prelude.{◌≡◌, ◌≢◌, ◌++◌, ℕ, Bool, true, false, IsTrue, List, length, Some, None}
 use Rattle.std.specs.List.{AllZip}
 use Rattle.lrup_model.specs.Formula.{Cnf}
 use Rattle.lrup_model.specs.Layout.{LayoutValue, Fits}
@@ -10,7 +10,9 @@ use Rattle.stream_check.specs.declared.report.Report.{Report}
 use Rattle.lrup_text.specs.declared.device.StreamEnd.{StreamEnd}
 use Rattle.lrup_text.specs.declared.device.StreamEnd.TheVariants as stream_ends
 use Rattle.stream_check.specs.Laws.{IsOfMemory, IsOfFailure}
-use Rattle.runs.specs.Streams.{Stream, Telling, TermsValue, IsTold, StandsOnStreams, IsOrdered}
+use Rattle.stream_check.specs.declared.report.Ending.TheVariants as endings
+use Rattle.stream_check.specs.Setting.{Setting}
+use Rattle.runs.specs.Streams.{Stream, Telling, TermsValue, IsTold, JudgesStream, StandsOnStreams, IsOrdered}
 use Rattle.runs.specs.Headline.{HaveOneHistory, AreJudgedIn}
 use Rattle.runs.specs.Closed.{IsOfStream, CiteWithin, IsClosed}
 use Rattle.run_laws.specs.Groups.{one, AreClosedReaders, NoneOutOfMemory, IsGroup, AreIsolated, empty_stream, empty_report, with_others, IsRun, IsReadingOf}
@@ -105,6 +107,12 @@ SerialRun = (f : Cnf) (terms : TermsValue) (told : List Telling) (reports : List
     → length told ≡ terms.layout.streams
     → StandsOnStreams told (λ streams. IsOrdered f terms (λ s. true) streams reports)
     → IsRun f terms told reports
+
+-- of a stream that was stopped early the report tells of a bad line, or that memory ran out: no other ending is right for both ends
+abbrev pub EarlyIsDecided : Type 0
+EarlyIsDecided = (c : Setting) (stream : Stream) (blocks : List History) (report : Report)
+    → stream.end ≡ None → JudgesStream c stream blocks report
+    → (report.ending ≢ endings.Ended) × ¬ IsOfFailure report
 
 -- a reader that hasn't failed told a reading of the bytes that it had left at first, which end
 abbrev pub ToldIsReading : Type 0

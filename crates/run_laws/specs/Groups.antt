@@ -32,7 +32,7 @@ AreClosedReaders p set told =
 abbrev pub IsReadingOf : List ℕ → StreamEnd → Stream → Type 0
 IsReadingOf whole end stream =
     MatchOption stream.end ((more : List ℕ) × (whole ≡ stream.bytes ++ more))
-    (λ its. (whole ≡ stream.bytes) × (its ≡ end))
+    (λ known. (whole ≡ stream.bytes) × (known ≡ end))
 
 -- Groups
 

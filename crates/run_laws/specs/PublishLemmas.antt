@@ -1,4 +1,4 @@
--- A test of the clauses that a history published, as one of its events.
+-- Tests of the clauses that a history published, as tests of its events.
 use Rattle.std.proofs.Common.{◌≡◌, ◌||◌, ℕ, Bool, false, List, [], ◌∷◌, length, refl, ap}
 use Rattle.std.specs.Prelude.{◌==◌}
 use Rattle.std.specs.List.{list_any}
@@ -10,22 +10,22 @@ use Rattle.lrup_model.specs.declared.clause_map.Published.TheVariants as publish
 use Rattle.stream_check.specs.Standing.{is_within}
 
 -- the event published a clause that passes
-abbrev pub publishes_some : (Clause → Bool) → Event → Bool
-publishes_some passes (events.fetch s id r) = false
-publishes_some passes (events.publish s id c publishing.Done) = passes c
-publishes_some passes (events.publish s id c publishing.Taken) = false
-publishes_some passes (events.retire s id r) = false
+abbrev pub publishes_passing : (Clause → Bool) → Event → Bool
+publishes_passing passes (events.fetch s id r) = false
+publishes_passing passes (events.publish s id c publishing.Done) = passes c
+publishes_passing passes (events.publish s id c publishing.Taken) = false
+publishes_passing passes (events.retire s id r) = false
 
--- the empty clause
+-- the event published the empty clause
 abbrev pub publishes_empty : Event → Bool
-publishes_empty = publishes_some (λ c. length c == 0)
+publishes_empty = publishes_passing (λ c. length c == 0)
 
--- a clause within the cube
+-- the event published a clause within the cube
 abbrev pub publishes_within : CubeValue → Event → Bool
-publishes_within cube = publishes_some (is_within cube)
+publishes_within cube = publishes_passing (is_within cube)
 
 pub published_some : (passes : Clause → Bool) (es : History)
-    → list_any (publishes_some passes) es ≡ list_any (λ p. passes p.1) (published es)
+    → list_any (publishes_passing passes) es ≡ list_any (λ entry. passes entry.1) (published es)
 published_some passes [] = refl
 published_some passes (events.fetch s id r ∷ es) = published_some passes es
 published_some passes (events.publish s id c publishing.Done ∷ es) =

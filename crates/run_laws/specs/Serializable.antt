@@ -15,9 +15,9 @@ use Rattle.run_laws.specs.Premises.{FoundStays}
 -- it, and a clause within the cube exactly if a report says that its stream added one.
 pub record ComeToVerdict (cube : CubeValue) (es : History) (reports : List Report) : Type 0 where
   pub empty : list_any (λ report. report.empty) reports
-      ≡ list_any (λ p. length p.1 == 0) (published es)
+      ≡ list_any (λ entry. length entry.1 == 0) (published es)
   pub within : list_any (λ report. report.within) reports
-      ≡ list_any (λ p. is_within cube p.1) (published es)
+      ≡ list_any (λ entry. is_within cube entry.1) (published es)
 
 -- The lines of a run, which has this one history, are serializable: for every list of streams that the readers told and by which
 -- the reports are judged, and for every closed set of these streams, of which none found an identity of another stream live that

@@ -17,8 +17,8 @@ abbrev pub seen_by : List View → History
 seen_by [] = []
 seen_by (v ∷ vs) = v.seen
 
--- The passes have this one history of the one-thread clause map: it is legal, and each stream's pass is at this formula and
--- layout, has seen the history, and its calls are the history's events of that stream, in order.
+-- The passes have this one history of the one-thread clause map: it is legal; each stream's pass is at this formula and layout and
+-- has seen this history, and the calls made through it are the history's events of that stream, in order.
 pub record HaveOneHistory (f : Cnf) (p : LayoutValue) (h : History)
     (passes : List View) : Type 0 where
   pub legal : IsLegal f p h

@@ -13,8 +13,8 @@ use Rattle.stream_check.specs.declared.report.Report.{Report}
 use Rattle.stream_check.specs.Setting.{Setting}
 use Rattle.stream_check.specs.Judging.{JudgesBlocks}
 
--- The bytes of a stream that were needed; those that were read after them, where no more was needed; and how the stream ended, if
--- it was read to its end or to the read that failed.
+-- The bytes of a stream that were needed; those that were read after them, where no more was needed; and how the stream ended: at
+-- its end or at the read that failed, or nothing where it was stopped early.
 pub record Stream : Type 0 where
   pub bytes : List ℕ
   pub unneeded : List ℕ
@@ -42,8 +42,9 @@ tellings view (first ∷ firsts) [] = []
 tellings view (first ∷ firsts) (last ∷ lasts) =
     telling_of view first last ∷ tellings view firsts lasts
 
--- The stream is what a reader told: the bytes read are a beginning of those left at first, and all were needed where the stream was
--- read to its end. Where the reader doesn't tell what it has left, any bytes will do.
+-- The stream is what a reader told: the bytes read are a beginning of those left at first. Where the stream has an end, the reader is
+-- left so, and every byte was needed; where it was stopped early, the reader hasn't failed. Where the reader doesn't tell what it has
+-- left, any bytes will do.
 pub record IsTold (telling : Telling) (stream : Stream) : Type 0 where
   pub consumes : Consumes telling.entry telling.left (stream.bytes ++ stream.unneeded)
   pub ends : MatchOption stream.end (telling.has_failed ≡ false)
@@ -53,7 +54,7 @@ pub record IsTold (telling : Telling) (stream : Stream) : Type 0 where
 -- The stream is judged by these blocks of events; one that was stopped early is judged so whatever its end would have been.
 abbrev pub JudgesStream : Setting → Stream → List History → Report → Type 0
 JudgesStream c stream blocks report =
-    (end : StreamEnd) → IfSome stream.end (λ its. its ≡ end)
+    (end : StreamEnd) → IfSome stream.end (λ known. known ≡ end)
     → JudgesBlocks c stream.bytes end blocks report
 
 -- What the reports of a run stand on: streams, each of which is what its reader told, and of which the judgement holds.
@@ -113,4 +114,5 @@ pub record IsOrdered (f : Cnf) (terms : TermsValue) (set : ℕ → Bool) (stream
   pub blocks : List Block
   pub within : AllByRecursion (IsBlockWithin terms.layout set) blocks
   pub legal : IsLegal f terms.layout (events_in blocks)
-  pub judged : AreJudged terms set (λ s events. events ≡ blocks_of s blocks) 1 streams reports
+  pub judged : AreJudged terms set (λ t own_blocks. own_blocks ≡ blocks_of t blocks) 1
+      streams reports

@@ -9,7 +9,7 @@ use Rattle.stream_check.specs.declared.report.Report.{Report}
 use Rattle.stream_check.specs.Setting.{Setting}
 use Rattle.stream_check.specs.Standing.{standing_of}
 use Rattle.stream_check.specs.Verdicts.{Good, Bad}
-use Rattle.stream_check.specs.Judging.{AreGood, joined, EndsAfter, at_line, at_text, at_memory, at_end}
+use Rattle.stream_check.specs.Judging.{AreGood, joined, EndsAfter, at_bad_line, at_bad_text, at_memory, at_end}
 use Rattle.stream_check.specs.Laws.{cited_by, FetchesOnly, JudgedLinesCut, CitedFetched}
 use Rattle.stream_check.specs.ReportLemmas.{split_first, joined-append}
 use Rattle.stream_check.proofs.EventLemmas.{line_fetches}
@@ -67,10 +67,10 @@ ends_fetch : TextLaws → (c : Setting) (p : ℕ → Bool) (lines more : List St
     → left ≡ flat_map line_text more ++ rest → AllByRecursion IsWithinLimits more → HasNoLine rest → AllByRecursion (CitedPass p) more
     → EndsAfter c lines left end back report → AllByRecursion (FetchesOnly p) (joined back)
 unfolding CitedPass
-ends_fetch laws c p lines more left rest end back report is fits none all (at_line line after text fit block one_block deleted fault bad says) =
+ends_fetch laws c p lines more left rest end back report is fits none all (at_bad_line line after text fit block one_block deleted fault bad says) =
     let first = line_begins laws line more after left rest fit fits none text is in
     one_fetches p block back one_block (line_fetches c p (standing_of c lines) line block (Bad deleted fault) (first_passes p line more first.0 first.1 all) bad)
-ends_fetch laws c p lines more left rest end back report is fits none all (at_text fault text no_block says) = none_fetch p back no_block
+ends_fetch laws c p lines more left rest end back report is fits none all (at_bad_text fault text no_block says) = none_fetch p back no_block
 ends_fetch laws c p lines more left rest end back report is fits none all (at_memory lead ids after text fit block one_block earlier stops says) =
     one_fetches p block back one_block (line_fetches c p (standing_of c lines) (Deletion lead earlier) block Good tt stops.before)
 ends_fetch laws c p lines more left rest end back report is fits none all (at_end pending no_block says) = none_fetch p back no_block

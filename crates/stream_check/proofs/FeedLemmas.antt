@@ -28,7 +28,7 @@ use Rattle.stream_check.specs.Setting.{Setting, side_of, is_shared}
 use Rattle.stream_check.specs.Standing.{is_among}
 use Rattle.stream_check.specs.Judging.{ending_at, JudgesBlocks}
 use Rattle.stream_check.specs.Leaving.{Going, Over, Leaves, IsFresh}
-use Rattle.stream_check.specs.CheckerValue.{Tally, report_at, CheckerValue}
+use Rattle.stream_check.specs.CheckerValue.{Tally, report_of_tally, CheckerValue}
 use Rattle.stream_check.specs.Checker.{read_of, value_of, checker_state, state_by, holding_of, tally_at, IsReadyAt, IsSound, LeavesOn, IsNew, EndsBy, Ends, ReportsEnd}
 use Rattle.stream_check.specs.Taking.{IsReady, hold}
 use Rattle.stream_check.proofs.LeavingLemmas.{end_judged, line_grows, all_snoc}
@@ -123,7 +123,7 @@ ends_over end v ending over = subst (λ (o : Option Ending). EndsBy o end v v) (
 
 pub reports_over : (end : StreamEnd) (v : CheckerValue) (ending : Ending) → v.ending ≡ Some ending → ReportsEnd end v v
 reports_over end v ending over bytes blocks free leaves =
-    (ending, over, either_report v.setting bytes blocks end (report_at v.tally ending) (subst (λ (o : Option Ending). Leaves v.setting bytes blocks (state_by v free o)) over leaves))
+    (ending, over, either_report v.setting bytes blocks end (report_of_tally v.tally ending) (subst (λ (o : Option Ending). Leaves v.setting bytes blocks (state_by v free o)) over leaves))
 
 -- one that isn't over has this ending then
 pub ends_now : (end : StreamEnd) (old new : CheckerValue) → old.ending ≡ None → new.setting ≡ old.setting → new.tally ≡ old.tally → new.ending ≡ Some (ending_at end old.pending old.line) → new.last ≡ old.last → Ends end old new
@@ -135,7 +135,7 @@ reports_now end old new none tally ending bytes blocks free leaves =
     let going : Leaves old.setting bytes blocks (Going (holding_of old free)) = subst (λ (o : Option Ending). Leaves old.setting bytes blocks (state_by old free o)) none leaves in (
       said,
       ending,
-      subst (JudgesBlocks old.setting bytes end blocks) (ap (λ (t : Tally). report_at t said) (sym tally)) (end_judged old.setting bytes blocks (holding_of old free) end going),
+      subst (JudgesBlocks old.setting bytes end blocks) (ap (λ (t : Tally). report_of_tally t said) (sym tally)) (end_judged old.setting bytes blocks (holding_of old free) end going),
     )
 
 -- the end of the lines, where a line is open and where none is

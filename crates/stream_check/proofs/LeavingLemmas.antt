@@ -17,8 +17,8 @@ use Rattle.stream_check.specs.Setting.{Setting}
 use Rattle.stream_check.specs.Standing.{Standing, standing_of, capped}
 use Rattle.stream_check.specs.Verdicts.{Good, Bad}
 use Rattle.stream_check.specs.Deletions.{StopsDeletion}
-use Rattle.stream_check.specs.Judging.{JudgesLine, AreGood, report_of, EndsAfter, at_line, at_text, at_memory, at_end, ending_at, JudgesBlocks}
-use Rattle.stream_check.specs.CheckerValue.{Tally, report_at}
+use Rattle.stream_check.specs.Judging.{JudgesLine, AreGood, report_of, EndsAfter, at_bad_line, at_bad_text, at_memory, at_end, ending_at, JudgesBlocks}
+use Rattle.stream_check.specs.CheckerValue.{Tally, report_of_tally}
 use Rattle.stream_check.specs.Leaving.{Holding, SameStanding, LeavesGoing, standing_after, tally_after}
 use Rattle.stream_check.specs.Laws.{FreshLeft, PendingGrows, GoodLineTaken, BadLineTaken, BadTextRead, MemoryWanted, EndJudged, OverStays, IsDecided, EitherEnd, DecidedBeforeFailure}
 use Rattle.stream_check.proofs.StandingLemmas.{standing_of-snoc, counts_of, tally_is, tally_says, counts_of-snoc, same_standing}
@@ -140,7 +140,7 @@ ends_behind c bytes piece blocks back old end report before ends = record {
 
 -- the same report by what the checker holds and by the lines
 held_report : (c : Setting) (bytes : List ℕ) (blocks : List History) (old : Holding) (ending : ℕ → Ending) → (before : LeavesGoing c bytes blocks old)
-    → report_at old.tally (ending old.line) ≡ report_of c before.lines 0 (ending (capped (length before.lines + 1)))
+    → report_of_tally old.tally (ending old.line) ≡ report_of c before.lines 0 (ending (capped (length before.lines + 1)))
 held_report c bytes blocks old ending before =
     before.tally (ending old.line) ∙ ap (λ n. report_of c before.lines 0 (ending n)) before.line
 
@@ -150,11 +150,11 @@ with_deleted t deleted = record t { deleted = capped (t.deleted + deleted) }
 
 -- and where so many identities more were deleted
 held_more : (c : Setting) (bytes : List ℕ) (blocks : List History) (old : Holding) (deleted : ℕ) (ending : ℕ → Ending) → (before : LeavesGoing c bytes blocks old)
-    → report_at (with_deleted old.tally deleted) (ending old.line) ≡ report_of c before.lines deleted (ending (capped (length before.lines + 1)))
+    → report_of_tally (with_deleted old.tally deleted) (ending old.line) ≡ report_of c before.lines deleted (ending (capped (length before.lines + 1)))
 held_more c bytes blocks old deleted ending before =
     let r : Report = report_of c before.lines deleted (ending old.line) in
     let count : (with_deleted (counts_of c before.lines) deleted).deleted ≡ r.deleted = omega arith in
-    ap (λ (t : Tally). report_at (with_deleted t deleted) (ending old.line)) (tally_is c before.lines old.tally before.tally)
+    ap (λ (t : Tally). report_of_tally (with_deleted t deleted) (ending old.line)) (tally_is c before.lines old.tally before.tally)
     ∙ ap (λ (n : ℕ). record r { deleted = n }) count
     ∙ ap (λ n. report_of c before.lines deleted (ending n)) before.line
 
@@ -163,17 +163,17 @@ whole_text line bytes text = text.1 ∙ sym (append-nil (line_text line))
 
 pub bad_line_taken : BadLineTaken
 bad_line_taken c bytes piece blocks block old line deleted fault before text judged =
-    let report = report_at (with_deleted old.tally deleted) (endings.Bad old.line fault) in
+    let report = report_of_tally (with_deleted old.tally deleted) (endings.Bad old.line fault) in
     let judges : (end : StreamEnd) → JudgesBlocks c (bytes ++ piece) end (blocks ++ block ∷ []) report =
     λ end. ends_behind c bytes piece blocks (block ∷ []) old end report before
-    (at_line line [] (whole_text line (old.pending ++ piece) text) text.0 block refl deleted fault
+    (at_bad_line line [] (whole_text line (old.pending ++ piece) text) text.0 block refl deleted fault
     (by_lines c old before.lines (λ st. JudgesLine c st line block (Bad deleted fault)) before.standing judged)
     (held_more c bytes blocks old deleted (λ n. endings.Bad n fault) before)) in
     (judges stream_ends.Ended, judges stream_ends.Failed)
 
 pub memory_wanted : MemoryWanted
 memory_wanted c bytes piece blocks block old lead ids earlier before text stops =
-    let report = report_at (with_deleted old.tally (length earlier)) (endings.Memory old.line) in
+    let report = report_of_tally (with_deleted old.tally (length earlier)) (endings.Memory old.line) in
     let judges : (end : StreamEnd) → JudgesBlocks c (bytes ++ piece) end (blocks ++ block ∷ []) report =
     λ end. ends_behind c bytes piece blocks (block ∷ []) old end report before
     (at_memory lead ids [] (whole_text (Deletion lead ids) (old.pending ++ piece) text) text.0 block refl earlier
@@ -186,18 +186,18 @@ refused_alone bytes fault refused = (bytes, [], sym (append-nil bytes), refused)
 
 pub bad_text_read : BadTextRead
 bad_text_read c bytes piece blocks old fault before refused =
-    let report = report_at old.tally (endings.Bad old.line (faults.Text fault)) in
+    let report = report_of_tally old.tally (endings.Bad old.line (faults.Text fault)) in
     let judges : (end : StreamEnd) → JudgesBlocks c (bytes ++ piece) end blocks report =
     λ end. subst (λ b. JudgesBlocks c (bytes ++ piece) end b report) (append-nil blocks)
     (ends_behind c bytes piece blocks [] old end report before
-    (at_text fault (refused_alone (old.pending ++ piece) fault refused) refl
+    (at_bad_text fault (refused_alone (old.pending ++ piece) fault refused) refl
     (held_report c bytes blocks old (λ n. endings.Bad n (faults.Text fault)) before))) in
     (judges stream_ends.Ended, judges stream_ends.Failed)
 
 pub end_judged : EndJudged
 end_judged c bytes blocks old end before =
     let lines = before.lines in
-    let report = report_at old.tally (ending_at end old.pending old.line) in
+    let report = report_of_tally old.tally (ending_at end old.pending old.line) in
     subst (λ b. JudgesBlocks c b end blocks report) (append-nil bytes)
     (subst (λ b. JudgesBlocks c (bytes ++ []) end b report) (append-nil blocks)
     (ends_behind c bytes [] blocks [] old end report before
@@ -230,9 +230,9 @@ before_end : (c : Setting) (bytes more : List ℕ) (end other : StreamEnd) (bloc
     → JudgesBlocks c (bytes ++ more) other blocks report
 before_end c bytes more end other blocks report j last =
     elim j.ends [
-      | at_line line after text fits block one_block deleted fault bad says ↦ judges_longer c bytes more end other blocks report j
-          (at_line line (after ++ more) (ap (λ r. r ++ more) text ∙ append_assoc (line_text line) after more) fits block one_block deleted fault bad says)
-      | at_text fault text no_block says ↦ judges_longer c bytes more end other blocks report j (at_text fault (fault_stays j.rest more fault text) no_block says)
+      | at_bad_line line after text fits block one_block deleted fault bad says ↦ judges_longer c bytes more end other blocks report j
+          (at_bad_line line (after ++ more) (ap (λ r. r ++ more) text ∙ append_assoc (line_text line) after more) fits block one_block deleted fault bad says)
+      | at_bad_text fault text no_block says ↦ judges_longer c bytes more end other blocks report j (at_bad_text fault (fault_stays j.rest more fault text) no_block says)
       | at_memory lead ids after text fits block one_block earlier stops says ↦ judges_longer c bytes more end other blocks report j
           (at_memory lead ids (after ++ more) (ap (λ r. r ++ more) text ∙ append_assoc (line_text (Deletion lead ids)) after more) fits block one_block earlier stops says)
       | at_end pending no_block says ↦ last says

@@ -21,7 +21,7 @@ use Rattle.stream_check.specs.Asking.{AsksAt, Asks, AsksThen}
 use Rattle.stream_check.specs.Additions.{AtConflict, AtReply, JudgesHints, published_by, JudgesAddition}
 use Rattle.stream_check.specs.Deletions.{RetiresThen, DropsThen, DeletesAt, JudgesDeletion}
 use Rattle.stream_check.specs.Imports.{AtImported, JudgesImport}
-use Rattle.stream_check.specs.Judging.{AreGood, EndsAfter, at_line, at_text, at_memory, at_end}
+use Rattle.stream_check.specs.Judging.{AreGood, EndsAfter, at_bad_line, at_bad_text, at_memory, at_end}
 use Rattle.stream_check.specs.Reducing.{is_vacant, reduced}
 use Rattle.stream_check.specs.Laws.{ReducedLine, ReducedStream}
 use Rattle.stream_check.specs.ReducingLemmas.{reduced_kept, reduced_left_out, all_vacant_stay}
@@ -206,9 +206,9 @@ good_reduced c before (line ∷ lines) (block ∷ blocks) good =
     (reduced_line c (standing_of c before) line block Good good.0, good_reduced c (before ++ line ∷ []) lines blocks good.1)
 
 ends_reduced : (c : Setting) (lines : List StreamLine) (rest : List ℕ) (end : StreamEnd) (back : List History) (report : Report) → EndsAfter c lines rest end back report → EndsAfter c lines rest end (map reduced back) report
-ends_reduced c lines rest end back report (at_line line more text fits block one_block deleted fault bad says) =
-    at_line line more text fits (reduced block) (ap (map reduced) one_block) deleted fault (reduced_line c (standing_of c lines) line block (Bad deleted fault) bad) says
-ends_reduced c lines rest end back report (at_text fault text no_block says) = at_text fault text (ap (map reduced) no_block) says
+ends_reduced c lines rest end back report (at_bad_line line more text fits block one_block deleted fault bad says) =
+    at_bad_line line more text fits (reduced block) (ap (map reduced) one_block) deleted fault (reduced_line c (standing_of c lines) line block (Bad deleted fault) bad) says
+ends_reduced c lines rest end back report (at_bad_text fault text no_block says) = at_bad_text fault text (ap (map reduced) no_block) says
 ends_reduced c lines rest end back report (at_memory lead ids more text fits block one_block earlier stops says) =
     at_memory lead ids more text fits (reduced block) (ap (map reduced) one_block) earlier
     (record {

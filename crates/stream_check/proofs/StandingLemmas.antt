@@ -15,7 +15,7 @@ use Rattle.stream_check.specs.Verdicts.{Good, Bad}
 use Rattle.stream_check.specs.declared.report.Ending.{Ending}
 use Rattle.stream_check.specs.declared.report.Ending.TheVariants as endings
 use Rattle.stream_check.specs.declared.report.Report.{Report}
-use Rattle.stream_check.specs.CheckerValue.{Tally, report_at}
+use Rattle.stream_check.specs.CheckerValue.{Tally, report_of_tally}
 use Rattle.stream_check.specs.Judging.{JudgesLine, report_of}
 use Rattle.stream_check.specs.ReportLemmas.{additions-append}
 use Rattle.stream_check.specs.Leaving.{SameStanding, standing_after, tally_after, last_after}
@@ -80,13 +80,13 @@ counts_of c lines =
     record { added = r.added; deleted = r.deleted; empty = r.empty; within = r.within }
 
 -- a checker has them exactly if its reports are those of the lines
-pub tally_is : (c : Setting) (lines : List StreamLine) (t : Tally) → ((ending : Ending) → report_at t ending ≡ report_of c lines 0 ending) → t ≡ counts_of c lines
+pub tally_is : (c : Setting) (lines : List StreamLine) (t : Tally) → ((ending : Ending) → report_of_tally t ending ≡ report_of c lines 0 ending) → t ≡ counts_of c lines
 tally_is c lines t reports =
-    let same : report_at t endings.Ended ≡ report_of c lines 0 endings.Ended = reports endings.Ended in
+    let same : report_of_tally t endings.Ended ≡ report_of c lines 0 endings.Ended = reports endings.Ended in
     same_tally t (counts_of c lines) (ap (λ (r : Report). r.added) same) (ap (λ (r : Report). r.deleted) same) (ap (λ (r : Report). r.empty) same) (ap (λ (r : Report). r.within) same)
 
-pub tally_says : (c : Setting) (lines : List StreamLine) (t : Tally) → t ≡ counts_of c lines → (ending : Ending) → report_at t ending ≡ report_of c lines 0 ending
-tally_says c lines t same ending = ap (λ (s : Tally). report_at s ending) same
+pub tally_says : (c : Setting) (lines : List StreamLine) (t : Tally) → t ≡ counts_of c lines → (ending : Ending) → report_of_tally t ending ≡ report_of c lines 0 ending
+tally_says c lines t same ending = ap (λ (s : Tally). report_of_tally s ending) same
 
 -- the counts after one good line more
 pub counts_of-snoc : (c : Setting) (lines : List StreamLine) (line : StreamLine) → tally_after c (counts_of c lines) line ≡ counts_of c (lines ++ line ∷ [])

@@ -15,7 +15,7 @@ use Rattle.stream_check.specs.declared.report.Report.{Report}
 use Rattle.stream_check.specs.Setting.{Setting}
 use Rattle.stream_check.specs.Standing.{standing_of, capped}
 use Rattle.stream_check.specs.Verdicts.{Good, Bad}
-use Rattle.stream_check.specs.Judging.{JudgesLine, AreGood, joined, report_of, EndsAfter, at_line, at_text, at_memory, at_end}
+use Rattle.stream_check.specs.Judging.{JudgesLine, AreGood, joined, report_of, EndsAfter, at_bad_line, at_bad_text, at_memory, at_end}
 use Rattle.stream_check.specs.Forks.{NeverFork}
 use Rattle.stream_check.specs.Laws.{IsOfMemory, RepliesDecide, OneReport}
 use Rattle.stream_check.specs.ReportLemmas.{split_first, joined-append}
@@ -93,7 +93,7 @@ ends_agree : TextLaws → (c : Setting) (lines : List StreamLine) (rest : List �
     → EndsWithout c lines rest end back report → EndsWithout c lines rest end aft other → NeverFork (joined back) (joined aft) → (back ≡ aft) × (report ≡ other)
 ends_agree laws c lines rest end back aft report other (at_memory _ _ _ _ _ _ _ earlier _ says, no_memory) b never = absurd (no_memory (out_of_memory c lines (length earlier) report says))
 ends_agree laws c lines rest end back aft report other a (at_memory _ _ _ _ _ _ _ earlier _ says, none) never = absurd (none (out_of_memory c lines (length earlier) other says))
-ends_agree laws c lines rest end back aft report other (at_line line more text fits block one_block deleted fault bad says, no_memory) (at_line like much words fit events all_one gone wrong fails told, none) never =
+ends_agree laws c lines rest end back aft report other (at_bad_line line more text fits block one_block deleted fault bad says, no_memory) (at_bad_line like much words fit events all_one gone wrong fails told, none) never =
     let same = same_first laws line like more much fits fit (sym text ∙ words) in
     let here = subst (λ x. NeverFork (joined x) (events ++ [])) one_block (subst (λ x. NeverFork (joined back) (joined x)) all_one never) in
     let judged = subst (λ l. JudgesLine c (standing_of c lines) l block (Bad deleted fault)) same.0 bad in
@@ -105,20 +105,20 @@ ends_agree laws c lines rest end back aft report other (at_line line more text f
       says ∙ ap (λ d. report_of c lines d (endings.Bad (capped (length lines + 1)) fault)) same_deleted
           ∙ ap (λ f. report_of c lines gone (endings.Bad (capped (length lines + 1)) f)) same_fault ∙ sym told,
     )
-ends_agree laws c lines rest end back aft report other (at_line line more text fits block one_block deleted fault bad says, no_memory) (at_text wrong words no_block told, none) never =
+ends_agree laws c lines rest end back aft report other (at_bad_line line more text fits block one_block deleted fault bad says, no_memory) (at_bad_text wrong words no_block told, none) never =
     absurd (faulty_has_no_line laws rest wrong words line more fits text)
-ends_agree laws c lines rest end back aft report other (at_line line more text fits block one_block deleted fault bad says, no_memory) (at_end pending no_block told, none) never =
+ends_agree laws c lines rest end back aft report other (at_bad_line line more text fits block one_block deleted fault bad says, no_memory) (at_end pending no_block told, none) never =
     absurd (pending.whole line more fits text)
-ends_agree laws c lines rest end back aft report other (at_text fault text no_block says, no_memory) (at_line like much words fit events all_one gone wrong fails told, none) never =
+ends_agree laws c lines rest end back aft report other (at_bad_text fault text no_block says, no_memory) (at_bad_line like much words fit events all_one gone wrong fails told, none) never =
     absurd (faulty_has_no_line laws rest fault text like much fit words)
-ends_agree laws c lines rest end back aft report other (at_end pending no_block says, no_memory) (at_line like much words fit events all_one gone wrong fails told, none) never =
+ends_agree laws c lines rest end back aft report other (at_end pending no_block says, no_memory) (at_bad_line like much words fit events all_one gone wrong fails told, none) never =
     absurd (pending.whole like much fit words)
-ends_agree laws c lines rest end back aft report other (at_text fault text no_block says, no_memory) (at_text wrong words no_more told, none) never = (
+ends_agree laws c lines rest end back aft report other (at_bad_text fault text no_block says, no_memory) (at_bad_text wrong words no_more told, none) never = (
   no_block ∙ sym no_more,
   says ∙ ap (λ f. report_of c lines 0 (endings.Bad (capped (length lines + 1)) (faults.Text f))) ((laws.fault rest fault wrong text).0 words) ∙ sym told,
 )
-ends_agree laws c lines rest end back aft report other (at_text fault text no_block says, no_memory) (at_end pending no_more told, none) never = absurd ((laws.fault rest fault fault text).1 pending.begins)
-ends_agree laws c lines rest end back aft report other (at_end pending no_block says, no_memory) (at_text wrong words no_more told, none) never = absurd ((laws.fault rest wrong wrong words).1 pending.begins)
+ends_agree laws c lines rest end back aft report other (at_bad_text fault text no_block says, no_memory) (at_end pending no_more told, none) never = absurd ((laws.fault rest fault fault text).1 pending.begins)
+ends_agree laws c lines rest end back aft report other (at_end pending no_block says, no_memory) (at_bad_text wrong words no_more told, none) never = absurd ((laws.fault rest wrong wrong words).1 pending.begins)
 ends_agree laws c lines rest end back aft report other (at_end pending no_block says, no_memory) (at_end waiting no_more told, none) never = (no_block ∙ sym no_more, says ∙ sym told)
 
 -- a stream doesn't end at a line that is good
@@ -126,9 +126,9 @@ ends_not_good : TextLaws → (c : Setting) (lines : List StreamLine) (rest more 
     → EndsWithout c lines rest end back report → IsWithinLimits line → rest ≡ line_text line ++ more → JudgesLine c (standing_of c lines) line block Good
     → NeverFork (joined back) (block ++ r) → ⊥
 ends_not_good laws c lines rest more end back report line block r (at_memory _ _ _ _ _ _ _ earlier _ says, no_memory) fits text good never = no_memory (out_of_memory c lines (length earlier) report says)
-ends_not_good laws c lines rest more end back report line block r (at_text fault words no_block says, no_memory) fits text good never = faulty_has_no_line laws rest fault words line more fits text
+ends_not_good laws c lines rest more end back report line block r (at_bad_text fault words no_block says, no_memory) fits text good never = faulty_has_no_line laws rest fault words line more fits text
 ends_not_good laws c lines rest more end back report line block r (at_end pending no_block says, no_memory) fits text good never = pending.whole line more fits text
-ends_not_good laws c lines rest more end back report line block r (at_line like much words fit events one_block deleted fault bad says, no_memory) fits text good never =
+ends_not_good laws c lines rest more end back report line block r (at_bad_line like much words fit events one_block deleted fault bad says, no_memory) fits text good never =
     let same = same_first laws like line much more fit fits (sym words ∙ text) in
     let judged = subst (λ l. JudgesLine c (standing_of c lines) l events (Bad deleted fault)) same.0 bad in
     let here = subst (λ x. NeverFork (joined x) (block ++ r)) one_block never in

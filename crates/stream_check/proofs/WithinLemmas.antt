@@ -21,7 +21,7 @@ use Rattle.stream_check.specs.Verdicts.{LineVerdict, Good, Bad, Fails, Test}
 use Rattle.stream_check.specs.Additions.{AtConflict, AtReply, JudgesHints, published_by, JudgesAddition}
 use Rattle.stream_check.specs.Asking.{AsksThen}
 use Rattle.stream_check.specs.Imports.{AtImported, JudgesImport}
-use Rattle.stream_check.specs.Judging.{JudgesLine, AreGood, joined, EndsAfter, at_line, at_text, at_memory, at_end}
+use Rattle.stream_check.specs.Judging.{JudgesLine, AreGood, joined, EndsAfter, at_bad_line, at_bad_text, at_memory, at_end}
 use Rattle.stream_check.specs.Laws.{CountsWithin}
 use Rattle.stream_check.specs.ReportLemmas.{joined-append}
 use Rattle.stream_check.proofs.StandingLemmas.{last_below, same_last, added-snoc}
@@ -138,11 +138,11 @@ line_deletes c n before (Deletion lead ids) many deleted fault es rest judged an
 ends_delete : (c : Setting) (n : State) (lines : List StreamLine) (rest : List ℕ) (end : StreamEnd) (back : List History) (report : Report)
     → OwnRun n (joined back) → AreTaken c n (standing_of c lines).gone [] (sum_by (λ l. length (deleted_by l)) lines) → EndsAfter c lines rest end back report
     → report.deleted ≤ last_identity c.layout
-ends_delete c n lines rest end back report answers are (at_line line more text fits block one_block deleted fault bad says) =
+ends_delete c n lines rest end back report answers are (at_bad_line line more text fits block one_block deleted fault bad says) =
     let here = subst (λ b. OwnRun n (joined b)) one_block answers in
     let few = line_deletes c n lines line (sum_by (λ l. length (deleted_by l)) lines) deleted fault block [] bad here are in
     subst (λ (r : Report). r.deleted ≤ last_identity c.layout) (sym says) (omega (arith, few))
-ends_delete c n lines rest end back report answers are (at_text fault text no_block says) =
+ends_delete c n lines rest end back report answers are (at_bad_text fault text no_block says) =
     let few = taken_within c n (standing_of c lines).gone [] (sum_by (λ l. length (deleted_by l)) lines) are in
     subst (λ (r : Report). r.deleted ≤ last_identity c.layout) (sym says) (omega (arith, few))
 ends_delete c n lines rest end back report answers are (at_memory lead ids more text fits block one_block earlier stops says) =
@@ -199,8 +199,8 @@ lines_added c before (line ∷ lines) (block ∷ blocks) good are =
     (lines_added c (before ++ line ∷ []) lines blocks good.1 (one_added c before line block good.0 are))
 
 added_is : (c : Setting) (lines : List StreamLine) (rest : List ℕ) (end : StreamEnd) (back : List History) (report : Report) → EndsAfter c lines rest end back report → report.added ≡ length (additions_of lines)
-added_is c lines rest end back report (at_line _ _ _ _ _ _ _ _ _ says) = ap (λ (r : Report). r.added) says
-added_is c lines rest end back report (at_text _ _ _ says) = ap (λ (r : Report). r.added) says
+added_is c lines rest end back report (at_bad_line _ _ _ _ _ _ _ _ _ says) = ap (λ (r : Report). r.added) says
+added_is c lines rest end back report (at_bad_text _ _ _ says) = ap (λ (r : Report). r.added) says
 added_is c lines rest end back report (at_memory _ _ _ _ _ _ _ _ _ says) = ap (λ (r : Report). r.added) says
 added_is c lines rest end back report (at_end _ _ says) = ap (λ (r : Report). r.added) says
 

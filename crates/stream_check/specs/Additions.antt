@@ -19,7 +19,8 @@ abbrev pub AtConflict : List ℕ → Event → History → LineVerdict → Type 
 AtConflict [] published es v = (es ≡ published ∷ []) × (v ≡ Good)
 AtConflict (h ∷ hints) published es v = Fails 0 (faults.Excess h) es v
 
--- what the last reply to a hint does; a clause is a conflict, or one more false literal for the hints that are left, or neither
+-- what the last reply to a hint does: its clause is a conflict, or is unit and gives the hints that are left one more false literal,
+-- or is neither
 abbrev pub AtReply : Reply → List ℤ → ℕ → List ℕ → Event → History → LineVerdict → (List ℤ → Type 0)
     → Type 0
 AtReply events.vacant n h hints published es v Next = Fails 0 (faults.Missing h) es v

@@ -26,7 +26,7 @@ use Rattle.stream_check.specs.Additions.{JudgesHints, JudgesAddition, published_
 use Rattle.stream_check.specs.Judging.{ending_at, JudgesBlocks}
 use Rattle.stream_check.specs.Leaving.{Holding, CheckerState, Going, Over, Leaves}
 use Rattle.stream_check.specs.Checking.{IsPlaceOf}
-use Rattle.stream_check.specs.CheckerValue.{Tally, report_at, CheckerValue}
+use Rattle.stream_check.specs.CheckerValue.{Tally, report_of_tally, CheckerValue}
 
 -- what the good lines so far leave, where so much room is left
 abbrev pub standing_at : Held → ℕ → Standing
@@ -103,7 +103,7 @@ holding_of v free = record {
 
 abbrev pub state_by : CheckerValue → ℕ → Option Ending → CheckerState
 state_by v free None = Going (holding_of v free)
-state_by v free (Some ending) = Over (report_at v.tally ending)
+state_by v free (Some ending) = Over (report_of_tally v.tally ending)
 
 -- what the checker is left as, where so much room is left
 abbrev pub checker_state : CheckerValue → ℕ → CheckerState
@@ -175,7 +175,7 @@ ReportsEnd end old new =
     (bytes : List ℕ) (blocks : List History) (free : ℕ)
     → Leaves old.setting bytes blocks (checker_state old free)
     → (ending : Ending) × (new.ending ≡ Some ending)
-    × JudgesBlocks old.setting bytes end blocks (report_at new.tally ending)
+    × JudgesBlocks old.setting bytes end blocks (report_of_tally new.tally ending)
 
 -- a checker that isn't over reads on, and its parts are for one setting
 pub record IsSound (c : Setting) (vars : ℕ) (reader : ReaderState)

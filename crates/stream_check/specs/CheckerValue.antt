@@ -4,7 +4,7 @@ use Rattle.stream_check.specs.declared.report.Ending.{Ending}
 use Rattle.stream_check.specs.Setting.{Setting}
 use Rattle.stream_check.specs.declared.report.Report.{Report}
 
--- the good additions, the good deleted identities, whether an addition has the empty clause, and whether one's clause is within the cube
+-- how many additions and deleted identities were good, whether an added clause is empty, and whether one is within the cube
 pub record Tally : Type 0 where
   pub added : ℕ
   pub deleted : ℕ
@@ -12,8 +12,8 @@ pub record Tally : Type 0 where
   pub within : Bool
 
 -- the report of these counts, with this ending
-abbrev pub report_at : Tally → Ending → Report
-report_at t ending =
+abbrev pub report_of_tally : Tally → Ending → Report
+report_of_tally t ending =
     record {
       added = t.added;
       deleted = t.deleted;

@@ -35,7 +35,8 @@ DeletesAt sides.Foreign c gone earlier id es v Next = DropsThen gone earlier id 
 DeletesAt sides.Outside c gone earlier id es v Next =
     Fails (length earlier) (faults.NotLive id) es v
 
--- a deletion's events and its verdict, where these identities were dropped before, and these of the line were taken earlier
+-- the events and the verdict of the identities of a deletion that are left, where `gone` were dropped by the lines before, and
+-- `earlier` were taken before them in this line
 abbrev pub JudgesDeletion : Setting → (ℕ → Bool) → List ℕ → List ℕ → History → LineVerdict → Type 0
 JudgesDeletion c gone earlier [] es v = (es ≡ []) × (v ≡ Good)
 JudgesDeletion c gone earlier (id ∷ ids) es v =

@@ -10,7 +10,8 @@ use Rattle.stream_check.specs.Standing.{Standing}
 use Rattle.stream_check.specs.Verdicts.{LineVerdict, Good, Fails, Test}
 use Rattle.stream_check.specs.Asking.{AsksThen}
 
--- what the last reply does: a clause is to have the same literals, however often and in whatever order, and there are no more events
+-- what the last reply does: a clause must have the import's literals, in whatever order and however often each is written; then the
+-- line is good, with no more events
 abbrev pub AtImported : Reply → ℕ → List ℤ → History → LineVerdict → Type 0
 AtImported events.vacant id lits es v = Fails 0 (faults.Missing id) es v
 AtImported (events.live d) id lits es v =

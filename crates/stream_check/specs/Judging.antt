@@ -45,8 +45,8 @@ report_of c lines deleted ending =
     record {
       added = length (additions_of lines);
       deleted = capped (sum_by (λ line. length (deleted_by line)) lines + deleted);
-      empty = list_any (λ a. length a.1 == 0) (additions_of lines);
-      within = list_any (λ a. is_within c.cube a.1) (additions_of lines);
+      empty = list_any (λ addition. length addition.1 == 0) (additions_of lines);
+      within = list_any (λ addition. is_within c.cube addition.1) (additions_of lines);
       ending = ending;
     }
 
@@ -56,12 +56,12 @@ ending_at stream_ends.Ended [] number = endings.Ended
 ending_at stream_ends.Ended (byte ∷ bytes) number = endings.Bad number (faults.Text texts.Truncated)
 ending_at stream_ends.Failed rest number = endings.ReadFailed number
 
--- After good lines one of four things ends the stream. The rest decides which, but for a deletion:
--- memory may run out there before a fault is met.
+-- After good lines one of four things ends the stream, with the line number after theirs. The rest
+-- decides which, but for a deletion: memory may run out there before a fault is met.
 pub data EndsAfter (c : Setting) (lines : List StreamLine) (rest : List ℕ) (end : StreamEnd)
     (blocks : List History) (report : Report) : Type 0 where
   -- a line that is bad, whatever follows it
-  at_line :
+  at_bad_line :
       (line : StreamLine) (more : List ℕ) (text : rest ≡ line_text line ++ more)
       (fits : IsWithinLimits line) (block : History) (one_block : blocks ≡ block ∷ [])
       (deleted : ℕ) (fault : Fault)
@@ -69,7 +69,7 @@ pub data EndsAfter (c : Setting) (lines : List StreamLine) (rest : List ℕ) (en
       (says : report ≡ report_of c lines deleted (endings.Bad (capped (length lines + 1)) fault))
       → EndsAfter c lines rest end blocks report
   -- a text that begins no line, whatever follows it
-  at_text :
+  at_bad_text :
       (fault : LineFault) (text : HasTextFault rest fault) (no_block : blocks ≡ [])
       (says : report
       ≡ report_of c lines 0 (endings.Bad (capped (length lines + 1)) (faults.Text fault)))

@@ -33,7 +33,7 @@ use Rattle.stream_check.specs.Reducing.{reduced, IsEarly, TriesAgain}
 use Rattle.stream_check.specs.Finding.{IsGoodAddition, FindsSound}
 use Rattle.stream_check.specs.Verdicts.{LineVerdict, Good, Bad}
 use Rattle.stream_check.specs.Leaving.{Holding, Going, Over, Leaves, IsFresh, TakesLine}
-use Rattle.stream_check.specs.CheckerValue.{report_at, CheckerValue}
+use Rattle.stream_check.specs.CheckerValue.{report_of_tally, CheckerValue}
 use Rattle.stream_check.specs.Checker.{IsNew, IsReadyAt}
 
 -- What a checker is left as, step by step
@@ -63,7 +63,7 @@ BadLineTaken = (c : Setting) (bytes piece : List ℕ) (blocks : List History) (b
     → Leaves c bytes blocks (Going old) → LineText line (old.pending ++ piece)
     → JudgesLine c old.standing line block (Bad deleted fault)
     → Leaves c (bytes ++ piece) (blocks ++ block ∷ [])
-    (Over (report_at (record old.tally { deleted = capped (old.tally.deleted + deleted) })
+    (Over (report_of_tally (record old.tally { deleted = capped (old.tally.deleted + deleted) })
     (endings.Bad old.line fault)))
 
 -- a text that begins no line
@@ -72,7 +72,7 @@ BadTextRead = (c : Setting) (bytes piece : List ℕ) (blocks : List History) (ol
     (fault : LineFault)
     → Leaves c bytes blocks (Going old) → IsRefused (old.pending ++ piece) fault
     → Leaves c (bytes ++ piece) blocks
-    (Over (report_at old.tally (endings.Bad old.line (faults.Text fault))))
+    (Over (report_of_tally old.tally (endings.Bad old.line (faults.Text fault))))
 
 -- a deletion that ran out of memory
 abbrev pub MemoryWanted : Type 0
@@ -81,14 +81,16 @@ MemoryWanted = (c : Setting) (bytes piece : List ℕ) (blocks : List History) (b
     → Leaves c bytes blocks (Going old) → LineText (Deletion lead ids) (old.pending ++ piece)
     → StopsDeletion c old.standing.gone ids block earlier
     → Leaves c (bytes ++ piece) (blocks ++ block ∷ [])
-    (Over (report_at (record old.tally { deleted = capped (old.tally.deleted + length earlier) })
+    (Over (report_of_tally
+    (record old.tally { deleted = capped (old.tally.deleted + length earlier) })
     (endings.Memory old.line)))
 
 -- the end of the stream, or a failed read
 abbrev pub EndJudged : Type 0
 EndJudged = (c : Setting) (bytes : List ℕ) (blocks : List History) (old : Holding) (end : StreamEnd)
     → Leaves c bytes blocks (Going old)
-    → JudgesBlocks c bytes end blocks (report_at old.tally (ending_at end old.pending old.line))
+    → JudgesBlocks c bytes end blocks
+    (report_of_tally old.tally (ending_at end old.pending old.line))
 
 -- a checker that is over stays as it is, whatever follows
 abbrev pub OverStays : Type 0
@@ -265,7 +267,7 @@ abbrev pub WithinReported : Type 0
 WithinReported = (c : Setting) (bytes : List ℕ) (end : StreamEnd) (blocks : List History)
     (report : Report)
     → (j : JudgesBlocks c bytes end blocks report) → IsTrue report.within
-    ↔ Any (λ a. Within a.1 c.cube) (additions_of j.lines)
+    ↔ Any (λ addition. Within addition.1 c.cube) (additions_of j.lines)
 
 -- with the empty cube it says 'within' exactly if it says 'empty'
 abbrev pub EmptyCubeReported : Type 0

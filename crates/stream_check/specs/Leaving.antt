@@ -9,7 +9,7 @@ use Rattle.stream_check.specs.declared.report.Report.{Report}
 use Rattle.stream_check.specs.Setting.{Setting, side_of, is_shared}
 use Rattle.stream_check.specs.Standing.{Standing, standing_of, additions_of, is_among, is_within, deleted_by, capped}
 use Rattle.stream_check.specs.Judging.{AreGood, report_of, JudgesBlocks}
-use Rattle.stream_check.specs.CheckerValue.{Tally, report_at}
+use Rattle.stream_check.specs.CheckerValue.{Tally, report_of_tally}
 
 -- what a checker holds that isn't over: its counts, what good lines left, the text read of the next line, and that line's number
 pub record Holding : Type 0 where
@@ -28,14 +28,15 @@ pub record SameStanding (a b : Standing) : Type 0 where
   pub free : a.free ≡ b.free
   pub gone : (id : ℕ) → a.gone id ≡ b.gone id
 
--- all lines are good, with these blocks of events, the rest may still become a line, and the checker holds what they leave
+-- All lines are good, with these blocks of events, the rest may still become a line, and the checker holds what they leave: its counts
+-- are those that a report of these lines has, whatever the ending.
 pub record LeavesGoing (c : Setting) (bytes : List ℕ) (blocks : List History)
     (now : Holding) : Type 0 where
   pub lines : List StreamLine
   pub cut : Cut bytes lines now.pending
   pub pending : IsPending now.pending
   pub good : AreGood c [] lines blocks
-  pub tally : (ending : Ending) → report_at now.tally ending ≡ report_of c lines 0 ending
+  pub tally : (ending : Ending) → report_of_tally now.tally ending ≡ report_of c lines 0 ending
   pub standing : SameStanding now.standing (standing_of c lines)
   pub line : now.line ≡ capped (length lines + 1)
 
@@ -56,7 +57,7 @@ last_after last (Import id lits) = last
 abbrev pub standing_after : Setting → Standing → StreamLine → Standing
 standing_after c st line = record {
   last = last_after st.last line;
-  free = st.free - sum_by (λ a. length a.1) (additions_of (line ∷ []));
+  free = st.free - sum_by (λ addition. length addition.1) (additions_of (line ∷ []));
   gone = λ id. st.gone id || is_shared (side_of c id) && is_among (deleted_by line) id;
 }
 
@@ -64,8 +65,9 @@ abbrev pub tally_after : Setting → Tally → StreamLine → Tally
 tally_after c t line = record {
   added = t.added + length (additions_of (line ∷ []));
   deleted = capped (t.deleted + length (deleted_by line));
-  empty = t.empty || list_any (λ a. length a.1 == 0) (additions_of (line ∷ []));
-  within = t.within || list_any (λ a. is_within c.cube a.1) (additions_of (line ∷ []));
+  empty = t.empty || list_any (λ addition. length addition.1 == 0) (additions_of (line ∷ []));
+  within = t.within
+      || list_any (λ addition. is_within c.cube addition.1) (additions_of (line ∷ []));
 }
 
 -- what a checker holds after one good line more

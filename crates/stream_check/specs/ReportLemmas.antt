@@ -12,7 +12,7 @@ use Rattle.lrup_text.specs.declared.device.StreamEnd.{StreamEnd}
 use Rattle.stream_check.specs.declared.report.Report.{Report}
 use Rattle.stream_check.specs.Setting.{Setting}
 use Rattle.stream_check.specs.Standing.{additions_of, is_within}
-use Rattle.stream_check.specs.Judging.{EndsAfter, at_line, at_text, at_memory, at_end, joined}
+use Rattle.stream_check.specs.Judging.{EndsAfter, at_bad_line, at_bad_text, at_memory, at_end, joined}
 use Rattle.stream_check.specs.Leaving.{CheckerState, Leaves}
 use Rattle.stream_check.specs.Checker.{LeavesOn}
 
@@ -40,17 +40,17 @@ leaves_still c s bytes before leaves =
 -- the report tells of the good lines alone
 pub said_within : (c : Setting) (lines : List StreamLine) (rest : List ℕ) (end : StreamEnd)
     (back : List History) (report : Report) → EndsAfter c lines rest end back report
-    → report.within ≡ list_any (λ a. is_within c.cube a.1) (additions_of lines)
-said_within c lines rest end back report (at_line _ _ _ _ _ _ _ _ _ says) = ap (λ (r : Report). r.within) says
-said_within c lines rest end back report (at_text _ _ _ says) = ap (λ (r : Report). r.within) says
+    → report.within ≡ list_any (λ addition. is_within c.cube addition.1) (additions_of lines)
+said_within c lines rest end back report (at_bad_line _ _ _ _ _ _ _ _ _ says) = ap (λ (r : Report). r.within) says
+said_within c lines rest end back report (at_bad_text _ _ _ says) = ap (λ (r : Report). r.within) says
 said_within c lines rest end back report (at_memory _ _ _ _ _ _ _ _ _ says) = ap (λ (r : Report). r.within) says
 said_within c lines rest end back report (at_end _ _ says) = ap (λ (r : Report). r.within) says
 
 pub said_empty : (c : Setting) (lines : List StreamLine) (rest : List ℕ) (end : StreamEnd)
     (back : List History) (report : Report) → EndsAfter c lines rest end back report
-    → report.empty ≡ list_any (λ a. length a.1 == 0) (additions_of lines)
-said_empty c lines rest end back report (at_line _ _ _ _ _ _ _ _ _ says) = ap (λ (r : Report). r.empty) says
-said_empty c lines rest end back report (at_text _ _ _ says) = ap (λ (r : Report). r.empty) says
+    → report.empty ≡ list_any (λ addition. length addition.1 == 0) (additions_of lines)
+said_empty c lines rest end back report (at_bad_line _ _ _ _ _ _ _ _ _ says) = ap (λ (r : Report). r.empty) says
+said_empty c lines rest end back report (at_bad_text _ _ _ says) = ap (λ (r : Report). r.empty) says
 said_empty c lines rest end back report (at_memory _ _ _ _ _ _ _ _ _ says) = ap (λ (r : Report). r.empty) says
 said_empty c lines rest end back report (at_end _ _ says) = ap (λ (r : Report). r.empty) says
 
@@ -60,6 +60,7 @@ only_empty [] = refl
 only_empty (l ∷ d) = sym (eqb-suc-zero (length d))
 
 pub all_only_empty : (all : List (ℕ × Clause))
-    → list_any (λ a. is_within [] a.1) all ≡ list_any (λ a. length a.1 == 0) all
+    → list_any (λ addition. is_within [] addition.1) all
+    ≡ list_any (λ addition. length addition.1 == 0) all
 all_only_empty [] = refl
 all_only_empty (a ∷ all) = ap₂ (λ x y. x || y) (only_empty a.1) (all_only_empty all)

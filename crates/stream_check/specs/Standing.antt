@@ -31,12 +31,12 @@ deleted_by (Import id lits) = []
 abbrev pub is_among : List ℕ → ℕ → Bool
 is_among ids id = list_any (λ j. j == id) ids
 
--- The standing that these lines leave if all are good: the greatest identity of the additions, or the formula's last one if there are none; the room without
--- their literals; and of the deleted identities those of the formula and of other streams.
+-- The standing that these lines leave if all are good: the greatest identity of the additions, or the formula's last one if there are none; the room less the
+-- sizes of their clauses; and of the deleted identities those of the formula and of other streams.
 abbrev pub standing_of : Setting → List StreamLine → Standing
 standing_of c lines = record {
-  last = fold max c.layout.clauses (map (λ a. a.0) (additions_of lines));
-  free = c.layout.room - sum_by (λ a. length a.1) (additions_of lines);
+  last = fold max c.layout.clauses (map (λ addition. addition.0) (additions_of lines));
+  free = c.layout.room - sum_by (λ addition. length addition.1) (additions_of lines);
   gone = λ id.
       is_shared (side_of c id) && list_any (λ line. is_among (deleted_by line) id) lines;
 }

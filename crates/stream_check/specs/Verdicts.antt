@@ -13,6 +13,7 @@ pub data LineVerdict : Type 0 where
 abbrev pub Fails : ℕ → Fault → History → LineVerdict → Type 0
 Fails deleted fault es v = (es ≡ []) × (v ≡ Bad deleted fault)
 
--- either the test fails, with this fault, or it holds and what comes next decides
+-- Either the test fails, with this fault and nothing deleted, or it holds and what comes next decides. Only additions and imports
+-- have tests.
 abbrev pub Test : Type 0 → Fault → History → LineVerdict → Type 0 → Type 0
 Test Holds fault es v Next = ((¬ Holds) × Fails 0 fault es v) ⊎ (Holds × Next)
