@@ -1,5 +1,5 @@
 -- A report that is right for both ends of a stream tells of neither.
-use Rattle.std.proofs.Common.{◌≡◌, ℕ, ◌×◌, List, [], ◌∷◌, Option, None, refl, sym, ap, subst, ◌∙◌}
+use Rattle.std.proofs.Common.{◌≡◌, ℕ, List, [], ◌∷◌, Option, None, refl, sym, ap, subst, ◌∙◌}
 use Rattle.std.specs.Prelude.{IfSome}
 use Rattle.lrup_model.specs.Event.{History}
 use Rattle.lrup_text.specs.Lines.{StreamLine}
