@@ -36,8 +36,7 @@ any_end known end early = subst (λ o. IfSome o (λ its. its ≡ end)) (sym earl
 pub early_is_decided : EarlyIsDecided
 early_is_decided c stream blocks report early judged =
     let ended = judged stream_ends.Ended (any_end stream.end stream_ends.Ended early) in
-    let failed = judged stream_ends.Failed (any_end stream.end stream_ends.Failed early) in
-    (
+    let failed = judged stream_ends.Failed (any_end stream.end stream_ends.Failed early) in (
       ends_not_ended c failed.lines failed.rest failed.back report failed.ends,
       (λ told. ends_not_failed c ended.lines ended.rest ended.back report told.0 ended.ends told.1),
     )
