@@ -16,6 +16,18 @@ pub record LayoutValue : Type 0 where
   pub lines : ℕ
   pub room : ℕ
 
+-- the record of these numbers
+abbrev pub layout_value : ℕ → ℕ → ℕ → ℕ → ℕ → ℕ → LayoutValue
+layout_value vars clauses literals streams lines room =
+    record {
+      vars = vars;
+      clauses = clauses;
+      literals = literals;
+      streams = streams;
+      lines = lines;
+      room = room;
+    }
+
 -- the most streams
 abbrev pub max_streams : ℕ
 max_streams = 64

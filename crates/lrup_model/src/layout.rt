@@ -1,7 +1,7 @@
 //! The numbers of a run, and who owns an identity.
 ghost use Rattle.std.specs.Prelude.{◌≡◌, ◌↔◌, ◌+◌, ◌*◌, ◌≤◌, ◌<◌, IsTrue, IfOk, IfErr, Some};
 ghost use Rattle.lrup_model.specs.Formula.{max_clauses};
-ghost use Rattle.lrup_model.specs.Layout.{LayoutValue, IsLayout, IsFault, layout_fault_text, Fits, IsIdentity, owner, last_identity, row_words, max_streams, max_row_words};
+ghost use Rattle.lrup_model.specs.Layout.{layout_value, IsLayout, IsFault, layout_fault_text, Fits, IsIdentity, owner, last_identity, row_words, max_streams, max_row_words};
 
 use crate::formula::Formula;
 use crate::lit::Lit;
@@ -88,24 +88,11 @@ impl Layout {
         lines: u64,
         room: u64,
     ) -> Result<Layout, LayoutFault>
-        ensures layout { let layout : LayoutValue = record {
-          vars = vars;
-          clauses = clauses;
-          literals = literals;
-          streams = streams;
-          lines = lines;
-          room = room;
-        } in
+        ensures layout { let layout = layout_value vars clauses literals streams lines room in
             IfOk result (λ given. (given ≡ layout) × IsLayout layout) }
         // The first that holds, in the order of the list.
-        ensures fault { IfErr result (IsFault (record {
-          vars = vars;
-          clauses = clauses;
-          literals = literals;
-          streams = streams;
-          lines = lines;
-          room = room;
-        })) }
+        ensures fault { IfErr result
+            (IsFault (layout_value vars clauses literals streams lines room)) }
     {
         if vars > u64::from(Lit::MAX_VARIABLE) {
             return Err(LayoutFault::TooManyVariables);
