@@ -23,8 +23,8 @@ ROOT = Path(__file__).resolve().parent.parent
 CRATES = ROOT / "crates"
 DOCS = ROOT / "docs"
 
-NAME = re.compile(r"[^\s(){}\[\];,.:λ→×⊎≡≢¬↔≤<>+*/%^∷&|=]+")
-WORDS = set("record data where let in if then else λ _ Type Unit ⊥".split())
+NAME = re.compile(r"[^\s(){}\[\];,.:λ→×⊎≡≢¬↔↦≤<>+*/%^∷&|=]+")
+WORDS = set("record data where let in if then else elim λ _ Type Unit ⊥".split())
 HEAD = re.compile(r"^(?P<kind>(?:abbrev |unfoldable )?(?:pub )?(?:record |data )?)(?P<name>[^\s:({]+)(?P<rest>[\s:({].*)?$")
 ITEM = re.compile(r"((?:^(?:///|#\[).*\n)*)^pub (?:struct|enum|trait) (?:[^\n{]*;$|[\s\S]*?^\}$)", re.M)
 
@@ -82,6 +82,8 @@ class Definition:
         for group in re.findall(r"λ ([^.(]*)\.", self.text):
             names.update(NAME.findall(group))
         names.update(re.findall(r"\blet ([^\s:=]+)", self.text))
+        for pattern in re.findall(r"\| ([^|↦]*) ↦", self.text):
+            names.update(word for word in NAME.findall(pattern) if not self.file.is_constructor(word))
         if re.match(r"record ", self.text):
             for line in self.text.split("\n")[1:]:
                 member = re.match(r"^  ([^\s:]+) :", line)
@@ -732,6 +734,7 @@ TRUST = """## What one has to trust
 
 GLOSSES = """
 `AllByRecursion P xs` P of each element
+`AllZip R xs ys` R of the elements at each place of the two lists, which are equally long
 `App` a command of `clap`: what it takes itself, `top`, and its subcommands, `subs`
 `Append` each use of the argument adds to its values
 `Consumes old new bs` if `old` is `Some xs`, `new` is `Some ys`, and xs is `bs ++ ys`; of `None` it says nothing
@@ -741,13 +744,14 @@ GLOSSES = """
 `IfErr r P` if r is `Err e`, then P of e
 `IfOk r P` if r is `Ok x`, then P of x
 `IfSome o P` if o is `Some x`, then P of x
+`IsSome o` o is `Some x`
+`MatchOption o A P` P of x if o is `Some x`, and A if it is `None`
 `IsAtEnd left` if left is `Some xs`, xs is `[]`
 `IsNone o` o is `None`
 `IsTrue b` b is `true`
 `MatchBool b P Q` P where b is `true`, Q where it is `false`
 `ReadConsumes old new r buffer` if r is `Ok n`, `Consumes` of the first n of the buffer, and `IsAtEnd new` if n is 0 and the \
 buffer isn't empty; if it is `Err`, what is known is as it was
-`Result A E` `Ok x`, or `Err e`
 `Rule` what `clap` is told of an argument; with `value_names` 0 or 1 an option has one value
 `SetTrue` an argument that takes no value: its use is 'true'
 `Text` the bytes of a word
@@ -756,6 +760,7 @@ buffer isn't empty; if it is `Err`, what is known is as it was
 `decimal n` n in decimal, without leading zeros
 `fault_of app words` the errors that the command finds in the words, asking for help among them: `[]` if there is none
 `filter f xs` the elements that pass the test
+`fold f a xs` f over the elements, from a on: of x and y it is `f (f a x) y`
 `first_of name rows` an argument's first value as it was given, if it has any
 `flat_map f xs` the lists that f gives of the elements, one after the other
 `int_eq a b` a is b, of whole numbers
@@ -805,7 +810,7 @@ repeated: formulas, assignments, clauses and literals, [how to read it](AUDIT.md
 
 - **Run.** A call of [[fn run]], with two threads for each stream, or of [[fn run_serial]], on one thread; the program calls the
   second with `--serial`, and else the first.
-- **Stream.** The bytes that a reader gave, and where reading stopped ([[Stream]]): lines that add a clause with its hints, delete
+- **Stream.** The bytes that a reader gave, and how it ended, unless it was stopped early ([[Stream]]): lines that add a clause with its hints, delete
   clauses, or import one ([[StreamLine]]). Streams count from 1.
 - **Set.** A set of streams is a test on their numbers: `λ s. true` is all of them, [[one]] a single one.
 - **Identity.** A clause's number: the formula's clauses have the first ones, the streams own the others by turns ([[owner]]).
@@ -826,7 +831,7 @@ HEADLINE_PHRASES = [
      ([[HaveOneHistory]]), and [[HaveOneHistory: legal : IsLegal f p h]]. From the formula's clauses on,
      [[IsLegal: LegalFrom f p (opening f) h]], each event answers as the map after the events before it ([[LegalFrom: Answers m
      e]]), and may be asked for ([[LegalFrom: IsAllowed f p e]])."""),
-    ("each stream's calls stand once, in its order", """[[HaveCalls: v.mine ≡ own h s]]: the calls made through the pass of
+    ("each stream's calls stand once, in its order", """[[HaveOneHistory: v.mine ≡ own h s]]: the calls made through the pass of
      stream s are the history's events of s, in order. That `mine` are the calls made is said at the store: a pass begins with
      none, [[IsOpened: mine : p.view.mine ≡ []]]; each call adds itself, [[PassMoves: mine : new.mine ≡ old.mine ++ es]] with
      [[Calls: moves : PassMoves old new (e ∷ [])]]; where two passes meet they add none, [[Meets: first : PassMoves old new
@@ -835,7 +840,7 @@ HEADLINE_PHRASES = [
      the pass had seen begins what it has seen then, [[PassMoves: seen : (more : History) × (new.seen ≡ old.seen ++ more)]], and
      the call is the last of that, [[Calls: last : EndsWith new.seen e]]; `more` isn't empty, since `mine` grew, and is what `seen`
      has of this stream ([[IsFair]]). In the end each pass has seen the one history:
-     [[HaveCalls: v.seen ≡ h]]."""),
+     [[HaveOneHistory: v.seen ≡ h]]."""),
     ("with the replies that it got", """the same clauses: the event has what the call answered.
      [[fn Store::fetch.calls: events.fetch pass.old.view.caller.stream id reply]], where
      [[fn Store::fetch.calls: reply = reply_of (pass_place pass.new.view) result]];
@@ -854,14 +859,13 @@ HEADLINE_PHRASES = [
     ("follows from the formula", "[[IsPublishable: follows : Follows f c]], which [[IsAllowed]] asks of each publish."),
     ("Each report is the judgement of these replies", """[[fn run.reports]]: there are streams ([[StandsOnStreams]]), and
      [[fn run.reports: AreJudgedIn terms (λ s. true) (seen_by (views outcome.passes.items)) 1 streams outcome.reports.items]], by
-     the same history. Each stream is judged, as its report says, by its own events of it, [[AreJudgedIn: IsJudgedBy (setting_of
-     terms s) stream (own h s) report]]: its good lines first, each with a block of events, and then what ended it
-     ([[JudgesBlocks]])."""),
+     the same history. Each stream is judged, as its report says, by blocks of events ([[AreJudged]]) that are together its own events of it, [[AreJudgedIn: own h t ≡ joined blocks]]: its good
+     lines first, each with a block, and then what ended it ([[JudgesBlocks]])."""),
     ("of the bytes that reads of the stream gave", """[[fn run.reports: AreRead _ R.reads readers.items outcome.readers.items
      streams]], of the same streams: [[ReadOut: given : Gave S reads first bytes last]], from each reader as it was handed in.
      Whoever hands in the readers chooses `reads`; [AUDIT](AUDIT.md#status-0) says under 'Which reads?' why that suffices. Where
      a reader tells what it has left, the bytes begin that ([[IsTold]])."""),
-    ("up to its first end or to one that failed", """[[fn run.reports: AllByRecursion IsReadOut streams]], so
+    ("up to its first end or to one that failed", """[[fn run.reports: AllByRecursion (λ stream. IsSome stream.end) streams]], so
      [[ReadOut: ends : IsLastRead S reads end last after]] for the end by which the stream is judged."""),
     ("'Unsatisfiable' means that no assignment makes every clause of the formula true", """[[fn run.sound: outcome.verdict ≡
      Verdict.Unsatisfiable → IsUnsatisfiable formula.now]]. The [[Formula]] is that of its text,
@@ -921,15 +925,15 @@ SERIALIZABLE_PHRASES = [
      streams]]."""),
     ("if no stream retires (deletes for all) a clause that another one found", """[[IsSerializable: FoundStays f terms.layout set
      h]]: what a stream of the set found live, and isn't its own, the run's history doesn't leave retired,
-     [[FindsKept: IsLiveReply r → ¬ Owns p s id → ¬ IsRetired (final id)]]."""),
+     [[FindsKept: FindsKept p final (events.fetch s id (events.live c)) = ¬ Owns p s id → ¬ IsRetired (final id)]]."""),
     ("have an order", """[[IsSerializable: IsOrdered f terms set streams reports]]: a list of blocks ([[Block]]), whose events
      are one after the other a legal history, [[IsOrdered: legal : IsLegal f terms.layout (events_in blocks)]]."""),
     ("one thread that takes whole lines", """a block is one stream's, [[IsBlockWithin: AllByRecursion (λ e. stream_of e ≡
      block.stream) block.events]], and has all events of one line, [[AreGood: JudgesLine c (standing_of c before) line block
      Good]]. That is what [[fn run_serial]] promises: [[fn run_serial.ordered: IsOrdered formula.now terms (λ s. true) streams
      outcome.reports.items]]."""),
-    ("gives the same reports", """[[IsOrdered: judged : AreJudged terms set blocks 1 streams reports]], with the run's `reports`:
-     each stream is judged by its own blocks in their order, [[AreJudged: blocks_of s blocks]]."""),
+    ("gives the same reports", """[[IsOrdered: judged : AreJudged terms set]], with the run's `reports`: each stream is
+     judged by its own blocks in their order, [[IsOrdered: own_blocks ≡ blocks_of t blocks]]."""),
 ]
 
 SERIALIZABLE_VERDICT = """And the verdict: where the premise holds of all streams together, they have an order that besides
@@ -942,7 +946,8 @@ RUNS_HOW = """## How to read it
 As [on AUDIT](AUDIT.md#how-to-read-it); and besides:
 
 - **Signs.** `¬ A` is 'not A', `≢` 'is not', `m - n` is 0 where n is greater, `m / n` is rounded down, `&&` is 'and' of tests.
-  `(x y : A)` are two; `r.0` and `r.1` the parts of a pair. A `data` is one of its cases, with what that case takes. `R.left` is the
+  `(x y : A)` are two; `r.0` and `r.1` the parts of a pair. A `data` is one of its cases, with what that case takes.
+  `elim x [ | p ↦ a | q ↦ b ]` is a where x is p, and b where it is q. `R.left` is the
   member `left` of the trait for the type R. Contracts see a slice or a `Vec` as a list (`v.items`), a `u64` and an `Id` as ℕ, a
   `Lit` as ℤ. A type that they see as something else they know by that alone, whatever its members are.
 {constructors}

@@ -95,8 +95,8 @@ impl Store {
         }
     }
 
-    /// Literal `k`, from 0 on, of a clause whose clip the pass has fetched, by one load: in the order in which the clause was
-    /// published or read, also after it was retired.
+    /// Literal `k`, from 0 on, of a clause whose clip the pass has fetched, by one load: in the order in which it was
+    /// published or stands in the formula, also after it was retired.
     #[inline]
     pub fn literal(&self, pass: &mut Pass, clip: &Clip, k: u32) -> Lit
         requires store { store_of pass.old ≡ self.now }

@@ -1,13 +1,13 @@
 -- From what is read and run to what the words and the files come to.
 use Rattle.std.proofs.Common.{◌≡◌, ◌∙◌, ℕ, Bool, false, List, map, length, Option, None, Some, IfSome, Result, Ok, Err, IfOk, IfErr, inl, inr, sym, ap, subst, rules}
 use Rattle.std.proofs.lemmas.List.{length-map}
-use Rattle.std.specs.Prelude.{IsErrAnd}
+use Rattle.std.specs.Prelude.{◌↔◌, IsErrAnd}
 use Rattle.lrup_model.specs.Cube.{CubeValue, IsUnsatisfiableUnder}
 use Rattle.lrup_model.specs.Entailment.{IsUnsatisfiable}
 use Rattle.lrup_model.specs.Formula.{Cnf}
 use Rattle.lrup_model.specs.Layout.{LayoutValue, IsFault, IsStream}
 use Rattle.lrup_model.specs.declared.layout.LayoutFault.{LayoutFault}
-use Rattle.portfolio.specs.Outcomes.{IsLayoutFault, OptionsValue, layout_of, terms_of}
+use Rattle.portfolio.specs.Outcomes.{OptionsValue, layout_of, terms_of}
 use Rattle.portfolio.specs.declared.outcome.RunFault.{RunFault}
 use Rattle.portfolio.specs.declared.outcome.RunFault.TheVariants as runs
 use Rattle.portfolio.specs.declared.outcome.Verdict.{Verdict}
@@ -46,7 +46,8 @@ no_ring stream fault both = search (both, rules)
 
 -- the cause of a run's fault
 pub run_cause : {T : Type 0} (serial : Bool) (p : LayoutValue) (result : Result T RunFault) (fault : RunFault) → result ≡ Err fault
-    → IsLayoutFault result p → ((stream : ℕ) → result ≡ Err (runs.Spawn stream) → (serial ≡ false) × IsStream p stream)
+    → ((fault : LayoutFault) → (result ≡ Err (runs.Layout fault)) ↔ IsFault p fault)
+    → ((stream : ℕ) → result ≡ Err (runs.Spawn stream) → (serial ≡ false) × IsStream p stream)
     → ((stream : ℕ) → result ≡ Err (runs.Ring stream) → (serial ≡ false) × IsStream p stream)
     → IsRunCause serial p (of_run fault)
 run_cause serial p result (runs.Layout fault) is layout spawn ring = (layout fault).0 is
@@ -59,7 +60,8 @@ run_cause serial p result (runs.Ring stream) is layout spawn ring =
     (started.0, started.1, λ fault refused. no_ring stream fault (sym is ∙ (layout fault).1 refused))
 
 -- a run with an outcome has a layout
-pub has_layout : {T : Type 0} (p : LayoutValue) (result : Result T RunFault) (outcome : T) → result ≡ Ok outcome → IsLayoutFault result p
+pub has_layout : {T : Type 0} (p : LayoutValue) (result : Result T RunFault) (outcome : T) → result ≡ Ok outcome
+    → ((fault : LayoutFault) → (result ≡ Err (runs.Layout fault)) ↔ IsFault p fault)
     → (fault : LayoutFault) → IsFault p fault → ⊥
 has_layout p result outcome is layout fault refused =
     let both : Ok outcome ≡ Err (runs.Layout fault) = sym is ∙ (layout fault).1 refused in

@@ -1,5 +1,5 @@
 -- What a whole run of the program comes to (this project's own).
-use Rattle.std.specs.Prelude.{◌≡◌, ◌≢◌, ◌+◌, ◌++◌, ◌⊎◌, ℕ, Bool, true, false, IsTrue, List, [], ◌∷◌, map, length, slice_get, Option, None, Some, option_map}
+use Rattle.std.specs.Prelude.{◌≡◌, ◌≢◌, ◌+◌, ◌++◌, ◌⊎◌, ℕ, Bool, true, false, IsTrue, List, [], ◌∷◌, map, length, slice_get, Option, None, Some, option_map, IsSome}
 use Rattle.std.specs.Io.KnownBytes.{Appends, Keeps}
 use Rattle.std.specs.Borrow.{Bor}
 use Rattle.std.specs.List.{AllByRecursion}
@@ -24,7 +24,7 @@ use Rattle.runs.specs.Headline.{AreJudgedIn}
 use Rattle.portfolio.specs.Outcomes.{OptionsValue, layout_of, terms_of, verdict_of}
 use Rattle.portfolio.specs.ReportText.{report_text}
 use Rattle.runs.specs.Readings.{AreRead}
-use Rattle.runs.specs.Streams.{IsOrdered, IsReadOut, StandsOnStreams, Stream, TermsValue, tellings}
+use Rattle.runs.specs.Streams.{IsOrdered, StandsOnStreams, Stream, TermsValue, tellings}
 use Rattle.portfolio.specs.declared.outcome.Verdict.{Verdict}
 use Rattle.portfolio.specs.declared.outcome.Verdict.TheVariants.{Unsatisfiable, UnsatisfiableUnder, Unknown}
 use Rattle.command_line.specs.CommandLine.{AskFor, HaveFault, IsCommandLineOf}
@@ -84,7 +84,7 @@ terms_given given cube f = terms_of (options_of given) cube f (length given.stre
 abbrev pub AreReported : Bool → Cnf → TermsValue → List Report → List Stream → Type 0
 AreReported true f terms reports streams = IsOrdered f terms (λ s. true) streams reports
 AreReported false f terms reports streams =
-    AllByRecursion IsReadOut streams
+    AllByRecursion (λ stream. IsSome stream.end) streams
     × ((h : History) × IsLegal f terms.layout h
     × AreJudgedIn terms (λ s. true) h 1 streams reports)
 

@@ -21,13 +21,6 @@ number_rule name most = record (new_rule name) {
   parser = Some (parser.Unsigned 0 most);
 }
 
--- the option `--assume FILE`
-abbrev pub assume_rule : Rule
-assume_rule = record (new_rule (codes "assume")) {
-  long = Some (codes "assume");
-  value_names = 1;
-}
-
 -- a flag `--name`
 abbrev pub flag_rule : Text → Rule
 flag_rule name = record (new_rule name) {
@@ -35,10 +28,6 @@ flag_rule name = record (new_rule name) {
   action = Some SetTrue;
   parser = Some parser.Bool;
 }
-
--- FORMULA: one word
-abbrev pub formula_rule : Rule
-formula_rule = record (new_rule (codes "FORMULA")) { required = true }
 
 -- STREAM...: one word or more
 abbrev pub stream_rule : Rule
@@ -59,8 +48,12 @@ lrupd = record {
     rules = number_rule (codes "tries") 1000000
         ∷ number_rule (codes "lines") 268435456
         ∷ number_rule (codes "room") 268435456
-        ∷ assume_rule ∷ flag_rule (codes "serial") ∷ flag_rule (codes "watch")
-        ∷ formula_rule ∷ stream_rule ∷ [];
+        -- the option `--assume FILE`
+        ∷ record (new_rule (codes "assume")) { long = Some (codes "assume"); value_names = 1 }
+        ∷ flag_rule (codes "serial") ∷ flag_rule (codes "watch")
+        -- FORMULA: one word
+        ∷ record (new_rule (codes "FORMULA")) { required = true }
+        ∷ stream_rule ∷ [];
   };
   subs = [];
 }

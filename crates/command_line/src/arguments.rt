@@ -1,8 +1,7 @@
 //! What `clap` is told of the command line.
-ghost use Rattle.std.specs.Prelude.{◌≡◌, IfOk, false};
-ghost use Rattle.clap.specs.Words.{app_of, rule_of};
-ghost use Rattle.command_line.specs.CommandLine.{assume_rule, flag_rule, formula_rule, lrupd, number_rule};
-ghost use Rattle.command_line.specs.CommandLine.{stream_rule};
+ghost use Rattle.std.specs.Prelude.{◌≡◌, IfOk, false, true, Some, codes};
+ghost use Rattle.clap.specs.Words.{app_of, new_rule, rule_of};
+ghost use Rattle.command_line.specs.CommandLine.{flag_rule, lrupd, number_rule, stream_rule};
 ghost use Rattle.command_line.specs.Matches.{with_numbers, without_arguments};
 
 use crate::help;
@@ -66,7 +65,8 @@ fn number<'a>(alloc: Global, name: &'a str, most: u64, help: &'a str) -> Arg<'a>
 
 /// The option `--assume FILE`.
 fn assume<'a>(alloc: Global) -> Arg<'a>
-    ensures rule { rule_of result ≡ assume_rule }
+    ensures rule { rule_of result
+        ≡ record (new_rule (codes "assume")) { long = Some (codes "assume"); value_names = 1 } }
     ensures local { result.global ≡ false }
 {
     Arg::new(alloc, "assume")
@@ -89,7 +89,7 @@ fn flag<'a>(alloc: Global, name: &'a str, help: &'a str) -> Arg<'a>
 
 /// The word FORMULA.
 fn formula<'a>(alloc: Global) -> Arg<'a>
-    ensures rule { rule_of result ≡ formula_rule }
+    ensures rule { rule_of result ≡ record (new_rule (codes "FORMULA")) { required = true } }
     ensures local { result.global ≡ false }
 {
     Arg::new(alloc, "FORMULA")

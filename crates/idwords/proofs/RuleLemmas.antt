@@ -7,13 +7,13 @@ use Rattle.std.proofs.lemmas.Bool.{cases_eq}
 use Rattle.lrup_model.specs.Clause.{Clause}
 use Rattle.lrup_model.specs.Formula.{Cnf}
 use Rattle.lrup_model.specs.Layout.{LayoutValue, IsIdentity, row_words}
-use Rattle.lrup_model.specs.Event.{Event, History, stream_of, size_of, own, spent}
+use Rattle.lrup_model.specs.Event.{Event, History, stream_of, own, published, spent}
 use Rattle.lrup_model.specs.State.{State, Slot, opening, after, state, Answers}
 use Rattle.lrup_model.specs.History.{IsAllowed, IsLegal}
 use Rattle.lrup_model.specs.Place.{Kept, KeepsSpelt}
 use Rattle.lrup_model.specs.Pass.{Spelling, kept_in, IsSpelt, IsFair}
 use Rattle.lrup_model.specs.Laws.{stepped}
-use Rattle.lrup_model.specs.Running.{run-append, legal-append, own-append, spent-append}
+use Rattle.lrup_model.specs.Running.{size_of, run-append, legal-append, own-append, spent-append}
 use Rattle.lrup_model.specs.HistoryLemmas.{IsLegal-front, own-mine, own-other, spent-own, spent_one}
 use Rattle.lrup_model.specs.PassLemmas.{moves_step}
 use Rattle.idwords.specs.Words.{word_of, LiesAt}
@@ -101,7 +101,7 @@ legal_next f p log e legal answers allowed room = record {
         let here : spent (stream_of e) log ≡ spent t log = ap (λ (s : ℕ). spent s log) mine in
         omega arith
     | inr other ↦
-        let same : spent t (log ++ e ∷ []) ≡ spent t log = ap (sum_by size_of) (own_past log e t other) in
+        let same : spent t (log ++ e ∷ []) ≡ spent t log = ap (λ (es : History). sum_by (λ p. length p.1) (published es)) (own_past log e t other) in
         omega (arith, legal.room t)
   ];
 }

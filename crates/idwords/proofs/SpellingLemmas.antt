@@ -8,13 +8,13 @@ use Rattle.lrup_model.specs.Formula.{Cnf, IsCnf, IsFormulaClause, clause_at}
 use Rattle.std.proofs.Math.Nat.{mul-le-mul_right}
 use Rattle.lrup_model.specs.Layout.{LayoutValue, Fits, IsStream, last_identity, row_words}
 use Rattle.lrup_model.specs.Event as events
-use Rattle.lrup_model.specs.Event.{Event, History, own, spent, size_of, stream_of}
-use Rattle.lrup_model.specs.State.{State, Slot, absent, live, retired, put, retire_slot, opening, after, run, state, Answers}
+use Rattle.lrup_model.specs.Event.{Event, History, own, spent, stream_of}
+use Rattle.lrup_model.specs.State.{State, Slot, absent, live, retired, retire_slot, opening, after, run, state, Answers}
 use Rattle.lrup_model.specs.History.{LegalFrom, IsLegal}
 use Rattle.lrup_model.specs.Place.{Kept, KeepsSpelt}
 use Rattle.lrup_model.specs.Pass.{Spelling, kept_in, IsOncePerIdentity, Spells, IsSpelt}
-use Rattle.lrup_model.specs.Running.{own-append}
-use Rattle.lrup_model.specs.HistoryLemmas.{put-same, put-other, own-mine, own-own, legal-front, opening-formula, opening-above, opening-none}
+use Rattle.lrup_model.specs.Running.{size_of, spent-sizes, own-append}
+use Rattle.lrup_model.specs.HistoryLemmas.{put, put-same, put-other, own-mine, own-own, legal-front, opening-formula, opening-above, opening-none}
 use Rattle.lrup_model.specs.OwnerLemmas.{owned}
 use Rattle.lrup_model.specs.declared.clause_map.Published.TheVariants as publishing
 use Rattle.lrup_model.specs.declared.clause_map.Retired.TheVariants as retiring
@@ -35,7 +35,7 @@ words_spent-own log mine s all = ap (λ (h : History). words_spent s h) (sym all
 
 -- they are no more than the literals
 pub words_within : (s : ℕ) (h : History) → words_spent s h ≤ spent s h
-words_within s h = sum_by-le-sum_by words_taken size_of (own h s) (λ e. omega arith)
+words_within s h = omega (arith, spent-sizes s h, sum_by-le-sum_by words_taken size_of (own h s) (λ e. omega arith))
 
 -- One history behind another
 

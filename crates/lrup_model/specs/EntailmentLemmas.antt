@@ -11,13 +11,13 @@ use Rattle.lrup_model.specs.Entailment.{Assignment, MakesTrue, Satisfies, Satisf
 use Rattle.lrup_model.specs.Layout.{LayoutValue}
 use Rattle.lrup_model.specs.Event as events
 use Rattle.lrup_model.specs.Event.{Event, History}
-use Rattle.lrup_model.specs.State.{State, Slot, absent, live, retired, put, retire_slot, after, opening, run, state}
+use Rattle.lrup_model.specs.State.{State, Slot, absent, live, retired, retire_slot, after, opening, run, state}
 use Rattle.lrup_model.specs.History.{IsAllowed, LegalFrom}
 use Rattle.lrup_model.specs.Propagation.{IsUnit, Refutes, Accepts}
 use Rattle.lrup_model.specs.Laws.{HasClause}
 use Rattle.lrup_model.specs.declared.clause_map.Published.TheVariants as publishing
 use Rattle.lrup_model.specs.declared.clause_map.Retired.TheVariants as retiring
-use Rattle.lrup_model.specs.HistoryLemmas.{put-same, put-other, opening-formula, opening-above, opening-none}
+use Rattle.lrup_model.specs.HistoryLemmas.{put, put-same, put-other, opening-formula, opening-above, opening-none}
 
 -- Literals and clauses under an assignment
 

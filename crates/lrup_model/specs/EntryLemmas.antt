@@ -7,12 +7,12 @@ use Rattle.lrup_model.specs.Formula.{Cnf}
 use Rattle.lrup_model.specs.Layout.{LayoutValue}
 use Rattle.lrup_model.specs.Event as events
 use Rattle.lrup_model.specs.Event.{Event, History, published}
-use Rattle.lrup_model.specs.State.{State, Slot, absent, live, retired, IsLive, IsRetired, put, retire_slot, after, run, Answers}
+use Rattle.lrup_model.specs.State.{State, Slot, absent, live, retired, IsLive, IsRetired, retire_slot, after, run, Answers}
 use Rattle.lrup_model.specs.History.{IsAllowed, LegalFrom}
 use Rattle.lrup_model.specs.Laws.{Advances, HasClause, IsByOwner}
 use Rattle.lrup_model.specs.declared.clause_map.Published.TheVariants as publishing
 use Rattle.lrup_model.specs.declared.clause_map.Retired.TheVariants as retiring
-use Rattle.lrup_model.specs.HistoryLemmas.{put-same, put-other}
+use Rattle.lrup_model.specs.HistoryLemmas.{put, put-same, put-other}
 
 -- By its owner alone
 

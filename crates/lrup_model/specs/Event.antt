@@ -1,6 +1,6 @@
 -- Events of the clause map, one for each call of fetch, publish and retire, and histories, which are lists of them (this project's own).
 -- A clause stands in an event as the list in the order in which the map keeps it, and is read as a set.
-use Rattle.std.specs.Prelude.{◌==◌, ℕ, List, [], ◌∷◌, Bool, true, false, length}
+use Rattle.std.specs.Prelude.{◌==◌, ℕ, List, [], ◌∷◌, length}
 use Rattle.std.specs.List.{filter, sum_by}
 use Rattle.lrup_model.specs.Clause.{Clause}
 use Rattle.lrup_model.specs.declared.clause_map.Published.{Published}
@@ -33,31 +33,6 @@ stream_of (retire s id r) = s
 abbrev pub own : History → ℕ → History
 own h s = filter (λ e. stream_of e == s) h
 
--- the literals that an event takes of its stream's room
-abbrev pub size_of : Event → ℕ
-size_of (fetch s id r) = 0
-size_of (publish s id c publishing.Done) = length c
-size_of (publish s id c publishing.Taken) = 0
-size_of (retire s id r) = 0
-
--- the sizes of the clauses that a stream published with Done, added up
-abbrev pub spent : ℕ → History → ℕ
-spent s h = sum_by size_of (own h s)
-
--- the event published a clause
-abbrev pub publishes : Event → Bool
-publishes (fetch s id r) = false
-publishes (publish s id c publishing.Done) = true
-publishes (publish s id c publishing.Taken) = false
-publishes (retire s id r) = false
-
--- the event published the empty clause
-abbrev pub publishes_empty : Event → Bool
-publishes_empty (fetch s id r) = false
-publishes_empty (publish s id c publishing.Done) = length c == 0
-publishes_empty (publish s id c publishing.Taken) = false
-publishes_empty (retire s id r) = false
-
 -- the identity and the clause of each event that published one, in order
 abbrev pub published : History → List (ℕ × Clause)
 published [] = []
@@ -65,3 +40,7 @@ published (fetch s id r ∷ es) = published es
 published (publish s id c publishing.Done ∷ es) = (id, c) ∷ published es
 published (publish s id c publishing.Taken ∷ es) = published es
 published (retire s id r ∷ es) = published es
+
+-- the sizes of the clauses that a stream published with Done, added up
+abbrev pub spent : ℕ → History → ℕ
+spent s h = sum_by (λ entry. length entry.1) (published (own h s))

@@ -1,6 +1,6 @@
 -- Lemmas on events, histories and the states that they leave.
 use Rattle.std.proofs.Common.{◌≡◌, ℕ, ◌+◌, ◌-◌, ◌%◌, ◌<◌, ◌≤◌, cond, eqb, ltb, leb, ◌&&◌, List, [], ◌∷◌, ◌++◌, length, get_or, refl, sym, ap, subst, ◌∙◌, inl, inr, arith, ne_eqb, eq-eqb, le-leb, lt-ltb, le-ltb}
-use Rattle.std.specs.Prelude.{if◌then◌else◌}
+use Rattle.std.specs.Prelude.{◌==◌, if◌then◌else◌}
 use Rattle.std.specs.List.{sum_by, AllByRecursion}
 use Rattle.std.proofs.lemmas.Bool.{cases_eq, cases_lt, cond-true, cond-false, and_from, and_left, and_right, lt-leb}
 use Rattle.std.proofs.lemmas.List.Sums.{sum_by-cons}
@@ -8,10 +8,10 @@ use Rattle.lrup_model.specs.Clause.{Clause}
 use Rattle.lrup_model.specs.Formula.{Cnf, clause_at}
 use Rattle.lrup_model.specs.Layout.{LayoutValue, Fits, Owns, owner, last_identity}
 use Rattle.lrup_model.specs.Event as events
-use Rattle.lrup_model.specs.Event.{Event, History, stream_of, size_of, own, spent, published}
-use Rattle.lrup_model.specs.State.{State, Slot, absent, live, put, retire_slot, after, opening, run, state, AreVacantAbove}
+use Rattle.lrup_model.specs.Event.{Event, History, stream_of, own, spent, published}
+use Rattle.lrup_model.specs.State.{State, Slot, absent, live, retire_slot, after, opening, run, state, AreVacantAbove}
 use Rattle.lrup_model.specs.History.{IsAllowed, LegalFrom, IsLegal, IsPublishable}
-use Rattle.lrup_model.specs.Running.{spent-append}
+use Rattle.lrup_model.specs.Running.{size_of, spent-sizes, spent-append}
 use Rattle.lrup_model.specs.declared.clause_map.Published.TheVariants as publishing
 use Rattle.lrup_model.specs.declared.clause_map.Retired.TheVariants as retiring
 use Rattle.lrup_model.specs.declared.layout.Owner.{Owner}
@@ -37,6 +37,10 @@ IsLegal-front f p g h legal = record {
 }
 
 -- One slot of a state
+
+-- the state with another slot at one identity
+abbrev pub put : State → ℕ → Slot → State
+put m id slot = λ j. if j == id then slot else m j
 
 pub put-same : (m : State) (j : ℕ) (slot : Slot) (id : ℕ) → id ≡ j → put m j slot id ≡ slot
 put-same m j slot id same = cond-true (eqb id j) slot (m id) (eq-eqb id j same)
@@ -159,7 +163,7 @@ own-own (e ∷ h) s =
     ]
 
 pub spent-own : (s : ℕ) (h : History) → spent s (own h s) ≡ spent s h
-spent-own s h = ap (sum_by size_of) (own-own h s)
+spent-own s h = ap (λ (es : History). sum_by (λ p. length p.1) (published es)) (own-own h s)
 
 -- a stream has no event among those of others
 pub own-none : (h : History) (s : ℕ) → AllByRecursion (λ e. stream_of e ≡ s → ⊥) h → own h s ≡ []
@@ -193,7 +197,7 @@ vacant_above_stays f p m h s last legal others vacant id owns above = run-others
 -- What was published
 
 pub spent_one : (s : ℕ) (e : Event) → stream_of e ≡ s → spent s (e ∷ []) ≡ size_of e
-spent_one s e h = ap (sum_by size_of) (own-mine e [] s h) ∙ omega (arith, sum_by-cons size_of e [])
+spent_one s e h = spent-sizes s (e ∷ []) ∙ ap (sum_by size_of) (own-mine e [] s h) ∙ omega (arith, sum_by-cons size_of e [])
 
 pub published-append : (g h : History) → published (g ++ h) ≡ published g ++ published h
 published-append [] h = refl

@@ -39,7 +39,7 @@ pub record ClipValue : Type 0 where
   pub len : ℕ
   pub start : ℕ
 
--- the literals that are kept, if something is
+-- the literals that are kept, or none if nothing is
 abbrev pub literals_in : Option Kept → Clause
 literals_in None = []
 literals_in (Some kept) = kept.literals

@@ -1,5 +1,5 @@
 -- Lemmas on a legal history restricted to the streams of a set.
-use Rattle.std.proofs.Common.{◌≡◌, ◌⊎◌, ℕ, ◌+◌, ◌≤◌, Bool, true, false, cond, eqb, [], ◌∷◌, refl, sym, ap, subst, ◌∙◌, inl, inr, arith}
+use Rattle.std.proofs.Common.{◌≡◌, ◌⊎◌, ℕ, ◌+◌, ◌≤◌, Bool, true, false, cond, eqb, [], ◌∷◌, refl, sym, ap, subst, ◌∙◌, inl, inr, arith, length}
 use Rattle.std.specs.Prelude.{IsTrue}
 use Rattle.std.specs.List.{sum_by, AllByRecursion}
 use Rattle.std.proofs.lemmas.Bool.{cases_Bool, cases_eq, cond-true, cond-false, true≢false}
@@ -7,7 +7,8 @@ use Rattle.std.proofs.lemmas.List.Sums.{sum_by-cons}
 use Rattle.lrup_model.specs.Formula.{Cnf}
 use Rattle.lrup_model.specs.Layout.{LayoutValue, Fits, Owns, owner}
 use Rattle.lrup_model.specs.Event as events
-use Rattle.lrup_model.specs.Event.{Event, History, stream_of, size_of, own, spent}
+use Rattle.lrup_model.specs.Event.{Event, History, stream_of, own, published, spent}
+use Rattle.lrup_model.specs.Running.{size_of, spent-sizes}
 use Rattle.lrup_model.specs.State.{State, Slot, absent, IsLive, IsRetired, after, opening, Answers}
 use Rattle.lrup_model.specs.History.{IsAllowed, LegalFrom, IsLegal}
 use Rattle.lrup_model.specs.Laws.{among, FindsWithin}
@@ -145,11 +146,13 @@ among-legal f p set whole part (e ∷ h) rel legal finds =
 
 spent-mine : (s : ℕ) (e : Event) (h : History) → stream_of e ≡ s
     → spent s (e ∷ h) ≡ size_of e + spent s h
-spent-mine s e h mine = ap (sum_by size_of) (own-mine e h s mine) ∙ sum_by-cons size_of e (own h s)
+spent-mine s e h mine =
+    spent-sizes s (e ∷ h) ∙ ap (sum_by size_of) (own-mine e h s mine) ∙ sum_by-cons size_of e (own h s)
+    ∙ ap (λ n. size_of e + n) (sym (spent-sizes s h))
 
 spent-other : (s : ℕ) (e : Event) (h : History) → (stream_of e ≡ s → ⊥)
     → spent s (e ∷ h) ≡ spent s h
-spent-other s e h other = ap (sum_by size_of) (own-other e h s other)
+spent-other s e h other = ap (λ (es : History). sum_by (λ p. length p.1) (published es)) (own-other e h s other)
 
 spent-rest : (s : ℕ) (e : Event) (h : History) → spent s h ≤ spent s (e ∷ h)
 spent-rest s e h =

@@ -1,12 +1,14 @@
--- Running and legality of one history behind another. These lemmas stand beside the definitions since the laws of a place at a clause map rest on them.
-use Rattle.std.specs.Prelude.{◌≡◌, ◌+◌, ◌==◌, ◌++◌, ℕ, [], ◌∷◌}
+-- Running and legality of one history behind another, and what an event takes of the room. These lemmas stand beside the definitions since the laws of a place at a clause map rest on them.
+use Rattle.std.specs.Prelude.{◌≡◌, ◌+◌, ◌==◌, ◌++◌, ℕ, [], ◌∷◌, length}
 use Rattle.std.specs.List.{sum_by, AllByRecursion}
-use Rattle.std.proofs.Common.{refl, ap, ◌∙◌}
+use Rattle.std.proofs.Common.{refl, ap, ◌∙◌, arith}
 use Rattle.std.proofs.lemmas.List.Elements.{filter-append}
-use Rattle.std.proofs.lemmas.List.Sums.{sum_by-append}
+use Rattle.std.proofs.lemmas.List.Sums.{sum_by-append, sum_by-cons}
 use Rattle.lrup_model.specs.Formula.{Cnf}
 use Rattle.lrup_model.specs.Layout.{LayoutValue}
-use Rattle.lrup_model.specs.Event.{History, stream_of, size_of, own, spent}
+use Rattle.lrup_model.specs.Event as events
+use Rattle.lrup_model.specs.Event.{Event, History, stream_of, own, published, spent}
+use Rattle.lrup_model.specs.declared.clause_map.Published.TheVariants as publishing
 use Rattle.lrup_model.specs.State.{State, after, run}
 use Rattle.lrup_model.specs.History.{LegalFrom}
 
@@ -22,8 +24,32 @@ legal-append f p m (e ∷ g) h front back = (front.0, front.1, legal-append f p 
 pub own-append : (g h : History) (s : ℕ) → own (g ++ h) s ≡ own g s ++ own h s
 own-append g h s = filter-append (λ e. stream_of e == s) g h
 
+-- the literals that an event takes of its stream's room
+abbrev pub size_of : Event → ℕ
+size_of (events.fetch s id r) = 0
+size_of (events.publish s id c publishing.Done) = length c
+size_of (events.publish s id c publishing.Taken) = 0
+size_of (events.retire s id r) = 0
+
+sizes : (es : History) → sum_by (λ p. length p.1) (published es) ≡ sum_by size_of es
+sizes [] = refl
+sizes (events.fetch s id r ∷ es) =
+    omega (arith, sizes es, sum_by-cons size_of (events.fetch s id r) es)
+sizes (events.publish s id c publishing.Done ∷ es) =
+    omega (arith, sizes es, sum_by-cons size_of (events.publish s id c publishing.Done) es, sum_by-cons (λ p. length p.1) (id, c) (published es))
+sizes (events.publish s id c publishing.Taken ∷ es) =
+    omega (arith, sizes es, sum_by-cons size_of (events.publish s id c publishing.Taken) es)
+sizes (events.retire s id r ∷ es) =
+    omega (arith, sizes es, sum_by-cons size_of (events.retire s id r) es)
+
+pub spent-sizes : (s : ℕ) (h : History) → spent s h ≡ sum_by size_of (own h s)
+spent-sizes s h = sizes (own h s)
+
 pub spent-append : (s : ℕ) (g h : History) → spent s (g ++ h) ≡ spent s g + spent s h
-spent-append s g h = ap (sum_by size_of) (own-append g h s) ∙ sum_by-append size_of (own g s) (own h s)
+spent-append s g h =
+    let both = sum_by-append size_of (own g s) (own h s) in
+    let all = ap (sum_by size_of) (own-append g h s) in
+    omega (arith, both, all, spent-sizes s (g ++ h), spent-sizes s g, spent-sizes s h)
 
 pub callers-append : (s : ℕ) (g h : History) → AllByRecursion (λ e. stream_of e ≡ s) g
     → AllByRecursion (λ e. stream_of e ≡ s) h → AllByRecursion (λ e. stream_of e ≡ s) (g ++ h)

@@ -36,10 +36,6 @@ retire_slot absent = absent
 retire_slot (live c) = retired c
 retire_slot (retired c) = retired c
 
--- the state with another slot at one identity
-abbrev pub put : State → ℕ → Slot → State
-put m id slot = λ j. if j == id then slot else m j
-
 -- identities from 1 on are the formula's clauses, live; all others are absent
 abbrev pub opening : Cnf → State
 opening f =
@@ -48,9 +44,10 @@ opening f =
 -- the state after an event
 abbrev pub after : State → Event → State
 after m (events.fetch s id r) = m
-after m (events.publish s id c publishing.Done) = put m id (live c)
+after m (events.publish s id c publishing.Done) = λ j. if j == id then live c else m j
 after m (events.publish s id c publishing.Taken) = m
-after m (events.retire s id retiring.Done) = put m id (retire_slot (m id))
+after m (events.retire s id retiring.Done) =
+    λ j. if j == id then retire_slot (m id) else m j
 after m (events.retire s id retiring.NotLive) = m
 
 -- the state after the events, one after the other

@@ -141,7 +141,8 @@ pub trait ClauseMap {
             ≡ (place self.new).caller.layout.vars }
         ensures follow { AllFollow (place self.new) };
 
-    /// Literal `k`, from 0 on, of a clause whose clip is known here, in the order in which it is kept, which stays.
+    /// Literal `k`, from 0 on, of a clause whose clip is known here, in the order in which the map keeps the clause, which
+    /// never changes.
     fn literal(&mut self, clip: &Clip, k: u32) -> Lit
         requires known { IsKnown (place self.old) clip.now }
         requires within { k < clip.now.len }

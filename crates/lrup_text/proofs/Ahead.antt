@@ -8,7 +8,8 @@ use Rattle.std.proofs.lemmas.List.{append_assoc, append-nil, length-append, leng
 use Rattle.lrup_model.specs.ListLemmas.{All-append}
 use Rattle.lrup_text.specs.declared.machine.Place.TheVariants as places
 use Rattle.lrup_text.specs.declared.machine.PartialLine.{PartialLine}
-use Rattle.lrup_text.specs.Grammar.{IsDigit, SpellsNumber, SpellsLiteral, space, minus}
+use Rattle.lrup_text.specs.ByteNames.{space, minus}
+use Rattle.lrup_text.specs.Grammar.{IsDigit, SpellsNumber, SpellsLiteral}
 use Rattle.lrup_text.specs.Kernel.{ReadsLiterals, ReadsItems, numbers_text}
 use Rattle.lrup_text.specs.Lines.{IsStreamNumber, IsStreamLiteral}
 use Rattle.lrup_text.specs.Reading.{IsPartialLine, ReadsAhead, pending, pending_at, spot_at, IsRoomy, literals_text, items_text, clause_front, list_front, literals_read, identities_read}

@@ -11,8 +11,9 @@ use Rattle.lrup_text.specs.declared.LineFault.TheVariants.{Spelling, TooLong, Ra
 use Rattle.lrup_text.specs.declared.machine.Place.{Place}
 use Rattle.lrup_text.specs.declared.machine.Place.TheVariants as places
 use Rattle.lrup_text.specs.declared.machine.PartialLine.{PartialLine}
-use Rattle.lrup_text.specs.Grammar.{space, minus, zero_digit, letter_d, letter_i, line_feed, IsDigit, list_text, clause_text}
-use Rattle.lrup_text.specs.Faults.{Decides}
+use Rattle.lrup_text.specs.ByteNames.{space, minus, zero_digit, letter_d, letter_i, line_feed}
+use Rattle.lrup_text.specs.Grammar.{IsDigit, list_text, clause_text}
+use Rattle.lrup_text.specs.Faults.{IsRefused}
 use Rattle.lrup_text.specs.Lines.{IsWithinLimits, IsStreamNumber, IsStreamLiteral, LineText, line_text}
 use Rattle.lrup_text.specs.Rests.{Spot, InLead, AfterImport, BeforeLiteral, AfterMinus, InLiteral, BeforeList, BeforeItem, InItem, AtEnd, Tracks, Moves, Blocks, Allows}
 use Rattle.lrup_text.specs.Reading.{FitsDigits, CanStandInLine, IsPartialLine, pending_at, spot_at, pending, IsRoomy, clause_front, list_front, item_front, end_front, literal_front, literals_read, identities_read, literals_text, items_text, line_so_far, line_of_parts}
@@ -85,11 +86,11 @@ pub bounded : (m : PartialLine) → IsPartialLine m → IsBounded (spot_at m.pla
 bounded m h = bounded_at m m.place h h.roomy
 
 module _ (m : PartialLine) (place : Place) (at : m.place ≡ place) (reads : IsPartialLine m) (b : ℕ) where
-  pub spelling_at : ((signed : Bool) → Blocks signed (spot_at place m) b) → Decides (pending m) b Spelling
+  pub spelling_at : ((signed : Bool) → Blocks signed (spot_at place m) b) → IsRefused (pending m ++ b ∷ []) Spelling
   spelling_at blocks =
       decides_spelling (pending m) (spot_at m.place m) b reads.tracks (bounded m reads) (subst (λ p. (signed : Bool) → Blocks signed (spot_at p m) b) (sym at) blocks)
 
-  pub long_at : Exceeds (spot_at place m) b → Decides (pending m) b TooLong
+  pub long_at : Exceeds (spot_at place m) b → IsRefused (pending m ++ b ∷ []) TooLong
   long_at exceeds = decides_long (pending m) (spot_at m.place m) b reads.tracks (bounded m reads) (subst (λ p. Exceeds (spot_at p m) b) (sym at) exceeds)
 
 -- the same line elsewhere, after one more byte
@@ -194,7 +195,7 @@ module _ (m : PartialLine) (b : ℕ) (h : IsPartialLine m) where
         pending_next m next places.Start at h b is,
       )
 
-  pub start_spelling : m.place ≡ places.Start → NoFirst b → Decides (pending m) b Spelling
+  pub start_spelling : m.place ≡ places.Start → NoFirst b → IsRefused (pending m ++ b ∷ []) Spelling
   unfolding spot_at
   start_spelling at never = spelling_at m places.Start at h b (λ signed. start_blocks signed b never)
 
@@ -226,13 +227,13 @@ module _ (m : PartialLine) (b : ℕ) (h : IsPartialLine m) where
         pending_next m next places.Lead at h b is,
       )
 
-  pub lead_too_long : m.place ≡ places.Lead → IsDigit b → 18 ≤ m.digits → Decides (pending m) b TooLong
+  pub lead_too_long : m.place ≡ places.Lead → IsDigit b → 18 ≤ m.digits → IsRefused (pending m ++ b ∷ []) TooLong
   unfolding spot_at
   lead_too_long at digit many =
       let e : m.digits ≡ 18 = omega (arith, h.number.few) in
       long_at m places.Lead at h b (subst (λ k. Exceeds (InLead k) b) (sym e) (lead_exceeds b digit))
 
-  pub lead_spelling : m.place ≡ places.Lead → NoDigit b → b ≢ space → Decides (pending m) b Spelling
+  pub lead_spelling : m.place ≡ places.Lead → NoDigit b → b ≢ space → IsRefused (pending m ++ b ∷ []) Spelling
   unfolding spot_at
   lead_spelling at never ne = spelling_at m places.Lead at h b (λ signed. lead_blocks signed m.digits b never ne)
 
@@ -259,7 +260,7 @@ module _ (m : PartialLine) (b : ℕ) (h : IsPartialLine m) where
         pending_next m next places.Import at h b is,
       )
 
-  pub import_spelling : m.place ≡ places.Import → b ≢ space → Decides (pending m) b Spelling
+  pub import_spelling : m.place ≡ places.Import → b ≢ space → IsRefused (pending m ++ b ∷ []) Spelling
   unfolding spot_at
   import_spelling at ne = spelling_at m places.Import at h b (λ signed. import_blocks signed b ne)
 
@@ -373,14 +374,14 @@ module _ (m : PartialLine) (b : ℕ) (h : IsPartialLine m) where
         pending_next m next places.Body at h b is,
       )
 
-  pub body_too_long : m.place ≡ places.Body → m.literal_count ≡ 65535 → (b ≢ minus → (49 ≤ b) × (b ≤ 57)) → Decides (pending m) b TooLong
+  pub body_too_long : m.place ≡ places.Body → m.literal_count ≡ 65535 → (b ≢ minus → (49 ≤ b) × (b ≤ 57)) → IsRefused (pending m ++ b ∷ []) TooLong
   unfolding spot_at
   body_too_long at many kind = long_at m places.Body at h b (subst (λ n. Exceeds (BeforeLiteral m.imports n) b) (sym many) (exceeds b kind))
     where
       exceeds : (x : ℕ) → (x ≢ minus → (49 ≤ x) × (x ≤ 57)) → Exceeds (BeforeLiteral m.imports 65535) x
       exceeds x kind = elim (cases_eq x minus) [ inl e ↦ subst (Exceeds (BeforeLiteral m.imports 65535)) (sym e) (body_exceeds_minus m.imports) | inr ne ↦ body_exceeds_digit m.imports x (kind ne).0 (kind ne).1 ]
 
-  pub body_spelling : m.place ≡ places.Body → b ≢ zero_digit → b ≢ minus → NoFirst b → (m.literal_count ≡ 0 → m.imports ≡ false → (b ≢ letter_d) × (b ≢ letter_i)) → Decides (pending m) b Spelling
+  pub body_spelling : m.place ≡ places.Body → b ≢ zero_digit → b ≢ minus → NoFirst b → (m.literal_count ≡ 0 → m.imports ≡ false → (b ≢ letter_d) × (b ≢ letter_i)) → IsRefused (pending m ++ b ∷ []) Spelling
   unfolding spot_at
   body_spelling at not_zero not_minus never no_letter = spelling_at m places.Body at h b (λ signed. body_blocks signed m.imports m.literal_count b not_zero not_minus never no_letter)
 
@@ -403,7 +404,7 @@ module _ (m : PartialLine) (b : ℕ) (h : IsPartialLine m) where
         pending_next m next places.Minus at h b is,
       )
 
-  pub minus_spelling : m.place ≡ places.Minus → NoFirst b → Decides (pending m) b Spelling
+  pub minus_spelling : m.place ≡ places.Minus → NoFirst b → IsRefused (pending m ++ b ∷ []) Spelling
   unfolding spot_at
   minus_spelling at never = spelling_at m places.Minus at h b (λ signed. minus_blocks signed m.imports m.literal_count b never)
 
@@ -475,14 +476,14 @@ module _ (m : PartialLine) (b : ℕ) (h : IsPartialLine m) where
         pending_next m next places.Literal at h b is,
       )
 
-  pub literal_too_long : m.place ≡ places.Literal → IsDigit b → 18 ≤ m.digits → Decides (pending m) b TooLong
+  pub literal_too_long : m.place ≡ places.Literal → IsDigit b → 18 ≤ m.digits → IsRefused (pending m ++ b ∷ []) TooLong
   unfolding spot_at IsRoomy
   literal_too_long at digit many =
       let e : m.digits ≡ 18 = omega (arith, h.number.few) in
       let roomy : (m.identity_count ≡ 0) × (m.literal_count < 65535) = subst (λ p. IsRoomy p m) at h.roomy in
       long_at m places.Literal at h b (subst (λ k. Exceeds (InLiteral m.imports k m.literal_count) b) (sym e) (literal_exceeds m.imports m.literal_count b roomy.1 digit))
 
-  pub literal_spelling : m.place ≡ places.Literal → NoDigit b → b ≢ space → Decides (pending m) b Spelling
+  pub literal_spelling : m.place ≡ places.Literal → NoDigit b → b ≢ space → IsRefused (pending m ++ b ∷ []) Spelling
   unfolding spot_at
   literal_spelling at never ne = spelling_at m places.Literal at h b (λ signed. literal_blocks signed m.imports m.digits m.literal_count b never ne)
 
@@ -508,7 +509,7 @@ module _ (m : PartialLine) (b : ℕ) (h : IsPartialLine m) where
         pending_next m next places.List at h b is,
       )
 
-  pub list_spelling : m.place ≡ places.List → b ≢ space → Decides (pending m) b Spelling
+  pub list_spelling : m.place ≡ places.List → b ≢ space → IsRefused (pending m ++ b ∷ []) Spelling
   unfolding spot_at
   list_spelling at ne = spelling_at m places.List at h b (λ signed. list_blocks signed m.deletes b ne)
 
@@ -550,11 +551,11 @@ module _ (m : PartialLine) (b : ℕ) (h : IsPartialLine m) where
         pending_next m next places.Item at h b is,
       )
 
-  pub item_too_long : m.place ≡ places.Item → 49 ≤ b → b ≤ 57 → m.identity_count ≡ 65536 → Decides (pending m) b TooLong
+  pub item_too_long : m.place ≡ places.Item → 49 ≤ b → b ≤ 57 → m.identity_count ≡ 65536 → IsRefused (pending m ++ b ∷ []) TooLong
   unfolding spot_at
   item_too_long at low high many = long_at m places.Item at h b (subst (λ n. Exceeds (BeforeItem m.deletes n) b) (sym many) (item_exceeds m.deletes b low high))
 
-  pub item_rat : m.place ≡ places.Item → b ≡ minus → m.deletes ≡ false → Decides (pending m) b RatHint
+  pub item_rat : m.place ≡ places.Item → b ≡ minus → m.deletes ≡ false → IsRefused (pending m ++ b ∷ []) RatHint
   unfolding spot_at
   item_rat at e keeps =
       decides_rat (pending m) (spot_at m.place m) b h.tracks (bounded m h)
@@ -562,7 +563,7 @@ module _ (m : PartialLine) (b : ℕ) (h : IsPartialLine m) where
       (subst (λ p. Allows true (spot_at p m) b) (sym at)
       (subst (λ x. Allows true (BeforeItem m.deletes m.identity_count) x) (sym e) (subst (λ d. Allows true (BeforeItem d m.identity_count) minus) (sym keeps) (hint_allows m.identity_count h.kept.few_identities))))
 
-  pub item_spelling : m.place ≡ places.Item → b ≢ zero_digit → NoFirst b → (b ≡ minus → m.deletes ≡ true) → Decides (pending m) b Spelling
+  pub item_spelling : m.place ≡ places.Item → b ≢ zero_digit → NoFirst b → (b ≡ minus → m.deletes ≡ true) → IsRefused (pending m ++ b ∷ []) Spelling
   unfolding spot_at
   item_spelling at not_zero never deletes =
       spelling_at m places.Item at h b (λ signed. item_blocks signed m.deletes m.identity_count b not_zero never (λ e keeps s. let both : true ≡ false = sym (deletes e) ∙ keeps in cc))
@@ -628,20 +629,20 @@ module _ (m : PartialLine) (b : ℕ) (h : IsPartialLine m) where
         pending_next m next places.Number at h b is,
       )
 
-  pub number_too_long : m.place ≡ places.Number → IsDigit b → 18 ≤ m.digits → Decides (pending m) b TooLong
+  pub number_too_long : m.place ≡ places.Number → IsDigit b → 18 ≤ m.digits → IsRefused (pending m ++ b ∷ []) TooLong
   unfolding spot_at IsRoomy
   number_too_long at digit many =
       let e : m.digits ≡ 18 = omega (arith, h.number.few) in
       let roomy : (m.identity_count < 65536) × (m.imports ≡ false) = subst (λ p. IsRoomy p m) at h.roomy in
       long_at m places.Number at h b (subst (λ k. Exceeds (InItem m.deletes k m.identity_count) b) (sym e) (number_exceeds m.deletes m.identity_count b roomy.0 digit))
 
-  pub number_spelling : m.place ≡ places.Number → NoDigit b → b ≢ space → Decides (pending m) b Spelling
+  pub number_spelling : m.place ≡ places.Number → NoDigit b → b ≢ space → IsRefused (pending m ++ b ∷ []) Spelling
   unfolding spot_at
   number_spelling at never ne = spelling_at m places.Number at h b (λ signed. number_blocks signed m.deletes m.digits m.identity_count b never ne)
 
   -- LineEnd
 
-  pub end_spelling : m.place ≡ places.LineEnd → b ≢ line_feed → Decides (pending m) b Spelling
+  pub end_spelling : m.place ≡ places.LineEnd → b ≢ line_feed → IsRefused (pending m ++ b ∷ []) Spelling
   unfolding spot_at
   end_spelling at ne = spelling_at m places.LineEnd at h b (λ signed. end_blocks signed b ne)
 

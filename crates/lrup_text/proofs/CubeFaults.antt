@@ -8,8 +8,9 @@ use Rattle.lrup_text.specs.declared.cube.CubeFault.{CubeFault}
 use Rattle.lrup_text.specs.declared.cube.CubeFault.TheVariants.{Spelling, TooLong}
 use Rattle.lrup_text.specs.CubeReading.{EndsAtSpot, IsRestFault, import_front}
 use Rattle.lrup_text.specs.Cubes.{IsCubeLine, BeginsOne, BeginsOneLifted, BeginsNone, IsTextFault}
-use Rattle.lrup_text.specs.Faults.{Decides}
-use Rattle.lrup_text.specs.Grammar.{Limits, AreLifted, standard, IsLine, BeginsWithin, clause_text, line_feed, space, letter_i, zero_digit}
+use Rattle.lrup_text.specs.Faults.{IsRefused}
+use Rattle.lrup_text.specs.ByteNames.{line_feed, space, letter_i, zero_digit}
+use Rattle.lrup_text.specs.Grammar.{Limits, AreLifted, standard, IsLine, clause_text}
 use Rattle.lrup_text.specs.Rests.{Spot, AtStart, InLead, AfterImport, BeforeLiteral, AtEnd, BodyFollows, Moves, Blocks}
 use Rattle.lrup_text.proofs.Decisions.{decides_spelling, decides_long}
 use Rattle.lrup_text.proofs.Steps.{IsBounded, Exceeds, tracks_more, tracks_begins, standard_lifted, at_start, start_digit, lead_space, body_import, import_space, body_end, end_blocks}
@@ -38,22 +39,22 @@ module _ (limits : Limits) (lifted : AreLifted false limits) (bytes : List ℕ) 
       list (inl c) = let few : 0 + length c.words ≤ limits.literals = c.count in (c.words, record { count = omega arith; each = c.each }, c.is ∙ ap (clause_text c.words) c.end)
       list (inr c) = let e : true ≡ false = c.1 in cc
 
-begins_line : (limits : Limits) → AreLifted false limits → (bytes : List ℕ) → BeginsOne IsCubeLine limits bytes → BeginsWithin limits (import_front ++ bytes)
+begins_line : (limits : Limits) → AreLifted false limits → (bytes : List ℕ) → BeginsOne IsCubeLine limits bytes → (rest : List ℕ) × IsLine limits ((import_front ++ bytes) ++ rest)
 begins_line limits lifted bytes h = (h.0, line_of_cube limits lifted (bytes ++ h.0) h.1)
 
-begins_cube : (limits : Limits) → AreLifted false limits → (bytes : List ℕ) → BeginsWithin limits (import_front ++ bytes) → BeginsOne IsCubeLine limits bytes
+begins_cube : (limits : Limits) → AreLifted false limits → (bytes : List ℕ) → ((rest : List ℕ) × IsLine limits ((import_front ++ bytes) ++ rest)) → BeginsOne IsCubeLine limits bytes
 begins_cube limits lifted bytes h = (h.0, cube_of_line limits lifted (bytes ++ h.0) h.1)
 
 -- A byte that decides it of the line decides it of the text.
 
 module _ (read : List ℕ) (spot : Spot) (byte : ℕ) (after : List ℕ) (stands : EndsAtSpot read spot) (bounded : IsBounded spot) where
-  none : (fault : LineFault) (Shortest : List ℕ → Type 0) → Decides (import_front ++ read) byte fault → Shortest (read ++ byte ∷ []) → BeginsNone IsCubeLine (read ++ byte ∷ after) Shortest
+  none : (fault : LineFault) (Shortest : List ℕ → Type 0) → IsRefused ((import_front ++ read) ++ byte ∷ []) fault → Shortest (read ++ byte ∷ []) → BeginsNone IsCubeLine (read ++ byte ∷ after) Shortest
   none fault Shortest h shortest = record {
     read = read;
     byte = byte;
     after = after;
     is = refl;
-    before = begins_cube standard standard_lifted read h.before.begins;
+    before = begins_cube standard standard_lifted read (tracks_begins (import_front ++ read) spot stands bounded);
     none = λ b. h.after (begins_line standard standard_lifted (read ++ byte ∷ []) b);
     shortest = shortest;
   }
@@ -61,12 +62,12 @@ module _ (read : List ℕ) (spot : Spot) (byte : ℕ) (after : List ℕ) (stands
   pub misspelled : ((signed : Bool) → Blocks signed spot byte) → IsTextFault IsCubeLine (read ++ byte ∷ after) Spelling
   misspelled blocks =
       let h = decides_spelling (import_front ++ read) spot byte stands bounded blocks in
-      inr (none lines.Spelling (λ s. ¬ BeginsOneLifted IsCubeLine s) h (λ l. h.why.0 (l.0, l.1, begins_line l.0 l.1 (read ++ byte ∷ []) l.2)))
+      inr (none lines.Spelling (λ s. ¬ BeginsOneLifted IsCubeLine s) h (λ l. let line = begins_line l.0 l.1 (read ++ byte ∷ []) l.2 in h.why.0 (l.0, line.0, l.1, line.1)))
 
   pub too_long : Exceeds spot byte → IsTextFault IsCubeLine (read ++ byte ∷ after) TooLong
   too_long exceeds =
       let h = decides_long (import_front ++ read) spot byte stands bounded exceeds in
-      none lines.TooLong (BeginsOneLifted IsCubeLine) h (h.why.0, h.why.1, begins_cube h.why.0 h.why.1 (read ++ byte ∷ []) h.why.2)
+      none lines.TooLong (BeginsOneLifted IsCubeLine) h (h.why.0, h.why.2, begins_cube h.why.0 h.why.2 (read ++ byte ∷ []) (h.why.1, h.why.3))
 
 -- the fault of the rest after a byte
 pub rest_fault : (spot next : ℕ → Spot) (byte : ℕ) (after : List ℕ) (fault : CubeFault) → ((n : ℕ) → Moves (spot n) byte (next n)) → IsRestFault next after fault → IsRestFault spot (byte ∷ after) fault

@@ -10,7 +10,8 @@ use Rattle.lrup_text.specs.declared.cube.CubeFault.{CubeFault}
 use Rattle.lrup_text.specs.declared.cube.CubeFault.TheVariants.{Spelling, TooLong, Range, Memory}
 use Rattle.lrup_text.specs.CubeReading.{EndsAtSpot, import_front, IsRestFault, BeginsWithNumber, ReadsLiteral, AreKept, AreNotKept}
 use Rattle.lrup_text.specs.Cubes.{IsCubeLine, IsLiteralsText, IsTextFault, IsCubeFault}
-use Rattle.lrup_text.specs.Grammar.{IsDigit, line_feed, space, zero_digit}
+use Rattle.lrup_text.specs.ByteNames.{line_feed, space, zero_digit}
+use Rattle.lrup_text.specs.Grammar.{IsDigit}
 use Rattle.lrup_text.specs.Lines.{IsStreamLiteral}
 use Rattle.lrup_text.specs.Reading.{FitsDigits, literals_text}
 use Rattle.lrup_text.proofs.Bytes.{first_digit, more_digits, below_limit, decimal_next, positive, text_more, literals_end}

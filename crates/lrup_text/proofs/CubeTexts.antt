@@ -4,7 +4,7 @@ use Rattle.lrup_model.specs.Cube.{CubeValue, IsCubeOf, IsCubeOver}
 use Rattle.lrup_model.specs.ListLemmas.{All-map}
 use Rattle.lrup_model.specs.Literal.{IsLiteral}
 use Rattle.lrup_text.specs.Cubes.{IsLiteralsText, IsCubeText, CubeTextIsRead}
-use Rattle.lrup_text.specs.Grammar.{line_feed}
+use Rattle.lrup_text.specs.ByteNames.{line_feed}
 use Rattle.lrup_text.specs.Lines.{IsStreamLiteral}
 use Rattle.lrup_text.specs.Reading.{literals_text}
 use Rattle.lrup_text.proofs.Bytes.{literals_end}

@@ -7,8 +7,9 @@ use Rattle.std.proofs.lemmas.List.{append_assoc, append-nil, length-append, nil_
 use Rattle.lrup_model.specs.ListLemmas.{All-append}
 use Rattle.lrup_text.specs.declared.LineFault.{LineFault}
 use Rattle.lrup_text.specs.declared.LineFault.TheVariants.{Spelling, TooLong, RatHint}
-use Rattle.lrup_text.specs.Faults.{Decides, HasTextFault}
-use Rattle.lrup_text.specs.Grammar.{IsDigit, IsLine, standard, line_feed, space, minus, zero_digit, letter_d, letter_i}
+use Rattle.lrup_text.specs.Faults.{IsRefused, HasTextFault}
+use Rattle.lrup_text.specs.ByteNames.{line_feed, space, minus, zero_digit, letter_d, letter_i}
+use Rattle.lrup_text.specs.Grammar.{IsDigit, IsLine, standard}
 use Rattle.lrup_text.specs.Laws.{BeginningCut, CutGoesOn, EveryCut, PendingOrFaulty}
 use Rattle.lrup_text.specs.Lines.{StreamLine, IsWithinLimits, line_text, HasNoLine, Cut, IsPending}
 use Rattle.lrup_text.specs.Rests.{Spot, AtStart, InLead, AfterImport, BeforeLiteral, AfterMinus, InLiteral, BeforeList, BeforeItem, InItem, AtEnd, MayComplete, Tracks, Moves, Blocks, Allows}
@@ -163,8 +164,8 @@ front_from read spot tracks bounded (b ∷ bytes) = elim (byte_at spot b bounded
   | ends_line here is ↦ line (tracks.line false standard standard_lifted (b ∷ []) (subst (λ s. MayComplete standard s (b ∷ [])) (sym here) (ap (λ x. x ∷ []) is)))
 ]
   where
-    decided : (fault : LineFault) → Decides read b fault → Front (read ++ b ∷ bytes)
-    decided fault h = faulty fault (read ++ b ∷ [], bytes, sym (one_more read b bytes), (read, b, refl, h))
+    decided : (fault : LineFault) → IsRefused (read ++ b ∷ []) fault → Front (read ++ b ∷ bytes)
+    decided fault h = faulty fault (read ++ b ∷ [], bytes, sym (one_more read b bytes), h)
 
     line : IsLine standard (read ++ b ∷ []) → Front (read ++ b ∷ bytes)
     line h =

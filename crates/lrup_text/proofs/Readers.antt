@@ -9,7 +9,8 @@ use Rattle.lrup_text.specs.declared.machine.ByteStep.{ByteStep}
 use Rattle.lrup_text.specs.declared.machine.ByteStep.TheVariants.{More, Done, Refused}
 use Rattle.lrup_text.specs.Faults.{IsRefused}
 use Rattle.lrup_text.specs.declared.machine.PartialLine.{PartialLine}
-use Rattle.lrup_text.specs.Grammar.{space, minus, zero_digit, letter_i, SpellsNumber}
+use Rattle.lrup_text.specs.ByteNames.{space, minus, zero_digit, letter_i}
+use Rattle.lrup_text.specs.Grammar.{SpellsNumber}
 use Rattle.lrup_text.specs.Lines.{IsPending, IsStreamNumber, LineText}
 use Rattle.lrup_text.specs.Reading.{HasRoom, FitsDigits, CanStandInLine, IsPartialLine, ReadsAhead, ReadsByte, StepsThrough, pending_at, spot_at, pending, IsRoomy, line_so_far, clause_front, list_front, item_front, end_front, literal_front, literals_text, items_text, literals_read, identities_read}
 use Rattle.lrup_text.proofs.Bytes.{bounded, below_limit}
@@ -126,7 +127,7 @@ pub steps_byte : (old mid new : PartialLine) (piece : List ℕ) (used byte : ℕ
     → StepsThrough old piece (used + 1) step new
 steps_byte old mid new piece used byte More h inside is ends k = absurd (ends refl)
 steps_byte old mid new piece used byte Done h inside is ends k = (omega arith, omega arith, k.0, k.1, subst (LineText (line_so_far new)) (byte_after old mid piece used byte h.is inside is) k.2)
-steps_byte old mid new piece used byte (Refused fault) h inside is ends k = (omega arith, omega arith, (pending mid, byte, sym (byte_after old mid piece used byte h.is inside is), k))
+steps_byte old mid new piece used byte (Refused fault) h inside is ends k = (omega arith, omega arith, subst (λ t. IsRefused t fault) (byte_after old mid piece used byte h.is inside is) k)
 
 pub takes_all : (old new : PartialLine) (piece : List ℕ) (used : ℕ) → ReadsAhead old piece used new → length piece ≤ used → StepsThrough old piece used More new
 takes_all old new piece used h all = (omega (arith, h.bound), h.reads, h.is ∙ ap (λ t. pending old ++ t) (take_all used piece all))

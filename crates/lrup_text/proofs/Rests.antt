@@ -2,7 +2,8 @@
 use Rattle.std.proofs.Common.{◌≡◌, ℕ, ◌+◌, ◌<◌, ◌≤◌, ◌⊎◌, inl, inr, Bool, true, false, List, [], ◌∷◌, ◌++◌, length, refl, sym, ◌∙◌, ap, subst, arith}
 use Rattle.std.specs.Prelude.{MatchBool}
 use Rattle.std.specs.List.{AllByRecursion}
-use Rattle.lrup_text.specs.Grammar.{Limits, AreWords, IsDigit, SpellsNumber, SpellsLiteral, IsLine, Words, Adds, Deletes, Imports, AreWordsWithin, text, list_text, clause_text, line_feed, space, letter_d, letter_i, minus, zero_digit}
+use Rattle.lrup_text.specs.ByteNames.{line_feed, space, letter_d, letter_i, minus, zero_digit}
+use Rattle.lrup_text.specs.Grammar.{Limits, AreFew, IsDigit, SpellsNumber, SpellsLiteral, IsLine, Words, Adds, Deletes, Imports, AreWordsWithin, text, list_text, clause_text}
 use Rattle.lrup_text.specs.Rests.{SpellsItem, ListFollows, ClauseEnds, ClauseFollows, LiteralsFollow, BodyFollows, DigitsFollow, NumberFollows}
 
 pub same_head : {a b : ℕ} {xs ys : List ℕ} → a ∷ xs ≡ b ∷ ys → a ≡ b
@@ -191,12 +192,12 @@ clause_from_minus limits imports n rest f =
 
 -- Lines.
 
-list_of_words : (limits : Limits) (deletes : Bool) (ws : List (List ℕ)) → AreWords limits.identities (SpellsItem limits deletes) ws → ListFollows limits deletes 0 (list_text ws)
+list_of_words : (limits : Limits) (deletes : Bool) (ws : List (List ℕ)) → AreFew limits.identities (SpellsItem limits deletes) ws → ListFollows limits deletes 0 (list_text ws)
 list_of_words limits deletes ws h =
     let few : length ws ≤ limits.identities = h.count in
     record { words = ws; count = omega arith; each = h.each; is = refl }
 
-words_of_list : (limits : Limits) (deletes : Bool) (rest : List ℕ) (f : ListFollows limits deletes 0 rest) → AreWords limits.identities (SpellsItem limits deletes) f.words
+words_of_list : (limits : Limits) (deletes : Bool) (rest : List ℕ) (f : ListFollows limits deletes 0 rest) → AreFew limits.identities (SpellsItem limits deletes) f.words
 words_of_list limits deletes rest f =
     let few : 0 + length f.words ≤ limits.identities = f.count in
     record { count = omega arith; each = f.each }
@@ -206,7 +207,7 @@ pub list_is_clause : (ws : List (List ℕ)) → list_text ws ≡ space ∷ claus
 list_is_clause [] = refl
 list_is_clause (w ∷ ws) = ap (λ t. space ∷ (w ++ t)) (list_is_clause ws)
 
-literals_of_words : (limits : Limits) (ws : List (List ℕ)) → AreWords limits.literals (SpellsLiteral limits.digits) ws → LiteralsFollow limits (list_text ws)
+literals_of_words : (limits : Limits) (ws : List (List ℕ)) → AreFew limits.literals (SpellsLiteral limits.digits) ws → LiteralsFollow limits (list_text ws)
 literals_of_words limits ws h =
     let few : length ws ≤ limits.literals = h.count in
     record {
@@ -215,7 +216,7 @@ literals_of_words limits ws h =
       clause = record { words = ws; count = omega arith; each = h.each; after = line_feed ∷ []; is = refl; end = refl };
     }
 
-words_of_literals : (limits : Limits) (rest : List ℕ) (f : LiteralsFollow limits rest) → AreWords limits.literals (SpellsLiteral limits.digits) f.clause.words
+words_of_literals : (limits : Limits) (rest : List ℕ) (f : LiteralsFollow limits rest) → AreFew limits.literals (SpellsLiteral limits.digits) f.clause.words
 words_of_literals limits rest f =
     let few : 0 + length f.clause.words ≤ limits.literals = f.clause.count in
     record { count = omega arith; each = f.clause.each }
@@ -253,7 +254,7 @@ line_from limits bytes f = cases f.digits.next
     cases : BodyFollows limits false 0 f.digits.after → IsLine limits bytes
     cases (inl c) =
         let few : 0 + length c.words ≤ limits.literals = c.count in
-        let lits : AreWords limits.literals (SpellsLiteral limits.digits) c.words = record { count = omega arith; each = c.each } in (
+        let lits : AreFew limits.literals (SpellsLiteral limits.digits) c.words = record { count = omega arith; each = c.each } in (
           Adds (f.first ∷ f.digits.more) c.words c.end.words,
           (word, lits, words_of_list limits false c.after c.end),
           is _ (c.is ∙ ap (clause_text c.words) c.end.is),

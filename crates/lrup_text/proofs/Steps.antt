@@ -1,7 +1,8 @@
 -- One byte at each spot: where it leads, that nothing may follow it, and why.
 use Rattle.std.proofs.Common.{◌≡◌, ℕ, ◌+◌, ◌<◌, ◌≤◌, ◌≢◌, ◌⊎◌, ◌↔◌, inl, inr, Bool, true, false, List, [], ◌∷◌, ◌++◌, refl, sym, ◌∙◌, subst, arith}
 use Rattle.std.proofs.lemmas.List.{append_assoc}
-use Rattle.lrup_text.specs.Grammar.{Limits, AreLifted, IsDigit, IsLine, standard, line_feed, space, letter_d, letter_i, minus, zero_digit, Begins}
+use Rattle.lrup_text.specs.ByteNames.{line_feed, space, letter_d, letter_i, minus, zero_digit}
+use Rattle.lrup_text.specs.Grammar.{Limits, AreLifted, IsDigit, IsLine, standard, Begins}
 use Rattle.lrup_text.specs.Rests.{Spot, AtStart, InLead, AfterImport, BeforeLiteral, AfterMinus, InLiteral, BeforeList, BeforeItem, InItem, AtEnd, ListFollows, ClauseEnds, ClauseFollows, LiteralsFollow, DeletionFollows, ImportFollows, BodyFollows, DigitsFollow, NumberFollows, MayComplete, Tracks, Moves, Blocks, Allows}
 use Rattle.lrup_text.proofs.Rests as rests
 use Rattle.lrup_text.proofs.Rests.{digits_to, digits_from_digit, digits_from_space, number_to, number_from, list_to_space, item_to, item_from_zero, item_from_digit, clause_to, clause_from_zero, clause_from_digit, clause_from_minus, line_to, line_from}

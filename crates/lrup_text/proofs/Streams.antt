@@ -9,9 +9,10 @@ use Rattle.lrup_text.specs.declared.LineFault.{LineFault}
 use Rattle.lrup_text.specs.declared.LineFault.TheVariants.{Spelling, TooLong, Truncated, RatHint}
 use Rattle.lrup_text.specs.declared.reader.ReaderTurn.{ReaderTurn}
 use Rattle.lrup_text.specs.declared.reader.ReaderTurn.TheVariants.{Line, NeedMore, Fault}
-use Rattle.lrup_text.specs.Grammar.{standard, IsDigit, SpellsNumber, SpellsLiteral, AreWords, Words, Adds, Deletes, Imports, AreWordsWithin, IsLine, text, minus, Begins}
-use Rattle.lrup_text.specs.Lines.{StreamLine, Addition, Deletion, Import, IsStreamNumber, IsStreamLiteral, AreFew, IsWithinLimits, LineText, words_of, line_text, HasNoLine, Cut, line_of}
-use Rattle.lrup_text.specs.Faults.{IsLineFaultOf, Decides, IsRefused}
+use Rattle.lrup_text.specs.ByteNames.{minus}
+use Rattle.lrup_text.specs.Grammar.{standard, IsDigit, SpellsNumber, SpellsLiteral, AreFew, Words, Adds, Deletes, Imports, AreWordsWithin, IsLine, text, Begins}
+use Rattle.lrup_text.specs.Lines.{StreamLine, Addition, Deletion, Import, IsStreamNumber, IsStreamLiteral, IsWithinLimits, LineText, words_of, line_text, HasNoLine, Cut, line_of}
+use Rattle.lrup_text.specs.Faults.{IsLineFaultOf, IsRefused}
 use Rattle.lrup_text.specs.Feeding.{ReaderState, Feeds, ReaderLeaves}
 use Rattle.lrup_text.specs.Cutting.{used_bytes, line_given, lines_given, IsCut}
 use Rattle.lrup_text.specs.Laws.{OneText, OneLine, NoTextBegins, TextsAreLines, OneCut, OneFault, EmptyCut, CallCuts, CallsCut, RefusedStays, OneFirstLine}
@@ -138,7 +139,7 @@ all_spelled {X} f P Q each (w ∷ ws) h =
     let rest : (xs : List X) × AllByRecursion P xs × (map f xs ≡ ws) = all_spelled f P Q each ws h.1 in
     (one.0 ∷ rest.0, (one.1, rest.1), ap (λ x. x ∷ map f rest.0) one.2 ∙ ap (λ t. w ∷ t) rest.2)
 
-few_spelled : {X : Type 0} (most : ℕ) (f : X → List ℕ) (P : X → Type 0) (Q : List ℕ → Type 0) → ((w : List ℕ) → Q w → (x : X) × P x × (f x ≡ w)) → (ws : List (List ℕ)) → AreWords most Q ws
+few_spelled : {X : Type 0} (most : ℕ) (f : X → List ℕ) (P : X → Type 0) (Q : List ℕ → Type 0) → ((w : List ℕ) → Q w → (x : X) × P x × (f x ≡ w)) → (ws : List (List ℕ)) → AreFew most Q ws
     → (xs : List X) × AreFew most P xs × (map f xs ≡ ws)
 few_spelled {X} most f P Q each ws h =
     let all : (xs : List X) × AllByRecursion P xs × (map f xs ≡ ws) = all_spelled f P Q each ws h.each in
@@ -209,48 +210,48 @@ faults_same bytes RatHint TooLong a b = absurd (a.0 b)
 faults_same bytes RatHint Truncated a b = absurd b
 faults_same bytes RatHint RatHint a b = refl
 
-refused_same : (p q x y : List ℕ) (b c : ℕ) (fault other : LineFault) → Decides p b fault → Decides q c other → (p ++ b ∷ []) ++ x ≡ (q ++ c ∷ []) ++ y → fault ≡ other
-refused_same p q x y b c fault other h k e =
-    let e' : p ++ b ∷ x ≡ q ++ c ∷ y = sym (append_assoc p (b ∷ []) x) ∙ e ∙ append_assoc q (c ∷ []) y in
-    elim (shorter p q (b ∷ x) y c e') [
-      | inl longer ↦ absurd (k.after (begins_before (q ++ c ∷ []) longer.0 (subst Begins longer.1 h.before.begins)))
-      | inr more ↦ elim (shorter q p (c ∷ y) x b (sym e')) [
-        | inl longer ↦ absurd (h.after (begins_before (p ++ b ∷ []) longer.0 (subst Begins longer.1 k.before.begins)))
+-- a text and what follows it, split before the text's last byte
+last_apart : (bytes p : List ℕ) (b : ℕ) (x : List ℕ) → bytes ≡ p ++ b ∷ [] → bytes ++ x ≡ p ++ b ∷ x
+last_apart bytes p b x is = ap (λ t. t ++ x) is ∙ append_assoc p (b ∷ []) x
+
+refused_same : (bytes others x y : List ℕ) (fault other : LineFault) → IsRefused bytes fault → IsRefused others other → bytes ++ x ≡ others ++ y → fault ≡ other
+refused_same bytes others x y fault other h k e =
+    elim (shorter h.read k.read (h.byte ∷ x) y k.byte e') [
+      | inl longer ↦ absurd (k.after (subst Begins (sym k.is) (begins_before (k.read ++ k.byte ∷ []) longer.0 (subst Begins longer.1 h.before.begins))))
+      | inr more ↦ elim (shorter k.read h.read (k.byte ∷ y) x h.byte (sym e')) [
+        | inl longer ↦ absurd (h.after (subst Begins (sym h.is) (begins_before (h.read ++ h.byte ∷ []) longer.0 (subst Begins longer.1 k.before.begins))))
         | inr back ↦ alike more.0 back.0 more.1 back.1
       ]
     ]
   where
-    alike : (more back : List ℕ) → q ≡ p ++ more → p ≡ q ++ back → fault ≡ other
+    e' : h.read ++ h.byte ∷ x ≡ k.read ++ k.byte ∷ y
+    e' = sym (last_apart bytes h.read h.byte x h.is) ∙ e ∙ last_apart others k.read k.byte y k.is
+
+    alike : (more back : List ℕ) → k.read ≡ h.read ++ more → h.read ≡ k.read ++ back → fault ≡ other
     alike more back to from =
-        let sizes : length q ≡ length p + length more = ap length to ∙ length-append p more in
-        let sizes' : length p ≡ length q + length back = ap length from ∙ length-append q back in
+        let sizes : length k.read ≡ length h.read + length more = ap length to ∙ length-append h.read more in
+        let sizes' : length h.read ≡ length k.read + length back = ap length from ∙ length-append k.read back in
         let none : length more ≡ 0 = omega arith in
         let empty : more ≡ [] = nil_from_length more none in
-        let same : q ≡ p = to ∙ ap (λ t. p ++ t) empty ∙ append-nil p in
-        let rest : b ∷ x ≡ c ∷ y =
-        append_cancel_left p (b ∷ x) (c ∷ y) (sym (append_assoc p (b ∷ []) x) ∙ e ∙ append_assoc q (c ∷ []) y ∙ ap (λ t. t ++ c ∷ y) same) in
-        let byte : q ++ c ∷ [] ≡ p ++ b ∷ [] = ap (λ t. t ++ c ∷ []) same ∙ ap (λ z. p ++ z ∷ []) (sym (same_head rest)) in
-        faults_same (p ++ b ∷ []) fault other h.why (subst (λ t. IsLineFaultOf t other) byte k.why)
+        let same : k.read ≡ h.read = to ∙ ap (λ t. h.read ++ t) empty ∙ append-nil h.read in
+        let rest : h.byte ∷ x ≡ k.byte ∷ y = append_cancel_left h.read (h.byte ∷ x) (k.byte ∷ y) (e' ∙ ap (λ t. t ++ k.byte ∷ y) same) in
+        let texts : others ≡ bytes = k.is ∙ ap (λ t. t ++ k.byte ∷ []) same ∙ ap (λ z. h.read ++ z ∷ []) (sym (same_head rest)) ∙ sym h.is in
+        faults_same bytes fault other h.why (subst (λ t. IsLineFaultOf t other) texts k.why)
 
 pub one_fault : OneFault
 one_fault rest fault other h = (
-  λ k. refused_same h.3.0 k.3.0 h.1 k.1 h.3.1 k.3.1 fault other h.3.3 k.3.3
-      (ap (λ t. t ++ h.1) (sym h.3.2) ∙ sym h.2 ∙ k.2 ∙ ap (λ t. t ++ k.1) k.3.2),
-  λ begins. h.3.3.after (subst Begins h.3.2 (begins_before h.0 h.1 (subst Begins h.2 begins))),
+  λ k. refused_same h.0 k.0 h.1 k.1 fault other h.3 k.3 (sym h.2 ∙ k.2),
+  λ begins. h.3.after (begins_before h.0 h.1 (subst Begins h.2 begins)),
 )
 
 -- However a stream comes, it is cut into the lines that were given.
 
 -- a text that was refused has no line in it, whatever follows
-decides_no_line : (p : List ℕ) (b : ℕ) (more : List ℕ) (fault : LineFault) → Decides p b fault → HasNoLine (p ++ b ∷ more)
-decides_no_line p b more fault h line rest fits e = elim (shorter (line_text line) p rest more b (sym e)) [
-  | inl longer ↦ h.after (longer.0, (words_of line, fits_within line fits, sym longer.1))
+pub refused_stays : RefusedStays
+refused_stays bytes more fault h line rest fits e = elim (shorter (line_text line) h.read rest more h.byte (sym e ∙ last_apart bytes h.read h.byte more h.is)) [
+  | inl longer ↦ h.after (subst Begins (sym h.is) (longer.0, (words_of line, fits_within line fits, sym longer.1)))
   | inr less ↦ h.before.whole line less.0 fits less.1
 ]
-
-pub refused_stays : RefusedStays
-refused_stays bytes more fault h =
-    subst HasNoLine (sym (ap (λ t. t ++ more) h.2 ∙ append_assoc h.0 (h.1 ∷ []) more)) (decides_no_line h.0 h.1 more fault h.3)
 
 refused_no_line : (bytes : List ℕ) (fault : LineFault) → IsRefused bytes fault → HasNoLine bytes
 refused_no_line bytes fault h = subst HasNoLine (append-nil bytes) (refused_stays bytes [] fault h)

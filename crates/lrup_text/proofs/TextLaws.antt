@@ -3,9 +3,10 @@ use Rattle.std.proofs.Common.{◌≡◌, ◌≢◌, ℕ, suc, ℤ, pos, negsuc, 
 use Rattle.std.specs.Fmt.{decimal, signed_decimal}
 use Rattle.std.specs.List.{AllByRecursion}
 use Rattle.std.proofs.lemmas.List.{append_assoc, length-append, length-map, append-nil}
-use Rattle.lrup_text.specs.Grammar.{standard, IsDigit, SpellsNumber, SpellsLiteral, AreWords, Words, Adds, Deletes, Imports, AreWordsWithin, IsLine, text, list_text, clause_text, space, minus, zero_digit, letter_d, letter_i, line_feed}
+use Rattle.lrup_text.specs.ByteNames.{space, minus, zero_digit, letter_d, letter_i, line_feed}
+use Rattle.lrup_text.specs.Grammar.{standard, IsDigit, SpellsNumber, SpellsLiteral, AreFew, Words, Adds, Deletes, Imports, AreWordsWithin, IsLine, text, list_text, clause_text}
 use Rattle.lrup_text.specs.Laws.{EmptyPending}
-use Rattle.lrup_text.specs.Lines.{StreamLine, Addition, Deletion, Import, IsStreamNumber, IsStreamLiteral, AreFew, IsWithinLimits, words_of, line_text, HasNoLine, IsPending}
+use Rattle.lrup_text.specs.Lines.{StreamLine, Addition, Deletion, Import, IsStreamNumber, IsStreamLiteral, IsWithinLimits, words_of, line_text, HasNoLine, IsPending}
 use Rattle.lrup_text.specs.Rests.{Spot, AtStart, Tracks}
 use Rattle.lrup_text.proofs.Numerals.{number_word}
 use Rattle.lrup_text.proofs.Rests.{same_head, same_tail, literal_of_number, list_rest, list_text-space, list_is_clause}
@@ -156,7 +157,7 @@ all_map : {X : Type 0} (f : X → List ℕ) (P : X → Type 0) (Q : List ℕ →
 all_map f P Q each [] h = tt
 all_map f P Q each (x ∷ xs) h = (each x h.0, all_map f P Q each xs h.1)
 
-pub few_map : {X : Type 0} (most : ℕ) (f : X → List ℕ) (P : X → Type 0) (Q : List ℕ → Type 0) → ((x : X) → P x → Q (f x)) → (xs : List X) → AreFew most P xs → AreWords most Q (map f xs)
+pub few_map : {X : Type 0} (most : ℕ) (f : X → List ℕ) (P : X → Type 0) (Q : List ℕ → Type 0) → ((x : X) → P x → Q (f x)) → (xs : List X) → AreFew most P xs → AreFew most Q (map f xs)
 few_map most f P Q each xs h = record { count = omega (arith, length-map xs f, h.count); each = all_map f P Q each xs h.each }
 
 pub decimal_word : (n : ℕ) → IsStreamNumber n → SpellsNumber 18 (decimal n)

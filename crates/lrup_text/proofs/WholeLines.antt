@@ -6,7 +6,7 @@ use Rattle.std.proofs.Math.Nat.{mod-eq_of_lt}
 use Rattle.std.proofs.lemmas.Bool.{cases_lt}
 use Rattle.std.proofs.lemmas.List.{append_assoc, take_more, take_more_set, length-set, take_all, append-nil}
 use Rattle.lrup_model.specs.ListLemmas.{All-push}
-use Rattle.lrup_text.specs.Grammar.{space, minus, zero_digit, letter_d, letter_i, line_feed}
+use Rattle.lrup_text.specs.ByteNames.{space, minus, zero_digit, letter_d, letter_i, line_feed}
 use Rattle.lrup_text.specs.Lines.{IsStreamNumber, IsStreamLiteral}
 use Rattle.lrup_text.specs.Kernel.{EndsLine, EndsWord, ReadsNumber, ReadsLiterals, ReadsItems, ReadsList, ReadsClause, IsWhole, numbers_text}
 use Rattle.lrup_text.specs.Reading.{FitsDigits, CanStandInLine, literals_text, items_text, literal_front, clause_front, list_front}

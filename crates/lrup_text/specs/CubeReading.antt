@@ -4,7 +4,7 @@ use Rattle.std.specs.Fmt.{decimal, signed_decimal}
 use Rattle.lrup_model.specs.Cube.{IsCubeOver}
 use Rattle.lrup_text.specs.declared.cube.CubeFault.{CubeFault}
 use Rattle.lrup_text.specs.declared.cube.CubeFault.TheVariants.{Spelling, TooLong, Range, Memory}
-use Rattle.lrup_text.specs.Grammar.{letter_i, space}
+use Rattle.lrup_text.specs.ByteNames.{letter_i, space}
 use Rattle.lrup_text.specs.Lines.{IsStreamNumber, IsStreamLiteral}
 use Rattle.lrup_text.specs.Rests.{Spot, Tracks}
 use Rattle.lrup_text.specs.Cubes.{IsCubeLine, IsTextFault}

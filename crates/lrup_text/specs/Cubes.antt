@@ -6,13 +6,13 @@ use Rattle.std.specs.Fmt.{signed_decimal}
 use Rattle.lrup_model.specs.Cube.{CubeValue, IsCubeOf, IsCubeOver}
 use Rattle.lrup_text.specs.declared.cube.CubeFault.{CubeFault}
 use Rattle.lrup_text.specs.declared.cube.CubeFault.TheVariants.{Spelling, TooLong, Range, Memory}
-use Rattle.lrup_text.specs.Grammar.{Limits, AreLifted, standard, AreWords, SpellsLiteral, clause_text, line_feed}
-use Rattle.lrup_text.specs.Lines.{IsStreamLiteral, AreFew}
+use Rattle.lrup_text.specs.Grammar.{Limits, AreLifted, standard, AreFew, SpellsLiteral, clause_text}
+use Rattle.lrup_text.specs.Lines.{IsStreamLiteral}
 
 -- the bytes are the text of these literals, as they are written
 pub record IsLiteralsText (literals : List ℤ) (bytes : List ℕ) : Type 0 where
   pub few : AreFew 65535 IsStreamLiteral literals
-  pub is : bytes ≡ clause_text (map signed_decimal literals) (line_feed ∷ [])
+  pub is : bytes ≡ clause_text (map signed_decimal literals) (codes "\n")
 
 -- The bytes are a text of the cube: literals over the variables 1 to vars, each with a space after
 -- it, and then 0 and LF. The cube is their set.
@@ -28,8 +28,8 @@ pub record IsCubeText (vars : ℕ) (bytes : List ℕ) (cube : CubeValue) : Type 
 -- the bytes are such a line within the limits
 abbrev pub IsCubeLine : Limits → List ℕ → Type 0
 IsCubeLine limits bytes = (words : List (List ℕ))
-    × AreWords limits.literals (SpellsLiteral limits.digits) words
-    × (bytes ≡ clause_text words (line_feed ∷ []))
+    × AreFew limits.literals (SpellsLiteral limits.digits) words
+    × (bytes ≡ clause_text words (codes "\n"))
 
 -- Of texts of some kind, within limits: some rest makes one of the bytes
 abbrev pub BeginsOne : (Limits → List ℕ → Type 0) → Limits → List ℕ → Type 0

@@ -12,16 +12,15 @@ IsLineFaultOf bytes TooLong = BeginsLifted false bytes
 IsLineFaultOf bytes Truncated = ⊥
 IsLineFaultOf bytes RatHint = ¬ BeginsLifted false bytes × BeginsLifted true bytes
 
--- The byte decides: what was read may still become a line, and with the byte it begins none, for this fault.
-pub record Decides (read : List ℕ) (byte : ℕ) (fault : LineFault) : Type 0 where
+-- It is the shortest text that begins no line, with this fault, and no line is whole in it: what stands
+-- before its last byte may still become one.
+pub record IsRefused (bytes : List ℕ) (fault : LineFault) : Type 0 where
+  pub read : List ℕ
+  pub byte : ℕ
+  pub is : bytes ≡ read ++ byte ∷ []
   pub before : IsPending read
-  pub after : ¬ Begins (read ++ byte ∷ [])
-  pub why : IsLineFaultOf (read ++ byte ∷ []) fault
-
--- It is the shortest text that begins no line, with this fault, and no line is whole in it.
-abbrev pub IsRefused : List ℕ → LineFault → Type 0
-IsRefused bytes fault =
-    (read : List ℕ) × (byte : ℕ) × (bytes ≡ read ++ byte ∷ []) × Decides read byte fault
+  pub after : ¬ Begins bytes
+  pub why : IsLineFaultOf bytes fault
 
 -- the rest has this fault: it begins with a text that is refused for it
 abbrev pub HasTextFault : List ℕ → LineFault → Type 0

@@ -6,32 +6,8 @@
 --     lit  = [ "-" ] num
 --     num  = one digit 1 to 9, then digits 0 to 9
 -- SP is one space. A line is spelled by words, which are lists of bytes. How many there may be, and how long, limits say.
-use Rattle.std.specs.Prelude.{◌≡◌, ℕ, ◌<◌, ◌≤◌, ◌⊎◌, Bool, false, List, [], ◌∷◌, ◌++◌, length, MatchBool}
+use Rattle.std.specs.Prelude.{◌≡◌, ℕ, ◌<◌, ◌≤◌, ◌⊎◌, Bool, false, List, [], ◌∷◌, ◌++◌, codes, length, MatchBool}
 use Rattle.std.specs.List.{AllByRecursion}
-
--- the byte LF
-abbrev pub line_feed : ℕ
-line_feed = 10
-
--- the byte SP
-abbrev pub space : ℕ
-space = 32
-
--- the byte `-`
-abbrev pub minus : ℕ
-minus = 45
-
--- the byte `0`
-abbrev pub zero_digit : ℕ
-zero_digit = 48
-
--- the byte `d`
-abbrev pub letter_d : ℕ
-letter_d = 100
-
--- the byte `i`
-abbrev pub letter_i : ℕ
-letter_i = 105
 
 -- the most digits of a number, literals of an addition or an import, and hints of an addition or identities of a deletion;
 -- and whether a hint may carry a sign
@@ -61,10 +37,10 @@ abbrev pub SpellsNumber : ℕ → List ℕ → Type 0
 SpellsNumber most [] = ⊥
 SpellsNumber most (c ∷ cs) = (49 ≤ c) × (c ≤ 57) × AllByRecursion IsDigit cs × (length cs < most)
 
--- lit
+-- lit, where 45 is the byte `-`
 abbrev pub SpellsLiteral : ℕ → List ℕ → Type 0
 SpellsLiteral most [] = ⊥
-SpellsLiteral most (c ∷ cs) = SpellsNumber most (c ∷ cs) ⊎ ((c ≡ minus) × SpellsNumber most cs)
+SpellsLiteral most (c ∷ cs) = SpellsNumber most (c ∷ cs) ⊎ ((c ≡ 45) × SpellsNumber most cs)
 
 -- a hint: num, or lit where hints are signed
 abbrev pub SpellsHint : Limits → List ℕ → Type 0
@@ -77,49 +53,46 @@ pub data Words : Type 0 where
   Deletes : (lead : List ℕ) (ids : List (List ℕ)) → Words
   Imports : (id : List ℕ) (lits : List (List ℕ)) → Words
 
--- at most so many words, each of a kind
-pub record AreWords (most : ℕ) (IsWord : List ℕ → Type 0) (words : List (List ℕ)) : Type 0 where
-  pub count : length words ≤ most
-  pub each : AllByRecursion IsWord words
+-- at most so many elements, each of a kind
+pub record AreFew {X : Type 0} (most : ℕ) (Is : X → Type 0) (xs : List X) : Type 0 where
+  pub count : length xs ≤ most
+  pub each : AllByRecursion Is xs
 
 -- words of a line within the limits
 abbrev pub AreWordsWithin : Limits → Words → Type 0
 AreWordsWithin limits (Adds id lits hints) =
-    SpellsNumber limits.digits id × AreWords limits.literals (SpellsLiteral limits.digits) lits
-    × AreWords limits.identities (SpellsHint limits) hints
+    SpellsNumber limits.digits id × AreFew limits.literals (SpellsLiteral limits.digits) lits
+    × AreFew limits.identities (SpellsHint limits) hints
 AreWordsWithin limits (Deletes lead ids) =
-    SpellsNumber limits.digits lead × AreWords limits.identities (SpellsNumber limits.digits) ids
+    SpellsNumber limits.digits lead × AreFew limits.identities (SpellsNumber limits.digits) ids
 AreWordsWithin limits (Imports id lits) =
-    SpellsNumber limits.digits id × AreWords limits.literals (SpellsLiteral limits.digits) lits
+    SpellsNumber limits.digits id × AreFew limits.literals (SpellsLiteral limits.digits) lits
 
 -- *( SP num ) SP "0" LF, and *( SP lit ) SP "0" LF
 abbrev pub list_text : List (List ℕ) → List ℕ
-list_text [] = space ∷ zero_digit ∷ line_feed ∷ []
-list_text (w ∷ ws) = space ∷ (w ++ list_text ws)
+list_text [] = codes " 0\n"
+list_text (w ∷ ws) = codes " " ++ (w ++ list_text ws)
 
 -- *( lit SP ) "0", and what follows
 abbrev pub clause_text : List (List ℕ) → List ℕ → List ℕ
-clause_text [] rest = zero_digit ∷ rest
-clause_text (w ∷ ws) rest = w ++ space ∷ clause_text ws rest
+clause_text [] rest = codes "0" ++ rest
+clause_text (w ∷ ws) rest = w ++ (codes " " ++ clause_text ws rest)
 
 -- a line's text, with its LF
 abbrev pub text : Words → List ℕ
-text (Adds id lits hints) = id ++ space ∷ clause_text lits (list_text hints)
-text (Deletes lead ids) = lead ++ space ∷ letter_d ∷ list_text ids
-text (Imports id lits) = id ++ space ∷ letter_i ∷ list_text lits
+text (Adds id lits hints) = id ++ (codes " " ++ clause_text lits (list_text hints))
+text (Deletes lead ids) = lead ++ (codes " d" ++ list_text ids)
+text (Imports id lits) = id ++ (codes " i" ++ list_text lits)
 
 -- the bytes are a line within the limits
 abbrev pub IsLine : Limits → List ℕ → Type 0
 IsLine limits bytes = (words : Words) × AreWordsWithin limits words × (bytes ≡ text words)
 
--- some rest makes a line of it
-abbrev pub BeginsWithin : Limits → List ℕ → Type 0
-BeginsWithin limits bytes = (rest : List ℕ) × IsLine limits (bytes ++ rest)
-
 -- it begins a line
 abbrev pub Begins : List ℕ → Type 0
-Begins bytes = BeginsWithin standard bytes
+Begins bytes = (rest : List ℕ) × IsLine standard (bytes ++ rest)
 
 -- it begins a line if the limits are lifted, with signed hints or without
 abbrev pub BeginsLifted : Bool → List ℕ → Type 0
-BeginsLifted signed bytes = (limits : Limits) × AreLifted signed limits × BeginsWithin limits bytes
+BeginsLifted signed bytes =
+    (limits : Limits) × (rest : List ℕ) × AreLifted signed limits × IsLine limits (bytes ++ rest)

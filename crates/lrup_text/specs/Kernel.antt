@@ -3,7 +3,7 @@ use Rattle.std.specs.Prelude.{◌≡◌, ℕ, ◌-◌, ◌<◌, ◌≤◌, ℤ, 
 use Rattle.std.specs.Fmt.{decimal}
 use Rattle.std.specs.List.{AllByRecursion, flat_map}
 use Rattle.lrup_text.specs.declared.kernel.Whole.{Whole}
-use Rattle.lrup_text.specs.Grammar.{space, zero_digit, line_feed}
+use Rattle.lrup_text.specs.ByteNames.{space, zero_digit, line_feed}
 use Rattle.lrup_text.specs.Lines.{LineText, IsStreamNumber, IsStreamLiteral}
 use Rattle.lrup_text.specs.Reading.{literals_text, items_text, line_of_parts, CanStandInLine}
 

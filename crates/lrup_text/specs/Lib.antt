@@ -1,3 +1,4 @@
+pub mod ByteNames
 pub mod CubeReading
 pub mod Cubes
 pub mod Cutting

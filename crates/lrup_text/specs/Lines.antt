@@ -1,8 +1,8 @@
 -- The lines of a stream, their texts, and how a stream is cut into them (this project's own).
-use Rattle.std.specs.Prelude.{◌≡◌, ℕ, ◌<◌, ◌≤◌, ◌^◌, ℤ, unsigned_abs, List, ◌++◌, length, map}
+use Rattle.std.specs.Prelude.{◌≡◌, ℕ, ◌<◌, ◌^◌, ℤ, unsigned_abs, List, ◌++◌, map}
 use Rattle.std.specs.Fmt.{decimal, signed_decimal}
 use Rattle.std.specs.List.{AllByRecursion, flat_map}
-use Rattle.lrup_text.specs.Grammar.{Words, Adds, Deletes, Imports, text, Begins}
+use Rattle.lrup_text.specs.Grammar.{Words, Adds, Deletes, Imports, text, AreFew, Begins}
 use Rattle.lrup_text.specs.declared.Line.{Line}
 use Rattle.lrup_text.specs.declared.Line.TheVariants as kinds
 
@@ -31,11 +31,6 @@ IsStreamNumber n = (0 < n) × (n < 10 ^ 18)
 -- a literal whose variable is such a number
 abbrev pub IsStreamLiteral : ℤ → Type 0
 IsStreamLiteral z = IsStreamNumber (unsigned_abs z)
-
--- at most so many elements, each of a kind
-pub record AreFew {X : Type 0} (most : ℕ) (Is : X → Type 0) (xs : List X) : Type 0 where
-  pub count : length xs ≤ most
-  pub each : AllByRecursion Is xs
 
 -- it has a text within the limits of a stream
 abbrev pub IsWithinLimits : StreamLine → Type 0

@@ -7,8 +7,8 @@ use Rattle.lrup_text.specs.declared.machine.Place.TheVariants as places
 use Rattle.lrup_text.specs.declared.machine.ByteStep.{ByteStep}
 use Rattle.lrup_text.specs.declared.machine.ByteStep.TheVariants.{More, Done, Refused}
 use Rattle.lrup_text.specs.declared.machine.PartialLine.{PartialLine}
-use Rattle.lrup_text.specs.Grammar.{space, minus, zero_digit, letter_d, letter_i}
-use Rattle.lrup_text.specs.Faults.{IsRefused, Decides}
+use Rattle.lrup_text.specs.ByteNames.{space, minus, zero_digit, letter_d, letter_i}
+use Rattle.lrup_text.specs.Faults.{IsRefused}
 use Rattle.lrup_text.specs.Lines.{StreamLine, Addition, Deletion, Import, LineText, IsStreamNumber, IsStreamLiteral}
 use Rattle.lrup_text.specs.Rests.{Spot, AtStart, InLead, AfterImport, BeforeLiteral, AfterMinus, InLiteral, BeforeList, BeforeItem, InItem, AtEnd, Tracks}
 
@@ -135,7 +135,7 @@ abbrev pub ReadsByte : PartialLine → ℕ → ByteStep → PartialLine → Type
 ReadsByte old byte More new = IsPartialLine new × (pending new ≡ pending old ++ byte ∷ [])
 ReadsByte old byte Done new =
     IsPartialLine new × (pending new ≡ []) × LineText (line_so_far new) (pending old ++ byte ∷ [])
-ReadsByte old byte (Refused fault) new = Decides (pending old) byte fault
+ReadsByte old byte (Refused fault) new = IsRefused (pending old ++ byte ∷ []) fault
 
 -- So many bytes of a piece were read, and the line goes on.
 pub record ReadsAhead (old : PartialLine) (piece : List ℕ) (used : ℕ)

@@ -2,7 +2,8 @@
 -- the counts that the limits speak of: how many digits of a number, literals or items of a list stand there.
 use Rattle.std.specs.Prelude.{◌≡◌, ℕ, ◌+◌, ◌≤◌, ◌⊎◌, Bool, true, false, List, [], ◌∷◌, ◌++◌, length, MatchBool}
 use Rattle.std.specs.List.{AllByRecursion}
-use Rattle.lrup_text.specs.Grammar.{Limits, AreLifted, IsDigit, SpellsNumber, SpellsLiteral, SpellsHint, IsLine, list_text, clause_text, line_feed, space, letter_d, letter_i}
+use Rattle.lrup_text.specs.ByteNames.{line_feed, space, letter_d, letter_i}
+use Rattle.lrup_text.specs.Grammar.{Limits, AreLifted, IsDigit, SpellsNumber, SpellsLiteral, SpellsHint, IsLine, list_text, clause_text}
 
 pub data Spot : Type 0 where
   AtStart : Spot

@@ -4,7 +4,8 @@ ghost use Rattle.lrup_model.specs.Cube.{IsCubeOver};
 ghost use Rattle.lrup_model.specs.Literal.{IsLiteral, max_variable};
 ghost use Rattle.lrup_text.specs.CubeReading.{EndsAtSpot, IsRestFault, BeginsWithNumber, ReadsLiteral, AreKept, AreNotKept};
 ghost use Rattle.lrup_text.specs.Cubes.{IsLiteralsText, IsCubeText, IsCubeLine, IsTextFault, IsCubeFault};
-ghost use Rattle.lrup_text.specs.Grammar.{IsDigit, line_feed, zero_digit};
+ghost use Rattle.lrup_text.specs.ByteNames.{line_feed, zero_digit};
+ghost use Rattle.lrup_text.specs.Grammar.{IsDigit};
 ghost use Rattle.lrup_text.specs.Rests.{BeforeLiteral, AfterMinus, InLiteral};
 ghost use Rattle.lrup_text.specs.declared.cube.CubeFault.TheVariants.{Memory};
 

@@ -2,7 +2,8 @@
 #![tactic(auto)]
 
 ghost use Rattle.std.specs.Prelude.{◌↔◌, IsTrue};
-ghost use Rattle.lrup_text.specs.Lines.{line_of, IsWithinLimits, IsStreamNumber, IsStreamLiteral, AreFew};
+ghost use Rattle.lrup_text.specs.Grammar.{AreFew};
+ghost use Rattle.lrup_text.specs.Lines.{line_of, IsWithinLimits, IsStreamNumber, IsStreamLiteral};
 
 mod cube;
 mod device;

@@ -1,7 +1,8 @@
 //! Writes texts and lines.
 ghost use Rattle.std.specs.Prelude.{◌≡◌, ◌<◌, ◌≤◌, ◌+◌, [], ◌∷◌, ◌++◌, length, false, is_err, map, IsTrue, ◌↔◌, OnErr};
 ghost use Rattle.std.specs.Fmt.{decimal, signed_decimal};
-ghost use Rattle.lrup_text.specs.Grammar.{list_text, space};
+ghost use Rattle.lrup_text.specs.ByteNames.{space};
+ghost use Rattle.lrup_text.specs.Grammar.{list_text};
 ghost use Rattle.lrup_text.specs.Lines.{line_of, line_text, IsWithinLimits};
 ghost use Rattle.lrup_text.specs.Reading.{literals_text};
 ghost use Rattle.lrup_text.specs.Writing.{PutsAll, WritesText};

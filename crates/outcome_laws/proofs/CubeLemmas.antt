@@ -12,14 +12,16 @@ use Rattle.stream_check.specs.declared.fault.Fault.{Fault}
 use Rattle.stream_check.specs.declared.fault.Fault.TheVariants as faults
 use Rattle.stream_check.specs.declared.report.Ending.{Ending}
 use Rattle.stream_check.specs.declared.report.Report.{Report}
-use Rattle.stream_check.specs.Setting.{Setting, Side, formula, own, foreign, outside, side_of}
-use Rattle.stream_check.specs.Standing.{Standing, standing_of, tally_of}
+use Rattle.stream_check.specs.declared.setting.Side.{Side}
+use Rattle.stream_check.specs.declared.setting.Side.TheVariants as sides
+use Rattle.stream_check.specs.Setting.{Setting, side_of}
+use Rattle.stream_check.specs.Standing.{Standing, standing_of, additions_of}
 use Rattle.stream_check.specs.Verdicts.{LineVerdict, Good, Bad, Test}
 use Rattle.stream_check.specs.Asking.{AsksAt, AsksThen}
 use Rattle.stream_check.specs.Additions.{AtReply, JudgesHints, published_by, JudgesAddition}
-use Rattle.stream_check.specs.Deletions.{RetiresThen, DropsThen, DeletesAt, JudgesIdentities}
+use Rattle.stream_check.specs.Deletions.{RetiresThen, DropsThen, DeletesAt, JudgesDeletion}
 use Rattle.stream_check.specs.Imports.{AtImported, JudgesImport}
-use Rattle.stream_check.specs.Judging.{JudgesLine, AreGood, report_of, EndsAfter}
+use Rattle.stream_check.specs.Judging.{JudgesLine, AreGood, report_of, EndsAfter, at_bad_line, at_bad_text, at_memory, at_end}
 use Rattle.stream_check.specs.ReportLemmas.{all_only_empty}
 use Rattle.outcome_laws.specs.Outcomes.{bare_setting, bare_report}
 use Rattle.outcome_laws.specs.Laws.{NoCubeJudgesAlike}
@@ -31,10 +33,10 @@ test_maps Holds fault es v A B next (inl bad) = inl bad
 test_maps Holds fault es v A B next (inr good) = inr (good.0, next good.1)
 
 asks_bare : (side : Side) (c : Setting) (h : ℕ) (es : History) (r : Reply) → AsksAt side c h es r → AsksAt side (bare_setting c) h es r
-asks_bare formula c h es r asks = asks
-asks_bare own c h es r asks = asks
-asks_bare foreign c h es r asks = asks
-asks_bare outside c h es r asks = asks
+asks_bare sides.Formula c h es r asks = asks
+asks_bare sides.Own c h es r asks = asks
+asks_bare sides.Foreign c h es r asks = asks
+asks_bare sides.Outside c h es r asks = asks
 
 then_bare : (c : Setting) (h : ℕ) (es : History) (A B : Reply → History → Type 0) → ((x : Reply) (rest : History) → A x rest → B x rest)
     → AsksThen c h es A → AsksThen (bare_setting c) h es B
@@ -91,17 +93,17 @@ drops_map gone earlier id es v A B next (inr good) = inr (good.0, next good.1)
 
 deletes_bare : (side : Side) (c : Setting) (gone : ℕ → Bool) (earlier : List ℕ) (id : ℕ) (es : History) (v : LineVerdict) (A B : History → Type 0)
     → ((rest : History) → A rest → B rest) → DeletesAt side c gone earlier id es v A → DeletesAt side (bare_setting c) gone earlier id es v B
-deletes_bare formula c gone earlier id es v A B next at = drops_map gone earlier id es v A B (next es) at
-deletes_bare own c gone earlier id es v A B next at = retires_bare c earlier id es v A B next at
-deletes_bare foreign c gone earlier id es v A B next at = drops_map gone earlier id es v A B (next es) at
-deletes_bare outside c gone earlier id es v A B next at = at
+deletes_bare sides.Formula c gone earlier id es v A B next at = drops_map gone earlier id es v A B (next es) at
+deletes_bare sides.Own c gone earlier id es v A B next at = retires_bare c earlier id es v A B next at
+deletes_bare sides.Foreign c gone earlier id es v A B next at = drops_map gone earlier id es v A B (next es) at
+deletes_bare sides.Outside c gone earlier id es v A B next at = at
 
 identities_bare : (c : Setting) (gone : ℕ → Bool) (earlier ids : List ℕ) (es : History) (v : LineVerdict)
-    → JudgesIdentities c gone earlier ids es v → JudgesIdentities (bare_setting c) gone earlier ids es v
+    → JudgesDeletion c gone earlier ids es v → JudgesDeletion (bare_setting c) gone earlier ids es v
 identities_bare c gone earlier [] es v judged = judged
 identities_bare c gone earlier (id ∷ ids) es v judged =
     deletes_bare (side_of c id) c gone earlier id es v
-    (λ rest. JudgesIdentities c gone (earlier ++ id ∷ []) ids rest v) (λ rest. JudgesIdentities (bare_setting c) gone (earlier ++ id ∷ []) ids rest v)
+    (λ rest. JudgesDeletion c gone (earlier ++ id ∷ []) ids rest v) (λ rest. JudgesDeletion (bare_setting c) gone (earlier ++ id ∷ []) ids rest v)
     (λ rest k. identities_bare c gone (earlier ++ id ∷ []) ids rest v k) judged
 
 import_bare : (c : Setting) (st : Standing) (id : ℕ) (lits : List ℤ) (es : History) (v : LineVerdict)
@@ -128,56 +130,29 @@ good_bare c before (line ∷ lines) (block ∷ blocks) good = (line_bare c befor
 -- Reports
 
 says_bare : (c : Setting) (lines : List StreamLine) (deleted : ℕ) (ending : Ending) (report : Report)
-    → report ≡ report_of (tally_of c lines) deleted ending → bare_report report ≡ report_of (tally_of (bare_setting c) lines) deleted ending
+    → report ≡ report_of c lines deleted ending → bare_report report ≡ report_of (bare_setting c) lines deleted ending
 says_bare c lines deleted ending report says =
-    let r = report_of (tally_of c lines) deleted ending in
+    let r = report_of c lines deleted ending in
     ap bare_report says
-    ∙ ap (λ (w : Bool). record { added = r.added; deleted = r.deleted; empty = r.empty; within = w; ending = r.ending }) (sym (all_only_empty lines))
+    ∙ ap (λ (w : Bool). record { added = r.added; deleted = r.deleted; empty = r.empty; within = w; ending = r.ending }) (sym (all_only_empty (additions_of lines)))
 
 ends_bare : (c : Setting) (lines : List StreamLine) (rest : List ℕ) (end : StreamEnd) (back : List History) (report : Report)
     → EndsAfter c lines rest end back report → EndsAfter (bare_setting c) lines rest end back (bare_report report)
-ends_bare c lines rest end back report (inl e) = inl (record {
-  line = e.line;
-  more = e.more;
-  text = e.text;
-  fits = e.fits;
-  block = e.block;
-  one_block = e.one_block;
-  deleted = e.deleted;
-  fault = e.fault;
-  bad = line_bare c lines e.line e.block (Bad e.deleted e.fault) e.bad;
-  says = says_bare c lines _ _ report e.says;
-})
-ends_bare c lines rest end back report (inr (inl e)) = inr (inl (record {
-  fault = e.fault;
-  text = e.text;
-  no_block = e.no_block;
-  says = says_bare c lines _ _ report e.says;
-}))
-ends_bare c lines rest end back report (inr (inr (inl e))) = inr (inr (inl (record {
-  lead = e.lead;
-  ids = e.ids;
-  more = e.more;
-  text = e.text;
-  fits = e.fits;
-  block = e.block;
-  one_block = e.one_block;
-  earlier = e.earlier;
-  stops = record {
-    id = e.stops.id;
-    later = e.stops.later;
-    identities = e.stops.identities;
-    before = identities_bare c (standing_of c lines).gone [] e.earlier e.block Good e.stops.before;
-    shared = e.stops.shared;
-    new = e.stops.new;
-  };
-  says = says_bare c lines _ _ report e.says;
-})))
-ends_bare c lines rest end back report (inr (inr (inr e))) = inr (inr (inr (record {
-  pending = e.pending;
-  no_block = e.no_block;
-  says = says_bare c lines _ _ report e.says;
-})))
+ends_bare c lines rest end back report (at_bad_line line more text fits block one_block deleted fault bad says) =
+    at_bad_line line more text fits block one_block deleted fault (line_bare c lines line block (Bad deleted fault) bad) (says_bare c lines _ _ report says)
+ends_bare c lines rest end back report (at_bad_text fault text no_block says) = at_bad_text fault text no_block (says_bare c lines _ _ report says)
+ends_bare c lines rest end back report (at_memory lead ids more text fits block one_block earlier stops says) =
+    at_memory lead ids more text fits block one_block earlier
+    (record {
+      id = stops.id;
+      later = stops.later;
+      identities = stops.identities;
+      before = identities_bare c (standing_of c lines).gone [] earlier block Good stops.before;
+      shared = stops.shared;
+      new = stops.new;
+    })
+    (says_bare c lines _ _ report says)
+ends_bare c lines rest end back report (at_end pending no_block says) = at_end pending no_block (says_bare c lines _ _ report says)
 
 pub no_cube_judges_alike : NoCubeJudgesAlike
 no_cube_judges_alike c bytes end blocks report j = record {
@@ -186,6 +161,8 @@ no_cube_judges_alike c bytes end blocks report j = record {
   front = j.front;
   back = j.back;
   split = j.split;
-  begins = record { text = j.begins.text; fits = j.begins.fits; good = good_bare c [] j.lines j.front j.begins.good };
+  text = j.text;
+  fits = j.fits;
+  good = good_bare c [] j.lines j.front j.good;
   ends = ends_bare c j.lines j.rest end j.back report j.ends;
 }

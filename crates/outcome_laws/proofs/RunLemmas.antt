@@ -5,20 +5,18 @@ use Rattle.std.proofs.lemmas.Option.{slice_get-map}
 use Rattle.lrup_model.specs.Event.{History}
 use Rattle.lrup_model.specs.Formula.{Cnf}
 use Rattle.stream_check.specs.declared.report.Report.{Report}
-use Rattle.lrup_text.specs.declared.device.StreamEnd.TheVariants as stream_ends
 use Rattle.stream_check.specs.Setting.{Setting}
 use Rattle.runs.specs.Closed.{IsOfStream}
 use Rattle.runs.specs.Headline.{AreJudgedIn}
-use Rattle.runs.specs.Streams.{Stop, read_out, early, Stream, Telling, JudgesTo, TermsValue, setting_of}
+use Rattle.runs.specs.Streams.{Stream, Telling, JudgesStream, TermsValue, setting_of}
 use Rattle.run_laws.specs.Groups.{IsRun}
 use Rattle.run_laws.specs.GroupLaws.{SameBytesAgree}
 use Rattle.outcome_laws.specs.Outcomes.{bare_setting, bare_terms, bare_report}
 use Rattle.outcome_laws.specs.Laws.{NoCubeJudgesAlike, SameBytesSayTheSame}
 
-judges_bare : NoCubeJudgesAlike → (stop : Stop) (c : Setting) (bytes : List ℕ) (blocks : List History) (report : Report)
-    → JudgesTo stop c bytes blocks report → JudgesTo stop (bare_setting c) bytes blocks (bare_report report)
-judges_bare law (read_out end) c bytes blocks report j = law c bytes end blocks report j
-judges_bare law (early unneeded) c bytes blocks report j = (j.0, law c bytes stream_ends.Ended blocks report j.1, law c bytes stream_ends.Failed blocks report j.2)
+judges_bare : NoCubeJudgesAlike → (c : Setting) (stream : Stream) (blocks : List History) (report : Report)
+    → JudgesStream c stream blocks report → JudgesStream (bare_setting c) stream blocks (bare_report report)
+judges_bare law c stream blocks report judged = λ end its. law c stream.bytes end blocks report (judged end its)
 
 judged_bare : NoCubeJudgesAlike → (terms : TermsValue) (set : ℕ → Bool) (h : History) (s : ℕ) (streams : List Stream) (reports : List Report)
     → AreJudgedIn terms set h s streams reports → AreJudgedIn (bare_terms terms) set h s streams (map bare_report reports)
@@ -26,7 +24,7 @@ judged_bare law terms set h s [] [] judged = tt
 judged_bare law terms set h s [] (r ∷ rs) judged = absurd judged
 judged_bare law terms set h s (t ∷ ts) [] judged = absurd judged
 judged_bare law terms set h s (t ∷ ts) (r ∷ rs) judged = (
-  (λ member. let j = judged.0 member in (j.0, j.1, judges_bare law t.stop (setting_of terms s) t.bytes j.0 r j.2)),
+  (λ member. let j = judged.0 member in (j.0, j.1, judges_bare law (setting_of terms s) t j.0 r j.2)),
   judged_bare law terms set h (s + 1) ts rs judged.1,
 )
 

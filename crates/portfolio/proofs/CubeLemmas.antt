@@ -1,8 +1,8 @@
 -- Where a report says 'within', its stream published a clause within the cube, and the formula is unsatisfiable under it.
-use Rattle.std.proofs.Common.{◌≡◌, ℕ, ℤ, Bool, true, false, List, [], ◌∷◌, ◌++◌, ◌+◌, inl, inr, refl, sym, ap, subst, ◌∙◌}
+use Rattle.std.proofs.Common.{◌≡◌, ℕ, Bool, true, false, List, [], ◌∷◌, ◌+◌, inl, inr, refl, sym, ap, subst, ◌∙◌}
 use Rattle.std.specs.Prelude.{◌||◌, IsTrue, if◌then◌else◌}
 use Rattle.std.specs.List.{list_any}
-use Rattle.std.proofs.lemmas.Bool.{cases_Bool, or_left}
+use Rattle.std.proofs.lemmas.Bool.{cases_Bool}
 use Rattle.std.proofs.lemmas.Grind.{flat_map-append}
 use Rattle.lrup_model.specs.Clause.{Clause}
 use Rattle.lrup_model.specs.Formula.{Cnf}
@@ -10,70 +10,43 @@ use Rattle.lrup_model.specs.Cube.{CubeValue, IsUnsatisfiableUnder}
 use Rattle.lrup_model.specs.CubeLemmas.{within_refutes}
 use Rattle.lrup_model.specs.Layout.{LayoutValue}
 use Rattle.lrup_model.specs.Event as events
-use Rattle.lrup_model.specs.Event.{Event, History, own}
+use Rattle.lrup_model.specs.Event.{History, own}
 use Rattle.lrup_model.specs.State.{State, opening, after}
 use Rattle.lrup_model.specs.History.{LegalFrom, IsLegal, IsPublishable}
 use Rattle.lrup_model.specs.declared.clause_map.Published.TheVariants as publishing
-use Rattle.lrup_text.specs.Lines.{StreamLine, Addition, Deletion, Import}
 use Rattle.lrup_text.specs.declared.device.StreamEnd.{StreamEnd}
-use Rattle.lrup_text.specs.declared.device.StreamEnd.TheVariants as stream_ends
-use Rattle.stream_check.specs.declared.fault.Fault.TheVariants as faults
 use Rattle.stream_check.specs.declared.report.Report.{Report}
 use Rattle.stream_check.specs.Setting.{Setting}
-use Rattle.stream_check.specs.Standing.{Standing, adds_within, is_within}
+use Rattle.stream_check.specs.Standing.{is_within}
 use Rattle.stream_check.specs.CubeLemmas.{is_within-decides}
-use Rattle.stream_check.specs.Verdicts.{Good}
-use Rattle.stream_check.specs.Additions.{published_by}
-use Rattle.stream_check.specs.Judging.{JudgesLine, AreGood, joined, JudgesBlocks}
+use Rattle.stream_check.specs.Judging.{joined, JudgesBlocks}
 use Rattle.stream_check.specs.ReportLemmas.{said_within}
-use Rattle.runs.specs.Streams.{Stop, read_out, early, Stream, JudgesTo, JudgesStream, Block, blocks_of, events_in, AreJudged, IsOrdered, TermsValue, setting_of}
+use Rattle.runs.specs.StreamLemmas.{some_end}
+use Rattle.runs.specs.Streams.{Stream, JudgesStream, Block, blocks_of, events_in, AreJudged, IsOrdered, TermsValue, setting_of}
 use Rattle.runs.specs.Headline.{AreJudgedIn}
-use Rattle.run_laws.specs.Lines.{publishes_within}
+use Rattle.run_laws.specs.PublishLemmas.{publishes_within}
 use Rattle.portfolio.specs.declared.outcome.Verdict.{Verdict}
 use Rattle.portfolio.specs.declared.outcome.Verdict.TheVariants.{Unsatisfiable, UnsatisfiableUnder, Unknown}
 use Rattle.portfolio.specs.Outcomes.{verdict_of}
-use Rattle.portfolio.proofs.EmptyLemmas.{any_front, any_back, any_filtered, any_block, fails_not, hints_publish}
+use Rattle.portfolio.proofs.EmptyLemmas.{any_front, any_filtered, any_block, lines_publish}
 
 -- ---- the lines of a stream
-
--- a good addition of a clause within the cube publishes it
-within_line : (c : Setting) (st : Standing) (id : ℕ) (lits : List ℤ) (hints : List ℕ) (es : History)
-    → JudgesLine c st (Addition id lits hints) es Good → adds_within c.cube (Addition id lits hints) ≡ true → list_any (publishes_within c.cube) es ≡ true
-within_line c st id lits hints es (inl bad) is = absurd (fails_not faults.Identity es bad.1)
-within_line c st id lits hints es (inr (a, inl bad)) is = absurd (fails_not faults.Literal es bad.1)
-within_line c st id lits hints es (inr (a, inr (b, inl bad))) is = absurd (fails_not faults.Tautology es bad.1)
-within_line c st id lits hints es (inr (a, inr (b, inr (d, inl bad)))) is = absurd (fails_not faults.NoRoom es bad.1)
-within_line c st id lits hints es (inr (a, inr (b, inr (d, inr (e, judged))))) is =
-    hints_publish (publishes_within c.cube) c st.gone (published_by c id lits) is _ hints es judged
-
-lines_publish : (c : Setting) (before lines : List StreamLine) (blocks : List History) → AreGood c before lines blocks → list_any (adds_within c.cube) lines ≡ true
-    → list_any (publishes_within c.cube) (joined blocks) ≡ true
-lines_publish c before [] [] good e = absurd (let f : false ≡ true = e in cc)
-lines_publish c before [] (block ∷ blocks) good e = absurd good
-lines_publish c before (line ∷ lines) [] good e = absurd good
-lines_publish c before (Deletion lead ids ∷ lines) (block ∷ blocks) good e = any_back (publishes_within c.cube) block (joined blocks) (lines_publish c _ lines blocks good.1 e)
-lines_publish c before (Import id lits ∷ lines) (block ∷ blocks) good e = any_back (publishes_within c.cube) block (joined blocks) (lines_publish c _ lines blocks good.1 e)
-lines_publish c before (Addition id lits hints ∷ lines) (block ∷ blocks) good e =
-    elim (cases_Bool (adds_within c.cube (Addition id lits hints))) [
-      | inl yes' ↦ any_front (publishes_within c.cube) block (joined blocks) (within_line c _ id lits hints block good.0 yes')
-      | inr none ↦ any_back (publishes_within c.cube) block (joined blocks)
-          (lines_publish c _ lines blocks good.1 (ap (λ b. b || list_any (adds_within c.cube) lines) (sym none) ∙ e))
-    ]
 
 -- where the report says 'within', one of the events published a clause within the cube
 within_is_published : (c : Setting) (bytes : List ℕ) (end : StreamEnd) (blocks : List History) (report : Report)
     → JudgesBlocks c bytes end blocks report → IsTrue report.within → IsTrue (list_any (publishes_within c.cube) (joined blocks))
 within_is_published c bytes end blocks report judged is =
     let said = said_within c judged.lines judged.rest end judged.back report judged.ends in
-    let front = lines_publish c [] judged.lines judged.front judged.begins.good (sym said ∙ is) in
+    let front = lines_publish (publishes_within c.cube) (λ a. is_within c.cube a.1) c (λ id lits. refl) [] judged.lines judged.front judged.good (sym said ∙ is) in
     ap (λ bs. list_any (publishes_within c.cube) (joined bs)) judged.split
     ∙ ap (list_any (publishes_within c.cube)) (flat_map-append (λ (block : History). block) judged.front judged.back)
     ∙ any_front (publishes_within c.cube) (joined judged.front) (joined judged.back) front
 
-stream_publishes : (c : Setting) (stop : Stop) (bytes : List ℕ) (blocks : List History) (report : Report)
-    → JudgesTo stop c bytes blocks report → IsTrue report.within → IsTrue (list_any (publishes_within c.cube) (joined blocks))
-stream_publishes c (read_out end) bytes blocks report judged is = within_is_published c bytes end blocks report judged is
-stream_publishes c (early unneeded) bytes blocks report judged is = within_is_published c bytes stream_ends.Ended blocks report judged.1 is
+stream_publishes : (c : Setting) (stream : Stream) (blocks : List History) (report : Report)
+    → JudgesStream c stream blocks report → IsTrue report.within → IsTrue (list_any (publishes_within c.cube) (joined blocks))
+stream_publishes c stream blocks report judged is =
+    let way = some_end c stream blocks report judged in
+    within_is_published c stream.bytes way.0 blocks report way.1 is
 
 -- ---- the formula under the cube
 
@@ -98,16 +71,17 @@ refuted_from f p cube m (events.publish s id c publishing.Done ∷ es) legal h =
 sound : (f : Cnf) (p : LayoutValue) (h : History) (c : Setting) (stream : Stream) (blocks : List History) (report : Report)
     → IsLegal f p h → own h c.stream ≡ joined blocks → JudgesStream c stream blocks report → IsTrue report.within → IsUnsatisfiableUnder f c.cube
 sound f p h c stream blocks report legal mine judged is =
-    let published = stream_publishes c stream.stop stream.bytes blocks report judged is in
+    let published = stream_publishes c stream blocks report judged is in
     refuted_from f p c.cube (opening f) h legal.events
     (any_filtered (publishes_within c.cube) _ h (ap (list_any (publishes_within c.cube)) mine ∙ published))
 
 -- So it is where the stream's blocks stand in an order of lines that is legal.
-sound_in_order : (f : Cnf) (p : LayoutValue) (order : List Block) (s : ℕ) (c : Setting) (stream : Stream) (report : Report)
-    → IsLegal f p (events_in order) → JudgesStream c stream (blocks_of s order) report → IsTrue report.within → IsUnsatisfiableUnder f c.cube
-sound_in_order f p order s c stream report legal judged is =
+sound_in_order : (f : Cnf) (p : LayoutValue) (order : List Block) (s : ℕ) (c : Setting) (stream : Stream) (blocks : List History) (report : Report)
+    → IsLegal f p (events_in order) → blocks ≡ blocks_of s order → JudgesStream c stream blocks report → IsTrue report.within → IsUnsatisfiableUnder f c.cube
+sound_in_order f p order s c stream blocks report legal own judged is =
     refuted_from f p c.cube (opening f) (events_in order) legal.events
-    (any_block (publishes_within c.cube) s order (stream_publishes c stream.stop stream.bytes (blocks_of s order) report judged is))
+    (any_block (publishes_within c.cube) s order
+    (subst (λ (bs : List History). IsTrue (list_any (publishes_within c.cube) (joined bs))) own (stream_publishes c stream blocks report judged is)))
 
 -- ---- a run
 
@@ -126,13 +100,13 @@ sound_by f terms h legal s (t ∷ ts) (r ∷ rs) judged is =
 
 -- by turns
 sound_among : (f : Cnf) (terms : TermsValue) (blocks : List Block) (k : ℕ) (streams : List Stream) (reports : List Report) → IsLegal f terms.layout (events_in blocks)
-    → AreJudged terms (λ s. true) blocks k streams reports → list_any (λ report. report.within) reports ≡ true → IsUnsatisfiableUnder f terms.cube
+    → AreJudged terms (λ s. true) (λ s events. events ≡ blocks_of s blocks) k streams reports → list_any (λ report. report.within) reports ≡ true → IsUnsatisfiableUnder f terms.cube
 sound_among f terms blocks k [] [] legal judged some = absurd (let none : false ≡ true = some in cc)
 sound_among f terms blocks k [] (r ∷ reports) legal judged some = absurd judged
 sound_among f terms blocks k (stream ∷ streams) [] legal judged some = absurd judged
 sound_among f terms blocks k (stream ∷ streams) (r ∷ reports) legal judged some =
     elim (cases_Bool r.within) [
-      | inl yes' ↦ sound_in_order f terms.layout blocks k (setting_of terms k) stream r legal (judged.0 refl) yes'
+      | inl yes' ↦ sound_in_order f terms.layout blocks k (setting_of terms k) stream _ r legal (judged.0 refl).1 (judged.0 refl).2 yes'
       | inr none ↦ sound_among f terms blocks (k + 1) streams reports legal judged.1 (ap (λ b. b || list_any (λ (report : Report). report.within) reports) (sym none) ∙ some)
     ]
 

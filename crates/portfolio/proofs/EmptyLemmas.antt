@@ -2,32 +2,34 @@
 use Rattle.std.proofs.Common.{◌≡◌, ℕ, ℤ, Bool, true, false, List, [], ◌∷◌, ◌++◌, length, inl, inr, refl, sym, ap, subst, ◌∙◌, arith}
 use Rattle.std.specs.Prelude.{◌||◌, ◌==◌, IsTrue, if◌then◌else◌}
 use Rattle.std.specs.List.{list_any, filter}
-use Rattle.std.proofs.lemmas.Bool.{eqb-true, or_right, or_left}
+use Rattle.std.proofs.lemmas.Bool.{cases_Bool, eqb-true, or_right, or_left}
 use Rattle.std.proofs.lemmas.Grind.{flat_map-append}
 use Rattle.std.proofs.lemmas.List.Folds.{list_any-append}
 use Rattle.lrup_model.specs.Clause.{Clause}
+use Rattle.lrup_model.specs.Distinct.{distinct}
 use Rattle.lrup_model.specs.Formula.{Cnf}
 use Rattle.lrup_model.specs.Entailment.{Follows, IsUnsatisfiable}
 use Rattle.lrup_model.specs.EntailmentLemmas.{empty_refutes}
 use Rattle.lrup_model.specs.Layout.{LayoutValue}
 use Rattle.lrup_model.specs.Event as events
-use Rattle.lrup_model.specs.Event.{Event, Reply, History, own, publishes_empty}
+use Rattle.lrup_model.specs.Event.{Event, Reply, History, own}
 use Rattle.lrup_model.specs.State.{State, opening, after}
 use Rattle.lrup_model.specs.History.{LegalFrom, IsLegal}
 use Rattle.lrup_model.specs.declared.clause_map.Published.TheVariants as publishing
 use Rattle.lrup_text.specs.Lines.{StreamLine, Addition, Deletion, Import}
 use Rattle.lrup_text.specs.declared.device.StreamEnd.{StreamEnd}
-use Rattle.lrup_text.specs.declared.device.StreamEnd.TheVariants as stream_ends
 use Rattle.stream_check.specs.declared.fault.Fault.{Fault}
 use Rattle.stream_check.specs.declared.fault.Fault.TheVariants as faults
 use Rattle.stream_check.specs.declared.report.Report.{Report}
 use Rattle.stream_check.specs.Setting.{Setting}
-use Rattle.stream_check.specs.Standing.{Standing, adds_empty}
+use Rattle.stream_check.specs.Standing.{Standing, additions_of}
 use Rattle.stream_check.specs.Verdicts.{Good, Bad, Fails}
 use Rattle.stream_check.specs.Additions.{AtConflict, AtReply, JudgesHints, published_by}
 use Rattle.stream_check.specs.Judging.{JudgesLine, AreGood, joined, JudgesBlocks}
 use Rattle.stream_check.specs.ReportLemmas.{said_empty}
-use Rattle.runs.specs.Streams.{Stop, read_out, early, Stream, JudgesTo, JudgesStream, Block, blocks_of, events_in}
+use Rattle.run_laws.specs.PublishLemmas.{publishes_empty}
+use Rattle.runs.specs.StreamLemmas.{some_end}
+use Rattle.runs.specs.Streams.{Stream, JudgesStream, Block, blocks_of, events_in}
 
 -- ---- some element of a list
 
@@ -65,7 +67,7 @@ module _ (p : Event → Bool) where
 
 -- ---- the publish of a good addition
 
-pub fails_not : (fault : Fault) (es : History) → Fails fault es Good → ⊥
+pub fails_not : (fault : Fault) (es : History) → Fails 0 fault es Good → ⊥
 fails_not fault es f = let e : Good ≡ Bad 0 fault = f.1 in cc
 
 module _ (p : Event → Bool) (c : Setting) (gone : ℕ → Bool) (published : Event) (passes : p published ≡ true) where
@@ -91,39 +93,47 @@ module _ (p : Event → Bool) (c : Setting) (gone : ℕ → Bool) (published : E
       ap (list_any p) a.events
       ∙ any_back p a.asked a.rest (at_reply a.reply n h hints a.rest (λ m. JudgesHints c gone published m hints a.rest Good) (λ m k. hints_publish m hints a.rest k) a.next)
 
--- a good addition of the empty clause publishes it
-empty_line : (c : Setting) (st : Standing) (id : ℕ) (hints : List ℕ) (es : History) → JudgesLine c st (Addition id [] hints) es Good → list_any publishes_empty es ≡ true
-empty_line c st id hints es (inl bad) = absurd (fails_not faults.Identity es bad.1)
-empty_line c st id hints es (inr (a, inl bad)) = absurd (fails_not faults.Literal es bad.1)
-empty_line c st id hints es (inr (a, inr (b, inl bad))) = absurd (fails_not faults.Tautology es bad.1)
-empty_line c st id hints es (inr (a, inr (b, inr (d, inl bad)))) = absurd (fails_not faults.NoRoom es bad.1)
-empty_line c st id hints es (inr (a, inr (b, inr (d, inr (e, judged))))) = hints_publish publishes_empty c st.gone (published_by c id []) refl [] hints es judged
+-- a good addition whose publish passes
+addition_publishes : (p : Event → Bool) (c : Setting) (st : Standing) (id : ℕ) (lits : List ℤ) (hints : List ℕ) (es : History)
+    → JudgesLine c st (Addition id lits hints) es Good → p (published_by c id lits) ≡ true → list_any p es ≡ true
+addition_publishes p c st id lits hints es (inl bad) passes = absurd (fails_not faults.Identity es bad.1)
+addition_publishes p c st id lits hints es (inr (a, inl bad)) passes = absurd (fails_not faults.Literal es bad.1)
+addition_publishes p c st id lits hints es (inr (a, inr (b, inl bad))) passes = absurd (fails_not faults.Tautology es bad.1)
+addition_publishes p c st id lits hints es (inr (a, inr (b, inr (d, inl bad)))) passes = absurd (fails_not faults.NoRoom es bad.1)
+addition_publishes p c st id lits hints es (inr (a, inr (b, inr (d, inr (e, judged))))) passes =
+    hints_publish p c st.gone (published_by c id lits) passes _ hints es judged
 
 -- ---- the lines of a stream
 
-lines_publish : (c : Setting) (before lines : List StreamLine) (blocks : List History) → AreGood c before lines blocks → list_any adds_empty lines ≡ true → list_any publishes_empty (joined blocks) ≡ true
-lines_publish c before [] [] good e = absurd (let f : false ≡ true = e in cc)
-lines_publish c before [] (block ∷ blocks) good e = absurd good
-lines_publish c before (line ∷ lines) [] good e = absurd good
-lines_publish c before (Addition id [] hints ∷ lines) (block ∷ blocks) good e = any_front publishes_empty block (joined blocks) (empty_line c _ id hints block good.0)
-lines_publish c before (Addition id (l ∷ lits) hints ∷ lines) (block ∷ blocks) good e = any_back publishes_empty block (joined blocks) (lines_publish c _ lines blocks good.1 e)
-lines_publish c before (Deletion lead ids ∷ lines) (block ∷ blocks) good e = any_back publishes_empty block (joined blocks) (lines_publish c _ lines blocks good.1 e)
-lines_publish c before (Import id lits ∷ lines) (block ∷ blocks) good e = any_back publishes_empty block (joined blocks) (lines_publish c _ lines blocks good.1 e)
+-- where one of the good additions passes, one of the publishes does
+pub lines_publish : (p : Event → Bool) (adds : ℕ × Clause → Bool) (c : Setting) → ((id : ℕ) (lits : List ℤ) → p (published_by c id lits) ≡ adds (id, distinct lits))
+    → (before lines : List StreamLine) (blocks : List History) → AreGood c before lines blocks → list_any adds (additions_of lines) ≡ true → list_any p (joined blocks) ≡ true
+lines_publish p adds c same before [] [] good e = absurd (let f : false ≡ true = e in cc)
+lines_publish p adds c same before [] (block ∷ blocks) good e = absurd good
+lines_publish p adds c same before (line ∷ lines) [] good e = absurd good
+lines_publish p adds c same before (Deletion lead ids ∷ lines) (block ∷ blocks) good e = any_back p block (joined blocks) (lines_publish p adds c same _ lines blocks good.1 e)
+lines_publish p adds c same before (Import id lits ∷ lines) (block ∷ blocks) good e = any_back p block (joined blocks) (lines_publish p adds c same _ lines blocks good.1 e)
+lines_publish p adds c same before (Addition id lits hints ∷ lines) (block ∷ blocks) good e =
+    elim (cases_Bool (adds (id, distinct lits))) [
+      | inl is ↦ any_front p block (joined blocks) (addition_publishes p c _ id lits hints block good.0 (same id lits ∙ is))
+      | inr none ↦ any_back p block (joined blocks) (lines_publish p adds c same _ lines blocks good.1 (ap (λ b. b || list_any adds (additions_of lines)) (sym none) ∙ e))
+    ]
 
 -- Where the report says 'empty', one of the events published the empty clause.
 pub empty_is_published : (c : Setting) (bytes : List ℕ) (end : StreamEnd) (blocks : List History) (report : Report)
     → JudgesBlocks c bytes end blocks report → IsTrue report.empty → IsTrue (list_any publishes_empty (joined blocks))
 empty_is_published c bytes end blocks report judged is =
     let said = said_empty c judged.lines judged.rest end judged.back report judged.ends in
-    let front = lines_publish c [] judged.lines judged.front judged.begins.good (sym said ∙ is) in
+    let front = lines_publish publishes_empty (λ a. length a.1 == 0) c (λ id lits. refl) [] judged.lines judged.front judged.good (sym said ∙ is) in
     ap (λ bs. list_any publishes_empty (joined bs)) judged.split
     ∙ ap (list_any publishes_empty) (flat_map-append (λ (block : History). block) judged.front judged.back)
     ∙ any_front publishes_empty (joined judged.front) (joined judged.back) front
 
-pub stream_publishes : (c : Setting) (stop : Stop) (bytes : List ℕ) (blocks : List History) (report : Report)
-    → JudgesTo stop c bytes blocks report → IsTrue report.empty → IsTrue (list_any publishes_empty (joined blocks))
-stream_publishes c (read_out end) bytes blocks report judged is = empty_is_published c bytes end blocks report judged is
-stream_publishes c (early unneeded) bytes blocks report judged is = empty_is_published c bytes stream_ends.Ended blocks report judged.1 is
+pub stream_publishes : (c : Setting) (stream : Stream) (blocks : List History) (report : Report)
+    → JudgesStream c stream blocks report → IsTrue report.empty → IsTrue (list_any publishes_empty (joined blocks))
+stream_publishes c stream blocks report judged is =
+    let way = some_end c stream blocks report judged in
+    empty_is_published c stream.bytes way.0 blocks report way.1 is
 
 -- ---- the formula
 
@@ -152,11 +162,12 @@ refuted f p h legal is = empty_refutes f (empty_follows f p (opening f) h legal.
 pub sound : (f : Cnf) (p : LayoutValue) (h : History) (c : Setting) (stream : Stream) (blocks : List History) (report : Report)
     → IsLegal f p h → own h c.stream ≡ joined blocks → JudgesStream c stream blocks report → IsTrue report.empty → IsUnsatisfiable f
 sound f p h c stream blocks report legal mine judged is =
-    let published = stream_publishes c stream.stop stream.bytes blocks report judged is in
+    let published = stream_publishes c stream blocks report judged is in
     refuted f p h legal (any_filtered publishes_empty _ h (ap (list_any publishes_empty) mine ∙ published))
 
 -- So it is where the stream's blocks stand in an order of lines that is legal.
-pub sound_in_order : (f : Cnf) (p : LayoutValue) (order : List Block) (s : ℕ) (c : Setting) (stream : Stream) (report : Report)
-    → IsLegal f p (events_in order) → JudgesStream c stream (blocks_of s order) report → IsTrue report.empty → IsUnsatisfiable f
-sound_in_order f p order s c stream report legal judged is =
-    refuted f p (events_in order) legal (any_block publishes_empty s order (stream_publishes c stream.stop stream.bytes (blocks_of s order) report judged is))
+pub sound_in_order : (f : Cnf) (p : LayoutValue) (order : List Block) (s : ℕ) (c : Setting) (stream : Stream) (blocks : List History) (report : Report)
+    → IsLegal f p (events_in order) → blocks ≡ blocks_of s order → JudgesStream c stream blocks report → IsTrue report.empty → IsUnsatisfiable f
+sound_in_order f p order s c stream blocks report legal own judged is =
+    refuted f p (events_in order) legal (any_block publishes_empty s order
+    (subst (λ (bs : List History). IsTrue (list_any publishes_empty (joined bs))) own (stream_publishes c stream blocks report judged is)))

@@ -1,8 +1,8 @@
 -- The one history of a run with threads, and what the reports say of it.
 use Rattle.std.proofs.Common.{◌≡◌, inl, inr, ℕ, zero, suc, ◌+◌, ◌-◌, ◌<◌, ◌≤◌, Bool, true, false, List, [], ◌∷◌, ◌++◌, length, map, take, Option, Some, refl, sym, ap, ap₂, subst, ◌∙◌, arith, append-nil}
 use Rattle.std.specs.Result.{IsErrAnd}
-use Rattle.std.specs.Prelude.{Result, Ok, Err, slice_get, if◌then◌else◌}
-use Rattle.std.specs.List.{AllByRecursion, list_any}
+use Rattle.std.specs.Prelude.{IsSome, Result, Ok, Err, slice_get, if◌then◌else◌}
+use Rattle.std.specs.List.{AllByRecursion, list_any, AllZip}
 use Rattle.std.proofs.lemmas.Option.{slice_get_within}
 use Rattle.std.proofs.lemmas.Bool.{or_cases}
 use Rattle.lrup_model.specs.Entailment.{IsUnsatisfiable}
@@ -27,11 +27,13 @@ use Rattle.portfolio.specs.declared.outcome.RunFault.TheVariants.{Layout, Memory
 use Rattle.portfolio.specs.declared.outcome.Verdict.{Verdict}
 use Rattle.portfolio.specs.declared.outcome.Verdict.TheVariants.{Unsatisfiable, UnsatisfiableUnder, Unknown}
 use Rattle.portfolio.specs.Outcomes.{verdict_of}
-use Rattle.runs.specs.Headline.{HaveCalls, HaveOneHistory, IsJudgedBy, AreJudgedIn, WereJudged, seen_by}
+use Rattle.runs.specs.Closed.{IsOfStream}
+use Rattle.runs.specs.StreamLemmas.{IsJudgedBy}
+use Rattle.runs.specs.Headline.{HaveOneHistory, AreJudgedIn, WereJudged, seen_by}
 use Rattle.stream_threads.specs.Jobs.{JobsValue, FoundValue, CanBegin, Finishes, AllFinish, AreJobs}
 use Rattle.lrup_text.specs.ReadOut.{SourceView}
 use Rattle.runs.specs.Readings.{AreRead, IsStreamOf}
-use Rattle.runs.specs.Streams.{Stream, IsReadOut, tellings, AreTold, JudgesStream, StandsOnStreams, TermsValue, setting_of}
+use Rattle.runs.specs.Streams.{Stream, tellings, IsTold, JudgesStream, StandsOnStreams, TermsValue, setting_of}
 use Rattle.portfolio.proofs.EmptyLemmas.{sound}
 
 -- ---- the layout
@@ -109,17 +111,25 @@ AreJudgedBy terms s (stream ∷ streams) (v ∷ vs) (report ∷ reports) =
 AreJudgedBy terms s _ _ _ = ⊥
 
 -- these calls are the events of the one history
-judged_in : (f : Cnf) (terms : TermsValue) (h : History) (s : ℕ) (streams : List Stream) (vs : List View) (reports : List Report)
-    → AreJudgedBy terms s streams vs reports → HaveCalls f terms.layout h s vs → AreJudgedIn terms (λ t. true) h s streams reports
-judged_in f terms h s [] [] [] judged calls = tt
-judged_in f terms h s [] [] (r ∷ rs) judged calls = absurd judged
-judged_in f terms h s [] (v ∷ vs) rs judged calls = absurd judged
-judged_in f terms h s (t ∷ ts) [] rs judged calls = absurd judged
-judged_in f terms h s (t ∷ ts) (v ∷ vs) [] judged calls = absurd judged
-judged_in f terms h s (t ∷ ts) (v ∷ vs) (r ∷ rs) judged calls = (
-  λ all. subst (λ (es : History). IsJudgedBy (setting_of terms s) t es r) calls.2 judged.0,
-  judged_in f terms h (s + 1) ts vs rs judged.1 calls.3,
-)
+judged_in : (terms : TermsValue) (h : History) (s : ℕ) (streams : List Stream) (vs : List View) (reports : List Report)
+    → AreJudgedBy terms s streams vs reports → ((k : ℕ) (v : View) → slice_get vs k ≡ Some v → v.mine ≡ own h (s + k))
+    → AreJudgedIn terms (λ t. true) h s streams reports
+judged_in terms h s [] [] [] judged calls = tt
+judged_in terms h s [] [] (r ∷ rs) judged calls = absurd judged
+judged_in terms h s [] (v ∷ vs) rs judged calls = absurd judged
+judged_in terms h s (t ∷ ts) [] rs judged calls = absurd judged
+judged_in terms h s (t ∷ ts) (v ∷ vs) [] judged calls = absurd judged
+judged_in terms h s (t ∷ ts) (v ∷ vs) (r ∷ rs) judged calls =
+    let here : s + 0 ≡ s = omega arith in
+    let mine : v.mine ≡ own h s = subst (λ (n : ℕ). v.mine ≡ own h n) here (calls 0 v refl) in (
+      λ all. subst (λ (es : History). IsJudgedBy (setting_of terms s) t es r) mine judged.0,
+      judged_in terms h (s + 1) ts vs rs judged.1
+          (λ k w at. let next : s + suc k ≡ s + 1 + k = omega arith in subst (λ (n : ℕ). w.mine ≡ own h n) next (calls (suc k) w at)),
+    )
+
+-- the pass is stream s's, has seen the history, and its calls are the stream's events of it
+abbrev HasCalls : Cnf → LayoutValue → History → ℕ → View → Type 0
+HasCalls f p h s v = (v.caller ≡ record { formula = f; layout = p; stream = s }) × (v.seen ≡ h) × (v.mine ≡ own h s)
 
 -- ---- of readers of one kind
 
@@ -217,17 +227,24 @@ module _ {S : Type 0} (view : SourceView S) where
 
   have_calls : (f : Cnf) (terms : TermsValue) (store : StoreValue) (h : History) → store.layout ≡ terms.layout
       → (s : ℕ) (firsts : List S) (js : List (JobsValue S)) (fs : List (FoundValue S)) (vs : List View)
-      → AreReady store f terms s firsts js → AllFinish view js fs → AreMet (views (map (λ x. x.pass) fs)) vs → AllSaw h vs → HaveCalls f terms.layout h s vs
-  have_calls f terms store h same s [] [] [] [] ready all met saw = tt
-  have_calls f terms store h same s [] [] [] (v ∷ vs) ready all met saw = absurd met
-  have_calls f terms store h same s [] [] (x ∷ fs) vs ready all met saw = absurd all
-  have_calls f terms store h same s [] (j ∷ js) fs vs ready all met saw = absurd ready
-  have_calls f terms store h same s (e ∷ es) [] fs vs ready all met saw = absurd ready
-  have_calls f terms store h same s (e ∷ es) (j ∷ js) [] vs ready all met saw = absurd all
-  have_calls f terms store h same s (e ∷ es) (j ∷ js) (x ∷ fs) [] ready all met saw = absurd met
-  have_calls f terms store h same s (e ∷ es) (j ∷ js) (x ∷ fs) (v ∷ vs) ready all met saw =
+      → AreReady store f terms s firsts js → AllFinish view js fs → AreMet (views (map (λ x. x.pass) fs)) vs → AllSaw h vs
+      → (k : ℕ) (w : View) → slice_get vs k ≡ Some w → HasCalls f terms.layout h (s + k) w
+  have_calls f terms store h same s [] [] [] [] ready all met saw k w at = absurd (cc)
+  have_calls f terms store h same s [] [] [] (v ∷ vs) ready all met saw k w at = absurd met
+  have_calls f terms store h same s [] [] (x ∷ fs) vs ready all met saw k w at = absurd all
+  have_calls f terms store h same s [] (j ∷ js) fs vs ready all met saw k w at = absurd ready
+  have_calls f terms store h same s (e ∷ es) [] fs vs ready all met saw k w at = absurd ready
+  have_calls f terms store h same s (e ∷ es) (j ∷ js) [] vs ready all met saw k w at = absurd all
+  have_calls f terms store h same s (e ∷ es) (j ∷ js) (x ∷ fs) [] ready all met saw k w at = absurd met
+  have_calls f terms store h same s (e ∷ es) (j ∷ js) (x ∷ fs) (v ∷ vs) ready all met saw zero w at =
       let end = ends f terms.layout store s j x v same ready.0.opened all.0 met.0 met.1 in
-      (end.caller, saw.0, ends_own f terms.layout s (joined all.0.blocks) h v end saw.0, have_calls f terms store h same (s + 1) es js fs vs ready.1 all.1 met.2 saw.1)
+      let this : v ≡ w = cc in
+      let here : s ≡ s + 0 = omega arith in
+      subst (λ (n : ℕ). HasCalls f terms.layout h n w) here
+      (subst (HasCalls f terms.layout h s) this (end.caller, saw.0, ends_own f terms.layout s (joined all.0.blocks) h v end saw.0))
+  have_calls f terms store h same s (e ∷ es) (j ∷ js) (x ∷ fs) (v ∷ vs) ready all met saw (suc k) w at =
+      let next : s + 1 + k ≡ s + suc k = omega arith in
+      subst (λ (n : ℕ). HasCalls f terms.layout h n w) next (have_calls f terms store h same (s + 1) es js fs vs ready.1 all.1 met.2 saw.1 k w at)
 
   have_legal : (f : Cnf) (terms : TermsValue) (store : StoreValue) (h : History) → store.layout ≡ terms.layout
       → (s : ℕ) (firsts : List S) (js : List (JobsValue S)) (fs : List (FoundValue S)) (vs : List View)
@@ -250,16 +267,27 @@ module _ {S : Type 0} (view : SourceView S) where
       record {
         legal = have_legal f terms store (seen_by vs) same 1 firsts js fs vs ready all met saw (omega (arith, is.some_stream, count));
         count = each;
-        calls = have_calls f terms store (seen_by vs) same 1 firsts js fs vs ready all met saw;
+        calls = λ s v at.
+            let first = at.0 in
+            let here : 1 + (s - 1) ≡ s = omega (arith, first) in
+            subst (λ (n : ℕ). HasCalls f terms.layout (seen_by vs) n v) here
+            (have_calls f terms store (seen_by vs) same 1 firsts js fs vs ready all met saw (s - 1) v at.1);
       }
+
+  -- the calls of the pass at each place
+  mine_at : (f : Cnf) (p : LayoutValue) (vs : List View) → HaveOneHistory f p (seen_by vs) vs
+      → (k : ℕ) (v : View) → slice_get vs k ≡ Some v → v.mine ≡ own (seen_by vs) (1 + k)
+  mine_at f p vs one k v at =
+      let place : k ≡ 1 + k - 1 = omega arith in
+      (one.calls (1 + k) v (omega arith, subst (λ (n : ℕ). slice_get vs n ≡ Some v) place at)).2
 
   -- ---- the reports
 
   -- The streams that the readers told, and that their reads gave, by which the reports hold.
   pub record Judged (terms : TermsValue) (s : ℕ) (firsts : List S) (fs : List (FoundValue S)) (vs : List View) : Type 0 where
     pub streams : List Stream
-    pub out : AllByRecursion IsReadOut streams
-    pub told : AreTold (tellings view firsts (map (λ x. x.reader) fs)) streams
+    pub out : AllByRecursion (λ stream. IsSome stream.end) streams
+    pub told : AllZip IsTold (tellings view firsts (map (λ x. x.reader) fs)) streams
     pub judged : AreJudgedBy terms s streams vs (map (λ x. x.report) fs)
     pub read : AreRead S view.reads firsts (map (λ x. x.reader) fs) streams
 
@@ -312,16 +340,16 @@ module _ {S : Type 0} (view : SourceView S) where
       → Judged terms 1 firsts fs vs → terms ≡ wanted → HaveOneHistory f wanted.layout (seen_by vs) vs
       → lasts ≡ map (λ x. x.reader) fs → reports ≡ map (λ x. x.report) fs
       → StandsOnStreams (tellings view firsts lasts)
-      (λ streams. AllByRecursion IsReadOut streams × AreJudgedIn wanted (λ s. true) (seen_by vs) 1 streams reports × AreRead S view.reads firsts lasts streams)
+      (λ streams. AllByRecursion (λ stream. IsSome stream.end) streams × AreJudgedIn wanted (λ s. true) (seen_by vs) 1 streams reports × AreRead S view.reads firsts lasts streams)
   judged_so f terms wanted firsts lasts reports fs vs j same one readers said =
       let judged : AreJudgedBy wanted 1 j.streams vs (map (λ x. x.report) fs) =
       subst (λ (t : TermsValue). AreJudgedBy t 1 j.streams vs (map (λ x. x.report) fs)) same j.judged in
       record {
         streams = j.streams;
-        are_told = subst (λ (ls : List S). AreTold (tellings view firsts ls) j.streams) (sym readers) j.told;
+        are_told = subst (λ (ls : List S). AllZip IsTold (tellings view firsts ls) j.streams) (sym readers) j.told;
         judged = (
           j.out,
-          rw said (judged_in f wanted (seen_by vs) 1 j.streams vs (map (λ x. x.report) fs) judged one.calls),
+          rw said (judged_in wanted (seen_by vs) 1 j.streams vs (map (λ x. x.report) fs) judged (mine_at f wanted.layout vs one)),
           subst (λ (ls : List S). AreRead S view.reads firsts ls j.streams) (sym readers) j.read,
         );
       }

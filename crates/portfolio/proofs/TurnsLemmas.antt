@@ -2,7 +2,7 @@
 use Rattle.std.proofs.Common.{◌≡◌, ◌≢◌, IsSome, IfSome, ℕ, zero, suc, ◌+◌, ◌-◌, ◌<◌, ◌≤◌, Bool, true, false, cond, eqb, List, [], ◌∷◌, ◌++◌, length, get_or, set, take, replicate, map, Option, Some, None, refl, sym, ap, ap₂, subst, ◌∙◌, inl, inr, arith, length-set, eq-eqb, ne_eqb}
 use borrow.Author.Count.{below_more}
 use Rattle.std.specs.Prelude.{◌||◌, ◌↔◌, IsTrue}
-use Rattle.std.specs.List.{AllByRecursion, list_any, sum_by}
+use Rattle.std.specs.List.{AllByRecursion, list_any, sum_by, AllZip}
 use Rattle.std.proofs.lemmas.Bool.{cases_Bool, cases_eq, cases_lt, cond-true, cond-false}
 use Rattle.std.proofs.lemmas.List.{append-nil, map-append, get_or_default, get_or-replicate, take-append-le, take_all}
 use Rattle.std.proofs.lemmas.Grind.{flat_map-append}
@@ -10,7 +10,7 @@ use Rattle.lrup_model.specs.Cube.{CubeValue}
 use Rattle.lrup_model.specs.Entailment.{IsUnsatisfiable}
 use Rattle.lrup_model.specs.Formula.{Cnf}
 use Rattle.lrup_model.specs.Layout.{LayoutValue, Fits, Owns, IsStream}
-use Rattle.lrup_model.specs.Event.{History, stream_of, own, size_of, spent}
+use Rattle.lrup_model.specs.Event.{History, stream_of, own, published, spent}
 use Rattle.lrup_model.specs.State.{State, opening, run}
 use Rattle.lrup_model.specs.History.{LegalFrom, IsLegal}
 use Rattle.lrup_model.specs.HistoryLemmas.{opening-owned}
@@ -20,16 +20,16 @@ use Rattle.lrup_model.specs.ListLemmas.{All-append, All-front}
 use Rattle.stream_check.specs.declared.report.Ending.{Ending}
 use Rattle.stream_check.specs.declared.report.Report.{Report}
 use Rattle.stream_check.specs.Setting.{Setting}
-use Rattle.stream_check.specs.Standing.{Tally}
 use Rattle.stream_check.specs.Judging.{joined}
-use Rattle.stream_check.specs.Checker.{IsReadyAt, report_at}
+use Rattle.stream_check.specs.CheckerValue.{Tally, report_of_tally}
+use Rattle.stream_check.specs.Checker.{IsReadyAt}
 use Rattle.stream_check.specs.Laws.{ReadyBeside}
 use Rattle.portfolio.proofs.EmptyLemmas.{sound_in_order}
 use Rattle.portfolio.proofs.WorkingLemmas.{not_over}
 use Rattle.portfolio.specs.Outcomes.{OptionsValue, layout_of}
 use Rattle.lrup_text.specs.ReadOut.{SourceView}
 use Rattle.runs.specs.Readings.{AreRead, IsStreamOf}
-use Rattle.runs.specs.Streams.{Stream, tellings, AreTold, JudgesStream, Block, blocks_of, events_in, IsBlockWithin, setting_of, AreJudged, IsOrdered, StandsOnStreams, TermsValue, terms_at}
+use Rattle.runs.specs.Streams.{Stream, tellings, IsTold, JudgesStream, Block, blocks_of, events_in, IsBlockWithin, setting_of, AreJudged, IsOrdered, StandsOnStreams, TermsValue}
 use Rattle.portfolio.specs.Working.{WorkerValue, WorksBy, Works, WorksOn, IsStarted}
 use Rattle.portfolio.specs.Turns.{HasRun, IsWorking, AreWorking, Runs, IsRunning, GoesOn, IsOver, AreOver, IsOverAt, AreStarted, HaveReports}
 
@@ -99,7 +99,7 @@ spent-others : (s t : ℕ) (es : History) → AllByRecursion (λ e. stream_of e 
 spent-others s t [] calls other = refl
 spent-others s t (e ∷ es) calls other =
     let not_mine : eqb (stream_of e) t ≡ false = ne_eqb (stream_of e) t (λ same. other (sym calls.0 ∙ same)) in
-    ap (sum_by size_of) (cond-false (eqb (stream_of e) t) (e ∷ own es t) (own es t) not_mine) ∙ spent-others s t es calls.1 other
+    ap (λ (h : History). sum_by (λ p. length p.1) (published h)) (cond-false (eqb (stream_of e) t) (e ∷ own es t) (own es t) not_mine) ∙ spent-others s t es calls.1 other
 
 -- nor what is no stream of the layout
 spent-outside : (p : LayoutValue) (t : ℕ) (blocks : List Block) → AllByRecursion (IsBlockWithin p (λ s. true)) blocks → ¬ IsStream p t → spent t (events_in blocks) ≡ 0
@@ -153,7 +153,7 @@ pub record IsOpened (f : Cnf) (p : LayoutValue) (m : Plain) : Type 0 where
   pub state : plain_state m ≡ opening f
   pub room : m.free ≡ replicate p.streams p.room
 
-report_at_end : (o : Option Ending) (t : Tally) (r : Report) → IsSome o → IfSome o (λ ending. r ≡ report_at t ending) → (ending : Ending) × (o ≡ Some ending) × (r ≡ report_at t ending)
+report_at_end : (o : Option Ending) (t : Tally) (r : Report) → IsSome o → IfSome o (λ ending. r ≡ report_of_tally t ending) → (ending : Ending) × (o ≡ Some ending) × (r ≡ report_of_tally t ending)
 report_at_end None t r over is = absurd (let none : false ≡ true = over in cc)
 report_at_end (Some ending) t r over is = (ending, refl, is)
 
@@ -273,7 +273,7 @@ module _ {S : Type 0} (view : SourceView S) where
 
   -- ---- the reports
 
-  reports_more : (ws : List (WorkerValue S)) (rs : List Report) (w : WorkerValue S) (r : Report) → HaveReports ws rs → IsOver w → IfSome w.checker.ending (λ ending. r ≡ report_at w.checker.tally ending)
+  reports_more : (ws : List (WorkerValue S)) (rs : List Report) (w : WorkerValue S) (r : Report) → HaveReports ws rs → IsOver w → IfSome w.checker.ending (λ ending. r ≡ report_of_tally w.checker.tally ending)
       → HaveReports (ws ++ w ∷ []) (rs ++ r ∷ [])
   reports_more [] [] w r have over is = (report_at_end w.checker.ending w.checker.tally r over is, tt)
   reports_more [] (x ∷ rs) w r have over is = absurd have
@@ -282,7 +282,7 @@ module _ {S : Type 0} (view : SourceView S) where
 
   -- one report more
   pub reports_pushed : (ws : List (WorkerValue S)) (rs ts : List Report) (w : WorkerValue S) (r : Report) → ts ≡ rs ++ r ∷ [] → HaveReports ws rs → IsOver w
-      → IfSome w.checker.ending (λ ending. r ≡ report_at w.checker.tally ending) → HaveReports (ws ++ w ∷ []) ts
+      → IfSome w.checker.ending (λ ending. r ≡ report_of_tally w.checker.tally ending) → HaveReports (ws ++ w ∷ []) ts
   reports_pushed ws rs ts w r pushed have over is = subst (HaveReports (ws ++ w ∷ [])) (sym pushed) (reports_more ws rs w r have over is)
 
   -- ---- before the first turn
@@ -310,35 +310,35 @@ module _ {S : Type 0} (view : SourceView S) where
   count_started terms k (first ∷ firsts) [] started = absurd started
   count_started terms k (first ∷ firsts) (w ∷ ws) started = omega (arith, count_started terms (k + 1) firsts ws started.1)
 
-  module _ (f : Cnf) (p : LayoutValue) (m : Plain) (opened : IsOpened f p m) where
-    room_opened : (s : ℕ) → IsStream p s → free_at m s ≡ p.room
-    room_opened s stream = ap (λ (rooms : List ℕ). get_or rooms (s - 1) 0) opened.room ∙ get_or-replicate p.streams (s - 1) p.room 0 (omega (arith, stream.0, stream.1))
+  module _ (f : Cnf) (terms : TermsValue) (m : Plain) (opened : IsOpened f terms.layout m) where
+    room_opened : (s : ℕ) → IsStream terms.layout s → free_at m s ≡ terms.layout.room
+    room_opened s stream = ap (λ (rooms : List ℕ). get_or rooms (s - 1) 0) opened.room ∙ get_or-replicate terms.layout.streams (s - 1) terms.layout.room 0 (omega (arith, stream.0, stream.1))
 
-    ready_opened : (cube : CubeValue) (tries s : ℕ) (first : S) (w : WorkerValue S) → IsStarted view (terms_at p cube tries) s first w → IsReadyAt w.checker (plain_place m s)
-    ready_opened cube tries s first w started = record {
+    ready_opened : (s : ℕ) (first : S) (w : WorkerValue S) → IsStarted view terms s first w → IsReadyAt w.checker (plain_place m s)
+    ready_opened s first w started = record {
       at = record {
         layout = opened.layout ∙ sym (ap (λ (c : Setting). c.layout) started.setting);
         stream = sym (ap (λ (c : Setting). c.stream) started.setting);
       };
       vacant = λ id owns above.
-          ap (λ (state : State). state id) opened.state ∙ opening-owned f p s id opened.fits (subst (λ (q : LayoutValue). Owns q s id) opened.layout owns);
+          ap (λ (state : State). state id) opened.state ∙ opening-owned f terms.layout s id opened.fits (subst (λ (q : LayoutValue). Owns q s id) opened.layout owns);
     }
 
-    working_started : (cube : CubeValue) (tries k : ℕ) (firsts : List S) (ws : List (WorkerValue S)) → 0 < k → k + length ws ≤ p.streams + 1 → AreStarted view (terms_at p cube tries) k firsts ws → AreWorking view (terms_at p cube tries) [] m k firsts ws
-    working_started cube tries k [] [] positive within started = tt
-    working_started cube tries k [] (w ∷ ws) positive within started = absurd started
-    working_started cube tries k (first ∷ firsts) [] positive within started = absurd started
-    working_started cube tries k (first ∷ firsts) (w ∷ ws) positive within started =
-        let room : free_at m k ≡ p.room = room_opened k (positive, omega (arith, within)) in (
+    working_started : (k : ℕ) (firsts : List S) (ws : List (WorkerValue S)) → 0 < k → k + length ws ≤ terms.layout.streams + 1 → AreStarted view terms k firsts ws → AreWorking view terms [] m k firsts ws
+    working_started k [] [] positive within started = tt
+    working_started k [] (w ∷ ws) positive within started = absurd started
+    working_started k (first ∷ firsts) [] positive within started = absurd started
+    working_started k (first ∷ firsts) (w ∷ ws) positive within started =
+        let room : free_at m k ≡ terms.layout.room = room_opened k (positive, omega (arith, within)) in (
           record {
             setting = started.0.setting;
             works = subst (λ free. Works view first w free []) (sym room) started.0.works;
-            ready = ready_opened cube tries k first w started.0;
+            ready = ready_opened k first w started.0;
           },
-          working_started cube tries (k + 1) firsts ws (omega arith) (omega (arith, within)) started.1,
+          working_started (k + 1) firsts ws (omega arith) (omega (arith, within)) started.1,
         )
 
-    run_opened : HasRun f p [] m
+    run_opened : HasRun f terms.layout [] m
     run_opened = record {
       layout = opened.layout;
       formula = opened.formula;
@@ -349,27 +349,27 @@ module _ {S : Type 0} (view : SourceView S) where
     }
 
     -- a run before its first turn
-    pub runs_opened : (cube : CubeValue) (tries : ℕ) (firsts : List S) (ws : List (WorkerValue S)) → length firsts ≡ p.streams → AreStarted view (terms_at p cube tries) 1 firsts ws → Runs view f (terms_at p cube tries) firsts m ws
-    runs_opened cube tries firsts ws count started =
-        let same : length ws ≡ p.streams = omega (arith, count_started (terms_at p cube tries) 1 firsts ws started, count) in
+    pub runs_opened : (firsts : List S) (ws : List (WorkerValue S)) → length firsts ≡ terms.layout.streams → AreStarted view terms 1 firsts ws → Runs view f terms firsts m ws
+    runs_opened firsts ws count started =
+        let same : length ws ≡ terms.layout.streams = omega (arith, count_started terms 1 firsts ws started, count) in
         record {
           count = same;
           blocks = [];
           map_is = run_opened;
-          workers_are = working_started cube tries 1 firsts ws (omega arith) (omega (arith, same)) started;
+          workers_are = working_started 1 firsts ws (omega arith) (omega (arith, same)) started;
         }
 
   -- ---- when all streams are over
 
   -- a worker that is over tells of its stream
   told_over : (o : Option Ending) (ending : Ending) (first : S) (w : WorkerValue S) (free : ℕ) (blocks : List History) → o ≡ Some ending → WorksBy view o first w free blocks
-      → (stream : Stream) × IsStreamOf view first w.reader stream × JudgesStream w.checker.setting stream blocks (report_at w.checker.tally ending)
+      → (stream : Stream) × IsStreamOf view first w.reader stream × JudgesStream w.checker.setting stream blocks (report_of_tally w.checker.tally ending)
   told_over o ending first w free blocks is works = let at : WorksBy view (Some ending) first w free blocks = subst (λ e. WorksBy view e first w free blocks) is works in at
 
   -- each stream is what its reader told, and is judged by its blocks
   pub streams_over : (terms : TermsValue) (blocks : List Block) (m : Plain) (k : ℕ) (firsts : List S) (ws : List (WorkerValue S)) (reports : List Report)
       → AreWorking view terms blocks m k firsts ws → HaveReports ws reports
-      → (streams : List Stream) × AreTold (tellings view firsts (map (λ w. w.reader) ws)) streams × AreRead S view.reads firsts (map (λ w. w.reader) ws) streams × AreJudged terms (λ s. true) blocks k streams reports
+      → (streams : List Stream) × AllZip IsTold (tellings view firsts (map (λ w. w.reader) ws)) streams × AreRead S view.reads firsts (map (λ w. w.reader) ws) streams × AreJudged terms (λ s. true) (λ s events. events ≡ blocks_of s blocks) k streams reports
   streams_over terms blocks m k [] [] [] working have = ([], tt, tt, tt)
   streams_over terms blocks m k [] [] (r ∷ reports) working have = absurd have
   streams_over terms blocks m k [] (w ∷ ws) reports working have = absurd working
@@ -381,11 +381,11 @@ module _ {S : Type 0} (view : SourceView S) where
       let judged : JudgesStream (setting_of terms k) told.0 (blocks_of k blocks) r =
       subst (λ (c : Setting). JudgesStream c told.0 (blocks_of k blocks) r) working.0.setting
       (subst (λ (x : Report). JudgesStream w.checker.setting told.0 (blocks_of k blocks) x) (sym have.0.2) told.2) in
-      (told.0 ∷ others.0, (told.1.0, others.1), (told.1.1, others.2), (λ all. judged, others.3))
+      (told.0 ∷ others.0, (told.1.0, others.1), (told.1.1, others.2), (λ all. (blocks_of k blocks, refl, judged), others.3))
 
   -- the reports have an order of lines
   pub ordered_over : (f : Cnf) (terms : TermsValue) (firsts : List S) (m : Plain) (ws : List (WorkerValue S)) (reports : List Report) → Runs view f terms firsts m ws → HaveReports ws reports
-      → (streams : List Stream) × AreTold (tellings view firsts (map (λ w. w.reader) ws)) streams × AreRead S view.reads firsts (map (λ w. w.reader) ws) streams × IsOrdered f terms (λ s. true) streams reports
+      → (streams : List Stream) × AllZip IsTold (tellings view firsts (map (λ w. w.reader) ws)) streams × AreRead S view.reads firsts (map (λ w. w.reader) ws) streams × IsOrdered f terms (λ s. true) streams reports
   ordered_over f terms firsts m ws reports runs have =
       let streams = streams_over terms runs.blocks m 1 firsts ws reports runs.workers_are have in (
         streams.0,
@@ -401,13 +401,13 @@ module _ {S : Type 0} (view : SourceView S) where
 
 -- where one of the reports says 'empty', no assignment makes every clause of the formula true
 sound_among : (f : Cnf) (terms : TermsValue) (blocks : List Block) (k : ℕ) (streams : List Stream) (reports : List Report) → IsLegal f terms.layout (events_in blocks)
-    → AreJudged terms (λ s. true) blocks k streams reports → IsTrue (list_any (λ report. report.empty) reports) → IsUnsatisfiable f
+    → AreJudged terms (λ s. true) (λ s events. events ≡ blocks_of s blocks) k streams reports → IsTrue (list_any (λ report. report.empty) reports) → IsUnsatisfiable f
 sound_among f terms blocks k [] [] legal judged some = absurd (let none : false ≡ true = some in cc)
 sound_among f terms blocks k [] (r ∷ reports) legal judged some = absurd judged
 sound_among f terms blocks k (stream ∷ streams) [] legal judged some = absurd judged
 sound_among f terms blocks k (stream ∷ streams) (r ∷ reports) legal judged some =
     elim (cases_Bool r.empty) [
-      | inl yes' ↦ sound_in_order f terms.layout blocks k (setting_of terms k) stream r legal (judged.0 refl) yes'
+      | inl yes' ↦ sound_in_order f terms.layout blocks k (setting_of terms k) stream _ r legal (judged.0 refl).1 (judged.0 refl).2 yes'
       | inr none ↦ sound_among f terms blocks (k + 1) streams reports legal judged.1 (ap (λ b. b || list_any (λ (report : Report). report.empty) reports) (sym none) ∙ some)
     ]
 
@@ -416,19 +416,18 @@ pub sound_over : (f : Cnf) (terms : TermsValue) (streams : List Stream) (reports
 sound_over f terms streams reports ordered some = sound_among f terms ordered.blocks 1 streams reports ordered.legal ordered.judged some
 
 -- the whole run: opened, gone on with, and over
-pub run_ordered : {S : Type 0} (view : SourceView S) (f : Cnf) (p : LayoutValue) (cube : CubeValue) (tries : ℕ) (wanted : TermsValue) (firsts lasts : List S) (m n : Plain) (us vs ws xs : List (WorkerValue S)) (reports : List Report)
-    → IsOpened f p m → terms_at p cube tries ≡ wanted → length firsts ≡ p.streams → AreStarted view (terms_at p cube tries) 1 firsts us
+pub run_ordered : {S : Type 0} (view : SourceView S) (f : Cnf) (terms wanted : TermsValue) (firsts lasts : List S) (m n : Plain) (us vs ws xs : List (WorkerValue S)) (reports : List Report)
+    → IsOpened f terms.layout m → terms ≡ wanted → length firsts ≡ terms.layout.streams → AreStarted view terms 1 firsts us
     → vs ≡ us → GoesOn view m vs n ws → xs ≡ ws → HaveReports xs reports → lasts ≡ map (λ w. w.reader) xs
     → StandsOnStreams (tellings view firsts lasts)
     (λ streams. IsOrdered f wanted (λ s. true) streams reports × AreRead S view.reads firsts lasts streams)
-run_ordered {S} view f p cube tries wanted firsts lasts m n us vs ws xs reports opened same count started same_start goes same_end have readers =
-    let terms = terms_at p cube tries in
-    let begun : Runs view f terms firsts m vs = subst (Runs view f terms firsts m) (sym same_start) (runs_opened view f p m opened cube tries firsts us count started) in
+run_ordered {S} view f terms wanted firsts lasts m n us vs ws xs reports opened same count started same_start goes same_end have readers =
+    let begun : Runs view f terms firsts m vs = subst (Runs view f terms firsts m) (sym same_start) (runs_opened view f terms m opened firsts us count started) in
     let ended : Runs view f terms firsts n xs = subst (Runs view f terms firsts n) (sym same_end) (goes f terms firsts begun) in
     let ordered = ordered_over view f terms firsts n xs reports ended have in
     record {
       streams = ordered.0;
-      are_told = subst (λ (ls : List S). AreTold (tellings view firsts ls) ordered.0) (sym readers) ordered.1;
+      are_told = subst (λ (ls : List S). AllZip IsTold (tellings view firsts ls) ordered.0) (sym readers) ordered.1;
       judged = (
         subst (λ (t : TermsValue). IsOrdered f t (λ s. true) ordered.0 reports) same ordered.3,
         subst (λ (ls : List S). AreRead S view.reads firsts ls ordered.0) (sym readers) ordered.2,

@@ -1,27 +1,24 @@
 -- What a worker's steps leave: a read, what the checker takes of a piece, and the end.
-use Rattle.std.proofs.Common.{◌≡◌, ℕ, ◌+◌, ◌-◌, ◌<◌, ◌≤◌, Bool, true, false, List, [], ◌∷◌, ◌++◌, length, take, drop, arith, length-take, Option, None, Some, inl, inr, refl, sym, ap, subst, ◌∙◌, append_assoc, append-nil}
+use Rattle.std.proofs.Common.{◌≡◌, ℕ, ◌+◌, ◌-◌, ◌<◌, ◌≤◌, Bool, true, false, List, [], ◌∷◌, ◌++◌, length, take, drop, arith, length-take, Option, None, Some, refl, sym, ap, subst, ◌∙◌, append_assoc, append-nil}
 use Rattle.std.specs.Prelude.{◌↔◌, IsSome, IsTrue}
 use Rattle.std.specs.Io.KnownBytes.{Consumes}
 use Rattle.std.proofs.KnownBytes.{Consumes-trans}
 use Rattle.std.proofs.Math.Seq.{take-add}
 use Rattle.std.proofs.lemmas.List.{take-take, drop-drop}
 use Rattle.lrup_model.specs.Event.{History}
-use Rattle.lrup_text.specs.Lines.{StreamLine}
 use Rattle.lrup_text.specs.declared.device.StreamEnd.{StreamEnd}
 use Rattle.lrup_text.specs.declared.device.StreamEnd.TheVariants as stream_ends
 use Rattle.stream_check.specs.declared.report.Ending.{Ending}
-use Rattle.stream_check.specs.declared.report.Ending.TheVariants as endings
 use Rattle.stream_check.specs.declared.report.Report.{Report}
 use Rattle.stream_check.specs.Setting.{Setting}
-use Rattle.stream_check.specs.Judging.{ending_at, EndsAfter, JudgesBlocks}
+use Rattle.stream_check.specs.Judging.{JudgesBlocks}
 use Rattle.stream_check.specs.Leaving.{Leaves}
-use Rattle.stream_check.specs.CheckerValue.{CheckerValue}
-use Rattle.stream_check.specs.Checker.{state_by, checker_state, report_at, LeavesOn, EndsBy, Ends, ReportsEnd}
+use Rattle.stream_check.specs.CheckerValue.{report_of_tally, CheckerValue}
+use Rattle.stream_check.specs.Checker.{state_by, checker_state, LeavesOn, EndsBy, Ends, ReportsEnd}
 use Rattle.lrup_text.specs.ReadLemmas.{gave_more}
 use Rattle.lrup_text.specs.ReadOut.{EndsSo, IsLastRead, SourceView}
 use Rattle.lrup_text.specs.Reads.{Gave}
-use Rattle.runs.specs.Readings.{IsReadTo}
-use Rattle.runs.specs.Streams.{Stop, early, read_to, StopsSo, StopsReading, JudgesTo, read_out}
+use Rattle.runs.specs.StreamLemmas.{judged_out}
 use Rattle.portfolio.specs.Working.{WorkerValue, WorksBy, Works, WorksOn}
 
 -- ---- going on
@@ -34,30 +31,12 @@ none_of (Some ending) none = absurd (none refl)
 pub not_over : (over : Bool) (ending : Option Ending) → (IsTrue over ↔ IsSome ending) → over ≡ false → ending ≡ None
 not_over over ending is going = none_of ending (λ some. let yes : over ≡ true = is.1 some in cc)
 
--- ---- a report that is right for either end tells of neither
+-- ---- what is judged so for both ends is judged so for each
 
-ends_not_ended : (c : Setting) (lines : List StreamLine) (rest : List ℕ) (blocks : List History) (report : Report) → EndsAfter c lines rest stream_ends.Failed blocks report → report.ending ≡ endings.Ended → ⊥
-ends_not_ended c lines rest blocks report (inl line) e = let f = sym e ∙ ap (λ (r : Report). r.ending) line.says in cc
-ends_not_ended c lines rest blocks report (inr (inl text)) e = let f = sym e ∙ ap (λ (r : Report). r.ending) text.says in cc
-ends_not_ended c lines rest blocks report (inr (inr (inl memory))) e = let f = sym e ∙ ap (λ (r : Report). r.ending) memory.says in cc
-ends_not_ended c lines rest blocks report (inr (inr (inr ending))) e = let f = sym e ∙ ap (λ (r : Report). r.ending) ending.says in cc
-
-end_not_failed : (rest : List ℕ) (n line : ℕ) → ending_at stream_ends.Ended rest n ≡ endings.ReadFailed line → ⊥
-end_not_failed [] n line e = cc
-end_not_failed (byte ∷ bytes) n line e = cc
-
-ends_not_failed : (c : Setting) (lines : List StreamLine) (rest : List ℕ) (blocks : List History) (report : Report) (n : ℕ) → EndsAfter c lines rest stream_ends.Ended blocks report → report.ending ≡ endings.ReadFailed n → ⊥
-ends_not_failed c lines rest blocks report n (inl line) e = let f = sym e ∙ ap (λ (r : Report). r.ending) line.says in cc
-ends_not_failed c lines rest blocks report n (inr (inl text)) e = let f = sym e ∙ ap (λ (r : Report). r.ending) text.says in cc
-ends_not_failed c lines rest blocks report n (inr (inr (inl memory))) e = let f = sym e ∙ ap (λ (r : Report). r.ending) memory.says in cc
-ends_not_failed c lines rest blocks report n (inr (inr (inr ending))) e = end_not_failed rest _ n (sym (ap (λ (r : Report). r.ending) ending.says) ∙ e)
-
-stops_reading : (c : Setting) (bytes : List ℕ) (blocks : List History) (report : Report) (ending : Ending) → report.ending ≡ ending
-    → JudgesBlocks c bytes stream_ends.Ended blocks report → JudgesBlocks c bytes stream_ends.Failed blocks report → StopsReading ending
-stops_reading c bytes blocks report endings.Ended is at_end at_failure = ends_not_ended c at_failure.lines at_failure.rest at_failure.back report at_failure.ends is
-stops_reading c bytes blocks report (endings.Bad line fault) is at_end at_failure = tt
-stops_reading c bytes blocks report (endings.ReadFailed line) is at_end at_failure = ends_not_failed c at_end.lines at_end.rest at_end.back report line at_end.ends is
-stops_reading c bytes blocks report (endings.Memory line) is at_end at_failure = tt
+either_end : (c : Setting) (bytes : List ℕ) (blocks : List History) (report : Report) (end : StreamEnd)
+    → JudgesBlocks c bytes stream_ends.Ended blocks report → JudgesBlocks c bytes stream_ends.Failed blocks report → JudgesBlocks c bytes end blocks report
+either_end c bytes blocks report stream_ends.Ended at_end at_failure = at_end
+either_end c bytes blocks report stream_ends.Failed at_end at_failure = at_failure
 
 -- ---- a worker's steps
 
@@ -101,19 +80,20 @@ module _ {S : Type 0} (view : SourceView S) where
       let gave : Gave S view.reads first here.0 old = subst (λ (t : List ℕ). Gave S view.reads first t old) all here.2 in
       let same : u.setting ≡ v.setting = (subst (λ e. EndsBy e end v u) going ends).0 in
       let judged = reports here.0 before room here.3 in
-      let report = report_at u.tally judged.0 in
+      let report = report_of_tally u.tally judged.0 in
       subst (λ e. WorksBy view e first (worker_of new rest u) room (before ++ [])) (sym judged.1)
       (subst (λ (bs : List History). WorksBy view (Some judged.0) first (worker_of new rest u) room bs) (sym (append-nil before)) (
-        record { bytes = here.0; stop = read_out end },
+        record { bytes = here.0; unneeded = []; end = Some end },
         (
           record {
-            consumes = subst (Consumes (view.left first) (view.left new)) (append-nil here.0)
-                (Consumes-trans (view.left first) (view.left old) (view.left new) here.0 [] given told);
-            stops = stops;
+            consumes = Consumes-trans (view.left first) (view.left old) (view.left new) here.0 [] given told;
+            ends = stops;
+            needed = λ out. refl;
           },
           record { last = old; given = gave; ends = last },
         ),
-        subst (λ (c : Setting). JudgesBlocks c here.0 end before report) (sym same) judged.2,
+        judged_out u.setting here.0 [] end before report
+            (subst (λ (c : Setting). JudgesBlocks c here.0 end before report) (sym same) judged.2),
       ))
 
   -- the bytes so far left the checker so, and it is over or not
@@ -124,9 +104,9 @@ module _ {S : Type 0} (view : SourceView S) where
   works_at None first reader bytes rest v room blocks is running given gave leaves =
       (bytes, given, gave, subst (λ e. Leaves v.setting bytes blocks (state_by v room e)) (sym is) leaves)
   works_at (Some ending) first reader bytes rest v room blocks is running given gave leaves = (
-    record { bytes = bytes; stop = early rest },
-    (record { consumes = given; stops = running }, gave),
-    (stops_reading v.setting bytes blocks (report_at v.tally ending) ending refl leaves.0 leaves.1, leaves.0, leaves.1),
+    record { bytes = bytes; unneeded = rest; end = None },
+    (record { consumes = given; ends = running; needed = λ out. absurd (let no : false ≡ true = out in cc) }, gave),
+    λ end may. either_end v.setting bytes blocks (report_of_tally v.tally ending) end leaves.0 leaves.1,
   )
 
   -- what the checker took of the bytes that were read

@@ -1,16 +1,13 @@
 -- What a run is asked for, and what it says in the end (this project's own).
-use Rattle.std.specs.Prelude.{◌≡◌, ◌↔◌, ℕ, List, length, Result, Err, if◌then◌else◌}
+use Rattle.std.specs.Prelude.{ℕ, List, length, if◌then◌else◌}
 use Rattle.std.specs.List.{list_any}
 use Rattle.lrup_model.specs.Cube.{CubeValue}
 use Rattle.lrup_model.specs.Formula.{Cnf, formula_literals}
-use Rattle.lrup_model.specs.Layout.{LayoutValue, layout_value, IsFault}
-use Rattle.lrup_model.specs.declared.layout.LayoutFault.{LayoutFault}
+use Rattle.lrup_model.specs.Layout.{LayoutValue}
 use Rattle.stream_check.specs.declared.report.Report.{Report}
-use Rattle.portfolio.specs.declared.outcome.RunFault.{RunFault}
-use Rattle.portfolio.specs.declared.outcome.RunFault.TheVariants.{Layout}
 use Rattle.portfolio.specs.declared.outcome.Verdict.{Verdict}
 use Rattle.portfolio.specs.declared.outcome.Verdict.TheVariants.{Unsatisfiable, UnsatisfiableUnder, Unknown}
-use Rattle.runs.specs.Streams.{TermsValue, terms_at}
+use Rattle.runs.specs.Streams.{TermsValue}
 
 -- how often a hint of another stream is fetched again while it is vacant; and for each stream, identities and room in literals
 pub record OptionsValue : Type 0 where
@@ -21,11 +18,19 @@ pub record OptionsValue : Type 0 where
 -- the layout of a formula and so many streams
 abbrev pub layout_of : OptionsValue → Cnf → ℕ → LayoutValue
 layout_of options f streams =
-    layout_value f.vars (length f.clauses) (formula_literals f) streams options.lines options.room
+    record {
+      vars = f.vars;
+      clauses = length f.clauses;
+      literals = formula_literals f;
+      streams = streams;
+      lines = options.lines;
+      room = options.room;
+    }
 
 -- what a run of a formula and so many streams is checked by, under a cube
 abbrev pub terms_of : OptionsValue → CubeValue → Cnf → ℕ → TermsValue
-terms_of options cube f streams = terms_at (layout_of options f streams) cube options.tries
+terms_of options cube f streams =
+    record { layout = layout_of options f streams; cube = cube; tries = options.tries }
 
 -- The verdict: 'unsatisfiable' exactly if some stream added the empty clause; else 'unsatisfiable under assumptions' exactly if
 -- some stream added a clause within the cube.
@@ -33,7 +38,3 @@ abbrev pub verdict_of : List Report → Verdict
 verdict_of reports =
     if list_any (λ report. report.empty) reports then Unsatisfiable
     else if list_any (λ report. report.within) reports then UnsatisfiableUnder else Unknown
-
--- a run answers that there is no layout exactly where these numbers have none, and says why
-abbrev pub IsLayoutFault : {T : Type 0} → Result T RunFault → LayoutValue → Type 0
-IsLayoutFault result p = (fault : LayoutFault) → (result ≡ Err (Layout fault)) ↔ IsFault p fault

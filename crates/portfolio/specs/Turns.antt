@@ -9,7 +9,8 @@ use Rattle.lrup_model.specs.History.{LegalFrom}
 use Rattle.lrup_model.specs.Plain.{Plain, formula_of, plain_state, free_at, plain_place}
 use Rattle.stream_check.specs.declared.report.Ending.{Ending}
 use Rattle.stream_check.specs.declared.report.Report.{Report}
-use Rattle.stream_check.specs.Checker.{IsReadyAt, report_at}
+use Rattle.stream_check.specs.CheckerValue.{report_of_tally}
+use Rattle.stream_check.specs.Checker.{IsReadyAt}
 use Rattle.runs.specs.Streams.{Block, blocks_of, events_in, IsBlockWithin, TermsValue, setting_of}
 use Rattle.lrup_text.specs.ReadOut.{SourceView}
 use Rattle.portfolio.specs.Working.{WorkerValue, Works, IsStarted}
@@ -81,5 +82,5 @@ abbrev pub HaveReports : {S : Type 0} → List (WorkerValue S) → List Report �
 HaveReports [] [] = Unit {0}
 HaveReports (w ∷ ws) (report ∷ reports) =
     ((ending : Ending) × (w.checker.ending ≡ Some ending)
-    × (report ≡ report_at w.checker.tally ending)) × HaveReports ws reports
+    × (report ≡ report_of_tally w.checker.tally ending)) × HaveReports ws reports
 HaveReports _ _ = ⊥

@@ -3,8 +3,8 @@ use Rattle.std.specs.Prelude.{◌≡◌, ◌≤◌, ◌<◌, ◌++◌, ℕ, Bool
 use Rattle.std.specs.Io.KnownBytes.{Consumes}
 use Rattle.lrup_model.specs.Event.{History}
 use Rattle.stream_check.specs.declared.report.Ending.{Ending}
-use Rattle.stream_check.specs.CheckerValue.{CheckerValue}
-use Rattle.stream_check.specs.Checker.{checker_state, report_at}
+use Rattle.stream_check.specs.CheckerValue.{report_of_tally, CheckerValue}
+use Rattle.stream_check.specs.Checker.{checker_state}
 use Rattle.stream_check.specs.Leaving.{Leaves}
 use Rattle.lrup_text.specs.ReadOut.{SourceView}
 use Rattle.lrup_text.specs.Reads.{Gave}
@@ -25,7 +25,7 @@ WorksBy {S} view None first w free blocks =
     × Leaves w.checker.setting bytes blocks (checker_state w.checker free)
 WorksBy {S} view (Some ending) first w free blocks =
     (stream : Stream) × IsStreamOf view first w.reader stream
-    × JudgesStream w.checker.setting stream blocks (report_at w.checker.tally ending)
+    × JudgesStream w.checker.setting stream blocks (report_of_tally w.checker.tally ending)
 
 -- What the worker's stream has come to by these blocks of events, where its reader was the first before any read and so much room
 -- is left now: the bytes checked so far leave the checker as it is, or the stream is judged as the checker's report says.

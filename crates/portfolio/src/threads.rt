@@ -1,16 +1,17 @@
 //! A run with two threads for each stream.
-ghost use Rattle.std.specs.Prelude.{◌≡◌, ◌≤◌, ◌-◌, true, false, ℕ, [], Err, IfOk, length, map, take, vec_capacity, vec_len};
+ghost use Rattle.std.specs.Prelude.{◌≡◌, ◌↔◌, ◌≤◌, ◌-◌, true, false, ℕ, [], Err, IfOk, IsSome, length, map, take, vec_capacity, vec_len};
 ghost use Rattle.std.specs.List.{AllByRecursion};
 ghost use Rattle.lrup_model.specs.Cube.{IsUnsatisfiableUnder};
 ghost use Rattle.lrup_model.specs.Entailment.{IsUnsatisfiable};
-ghost use Rattle.lrup_model.specs.Layout.{IsStream};
+ghost use Rattle.lrup_model.specs.Layout.{IsFault, IsStream};
+ghost use Rattle.lrup_model.specs.declared.layout.LayoutFault.{LayoutFault};
 ghost use Rattle.lrup_model.specs.Pass.{AreMet};
 ghost use Rattle.clause_store.specs.Passes.{AreOf, HaveMet, store_of, views};
 ghost use Rattle.lrup_text.specs.ReadOut.{source_view};
 ghost use Rattle.runs.specs.Readings.{AreRead};
 ghost use Rattle.runs.specs.Headline.{AreJudgedIn, HaveOneHistory, WereJudged, seen_by};
-ghost use Rattle.portfolio.specs.Outcomes.{IsLayoutFault, layout_of, terms_of, verdict_of};
-ghost use Rattle.runs.specs.Streams.{IsReadOut, StandsOnStreams, tellings};
+ghost use Rattle.portfolio.specs.Outcomes.{layout_of, terms_of, verdict_of};
+ghost use Rattle.runs.specs.Streams.{StandsOnStreams, tellings};
 ghost use Rattle.run_laws.specs.Groups.{AreIsolated, HaveReportsAlone};
 ghost use Rattle.run_laws.specs.Serializable.{IsSerializable};
 
@@ -45,7 +46,8 @@ pub fn run<T: Threads + Wait + Sync, R: Source + Send + Drop, G: Gate + Send + D
     requires gates { vec_len gates ≡ vec_len readers }
     requires running { AllByRecursion (λ r. R.has_failed r ≡ false) readers.items }
     // `Layout` is answered exactly where these numbers have no layout, whatever is read.
-    ensures layout { IsLayoutFault result (layout_of options formula.now (length readers.items)) }
+    ensures layout { (fault : LayoutFault) → (result ≡ Err (RunFault.Layout fault))
+        ↔ IsFault (layout_of options formula.now (length readers.items)) fault }
     ensures spawn { (stream : ℕ) → result ≡ Err (RunFault.Spawn stream)
         → IsStream (layout_of options formula.now (length readers.items)) stream }
     ensures ring { (stream : ℕ) → result ≡ Err (RunFault.Ring stream)
@@ -63,7 +65,7 @@ pub fn run<T: Threads + Wait + Sync, R: Source + Send + Drop, G: Gate + Send + D
     ensures reports { let terms = terms_of options cube.now formula.now (length readers.items) in
         IfOk result (λ outcome. StandsOnStreams
         (tellings (source_view R.left R.has_failed R.reads) readers.items outcome.readers.items)
-        (λ streams. AllByRecursion IsReadOut streams
+        (λ streams. AllByRecursion (λ stream. IsSome stream.end) streams
         × AreJudgedIn terms (λ s. true) (seen_by (views outcome.passes.items)) 1
         streams outcome.reports.items
         × AreRead _ R.reads readers.items outcome.readers.items streams)) }

@@ -4,7 +4,8 @@ ghost use Rattle.std.specs.Bool.{OnTrue, OnFalse};
 ghost use Rattle.lrup_model.specs.Event.{History};
 ghost use Rattle.lrup_model.specs.Layout.{IsStream};
 ghost use Rattle.lrup_text.specs.ReadOut.{source_view};
-ghost use Rattle.stream_check.specs.Checker.{Ends, IsReadyAt, ReportsEnd, report_at};
+ghost use Rattle.stream_check.specs.CheckerValue.{report_of_tally};
+ghost use Rattle.stream_check.specs.Checker.{Ends, IsReadyAt, ReportsEnd};
 ghost use Rattle.stream_check.specs.Judging.{joined};
 ghost use Rattle.portfolio.specs.Working.{IsStarted, WorksOn};
 
@@ -152,7 +153,7 @@ impl<R: Source + Drop, G: Gate + Drop> Worker<R, G> {
     pub fn into_parts(self) -> (Report, R)
         requires { IsSome self.checker.ending }
         ensures report { IfSome self.checker.ending (λ ending.
-            result.0 ≡ report_at self.checker.tally ending) }
+            result.0 ≡ report_of_tally self.checker.tally ending) }
         ensures reader { result.1 ≡ self.reader }
     {
         let Worker {

@@ -6,16 +6,16 @@ use Rattle.std.specs.Prelude.{IsTrue, slice_get, codes, ◌==◌, ◌↔◌, Res
 use Rattle.lrup_model.specs.Layout.{LayoutValue, Owns, owner}
 use Rattle.lrup_model.specs.declared.layout.Owner.{Owner}
 use Rattle.lrup_model.specs.declared.layout.Owner.TheVariants as owners
-use Rattle.lrup_text.specs.Grammar.{space}
+use Rattle.lrup_text.specs.ByteNames.{space}
 use Rattle.lrup_text.specs.Lines.{StreamLine, Addition, Deletion, Import, Cut, HasNoLine, line_text}
 use Rattle.lrup_text.specs.Laws.{OneCut}
 use Rattle.stream_check.specs.declared.report.Report.{Report}
 use Rattle.lrup_text.specs.declared.device.StreamEnd.TheVariants as stream_ends
-use Rattle.std.specs.List.{AllByRecursion, list_any}
+use Rattle.std.specs.List.{AllByRecursion, list_any, AllZip}
 use Rattle.stream_check.specs.Laws.{IsOfMemory, cited_by}
 use Rattle.lrup_model.specs.Cube.{CubeValue}
 use Rattle.lrup_model.specs.Formula.{Cnf}
-use Rattle.lrup_model.specs.Event.{History, publishes_empty}
+use Rattle.lrup_model.specs.Event.{History, published}
 use Rattle.portfolio.specs.declared.outcome.Verdict.{Verdict}
 use Rattle.portfolio.specs.declared.outcome.Verdict.TheVariants.{Unsatisfiable, UnsatisfiableUnder, Unknown}
 use Rattle.portfolio.specs.Outcomes.{OptionsValue, terms_of, verdict_of}
@@ -24,7 +24,7 @@ use Rattle.run_laws.specs.Premises.{FoundStays}
 use Rattle.runs.specs.StreamLemmas.{same_at}
 use Rattle.lrup_text.specs.ReadOut.{SourceView}
 use Rattle.runs.specs.Readings.{AreRead}
-use Rattle.runs.specs.Streams.{Stream, Telling, TermsValue, telling_of, tellings, AreTold, IsOrdered, events_in}
+use Rattle.runs.specs.Streams.{Stream, Telling, TermsValue, telling_of, tellings, IsTold, IsOrdered, events_in}
 use Rattle.runs.specs.Closed.{IsOfStream, IsOwnedWithin, CiteWithin}
 use Rattle.run_laws.specs.Groups.{one, AreIsolated, HaveReportsAlone}
 use Rattle.run_laws.specs.ReportLemmas.{only}
@@ -91,7 +91,7 @@ pub report_alone : ReadersClosed → ToldIsReading → {S : Type 0} (view : Sour
     (Judged : List Stream → Type 0) (reports : List Report) (report : Report) (streams : List Stream)
     → AreIsolated four two_terms (tellings view firsts lasts) Judged reports
     → HaveReportsAlone four two_terms (tellings view firsts lasts) Judged reports
-    → AreTold (tellings view firsts lasts) streams → AreRead S view.reads firsts lasts streams → Judged streams
+    → AllZip IsTold (tellings view firsts lasts) streams → AreRead S view.reads firsts lasts streams → Judged streams
     → CiteWithin layout_of_two (one 1) bytes
     → IsOfStream (map view.left firsts) 1 (Some bytes) → IsOfStream (map view.has_failed lasts) 1 false
     → IsOfStream reports 1 report → ¬ IsOfMemory report → IsOnlyReport bytes report
@@ -133,7 +133,7 @@ pub has_order : (streams : List Stream) (reports : List Report) (verdict : Verdi
 has_order streams reports verdict (order, comes) is = record {
   lines = order.blocks;
   legal = order.legal;
-  says = says_so verdict (list_any (λ report. report.empty) reports) (list_any (λ report. report.within) reports) (list_any publishes_empty (events_in order.blocks)) comes.empty is;
+  says = says_so verdict (list_any (λ report. report.empty) reports) (list_any (λ report. report.within) reports) (list_any (λ p. length p.1 == 0) (published (events_in order.blocks))) comes.empty is;
 }
 
 -- two facts of a value that is there give a third

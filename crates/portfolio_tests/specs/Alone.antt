@@ -1,8 +1,8 @@
 -- The row 'a neighbour': its first stream, and what two runs say of it (this project's own).
-use Rattle.std.specs.Prelude.{◌≡◌, ◌↔◌, ℕ, IsTrue, List, [], codes}
+use Rattle.std.specs.Prelude.{◌≡◌, ◌==◌, ◌↔◌, ℕ, IsTrue, List, [], codes, length}
 use Rattle.std.specs.List.{list_any}
 use Rattle.lrup_model.specs.Layout.{LayoutValue}
-use Rattle.lrup_model.specs.Event.{publishes_empty}
+use Rattle.lrup_model.specs.Event.{published}
 use Rattle.lrup_model.specs.History.{IsLegal}
 use Rattle.stream_check.specs.declared.report.Report.{Report}
 use Rattle.lrup_text.specs.declared.device.StreamEnd.TheVariants as stream_ends
@@ -38,4 +38,5 @@ pub record IsOnlyReport (bytes : List ℕ) (report : Report) : Type 0 where
 pub record HasOrder (verdict : Verdict) : Type 0 where
   pub lines : List Block
   pub legal : IsLegal four layout_of_two (events_in lines)
-  pub says : (verdict ≡ Unsatisfiable) ↔ IsTrue (list_any publishes_empty (events_in lines))
+  pub says : (verdict ≡ Unsatisfiable) ↔ IsTrue
+      (list_any (λ entry. length entry.1 == 0) (published (events_in lines)))

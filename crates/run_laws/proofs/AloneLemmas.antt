@@ -1,8 +1,7 @@
 -- One stream alone.
-use Rattle.std.proofs.Common.{◌≡◌, ℕ, true, false, eqb, List, [], ◌∷◌, refl, sym, ap, subst, ◌∙◌, eq-eqb, inl, inr}
-use Rattle.std.specs.Prelude.{IsTrue}
+use Rattle.std.proofs.Common.{◌≡◌, ℕ, eqb, Option, None, Some, List, [], ◌∷◌, ◌++◌, refl, sym, ap, subst, ◌∙◌, eq-eqb}
+use Rattle.std.specs.Prelude.{IsTrue, IfSome, MatchOption}
 use Rattle.std.specs.List.{AllByRecursion}
-use Rattle.std.proofs.lemmas.Bool.Decides.{eqb_tells}
 use Rattle.std.proofs.lemmas.Bool.{cond-true}
 use Rattle.lrup_model.specs.Formula.{Cnf}
 use Rattle.lrup_model.specs.Event.{History, stream_of, own}
@@ -14,21 +13,24 @@ use Rattle.stream_check.specs.declared.report.Report.{Report}
 use Rattle.stream_check.specs.Setting.{Setting}
 use Rattle.stream_check.specs.Judging.{JudgesBlocks, Judges}
 use Rattle.stream_check.specs.Laws.{cited_by, OverStays, AloneDecides}
-use Rattle.runs.specs.Streams.{Stop, read_out, early, Stream, JudgesTo, TermsValue, setting_of}
+use Rattle.runs.specs.Streams.{Stream, TermsValue, setting_of}
 use Rattle.runs.specs.Closed.{IsOfStream, IsOwnedWithin}
-use Rattle.run_laws.specs.Groups.{one, IsAlone, IsReadingTo, IsReadingOf}
+use Rattle.run_laws.specs.Groups.{one, IsGroup, IsReadingOf}
 use Rattle.run_laws.specs.GroupLaws.{AloneHasOneReport, BeginningsWithin}
 use Rattle.run_laws.proofs.Places.{judged_at}
 
+-- these bytes are a reading of a stream that has these and this end, where the reading has this end, if any
+abbrev pub ReadsTo : Option StreamEnd → List ℕ → List ℕ → StreamEnd → Type 0
+ReadsTo its bytes whole end = MatchOption its ((more : List ℕ) × (whole ≡ bytes ++ more)) (λ e. (whole ≡ bytes) × (e ≡ end))
+
 -- however much of a stream was read, all of it is judged so
-judged_whole : OverStays → (c : Setting) (stop : Stop) (bytes whole : List ℕ) (end : StreamEnd) (blocks : List History) (report : Report)
-    → IsReadingTo stop bytes whole end → JudgesTo stop c bytes blocks report → JudgesBlocks c whole end blocks report
-judged_whole law c (read_out stop) bytes whole end blocks report is j =
-    subst (λ b. JudgesBlocks c b end blocks report) (sym is.0) (subst (λ e. JudgesBlocks c bytes e blocks report) (sym is.1) j)
-judged_whole law c (early unneeded) bytes whole stream_ends.Ended blocks report is j =
-    subst (λ b. JudgesBlocks c b stream_ends.Ended blocks report) (sym is.1) (law c bytes is.0 blocks report (j.1, j.2)).0
-judged_whole law c (early unneeded) bytes whole stream_ends.Failed blocks report is j =
-    subst (λ b. JudgesBlocks c b stream_ends.Failed blocks report) (sym is.1) (law c bytes is.0 blocks report (j.1, j.2)).1
+judged_whole : OverStays → (c : Setting) (its : Option StreamEnd) (bytes whole : List ℕ) (end : StreamEnd) (blocks : List History) (report : Report)
+    → ReadsTo its bytes whole end → ((other : StreamEnd) → IfSome its (λ e. e ≡ other) → JudgesBlocks c bytes other blocks report) → JudgesBlocks c whole end blocks report
+judged_whole law c (Some its) bytes whole end blocks report is j = subst (λ b. JudgesBlocks c b end blocks report) (sym is.0) (j end is.1)
+judged_whole law c None bytes whole stream_ends.Ended blocks report is j =
+    subst (λ b. JudgesBlocks c b stream_ends.Ended blocks report) (sym is.1) (law c bytes is.0 blocks report (j stream_ends.Ended tt, j stream_ends.Failed tt)).0
+judged_whole law c None bytes whole stream_ends.Failed blocks report is j =
+    subst (λ b. JudgesBlocks c b stream_ends.Failed blocks report) (sym is.1) (law c bytes is.0 blocks report (j stream_ends.Ended tt, j stream_ends.Failed tt)).1
 
 pub me : (s : ℕ) → IsTrue (one s s)
 me s = eq-eqb s s refl
@@ -40,14 +42,14 @@ own-one s (e ∷ h) all = cond-true (eqb (stream_of e) s) (e ∷ own h s) (own h
 -- the group of one stream is a judgement of all its bytes
 alone_judged : OverStays → (f : Cnf) (terms : TermsValue) (s : ℕ) (streams : List Stream) (reports : List Report)
     (whole : List ℕ) (end : StreamEnd) (stream : Stream) (report : Report)
-    → (g : IsAlone f terms s streams reports) → IsOfStream streams s stream → IsReadingOf whole end stream → IsOfStream reports s report
+    → (g : IsGroup f terms (one s) streams reports) → IsOfStream streams s stream → IsReadingOf whole end stream → IsOfStream reports s report
     → Judges (setting_of terms s) whole end g.history report
 alone_judged law f terms s streams reports whole end stream report g at reads says =
     let j = judged_at terms (one s) g.history streams reports g.judged s stream report (me s) at says in
     record {
       blocks = j.0;
       events = sym (own-one s g.history g.members) ∙ j.1;
-      judges = judged_whole law (setting_of terms s) stream.stop stream.bytes whole end j.0 report reads j.2;
+      judges = judged_whole law (setting_of terms s) stream.end stream.bytes whole end j.0 report reads j.2;
     }
 
 pub alone_has_one_report : OverStays → AloneDecides → AloneHasOneReport

@@ -8,21 +8,21 @@ use Rattle.lrup_model.specs.HistoryLemmas.{own-none}
 use Rattle.lrup_text.specs.declared.device.StreamEnd.TheVariants as stream_ends
 use Rattle.stream_check.specs.declared.report.Report.{Report}
 use Rattle.stream_check.specs.Setting.{Setting}
-use Rattle.stream_check.specs.Standing.{standing_of, tally_of}
-use Rattle.stream_check.specs.Judging.{JudgesBlocks}
+use Rattle.stream_check.specs.Standing.{standing_of}
 use Rattle.stream_check.specs.Leaving.{Holding}
 use Rattle.stream_check.specs.Laws.{FreshLeft, EndJudged}
-use Rattle.runs.specs.Streams.{Stream, TermsValue, setting_of}
-use Rattle.runs.specs.Headline.{IsJudgedBy, AreJudgedIn}
+use Rattle.runs.specs.Streams.{Stream, JudgesStream, TermsValue, setting_of}
+use Rattle.runs.specs.StreamLemmas.{IsJudgedBy, judged_out}
+use Rattle.runs.specs.Headline.{AreJudgedIn}
 use Rattle.run_laws.specs.Groups.{empty_stream, empty_report, with_others}
 use Rattle.run_laws.specs.GroupLaws.{OthersEmpty}
 
 fresh : Setting → Holding
-fresh c = record { tally = tally_of c []; standing = standing_of c []; pending = []; line = 1 }
+fresh c = record { tally = record { added = 0; deleted = 0; empty = false; within = false }; standing = standing_of c []; pending = []; line = 1 }
 
-nothing_judged : FreshLeft → EndJudged → (c : Setting) → JudgesBlocks c [] stream_ends.Ended [] empty_report
+nothing_judged : FreshLeft → EndJudged → (c : Setting) → JudgesStream c empty_stream [] empty_report
 unfolding fresh
-nothing_judged first last c = last c [] [] (fresh c) stream_ends.Ended (first c (fresh c) (record { tally = refl; standing = record { last = refl; free = refl; gone = λ id. refl }; pending = refl; line = refl }))
+nothing_judged first last c = judged_out c [] [] stream_ends.Ended [] empty_report (last c [] [] (fresh c) stream_ends.Ended (first c (fresh c) (record { tally = refl; standing = record { last = refl; free = refl; gone = λ id. refl }; pending = refl; line = refl })))
 
 others_call : (set : ℕ → Bool) (s : ℕ) (h : History) → set s ≡ false → AllByRecursion (λ e. IsTrue (set (stream_of e))) h → AllByRecursion (λ e. stream_of e ≡ s → ⊥) h
 others_call set s [] out all = tt

@@ -14,13 +14,13 @@ use Rattle.lrup_model.specs.HistoryLemmas.{own-mine, own-other}
 use Rattle.lrup_model.specs.RestrictionLemmas.{among-members, own-among, restriction_legal}
 use Rattle.lrup_model.specs.ListLemmas.{All-map}
 use Rattle.lrup_text.specs.Lines.{StreamLine}
-use Rattle.lrup_text.specs.declared.device.StreamEnd.TheVariants as stream_ends
 use Rattle.stream_check.specs.declared.report.Report.{Report}
 use Rattle.stream_check.specs.Setting.{Setting}
 use Rattle.stream_check.specs.Judging.{joined}
 use Rattle.stream_check.specs.Laws.{cited_by, FetchesOnly, CitedFetched}
-use Rattle.runs.specs.Streams.{Stop, read_out, early, Stream, JudgesTo, TermsValue, setting_of}
-use Rattle.runs.specs.Headline.{IsJudgedBy, AreJudgedIn}
+use Rattle.runs.specs.StreamLemmas.{IsJudgedBy, some_end}
+use Rattle.runs.specs.Streams.{Stream, JudgesStream, TermsValue, setting_of}
+use Rattle.runs.specs.Headline.{AreJudgedIn}
 use Rattle.runs.specs.Closed.{IsOwnedWithin, CiteWithin, IsClosed}
 use Rattle.run_laws.specs.GroupLaws.{ClosedIsGroup}
 use Rattle.run_laws.proofs.Places.{has_place, judged_count, judged_at}
@@ -88,13 +88,12 @@ cites_pass p set lines some within =
     lines within
 
 -- what a stream that cites within the set fetches is within it
-fetches_within : CitedFetched → (p : LayoutValue) (set : ℕ → Bool) (c : Setting) (stop : Stop) (bytes : List ℕ) (blocks : List History) (report : Report)
-    → 0 < p.streams → CiteWithin p set bytes → JudgesTo stop c bytes blocks report → AllByRecursion (FetchesOnly (is_within p (inside p set))) (joined blocks)
+fetches_within : CitedFetched → (p : LayoutValue) (set : ℕ → Bool) (c : Setting) (stream : Stream) (blocks : List History) (report : Report)
+    → 0 < p.streams → CiteWithin p set stream.bytes → JudgesStream c stream blocks report → AllByRecursion (FetchesOnly (is_within p (inside p set))) (joined blocks)
 unfolding CitePass
-fetches_within law p set c (read_out end) bytes blocks report some cites j =
-    law c bytes end blocks report cites.lines cites.rest (is_within p (inside p set)) j cites.cut (cites_pass p set cites.lines some cites.within)
-fetches_within law p set c (early unneeded) bytes blocks report some cites j =
-    law c bytes stream_ends.Ended blocks report cites.lines cites.rest (is_within p (inside p set)) j.1 cites.cut (cites_pass p set cites.lines some cites.within)
+fetches_within law p set c stream blocks report some cites judged =
+    let way = some_end c stream blocks report judged in
+    law c stream.bytes way.0 blocks report cites.lines cites.rest (is_within p (inside p set)) way.1 cites.cut (cites_pass p set cites.lines some cites.within)
 
 -- The history
 
@@ -133,7 +132,7 @@ closed_finds law terms set h streams reports count judged closed =
     let report = has_place reports s is.1.0 (omega (arith, is.1.1, count, many)) in
     let j = judged_at terms set h streams reports judged s stream.0 report.0 is.0 stream.1 report.1 in
     subst (λ (es : History). AllByRecursion (FindsWithin p (inside p set)) es) (sym j.1) (finds_within p (inside p set) (joined j.0)
-    (fetches_within law p set (setting_of terms s) stream.0.stop stream.0.bytes j.0 report.0 some (closed s stream.0 is.0 stream.1) j.2)))
+    (fetches_within law p set (setting_of terms s) stream.0 j.0 report.0 some (closed s stream.0 is.0 stream.1) j.2)))
     (finds_outside p (inside p set))
 
 judged_among : (terms : TermsValue) (set : ℕ → Bool) (h : History) (s : ℕ) (streams : List Stream) (reports : List Report)

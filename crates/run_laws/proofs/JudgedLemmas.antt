@@ -1,5 +1,5 @@
 -- The blocks by which a stream is judged, and what it retires.
-use Rattle.std.proofs.Common.{◌≡◌, ℕ, Bool, List, [], ◌∷◌, ◌++◌, refl, sym, ap, subst, ◌∙◌, inl, inr, append-nil}
+use Rattle.std.proofs.Common.{◌≡◌, ℕ, Bool, List, [], ◌∷◌, ◌++◌, refl, sym, ap, subst, ◌∙◌, append-nil}
 use Rattle.std.specs.Prelude.{IsTrue}
 use Rattle.std.specs.List.{AllByRecursion, flat_map}
 use Rattle.lrup_model.specs.Event.{Event, History}
@@ -11,7 +11,7 @@ use Rattle.stream_check.specs.declared.report.Report.{Report}
 use Rattle.stream_check.specs.Setting.{Setting}
 use Rattle.stream_check.specs.Standing.{Standing, standing_of, deleted_by}
 use Rattle.stream_check.specs.Verdicts.{LineVerdict, Good, Bad}
-use Rattle.stream_check.specs.Judging.{JudgesLine, AreGood, EndsAfter, joined}
+use Rattle.stream_check.specs.Judging.{JudgesLine, AreGood, EndsAfter, at_bad_line, at_bad_text, at_memory, at_end, joined}
 use Rattle.stream_check.specs.Reducing.{IsEarly}
 use Rattle.stream_check.specs.Laws.{EarlyEvents, VacantTriesAgain}
 use Rattle.stream_check.specs.ReportLemmas.{split_first, joined-append}
@@ -66,18 +66,18 @@ module _ (early_events : EarlyEvents) (vacant_tries_again : VacantTriesAgain) (c
 
   end_blocks : (lines : List StreamLine) (rest : List ℕ) (end : StreamEnd) (back : List History) (report : Report)
       → EndsAfter c lines rest end back report → AllByRecursion IsLineBlock back
-  end_blocks lines rest end back report (inl e) =
-      one_block e.block back e.one_block (line_block (standing_of c lines) e.line e.block (Bad e.deleted e.fault) e.bad)
-  end_blocks lines rest end back report (inr (inl e)) = subst (AllByRecursion IsLineBlock) (sym e.no_block) tt
-  end_blocks lines rest end back report (inr (inr (inl e))) =
-      one_block e.block back e.one_block (line_block (standing_of c lines) (Deletion e.lead e.earlier) e.block Good e.stops.before)
-  end_blocks lines rest end back report (inr (inr (inr e))) = subst (AllByRecursion IsLineBlock) (sym e.no_block) tt
+  end_blocks lines rest end back report (at_bad_line line more text fits block is_one deleted fault bad says) =
+      one_block block back is_one (line_block (standing_of c lines) line block (Bad deleted fault) bad)
+  end_blocks lines rest end back report (at_bad_text fault text no_block says) = subst (AllByRecursion IsLineBlock) (sym no_block) tt
+  end_blocks lines rest end back report (at_memory lead ids more text fits block is_one earlier stops says) =
+      one_block block back is_one (line_block (standing_of c lines) (Deletion lead earlier) block Good stops.before)
+  end_blocks lines rest end back report (at_end pending no_block says) = subst (AllByRecursion IsLineBlock) (sym no_block) tt
 
 pub judged_blocks : EarlyEvents → VacantTriesAgain → JudgedBlocks
 judged_blocks early_events vacant_tries_again c bytes end blocks report j =
     subst (AllByRecursion IsLineBlock) (sym j.split)
     (All-append IsLineBlock j.front j.back
-    (good_blocks early_events vacant_tries_again c [] j.lines j.front j.begins.good)
+    (good_blocks early_events vacant_tries_again c [] j.lines j.front j.good)
     (end_blocks early_events vacant_tries_again c j.lines j.rest end j.back report j.ends))
 
 -- Which of the lines that the bytes are cut into are judged
@@ -146,31 +146,31 @@ module _ (c : Setting) (p : ℕ → Bool) where
   ends_retire : OneFirstLine → (lines more : List StreamLine) (left rest : List ℕ) (end : StreamEnd) (back : List History) (report : Report)
       → left ≡ flat_map line_text more ++ rest → AllByRecursion IsWithinLimits more → HasNoLine rest
       → AllByRecursion Passes more → EndsAfter c lines left end back report → Retires (joined back)
-  ends_retire first lines more left rest end back report is fits none all (inl e) =
-      let found : (others : List StreamLine) × (more ≡ e.line ∷ others)
-      = line_first first e.line more e.more left rest e.fits fits none e.text is in
-      one_retires e.block back e.one_block
-      (line_retires c p (standing_of c lines) e.line e.block (Bad e.deleted e.fault) (subst (AllByRecursion Passes) found.1 all).0 e.bad)
-  ends_retire first lines more left rest end back report is fits none all (inr (inl e)) = none_retires back e.no_block
-  ends_retire first lines more left rest end back report is fits none all (inr (inr (inl e))) =
-      let found : (others : List StreamLine) × (more ≡ Deletion e.lead e.ids ∷ others)
-      = line_first first (Deletion e.lead e.ids) more e.more left rest e.fits fits none e.text is in
-      let ids : AllByRecursion (λ id. IsTrue (p id)) (e.earlier ++ e.stops.id ∷ e.stops.later)
-      = subst (AllByRecursion (λ id. IsTrue (p id))) e.stops.identities (subst (AllByRecursion Passes) found.1 all).0 in
-      one_retires e.block back e.one_block
-      (line_retires c p (standing_of c lines) (Deletion e.lead e.earlier) e.block Good
-      (parts (λ id. IsTrue (p id)) e.earlier (e.stops.id ∷ e.stops.later) ids).0 e.stops.before)
-  ends_retire first lines more left rest end back report is fits none all (inr (inr (inr e))) = none_retires back e.no_block
+  ends_retire first lines more left rest end back report is fits none all (at_bad_line line after text fit block is_one deleted fault bad says) =
+      let found : (others : List StreamLine) × (more ≡ line ∷ others)
+      = line_first first line more after left rest fit fits none text is in
+      one_retires block back is_one
+      (line_retires c p (standing_of c lines) line block (Bad deleted fault) (subst (AllByRecursion Passes) found.1 all).0 bad)
+  ends_retire first lines more left rest end back report is fits none all (at_bad_text fault text no_block says) = none_retires back no_block
+  ends_retire first lines more left rest end back report is fits none all (at_memory lead ids after text fit block is_one earlier stops says) =
+      let found : (others : List StreamLine) × (more ≡ Deletion lead ids ∷ others)
+      = line_first first (Deletion lead ids) more after left rest fit fits none text is in
+      let pass : AllByRecursion (λ id. IsTrue (p id)) (earlier ++ stops.id ∷ stops.later)
+      = subst (AllByRecursion (λ id. IsTrue (p id))) stops.identities (subst (AllByRecursion Passes) found.1 all).0 in
+      one_retires block back is_one
+      (line_retires c p (standing_of c lines) (Deletion lead earlier) block Good
+      (parts (λ id. IsTrue (p id)) earlier (stops.id ∷ stops.later) pass).0 stops.before)
+  ends_retire first lines more left rest end back report is fits none all (at_end pending no_block says) = none_retires back no_block
 
 pub deleted_retired : OneFirstLine → DeletedRetired
 deleted_retired first c bytes end blocks report all rest p j cut passes =
     let begins : AreFirst j.lines all j.rest rest
-    = lines_first first j.lines all j.rest rest j.begins.fits cut.each cut.last (sym j.begins.text ∙ cut.bytes) in
+    = lines_first first j.lines all j.rest rest j.fits cut.each cut.last (sym j.text ∙ cut.bytes) in
     let pass : AllByRecursion (Passes c p) j.lines × AllByRecursion (Passes c p) begins.more
     = parts (Passes c p) j.lines begins.more (subst (AllByRecursion (Passes c p)) begins.is passes) in
     let fit : AllByRecursion IsWithinLimits j.lines × AllByRecursion IsWithinLimits begins.more
     = parts IsWithinLimits j.lines begins.more (subst (AllByRecursion IsWithinLimits) begins.is cut.each) in
     subst (AllByRecursion (RetiresOnly p)) (sym (ap joined j.split ∙ joined-append j.front j.back))
     (All-append (RetiresOnly p) (joined j.front) (joined j.back)
-    (good_retire c p [] j.lines j.front pass.0 j.begins.good)
+    (good_retire c p [] j.lines j.front pass.0 j.good)
     (ends_retire c p first j.lines begins.more j.rest rest end j.back report begins.bytes fit.1 cut.last pass.1 j.ends))

@@ -8,12 +8,14 @@ use Rattle.lrup_model.specs.declared.clause_map.Retired.{Retired}
 use Rattle.lrup_model.specs.ListLemmas.{All-append}
 use Rattle.lrup_text.specs.Lines.{StreamLine, Addition, Deletion, Import}
 use Rattle.stream_check.specs.declared.fault.Fault.{Fault}
-use Rattle.stream_check.specs.Setting.{Setting, Side, formula, own, foreign, outside, side_of}
+use Rattle.stream_check.specs.declared.setting.Side.{Side}
+use Rattle.stream_check.specs.declared.setting.Side.TheVariants as sides
+use Rattle.stream_check.specs.Setting.{Setting, side_of}
 use Rattle.stream_check.specs.Standing.{Standing, deleted_by}
 use Rattle.stream_check.specs.Verdicts.{LineVerdict, Good, Test}
 use Rattle.stream_check.specs.Asking.{AsksAt}
 use Rattle.stream_check.specs.Additions.{AtConflict, AtReply, JudgesHints, JudgesAddition, published_by}
-use Rattle.stream_check.specs.Deletions.{DeletesAt, JudgesIdentities}
+use Rattle.stream_check.specs.Deletions.{DeletesAt, JudgesDeletion}
 use Rattle.stream_check.specs.Imports.{AtImported, JudgesImport}
 use Rattle.stream_check.specs.Judging.{JudgesLine}
 use Rattle.stream_check.specs.Checking.{IsRetire}
@@ -30,21 +32,21 @@ module _ (c : Setting) (P : Event → Type 0) where
   at_identity : (side : Side) (gone : ℕ → Bool) (earlier : List ℕ) (id : ℕ) (es : History) (v : LineVerdict) (A : History → Type 0)
       → ((r : Retired) → P (events.retire c.stream id r)) → ((rest : History) → A rest → AllByRecursion P rest)
       → DeletesAt side c gone earlier id es v A → AllByRecursion P es
-  at_identity formula gone earlier id es v A each next (inl bad) = subst (AllByRecursion P) (sym bad.1.0) tt
-  at_identity formula gone earlier id es v A each next (inr good) = next es good.1
-  at_identity foreign gone earlier id es v A each next (inl bad) = subst (AllByRecursion P) (sym bad.1.0) tt
-  at_identity foreign gone earlier id es v A each next (inr good) = next es good.1
-  at_identity outside gone earlier id es v A each next at = subst (AllByRecursion P) (sym at.0) tt
-  at_identity own gone earlier id es v A each next at = elim at.decided [
+  at_identity sides.Formula gone earlier id es v A each next (inl bad) = subst (AllByRecursion P) (sym bad.1.0) tt
+  at_identity sides.Formula gone earlier id es v A each next (inr good) = next es good.1
+  at_identity sides.Foreign gone earlier id es v A each next (inl bad) = subst (AllByRecursion P) (sym bad.1.0) tt
+  at_identity sides.Foreign gone earlier id es v A each next (inr good) = next es good.1
+  at_identity sides.Outside gone earlier id es v A each next at = subst (AllByRecursion P) (sym at.0) tt
+  at_identity sides.Own gone earlier id es v A each next at = elim at.decided [
     | inl good ↦ subst (AllByRecursion P) (sym good.0) (each _, next at.rest good.1)
-    | inr bad ↦ subst (AllByRecursion P) (sym bad.0) (each _, subst (AllByRecursion P) (sym bad.1) tt)
+    | inr bad ↦ subst (AllByRecursion P) (sym bad.0) (each _, subst (AllByRecursion P) (sym bad.1.0) tt)
   ]
 
   pub identities_all : (gone : ℕ → Bool) (earlier ids : List ℕ) (es : History) (v : LineVerdict)
-      → AllRetires ids → JudgesIdentities c gone earlier ids es v → AllByRecursion P es
+      → AllRetires ids → JudgesDeletion c gone earlier ids es v → AllByRecursion P es
   identities_all gone earlier [] es v each judged = subst (AllByRecursion P) (sym judged.0) tt
   identities_all gone earlier (id ∷ ids) es v each judged =
-      at_identity (side_of c id) gone earlier id es v (λ rest. JudgesIdentities c gone (earlier ++ id ∷ []) ids rest v) each.0
+      at_identity (side_of c id) gone earlier id es v (λ rest. JudgesDeletion c gone (earlier ++ id ∷ []) ids rest v) each.0
       (λ rest k. identities_all gone (earlier ++ id ∷ []) ids rest v each.1 k) judged
 
 -- Additions
@@ -56,10 +58,10 @@ module _ (c : Setting) (P : Event → Type 0) (fetches : (id : ℕ) (r : Reply) 
   vacants_all id (suc k) r = (fetches id events.vacant, vacants_all id k r)
 
   asked_all : (side : Side) (h : ℕ) (asked : History) (r : Reply) → AsksAt side c h asked r → AllByRecursion P asked
-  asked_all formula h asked r asks = subst (AllByRecursion P) (sym asks) (fetches h r, tt)
-  asked_all own h asked r asks = subst (AllByRecursion P) (sym asks) (fetches h r, tt)
-  asked_all foreign h asked r asks = subst (AllByRecursion P) (sym asks.3) (vacants_all h asks.0 r)
-  asked_all outside h asked r asks = subst (AllByRecursion P) (sym asks.0) tt
+  asked_all sides.Formula h asked r asks = subst (AllByRecursion P) (sym asks) (fetches h r, tt)
+  asked_all sides.Own h asked r asks = subst (AllByRecursion P) (sym asks) (fetches h r, tt)
+  asked_all sides.Foreign h asked r asks = subst (AllByRecursion P) (sym asks.3) (vacants_all h asks.0 r)
+  asked_all sides.Outside h asked r asks = subst (AllByRecursion P) (sym asks.0) tt
 
   none_all : (es : History) → es ≡ [] → AllByRecursion P es
   none_all es is = subst (AllByRecursion P) (sym is) tt

@@ -2,6 +2,7 @@ mod Places
 mod GroupLemmas
 mod RestrictingLemmas
 mod AloneLemmas
+mod EarlyLemmas
 mod EmptiedLemmas
 mod RunLemmas
 pub mod SwapLemmas

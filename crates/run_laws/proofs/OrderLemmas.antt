@@ -7,10 +7,10 @@ use Rattle.std.proofs.lemmas.List.Sums.{sum_by-append, sum_by-cons}
 use Rattle.lrup_model.specs.Formula.{Cnf}
 use Rattle.lrup_model.specs.Layout.{LayoutValue, Fits, IsStream}
 use Rattle.lrup_model.specs.Event as events
-use Rattle.lrup_model.specs.Event.{Event, History, stream_of, own, spent, size_of}
+use Rattle.lrup_model.specs.Event.{Event, History, stream_of, own, spent}
 use Rattle.lrup_model.specs.State.{State, IsRetired, retire_slot, opening, after, run, state}
 use Rattle.lrup_model.specs.History.{LegalFrom, IsLegal}
-use Rattle.lrup_model.specs.Running.{own-append}
+use Rattle.lrup_model.specs.Running.{size_of, spent-sizes, own-append}
 use Rattle.lrup_model.specs.HistoryLemmas.{put-same, own-mine, own-other, own-all}
 use Rattle.lrup_model.specs.EntryLemmas.{run-advances, retired_now}
 use Rattle.lrup_model.specs.OwnerLemmas.{IsOwned, owned}
@@ -33,7 +33,9 @@ use Rattle.run_laws.proofs.WalkLemmas.{walk}
 
 settles_one : (f : Cnf) (p : LayoutValue) (final m : State) (e : Event) (h : History) → LegalFrom f p m (e ∷ h)
     → ((id : ℕ) → IsRetired (run m (e ∷ h) id) → IsRetired (final id)) → FindsKept p final e → Settles p final e
-settles_one f p final m (events.fetch s id r) h legal later cites = cites
+settles_one f p final m (events.fetch s id events.vacant) h legal later cites = tt
+settles_one f p final m (events.fetch s id (events.live c)) h legal later cites = cites
+settles_one f p final m (events.fetch s id events.retired) h legal later cites = tt
 settles_one f p final m (events.publish s id c r) h legal later cites = tt
 settles_one f p final m (events.retire s id retiring.Done) h legal later cites =
     let e : Event = events.retire s id retiring.Done in
@@ -220,8 +222,8 @@ lines_in_order restriction_legal among_members among_keeps_own f p set h blocks 
           events = made.1.legal;
           room = λ s.
               let same : spent s (events_in order) ≡ spent s part
-              = ap (sum_by size_of) (own-blocks p (state f h) s order made.1.settled ∙ ap joined (made.1.lines s))
-              ∙ joined_size (rest s) ∙ sym (ap (sum_by size_of) (own_events s)) in
+              = spent-sizes s (events_in order) ∙ ap (sum_by size_of) (own-blocks p (state f h) s order made.1.settled ∙ ap joined (made.1.lines s))
+              ∙ joined_size (rest s) ∙ sym (spent-sizes s part ∙ ap (sum_by size_of) (own_events s)) in
               omega (arith, same, is_legal.room s);
         };
         lines = λ s is member. made.1.lines s ∙ ap (map reduced) (in-lines p set blocks s (are_streams p set s member is));

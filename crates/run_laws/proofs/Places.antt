@@ -5,7 +5,8 @@ use Rattle.std.proofs.lemmas.Option.{slice_get_cases}
 use Rattle.lrup_model.specs.Event.{History, own}
 use Rattle.stream_check.specs.declared.report.Report.{Report}
 use Rattle.runs.specs.Streams.{Stream, TermsValue, setting_of}
-use Rattle.runs.specs.Headline.{IsJudgedBy, AreJudgedIn}
+use Rattle.runs.specs.StreamLemmas.{IsJudgedBy}
+use Rattle.runs.specs.Headline.{AreJudgedIn}
 use Rattle.runs.specs.Closed.{IsOfStream}
 
 pub has_place : {X : Type 0} (xs : List X) (s : ℕ) → 0 < s → s ≤ length xs → (x : X) × IsOfStream xs s x

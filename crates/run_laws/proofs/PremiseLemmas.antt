@@ -87,19 +87,21 @@ retires_gone f p m (e ∷ h) id legal (inl here) =
 retires_gone f p m (e ∷ h) id legal (inr later) = retires_gone f p (after m e) h id legal.2 later
 
 pub kept_by_events : KeptByEvents
-kept_by_events f p h legal (events.fetch s id r) = (
-  λ kept found other retires. kept found other (retires_gone f p (opening f) h id legal.events retires),
-  λ kept found other gone. kept found other (opening_retires f h id gone),
+kept_by_events f p h legal (events.fetch s id events.vacant) = ((λ kept. tt), (λ kept. tt))
+kept_by_events f p h legal (events.fetch s id (events.live c)) = (
+  λ kept other retires. kept other (retires_gone f p (opening f) h id legal.events retires),
+  λ kept other gone. kept other (opening_retires f h id gone),
 )
+kept_by_events f p h legal (events.fetch s id events.retired) = ((λ kept. tt), (λ kept. tt))
 kept_by_events f p h legal (events.publish s id c r) = ((λ kept. tt), (λ kept. tt))
 kept_by_events f p h legal (events.retire s id r) = ((λ kept. tt), (λ kept. tt))
 
 -- The owners alone
 
 less_found : (p : LayoutValue) (h : History) (e : Event) → MeetsUnretired p h e → FindsUnretired p h e
-less_found p h (events.fetch s id events.vacant) meets = λ found. absurd found
-less_found p h (events.fetch s id (events.live c)) meets = meets
-less_found p h (events.fetch s id events.retired) meets = λ found. absurd found
+less_found p h (events.fetch s id events.vacant) meets = tt
+less_found p h (events.fetch s id (events.live c)) meets = meets tt
+less_found p h (events.fetch s id events.retired) meets = tt
 less_found p h (events.publish s id c r) meets = tt
 less_found p h (events.retire s id r) meets = tt
 
@@ -203,10 +205,14 @@ shared_each : (p : LayoutValue) (final : State) (s : ℕ) (lines : List StreamLi
     → AllByRecursion (FetchesOnly (cites lines)) es → AllByRecursion (FetchesOnly inside) es
     → AllByRecursion (FindsKept p final) es
 shared_each p final s lines inside stays [] calls cited within = tt
-shared_each p final s lines inside stays (events.fetch t id r ∷ es) calls cited within = (
-  λ found other. stays id cited.0 within.0 (λ mine. other (subst (λ (i : ℕ). Owns p i id) (sym calls.0) mine)),
+shared_each p final s lines inside stays (events.fetch t id events.vacant ∷ es) calls cited within =
+    (tt, shared_each p final s lines inside stays es calls.1 cited.1 within.1)
+shared_each p final s lines inside stays (events.fetch t id (events.live c) ∷ es) calls cited within = (
+  λ other. stays id cited.0 within.0 (λ mine. other (subst (λ (i : ℕ). Owns p i id) (sym calls.0) mine)),
   shared_each p final s lines inside stays es calls.1 cited.1 within.1,
 )
+shared_each p final s lines inside stays (events.fetch t id events.retired ∷ es) calls cited within =
+    (tt, shared_each p final s lines inside stays es calls.1 cited.1 within.1)
 shared_each p final s lines inside stays (events.publish t id c r ∷ es) calls cited within =
     (tt, shared_each p final s lines inside stays es calls.1 cited.1 within.1)
 shared_each p final s lines inside stays (events.retire t id r ∷ es) calls cited within =

@@ -15,7 +15,7 @@ use Rattle.lrup_model.specs.RestrictionLemmas.{restriction_legal}
 use Rattle.stream_check.specs.declared.report.Report.{Report}
 use Rattle.stream_check.specs.Judging.{joined}
 use Rattle.stream_check.specs.Laws.{CitedFetched}
-use Rattle.runs.specs.Streams.{Stream, JudgesStream, TermsValue, setting_of, Block, blocks_of, events_in, IsBlockWithin, AreJudged}
+use Rattle.runs.specs.Streams.{Stream, TermsValue, Block, blocks_of, events_in, IsBlockWithin, AreJudged}
 use Rattle.runs.specs.Headline.{AreJudgedIn}
 use Rattle.runs.specs.StreamLemmas.{blocks-same, blocks-other}
 use Rattle.run_laws.specs.GroupLaws.{ClosedIsGroup, OrderedIsGroup, OrderedRestricts}
@@ -37,12 +37,12 @@ own-blocks p set s (b ∷ bs) all =
 
 -- streams that are judged by their blocks are judged by their own events of them all
 pub ordered_judged : (terms : TermsValue) (all set : ℕ → Bool) (bs : List Block) (s : ℕ) (streams : List Stream) (reports : List Report)
-    → AllByRecursion (IsBlockWithin terms.layout all) bs → AreJudged terms set bs s streams reports → AreJudgedIn terms set (events_in bs) s streams reports
+    → AllByRecursion (IsBlockWithin terms.layout all) bs → AreJudged terms set (λ t events. events ≡ blocks_of t bs) s streams reports → AreJudgedIn terms set (events_in bs) s streams reports
 ordered_judged terms all set bs s [] [] within judged = tt
 ordered_judged terms all set bs s [] (r ∷ rs) within judged = absurd judged
 ordered_judged terms all set bs s (t ∷ ts) [] within judged = absurd judged
 ordered_judged terms all set bs s (t ∷ ts) (r ∷ rs) within judged = (
-  λ member. (blocks_of s bs, own-blocks terms.layout all s bs within, judged.0 member),
+  λ member. let j = judged.0 member in (j.0, own-blocks terms.layout all s bs within ∙ ap joined (sym j.1), j.2),
   ordered_judged terms all set bs (s + 1) ts rs within judged.1,
 )
 
@@ -126,12 +126,13 @@ inside-same p all set (b ∷ bs) within =
     ]
 
 judged-within : (terms : TermsValue) (all set : ℕ → Bool) (bs : List Block) → ((s : ℕ) → IsTrue (set s) → IsTrue (all s))
-    → (s : ℕ) (streams : List Stream) (reports : List Report) → AreJudged terms all bs s streams reports → AreJudged terms set (blocks_within set bs) s streams reports
+    → (s : ℕ) (streams : List Stream) (reports : List Report) → AreJudged terms all (λ t events. events ≡ blocks_of t bs) s streams reports
+    → AreJudged terms set (λ t events. events ≡ blocks_of t (blocks_within set bs)) s streams reports
 judged-within terms all set bs sub s [] [] judged = tt
 judged-within terms all set bs sub s [] (r ∷ rs) judged = absurd judged
 judged-within terms all set bs sub s (t ∷ ts) [] judged = absurd judged
 judged-within terms all set bs sub s (t ∷ ts) (r ∷ rs) judged = (
-  λ member. subst (λ x. JudgesStream (setting_of terms s) t x r) (sym (blocks-kept set s bs member)) (judged.0 (sub s member)),
+  λ member. let j = judged.0 (sub s member) in (j.0, j.1 ∙ sym (blocks-kept set s bs member), j.2),
   judged-within terms all set bs sub (s + 1) ts rs judged.1,
 )
 

@@ -1,5 +1,7 @@
 -- What readers told, and two runs of one stream.
-use Rattle.std.proofs.Common.{◌≡◌, ℕ, ◌-◌, Bool, true, false, Option, List, ◌++◌, Some, None, refl, sym, ap, subst, ◌∙◌, append_assoc, append-nil, arith}
+use Rattle.std.proofs.Common.{◌≡◌, ℕ, ◌-◌, Bool, true, false, Option, List, [], ◌++◌, Some, None, refl, sym, ap, subst, ◌∙◌, append_assoc, append-nil, arith}
+use Rattle.std.specs.Prelude.{IfSome, IsSome, MatchOption}
+use Rattle.std.specs.List.{AllZip}
 use Rattle.std.specs.Io.KnownBytes.{Consumes}
 use Rattle.std.proofs.lemmas.List.{append_cancel_right}
 use Rattle.std.proofs.lemmas.Option.{slice_get_within}
@@ -7,27 +9,28 @@ use Rattle.lrup_model.specs.Formula.{Cnf}
 use Rattle.lrup_model.specs.Layout.{LayoutValue, Fits}
 use Rattle.lrup_model.specs.Event.{History}
 use Rattle.lrup_model.specs.History.{IsLegal}
+use Rattle.lrup_text.specs.ReadOut.{EndsSo}
 use Rattle.lrup_text.specs.declared.device.StreamEnd.{StreamEnd}
 use Rattle.lrup_text.specs.declared.device.StreamEnd.TheVariants as stream_ends
 use Rattle.stream_check.specs.declared.report.Report.{Report}
 use Rattle.stream_check.specs.Setting.{Setting}
 use Rattle.stream_check.specs.Judging.{JudgesBlocks, Judges}
 use Rattle.stream_check.specs.Laws.{AloneDecides, DecidedBeforeFailure, IsOfMemory, IsOfFailure}
-use Rattle.runs.specs.Streams.{Stop, read_out, early, Stream, Telling, read_to, StopsSo, IsTold, AreTold, JudgesTo, TermsValue, setting_of}
+use Rattle.runs.specs.Streams.{Stream, Telling, IsTold, TermsValue, setting_of}
 use Rattle.runs.specs.Closed.{IsOfStream, CiteWithin}
 use Rattle.runs.specs.StreamLemmas.{told_count, told_from, told_begins, same_at}
-use Rattle.run_laws.specs.Groups.{one, IsAlone, IsRun, IsReadingTo}
+use Rattle.run_laws.specs.Groups.{one, IsGroup, IsRun}
 use Rattle.run_laws.specs.GroupLaws.{BeginningsWithin, ReadersClosed, ClosedIsGroup, OrderedIsGroup, AloneHasOneReport, RunIsolated, SerialIsolated, ThreadsRun, SerialRun, ToldIsReading, FailedIsReading, SameReadingAgrees, SameBytesAgree}
 use Rattle.run_laws.proofs.Places.{has_place, judged_count, judged_at, judged_fewer}
 use Rattle.run_laws.proofs.RestrictingLemmas.{ordered_judged}
 use Rattle.run_laws.specs.ReportLemmas.{only}
-use Rattle.run_laws.proofs.AloneLemmas.{me, own-one}
+use Rattle.run_laws.proofs.AloneLemmas.{ReadsTo, me, own-one}
 
 -- What a reader told
 
 -- what a reader of known place told
 told_at : (told : List Telling) (streams : List Stream) (s : ℕ) (telling : Telling) (stream : Stream)
-    → AreTold told streams → IsOfStream told s telling → IsOfStream streams s stream → IsTold telling stream
+    → AllZip IsTold told streams → IsOfStream told s telling → IsOfStream streams s stream → IsTold telling stream
 told_at told streams s telling stream are_told here at =
     let was = told_from told streams (s - 1) stream are_told at.1 in
     subst (λ (t : Telling). IsTold t stream) (same_at told s was.telling telling (here.0, was.at) here) was.is_told
@@ -44,35 +47,43 @@ readers_closed law p set told streams are_told closed s stream member at =
     let known = closed s was.telling member (at.0, was.at) in
     told_within law p set was.telling known.0 stream was.is_told known.1 known.2
 
-told_reads : (left : Option (List ℕ)) (stop : Stop) (whole bytes : List ℕ)
-    → Consumes (Some whole) left (read_to stop bytes) → StopsSo stop left false → IsReadingTo stop bytes whole stream_ends.Ended
-told_reads None stop whole bytes took stops = absurd took
-told_reads (Some left) (read_out stream_ends.Ended) whole bytes took stops = (took ∙ ap (λ l. bytes ++ l) stops.0 ∙ append-nil bytes, refl)
-told_reads (Some left) (read_out stream_ends.Failed) whole bytes took stops = absurd (let no : false ≡ true = stops in cc)
-told_reads (Some left) (early unneeded) whole bytes took stops = (unneeded ++ left, took ∙ append_assoc bytes unneeded left)
+-- how a reader ends whose stream has this end, if any
+abbrev EndsWith : Option StreamEnd → Option (List ℕ) → Bool → Type 0
+EndsWith its left has_failed = MatchOption its (has_failed ≡ false) (λ end. EndsSo end left has_failed)
+
+told_reads : (left : Option (List ℕ)) (its : Option StreamEnd) (whole bytes unneeded : List ℕ)
+    → Consumes (Some whole) left (bytes ++ unneeded) → EndsWith its left false → (IsSome its → unneeded ≡ []) → ReadsTo its bytes whole stream_ends.Ended
+told_reads None its whole bytes unneeded took ends needed = absurd took
+told_reads (Some left) (Some stream_ends.Ended) whole bytes unneeded took ends needed = (
+  took ∙ ap (λ l. (bytes ++ unneeded) ++ l) ends.0 ∙ append-nil (bytes ++ unneeded) ∙ ap (λ l. bytes ++ l) (needed refl) ∙ append-nil bytes,
+  refl,
+)
+told_reads (Some left) (Some stream_ends.Failed) whole bytes unneeded took ends needed = absurd (let no : false ≡ true = ends in cc)
+told_reads (Some left) None whole bytes unneeded took ends needed = (unneeded ++ left, took ∙ append_assoc bytes unneeded left)
 
 pub told_is_reading : ToldIsReading
 told_is_reading told streams s telling stream whole are_told here at entry fine =
     let is = told_at told streams s telling stream are_told here at in
-    told_reads telling.left stream.stop whole stream.bytes
-    (subst (λ (e : Option (List ℕ)). Consumes e telling.left (read_to stream.stop stream.bytes)) entry is.consumes)
-    (subst (StopsSo stream.stop telling.left) fine is.stops)
+    told_reads telling.left stream.end whole stream.bytes stream.unneeded
+    (subst (λ (e : Option (List ℕ)). Consumes e telling.left (stream.bytes ++ stream.unneeded)) entry is.consumes)
+    (subst (EndsWith stream.end telling.left) fine is.ends) is.needed
 
-failure_reads : (left : List ℕ) (stop : Stop) (whole bytes : List ℕ)
-    → whole ++ left ≡ read_to stop bytes ++ left → StopsSo stop (Some left) true → IsReadingTo stop bytes whole stream_ends.Failed
-failure_reads left (read_out stream_ends.Ended) whole bytes took stops = absurd (let no : true ≡ false = stops.1 in cc)
-failure_reads left (read_out stream_ends.Failed) whole bytes took stops = (append_cancel_right whole bytes left took, refl)
-failure_reads left (early unneeded) whole bytes took stops = absurd (let no : true ≡ false = stops in cc)
+failure_reads : (left : List ℕ) (its : Option StreamEnd) (whole bytes unneeded : List ℕ)
+    → whole ++ left ≡ (bytes ++ unneeded) ++ left → EndsWith its (Some left) true → (IsSome its → unneeded ≡ []) → ReadsTo its bytes whole stream_ends.Failed
+failure_reads left (Some stream_ends.Ended) whole bytes unneeded took ends needed = absurd (let no : true ≡ false = ends.1 in cc)
+failure_reads left (Some stream_ends.Failed) whole bytes unneeded took ends needed =
+    (append_cancel_right whole (bytes ++ unneeded) left took ∙ ap (λ l. bytes ++ l) (needed refl) ∙ append-nil bytes, refl)
+failure_reads left None whole bytes unneeded took ends needed = absurd (let no : true ≡ false = ends in cc)
 
 pub failed_is_reading : FailedIsReading
 failed_is_reading told streams s telling stream whole left are_told here at entry has fails =
     let is = told_at told streams s telling stream are_told here at in
-    let read = read_to stream.stop stream.bytes in
-    failure_reads left stream.stop whole stream.bytes
+    let read = stream.bytes ++ stream.unneeded in
+    failure_reads left stream.end whole stream.bytes stream.unneeded
     (subst (λ (l : Option (List ℕ)). Consumes (Some (whole ++ left)) l read) has
     (subst (λ (e : Option (List ℕ)). Consumes e telling.left read) entry is.consumes))
-    (subst (λ (l : Option (List ℕ)). StopsSo stream.stop l true) has
-    (subst (StopsSo stream.stop telling.left) fails is.stops))
+    (subst (λ (l : Option (List ℕ)). EndsWith stream.end l true) has
+    (subst (EndsWith stream.end telling.left) fails is.ends)) is.needed
 
 -- Both kinds of run
 
@@ -113,7 +124,7 @@ serial_run f terms told reports count stands =
 run_alone : ClosedIsGroup → (f : Cnf) (terms : TermsValue) (s : ℕ) (told : List Telling) (reports : List Report)
     (stream : Stream) (report : Report) → Fits terms.layout f → (a : IsRun f terms told reports)
     → IsOfStream a.streams s stream → IsOfStream reports s report → CiteWithin terms.layout (one s) stream.bytes → ¬ IsOfMemory report
-    → IsAlone f terms s a.streams reports
+    → IsGroup f terms (one s) a.streams reports
 run_alone law f terms s told reports stream report fits a at says cites memory =
     law f terms (one s) a.history a.streams reports fits a.count a.legal
     (judged_fewer terms (λ t. true) (one s) a.history (λ t member. refl) 1 a.streams reports a.judged)
@@ -124,10 +135,10 @@ run_alone law f terms s told reports stream report fits a at says cites memory =
     let here = subst (λ n. IsOfStream reports n other) (only s t member) there in
     subst (λ (r : Report). ¬ IsOfMemory r) (same_at reports s report other says here) memory)
 
-reading_within : BeginningsWithin → (p : LayoutValue) (set : ℕ → Bool) (stop : Stop) (bytes whole : List ℕ) (end : StreamEnd)
-    → IsReadingTo stop bytes whole end → CiteWithin p set whole → CiteWithin p set bytes
-reading_within law p set (read_out stop) bytes whole end is cites = subst (CiteWithin p set) is.0 cites
-reading_within law p set (early unneeded) bytes whole end is cites = law p set bytes is.0 (subst (CiteWithin p set) is.1 cites)
+reading_within : BeginningsWithin → (p : LayoutValue) (set : ℕ → Bool) (its : Option StreamEnd) (bytes whole : List ℕ) (end : StreamEnd)
+    → ReadsTo its bytes whole end → CiteWithin p set whole → CiteWithin p set bytes
+reading_within law p set (Some its) bytes whole end is cites = subst (CiteWithin p set) is.0 cites
+reading_within law p set None bytes whole end is cites = law p set bytes is.0 (subst (CiteWithin p set) is.1 cites)
 
 pub same_reading_agrees : BeginningsWithin → ClosedIsGroup → AloneHasOneReport → SameReadingAgrees
 same_reading_agrees within group alone f terms s whole end told other_told reports other_reports stream other report other_report
@@ -135,20 +146,24 @@ same_reading_agrees within group alone f terms s whole end told other_told repor
     let p = terms.layout in
     alone f terms s whole end a.streams b.streams reports other_reports stream other report other_report
     (run_alone group f terms s told reports stream report fits a at says
-    (reading_within within p (one s) stream.stop stream.bytes whole end reads cites) memory)
+    (reading_within within p (one s) stream.end stream.bytes whole end reads cites) memory)
     (run_alone group f terms s other_told other_reports other other_report fits b there too
-    (reading_within within p (one s) other.stop other.bytes whole end also cites) none)
+    (reading_within within p (one s) other.end other.bytes whole end also cites) none)
     at there reads also says too
 
-judged_to : DecidedBeforeFailure → (c : Setting) (stop : Stop) (bytes whole : List ℕ) (left : Option (List ℕ)) (has_failed : Bool) (blocks : List History) (report : Report)
-    → Consumes (Some whole) left (read_to stop bytes) → StopsSo stop left has_failed → ¬ IsOfFailure report → JudgesTo stop c bytes blocks report → JudgesBlocks c whole stream_ends.Ended blocks report
-judged_to law c stop bytes whole None has_failed blocks report took stops machine j = absurd took
-judged_to law c (read_out stream_ends.Ended) bytes whole (Some left) has_failed blocks report took stops machine j =
-    subst (λ b. JudgesBlocks c b stream_ends.Ended blocks report) (sym (took ∙ ap (λ l. bytes ++ l) stops.0 ∙ append-nil bytes)) j
-judged_to law c (read_out stream_ends.Failed) bytes whole (Some left) has_failed blocks report took stops machine j =
-    subst (λ b. JudgesBlocks c b stream_ends.Ended blocks report) (sym took) (law c bytes left stream_ends.Ended blocks report machine j)
-judged_to law c (early unneeded) bytes whole (Some left) has_failed blocks report took stops machine j =
-    subst (λ b. JudgesBlocks c b stream_ends.Ended blocks report) (sym (took ∙ append_assoc bytes unneeded left)) (law c bytes (unneeded ++ left) stream_ends.Ended blocks report machine j.2)
+judged_to : DecidedBeforeFailure → (c : Setting) (its : Option StreamEnd) (bytes unneeded whole : List ℕ) (left : Option (List ℕ)) (has_failed : Bool) (blocks : List History) (report : Report)
+    → Consumes (Some whole) left (bytes ++ unneeded) → EndsWith its left has_failed → (IsSome its → unneeded ≡ []) → ¬ IsOfFailure report
+    → ((end : StreamEnd) → IfSome its (λ e. e ≡ end) → JudgesBlocks c bytes end blocks report) → JudgesBlocks c whole stream_ends.Ended blocks report
+judged_to law c its bytes unneeded whole None has_failed blocks report took ends needed machine j = absurd took
+judged_to law c (Some stream_ends.Ended) bytes unneeded whole (Some left) has_failed blocks report took ends needed machine j =
+    subst (λ b. JudgesBlocks c b stream_ends.Ended blocks report)
+    (sym (took ∙ ap (λ l. (bytes ++ unneeded) ++ l) ends.0 ∙ append-nil (bytes ++ unneeded) ∙ ap (λ l. bytes ++ l) (needed refl) ∙ append-nil bytes)) (j stream_ends.Ended refl)
+judged_to law c (Some stream_ends.Failed) bytes unneeded whole (Some left) has_failed blocks report took ends needed machine j =
+    subst (λ b. JudgesBlocks c b stream_ends.Ended blocks report) (sym (took ∙ append_assoc bytes unneeded left))
+    (law c bytes (unneeded ++ left) stream_ends.Ended blocks report machine (j stream_ends.Failed refl))
+judged_to law c None bytes unneeded whole (Some left) has_failed blocks report took ends needed machine j =
+    subst (λ b. JudgesBlocks c b stream_ends.Ended blocks report) (sym (took ∙ append_assoc bytes unneeded left))
+    (law c bytes (unneeded ++ left) stream_ends.Ended blocks report machine (j stream_ends.Failed tt))
 
 -- a legal history judges all these bytes so
 record IsJudgedWhole (f : Cnf) (terms : TermsValue) (s : ℕ) (whole : List ℕ) (report : Report) : Type 0 where
@@ -177,8 +192,8 @@ whole_judged within group decided f terms s whole told telling reports report fi
       judges = record {
         blocks = j.0;
         events = sym (own-one s g.history g.members) ∙ j.1;
-        judges = judged_to decided (setting_of terms s) stream.stop stream.bytes whole telling.left telling.has_failed j.0 report
-            (subst (λ (e : Option (List ℕ)). Consumes e telling.left (read_to stream.stop stream.bytes)) entry is.consumes) is.stops machine j.2;
+        judges = judged_to decided (setting_of terms s) stream.end stream.bytes stream.unneeded whole telling.left telling.has_failed j.0 report
+            (subst (λ (e : Option (List ℕ)). Consumes e telling.left (stream.bytes ++ stream.unneeded)) entry is.consumes) is.ends is.needed machine j.2;
       };
     }
 

@@ -13,33 +13,24 @@ use Rattle.lrup_model.specs.Laws.{FindsWithin}
 use Rattle.lrup_text.specs.Lines.{StreamLine}
 use Rattle.lrup_text.specs.Laws.{EveryCut}
 use Rattle.lrup_text.specs.declared.device.StreamEnd.{StreamEnd}
-use Rattle.lrup_text.specs.declared.device.StreamEnd.TheVariants as stream_ends
 use Rattle.stream_check.specs.declared.report.Report.{Report}
 use Rattle.stream_check.specs.Setting.{Setting}
 use Rattle.stream_check.specs.Judging.{joined, JudgesBlocks}
 use Rattle.stream_check.specs.Reducing.{reduced}
 use Rattle.stream_check.specs.Laws.{cited_by, FetchesOnly, CitedFetched, ReducedStream}
-use Rattle.runs.specs.Streams.{Stop, read_out, early, Stream, JudgesTo, JudgesStream, Block, blocks_of, IsBlockWithin, AreJudged, TermsValue, setting_of}
-use Rattle.runs.specs.Headline.{IsJudgedBy, AreJudgedIn}
+use Rattle.runs.specs.Streams.{Stream, JudgesStream, Block, blocks_of, IsBlockWithin, AreJudged, TermsValue, setting_of}
+use Rattle.runs.specs.Headline.{AreJudgedIn}
 use Rattle.runs.specs.Closed.{IsOfStream, IsOwnedWithin, CiteWithin}
-use Rattle.runs.specs.StreamLemmas.{told_count}
+use Rattle.runs.specs.StreamLemmas.{IsJudgedBy, some_end, told_count}
 use Rattle.run_laws.specs.Lines.{IsOrder}
 use Rattle.run_laws.specs.OrderLaws.{JudgedBlocks, LinesOrdered, ClosedOrdered, AllClosed, AllOrdered, RunSerializable}
 use Rattle.run_laws.proofs.OrderLemmas.{streams_in, streams_are, are_streams, own_each}
 
 -- One stream's blocks
 
--- some end for which the stream is judged by these blocks
-pub some_end : (stop : Stop) (c : Setting) (bytes : List ℕ) (blocks : List History) (report : Report)
-    → JudgesTo stop c bytes blocks report → (end : StreamEnd) × JudgesBlocks c bytes end blocks report
-some_end (read_out end) c bytes blocks report judged = (end, judged)
-some_end (early unneeded) c bytes blocks report judged = (stream_ends.Ended, judged.1)
-
-reduced_judged : ReducedStream → (stop : Stop) (c : Setting) (bytes : List ℕ) (blocks : List History) (report : Report)
-    → JudgesTo stop c bytes blocks report → JudgesTo stop c bytes (map reduced blocks) report
-reduced_judged law (read_out end) c bytes blocks report judged = law c bytes end blocks report judged
-reduced_judged law (early unneeded) c bytes blocks report judged =
-    (judged.0, law c bytes stream_ends.Ended blocks report judged.1, law c bytes stream_ends.Failed blocks report judged.2)
+reduced_judged : ReducedStream → (c : Setting) (stream : Stream) (blocks : List History) (report : Report)
+    → JudgesStream c stream blocks report → JudgesStream c stream (map reduced blocks) report
+reduced_judged law c stream blocks report judged = λ end its. law c stream.bytes end blocks report (judged end its)
 
 module _ (terms : TermsValue) (set : ℕ → Bool) (h : History) where
   -- if the stream is of the set, these blocks are its own events, and it is judged by them
@@ -126,14 +117,16 @@ module _ (terms : TermsValue) (set : ℕ → Bool) (h : History) where
   are_judged : ReducedStream → (blocks : ℕ → List History) (order : List Block) (s : ℕ) (streams : List Stream) (reports : List Report)
       → ((t : ℕ) → IsStream terms.layout t → IsTrue (set t) → blocks_of t order ≡ map reduced (blocks t))
       → 0 < s → s + length streams ≤ terms.layout.streams + 1
-      → AreJudgedWith blocks s streams reports → AreJudged terms set order s streams reports
+      → AreJudgedWith blocks s streams reports → AreJudged terms set (λ t events. events ≡ blocks_of t order) s streams reports
   are_judged law blocks order s [] [] lines first last judged = tt
   are_judged law blocks order s [] (report ∷ reports) lines first last judged = absurd judged
   are_judged law blocks order s (stream ∷ streams) [] lines first last judged = absurd judged
   are_judged law blocks order s (stream ∷ streams) (report ∷ reports) lines first last judged = (
-    λ member. subst (λ (bs : List History). JudgesStream (setting_of terms s) stream bs report)
-        (sym (lines s (first, omega (arith, last)) member))
-        (reduced_judged law stream.stop (setting_of terms s) stream.bytes (blocks s) report (judged.0 member).1),
+    λ member. (
+      map reduced (blocks s),
+      sym (lines s (first, omega (arith, last)) member),
+      reduced_judged law (setting_of terms s) stream (blocks s) report (judged.0 member).1,
+    ),
     are_judged law blocks order (s + 1) streams reports lines (omega arith) (omega (arith, last)) judged.1,
   )
 
@@ -158,7 +151,7 @@ judged_stream terms set h streams reports count judged s is member =
     let found : IsJudgedAt terms set h all.0 streams (s - 1) s
     = judged_at terms set h all.0 streams reports all.1 s is.0 (omega (arith, is.1, count)) member in
     let way : (end : StreamEnd) × JudgesBlocks (setting_of terms s) found.stream.bytes end (all.0 s) found.report
-    = some_end found.stream.stop (setting_of terms s) found.stream.bytes (all.0 s) found.report found.judges in
+    = some_end (setting_of terms s) found.stream (all.0 s) found.report found.judges in
     record {
       stream = found.stream;
       report = found.report;
@@ -252,7 +245,7 @@ closed_ordered lines_ordered judged_blocks cited_fetched reduced_stream f terms 
     (λ s is member.
     let one : IsJudgedAt terms set h all.0 streams (s - 1) s = found s is (streams_are p set s member).0 in
     let way : (end : StreamEnd) × JudgesBlocks (setting_of terms s) one.stream.bytes end (all.0 s) one.report
-    = some_end one.stream.stop (setting_of terms s) one.stream.bytes (all.0 s) one.report one.judges in
+    = some_end (setting_of terms s) one.stream (all.0 s) one.report one.judges in
     judged_blocks (setting_of terms s) one.stream.bytes way.0 (all.0 s) one.report way.1)
     (λ s is member. stays s is (streams_are p set s member).0) in
     record {

@@ -11,7 +11,6 @@ use Rattle.lrup_model.specs.State.{State, Slot, absent, live, retired, IsLive, I
 use Rattle.lrup_model.specs.History.{IsAllowed, LegalFrom}
 use Rattle.lrup_model.specs.Laws.{Advances}
 use Rattle.stream_check.specs.Checking.{IsFetch, IsRetire}
-use Rattle.run_laws.specs.Premises.{IsLiveReply}
 use Rattle.lrup_model.specs.HistoryLemmas.{put-other, after-agrees, after-foreign, one_owner}
 use Rattle.lrup_model.specs.EntryLemmas.{after-advances}
 use Rattle.lrup_model.specs.declared.clause_map.Published.TheVariants as publishing
@@ -22,7 +21,9 @@ use Rattle.stream_check.specs.Reducing.{is_vacant}
 
 -- what an event tells of the identities that are retired in the end
 abbrev pub Settles : LayoutValue → State → Event → Type 0
-Settles p final (events.fetch s id r) = IsLiveReply r → (Owns p s id → ⊥) → IsRetired (final id) → ⊥
+Settles p final (events.fetch s id events.vacant) = Unit {0}
+Settles p final (events.fetch s id (events.live c)) = (Owns p s id → ⊥) → IsRetired (final id) → ⊥
+Settles p final (events.fetch s id events.retired) = Unit {0}
 Settles p final (events.publish s id c r) = Unit {0}
 Settles p final (events.retire s id retiring.Done) = IsRetired (final id)
 Settles p final (events.retire s id retiring.NotLive) = Unit {0}
@@ -99,7 +100,7 @@ live_stays f p final m s id c (events.publish t j x publishing.Done) other also 
     put-other m j (live x) id (λ same. not_absent (m id) c is (subst (λ (i : ℕ). m i ≡ absent) (sym same) answers)) ∙ is
 live_stays f p final m s id c (events.publish t j x publishing.Taken) other also settles too is answers = is
 live_stays f p final m s id c (events.retire t j retiring.Done) other also settles too is answers =
-    put-other m j (retire_slot (m j)) id (λ same. settles tt
+    put-other m j (retire_slot (m j)) id (λ same. settles
     (λ mine. other (one_owner p s t id mine (subst (λ (i : ℕ). Owns p t i) (sym same) also))) (subst (λ (i : ℕ). IsRetired (final i)) (sym same) too)) ∙ is
 live_stays f p final m s id c (events.retire t j retiring.NotLive) other also settles too is answers = is
 
@@ -162,7 +163,7 @@ fetch-after : (p : LayoutValue) (final m : State) (s id t j : ℕ) (r : Reply)
 fetch-after p final m s id t j events.vacant other owns gone settles alive answers =
     put-other m id (retire_slot (m id)) j (λ same. alive_some (m id) alive (subst (λ (i : ℕ). m i ≡ absent) same answers)) ∙ answers
 fetch-after p final m s id t j (events.live c) other owns gone settles alive answers =
-    put-other m id (retire_slot (m id)) j (λ same. settles tt
+    put-other m id (retire_slot (m id)) j (λ same. settles
     (λ theirs. other (one_owner p s t id owns (subst (λ (i : ℕ). Owns p t i) same theirs))) (subst (λ (i : ℕ). IsRetired (final i)) (sym same) gone)) ∙ answers
 fetch-after p final m s id t j events.retired other owns gone settles alive answers =
     gone_stays (m j) (after m (events.retire s id retiring.Done) j) (after-advances m (events.retire s id retiring.Done) j alive) answers

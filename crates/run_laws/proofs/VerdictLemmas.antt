@@ -1,33 +1,35 @@
 -- The verdict that an order of lines comes to: some stream says that it added the empty clause, or one within the cube, exactly if
 -- the order publishes one.
-use Rattle.std.proofs.Common.{◌≡◌, ◌||◌, ◌+◌, ◌-◌, ◌<◌, ◌≤◌, ℕ, zero, suc, ℤ, Bool, true, false, List, [], ◌∷◌, ◌++◌, length, refl, sym, ap, subst, ◌∙◌, inl, inr, arith, ne_eqb}
+use Rattle.std.proofs.Common.{◌≡◌, ◌||◌, ◌+◌, ◌-◌, ◌<◌, ◌≤◌, ℕ, zero, suc, ℤ, Bool, true, false, List, [], ◌∷◌, ◌++◌, length, refl, sym, ap, subst, ◌∙◌, inl, inr, arith}
 use Rattle.std.specs.Prelude.{◌==◌}
 use Rattle.std.specs.List.{AllByRecursion, list_any}
 use Rattle.std.proofs.lemmas.Bool.{cases_eq, cases_Bool, true≢false, or_right, or_left, or_cases}
 use Rattle.std.proofs.lemmas.List.Folds.{list_any-append}
 use Rattle.std.proofs.Math.Bool.{or-false}
+use Rattle.lrup_model.specs.Clause.{Clause}
+use Rattle.lrup_model.specs.Cube.{CubeValue}
+use Rattle.lrup_model.specs.Distinct.{distinct}
 use Rattle.lrup_model.specs.Layout.{LayoutValue, IsStream}
 use Rattle.lrup_model.specs.Event as events
-use Rattle.lrup_model.specs.Event.{Event, History, Reply, publishes_empty}
+use Rattle.lrup_model.specs.Event.{Event, History, Reply}
 use Rattle.lrup_model.specs.declared.clause_map.Retired.{Retired}
 use Rattle.lrup_text.specs.Lines.{StreamLine, Addition, Deletion, Import}
 use Rattle.lrup_text.specs.declared.device.StreamEnd.{StreamEnd}
 use Rattle.stream_check.specs.declared.fault.Fault.{Fault}
 use Rattle.stream_check.specs.declared.report.Report.{Report}
 use Rattle.stream_check.specs.Setting.{Setting}
-use Rattle.stream_check.specs.Standing.{Standing, standing_of, adds_empty, adds_within}
+use Rattle.stream_check.specs.Standing.{Standing, standing_of, additions_of, is_within}
 use Rattle.stream_check.specs.Verdicts.{Good, Bad}
 use Rattle.stream_check.specs.Additions.{published_by}
 use Rattle.stream_check.specs.Finding.{IsGoodAddition}
-use Rattle.stream_check.specs.Judging.{JudgesLine, AreGood, EndsAfter, joined, JudgesBlocks}
+use Rattle.stream_check.specs.Judging.{JudgesLine, AreGood, EndsAfter, at_bad_line, at_bad_text, at_memory, at_end, joined, JudgesBlocks}
 use Rattle.stream_check.specs.Laws.{GoodExactlyIf}
-use Rattle.stream_check.specs.ReportLemmas.{said_empty, said_within, joined-append}
+use Rattle.stream_check.specs.ReportLemmas.{additions-append, said_empty, said_within, joined-append}
 use Rattle.runs.specs.Streams.{Stream, JudgesStream, Block, blocks_of, events_in, IsBlockWithin, AreJudged, TermsValue, setting_of, IsOrdered}
-use Rattle.runs.specs.StreamLemmas.{blocks-same, blocks-other}
-use Rattle.run_laws.specs.Lines.{publishes_within}
+use Rattle.runs.specs.StreamLemmas.{blocks-same, blocks-other, some_end}
+use Rattle.run_laws.specs.PublishLemmas.{publishes_empty, publishes_within, published_some}
 use Rattle.run_laws.specs.OrderLaws.{ClosedOrdered, AllClosed, AllOrdered}
 use Rattle.run_laws.proofs.KindLemmas.{addition_all, import_all, identities_all}
-use Rattle.run_laws.proofs.StreamLemmas.{some_end}
 
 -- Truth values
 
@@ -42,32 +44,29 @@ both_ways false false to back = refl
 
 -- What is told of
 
--- A test of events, one of lines and one of reports that tell of the same: no fetch and no retire passes, the publish of an addition
--- passes exactly if the addition does, no other line passes, and a report passes exactly if one of its good lines does.
-record Tells (c : Setting) (passes : Event → Bool) (adds : StreamLine → Bool) (says : Report → Bool) : Type 0 where
+-- A test of events, one of additions and one of reports that tell of the same: no fetch and no retire passes, the publish of an addition
+-- passes exactly if the addition does, and a report passes exactly if a good addition does.
+record Tells (c : Setting) (passes : Event → Bool) (adds : ℕ × Clause → Bool) (says : Report → Bool) : Type 0 where
   fetches_none : (id : ℕ) (r : Reply) → passes (events.fetch c.stream id r) ≡ false
   retires_none : (id : ℕ) (r : Retired) → passes (events.retire c.stream id r) ≡ false
-  publishes_added : (id : ℕ) (lits : List ℤ) (hints : List ℕ) → passes (published_by c id lits) ≡ adds (Addition id lits hints)
-  deletions_none : (lead : ℕ) (ids : List ℕ) → adds (Deletion lead ids) ≡ false
-  imports_none : (id : ℕ) (lits : List ℤ) → adds (Import id lits) ≡ false
+  publishes_added : (id : ℕ) (lits : List ℤ) → passes (published_by c id lits) ≡ adds (id, distinct lits)
   of_good : (lines : List StreamLine) (rest : List ℕ) (end : StreamEnd) (back : List History) (report : Report)
-      → EndsAfter c lines rest end back report → says report ≡ list_any adds lines
+      → EndsAfter c lines rest end back report → says report ≡ list_any adds (additions_of lines)
 
-some_literal : (l : ℤ) (lits : List ℤ) → (length (l ∷ lits) == 0) ≡ false
-some_literal l lits = ne_eqb (length (l ∷ lits)) 0 (λ none. omega (arith, none))
+-- the clause is empty
+abbrev adds_empty : ℕ × Clause → Bool
+adds_empty a = length a.1 == 0
 
-empty_added : (c : Setting) (id : ℕ) (lits : List ℤ) (hints : List ℕ) → publishes_empty (published_by c id lits) ≡ adds_empty (Addition id lits hints)
-empty_added c id [] hints = refl
-empty_added c id (l ∷ lits) hints = some_literal l _
+-- the clause is within the cube
+abbrev adds_within : CubeValue → ℕ × Clause → Bool
+adds_within cube a = is_within cube a.1
 
 -- of the empty clause
 empty_tells : (c : Setting) → Tells c publishes_empty adds_empty (λ report. report.empty)
 empty_tells c = record {
   fetches_none = λ id r. refl;
   retires_none = λ id r. refl;
-  publishes_added = empty_added c;
-  deletions_none = λ lead ids. refl;
-  imports_none = λ id lits. refl;
+  publishes_added = λ id lits. refl;
   of_good = said_empty c;
 }
 
@@ -76,9 +75,7 @@ within_tells : (c : Setting) → Tells c (publishes_within c.cube) (adds_within 
 within_tells c = record {
   fetches_none = λ id r. refl;
   retires_none = λ id r. refl;
-  publishes_added = λ id lits hints. refl;
-  deletions_none = λ lead ids. refl;
-  imports_none = λ id lits. refl;
+  publishes_added = λ id lits. refl;
   of_good = said_within c;
 }
 
@@ -93,36 +90,31 @@ module _ (passes : Event → Bool) where
   quiet_none [] all = refl
   quiet_none (e ∷ es) all = or_none (passes e) (list_any passes es) all.0 (quiet_none es all.1)
 
-module _ (law : GoodExactlyIf) (c : Setting) (passes : Event → Bool) (adds : StreamLine → Bool) (says : Report → Bool) (tells : Tells c passes adds says) where
+module _ (law : GoodExactlyIf) (c : Setting) (passes : Event → Bool) (adds : ℕ × Clause → Bool) (says : Report → Bool) (tells : Tells c passes adds says) where
   quiet_retires : (ids : List ℕ) → AllByRecursion (λ id. (r : Retired) → IsQuiet passes (events.retire c.stream id r)) ids
   quiet_retires [] = tt
   quiet_retires (id ∷ ids) = (tells.retires_none id, quiet_retires ids)
 
-  -- a good addition publishes what passes exactly if it passes
-  good_addition : (st : Standing) (id : ℕ) (lits : List ℤ) (hints : List ℕ) (es : History)
-      → JudgesLine c st (Addition id lits hints) es Good → list_any passes es ≡ adds (Addition id lits hints)
-  good_addition st id lits hints es judged =
-      elim (cases_Bool (adds (Addition id lits hints))) [
+  -- a good line publishes what passes exactly if it adds what does
+  good_line : (st : Standing) (line : StreamLine) (es : History) → JudgesLine c st line es Good → list_any passes es ≡ list_any adds (additions_of (line ∷ []))
+  good_line st (Addition id lits hints) es judged =
+      elim (cases_Bool (adds (id, distinct lits))) [
         | inl is ↦
             let good : IsGoodAddition c st id lits hints es = (law c st id lits hints es).0 judged in
             let last : list_any passes (published_by c id lits ∷ []) ≡ true
-            = or_left (passes (published_by c id lits)) false (tells.publishes_added id lits hints ∙ is) in
+            = or_left (passes (published_by c id lits)) false (tells.publishes_added id lits ∙ is) in
             ap (list_any passes) good.published
             ∙ list_any-append passes good.fetches (published_by c id lits ∷ [])
             ∙ or_right (list_any passes good.fetches) (list_any passes (published_by c id lits ∷ [])) last
-            ∙ sym is
+            ∙ sym (or_left (adds (id, distinct lits)) false is)
         | inr none ↦
-            quiet_none passes es (addition_all c (IsQuiet passes) tells.fetches_none id lits Good (λ good. tells.publishes_added id lits hints ∙ none) st hints es judged)
-            ∙ sym none
+            quiet_none passes es (addition_all c (IsQuiet passes) tells.fetches_none id lits Good (λ good. tells.publishes_added id lits ∙ none) st hints es judged)
+            ∙ sym (or_none (adds (id, distinct lits)) false none refl)
       ]
-
-  -- as does any good line
-  good_line : (st : Standing) (line : StreamLine) (es : History) → JudgesLine c st line es Good → list_any passes es ≡ adds line
-  good_line st (Addition id lits hints) es judged = good_addition st id lits hints es judged
   good_line st (Import id lits) es judged =
-      quiet_none passes es (import_all c (IsQuiet passes) tells.fetches_none st id lits es Good judged) ∙ sym (tells.imports_none id lits)
+      quiet_none passes es (import_all c (IsQuiet passes) tells.fetches_none st id lits es Good judged)
   good_line st (Deletion lead ids) es judged =
-      quiet_none passes es (identities_all c (IsQuiet passes) st.gone [] ids es Good (quiet_retires ids) judged) ∙ sym (tells.deletions_none lead ids)
+      quiet_none passes es (identities_all c (IsQuiet passes) st.gone [] ids es Good (quiet_retires ids) judged)
 
   -- a bad line doesn't
   bad_line : (st : Standing) (line : StreamLine) (es : History) (deleted : ℕ) (fault : Fault)
@@ -137,14 +129,15 @@ module _ (law : GoodExactlyIf) (c : Setting) (passes : Event → Bool) (adds : S
   -- The events of a stream
 
   good_lines : (before lines : List StreamLine) (blocks : List History)
-      → AreGood c before lines blocks → list_any passes (joined blocks) ≡ list_any adds lines
+      → AreGood c before lines blocks → list_any passes (joined blocks) ≡ list_any adds (additions_of lines)
   good_lines before [] [] good = refl
   good_lines before [] (block ∷ blocks) good = absurd good
   good_lines before (line ∷ lines) [] good = absurd good
   good_lines before (line ∷ lines) (block ∷ blocks) good =
       list_any-append passes block (joined blocks)
       ∙ ap (λ (b : Bool). b || list_any passes (joined blocks)) (good_line (standing_of c before) line block good.0)
-      ∙ ap (λ (b : Bool). adds line || b) (good_lines (before ++ line ∷ []) lines blocks good.1)
+      ∙ ap (λ (b : Bool). list_any adds (additions_of (line ∷ [])) || b) (good_lines (before ++ line ∷ []) lines blocks good.1)
+      ∙ sym (ap (list_any adds) (additions-append (line ∷ []) lines) ∙ list_any-append adds (additions_of (line ∷ [])) (additions_of lines))
 
   one_quiet : (block : History) (back : List History) → back ≡ block ∷ [] → list_any passes block ≡ false
       → list_any passes (joined back) ≡ false
@@ -158,13 +151,13 @@ module _ (law : GoodExactlyIf) (c : Setting) (passes : Event → Bool) (adds : S
   -- what ends a stream publishes nothing that passes
   ends_quiet : (lines : List StreamLine) (rest : List ℕ) (end : StreamEnd) (back : List History) (report : Report)
       → EndsAfter c lines rest end back report → list_any passes (joined back) ≡ false
-  ends_quiet lines rest end back report (inl e) =
-      one_quiet e.block back e.one_block (bad_line (standing_of c lines) e.line e.block e.deleted e.fault e.bad)
-  ends_quiet lines rest end back report (inr (inl e)) = no_quiet back e.no_block
-  ends_quiet lines rest end back report (inr (inr (inl e))) =
-      one_quiet e.block back e.one_block (quiet_none passes e.block
-      (identities_all c (IsQuiet passes) (standing_of c lines).gone [] e.earlier e.block Good (quiet_retires e.earlier) e.stops.before))
-  ends_quiet lines rest end back report (inr (inr (inr e))) = no_quiet back e.no_block
+  ends_quiet lines rest end back report (at_bad_line line more text fits block one_block deleted fault bad told) =
+      one_quiet block back one_block (bad_line (standing_of c lines) line block deleted fault bad)
+  ends_quiet lines rest end back report (at_bad_text fault text no_block told) = no_quiet back no_block
+  ends_quiet lines rest end back report (at_memory lead ids more text fits block one_block earlier stops told) =
+      one_quiet block back one_block (quiet_none passes block
+      (identities_all c (IsQuiet passes) (standing_of c lines).gone [] earlier block Good (quiet_retires earlier) stops.before))
+  ends_quiet lines rest end back report (at_end pending no_block told) = no_quiet back no_block
 
   -- a stream publishes what passes exactly if its report passes
   stream_tells : (bytes : List ℕ) (end : StreamEnd) (blocks : List History) (report : Report)
@@ -173,9 +166,9 @@ module _ (law : GoodExactlyIf) (c : Setting) (passes : Event → Bool) (adds : S
       ap (λ (bs : List History). list_any passes (joined bs)) j.split
       ∙ ap (list_any passes) (joined-append j.front j.back)
       ∙ list_any-append passes (joined j.front) (joined j.back)
-      ∙ ap (λ (b : Bool). b || list_any passes (joined j.back)) (good_lines [] j.lines j.front j.begins.good)
-      ∙ ap (λ (b : Bool). list_any adds j.lines || b) (ends_quiet j.lines j.rest end j.back report j.ends)
-      ∙ or-false (list_any adds j.lines) ∙ sym (tells.of_good j.lines j.rest end j.back report j.ends)
+      ∙ ap (λ (b : Bool). b || list_any passes (joined j.back)) (good_lines [] j.lines j.front j.good)
+      ∙ ap (λ (b : Bool). list_any adds (additions_of j.lines) || b) (ends_quiet j.lines j.rest end j.back report j.ends)
+      ∙ or-false (list_any adds (additions_of j.lines)) ∙ sym (tells.of_good j.lines j.rest end j.back report j.ends)
 
 -- The blocks of an order
 
@@ -230,16 +223,18 @@ module _ (passes : Event → Bool) where
 
 -- Reports
 
-module _ (law : GoodExactlyIf) (terms : TermsValue) (order : List Block) (passes : Event → Bool) (adds : StreamLine → Bool) (says : Report → Bool)
+module _ (law : GoodExactlyIf) (terms : TermsValue) (order : List Block) (passes : Event → Bool) (adds : ℕ × Clause → Bool) (says : Report → Bool)
     (tells : (s : ℕ) → Tells (setting_of terms s) passes adds says) where
-  told_by : (s : ℕ) (stream : Stream) (report : Report) → JudgesStream (setting_of terms s) stream (blocks_of s order) report
+  told_by : (s : ℕ) (stream : Stream) (report : Report)
+      → (events : List History) × (events ≡ blocks_of s order) × JudgesStream (setting_of terms s) stream events report
       → list_any passes (joined (blocks_of s order)) ≡ says report
   told_by s stream report judged =
       let way : (end : StreamEnd) × JudgesBlocks (setting_of terms s) stream.bytes end (blocks_of s order) report
-      = some_end stream.stop (setting_of terms s) stream.bytes (blocks_of s order) report judged in
+      = some_end (setting_of terms s) stream (blocks_of s order) report
+      (subst (λ (bs : List History). JudgesStream (setting_of terms s) stream bs report) judged.1 judged.2) in
       stream_tells law (setting_of terms s) passes adds says (tells s) stream.bytes way.0 (blocks_of s order) report way.1
 
-  said_published : (s : ℕ) (streams : List Stream) (reports : List Report) → AreJudged terms (λ t. true) order s streams reports
+  said_published : (s : ℕ) (streams : List Stream) (reports : List Report) → AreJudged terms (λ t. true) (λ t events. events ≡ blocks_of t order) s streams reports
       → list_any says reports ≡ true → list_any passes (events_in order) ≡ true
   said_published s [] [] judged is = absurd (true≢false (sym is))
   said_published s [] (report ∷ reports) judged is = absurd judged
@@ -250,7 +245,7 @@ module _ (law : GoodExactlyIf) (terms : TermsValue) (order : List Block) (passes
         | inr later ↦ said_published (s + 1) streams reports judged.1 later
       ]
 
-  published_said : (s : ℕ) (streams : List Stream) (reports : List Report) → AreJudged terms (λ t. true) order s streams reports
+  published_said : (s : ℕ) (streams : List Stream) (reports : List Report) → AreJudged terms (λ t. true) (λ t events. events ≡ blocks_of t order) s streams reports
       → (k : ℕ) → k < length streams → list_any passes (joined (blocks_of (s + k) order)) ≡ true
       → list_any says reports ≡ true
   published_said s [] [] judged k below is = absurd (omega (arith, below))
@@ -268,7 +263,7 @@ module _ (law : GoodExactlyIf) (terms : TermsValue) (order : List Block) (passes
 
   -- some report passes exactly if the order publishes what does
   reports_tell : (streams : List Stream) (reports : List Report) → length streams ≡ terms.layout.streams
-      → AllByRecursion (IsBlockWithin terms.layout (λ s. true)) order → AreJudged terms (λ s. true) order 1 streams reports
+      → AllByRecursion (IsBlockWithin terms.layout (λ s. true)) order → AreJudged terms (λ s. true) (λ s events. events ≡ blocks_of s order) 1 streams reports
       → list_any says reports ≡ list_any passes (events_in order)
   reports_tell streams reports count within judged =
       both_ways (list_any says reports) (list_any passes (events_in order))
@@ -290,8 +285,10 @@ all_ordered law closed_ordered all_closed f terms h streams reports fits count l
       order,
       record {
         empty = reports_tell law terms order.blocks publishes_empty adds_empty (λ report. report.empty) (λ s. empty_tells (setting_of terms s))
-            streams reports count order.within order.judged;
+            streams reports count order.within order.judged
+            ∙ published_some (λ c. length c == 0) (events_in order.blocks);
         within = reports_tell law terms order.blocks (publishes_within terms.cube) (adds_within terms.cube) (λ report. report.within) (λ s. within_tells (setting_of terms s))
-            streams reports count order.within order.judged;
+            streams reports count order.within order.judged
+            ∙ published_some (is_within terms.cube) (events_in order.blocks);
       },
     )

@@ -117,7 +117,7 @@ module _ (f : Cnf) (p : LayoutValue) (final m : State) where
         | inl vacants ↦ (
           join e blocks,
           record {
-            settled = join-settled p final e blocks (λ found. absurd found) made.1.settled;
+            settled = join-settled p final e blocks tt made.1.settled;
             legal = join-again f p m s id blocks b (map reduced more)
                 (made.1.lines s ∙ ap (map reduced) (with-same rest s ((d ∷ b) ∷ more) s refl)
                 ∙ ap (λ (g : History). g ∷ map reduced more) (all_vacant_stay (d ∷ b) vacants ∙ ap (λ (x : Event). x ∷ b) (same_fetch s id d b caller again vacants)))

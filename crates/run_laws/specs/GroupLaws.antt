@@ -1,5 +1,6 @@
 -- Laws of groups of streams. Each is the contract of a function of laws.
-use Rattle.std.specs.Prelude.{◌≡◌, ◌++◌, ℕ, Bool, true, false, IsTrue, List, length, Some}
+use Rattle.std.specs.Prelude.{◌≡◌, ◌≢◌, ◌++◌, ℕ, Bool, true, false, IsTrue, List, length, Some, None}
+use Rattle.std.specs.List.{AllZip}
 use Rattle.lrup_model.specs.Formula.{Cnf}
 use Rattle.lrup_model.specs.Layout.{LayoutValue, Fits}
 use Rattle.lrup_model.specs.Event.{History}
@@ -9,10 +10,12 @@ use Rattle.stream_check.specs.declared.report.Report.{Report}
 use Rattle.lrup_text.specs.declared.device.StreamEnd.{StreamEnd}
 use Rattle.lrup_text.specs.declared.device.StreamEnd.TheVariants as stream_ends
 use Rattle.stream_check.specs.Laws.{IsOfMemory, IsOfFailure}
-use Rattle.runs.specs.Streams.{Stream, Telling, TermsValue, AreTold, StandsOnStreams, IsOrdered}
+use Rattle.stream_check.specs.declared.report.Ending.TheVariants as endings
+use Rattle.stream_check.specs.Setting.{Setting}
+use Rattle.runs.specs.Streams.{Stream, Telling, TermsValue, IsTold, JudgesStream, StandsOnStreams, IsOrdered}
 use Rattle.runs.specs.Headline.{HaveOneHistory, AreJudgedIn}
 use Rattle.runs.specs.Closed.{IsOfStream, CiteWithin, IsClosed}
-use Rattle.run_laws.specs.Groups.{one, AreClosedReaders, NoneOutOfMemory, IsGroup, IsAlone, AreIsolated, empty_stream, empty_report, with_others, IsRun, IsReadingOf}
+use Rattle.run_laws.specs.Groups.{one, AreClosedReaders, NoneOutOfMemory, IsGroup, AreIsolated, empty_stream, empty_report, with_others, IsRun, IsReadingOf}
 
 -- Closed sets
 
@@ -24,7 +27,7 @@ BeginningsWithin = (p : LayoutValue) (set : ℕ → Bool) (bytes more : List ℕ
 -- so a set is closed where all bytes that its readers have left at first cite within it
 abbrev pub ReadersClosed : Type 0
 ReadersClosed = (p : LayoutValue) (set : ℕ → Bool) (told : List Telling) (streams : List Stream)
-    → AreTold told streams → AreClosedReaders p set told → IsClosed p set streams
+    → AllZip IsTold told streams → AreClosedReaders p set told → IsClosed p set streams
 
 -- Groups
 
@@ -68,7 +71,7 @@ abbrev pub AloneHasOneReport : Type 0
 AloneHasOneReport = (f : Cnf) (terms : TermsValue) (s : ℕ) (whole : List ℕ) (end : StreamEnd)
     (streams others : List Stream) (reports other_reports : List Report) (stream other : Stream)
     (report other_report : Report)
-    → IsAlone f terms s streams reports → IsAlone f terms s others other_reports
+    → IsGroup f terms (one s) streams reports → IsGroup f terms (one s) others other_reports
     → IsOfStream streams s stream → IsOfStream others s other → IsReadingOf whole end stream
     → IsReadingOf whole end other
     → IsOfStream reports s report → IsOfStream other_reports s other_report → report ≡ other_report
@@ -105,11 +108,17 @@ SerialRun = (f : Cnf) (terms : TermsValue) (told : List Telling) (reports : List
     → StandsOnStreams told (λ streams. IsOrdered f terms (λ s. true) streams reports)
     → IsRun f terms told reports
 
+-- of a stream that was stopped early the report tells of a bad line, or that memory ran out: no other ending is right for both ends
+abbrev pub EarlyIsDecided : Type 0
+EarlyIsDecided = (c : Setting) (stream : Stream) (blocks : List History) (report : Report)
+    → stream.end ≡ None → JudgesStream c stream blocks report
+    → (report.ending ≢ endings.Ended) × ¬ IsOfFailure report
+
 -- a reader that hasn't failed told a reading of the bytes that it had left at first, which end
 abbrev pub ToldIsReading : Type 0
 ToldIsReading = (told : List Telling) (streams : List Stream) (s : ℕ) (telling : Telling)
     (stream : Stream) (whole : List ℕ)
-    → AreTold told streams → IsOfStream told s telling → IsOfStream streams s stream
+    → AllZip IsTold told streams → IsOfStream told s telling → IsOfStream streams s stream
     → telling.entry ≡ Some whole → telling.has_failed ≡ false
     → IsReadingOf whole stream_ends.Ended stream
 
@@ -117,7 +126,7 @@ ToldIsReading = (told : List Telling) (streams : List Stream) (s : ℕ) (telling
 abbrev pub FailedIsReading : Type 0
 FailedIsReading = (told : List Telling) (streams : List Stream) (s : ℕ) (telling : Telling)
     (stream : Stream) (whole left : List ℕ)
-    → AreTold told streams → IsOfStream told s telling → IsOfStream streams s stream
+    → AllZip IsTold told streams → IsOfStream told s telling → IsOfStream streams s stream
     → telling.entry ≡ Some (whole ++ left) → telling.left ≡ Some left → telling.has_failed ≡ true
     → IsReadingOf whole stream_ends.Failed stream
 

@@ -1,6 +1,6 @@
 -- Groups of streams: what holds of their reports whatever the streams outside the group do (this project's own).
-use Rattle.std.specs.Prelude.{◌≡◌, ◌+◌, ◌==◌, ◌++◌, ℕ, Bool, true, false, IsTrue, List, [], ◌∷◌, length, Some, if◌then◌else◌}
-use Rattle.std.specs.List.{AllByRecursion}
+use Rattle.std.specs.Prelude.{◌≡◌, ◌+◌, ◌==◌, ◌++◌, ℕ, Bool, true, false, IsTrue, List, [], ◌∷◌, length, Some, MatchOption, if◌then◌else◌}
+use Rattle.std.specs.List.{AllByRecursion, AllZip}
 use Rattle.lrup_model.specs.Formula.{Cnf}
 use Rattle.lrup_model.specs.Layout.{LayoutValue}
 use Rattle.lrup_model.specs.Event.{History, stream_of}
@@ -11,7 +11,7 @@ use Rattle.lrup_text.specs.declared.device.StreamEnd.{StreamEnd}
 use Rattle.lrup_text.specs.declared.device.StreamEnd.TheVariants as stream_ends
 use Rattle.stream_check.specs.Laws.{IsOfMemory}
 use Rattle.runs.specs.Closed.{IsOfStream, CiteWithin, IsClosed}
-use Rattle.runs.specs.Streams.{Stop, read_out, early, Stream, Telling, TermsValue, AreTold}
+use Rattle.runs.specs.Streams.{Stream, Telling, TermsValue, IsTold}
 use Rattle.runs.specs.Headline.{AreJudgedIn}
 
 -- one stream, as a set
@@ -29,12 +29,10 @@ AreClosedReaders p set told =
 -- Readings
 
 -- one reading of a stream that has these bytes and this end: all of it, or a beginning after which no more was needed
-abbrev pub IsReadingTo : Stop → List ℕ → List ℕ → StreamEnd → Type 0
-IsReadingTo (read_out stop) bytes whole end = (whole ≡ bytes) × (end ≡ stop)
-IsReadingTo (early unneeded) bytes whole end = (more : List ℕ) × (whole ≡ bytes ++ more)
-
 abbrev pub IsReadingOf : List ℕ → StreamEnd → Stream → Type 0
-IsReadingOf whole end stream = IsReadingTo stream.stop stream.bytes whole end
+IsReadingOf whole end stream =
+    MatchOption stream.end ((more : List ℕ) × (whole ≡ stream.bytes ++ more))
+    (λ known. (whole ≡ stream.bytes) × (known ≡ end))
 
 -- Groups
 
@@ -53,26 +51,22 @@ pub record IsGroup (f : Cnf) (terms : TermsValue) (set : ℕ → Bool) (streams 
   pub judged : AreJudgedIn terms set history 1 streams reports
   pub memory : NoneOutOfMemory set reports
 
--- the report of stream s is that of a group of this stream alone
-abbrev pub IsAlone : Cnf → TermsValue → ℕ → List Stream → List Report → Type 0
-IsAlone f terms s streams reports = IsGroup f terms (one s) streams reports
-
 -- The reports are isolated: for every list of streams that the readers told and by which they are judged, and for every
 -- closed set of these streams none of whose reports tells that memory ran out, the set's reports are such as it may have alone.
 abbrev pub AreIsolated : Cnf → TermsValue → List Telling → (List Stream → Type 0) → List Report
     → Type 0
 AreIsolated f terms told Judged reports =
-    (streams : List Stream) → AreTold told streams → Judged streams
+    (streams : List Stream) → AllZip IsTold told streams → Judged streams
     → (set : ℕ → Bool) → IsClosed terms.layout set streams → NoneOutOfMemory set reports
     → IsGroup f terms set streams reports
 
--- a report that stream s may have alone, where these are its bytes and its end
+-- a report that stream s may have alone, as a group of this one stream, where these are its bytes and its end
 pub record IsReportAlone (f : Cnf) (terms : TermsValue) (s : ℕ) (whole : List ℕ) (end : StreamEnd)
     (report : Report) : Type 0 where
   pub streams : List Stream
   pub reports : List Report
   pub stream : Stream
-  pub alone : IsAlone f terms s streams reports
+  pub alone : IsGroup f terms (one s) streams reports
   pub at : IsOfStream streams s stream
   pub reads : IsReadingOf whole end stream
   pub says : IsOfStream reports s report
@@ -83,7 +77,7 @@ pub record IsReportAlone (f : Cnf) (terms : TermsValue) (s : ℕ) (whole : List 
 abbrev pub HaveReportsAlone : Cnf → TermsValue → List Telling → (List Stream → Type 0) → List Report
     → Type 0
 HaveReportsAlone f terms told Judged reports =
-    (streams : List Stream) → AreTold told streams → Judged streams
+    (streams : List Stream) → AllZip IsTold told streams → Judged streams
     → (s : ℕ) (stream : Stream) (report : Report)
     → IsOfStream streams s stream → IsOfStream reports s report
     → IsClosed terms.layout (one s) streams → ¬ IsOfMemory report
@@ -94,7 +88,7 @@ HaveReportsAlone f terms told Judged reports =
 
 -- no bytes, read to the end
 abbrev pub empty_stream : Stream
-empty_stream = record { bytes = []; stop = read_out stream_ends.Ended }
+empty_stream = record { bytes = []; unneeded = []; end = Some stream_ends.Ended }
 
 -- what is said of them
 abbrev pub empty_report : Report
@@ -118,7 +112,7 @@ with_others set x s (y ∷ ys) = (if set s then y else x) ∷ with_others set x 
 pub record IsRun (f : Cnf) (terms : TermsValue) (told : List Telling)
     (reports : List Report) : Type 0 where
   pub streams : List Stream
-  pub are_told : AreTold told streams
+  pub are_told : AllZip IsTold told streams
   pub count : length streams ≡ terms.layout.streams
   pub history : History
   pub legal : IsLegal f terms.layout history

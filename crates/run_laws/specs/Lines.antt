@@ -1,15 +1,11 @@
 -- What the events of a line are like, and an order of lines (this project's own).
-use Rattle.std.specs.Prelude.{◌≡◌, ℕ, Bool, false, IsTrue, List, [], ◌∷◌, map}
+use Rattle.std.specs.Prelude.{◌≡◌, ℕ, Bool, IsTrue, List, [], ◌∷◌, map}
 use Rattle.std.specs.List.{AllByRecursion}
 use Rattle.lrup_model.specs.Formula.{Cnf}
-use Rattle.lrup_model.specs.Cube.{CubeValue}
 use Rattle.lrup_model.specs.Layout.{LayoutValue, IsStream}
-use Rattle.lrup_model.specs.Event as events
 use Rattle.lrup_model.specs.Event.{Event, History}
 use Rattle.lrup_model.specs.History.{IsLegal}
-use Rattle.lrup_model.specs.declared.clause_map.Published.TheVariants as publishing
 use Rattle.stream_check.specs.Checking.{IsRetire}
-use Rattle.stream_check.specs.Standing.{is_within}
 use Rattle.stream_check.specs.Reducing.{IsEarly, TriesAgain, reduced}
 use Rattle.runs.specs.Streams.{Block, blocks_of, events_in, IsBlockWithin}
 
@@ -22,13 +18,6 @@ IsEarlyBefore (d ∷ es) e = IsEarly e
 abbrev pub AreEarly : History → Type 0
 AreEarly [] = Unit {0}
 AreEarly (e ∷ es) = IsEarlyBefore es e × AreEarly es
-
--- the event publishes a clause within the cube
-abbrev pub publishes_within : CubeValue → Event → Bool
-publishes_within cube (events.fetch s id r) = false
-publishes_within cube (events.publish s id c publishing.Done) = is_within cube c
-publishes_within cube (events.publish s id c publishing.Taken) = false
-publishes_within cube (events.retire s id r) = false
 
 -- after a retire there are only retires
 abbrev pub RetiresLast : History → Type 0

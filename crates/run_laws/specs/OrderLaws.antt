@@ -1,6 +1,6 @@
 -- Laws of the order of lines. Each is the contract of a function of laws.
 use Rattle.std.specs.Prelude.{◌≡◌, ◌↔◌, ◌++◌, ℕ, Bool, true, IsTrue, List, length}
-use Rattle.std.specs.List.{AllByRecursion}
+use Rattle.std.specs.List.{AllByRecursion, AllZip}
 use Rattle.lrup_model.specs.Formula.{Cnf}
 use Rattle.lrup_model.specs.Layout.{LayoutValue, Fits, IsStream}
 use Rattle.lrup_model.specs.Event as events
@@ -15,7 +15,7 @@ use Rattle.stream_check.specs.declared.report.Report.{Report}
 use Rattle.stream_check.specs.Setting.{Setting}
 use Rattle.stream_check.specs.Standing.{deleted_by}
 use Rattle.stream_check.specs.Judging.{joined, JudgesBlocks}
-use Rattle.runs.specs.Streams.{Stream, Block, events_in, Telling, TermsValue, AreTold, IsOrdered}
+use Rattle.runs.specs.Streams.{Stream, Block, events_in, Telling, TermsValue, IsTold, IsOrdered}
 use Rattle.runs.specs.Headline.{HaveOneHistory, AreJudgedIn}
 use Rattle.runs.specs.Closed.{IsClosed}
 use Rattle.run_laws.specs.Lines.{IsLineBlock, IsOrder}
@@ -114,7 +114,7 @@ BeginningsCite = (bytes more : List ℕ) (id : ℕ)
 -- needed.
 abbrev pub ReadersShare : Type 0
 ReadersShare = (p : LayoutValue) (set : ℕ → Bool) (told : List Telling) (streams : List Stream)
-    → AreTold told streams → ReadersKeepShared p set told → KeepShared p set streams
+    → AllZip IsTold told streams → ReadersKeepShared p set told → KeepShared p set streams
 
 -- Runs
 

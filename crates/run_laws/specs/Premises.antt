@@ -4,7 +4,7 @@ use Rattle.std.specs.List.{AllByRecursion, list_any}
 use Rattle.lrup_model.specs.Formula.{Cnf}
 use Rattle.lrup_model.specs.Layout.{LayoutValue, IsStream, Owns}
 use Rattle.lrup_model.specs.Event as events
-use Rattle.lrup_model.specs.Event.{Event, Reply, History, own}
+use Rattle.lrup_model.specs.Event.{Event, History, own}
 use Rattle.lrup_model.specs.State.{State, IsRetired, state}
 use Rattle.lrup_model.specs.Laws.{IsFound}
 use Rattle.lrup_model.specs.declared.clause_map.Retired.TheVariants as retiring
@@ -16,17 +16,10 @@ use Rattle.runs.specs.Closed.{IsOfStream}
 
 -- By what the history leaves
 
--- the reply is Live
-abbrev pub IsLiveReply : Reply → Type 0
-IsLiveReply events.vacant = ⊥
-IsLiveReply (events.live c) = Unit {0}
-IsLiveReply events.retired = ⊥
-
 -- where a stream found an identity live that isn't its own, this state has it not retired
 abbrev pub FindsKept : LayoutValue → State → Event → Type 0
-FindsKept p final (events.fetch s id r) = IsLiveReply r → ¬ Owns p s id → ¬ IsRetired (final id)
-FindsKept p final (events.publish s id c r) = Unit {0}
-FindsKept p final (events.retire s id r) = Unit {0}
+FindsKept p final (events.fetch s id (events.live c)) = ¬ Owns p s id → ¬ IsRetired (final id)
+FindsKept p final _ = Unit {0}
 
 -- What a stream of the set found live, and isn't its own, the history doesn't leave retired.
 abbrev pub FoundStays : Cnf → LayoutValue → (ℕ → Bool) → History → Type 0
@@ -49,9 +42,8 @@ HistoryRetires (e ∷ h) id = IsRetireOf id e ⊎ HistoryRetires h id
 
 -- where a stream found an identity live that isn't its own, the history doesn't retire it
 abbrev pub FindsUnretired : LayoutValue → History → Event → Type 0
-FindsUnretired p h (events.fetch s id r) = IsLiveReply r → ¬ Owns p s id → ¬ HistoryRetires h id
-FindsUnretired p h (events.publish s id c r) = Unit {0}
-FindsUnretired p h (events.retire s id r) = Unit {0}
+FindsUnretired p h (events.fetch s id (events.live c)) = ¬ Owns p s id → ¬ HistoryRetires h id
+FindsUnretired p h _ = Unit {0}
 
 -- where a stream found an identity that isn't its own, live or retired, the history doesn't retire it
 abbrev pub MeetsUnretired : LayoutValue → History → Event → Type 0

@@ -1,21 +1,23 @@
 -- What it means that the lines of a run are serializable (this project's own).
-use Rattle.std.specs.Prelude.{◌≡◌, ℕ, Bool, true, List}
-use Rattle.std.specs.List.{list_any}
+use Rattle.std.specs.Prelude.{◌≡◌, ◌==◌, ℕ, Bool, true, List, length}
+use Rattle.std.specs.List.{list_any, AllZip}
 use Rattle.lrup_model.specs.Cube.{CubeValue}
 use Rattle.lrup_model.specs.Formula.{Cnf}
-use Rattle.lrup_model.specs.Event.{History, publishes_empty}
+use Rattle.lrup_model.specs.Event.{History, published}
 use Rattle.stream_check.specs.declared.report.Report.{Report}
-use Rattle.runs.specs.Streams.{Stream, Telling, TermsValue, AreTold, IsOrdered, events_in}
+use Rattle.stream_check.specs.Standing.{is_within}
+use Rattle.runs.specs.Streams.{Stream, Telling, TermsValue, IsTold, IsOrdered, events_in}
 use Rattle.runs.specs.Headline.{AreJudgedIn}
 use Rattle.runs.specs.Closed.{IsClosed}
-use Rattle.run_laws.specs.Lines.{publishes_within}
 use Rattle.run_laws.specs.Premises.{FoundStays}
 
 -- These events come to the verdict of the reports: the empty clause is published exactly if a report says that its stream added
 -- it, and a clause within the cube exactly if a report says that its stream added one.
 pub record ComeToVerdict (cube : CubeValue) (es : History) (reports : List Report) : Type 0 where
-  pub empty : list_any (λ report. report.empty) reports ≡ list_any publishes_empty es
-  pub within : list_any (λ report. report.within) reports ≡ list_any (publishes_within cube) es
+  pub empty : list_any (λ report. report.empty) reports
+      ≡ list_any (λ entry. length entry.1 == 0) (published es)
+  pub within : list_any (λ report. report.within) reports
+      ≡ list_any (λ entry. is_within cube entry.1) (published es)
 
 -- The lines of a run, which has this one history, are serializable: for every list of streams that the readers told and by which
 -- the reports are judged, and for every closed set of these streams, of which none found an identity of another stream live that
@@ -23,7 +25,7 @@ pub record ComeToVerdict (cube : CubeValue) (es : History) (reports : List Repor
 -- this holds of all streams together, they have one that comes to the verdict of the reports besides.
 abbrev pub IsSerializable : Cnf → TermsValue → List Telling → History → List Report → Type 0
 IsSerializable f terms told h reports = (streams : List Stream)
-    → AreTold told streams → AreJudgedIn terms (λ s. true) h 1 streams reports
+    → AllZip IsTold told streams → AreJudgedIn terms (λ s. true) h 1 streams reports
     → ((set : ℕ → Bool) → IsClosed terms.layout set streams → FoundStays f terms.layout set h
     → IsOrdered f terms set streams reports)
     × (FoundStays f terms.layout (λ s. true) h

@@ -1,5 +1,5 @@
 //! Laws of groups. Each function does nothing; its contract is the law, which holds of every formula, layout, set and run.
-ghost use Rattle.run_laws.specs.GroupLaws.{BeginningsWithin, ReadersClosed, ClosedIsGroup, OrderedIsGroup, OrderedRestricts, OthersEmpty, AloneHasOneReport, RunIsolated, SerialIsolated, ThreadsRun, SerialRun, ToldIsReading, FailedIsReading, SameReadingAgrees, SameBytesAgree};
+ghost use Rattle.run_laws.specs.GroupLaws.{BeginningsWithin, ReadersClosed, ClosedIsGroup, OrderedIsGroup, OrderedRestricts, OthersEmpty, AloneHasOneReport, RunIsolated, SerialIsolated, ThreadsRun, SerialRun, EarlyIsDecided, ToldIsReading, FailedIsReading, SameReadingAgrees, SameBytesAgree};
 
 use lrup_text::laws::{a_beginning_is_cut_alike, every_stream_is_cut};
 use stream_check::laws::{
@@ -80,6 +80,11 @@ pub fn threads_run()
 /// What a run on one thread promises of its reports.
 pub fn serial_run()
     ensures { SerialRun }
+{}
+
+/// A stream that was stopped early has a bad line, or memory ran out there.
+pub fn early_is_decided()
+    ensures { EarlyIsDecided }
 {}
 
 /// A reader that hasn't failed told a reading of the bytes that it had left at first.

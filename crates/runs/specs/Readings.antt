@@ -1,18 +1,15 @@
 -- Which reads gave a run's streams (this project's own).
-use Rattle.std.specs.Prelude.{◌++◌, ℕ, List, [], ◌∷◌}
+use Rattle.std.specs.Prelude.{◌++◌, List, [], ◌∷◌, MatchOption}
 use Rattle.lrup_text.specs.ReadOut.{ReadOut, SourceView}
 use Rattle.lrup_text.specs.Reads.{Gave, ReadsOf}
-use Rattle.runs.specs.Streams.{Stop, read_out, early, Stream, IsTold, telling_of}
+use Rattle.runs.specs.Streams.{Stream, IsTold, telling_of}
 
--- Reads of a reader gave these bytes: all that it gave up to its first end or to the read that failed; or, of one that was stopped
--- early, all that it gave but for what wasn't needed.
-abbrev pub IsReadTo : (S : Type 0) → ReadsOf S → Stop → S → List ℕ → S → Type 0
-IsReadTo S reads (read_out end) first bytes last = ReadOut S reads end first bytes last
-IsReadTo S reads (early unneeded) first bytes last = Gave S reads first (bytes ++ unneeded) last
-
--- the stream is what reads of a reader gave, from the first on
+-- The stream is what reads of a reader gave, from the first on: its bytes are all that they gave up to the first end or to the read
+-- that failed; or, of one that was stopped early, all that they gave but for what wasn't needed.
 abbrev pub IsRead : (S : Type 0) → ReadsOf S → S → S → Stream → Type 0
-IsRead S reads first last stream = IsReadTo S reads stream.stop first stream.bytes last
+IsRead S reads first last stream =
+    MatchOption stream.end (Gave S reads first (stream.bytes ++ stream.unneeded) last)
+    (λ end. ReadOut S reads end first stream.bytes last)
 
 -- the stream is what a reader told, and what its reads gave
 abbrev pub IsStreamOf : {S : Type 0} → SourceView S → S → S → Stream → Type 0

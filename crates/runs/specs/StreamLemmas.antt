@@ -1,19 +1,26 @@
 -- Lemmas on the streams of a run, on places in lists of them, and on the blocks of one stream.
-use Rattle.std.proofs.Common.{◌≡◌, ◌∙◌, ◌++◌, ℕ, zero, suc, List, [], ◌∷◌, Option, Some, None, length, map, eqb, refl, sym, ap, subst, append_assoc, append-nil, eq-eqb, ne_eqb}
-use Rattle.std.specs.Prelude.{slice_get}
+use Rattle.std.proofs.Common.{◌≡◌, ◌∙◌, ◌++◌, ℕ, zero, suc, List, [], ◌∷◌, Option, Some, None, length, map, eqb, refl, sym, ap, subst, append_assoc, eq-eqb, ne_eqb}
+use Rattle.std.specs.Prelude.{IfSome, slice_get}
+use Rattle.std.specs.List.{AllZip}
 use Rattle.std.specs.Io.KnownBytes.{Consumes}
 use Rattle.std.proofs.lemmas.Bool.{cond-true, cond-false}
+use Rattle.lrup_model.specs.Event.{History}
 use Rattle.lrup_text.specs.ReadOut.{SourceView}
+use Rattle.lrup_text.specs.declared.device.StreamEnd.{StreamEnd}
+use Rattle.lrup_text.specs.declared.device.StreamEnd.TheVariants as stream_ends
+use Rattle.stream_check.specs.declared.report.Report.{Report}
+use Rattle.stream_check.specs.Setting.{Setting}
+use Rattle.stream_check.specs.Judging.{joined, JudgesBlocks}
 use Rattle.runs.specs.Closed.{IsOfStream}
 use Rattle.runs.specs.Readings.{AreRead}
-use Rattle.runs.specs.Streams.{Stop, read_out, early, Stream, Telling, read_to, telling_of, tellings, IsTold, AreTold, Block, blocks_of}
+use Rattle.runs.specs.Streams.{Stream, Telling, telling_of, tellings, IsTold, JudgesStream, Block, blocks_of}
 
 -- at one place stands one thing
 pub same_at : {X : Type 0} (xs : List X) (s : ℕ) (x y : X)
     → IsOfStream xs s x → IsOfStream xs s y → x ≡ y
 same_at xs s x y a b = let e : Some x ≡ Some y = sym a.1 ∙ b.1 in cc
 
-pub told_count : (told : List Telling) (streams : List Stream) → AreTold told streams
+pub told_count : (told : List Telling) (streams : List Stream) → AllZip IsTold told streams
     → length streams ≡ length told
 told_count [] [] are_told = refl
 told_count (t ∷ ts) (s ∷ ss) are_told = ap suc (told_count ts ss are_told.1)
@@ -48,7 +55,7 @@ pub record WasTold (told : List Telling) (k : ℕ) (stream : Stream) : Type 0 wh
   pub is_told : IsTold telling stream
 
 pub told_from : (told : List Telling) (streams : List Stream) (k : ℕ) (stream : Stream)
-    → AreTold told streams → slice_get streams k ≡ Some stream → WasTold told k stream
+    → AllZip IsTold told streams → slice_get streams k ≡ Some stream → WasTold told k stream
 told_from [] [] k stream are_told at = absurd (cc)
 told_from (t ∷ ts) (s ∷ ss) zero stream are_told at =
     let same : s ≡ stream = cc in
@@ -58,26 +65,44 @@ told_from (t ∷ ts) (s ∷ ss) (suc k) stream are_told at =
     record { telling = was.telling; at = was.at; is_told = was.is_told }
 told_from _ _ k stream are_told at = absurd are_told
 
--- the bytes that were needed begin those that were read
-read_begins : (stop : Stop) (bytes : List ℕ)
-    → (more : List ℕ) × (read_to stop bytes ≡ bytes ++ more)
-read_begins (read_out end) bytes = ([], sym (append-nil bytes))
-read_begins (early unneeded) bytes = (unneeded, refl)
+begins : (left : Option (List ℕ)) (whole bytes unneeded : List ℕ)
+    → Consumes (Some whole) left (bytes ++ unneeded) → (rest : List ℕ) × (whole ≡ bytes ++ rest)
+begins None whole bytes unneeded consumes = absurd consumes
+begins (Some left) whole bytes unneeded consumes =
+    (unneeded ++ left, consumes ∙ append_assoc bytes unneeded left)
 
-begins : (left : Option (List ℕ)) (whole : List ℕ) (stop : Stop) (bytes : List ℕ)
-    → Consumes (Some whole) left (read_to stop bytes) → (rest : List ℕ) × (whole ≡ bytes ++ rest)
-begins None whole stop bytes consumes = absurd consumes
-begins (Some left) whole stop bytes consumes =
-    let read = read_begins stop bytes in
-    (read.0 ++ left, consumes ∙ ap (λ (l : List ℕ). l ++ left) read.1 ∙ append_assoc bytes read.0 left)
-
--- and those that were left at first
+-- the bytes that were needed begin those that were left at first
 pub told_begins : (telling : Telling) (whole : List ℕ) (stream : Stream)
     → IsTold telling stream → telling.entry ≡ Some whole
     → (rest : List ℕ) × (whole ≡ stream.bytes ++ rest)
 told_begins telling whole stream told entry =
-    begins telling.left whole stream.stop stream.bytes
-    (subst (λ (e : Option (List ℕ)). Consumes e telling.left (read_to stream.stop stream.bytes)) entry told.consumes)
+    begins telling.left whole stream.bytes stream.unneeded
+    (subst (λ (e : Option (List ℕ)). Consumes e telling.left (stream.bytes ++ stream.unneeded)) entry told.consumes)
+
+-- an end that the stream may have
+its_end : (its : Option StreamEnd) → (end : StreamEnd) × IfSome its (λ e. e ≡ end)
+its_end None = (stream_ends.Ended, tt)
+its_end (Some end) = (end, refl)
+
+-- some end for which the stream is judged by these blocks
+pub some_end : (c : Setting) (stream : Stream) (blocks : List History) (report : Report)
+    → JudgesStream c stream blocks report
+    → (end : StreamEnd) × JudgesBlocks c stream.bytes end blocks report
+some_end c stream blocks report judged =
+    let end = its_end stream.end in (end.0, judged end.0 end.1)
+
+-- a stream is judged by these events
+abbrev pub IsJudgedBy : Setting → Stream → History → Report → Type 0
+IsJudgedBy c stream es report =
+    (blocks : List History) × (es ≡ joined blocks) × JudgesStream c stream blocks report
+
+-- a stream that was read to this end is judged so
+pub judged_out : (c : Setting) (bytes unneeded : List ℕ) (end : StreamEnd) (blocks : List History)
+    (report : Report)
+    → JudgesBlocks c bytes end blocks report
+    → JudgesStream c (record { bytes = bytes; unneeded = unneeded; end = Some end }) blocks report
+judged_out c bytes unneeded end blocks report judges =
+    λ other same. subst (λ (e : StreamEnd). JudgesBlocks c bytes e blocks report) same judges
 
 pub blocks-same : (block : Block) (blocks : List Block) (s : ℕ) → block.stream ≡ s
     → blocks_of s (block ∷ blocks) ≡ block.events ∷ blocks_of s blocks

@@ -1,7 +1,7 @@
 -- What a run's streams told, and in which order of lines their reports hold (this project's own).
-use Rattle.std.specs.Prelude.{◌≡◌, ◌+◌, ◌++◌, ◌==◌, ℕ, Bool, true, false, IsTrue, List, [], ◌∷◌, Option, if◌then◌else◌}
+use Rattle.std.specs.Prelude.{◌≡◌, ◌+◌, ◌++◌, ◌==◌, ℕ, Bool, false, IsTrue, List, [], ◌∷◌, Option, IsSome, IfSome, MatchOption, if◌then◌else◌}
 use Rattle.std.specs.Io.KnownBytes.{Consumes}
-use Rattle.std.specs.List.{AllByRecursion, flat_map}
+use Rattle.std.specs.List.{AllByRecursion, AllZip, flat_map}
 use Rattle.lrup_model.specs.Formula.{Cnf}
 use Rattle.lrup_model.specs.Cube.{CubeValue}
 use Rattle.lrup_model.specs.Layout.{LayoutValue, IsStream}
@@ -9,32 +9,16 @@ use Rattle.lrup_model.specs.Event.{History, stream_of}
 use Rattle.lrup_model.specs.History.{IsLegal}
 use Rattle.lrup_text.specs.ReadOut.{EndsSo, SourceView}
 use Rattle.lrup_text.specs.declared.device.StreamEnd.{StreamEnd}
-use Rattle.lrup_text.specs.declared.device.StreamEnd.TheVariants as stream_ends
-use Rattle.stream_check.specs.declared.report.Ending.{Ending}
-use Rattle.stream_check.specs.declared.report.Ending.TheVariants as endings
 use Rattle.stream_check.specs.declared.report.Report.{Report}
 use Rattle.stream_check.specs.Setting.{Setting}
 use Rattle.stream_check.specs.Judging.{JudgesBlocks}
 
--- Where the reading of a stream stopped: at the end that it came to; or before, since nothing more was needed than what came
--- before these last bytes that were read.
-pub data Stop : Type 0 where
-  read_out : (end : StreamEnd) → Stop
-  early : (unneeded : List ℕ) → Stop
-
--- the bytes of a stream that were needed, and where its reading stopped
+-- The bytes of a stream that were needed; those that were read after them, where no more was needed; and how the stream ended: at
+-- its end or at the read that failed, or nothing where it was stopped early.
 pub record Stream : Type 0 where
   pub bytes : List ℕ
-  pub stop : Stop
-
--- the stream was read to its end, or to the read that failed
-abbrev pub IsReadOut : Stream → Type 0
-IsReadOut stream = (end : StreamEnd) × (stream.stop ≡ read_out end)
-
--- all bytes that were read, where these were needed
-abbrev pub read_to : Stop → List ℕ → List ℕ
-read_to (read_out end) bytes = bytes
-read_to (early unneeded) bytes = bytes ++ unneeded
+  pub unneeded : List ℕ
+  pub end : Option StreamEnd
 
 -- What a reader tells: which bytes it has left at first and which in the end, where the device tells them, and whether it has
 -- failed then.
@@ -58,45 +42,25 @@ tellings view (first ∷ firsts) [] = []
 tellings view (first ∷ firsts) (last ∷ lasts) =
     telling_of view first last ∷ tellings view firsts lasts
 
--- the reader has what a reading that stopped so leaves
-abbrev pub StopsSo : Stop → Option (List ℕ) → Bool → Type 0
-StopsSo (read_out end) left has_failed = EndsSo end left has_failed
-StopsSo (early unneeded) left has_failed = has_failed ≡ false
-
--- The stream is what a reader told: the bytes read are a beginning of those left at first. Where the reader doesn't tell what it has
+-- The stream is what a reader told: the bytes read are a beginning of those left at first. Where the stream has an end, the reader is
+-- left so, and every byte was needed; where it was stopped early, the reader hasn't failed. Where the reader doesn't tell what it has
 -- left, any bytes will do.
 pub record IsTold (telling : Telling) (stream : Stream) : Type 0 where
-  pub consumes : Consumes telling.entry telling.left (read_to stream.stop stream.bytes)
-  pub stops : StopsSo stream.stop telling.left telling.has_failed
+  pub consumes : Consumes telling.entry telling.left (stream.bytes ++ stream.unneeded)
+  pub ends : MatchOption stream.end (telling.has_failed ≡ false)
+      (λ end. EndsSo end telling.left telling.has_failed)
+  pub needed : IsSome stream.end → stream.unneeded ≡ []
 
--- only a bad line, or that memory ran out, stops a stream early
-abbrev pub StopsReading : Ending → Type 0
-StopsReading endings.Ended = ⊥
-StopsReading (endings.Bad line fault) = Unit {0}
-StopsReading (endings.ReadFailed line) = ⊥
-StopsReading (endings.Memory line) = Unit {0}
-
--- a stream is judged by these blocks of events; one that was stopped early is judged so whatever its end would have been
-abbrev pub JudgesTo : Stop → Setting → List ℕ → List History → Report → Type 0
-JudgesTo (read_out end) c bytes blocks report = JudgesBlocks c bytes end blocks report
-JudgesTo (early unneeded) c bytes blocks report =
-    StopsReading report.ending × JudgesBlocks c bytes stream_ends.Ended blocks report
-    × JudgesBlocks c bytes stream_ends.Failed blocks report
-
--- the stream is judged by these blocks of events, as its stop wants
+-- The stream is judged by these blocks of events; one that was stopped early is judged so whatever its end would have been.
 abbrev pub JudgesStream : Setting → Stream → List History → Report → Type 0
-JudgesStream c stream blocks report = JudgesTo stream.stop c stream.bytes blocks report
+JudgesStream c stream blocks report =
+    (end : StreamEnd) → IfSome stream.end (λ known. known ≡ end)
+    → JudgesBlocks c stream.bytes end blocks report
 
--- each stream is what its reader told
-abbrev pub AreTold : List Telling → List Stream → Type 0
-AreTold [] [] = Unit {0}
-AreTold (telling ∷ told) (stream ∷ streams) = IsTold telling stream × AreTold told streams
-AreTold _ _ = ⊥
-
--- What the reports of a run stand on: the streams that the readers told, of which the judgement holds.
+-- What the reports of a run stand on: streams, each of which is what its reader told, and of which the judgement holds.
 pub record StandsOnStreams (told : List Telling) (Judged : List Stream → Type 0) : Type 0 where
   pub streams : List Stream
-  pub are_told : AreTold told streams
+  pub are_told : AllZip IsTold told streams
   pub judged : Judged streams
 
 -- An order of lines
@@ -128,22 +92,20 @@ pub record TermsValue : Type 0 where
   pub cube : CubeValue
   pub tries : ℕ
 
--- the record of these
-abbrev pub terms_at : LayoutValue → CubeValue → ℕ → TermsValue
-terms_at p cube tries = record { layout = p; cube = cube; tries = tries }
-
 -- the setting of stream s under these terms
 abbrev pub setting_of : TermsValue → ℕ → Setting
 setting_of terms s =
     record { layout = terms.layout; cube = terms.cube; stream = s; tries = terms.tries }
 
--- each stream of the set, counted on from s, is judged by its blocks
-abbrev pub AreJudged : TermsValue → (ℕ → Bool) → List Block → ℕ → List Stream → List Report → Type 0
-AreJudged terms set blocks s [] [] = Unit {0}
-AreJudged terms set blocks s (stream ∷ streams) (report ∷ reports) =
-    (IsTrue (set s) → JudgesStream (setting_of terms s) stream (blocks_of s blocks) report)
-    × AreJudged terms set blocks (s + 1) streams reports
-AreJudged terms set blocks s _ _ = ⊥
+-- Each stream of the set, counted on from s, is judged, as its report says, by blocks of events that are the stream's own.
+abbrev pub AreJudged : TermsValue → (ℕ → Bool) → (ℕ → List History → Type 0) → ℕ → List Stream
+    → List Report → Type 0
+AreJudged terms set AreOwn s [] [] = Unit {0}
+AreJudged terms set AreOwn s (stream ∷ streams) (report ∷ reports) =
+    (IsTrue (set s) → (blocks : List History) × AreOwn s blocks
+    × JudgesStream (setting_of terms s) stream blocks report)
+    × AreJudged terms set AreOwn (s + 1) streams reports
+AreJudged terms set AreOwn s _ _ = ⊥
 
 -- The reports of a set of streams have an order of lines: a legal history of whole lines of these streams, each stream's in
 -- its order, by which each stream is judged so.
@@ -152,4 +114,5 @@ pub record IsOrdered (f : Cnf) (terms : TermsValue) (set : ℕ → Bool) (stream
   pub blocks : List Block
   pub within : AllByRecursion (IsBlockWithin terms.layout set) blocks
   pub legal : IsLegal f terms.layout (events_in blocks)
-  pub judged : AreJudged terms set blocks 1 streams reports
+  pub judged : AreJudged terms set (λ t own_blocks. own_blocks ≡ blocks_of t blocks) 1
+      streams reports

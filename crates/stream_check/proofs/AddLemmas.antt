@@ -3,14 +3,13 @@ use Rattle.std.proofs.Common.{◌≡◌, ◌≤◌, ◌<◌, ℕ, ℤ, nat_abs, 
 use Rattle.std.specs.Prelude.{not, ◌==◌}
 use Rattle.std.specs.Ordering.{int_eq}
 use Rattle.std.specs.List.{AllByRecursion, sum_by}
-use Rattle.std.proofs.lemmas.List.Sums.{sum_by-cons}
 use Rattle.std.proofs.lemmas.List.Filters.{length-filter_both}
 use Rattle.lrup_model.specs.Literal.{IsLiteral}
 use Rattle.lrup_model.specs.Clause.{Clause, IsClause}
 use Rattle.lrup_model.specs.Formula.{Cnf}
 use Rattle.lrup_model.specs.Layout.{LayoutValue, Owns}
 use Rattle.lrup_model.specs.Event as events
-use Rattle.lrup_model.specs.Event.{Event, History, own, spent, size_of, stream_of}
+use Rattle.lrup_model.specs.Event.{Event, History, own, published, spent, stream_of}
 use Rattle.lrup_model.specs.State.{State, absent, run}
 use Rattle.lrup_model.specs.History.{IsPublishable, max_line_literals}
 use Rattle.lrup_model.specs.Place.{Caller, Place, Tells, IsVacantAbove}
@@ -28,8 +27,9 @@ use Rattle.stream_check.specs.Checker.{Admits}
 
 -- Fetches take no room and change nothing
 
-pub spent-skips : (e : Event) (es : History) (b : Bool) → size_of e ≡ 0 → sum_by size_of (cond b (e ∷ es) es) ≡ sum_by size_of es
-spent-skips e es true h = omega (arith, sum_by-cons size_of e es, h)
+pub spent-skips : (e : Event) (es : History) (b : Bool) → published (e ∷ es) ≡ published es
+    → sum_by (λ p. length p.1) (published (cond b (e ∷ es) es)) ≡ sum_by (λ p. length p.1) (published es)
+spent-skips e es true h = ap (sum_by (λ p. length p.1)) h
 spent-skips e es false h = refl
 
 pub spent-fetches : (s : ℕ) (es : History) → AllByRecursion IsFetch es → spent s es ≡ 0

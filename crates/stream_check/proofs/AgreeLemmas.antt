@@ -11,13 +11,15 @@ use Rattle.lrup_text.specs.Lines.{StreamLine, Addition, Deletion, Import}
 use Rattle.lrup_model.specs.Distinct.{distinct}
 use Rattle.stream_check.specs.declared.fault.Fault.{Fault}
 use Rattle.stream_check.specs.declared.fault.Fault.TheVariants as faults
-use Rattle.stream_check.specs.Setting.{Setting, Side, formula, own, foreign, outside, side_of, is_shared}
+use Rattle.stream_check.specs.declared.setting.Side.{Side}
+use Rattle.stream_check.specs.declared.setting.Side.TheVariants as sides
+use Rattle.stream_check.specs.Setting.{Setting, side_of, is_shared}
 use Rattle.stream_check.specs.Standing.{Standing}
 use Rattle.stream_check.specs.Verdicts.{LineVerdict, Fails, Test}
 use Rattle.stream_check.specs.Asking.{AsksThen}
-use Rattle.stream_check.specs.Additions.{AtConflict, AtClause, AtReply, JudgesHints, published_by, JudgesAddition}
-use Rattle.stream_check.specs.Deletions.{FailsAt, RetiresThen, DropsThen, DeletesAt, JudgesIdentities}
-use Rattle.stream_check.specs.Imports.{HasSame, AtImported, JudgesImport}
+use Rattle.stream_check.specs.Additions.{AtConflict, AtReply, JudgesHints, published_by, JudgesAddition}
+use Rattle.stream_check.specs.Deletions.{RetiresThen, DropsThen, DeletesAt, JudgesDeletion}
+use Rattle.stream_check.specs.Imports.{AtImported, JudgesImport}
 use Rattle.stream_check.specs.Judging.{JudgesLine}
 use Rattle.stream_check.specs.Forks.{NeverFork}
 use Rattle.stream_check.proofs.ForkLemmas.{same_asked, never_fork_behind}
@@ -26,18 +28,18 @@ pub record Agree (es : History) (v : LineVerdict) (fs : History) (w : LineVerdic
   pub events : es ≡ fs
   pub verdict : v ≡ w
 
-fails_agree : (fault : Fault) (es fs : History) (v w : LineVerdict) → Fails fault es v → Fails fault fs w → Agree es v fs w
-fails_agree fault es fs v w a b = record { events = a.0 ∙ sym b.0; verdict = a.1 ∙ sym b.1 }
+fails_agree : (deleted : ℕ) (fault : Fault) (es fs : History) (v w : LineVerdict) → Fails deleted fault es v → Fails deleted fault fs w → Agree es v fs w
+fails_agree deleted fault es fs v w a b = record { events = a.0 ∙ sym b.0; verdict = a.1 ∙ sym b.1 }
 
 test_agree : (Holds : Type 0) (fault : Fault) (es fs : History) (v w : LineVerdict) (A B : Type 0) → (A → B → Agree es v fs w) → Test Holds fault es v A → Test Holds fault fs w B → Agree es v fs w
 test_agree Holds fault es fs v w A B next a b = elim a [
-  | inl bad ↦ elim b [ inl worse ↦ fails_agree fault es fs v w bad.1 worse.1 | inr holds ↦ absurd (bad.0 holds.0) ]
+  | inl bad ↦ elim b [ inl worse ↦ fails_agree 0 fault es fs v w bad.1 worse.1 | inr holds ↦ absurd (bad.0 holds.0) ]
   | inr good ↦ elim b [ inl bad ↦ absurd (bad.0 good.0) | inr holds ↦ next good.1 holds.1 ]
 ]
 
 conflict_agree : (hints : List ℕ) (published : Event) (es fs : History) (v w : LineVerdict) → AtConflict hints published es v → AtConflict hints published fs w → Agree es v fs w
 conflict_agree [] published es fs v w a b = record { events = a.0 ∙ sym b.0; verdict = a.1 ∙ sym b.1 }
-conflict_agree (h ∷ hints) published es fs v w a b = fails_agree (faults.Excess h) es fs v w a b
+conflict_agree (h ∷ hints) published es fs v w a b = fails_agree 0 (faults.Excess h) es fs v w a b
 
 one_unit : (n : List ℤ) (d : Clause) (l k : ℤ) → IsUnit n d l → IsUnit n d k → l ≡ k
 one_unit n d l k a b = elim (b.others l a.here) [ inl same ↦ same | inr is_false ↦ absurd (a.not_false is_false) ]
@@ -47,7 +49,7 @@ no_conflict n d l unit conflict = unit.not_false (conflict l unit.here)
 
 clause_agree : (n : List ℤ) (d : Clause) (h : ℕ) (hints : List ℕ) (published : Event) (es fs : History) (v w : LineVerdict) (A B : List ℤ → Type 0)
     → ((m : List ℤ) → A m → B m → Agree es v fs w)
-    → AtClause n d h hints published es v A → AtClause n d h hints published fs w B → Agree es v fs w
+    → AtReply (events.live d) n h hints published es v A → AtReply (events.live d) n h hints published fs w B → Agree es v fs w
 clause_agree n d h hints published es fs v w A B next a b = elim a [
   | inl one ↦ elim b [
     | inl two ↦ conflict_agree hints published es fs v w one.1 two.1
@@ -63,7 +65,7 @@ clause_agree n d h hints published es fs v w A B next a b = elim a [
     ]
     | inr one ↦ elim b [
       | inl two ↦ absurd (one.0 two.0)
-      | inr rest ↦ elim rest [ inl two ↦ absurd (one.1 two.0 two.1) | inr two ↦ fails_agree (faults.NotUnit h) es fs v w one.2 two.2 ]
+      | inr rest ↦ elim rest [ inl two ↦ absurd (one.1 two.0 two.1) | inr two ↦ fails_agree 0 (faults.NotUnit h) es fs v w one.2 two.2 ]
     ]
   ]
 ]
@@ -71,9 +73,9 @@ clause_agree n d h hints published es fs v w A B next a b = elim a [
 reply_agree : (x : Reply) (n : List ℤ) (h : ℕ) (hints : List ℕ) (published : Event) (es fs : History) (v w : LineVerdict) (A B : List ℤ → Type 0)
     → ((m : List ℤ) → A m → B m → Agree es v fs w)
     → AtReply x n h hints published es v A → AtReply x n h hints published fs w B → Agree es v fs w
-reply_agree events.vacant n h hints published es fs v w A B next a b = fails_agree (faults.Missing h) es fs v w a b
+reply_agree events.vacant n h hints published es fs v w A B next a b = fails_agree 0 (faults.Missing h) es fs v w a b
 reply_agree (events.live d) n h hints published es fs v w A B next a b = clause_agree n d h hints published es fs v w A B next a b
-reply_agree events.retired n h hints published es fs v w A B next a b = fails_agree (faults.Retired h) es fs v w a b
+reply_agree events.retired n h hints published es fs v w A B next a b = fails_agree 0 (faults.Retired h) es fs v w a b
 
 -- after the events of one hint
 asks_agree : (c : Setting) (h : ℕ) (es fs q r : History) (v w : LineVerdict) (A B : Reply → History → Type 0)
@@ -93,7 +95,7 @@ asks_agree c h es fs q r v w A B next a b never =
 
 hints_agree : (c : Setting) (gone : ℕ → Bool) (published : Event) (n : List ℤ) (hints : List ℕ) (es fs q r : History) (v w : LineVerdict)
     → JudgesHints c gone published n hints es v → JudgesHints c gone published n hints fs w → NeverFork (es ++ q) (fs ++ r) → Agree es v fs w
-hints_agree c gone published n [] es fs q r v w a b never = fails_agree faults.NoConflict es fs v w a b
+hints_agree c gone published n [] es fs q r v w a b never = fails_agree 0 faults.NoConflict es fs v w a b
 hints_agree c gone published n (h ∷ hints) es fs q r v w a b never =
     test_agree (gone h ≡ false) (faults.Dropped h) es fs v w
     (AsksThen c h es (λ x rest. AtReply x n h hints published rest v (λ m. JudgesHints c gone published m hints rest v)))
@@ -116,13 +118,10 @@ addition_agrees c st id lits hints es fs q r v w a b never =
     (λ a b. test_agree (length (distinct lits) ≤ st.free) faults.NoRoom es fs v w _ _
     (λ a b. hints_agree c st.gone (published_by c id lits) (distinct lits) hints es fs q r v w a b never) a b) a b) a b) a b
 
-fails_at_agree : (earlier : List ℕ) (id : ℕ) (es fs : History) (v w : LineVerdict) → FailsAt earlier id es v → FailsAt earlier id fs w → Agree es v fs w
-fails_at_agree earlier id es fs v w a b = record { events = a.0 ∙ sym b.0; verdict = a.1 ∙ sym b.1 }
-
 drops_agree : (gone : ℕ → Bool) (earlier : List ℕ) (id : ℕ) (es fs : History) (v w : LineVerdict) (A B : History → Type 0)
     → (A es → B fs → Agree es v fs w) → DropsThen gone earlier id es v A → DropsThen gone earlier id fs w B → Agree es v fs w
 drops_agree gone earlier id es fs v w A B next a b = elim a [
-  | inl one ↦ elim b [ inl two ↦ fails_at_agree earlier id es fs v w one.1 two.1 | inr two ↦ absurd (let d = one.0 in let e = two.0 in cc) ]
+  | inl one ↦ elim b [ inl two ↦ fails_agree (length earlier) (faults.NotLive id) es fs v w one.1 two.1 | inr two ↦ absurd (let d = one.0 in let e = two.0 in cc) ]
   | inr one ↦ elim b [ inl two ↦ absurd (let d = one.0 in let e = two.0 in cc) | inr two ↦ next one.1 two.1 ]
 ]
 
@@ -146,32 +145,32 @@ retires_agree c earlier id es fs q r v w A B next a b never =
         | inl two ↦
             let here = subst (λ e. NeverFork (e ++ q) ((done ∷ b.rest) ++ r)) one.0 (subst (λ e. NeverFork (es ++ q) (e ++ r)) two.0 never) in
             absurd (let e = here.0 (refl, refl) in cc)
-        | inr two ↦ record { events = one.0 ∙ ap (λ e. refused ∷ e) (one.1 ∙ sym two.1) ∙ sym two.0; verdict = one.2 ∙ sym two.2 }
+        | inr two ↦ record { events = one.0 ∙ ap (λ e. refused ∷ e) (one.1.0 ∙ sym two.1.0) ∙ sym two.0; verdict = one.1.1 ∙ sym two.1.1 }
       ]
     ]
 
 at_agree : (side : Side) (c : Setting) (gone : ℕ → Bool) (earlier : List ℕ) (id : ℕ) (es fs q r : History) (v w : LineVerdict) (A B : History → Type 0)
     → ((rest left : History) → NeverFork (rest ++ q) (left ++ r) → A rest → B left → Agree rest v left w)
     → DeletesAt side c gone earlier id es v A → DeletesAt side c gone earlier id fs w B → NeverFork (es ++ q) (fs ++ r) → Agree es v fs w
-at_agree formula c gone earlier id es fs q r v w A B next a b never = drops_agree gone earlier id es fs v w A B (next es fs never) a b
-at_agree own c gone earlier id es fs q r v w A B next a b never = retires_agree c earlier id es fs q r v w A B next a b never
-at_agree foreign c gone earlier id es fs q r v w A B next a b never = drops_agree gone earlier id es fs v w A B (next es fs never) a b
-at_agree outside c gone earlier id es fs q r v w A B next a b never = fails_at_agree earlier id es fs v w a b
+at_agree sides.Formula c gone earlier id es fs q r v w A B next a b never = drops_agree gone earlier id es fs v w A B (next es fs never) a b
+at_agree sides.Own c gone earlier id es fs q r v w A B next a b never = retires_agree c earlier id es fs q r v w A B next a b never
+at_agree sides.Foreign c gone earlier id es fs q r v w A B next a b never = drops_agree gone earlier id es fs v w A B (next es fs never) a b
+at_agree sides.Outside c gone earlier id es fs q r v w A B next a b never = fails_agree (length earlier) (faults.NotLive id) es fs v w a b
 
 identities_agree : (c : Setting) (gone : ℕ → Bool) (earlier ids : List ℕ) (es fs q r : History) (v w : LineVerdict)
-    → JudgesIdentities c gone earlier ids es v → JudgesIdentities c gone earlier ids fs w → NeverFork (es ++ q) (fs ++ r) → Agree es v fs w
+    → JudgesDeletion c gone earlier ids es v → JudgesDeletion c gone earlier ids fs w → NeverFork (es ++ q) (fs ++ r) → Agree es v fs w
 identities_agree c gone earlier [] es fs q r v w a b never = record { events = a.0 ∙ sym b.0; verdict = a.1 ∙ sym b.1 }
 identities_agree c gone earlier (id ∷ ids) es fs q r v w a b never =
     at_agree (side_of c id) c gone earlier id es fs q r v w
-    (λ rest. JudgesIdentities c gone (earlier ++ id ∷ []) ids rest v) (λ rest. JudgesIdentities c gone (earlier ++ id ∷ []) ids rest w)
+    (λ rest. JudgesDeletion c gone (earlier ++ id ∷ []) ids rest v) (λ rest. JudgesDeletion c gone (earlier ++ id ∷ []) ids rest w)
     (λ rest left behind one two. identities_agree c gone (earlier ++ id ∷ []) ids rest left q r v w one two behind)
     a b never
 
 imported_agree : (x : Reply) (id : ℕ) (lits : List ℤ) (es fs : History) (v w : LineVerdict) → AtImported x id lits es v → AtImported x id lits fs w → Agree es v fs w
-imported_agree events.vacant id lits es fs v w a b = fails_agree (faults.Missing id) es fs v w a b
+imported_agree events.vacant id lits es fs v w a b = fails_agree 0 (faults.Missing id) es fs v w a b
 imported_agree (events.live d) id lits es fs v w a b =
-    test_agree (HasSame d lits) (faults.Differs id) es fs v w _ _ (λ a b. record { events = a.0 ∙ sym b.0; verdict = a.1 ∙ sym b.1 }) a b
-imported_agree events.retired id lits es fs v w a b = fails_agree (faults.Retired id) es fs v w a b
+    test_agree _ (faults.Differs id) es fs v w _ _ (λ a b. record { events = a.0 ∙ sym b.0; verdict = a.1 ∙ sym b.1 }) a b
+imported_agree events.retired id lits es fs v w a b = fails_agree 0 (faults.Retired id) es fs v w a b
 
 import_agrees : (c : Setting) (st : Standing) (id : ℕ) (lits : List ℤ) (es fs q r : History) (v w : LineVerdict)
     → JudgesImport c st id lits es v → JudgesImport c st id lits fs w → NeverFork (es ++ q) (fs ++ r) → Agree es v fs w

@@ -13,7 +13,9 @@ use Rattle.lrup_model.specs.declared.clause_map.Fetched.{Fetched}
 use Rattle.lrup_model.specs.declared.clause_map.Fetched.TheVariants as answers
 use Rattle.lrup_model.specs.Replies.{reply_of, IsFetched}
 use Rattle.stream_check.specs.Checking.{Gives}
-use Rattle.stream_check.specs.Setting.{Setting, Side, formula, own, foreign, outside, side_for, side_of, tries_on}
+use Rattle.stream_check.specs.declared.setting.Side.{Side}
+use Rattle.stream_check.specs.declared.setting.Side.TheVariants as sides
+use Rattle.stream_check.specs.Setting.{Setting, side_of, tries_on}
 use Rattle.stream_check.specs.Asking.{FetchesUpTo, AsksAt, Asks}
 use Rattle.stream_check.proofs.TryLemmas.{replicate-more}
 
@@ -39,17 +41,22 @@ once s h es r fetches =
     let none : fetches.0 ≡ 0 = omega (arith, fetches.1) in
     fetches.3 ∙ ap (λ (k : ℕ). replicate k (fetch s h vacant) ++ fetch s h r ∷ []) none
 
-asks_at : (side : Side) (c : Setting) (h : ℕ) (es : History) (r : Reply) → (side ≡ outside → ⊥) → FetchesUpTo (tries_on side c.tries) c.stream h es r → AsksAt side c h es r
-asks_at formula c h es r inside fetches = once c.stream h es r fetches
-asks_at own c h es r inside fetches = once c.stream h es r fetches
-asks_at foreign c h es r inside fetches = fetches
-asks_at outside c h es r inside fetches = absurd (inside refl)
+asks_at : (side : Side) (c : Setting) (h : ℕ) (es : History) (r : Reply) → (side ≡ sides.Outside → ⊥) → FetchesUpTo (tries_on side c.tries) c.stream h es r → AsksAt side c h es r
+asks_at sides.Formula c h es r inside fetches = once c.stream h es r fetches
+asks_at sides.Own c h es r inside fetches = once c.stream h es r fetches
+asks_at sides.Foreign c h es r inside fetches = fetches
+asks_at sides.Outside c h es r inside fetches = absurd (inside refl)
 
-inside_side : (s : ℕ) (o : Owner) → (o ≡ owners.Outside → ⊥) → side_for s o ≡ outside → ⊥
+-- whose an identity of this owner is, as stream s sees it
+abbrev pub side_for : ℕ → Owner → Side
+side_for s o =
+    elim o [ owners.Formula ↦ sides.Formula | owners.Stream t ↦ if t == s then sides.Own else sides.Foreign | owners.Outside ↦ sides.Outside ]
+
+inside_side : (s : ℕ) (o : Owner) → (o ≡ owners.Outside → ⊥) → side_for s o ≡ sides.Outside → ⊥
 inside_side s owners.Formula inside e = absurd (cc)
 inside_side s (owners.Stream t) inside e = elim (cases_Bool (t == s)) [
-  | inl same ↦ absurd (let f : own ≡ outside = sym (ap (λ (b : Bool). if b then own else foreign) same) ∙ e in cc)
-  | inr other ↦ absurd (let f : foreign ≡ outside = sym (ap (λ (b : Bool). if b then own else foreign) other) ∙ e in cc)
+  | inl same ↦ absurd (let f : sides.Own ≡ sides.Outside = sym (ap (λ (b : Bool). if b then sides.Own else sides.Foreign) same) ∙ e in cc)
+  | inr other ↦ absurd (let f : sides.Foreign ≡ sides.Outside = sym (ap (λ (b : Bool). if b then sides.Own else sides.Foreign) other) ∙ e in cc)
 ]
 inside_side s owners.Outside inside e = inside refl
 

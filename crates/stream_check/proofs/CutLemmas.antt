@@ -1,5 +1,5 @@
 -- The lines that a stream is judged by, and what they fetch.
-use Rattle.std.proofs.Common.{◌≡◌, ℕ, Bool, IsTrue, List, [], ◌∷◌, ◌++◌, inl, inr, refl, sym, ap, subst, ◌∙◌, append-nil}
+use Rattle.std.proofs.Common.{◌≡◌, ℕ, Bool, IsTrue, List, [], ◌∷◌, ◌++◌, refl, sym, ap, subst, ◌∙◌, append-nil}
 use Rattle.std.specs.List.{AllByRecursion, flat_map}
 use Rattle.lrup_model.specs.Event.{History}
 use Rattle.lrup_model.specs.ListLemmas.{All-append}
@@ -9,7 +9,7 @@ use Rattle.stream_check.specs.declared.report.Report.{Report}
 use Rattle.stream_check.specs.Setting.{Setting}
 use Rattle.stream_check.specs.Standing.{standing_of}
 use Rattle.stream_check.specs.Verdicts.{Good, Bad}
-use Rattle.stream_check.specs.Judging.{AreGood, joined, EndsAfter}
+use Rattle.stream_check.specs.Judging.{AreGood, joined, EndsAfter, at_bad_line, at_bad_text, at_memory, at_end}
 use Rattle.stream_check.specs.Laws.{cited_by, FetchesOnly, JudgedLinesCut, CitedFetched}
 use Rattle.stream_check.specs.ReportLemmas.{split_first, joined-append}
 use Rattle.stream_check.proofs.EventLemmas.{line_fetches}
@@ -35,7 +35,7 @@ line_begins laws line (o ∷ all) more left rest fit fits none e is =
 
 pub judged_lines_cut : TextLaws → JudgedLinesCut
 judged_lines_cut laws c bytes end blocks report all rest j cut =
-    let begins = lines_begin laws j.lines all j.rest rest j.begins.fits cut.each cut.last (sym j.begins.text ∙ cut.bytes) in (begins.0, begins.1)
+    let begins = lines_begin laws j.lines all j.rest rest j.fits cut.each cut.last (sym j.text ∙ cut.bytes) in (begins.0, begins.1)
 
 CitedPass : (ℕ → Bool) → StreamLine → Type 0
 CitedPass p line = AllByRecursion (λ h. IsTrue (p h)) (cited_by line)
@@ -67,21 +67,21 @@ ends_fetch : TextLaws → (c : Setting) (p : ℕ → Bool) (lines more : List St
     → left ≡ flat_map line_text more ++ rest → AllByRecursion IsWithinLimits more → HasNoLine rest → AllByRecursion (CitedPass p) more
     → EndsAfter c lines left end back report → AllByRecursion (FetchesOnly p) (joined back)
 unfolding CitedPass
-ends_fetch laws c p lines more left rest end back report is fits none all (inl e) =
-    let first = line_begins laws e.line more e.more left rest e.fits fits none e.text is in
-    one_fetches p e.block back e.one_block (line_fetches c p (standing_of c lines) e.line e.block (Bad e.deleted e.fault) (first_passes p e.line more first.0 first.1 all) e.bad)
-ends_fetch laws c p lines more left rest end back report is fits none all (inr (inl e)) = none_fetch p back e.no_block
-ends_fetch laws c p lines more left rest end back report is fits none all (inr (inr (inl e))) =
-    one_fetches p e.block back e.one_block (line_fetches c p (standing_of c lines) (Deletion e.lead e.earlier) e.block Good tt e.stops.before)
-ends_fetch laws c p lines more left rest end back report is fits none all (inr (inr (inr e))) = none_fetch p back e.no_block
+ends_fetch laws c p lines more left rest end back report is fits none all (at_bad_line line after text fit block one_block deleted fault bad says) =
+    let first = line_begins laws line more after left rest fit fits none text is in
+    one_fetches p block back one_block (line_fetches c p (standing_of c lines) line block (Bad deleted fault) (first_passes p line more first.0 first.1 all) bad)
+ends_fetch laws c p lines more left rest end back report is fits none all (at_bad_text fault text no_block says) = none_fetch p back no_block
+ends_fetch laws c p lines more left rest end back report is fits none all (at_memory lead ids after text fit block one_block earlier stops says) =
+    one_fetches p block back one_block (line_fetches c p (standing_of c lines) (Deletion lead earlier) block Good tt stops.before)
+ends_fetch laws c p lines more left rest end back report is fits none all (at_end pending no_block says) = none_fetch p back no_block
 
 pub cited_fetched : TextLaws → CitedFetched
 unfolding CitedPass
 cited_fetched laws c bytes end blocks report all rest p j cut passes =
-    let begins = lines_begin laws j.lines all j.rest rest j.begins.fits cut.each cut.last (sym j.begins.text ∙ cut.bytes) in
+    let begins = lines_begin laws j.lines all j.rest rest j.fits cut.each cut.last (sym j.text ∙ cut.bytes) in
     let more = begins.0 in
     let parts = lines_append (CitedPass p) j.lines more (subst (AllByRecursion (CitedPass p)) begins.1 passes) in
     let fit = lines_append IsWithinLimits j.lines more (subst (AllByRecursion IsWithinLimits) begins.1 cut.each) in
-    let whole = All-append (FetchesOnly p) (joined j.front) (joined j.back) (good_fetch c p [] j.lines j.front parts.0 j.begins.good)
+    let whole = All-append (FetchesOnly p) (joined j.front) (joined j.back) (good_fetch c p [] j.lines j.front parts.0 j.good)
     (ends_fetch laws c p j.lines more j.rest rest end j.back report begins.2 fit.1 cut.last parts.1 j.ends) in
     subst (AllByRecursion (FetchesOnly p)) (sym (ap joined j.split ∙ joined-append j.front j.back)) whole

@@ -8,10 +8,12 @@ use Rattle.stream_check.specs.declared.fault.Fault.{Fault}
 use Rattle.stream_check.specs.declared.fault.Fault.TheVariants as faults
 use Rattle.stream_check.specs.declared.deletion.LineStop.{LineStop}
 use Rattle.stream_check.specs.declared.deletion.LineStop.TheVariants as stops
-use Rattle.stream_check.specs.Setting.{Setting, Side, formula, own, foreign, outside, side_of, is_shared}
+use Rattle.stream_check.specs.declared.setting.Side.{Side}
+use Rattle.stream_check.specs.declared.setting.Side.TheVariants as sides
+use Rattle.stream_check.specs.Setting.{Setting, side_of, is_shared}
 use Rattle.stream_check.specs.Standing.{is_among}
 use Rattle.stream_check.specs.Verdicts.{LineVerdict, Good, Bad}
-use Rattle.stream_check.specs.Deletions.{is_dropped, DeletesAt, JudgesIdentities, JudgesDeletion}
+use Rattle.stream_check.specs.Deletions.{DeletesAt, JudgesDeletion}
 use Rattle.stream_check.specs.Checking.{DeletesSide, DeletesOne, AreDropped, Deletes}
 
 -- The dropped ones
@@ -48,78 +50,78 @@ dropped_own c first earlier old new id mine before same j =
 
 dropped_at : (side : Side) (c : Setting) (first earlier old new : List ℕ) (id : ℕ) (es : History) → side_of c id ≡ side → AreDropped c first earlier old
     → DeletesSide side c id old new es (Ok tt) → AreDropped c first (earlier ++ id ∷ []) new
-dropped_at formula c first earlier old new id es is before deletes = dropped_shared c first earlier old new id (ap is_shared is) before deletes.1.1
-dropped_at own c first earlier old new id es is before deletes = dropped_own c first earlier old new id (ap is_shared is) before deletes.1
-dropped_at foreign c first earlier old new id es is before deletes = dropped_shared c first earlier old new id (ap is_shared is) before deletes.1.1
-dropped_at outside c first earlier old new id es is before deletes = absurd (let e : Ok tt ≡ Err (stops.Bad (faults.NotLive id)) = deletes.1 in cc)
+dropped_at sides.Formula c first earlier old new id es is before deletes = dropped_shared c first earlier old new id (ap is_shared is) before deletes.1.1
+dropped_at sides.Own c first earlier old new id es is before deletes = dropped_own c first earlier old new id (ap is_shared is) before deletes.1
+dropped_at sides.Foreign c first earlier old new id es is before deletes = dropped_shared c first earlier old new id (ap is_shared is) before deletes.1.1
+dropped_at sides.Outside c first earlier old new id es is before deletes = absurd (let e : Ok tt ≡ Err (stops.Bad (faults.NotLive id)) = deletes.1 in cc)
 
 pub dropped_more : (c : Setting) (first earlier old new : List ℕ) (id : ℕ) (es : History) → AreDropped c first earlier old → DeletesOne c id old new es (Ok tt) → AreDropped c first (earlier ++ id ∷ []) new
 dropped_more c first earlier old new id es before deletes = dropped_at (side_of c id) c first earlier old new id es refl before deletes
 
 -- a shared identity is dropped exactly if it is among those that are kept
-is_dropped_shared : (c : Setting) (first earlier old : List ℕ) (id : ℕ) (b : Bool) → is_shared (side_of c id) ≡ true → AreDropped c first earlier old → is_among old id ≡ b → is_dropped (is_among first) earlier id ≡ b
-is_dropped_shared c first earlier old id b shared before among =
+dropped_shared_is : (c : Setting) (first earlier old : List ℕ) (id : ℕ) (b : Bool) → is_shared (side_of c id) ≡ true → AreDropped c first earlier old → is_among old id ≡ b → (is_among first id || is_among earlier id) ≡ b
+dropped_shared_is c first earlier old id b shared before among =
     sym (ap (λ (s : Bool). is_among first id || s && is_among earlier id) shared) ∙ sym (before id) ∙ among
 
 -- One identity
 
 done_at : (side : Side) (c : Setting) (first earlier old new : List ℕ) (id : ℕ) (es rest : History) (v : LineVerdict) (Next : History → Type 0) → side_of c id ≡ side → AreDropped c first earlier old
     → DeletesSide side c id old new es (Ok tt) → Next rest → DeletesAt side c (is_among first) earlier id (es ++ rest) v Next
-done_at formula c first earlier old new id es rest v Next is before deletes next =
-    inr (is_dropped_shared c first earlier old id false (ap is_shared is) before deletes.1.0, subst Next (sym (ap (λ (x : History). x ++ rest) deletes.0)) next)
-done_at own c first earlier old new id es rest v Next is before deletes next =
+done_at sides.Formula c first earlier old new id es rest v Next is before deletes next =
+    inr (dropped_shared_is c first earlier old id false (ap is_shared is) before deletes.1.0, subst Next (sym (ap (λ (x : History). x ++ rest) deletes.0)) next)
+done_at sides.Own c first earlier old new id es rest v Next is before deletes next =
     record { rest = rest; decided = inl (ap (λ (x : History). x ++ rest) deletes.0, next) }
-done_at foreign c first earlier old new id es rest v Next is before deletes next =
-    inr (is_dropped_shared c first earlier old id false (ap is_shared is) before deletes.1.0, subst Next (sym (ap (λ (x : History). x ++ rest) deletes.0)) next)
-done_at outside c first earlier old new id es rest v Next is before deletes next = absurd (let e : Ok tt ≡ Err (stops.Bad (faults.NotLive id)) = deletes.1 in cc)
+done_at sides.Foreign c first earlier old new id es rest v Next is before deletes next =
+    inr (dropped_shared_is c first earlier old id false (ap is_shared is) before deletes.1.0, subst Next (sym (ap (λ (x : History). x ++ rest) deletes.0)) next)
+done_at sides.Outside c first earlier old new id es rest v Next is before deletes next = absurd (let e : Ok tt ≡ Err (stops.Bad (faults.NotLive id)) = deletes.1 in cc)
 
 bad_at : (side : Side) (c : Setting) (first earlier old new : List ℕ) (id : ℕ) (es : History) (fault : Fault) (Next : History → Type 0) → side_of c id ≡ side → AreDropped c first earlier old
     → DeletesSide side c id old new es (Err (stops.Bad fault)) → DeletesAt side c (is_among first) earlier id es (Bad (length earlier) fault) Next
-bad_at formula c first earlier old new id es fault Next is before deletes = inl (is_dropped_shared c first earlier old id true (ap is_shared is) before deletes.1.0, (deletes.0, ap (λ f. Bad (length earlier) f) deletes.1.1))
-bad_at own c first earlier old new id es fault Next is before deletes = record { rest = []; decided = inr (deletes.0, refl, ap (λ f. Bad (length earlier) f) deletes.1) }
-bad_at foreign c first earlier old new id es fault Next is before deletes = inl (is_dropped_shared c first earlier old id true (ap is_shared is) before deletes.1.0, (deletes.0, ap (λ f. Bad (length earlier) f) deletes.1.1))
-bad_at outside c first earlier old new id es fault Next is before deletes = (deletes.0, ap (λ f. Bad (length earlier) f) (let e : Err (stops.Bad fault) ≡ Err (stops.Bad (faults.NotLive id)) = deletes.1 in cc))
+bad_at sides.Formula c first earlier old new id es fault Next is before deletes = inl (dropped_shared_is c first earlier old id true (ap is_shared is) before deletes.1.0, (deletes.0, ap (λ f. Bad (length earlier) f) deletes.1.1))
+bad_at sides.Own c first earlier old new id es fault Next is before deletes = record { rest = []; decided = inr (deletes.0, (refl, ap (λ f. Bad (length earlier) f) deletes.1)) }
+bad_at sides.Foreign c first earlier old new id es fault Next is before deletes = inl (dropped_shared_is c first earlier old id true (ap is_shared is) before deletes.1.0, (deletes.0, ap (λ f. Bad (length earlier) f) deletes.1.1))
+bad_at sides.Outside c first earlier old new id es fault Next is before deletes = (deletes.0, ap (λ f. Bad (length earlier) f) (let e : Err (stops.Bad fault) ≡ Err (stops.Bad (faults.NotLive id)) = deletes.1 in cc))
 
 no_memory_at : (side : Side) (c : Setting) (first earlier old new : List ℕ) (id : ℕ) (es : History) → side_of c id ≡ side → AreDropped c first earlier old
-    → DeletesSide side c id old new es (Err stops.Memory) → (es ≡ []) × (is_shared (side_of c id) ≡ true) × (is_dropped (is_among first) earlier id ≡ false)
-no_memory_at formula c first earlier old new id es is before deletes = (deletes.0, ap is_shared is, is_dropped_shared c first earlier old id false (ap is_shared is) before deletes.1)
-no_memory_at own c first earlier old new id es is before deletes = absurd deletes
-no_memory_at foreign c first earlier old new id es is before deletes = (deletes.0, ap is_shared is, is_dropped_shared c first earlier old id false (ap is_shared is) before deletes.1)
-no_memory_at outside c first earlier old new id es is before deletes = absurd (let e : Err stops.Memory ≡ Err (stops.Bad (faults.NotLive id)) = deletes.1 in cc)
+    → DeletesSide side c id old new es (Err stops.Memory) → (es ≡ []) × (is_shared (side_of c id) ≡ true) × ((is_among first id || is_among earlier id) ≡ false)
+no_memory_at sides.Formula c first earlier old new id es is before deletes = (deletes.0, ap is_shared is, dropped_shared_is c first earlier old id false (ap is_shared is) before deletes.1)
+no_memory_at sides.Own c first earlier old new id es is before deletes = absurd deletes
+no_memory_at sides.Foreign c first earlier old new id es is before deletes = (deletes.0, ap is_shared is, dropped_shared_is c first earlier old id false (ap is_shared is) before deletes.1)
+no_memory_at sides.Outside c first earlier old new id es is before deletes = absurd (let e : Err stops.Memory ≡ Err (stops.Bad (faults.NotLive id)) = deletes.1 in cc)
 
 -- One after the other
 
 -- what the identities that are left are judged to be gives what all are
 abbrev pub GoesOn : Setting → List ℕ → List ℕ → History → Type 0
 GoesOn c first earlier es = (more : List ℕ) (rest : History) (v : LineVerdict)
-    → JudgesIdentities c (is_among first) earlier more rest v → JudgesIdentities c (is_among first) [] (earlier ++ more) (es ++ rest) v
+    → JudgesDeletion c (is_among first) earlier more rest v → JudgesDeletion c (is_among first) [] (earlier ++ more) (es ++ rest) v
 
 pub goes_on : (c : Setting) (first earlier old new : List ℕ) (id : ℕ) (es fs : History) → GoesOn c first earlier es → AreDropped c first earlier old
     → DeletesOne c id old new fs (Ok tt) → GoesOn c first (earlier ++ id ∷ []) (es ++ fs)
 goes_on c first earlier old new id es fs before dropped deletes more rest v judged =
-    let here : JudgesIdentities c (is_among first) earlier (id ∷ more) (fs ++ rest) v =
-    done_at (side_of c id) c first earlier old new id fs rest v (λ x. JudgesIdentities c (is_among first) (earlier ++ id ∷ []) more x v) refl dropped deletes judged in
-    subst (λ (x : History). JudgesIdentities c (is_among first) [] ((earlier ++ id ∷ []) ++ more) x v) (sym (append_assoc es fs rest))
-    (subst (λ (ids : List ℕ). JudgesIdentities c (is_among first) [] ids (es ++ (fs ++ rest)) v) (sym (append_assoc earlier (id ∷ []) more)) (before (id ∷ more) (fs ++ rest) v here))
+    let here : JudgesDeletion c (is_among first) earlier (id ∷ more) (fs ++ rest) v =
+    done_at (side_of c id) c first earlier old new id fs rest v (λ x. JudgesDeletion c (is_among first) (earlier ++ id ∷ []) more x v) refl dropped deletes judged in
+    subst (λ (x : History). JudgesDeletion c (is_among first) [] ((earlier ++ id ∷ []) ++ more) x v) (sym (append_assoc es fs rest))
+    (subst (λ (ids : List ℕ). JudgesDeletion c (is_among first) [] ids (es ++ (fs ++ rest)) v) (sym (append_assoc earlier (id ∷ []) more)) (before (id ∷ more) (fs ++ rest) v here))
 
 -- the identity that is deleted, among the others
 pub among_ids : (ids : List ℕ) (i : ℕ) → i < length ids → ids ≡ take i ids ++ get_or ids i 0 ∷ drop (i + 1) ids
 among_ids ids i lt = sym (take-append-drop i ids) ∙ ap (λ (js : List ℕ). take i ids ++ js) (rw (add-one, drop-cons ids i 0) refl)
 
 -- those before it are good
-good_front : (c : Setting) (first earlier : List ℕ) (es : History) → GoesOn c first earlier es → JudgesDeletion c (is_among first) earlier es Good
+good_front : (c : Setting) (first earlier : List ℕ) (es : History) → GoesOn c first earlier es → JudgesDeletion c (is_among first) [] earlier es Good
 good_front c first earlier es before =
-    subst (λ (ids : List ℕ). JudgesIdentities c (is_among first) [] ids es Good) (append-nil earlier)
-    (subst (λ (x : History). JudgesIdentities c (is_among first) [] (earlier ++ []) x Good) (append-nil es) (before [] [] Good (refl, refl)))
+    subst (λ (ids : List ℕ). JudgesDeletion c (is_among first) [] ids es Good) (append-nil earlier)
+    (subst (λ (x : History). JudgesDeletion c (is_among first) [] (earlier ++ []) x Good) (append-nil es) (before [] [] Good (refl, refl)))
 
 -- it stops the deletion: it is bad, or there is no memory for it
 pub stopped_deletion : (c : Setting) (first earlier old new : List ℕ) (id : ℕ) (later ids : List ℕ) (es fs : History) (stop : LineStop) → ids ≡ earlier ++ id ∷ later → GoesOn c first earlier es → AreDropped c first earlier old
     → DeletesOne c id old new fs (Err stop) → Deletes c first new ids (es ++ fs) (length earlier) (Err stop)
 stopped_deletion c first earlier old new id later ids es fs (stops.Bad fault) is before dropped deletes =
     let v : LineVerdict = Bad (length earlier) fault in
-    let here : JudgesIdentities c (is_among first) earlier (id ∷ later) fs v =
-    bad_at (side_of c id) c first earlier old new id fs fault (λ x. JudgesIdentities c (is_among first) (earlier ++ id ∷ []) later x v) refl dropped deletes in
-    subst (λ (js : List ℕ). JudgesIdentities c (is_among first) [] js (es ++ fs) v) (sym is) (before (id ∷ later) fs v here)
+    let here : JudgesDeletion c (is_among first) earlier (id ∷ later) fs v =
+    bad_at (side_of c id) c first earlier old new id fs fault (λ x. JudgesDeletion c (is_among first) (earlier ++ id ∷ []) later x v) refl dropped deletes in
+    subst (λ (js : List ℕ). JudgesDeletion c (is_among first) [] js (es ++ fs) v) (sym is) (before (id ∷ later) fs v here)
 stopped_deletion c first earlier old new id later ids es fs stops.Memory is before dropped deletes =
     let at = no_memory_at (side_of c id) c first earlier old new id fs refl dropped deletes in (
       earlier,
@@ -128,12 +130,12 @@ stopped_deletion c first earlier old new id later ids es fs stops.Memory is befo
         id = id;
         later = later;
         identities = is;
-        before = subst (λ (x : History). JudgesDeletion c (is_among first) earlier x Good) (sym (ap (λ (x : History). es ++ x) at.0 ∙ append-nil es)) (good_front c first earlier es before);
+        before = subst (λ (x : History). JudgesDeletion c (is_among first) [] earlier x Good) (sym (ap (λ (x : History). es ++ x) at.0 ∙ append-nil es)) (good_front c first earlier es before);
         shared = at.1;
         new = at.2;
       },
     )
 
 -- all are deleted
-pub good_deletion : (c : Setting) (first earlier ids : List ℕ) (es : History) → earlier ≡ ids → GoesOn c first earlier es → JudgesDeletion c (is_among first) ids es Good
-good_deletion c first earlier ids es is before = subst (λ (js : List ℕ). JudgesDeletion c (is_among first) js es Good) is (good_front c first earlier es before)
+pub good_deletion : (c : Setting) (first earlier ids : List ℕ) (es : History) → earlier ≡ ids → GoesOn c first earlier es → JudgesDeletion c (is_among first) [] ids es Good
+good_deletion c first earlier ids es is before = subst (λ (js : List ℕ). JudgesDeletion c (is_among first) [] js es Good) is (good_front c first earlier es before)

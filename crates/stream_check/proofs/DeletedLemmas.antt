@@ -16,10 +16,12 @@ use Rattle.lrup_model.specs.EntryLemmas.{retired_now}
 use Rattle.lrup_text.specs.Lines.{StreamLine, Addition, Deletion, Import}
 use Rattle.stream_check.specs.declared.fault.Fault.{Fault}
 use Rattle.stream_check.specs.declared.fault.Fault.TheVariants as faults
-use Rattle.stream_check.specs.Setting.{Setting, Side, formula, own, foreign, outside, side_of, is_shared}
-use Rattle.stream_check.specs.Standing.{standing_of, is_among, is_gone, deleted_by}
+use Rattle.stream_check.specs.declared.setting.Side.{Side}
+use Rattle.stream_check.specs.declared.setting.Side.TheVariants as sides
+use Rattle.stream_check.specs.Setting.{Setting, side_of, is_shared}
+use Rattle.stream_check.specs.Standing.{standing_of, is_among, deleted_by}
 use Rattle.stream_check.specs.Verdicts.{LineVerdict, Good, Bad}
-use Rattle.stream_check.specs.Deletions.{is_dropped, DeletesAt, JudgesIdentities}
+use Rattle.stream_check.specs.Deletions.{DeletesAt, JudgesDeletion}
 use Rattle.stream_check.specs.Judging.{JudgesLine, AreGood, joined}
 use Rattle.stream_check.proofs.CountLemmas.{put_same, OwnAnswers, OwnRun, run_retired, run_on, stays_retired}
 
@@ -43,10 +45,10 @@ identity_below p id inside = elim (eqb_tells id 0) [
 
 -- it was retired, or it is among the dropped ones
 abbrev pub TakenAt : Side → State → (ℕ → Bool) → List ℕ → ℕ → Type 0
-TakenAt formula n gone earlier id = is_dropped gone earlier id ≡ true
-TakenAt own n gone earlier id = IsRetired (n id)
-TakenAt foreign n gone earlier id = is_dropped gone earlier id ≡ true
-TakenAt outside n gone earlier id = ⊥
+TakenAt sides.Formula n gone earlier id = (gone id || is_among earlier id) ≡ true
+TakenAt sides.Own n gone earlier id = IsRetired (n id)
+TakenAt sides.Foreign n gone earlier id = (gone id || is_among earlier id) ≡ true
+TakenAt sides.Outside n gone earlier id = ⊥
 
 abbrev pub Taken : Setting → State → (ℕ → Bool) → List ℕ → ℕ → Type 0
 Taken c n gone earlier id = TakenAt (side_of c id) n gone earlier id
@@ -92,20 +94,20 @@ or_last false false = refl
 among_more : (earlier : List ℕ) (id y : ℕ) → is_among (earlier ++ id ∷ []) y ≡ (is_among earlier y || ((id == y) || false))
 among_more earlier id y = list_any-append (λ j. j == y) earlier (id ∷ [])
 
-dropped_more : (gone : ℕ → Bool) (earlier : List ℕ) (id y : ℕ) → is_dropped gone earlier y ≡ true → is_dropped gone (earlier ++ id ∷ []) y ≡ true
+dropped_more : (gone : ℕ → Bool) (earlier : List ℕ) (id y : ℕ) → (gone y || is_among earlier y) ≡ true → (gone y || is_among (earlier ++ id ∷ []) y) ≡ true
 dropped_more gone earlier id y e = ap (λ b. gone y || b) (among_more earlier id y) ∙ or_more (gone y) (is_among earlier y) ((id == y) || false) e
 
-dropped_now : (gone : ℕ → Bool) (earlier : List ℕ) (id : ℕ) → is_dropped gone (earlier ++ id ∷ []) id ≡ true
+dropped_now : (gone : ℕ → Bool) (earlier : List ℕ) (id : ℕ) → (gone id || is_among (earlier ++ id ∷ []) id) ≡ true
 dropped_now gone earlier id =
     ap (λ b. gone id || b) (among_more earlier id id)
     ∙ ap (λ b. gone id || (is_among earlier id || (b || false))) ((Decides-eqb id id).1 refl)
     ∙ or_last (gone id) (is_among earlier id)
 
 taken_more : (side : Side) (n m : State) (gone : ℕ → Bool) (earlier : List ℕ) (id y : ℕ) → (IsRetired (n y) → IsRetired (m y)) → TakenAt side n gone earlier y → TakenAt side m gone (earlier ++ id ∷ []) y
-taken_more formula n m gone earlier id y stays t = dropped_more gone earlier id y t
-taken_more own n m gone earlier id y stays t = stays t
-taken_more foreign n m gone earlier id y stays t = dropped_more gone earlier id y t
-taken_more outside n m gone earlier id y stays t = t
+taken_more sides.Formula n m gone earlier id y stays t = dropped_more gone earlier id y t
+taken_more sides.Own n m gone earlier id y stays t = stays t
+taken_more sides.Foreign n m gone earlier id y stays t = dropped_more gone earlier id y t
+taken_more sides.Outside n m gone earlier id y stays t = t
 
 -- one identity more
 take_more : (c : Setting) (n m : State) (gone : ℕ → Bool) (earlier : List ℕ) (id many : ℕ) → ((y : ℕ) → IsRetired (n y) → IsRetired (m y))
@@ -155,7 +157,7 @@ live_not_retired (live d) a b = b
 live_not_retired (retired d) a b = a
 
 -- an own identity that was live is retired
-took_own : (c : Setting) (n : State) (gone : ℕ → Bool) (earlier : List ℕ) (id many : ℕ) → side_of c id ≡ own → OwnAnswers n (events.retire c.stream id retiring.Done)
+took_own : (c : Setting) (n : State) (gone : ℕ → Bool) (earlier : List ℕ) (id many : ℕ) → side_of c id ≡ sides.Own → OwnAnswers n (events.retire c.stream id retiring.Done)
     → AreTaken c n gone earlier many → AreTaken c (after n (events.retire c.stream id retiring.Done)) gone (earlier ++ id ∷ []) (many + 1)
 unfolding OwnAnswers
 took_own c n gone earlier id many side is_live are =
@@ -166,16 +168,16 @@ took_own c n gone earlier id many side is_live are =
     (subst IsRetired (sym (put_same n id id (retire_slot (n id)) refl)) (retired_now (n id) is_live)))
     are
 
-took_formula : (c : Setting) (n : State) (gone : ℕ → Bool) (earlier : List ℕ) (id many : ℕ) → side_of c id ≡ formula → is_dropped gone earlier id ≡ false
+took_formula : (c : Setting) (n : State) (gone : ℕ → Bool) (earlier : List ℕ) (id many : ℕ) → side_of c id ≡ sides.Formula → (gone id || is_among earlier id) ≡ false
     → AreTaken c n gone earlier many → AreTaken c n gone (earlier ++ id ∷ []) (many + 1)
 took_formula c n gone earlier id many side new are = take_more c n n gone earlier id many (λ y is. is)
-    (λ t. let d : is_dropped gone earlier id ≡ true = subst (λ x. TakenAt x n gone earlier id) side t in let f : true ≡ false = sym d ∙ new in cc)
+    (λ t. let d : (gone id || is_among earlier id) ≡ true = subst (λ x. TakenAt x n gone earlier id) side t in let f : true ≡ false = sym d ∙ new in cc)
     (subst (λ x. TakenAt x n gone (earlier ++ id ∷ []) id) (sym side) (dropped_now gone earlier id)) are
 
-took_foreign : (c : Setting) (n : State) (gone : ℕ → Bool) (earlier : List ℕ) (id many : ℕ) → side_of c id ≡ foreign → is_dropped gone earlier id ≡ false
+took_foreign : (c : Setting) (n : State) (gone : ℕ → Bool) (earlier : List ℕ) (id many : ℕ) → side_of c id ≡ sides.Foreign → (gone id || is_among earlier id) ≡ false
     → AreTaken c n gone earlier many → AreTaken c n gone (earlier ++ id ∷ []) (many + 1)
 took_foreign c n gone earlier id many side new are = take_more c n n gone earlier id many (λ y is. is)
-    (λ t. let d : is_dropped gone earlier id ≡ true = subst (λ x. TakenAt x n gone earlier id) side t in let f : true ≡ false = sym d ∙ new in cc)
+    (λ t. let d : (gone id || is_among earlier id) ≡ true = subst (λ x. TakenAt x n gone earlier id) side t in let f : true ≡ false = sym d ∙ new in cc)
     (subst (λ x. TakenAt x n gone (earlier ++ id ∷ []) id) (sym side) (dropped_now gone earlier id)) are
 
 took_at : (side : Side) (c : Setting) (n : State) (gone : ℕ → Bool) (earlier : List ℕ) (id : ℕ) (ids : List ℕ) (many : ℕ) (es rest : History) (v : LineVerdict) (A : History → Type 0)
@@ -183,28 +185,28 @@ took_at : (side : Side) (c : Setting) (n : State) (gone : ℕ → Bool) (earlier
     → ((m : State) (left : History) → A left → OwnRun m (left ++ rest) → AreTaken c m gone (earlier ++ id ∷ []) (many + 1) → Took c m gone (earlier ++ id ∷ []) ids (many + 1) left v)
     → DeletesAt side c gone earlier id es v A → OwnRun n (es ++ rest) → AreTaken c n gone earlier many → Took c n gone earlier (id ∷ ids) many es v
 unfolding OwnRun
-took_at formula c n gone earlier id ids many es rest v A side next (inl bad) answers are = took_failed c n gone earlier (id ∷ ids) many es v (faults.NotLive id) bad.1.1 are
-took_at formula c n gone earlier id ids many es rest v A side next (inr good) answers are =
+took_at sides.Formula c n gone earlier id ids many es rest v A side next (inl bad) answers are = took_failed c n gone earlier (id ∷ ids) many es v (faults.NotLive id) bad.1.1 are
+took_at sides.Formula c n gone earlier id ids many es rest v A side next (inr good) answers are =
     took_back c n gone earlier id ids many es v (next n es good.1 answers (took_formula c n gone earlier id many side good.0 are))
-took_at foreign c n gone earlier id ids many es rest v A side next (inl bad) answers are = took_failed c n gone earlier (id ∷ ids) many es v (faults.NotLive id) bad.1.1 are
-took_at foreign c n gone earlier id ids many es rest v A side next (inr good) answers are =
+took_at sides.Foreign c n gone earlier id ids many es rest v A side next (inl bad) answers are = took_failed c n gone earlier (id ∷ ids) many es v (faults.NotLive id) bad.1.1 are
+took_at sides.Foreign c n gone earlier id ids many es rest v A side next (inr good) answers are =
     took_back c n gone earlier id ids many es v (next n es good.1 answers (took_foreign c n gone earlier id many side good.0 are))
-took_at outside c n gone earlier id ids many es rest v A side next at answers are = took_failed c n gone earlier (id ∷ ids) many es v (faults.NotLive id) at.1 are
-took_at own c n gone earlier id ids many es rest v A side next at answers are = elim at.decided [
+took_at sides.Outside c n gone earlier id ids many es rest v A side next at answers are = took_failed c n gone earlier (id ∷ ids) many es v (faults.NotLive id) at.1 are
+took_at sides.Own c n gone earlier id ids many es rest v A side next at answers are = elim at.decided [
   | inl good ↦
       let e = events.retire c.stream id retiring.Done in
       let here = subst (λ x. OwnRun n (x ++ rest)) good.0 answers in
       took_back c n gone earlier id ids many es v
       (took_later c n gone (earlier ++ id ∷ []) ids (many + 1) e es at.rest v good.0
       (next (after n e) at.rest good.1 here.1 (took_own c n gone earlier id many side here.0 are)))
-  | inr bad ↦ took_failed c n gone earlier (id ∷ ids) many es v (faults.NotLive id) bad.2 are
+  | inr bad ↦ took_failed c n gone earlier (id ∷ ids) many es v (faults.NotLive id) bad.1.1 are
 ]
 
 pub identities_took : (c : Setting) (n : State) (gone : ℕ → Bool) (earlier ids : List ℕ) (many : ℕ) (es rest : History) (v : LineVerdict)
-    → JudgesIdentities c gone earlier ids es v → OwnRun n (es ++ rest) → AreTaken c n gone earlier many → Took c n gone earlier ids many es v
+    → JudgesDeletion c gone earlier ids es v → OwnRun n (es ++ rest) → AreTaken c n gone earlier many → Took c n gone earlier ids many es v
 identities_took c n gone earlier [] many es rest v judged answers are = took_none c n gone earlier many es v judged.0 judged.1 are
 identities_took c n gone earlier (id ∷ ids) many es rest v judged answers are =
-    took_at (side_of c id) c n gone earlier id ids many es rest v (λ left. JudgesIdentities c gone (earlier ++ id ∷ []) ids left v) refl
+    took_at (side_of c id) c n gone earlier id ids many es rest v (λ left. JudgesDeletion c gone (earlier ++ id ∷ []) ids left v) refl
     (λ m left k answers are. identities_took c m gone (earlier ++ id ∷ []) ids (many + 1) left rest v k answers are)
     judged answers are
 
@@ -217,53 +219,53 @@ gone_bool true false false e h = absurd (let f : false ≡ true = h in cc)
 gone_bool false a b e h = absurd (let f : false ≡ true = e in cc)
 
 gone_more : (c : Setting) (before : List StreamLine) (line : StreamLine) (y : ℕ) → is_shared (side_of c y) ≡ true
-    → is_dropped (is_gone c before) (deleted_by line) y ≡ true → is_dropped (is_gone c (before ++ line ∷ [])) [] y ≡ true
+    → ((standing_of c before).gone y || is_among (deleted_by line) y) ≡ true → ((standing_of c (before ++ line ∷ [])).gone y || is_among [] y) ≡ true
 gone_more c before line y shared e =
     let test : StreamLine → Bool = λ l. is_among (deleted_by l) y in
     ap (λ b. (is_shared (side_of c y) && b) || false) (list_any-append test before (line ∷ []))
     ∙ gone_bool (is_shared (side_of c y)) (list_any test before) (test line) shared e
 
 taken_line : (side : Side) (c : Setting) (n m : State) (before : List StreamLine) (line : StreamLine) (y : ℕ) → side_of c y ≡ side → (IsRetired (n y) → IsRetired (m y))
-    → TakenAt side n (is_gone c before) (deleted_by line) y → TakenAt side m (is_gone c (before ++ line ∷ [])) [] y
-taken_line formula c n m before line y side stays t = gone_more c before line y (ap is_shared side) t
-taken_line own c n m before line y side stays t = stays t
-taken_line foreign c n m before line y side stays t = gone_more c before line y (ap is_shared side) t
-taken_line outside c n m before line y side stays t = t
+    → TakenAt side n (standing_of c before).gone (deleted_by line) y → TakenAt side m (standing_of c (before ++ line ∷ [])).gone [] y
+taken_line sides.Formula c n m before line y side stays t = gone_more c before line y (ap is_shared side) t
+taken_line sides.Own c n m before line y side stays t = stays t
+taken_line sides.Foreign c n m before line y side stays t = gone_more c before line y (ap is_shared side) t
+taken_line sides.Outside c n m before line y side stays t = t
 
 line_taken : (c : Setting) (n m : State) (before : List StreamLine) (line : StreamLine) (many : ℕ) → ((y : ℕ) → IsRetired (n y) → IsRetired (m y))
-    → AreTaken c n (is_gone c before) (deleted_by line) many → AreTaken c m (is_gone c (before ++ line ∷ [])) [] many
+    → AreTaken c n (standing_of c before).gone (deleted_by line) many → AreTaken c m (standing_of c (before ++ line ∷ [])).gone [] many
 line_taken c n m before line many stays are = record {
   ids = are.ids;
   apart = are.apart;
-  taken = all_map (Taken c n (is_gone c before) (deleted_by line)) (Taken c m (is_gone c (before ++ line ∷ [])) []) are.ids
+  taken = all_map (Taken c n (standing_of c before).gone (deleted_by line)) (Taken c m (standing_of c (before ++ line ∷ [])).gone []) are.ids
       (λ y t. taken_line (side_of c y) c n m before line y refl (stays y) t) are.taken;
   count = are.count;
 }
 
 line_took : (c : Setting) (n : State) (before : List StreamLine) (line : StreamLine) (many : ℕ) (es rest : History)
-    → JudgesLine c (standing_of c before) line es Good → OwnRun n (es ++ rest) → AreTaken c n (is_gone c before) [] many
-    → AreTaken c (run n es) (is_gone c (before ++ line ∷ [])) [] (many + length (deleted_by line))
+    → JudgesLine c (standing_of c before) line es Good → OwnRun n (es ++ rest) → AreTaken c n (standing_of c before).gone [] many
+    → AreTaken c (run n es) (standing_of c (before ++ line ∷ [])).gone [] (many + length (deleted_by line))
 line_took c n before (Addition id lits hints) many es rest judged answers are =
-    subst (AreTaken c (run n es) (is_gone c (before ++ Addition id lits hints ∷ [])) []) (omega arith)
+    subst (AreTaken c (run n es) (standing_of c (before ++ Addition id lits hints ∷ [])).gone []) (omega arith)
     (line_taken c n (run n es) before (Addition id lits hints) many (λ y is. run_retired n es rest y answers is) are)
 line_took c n before (Import id lits) many es rest judged answers are =
-    subst (AreTaken c (run n es) (is_gone c (before ++ Import id lits ∷ [])) []) (omega arith)
+    subst (AreTaken c (run n es) (standing_of c (before ++ Import id lits ∷ [])).gone []) (omega arith)
     (line_taken c n (run n es) before (Import id lits) many (λ y is. run_retired n es rest y answers is) are)
 line_took c n before (Deletion lead ids) many es rest judged answers are =
     line_taken c (run n es) (run n es) before (Deletion lead ids) (many + length ids) (λ y is. is)
-    (identities_took c n (is_gone c before) [] ids many es rest Good judged answers are)
+    (identities_took c n (standing_of c before).gone [] ids many es rest Good judged answers are)
 
 pub lines_took : (c : Setting) (n : State) (before lines : List StreamLine) (blocks : List History) (many : ℕ) (rest : History)
-    → AreGood c before lines blocks → OwnRun n (joined blocks ++ rest) → AreTaken c n (is_gone c before) [] many
-    → AreTaken c (run n (joined blocks)) (is_gone c (before ++ lines)) [] (many + sum_by (λ l. length (deleted_by l)) lines)
+    → AreGood c before lines blocks → OwnRun n (joined blocks ++ rest) → AreTaken c n (standing_of c before).gone [] many
+    → AreTaken c (run n (joined blocks)) (standing_of c (before ++ lines)).gone [] (many + sum_by (λ l. length (deleted_by l)) lines)
 lines_took c n before [] [] many rest good answers are =
-    subst (λ b. AreTaken c n (is_gone c b) [] (many + 0)) (sym (append-nil before)) (subst (AreTaken c n (is_gone c before) []) (omega arith) are)
+    subst (λ b. AreTaken c n (standing_of c b).gone [] (many + 0)) (sym (append-nil before)) (subst (AreTaken c n (standing_of c before).gone []) (omega arith) are)
 lines_took c n before [] (block ∷ blocks) many rest good answers are = absurd good
 lines_took c n before (line ∷ lines) [] many rest good answers are = absurd good
 lines_took c n before (line ∷ lines) (block ∷ blocks) many rest good answers are =
     let split = subst (OwnRun n) (append_assoc block (joined blocks) rest) answers in
     let one = line_took c n before line many block (joined blocks ++ rest) good.0 split are in
     let later = lines_took c (run n block) (before ++ line ∷ []) lines blocks (many + length (deleted_by line)) rest good.1 (run_on n block (joined blocks ++ rest) split) one in
-    subst (λ m. AreTaken c m (is_gone c (before ++ (line ∷ lines))) [] (many + sum_by (λ l. length (deleted_by l)) (line ∷ lines))) (sym (run-append n block (joined blocks)))
-    (subst (λ b. AreTaken c (run (run n block) (joined blocks)) (is_gone c b) [] (many + sum_by (λ l. length (deleted_by l)) (line ∷ lines))) (append_assoc before (line ∷ []) lines)
-    (subst (AreTaken c (run (run n block) (joined blocks)) (is_gone c ((before ++ line ∷ []) ++ lines)) []) (omega (arith, sum_by-append (λ l. length (deleted_by l)) (line ∷ []) lines)) later))
+    subst (λ m. AreTaken c m (standing_of c (before ++ (line ∷ lines))).gone [] (many + sum_by (λ l. length (deleted_by l)) (line ∷ lines))) (sym (run-append n block (joined blocks)))
+    (subst (λ b. AreTaken c (run (run n block) (joined blocks)) (standing_of c b).gone [] (many + sum_by (λ l. length (deleted_by l)) (line ∷ lines))) (append_assoc before (line ∷ []) lines)
+    (subst (AreTaken c (run (run n block) (joined blocks)) (standing_of c ((before ++ line ∷ []) ++ lines)).gone []) (omega (arith, sum_by-append (λ l. length (deleted_by l)) (line ∷ []) lines)) later))

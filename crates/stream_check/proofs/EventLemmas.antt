@@ -12,12 +12,14 @@ use Rattle.lrup_model.specs.Distinct.{distinct}
 use Rattle.lrup_model.specs.ListLemmas.{All-append}
 use Rattle.stream_check.specs.declared.fault.Fault.{Fault}
 use Rattle.stream_check.specs.declared.fault.Fault.TheVariants as faults
-use Rattle.stream_check.specs.Setting.{Setting, Side, formula, own, foreign, outside, side_of, is_shared}
+use Rattle.stream_check.specs.declared.setting.Side.{Side}
+use Rattle.stream_check.specs.declared.setting.Side.TheVariants as sides
+use Rattle.stream_check.specs.Setting.{Setting, side_of, is_shared}
 use Rattle.stream_check.specs.Standing.{Standing}
 use Rattle.stream_check.specs.Verdicts.{LineVerdict, Test}
 use Rattle.stream_check.specs.Asking.{AsksAt, Asks, AsksThen}
 use Rattle.stream_check.specs.Additions.{AtConflict, AtReply, JudgesHints, published_by}
-use Rattle.stream_check.specs.Deletions.{DeletesAt, JudgesIdentities}
+use Rattle.stream_check.specs.Deletions.{DeletesAt, JudgesDeletion}
 use Rattle.stream_check.specs.Imports.{AtImported}
 use Rattle.stream_check.specs.Judging.{JudgesLine}
 use Rattle.stream_check.specs.Reducing.{IsEarly, StartsWithFetchOf, TriesAgain}
@@ -71,20 +73,20 @@ module _ (c : Setting) (IsHint : ℕ → Type 0) (P : History → Type 0) (holds
 
   at_holds : (side : Side) (gone : ℕ → Bool) (earlier : List ℕ) (id : ℕ) (es : History) (v : LineVerdict) (A : History → Type 0)
       → ((rest : History) → A rest → P rest) → DeletesAt side c gone earlier id es v A → P es
-  at_holds formula gone earlier id es v A next (inl bad) = none_holds es bad.1.0
-  at_holds formula gone earlier id es v A next (inr good) = next es good.1
-  at_holds foreign gone earlier id es v A next (inl bad) = none_holds es bad.1.0
-  at_holds foreign gone earlier id es v A next (inr good) = next es good.1
-  at_holds outside gone earlier id es v A next at = none_holds es at.0
-  at_holds own gone earlier id es v A next at = elim at.decided [
+  at_holds sides.Formula gone earlier id es v A next (inl bad) = none_holds es bad.1.0
+  at_holds sides.Formula gone earlier id es v A next (inr good) = next es good.1
+  at_holds sides.Foreign gone earlier id es v A next (inl bad) = none_holds es bad.1.0
+  at_holds sides.Foreign gone earlier id es v A next (inr good) = next es good.1
+  at_holds sides.Outside gone earlier id es v A next at = none_holds es at.0
+  at_holds sides.Own gone earlier id es v A next at = elim at.decided [
     | inl good ↦ subst P (sym good.0) (holds.retired id at.rest (next at.rest good.1))
-    | inr bad ↦ subst P (sym (bad.0 ∙ ap (λ r. events.retire c.stream id retiring.NotLive ∷ r) bad.1)) (holds.refused id)
+    | inr bad ↦ subst P (sym (bad.0 ∙ ap (λ r. events.retire c.stream id retiring.NotLive ∷ r) bad.1.0)) (holds.refused id)
   ]
 
-  identities_hold : (gone : ℕ → Bool) (earlier ids : List ℕ) (es : History) (v : LineVerdict) → JudgesIdentities c gone earlier ids es v → P es
+  identities_hold : (gone : ℕ → Bool) (earlier ids : List ℕ) (es : History) (v : LineVerdict) → JudgesDeletion c gone earlier ids es v → P es
   identities_hold gone earlier [] es v judged = none_holds es judged.0
   identities_hold gone earlier (id ∷ ids) es v judged =
-      at_holds (side_of c id) gone earlier id es v (λ rest. JudgesIdentities c gone (earlier ++ id ∷ []) ids rest v)
+      at_holds (side_of c id) gone earlier id es v (λ rest. JudgesDeletion c gone (earlier ++ id ∷ []) ids rest v)
       (λ rest k. identities_hold gone (earlier ++ id ∷ []) ids rest v k) judged
 
   -- an import has no events behind its fetches
@@ -127,10 +129,10 @@ vacants_are P s id (suc k) r each = (each events.vacant, vacants_are P s id k r 
 
 -- the events of a hint are fetches of it
 asked_are : (side : Side) (P : Event → Type 0) (c : Setting) (h : ℕ) (es : History) (r : Reply) → ((x : Reply) → P (events.fetch c.stream h x)) → AsksAt side c h es r → AllByRecursion P es
-asked_are formula P c h es r each asks = subst (AllByRecursion P) (sym asks) (each r, tt)
-asked_are own P c h es r each asks = subst (AllByRecursion P) (sym asks) (each r, tt)
-asked_are foreign P c h es r each asks = subst (AllByRecursion P) (sym asks.3) (vacants_are P c.stream h asks.0 r each)
-asked_are outside P c h es r each asks = subst (AllByRecursion P) (sym asks.0) tt
+asked_are sides.Formula P c h es r each asks = subst (AllByRecursion P) (sym asks) (each r, tt)
+asked_are sides.Own P c h es r each asks = subst (AllByRecursion P) (sym asks) (each r, tt)
+asked_are sides.Foreign P c h es r each asks = subst (AllByRecursion P) (sym asks.3) (vacants_are P c.stream h asks.0 r each)
+asked_are sides.Outside P c h es r each asks = subst (AllByRecursion P) (sym asks.0) tt
 
 pub line_calls : LineCalls
 line_calls c st line es v judged =
@@ -190,13 +192,13 @@ tries_vacants s id (suc zero) r rest ends tries = (refl, tries_last s id r rest 
 tries_vacants s id (suc (suc k)) r rest ends tries = (refl, tries_vacants s id (suc k) r rest ends tries)
 
 tries_asked : (side : Side) (c : Setting) (h : ℕ) (asked rest : History) (r : Reply) → AsksAt side c h asked r → (r ≡ events.vacant → rest ≡ []) → TriesAgain rest → TriesAgain (asked ++ rest)
-tries_asked formula c h asked rest r asks ends tries = subst (λ a. TriesAgain (a ++ rest)) (sym asks) (tries_last c.stream h r rest ends tries)
-tries_asked own c h asked rest r asks ends tries = subst (λ a. TriesAgain (a ++ rest)) (sym asks) (tries_last c.stream h r rest ends tries)
-tries_asked foreign c h asked rest r asks ends tries =
+tries_asked sides.Formula c h asked rest r asks ends tries = subst (λ a. TriesAgain (a ++ rest)) (sym asks) (tries_last c.stream h r rest ends tries)
+tries_asked sides.Own c h asked rest r asks ends tries = subst (λ a. TriesAgain (a ++ rest)) (sym asks) (tries_last c.stream h r rest ends tries)
+tries_asked sides.Foreign c h asked rest r asks ends tries =
     subst (λ a. TriesAgain (a ++ rest)) (sym asks.3)
     (subst TriesAgain (sym (append_assoc (replicate asks.0 (events.fetch c.stream h events.vacant)) (events.fetch c.stream h r ∷ []) rest))
     (tries_vacants c.stream h asks.0 r rest ends tries))
-tries_asked outside c h asked rest r asks ends tries = subst (λ a. TriesAgain (a ++ rest)) (sym asks.0) tries
+tries_asked sides.Outside c h asked rest r asks ends tries = subst (λ a. TriesAgain (a ++ rest)) (sym asks.0) tries
 
 pub vacant_tries_again : VacantTriesAgain
 vacant_tries_again c st line es v judged =

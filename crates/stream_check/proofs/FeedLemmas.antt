@@ -1,6 +1,6 @@
 -- What a piece leaves of a checker.
 use Rattle.std.specs.Fmt.{decimal, signed_decimal}
-use Rattle.std.proofs.Common.{◌≡◌, ◌<◌, ◌^◌, ◌+◌, ℕ, Bool, true, false, List, [], ◌∷◌, ◌++◌, length, take, Option, None, Some, Ok, refl, sym, ap, subst, ◌∙◌, append_assoc, arith}
+use Rattle.std.proofs.Common.{◌≡◌, ◌<◌, ◌^◌, ℕ, Bool, true, false, List, [], ◌∷◌, ◌++◌, length, take, Option, None, Some, Ok, refl, sym, ap, subst, ◌∙◌, append_assoc, arith}
 use Rattle.std.specs.Prelude.{◌&&◌, is_some, map}
 use Rattle.std.specs.List.{flat_map}
 use Rattle.std.proofs.lemmas.List.{take_all}
@@ -8,7 +8,8 @@ use Rattle.lrup_model.specs.Cube.{CubeValue}
 use Rattle.lrup_model.specs.Layout.{LayoutValue}
 use Rattle.lrup_model.specs.Event.{History}
 use Rattle.lrup_model.specs.Place.{Place}
-use Rattle.lrup_text.specs.Grammar.{space, letter_d, letter_i, clause_text, list_text}
+use Rattle.lrup_text.specs.ByteNames.{space, letter_d, letter_i}
+use Rattle.lrup_text.specs.Grammar.{clause_text, list_text}
 use Rattle.lrup_text.specs.Lines.{StreamLine, Addition, Deletion, Import, Cut, IsPending, HasNoLine, LineText, line_text}
 use Rattle.lrup_text.specs.Feeding as feeding
 use Rattle.lrup_text.specs.Feeding.{ReaderState}
@@ -24,11 +25,11 @@ use Rattle.stream_check.specs.declared.report.Ending.{Ending}
 use Rattle.stream_check.specs.declared.report.Report.{Report}
 use Rattle.stream_check.specs.declared.held.Held.{Held}
 use Rattle.stream_check.specs.Setting.{Setting, side_of, is_shared}
-use Rattle.stream_check.specs.Standing.{Tally, tally_of, is_among, capped}
-use Rattle.stream_check.specs.Judging.{ending_at, report_of, JudgesBlocks}
+use Rattle.stream_check.specs.Standing.{is_among}
+use Rattle.stream_check.specs.Judging.{ending_at, JudgesBlocks}
 use Rattle.stream_check.specs.Leaving.{Going, Over, Leaves, IsFresh}
-use Rattle.stream_check.specs.CheckerValue.{CheckerValue}
-use Rattle.stream_check.specs.Checker.{read_of, value_of, checker_state, state_by, holding_of, report_at, tally_at, IsReadyAt, IsSound, LeavesOn, IsNew, EndsBy, Ends, ReportsEnd}
+use Rattle.stream_check.specs.CheckerValue.{Tally, report_of_tally, CheckerValue}
+use Rattle.stream_check.specs.Checker.{read_of, value_of, checker_state, state_by, holding_of, tally_at, IsReadyAt, IsSound, LeavesOn, IsNew, EndsBy, Ends, ReportsEnd}
 use Rattle.stream_check.specs.Taking.{IsReady, hold}
 use Rattle.stream_check.proofs.LeavingLemmas.{end_judged, line_grows, all_snoc}
 use Rattle.stream_check.proofs.StandingLemmas.{same_tally}
@@ -122,23 +123,19 @@ ends_over end v ending over = subst (λ (o : Option Ending). EndsBy o end v v) (
 
 pub reports_over : (end : StreamEnd) (v : CheckerValue) (ending : Ending) → v.ending ≡ Some ending → ReportsEnd end v v
 reports_over end v ending over bytes blocks free leaves =
-    (ending, over, either_report v.setting bytes blocks end (report_at v.tally ending) (subst (λ (o : Option Ending). Leaves v.setting bytes blocks (state_by v free o)) over leaves))
+    (ending, over, either_report v.setting bytes blocks end (report_of_tally v.tally ending) (subst (λ (o : Option Ending). Leaves v.setting bytes blocks (state_by v free o)) over leaves))
 
 -- one that isn't over has this ending then
 pub ends_now : (end : StreamEnd) (old new : CheckerValue) → old.ending ≡ None → new.setting ≡ old.setting → new.tally ≡ old.tally → new.ending ≡ Some (ending_at end old.pending old.line) → new.last ≡ old.last → Ends end old new
 ends_now end old new none setting tally ending last = subst (λ (o : Option Ending). EndsBy o end old new) (sym none) (setting, tally, ending, last)
 
-report_is : (old new : Tally) (said : Ending) → capped (old.deleted + 0) ≡ old.deleted → new ≡ old → report_of old 0 said ≡ report_at new said
-report_is old new said small same = ap (λ (n : ℕ). record { added = old.added; deleted = n; empty = old.empty; within = old.within; ending = said }) small ∙ ap (λ (t : Tally). report_at t said) (sym same)
-
 pub reports_now : (end : StreamEnd) (old new : CheckerValue) → old.ending ≡ None → new.tally ≡ old.tally → new.ending ≡ Some (ending_at end old.pending old.line) → ReportsEnd end old new
 reports_now end old new none tally ending bytes blocks free leaves =
     let said : Ending = ending_at end old.pending old.line in
-    let going : Leaves old.setting bytes blocks (Going (holding_of old free)) = subst (λ (o : Option Ending). Leaves old.setting bytes blocks (state_by old free o)) none leaves in
-    let small : capped (old.tally.deleted + 0) ≡ old.tally.deleted = omega (arith, ap (λ (t : Tally). t.deleted) going.tally) in (
+    let going : Leaves old.setting bytes blocks (Going (holding_of old free)) = subst (λ (o : Option Ending). Leaves old.setting bytes blocks (state_by old free o)) none leaves in (
       said,
       ending,
-      subst (JudgesBlocks old.setting bytes end blocks) (report_is old.tally new.tally said small tally) (end_judged old.setting bytes blocks (holding_of old free) end going),
+      subst (JudgesBlocks old.setting bytes end blocks) (ap (λ (t : Tally). report_of_tally t said) (sym tally)) (end_judged old.setting bytes blocks (holding_of old free) end going),
     )
 
 -- the end of the lines, where a line is open and where none is
@@ -167,7 +164,7 @@ new_left law layout cube stream tries h r setting last dropped retired added emp
     let c : Setting = h.setting in
     let same : c.layout ≡ layout = ap (λ (s : Setting). s.layout) setting in
     let fresh : IsFresh c (hold h (read_of r) layout.room) = record {
-      tally = same_tally (tally_at h) (tally_of c []) added (omega (arith, retired, ap (λ (ids : List ℕ). length ids) dropped)) empty within;
+      tally = same_tally (tally_at h) (record { added = 0; deleted = 0; empty = false; within = false }) added (omega (arith, retired, ap (λ (ids : List ℕ). length ids) dropped)) empty within;
       standing = record {
         last = last ∙ sym (ap (λ (l : LayoutValue). l.clauses) same);
         free = omega (arith, ap (λ (l : LayoutValue). l.room) same);

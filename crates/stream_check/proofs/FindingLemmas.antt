@@ -16,7 +16,9 @@ use Rattle.lrup_model.specs.ClauseLemmas.{int_cases}
 use Rattle.lrup_model.specs.DistinctLemmas.{Has-distinct, IsTautology-distinct}
 use Rattle.stream_check.specs.declared.fault.Fault.{Fault}
 use Rattle.stream_check.specs.declared.fault.Fault.TheVariants as faults
-use Rattle.stream_check.specs.Setting.{Setting, Side, formula, own, foreign, outside, side_of}
+use Rattle.stream_check.specs.declared.setting.Side.{Side}
+use Rattle.stream_check.specs.declared.setting.Side.TheVariants as sides
+use Rattle.stream_check.specs.Setting.{Setting, side_of}
 use Rattle.stream_check.specs.Standing.{Standing}
 use Rattle.stream_check.specs.Verdicts.{Good, Bad, Fails}
 use Rattle.stream_check.specs.Asking.{AsksAt, Asks}
@@ -65,7 +67,7 @@ pub record Shown (c : Setting) (gone : ℕ → Bool) (published : Event) (n : Li
   pub refutes : Refutes n clauses
   pub ends : es ≡ fetches ++ published ∷ []
 
-fails_not : (fault : Fault) (es : History) → Fails fault es Good → ⊥
+fails_not : (fault : Fault) (es : History) → Fails 0 fault es Good → ⊥
 fails_not fault es f = let e : Good ≡ Bad 0 fault = f.1 in cc
 
 refutes_more : (n : List ℤ) (d : Clause) (ds : List Clause) (l : ℤ) → IsUnit n d l → Refutes (n ++ neg_ℤ l ∷ []) ds → Refutes n (d ∷ ds)
@@ -207,12 +209,12 @@ all_front P (e ∷ a) b all = let rest = all_front P a b all.1 in ((all.0, rest.
 
 -- a hint that is live at last has an event that shows its clause
 live_sound : (side : Side) (f : Cnf) (c : Setting) (h : ℕ) (asked : History) (d : Clause) → AsksAt side c h asked (events.live d) → AllByRecursion (FindsSound f) asked → IsClause f.vars d × Follows f d
-live_sound formula f c h asked d asks all = (subst (AllByRecursion (FindsSound f)) asks all).0
-live_sound own f c h asked d asks all = (subst (AllByRecursion (FindsSound f)) asks all).0
-live_sound foreign f c h asked d asks all =
+live_sound sides.Formula f c h asked d asks all = (subst (AllByRecursion (FindsSound f)) asks all).0
+live_sound sides.Own f c h asked d asks all = (subst (AllByRecursion (FindsSound f)) asks all).0
+live_sound sides.Foreign f c h asked d asks all =
     (all_front (FindsSound f) (replicate asks.0 (events.fetch c.stream h events.vacant)) (events.fetch c.stream h (events.live d) ∷ [])
     (subst (AllByRecursion (FindsSound f)) asks.3 all)).1.0
-live_sound outside f c h asked d asks all = absurd (let e : events.live d ≡ events.vacant = asks.1 in cc)
+live_sound sides.Outside f c h asked d asks all = absurd (let e : events.live d ≡ events.vacant = asks.1 in cc)
 
 found_sound : (f : Cnf) (c : Setting) (gone : ℕ → Bool) (hints : List ℕ) (ds : List Clause) (es : History) → AreFound c gone hints ds es → AllByRecursion (FindsSound f) es → AllByRecursion (λ d. IsClause f.vars d × Follows f d) ds
 found_sound f c gone [] [] es found all = tt

@@ -1,5 +1,5 @@
 -- What a checker is left as.
-use Rattle.std.proofs.Common.{◌≡◌, ◌+◌, ◌-◌, ◌^◌, min, ℕ, List, [], ◌∷◌, ◌++◌, length, inl, inr, refl, sym, ap, subst, ◌∙◌, arith, append_assoc, append-nil, length-append}
+use Rattle.std.proofs.Common.{◌≡◌, ◌+◌, ◌-◌, ◌^◌, min, ℕ, List, [], ◌∷◌, ◌++◌, length, refl, sym, ap, subst, ◌∙◌, arith, append_assoc, append-nil, length-append}
 use Rattle.std.specs.List.{flat_map, AllByRecursion}
 use Rattle.std.proofs.lemmas.Grind.{flat_map-append}
 use Rattle.lrup_model.specs.Event.{History}
@@ -14,13 +14,14 @@ use Rattle.stream_check.specs.declared.report.Ending.{Ending}
 use Rattle.stream_check.specs.declared.report.Ending.TheVariants as endings
 use Rattle.stream_check.specs.declared.report.Report.{Report}
 use Rattle.stream_check.specs.Setting.{Setting}
-use Rattle.stream_check.specs.Standing.{Standing, standing_of, tally_of, line_number}
+use Rattle.stream_check.specs.Standing.{Standing, standing_of, capped}
 use Rattle.stream_check.specs.Verdicts.{Good, Bad}
 use Rattle.stream_check.specs.Deletions.{StopsDeletion}
-use Rattle.stream_check.specs.Judging.{JudgesLine, AreGood, BeginsGood, report_of, EndsAtLine, EndsAtText, EndsAtMemory, EndsAtEnd, EndsAfter, ending_at, JudgesBlocks}
+use Rattle.stream_check.specs.Judging.{JudgesLine, AreGood, report_of, EndsAfter, at_bad_line, at_bad_text, at_memory, at_end, ending_at, JudgesBlocks}
+use Rattle.stream_check.specs.CheckerValue.{Tally, report_of_tally}
 use Rattle.stream_check.specs.Leaving.{Holding, SameStanding, LeavesGoing, standing_after, tally_after}
 use Rattle.stream_check.specs.Laws.{FreshLeft, PendingGrows, GoodLineTaken, BadLineTaken, BadTextRead, MemoryWanted, EndJudged, OverStays, IsDecided, EitherEnd, DecidedBeforeFailure}
-use Rattle.stream_check.proofs.StandingLemmas.{standing_of-snoc, tally_of-snoc, same_standing}
+use Rattle.stream_check.proofs.StandingLemmas.{standing_of-snoc, counts_of, tally_is, tally_says, counts_of-snoc, same_standing}
 
 -- one good line more, with its block
 good_snoc : (c : Setting) (before lines : List StreamLine) (blocks : List History) (line : StreamLine) (block : History)
@@ -68,7 +69,7 @@ fresh_left texts none c now fresh =
       cut = here.0;
       pending = here.1;
       good = tt;
-      tally = fresh.tally;
+      tally = tally_says c [] now.tally fresh.tally;
       standing = fresh.standing;
       line = fresh.line;
     }
@@ -88,7 +89,7 @@ pending_grows c bytes piece blocks old before pending = record {
 by_lines : (c : Setting) (old : Holding) (lines : List StreamLine) (P : Standing → Type 0) → SameStanding old.standing (standing_of c lines) → P old.standing → P (standing_of c lines)
 by_lines c old lines P same holds = subst P (same_standing old.standing (standing_of c lines) same) holds
 
-next_number : (lines : List StreamLine) (line : StreamLine) → min (line_number (length lines) + 1) (2 ^ 64 - 1) ≡ line_number (length (lines ++ line ∷ []))
+next_number : (lines : List StreamLine) (line : StreamLine) → min (capped (length lines + 1) + 1) (2 ^ 64 - 1) ≡ capped (length (lines ++ line ∷ []) + 1)
 next_number lines line = omega (arith, length-append lines (line ∷ []))
 
 same_trans : (a b d : Standing) → SameStanding a b → SameStanding b d → SameStanding a d
@@ -112,7 +113,8 @@ good_line_taken texts none c bytes piece blocks block old new line before text j
       cut = rest.0;
       pending = rest.1;
       good = good_snoc c [] lines blocks line block before.good here;
-      tally = taken.tally ∙ ap (λ t. tally_after c t line) before.tally ∙ tally_of-snoc c lines line;
+      tally = tally_says c (lines ++ line ∷ []) new.tally
+          (taken.tally ∙ ap (λ t. tally_after c t line) (tally_is c lines old.tally before.tally) ∙ counts_of-snoc c lines line);
       standing = same_trans new.standing (standing_after c (standing_of c lines) line) (standing_of c (lines ++ line ∷ []))
           (subst (λ st. SameStanding new.standing (standing_after c st line)) same_old taken.standing)
           (standing_of-snoc c lines line block here);
@@ -130,55 +132,53 @@ ends_behind c bytes piece blocks back old end report before ends = record {
   front = blocks;
   back = back;
   split = refl;
-  begins = record { text = text_grows (flat_map line_text before.lines) bytes old.pending piece before.cut.bytes; fits = before.cut.each; good = before.good };
+  text = text_grows (flat_map line_text before.lines) bytes old.pending piece before.cut.bytes;
+  fits = before.cut.each;
+  good = before.good;
   ends = ends;
 }
 
 -- the same report by what the checker holds and by the lines
-held_report : (c : Setting) (bytes : List ℕ) (blocks : List History) (old : Holding) (deleted : ℕ) (ending : ℕ → Ending) → (before : LeavesGoing c bytes blocks old)
-    → report_of old.tally deleted (ending old.line) ≡ report_of (tally_of c before.lines) deleted (ending (line_number (length before.lines)))
-held_report c bytes blocks old deleted ending before =
-    ap (λ t. report_of t deleted (ending old.line)) before.tally ∙ ap (λ n. report_of (tally_of c before.lines) deleted (ending n)) before.line
+held_report : (c : Setting) (bytes : List ℕ) (blocks : List History) (old : Holding) (ending : ℕ → Ending) → (before : LeavesGoing c bytes blocks old)
+    → report_of_tally old.tally (ending old.line) ≡ report_of c before.lines 0 (ending (capped (length before.lines + 1)))
+held_report c bytes blocks old ending before =
+    before.tally (ending old.line) ∙ ap (λ n. report_of c before.lines 0 (ending n)) before.line
+
+-- these counts, and so many deleted identities more
+abbrev with_deleted : Tally → ℕ → Tally
+with_deleted t deleted = record t { deleted = capped (t.deleted + deleted) }
+
+-- and where so many identities more were deleted
+held_more : (c : Setting) (bytes : List ℕ) (blocks : List History) (old : Holding) (deleted : ℕ) (ending : ℕ → Ending) → (before : LeavesGoing c bytes blocks old)
+    → report_of_tally (with_deleted old.tally deleted) (ending old.line) ≡ report_of c before.lines deleted (ending (capped (length before.lines + 1)))
+held_more c bytes blocks old deleted ending before =
+    let r : Report = report_of c before.lines deleted (ending old.line) in
+    let count : (with_deleted (counts_of c before.lines) deleted).deleted ≡ r.deleted = omega arith in
+    ap (λ (t : Tally). report_of_tally (with_deleted t deleted) (ending old.line)) (tally_is c before.lines old.tally before.tally)
+    ∙ ap (λ (n : ℕ). record r { deleted = n }) count
+    ∙ ap (λ n. report_of c before.lines deleted (ending n)) before.line
 
 whole_text : (line : StreamLine) (bytes : List ℕ) → LineText line bytes → bytes ≡ line_text line ++ []
 whole_text line bytes text = text.1 ∙ sym (append-nil (line_text line))
 
 pub bad_line_taken : BadLineTaken
 bad_line_taken c bytes piece blocks block old line deleted fault before text judged =
-    let lines = before.lines in
-    let at_line : EndsAtLine c lines (old.pending ++ piece) (block ∷ []) (report_of old.tally deleted (endings.Bad old.line fault)) = record {
-      line = line;
-      more = [];
-      text = whole_text line (old.pending ++ piece) text;
-      fits = text.0;
-      block = block;
-      one_block = refl;
-      deleted = deleted;
-      fault = fault;
-      bad = by_lines c old lines (λ st. JudgesLine c st line block (Bad deleted fault)) before.standing judged;
-      says = held_report c bytes blocks old deleted (λ n. endings.Bad n fault) before;
-    } in
-    let judges : (end : StreamEnd) → JudgesBlocks c (bytes ++ piece) end (blocks ++ block ∷ []) (report_of old.tally deleted (endings.Bad old.line fault)) =
-    λ end. ends_behind c bytes piece blocks (block ∷ []) old end (report_of old.tally deleted (endings.Bad old.line fault)) before (inl at_line) in
+    let report = report_of_tally (with_deleted old.tally deleted) (endings.Bad old.line fault) in
+    let judges : (end : StreamEnd) → JudgesBlocks c (bytes ++ piece) end (blocks ++ block ∷ []) report =
+    λ end. ends_behind c bytes piece blocks (block ∷ []) old end report before
+    (at_bad_line line [] (whole_text line (old.pending ++ piece) text) text.0 block refl deleted fault
+    (by_lines c old before.lines (λ st. JudgesLine c st line block (Bad deleted fault)) before.standing judged)
+    (held_more c bytes blocks old deleted (λ n. endings.Bad n fault) before)) in
     (judges stream_ends.Ended, judges stream_ends.Failed)
 
 pub memory_wanted : MemoryWanted
 memory_wanted c bytes piece blocks block old lead ids earlier before text stops =
-    let lines = before.lines in
-    let at_memory : EndsAtMemory c lines (old.pending ++ piece) (block ∷ []) (report_of old.tally (length earlier) (endings.Memory old.line)) = record {
-      lead = lead;
-      ids = ids;
-      more = [];
-      text = whole_text (Deletion lead ids) (old.pending ++ piece) text;
-      fits = text.0;
-      block = block;
-      one_block = refl;
-      earlier = earlier;
-      stops = by_lines c old lines (λ st. StopsDeletion c st.gone ids block earlier) before.standing stops;
-      says = held_report c bytes blocks old (length earlier) (λ n. endings.Memory n) before;
-    } in
-    let judges : (end : StreamEnd) → JudgesBlocks c (bytes ++ piece) end (blocks ++ block ∷ []) (report_of old.tally (length earlier) (endings.Memory old.line)) =
-    λ end. ends_behind c bytes piece blocks (block ∷ []) old end (report_of old.tally (length earlier) (endings.Memory old.line)) before (inr (inr (inl at_memory))) in
+    let report = report_of_tally (with_deleted old.tally (length earlier)) (endings.Memory old.line) in
+    let judges : (end : StreamEnd) → JudgesBlocks c (bytes ++ piece) end (blocks ++ block ∷ []) report =
+    λ end. ends_behind c bytes piece blocks (block ∷ []) old end report before
+    (at_memory lead ids [] (whole_text (Deletion lead ids) (old.pending ++ piece) text) text.0 block refl earlier
+    (by_lines c old before.lines (λ st. StopsDeletion c st.gone ids block earlier) before.standing stops)
+    (held_more c bytes blocks old (length earlier) (λ n. endings.Memory n) before)) in
     (judges stream_ends.Ended, judges stream_ends.Failed)
 
 refused_alone : (bytes : List ℕ) (fault : LineFault) → IsRefused bytes fault → HasTextFault bytes fault
@@ -186,40 +186,29 @@ refused_alone bytes fault refused = (bytes, [], sym (append-nil bytes), refused)
 
 pub bad_text_read : BadTextRead
 bad_text_read c bytes piece blocks old fault before refused =
-    let lines = before.lines in
-    let report = report_of old.tally 0 (endings.Bad old.line (faults.Text fault)) in
-    let at_text : EndsAtText c lines (old.pending ++ piece) [] report = record {
-      fault = fault;
-      text = refused_alone (old.pending ++ piece) fault refused;
-      no_block = refl;
-      says = held_report c bytes blocks old 0 (λ n. endings.Bad n (faults.Text fault)) before;
-    } in
+    let report = report_of_tally old.tally (endings.Bad old.line (faults.Text fault)) in
     let judges : (end : StreamEnd) → JudgesBlocks c (bytes ++ piece) end blocks report =
     λ end. subst (λ b. JudgesBlocks c (bytes ++ piece) end b report) (append-nil blocks)
-    (ends_behind c bytes piece blocks [] old end report before (inr (inl at_text))) in
+    (ends_behind c bytes piece blocks [] old end report before
+    (at_bad_text fault (refused_alone (old.pending ++ piece) fault refused) refl
+    (held_report c bytes blocks old (λ n. endings.Bad n (faults.Text fault)) before))) in
     (judges stream_ends.Ended, judges stream_ends.Failed)
 
 pub end_judged : EndJudged
 end_judged c bytes blocks old end before =
     let lines = before.lines in
-    let report = report_of old.tally 0 (ending_at end old.pending old.line) in
-    let at_end : EndsAtEnd c lines (old.pending ++ []) end [] report = record {
-      pending = subst IsPending (sym (append-nil old.pending)) before.pending;
-      no_block = refl;
-      says = held_report c bytes blocks old 0 (λ n. ending_at end old.pending n) before
-          ∙ ap (λ rest. report_of (tally_of c lines) 0 (ending_at end rest (line_number (length lines)))) (sym (append-nil old.pending));
-    } in
+    let report = report_of_tally old.tally (ending_at end old.pending old.line) in
     subst (λ b. JudgesBlocks c b end blocks report) (append-nil bytes)
     (subst (λ b. JudgesBlocks c (bytes ++ []) end b report) (append-nil blocks)
-    (ends_behind c bytes [] blocks [] old end report before (inr (inr (inr at_end)))))
+    (ends_behind c bytes [] blocks [] old end report before
+    (at_end (subst IsPending (sym (append-nil old.pending)) before.pending) refl
+    (held_report c bytes blocks old (λ n. ending_at end old.pending n) before
+    ∙ ap (λ rest. report_of c lines 0 (ending_at end rest (capped (length lines + 1)))) (sym (append-nil old.pending))))))
 
 -- More bytes
 
 fault_stays : (rest more : List ℕ) (fault : LineFault) → HasTextFault rest fault → HasTextFault (rest ++ more) fault
 fault_stays rest more fault text = (text.0, text.1 ++ more, ap (λ r. r ++ more) text.2 ∙ append_assoc text.0 text.1 more, text.3)
-
-begins_longer : (c : Setting) (bytes more : List ℕ) (lines : List StreamLine) (rest : List ℕ) (front : List History) → BeginsGood c bytes lines rest front → BeginsGood c (bytes ++ more) lines (rest ++ more) front
-begins_longer c bytes more lines rest front begins = record { text = text_grows (flat_map line_text lines) bytes rest more begins.text; fits = begins.fits; good = begins.good }
 
 judges_longer : (c : Setting) (bytes more : List ℕ) (end other : StreamEnd) (blocks : List History) (report : Report) → (j : JudgesBlocks c bytes end blocks report)
     → EndsAfter c j.lines (j.rest ++ more) other j.back report → JudgesBlocks c (bytes ++ more) other blocks report
@@ -229,55 +218,24 @@ judges_longer c bytes more end other blocks report j ends = record {
   front = j.front;
   back = j.back;
   split = j.split;
-  begins = begins_longer c bytes more j.lines j.rest j.front j.begins;
+  text = text_grows (flat_map line_text j.lines) bytes j.rest more j.text;
+  fits = j.fits;
+  good = j.good;
   ends = ends;
 }
 
-line_longer : (c : Setting) (lines : List StreamLine) (rest more : List ℕ) (back : List History) (report : Report) → EndsAtLine c lines rest back report → EndsAtLine c lines (rest ++ more) back report
-line_longer c lines rest more back report e = record {
-  line = e.line;
-  more = e.more ++ more;
-  text = ap (λ r. r ++ more) e.text ∙ append_assoc (line_text e.line) e.more more;
-  fits = e.fits;
-  block = e.block;
-  one_block = e.one_block;
-  deleted = e.deleted;
-  fault = e.fault;
-  bad = e.bad;
-  says = e.says;
-}
-
-memory_longer : (c : Setting) (lines : List StreamLine) (rest more : List ℕ) (back : List History) (report : Report) → EndsAtMemory c lines rest back report → EndsAtMemory c lines (rest ++ more) back report
-memory_longer c lines rest more back report e = record {
-  lead = e.lead;
-  ids = e.ids;
-  more = e.more ++ more;
-  text = ap (λ r. r ++ more) e.text ∙ append_assoc (line_text (Deletion e.lead e.ids)) e.more more;
-  fits = e.fits;
-  block = e.block;
-  one_block = e.one_block;
-  earlier = e.earlier;
-  stops = e.stops;
-  says = e.says;
-}
-
-text_longer : (c : Setting) (lines : List StreamLine) (rest more : List ℕ) (back : List History) (report : Report) → EndsAtText c lines rest back report → EndsAtText c lines (rest ++ more) back report
-text_longer c lines rest more back report e = record { fault = e.fault; text = fault_stays rest more e.fault e.text; no_block = e.no_block; says = e.says }
-
 -- what is judged by a line, a text or memory that ran out is so for either end, whatever follows; what is judged by its end is left
 before_end : (c : Setting) (bytes more : List ℕ) (end other : StreamEnd) (blocks : List History) (report : Report) → (j : JudgesBlocks c bytes end blocks report)
-    → (EndsAtEnd c j.lines j.rest end j.back report → JudgesBlocks c (bytes ++ more) other blocks report)
+    → (report ≡ report_of c j.lines 0 (ending_at end j.rest (capped (length j.lines + 1))) → JudgesBlocks c (bytes ++ more) other blocks report)
     → JudgesBlocks c (bytes ++ more) other blocks report
-before_end c bytes more end other blocks report j at_end =
+before_end c bytes more end other blocks report j last =
     elim j.ends [
-      | inl line ↦ judges_longer c bytes more end other blocks report j (inl (line_longer c j.lines j.rest more j.back report line))
-      | inr rest ↦ elim rest [
-        | inl text ↦ judges_longer c bytes more end other blocks report j (inr (inl (text_longer c j.lines j.rest more j.back report text)))
-        | inr rest ↦ elim rest [
-          | inl memory ↦ judges_longer c bytes more end other blocks report j (inr (inr (inl (memory_longer c j.lines j.rest more j.back report memory))))
-          | inr last ↦ at_end last
-        ]
-      ]
+      | at_bad_line line after text fits block one_block deleted fault bad says ↦ judges_longer c bytes more end other blocks report j
+          (at_bad_line line (after ++ more) (ap (λ r. r ++ more) text ∙ append_assoc (line_text line) after more) fits block one_block deleted fault bad says)
+      | at_bad_text fault text no_block says ↦ judges_longer c bytes more end other blocks report j (at_bad_text fault (fault_stays j.rest more fault text) no_block says)
+      | at_memory lead ids after text fits block one_block earlier stops says ↦ judges_longer c bytes more end other blocks report j
+          (at_memory lead ids (after ++ more) (ap (λ r. r ++ more) text ∙ append_assoc (line_text (Deletion lead ids)) after more) fits block one_block earlier stops says)
+      | at_end pending no_block says ↦ last says
     ]
 
 -- an ending by the end isn't decided before it
@@ -288,26 +246,26 @@ not_decided stream_ends.Failed rest number decided = decided
 
 pub either_end : EitherEnd
 either_end c bytes more end other blocks report decided j = before_end c bytes more end other blocks report j
-    (λ last. absurd (not_decided end j.rest (line_number (length j.lines)) (subst IsDecided (ap (λ (r : Report). r.ending) last.says) decided)))
+    (λ says. absurd (not_decided end j.rest (capped (length j.lines + 1)) (subst IsDecided (ap (λ (r : Report). r.ending) says) decided)))
 
 pub decided_before_failure : DecidedBeforeFailure
 decided_before_failure c bytes more end blocks report untold j = before_end c bytes more stream_ends.Failed end blocks report j
-    (λ last. absurd (untold (line_number (length j.lines), ap (λ (r : Report). r.ending) last.says)))
+    (λ says. absurd (untold (capped (length j.lines + 1), ap (λ (r : Report). r.ending) says)))
 
 -- the ending that a failed read has is no other's
 says_failed : (c : Setting) (lines others : List StreamLine) (rest left : List ℕ) (report : Report)
-    → report ≡ report_of (tally_of c lines) 0 (ending_at stream_ends.Ended rest (line_number (length lines)))
-    → report ≡ report_of (tally_of c others) 0 (ending_at stream_ends.Failed left (line_number (length others))) → ⊥
-says_failed c lines others [] left report a b = let e : endings.Ended ≡ endings.ReadFailed (line_number (length others)) = ap (λ (r : Report). r.ending) (sym a ∙ b) in cc
-says_failed c lines others (byte ∷ rest) left report a b = let e : endings.Bad (line_number (length lines)) _ ≡ endings.ReadFailed (line_number (length others)) = ap (λ (r : Report). r.ending) (sym a ∙ b) in cc
+    → report ≡ report_of c lines 0 (ending_at stream_ends.Ended rest (capped (length lines + 1)))
+    → report ≡ report_of c others 0 (ending_at stream_ends.Failed left (capped (length others + 1))) → ⊥
+says_failed c lines others [] left report a b = let e : endings.Ended ≡ endings.ReadFailed (capped (length others + 1)) = ap (λ (r : Report). r.ending) (sym a ∙ b) in cc
+says_failed c lines others (byte ∷ rest) left report a b = let e : endings.Bad (capped (length lines + 1)) _ ≡ endings.ReadFailed (capped (length others + 1)) = ap (λ (r : Report). r.ending) (sym a ∙ b) in cc
 
 -- A report that fits both ends is decided before the end, so that it fits whatever follows.
 over_longer : (c : Setting) (bytes more : List ℕ) (blocks : List History) (report : Report) (end : StreamEnd)
     → JudgesBlocks c bytes stream_ends.Ended blocks report → JudgesBlocks c bytes stream_ends.Failed blocks report → JudgesBlocks c (bytes ++ more) end blocks report
 over_longer c bytes more blocks report end a b =
     before_end c bytes more stream_ends.Ended end blocks report a
-    (λ at_end. before_end c bytes more stream_ends.Failed end blocks report b
-    (λ failed_end. absurd (says_failed c a.lines b.lines a.rest b.rest report at_end.says failed_end.says)))
+    (λ says. before_end c bytes more stream_ends.Failed end blocks report b
+    (λ told. absurd (says_failed c a.lines b.lines a.rest b.rest report says told)))
 
 pub over_stays : OverStays
 over_stays c bytes more blocks report over = (over_longer c bytes more blocks report stream_ends.Ended over.0 over.1, over_longer c bytes more blocks report stream_ends.Failed over.0 over.1)

@@ -6,11 +6,11 @@ use Rattle.std.proofs.lemmas.Bool.{cases_eq}
 use Rattle.std.proofs.Math.Dec.{eqb-suc-zero}
 use Rattle.lrup_model.specs.Layout.{Owns}
 use Rattle.lrup_model.specs.Event as events
-use Rattle.lrup_model.specs.Event.{Event, History, stream_of, size_of, own, spent}
-use Rattle.lrup_model.specs.State.{State, Slot, absent, live, put, retire_slot, run}
+use Rattle.lrup_model.specs.Event.{Event, History, stream_of, own, spent}
+use Rattle.lrup_model.specs.State.{State, Slot, absent, live, retire_slot, run}
 use Rattle.lrup_model.specs.Place.{Caller, Place, Tells, IsVacantAbove}
 use Rattle.lrup_model.specs.Running.{run-append, spent-append}
-use Rattle.lrup_model.specs.HistoryLemmas.{put-same, put-other, spent_one}
+use Rattle.lrup_model.specs.HistoryLemmas.{put, put-same, put-other, spent_one}
 use Rattle.lrup_model.specs.declared.clause_map.Retired.TheVariants as retiring
 use Rattle.lrup_text.specs.Lines.{StreamLine, Addition, Deletion, Import}
 use Rattle.lrup_model.specs.Distinct.{distinct}
@@ -19,7 +19,7 @@ use Rattle.stream_check.specs.declared.held.Held.{Held}
 use Rattle.stream_check.specs.declared.deletion.LineStop.{LineStop}
 use Rattle.stream_check.specs.declared.deletion.LineStop.TheVariants as stops
 use Rattle.stream_check.specs.Setting.{Setting, side_of, is_shared}
-use Rattle.stream_check.specs.Standing.{Standing, capped, is_among, adds_empty, is_within}
+use Rattle.stream_check.specs.Standing.{Standing, capped, is_among, is_within}
 use Rattle.stream_check.specs.Verdicts.{Good, Bad}
 use Rattle.stream_check.specs.Additions.{published_by, JudgesAddition}
 use Rattle.stream_check.specs.Imports.{JudgesImport}
@@ -119,9 +119,9 @@ or_false true = refl
 or_false false = refl
 
 -- the literals of a line are none exactly if its clause is empty
-empty_is : (b : Bool) (id : ℕ) (lits : List ℤ) (hints : List ℕ) → b ≡ (length lits == 0) → b ≡ adds_empty (Addition id lits hints)
-empty_is b id [] hints is = is
-empty_is b id (l ∷ lits) hints is = is ∙ eqb-suc-zero (length lits)
+empty_is : (b : Bool) (lits : List ℤ) → b ≡ (length lits == 0) → b ≡ ((length (distinct lits) == 0) || false)
+empty_is b [] is = is
+empty_is b (l ∷ lits) is = is ∙ eqb-suc-zero (length lits) ∙ sym (ap (λ x. x || false) (eqb-suc-zero _))
 
 -- what a good addition changes
 pub record Adds (old new : Held) (id : ℕ) (is_empty within_cube : Bool) : Type 0 where
@@ -140,13 +140,13 @@ takes_addition old new free left id lits hints es is_empty within_cube adds is w
     let line : StreamLine = Addition id lits hints in (
       judged,
       λ read. record {
-        tally = same_tally (tally_at new) (tally_after old.setting (tally_at old) line) adds.added
+        tally = same_tally (tally_at new) (tally_after old.setting (tally_at old) line) (omega (arith, adds.added))
             (omega (arith, adds.retired, ap (λ (d : DroppedValue). length d.ids) adds.dropped))
-            (adds.empty ∙ ap (λ (b : Bool). old.empty || b) (empty_is is_empty id lits hints is))
-            (adds.within ∙ ap (λ (b : Bool). old.within || b) within);
+            (adds.empty ∙ ap (λ (b : Bool). old.empty || b) (empty_is is_empty lits is))
+            (adds.within ∙ ap (λ (b : Bool). old.within || b) (within ∙ or_false (is_within old.setting.cube (distinct lits))));
         standing = record {
           last = adds.last;
-          free = room;
+          free = omega (arith, room);
           gone = λ j. ap (λ (d : DroppedValue). is_among d.ids j) adds.dropped ∙ none_gone (is_among old.dropped.ids j) (is_shared (side_of old.setting j));
         };
         pending = refl;

@@ -12,14 +12,16 @@ use Rattle.lrup_text.specs.declared.device.StreamEnd.{StreamEnd}
 use Rattle.stream_check.specs.declared.fault.Fault.{Fault}
 use Rattle.stream_check.specs.declared.fault.Fault.TheVariants as faults
 use Rattle.stream_check.specs.declared.report.Report.{Report}
-use Rattle.stream_check.specs.Setting.{Setting, Side, formula, own, foreign, outside, side_of, is_shared}
+use Rattle.stream_check.specs.declared.setting.Side.{Side}
+use Rattle.stream_check.specs.declared.setting.Side.TheVariants as sides
+use Rattle.stream_check.specs.Setting.{Setting, side_of, is_shared}
 use Rattle.stream_check.specs.Standing.{Standing, standing_of}
 use Rattle.stream_check.specs.Verdicts.{LineVerdict, Good, Bad, Fails, Test}
 use Rattle.stream_check.specs.Asking.{AsksAt, Asks, AsksThen}
 use Rattle.stream_check.specs.Additions.{AtConflict, AtReply, JudgesHints, published_by, JudgesAddition}
-use Rattle.stream_check.specs.Deletions.{RetiresThen, DropsThen, DeletesAt, JudgesIdentities}
-use Rattle.stream_check.specs.Imports.{HasSame, AtImported, JudgesImport}
-use Rattle.stream_check.specs.Judging.{AreGood, EndsAfter}
+use Rattle.stream_check.specs.Deletions.{RetiresThen, DropsThen, DeletesAt, JudgesDeletion}
+use Rattle.stream_check.specs.Imports.{AtImported, JudgesImport}
+use Rattle.stream_check.specs.Judging.{AreGood, EndsAfter, at_bad_line, at_bad_text, at_memory, at_end}
 use Rattle.stream_check.specs.Reducing.{is_vacant, reduced}
 use Rattle.stream_check.specs.Laws.{ReducedLine, ReducedStream}
 use Rattle.stream_check.specs.ReducingLemmas.{reduced_kept, reduced_left_out, all_vacant_stay}
@@ -33,7 +35,7 @@ test_maps Holds fault es fs v A B none next (inr good) = inr (good.0, next good.
 reduced_none : (es : History) → es ≡ [] → reduced es ≡ []
 reduced_none es e = ap reduced e
 
-fails_reduced : (fault : Fault) (es : History) (v : LineVerdict) → Fails fault es v → Fails fault (reduced es) v
+fails_reduced : (fault : Fault) (es : History) (v : LineVerdict) → Fails 0 fault es v → Fails 0 fault (reduced es) v
 fails_reduced fault es v f = (reduced_none es f.0, f.1)
 
 and_false : (a : Bool) → (a && false) ≡ false
@@ -62,18 +64,18 @@ is_no_vacant s id events.retired found = refl
 
 found_at : (side : Side) (c : Setting) (h : ℕ) (asked rest : History) (r : Reply) → (r ≡ events.vacant → ⊥) → AsksAt side c h asked r
     → (reduced (asked ++ rest) ≡ (events.fetch c.stream h r ∷ []) ++ reduced rest) × AsksAt side c h (events.fetch c.stream h r ∷ []) r
-found_at formula c h asked rest r found asks =
+found_at sides.Formula c h asked rest r found asks =
     (ap (λ a. reduced (a ++ rest)) asks ∙ other_stays (events.fetch c.stream h r) rest (is_no_vacant c.stream h r found), refl)
-found_at own c h asked rest r found asks =
+found_at sides.Own c h asked rest r found asks =
     (ap (λ a. reduced (a ++ rest)) asks ∙ other_stays (events.fetch c.stream h r) rest (is_no_vacant c.stream h r found), refl)
-found_at foreign c h asked rest r found asks =
+found_at sides.Foreign c h asked rest r found asks =
     let vacants = replicate asks.0 (events.fetch c.stream h events.vacant) in (
       ap (λ a. reduced (a ++ rest)) asks.3
           ∙ ap reduced (append_assoc vacants (events.fetch c.stream h r ∷ []) rest)
           ∙ vacants_go c.stream h asks.0 (events.fetch c.stream h r) rest (is_no_vacant c.stream h r found),
       (0, omega arith, (λ vacant. absurd (found vacant)), refl),
     )
-found_at outside c h asked rest r found asks = absurd (found asks.1)
+found_at sides.Outside c h asked rest r found asks = absurd (found asks.1)
 
 vacants_all : (s id k : ℕ) → list_all is_vacant (replicate k (events.fetch s id events.vacant) ++ events.fetch s id events.vacant ∷ []) ≡ true
 vacants_all s id zero = refl
@@ -81,10 +83,10 @@ vacants_all s id (suc k) = vacants_all s id k
 
 -- a hint that wasn't found
 missing_at : (side : Side) (c : Setting) (h : ℕ) (asked : History) → AsksAt side c h asked events.vacant → list_all is_vacant asked ≡ true
-missing_at formula c h asked asks = ap (list_all is_vacant) asks
-missing_at own c h asked asks = ap (list_all is_vacant) asks
-missing_at foreign c h asked asks = ap (list_all is_vacant) asks.3 ∙ vacants_all c.stream h asks.0
-missing_at outside c h asked asks = ap (list_all is_vacant) asks.0
+missing_at sides.Formula c h asked asks = ap (list_all is_vacant) asks
+missing_at sides.Own c h asked asks = ap (list_all is_vacant) asks
+missing_at sides.Foreign c h asked asks = ap (list_all is_vacant) asks.3 ∙ vacants_all c.stream h asks.0
+missing_at sides.Outside c h asked asks = ap (list_all is_vacant) asks.0
 
 asks_reduced_at : (reply : Reply) (c : Setting) (h : ℕ) (es asked rest : History) (A : Reply → History → Type 0)
     → ((left : History) → A events.vacant left → left ≡ []) → ((x : Reply) (left : History) → A x left → A x (reduced left))
@@ -161,27 +163,27 @@ drops_map gone earlier id es v A next (inr good) = inr (good.0, next good.1)
 retires_map : (c : Setting) (earlier : List ℕ) (id : ℕ) (es : History) (v : LineVerdict) (A : History → Type 0) → ((rest : History) → A rest → A (reduced rest)) → RetiresThen c earlier id es v A → RetiresThen c earlier id (reduced es) v A
 retires_map c earlier id es v A next a = elim a.decided [
   | inl good ↦ record { rest = reduced a.rest; decided = inl (ap reduced good.0, next a.rest good.1) }
-  | inr bad ↦ record { rest = reduced a.rest; decided = inr (ap reduced bad.0, ap reduced bad.1, bad.2) }
+  | inr bad ↦ record { rest = reduced a.rest; decided = inr (ap reduced bad.0, (ap reduced bad.1.0, bad.1.1)) }
 ]
 
 at_reduced : (side : Side) (c : Setting) (gone : ℕ → Bool) (earlier : List ℕ) (id : ℕ) (es : History) (v : LineVerdict) (A : History → Type 0)
     → ((rest : History) → A rest → A (reduced rest)) → DeletesAt side c gone earlier id es v A → DeletesAt side c gone earlier id (reduced es) v A
-at_reduced formula c gone earlier id es v A next at = drops_map gone earlier id es v A (next es) at
-at_reduced own c gone earlier id es v A next at = retires_map c earlier id es v A next at
-at_reduced foreign c gone earlier id es v A next at = drops_map gone earlier id es v A (next es) at
-at_reduced outside c gone earlier id es v A next at = (reduced_none es at.0, at.1)
+at_reduced sides.Formula c gone earlier id es v A next at = drops_map gone earlier id es v A (next es) at
+at_reduced sides.Own c gone earlier id es v A next at = retires_map c earlier id es v A next at
+at_reduced sides.Foreign c gone earlier id es v A next at = drops_map gone earlier id es v A (next es) at
+at_reduced sides.Outside c gone earlier id es v A next at = (reduced_none es at.0, at.1)
 
-identities_reduced : (c : Setting) (gone : ℕ → Bool) (earlier ids : List ℕ) (es : History) (v : LineVerdict) → JudgesIdentities c gone earlier ids es v → JudgesIdentities c gone earlier ids (reduced es) v
+identities_reduced : (c : Setting) (gone : ℕ → Bool) (earlier ids : List ℕ) (es : History) (v : LineVerdict) → JudgesDeletion c gone earlier ids es v → JudgesDeletion c gone earlier ids (reduced es) v
 identities_reduced c gone earlier [] es v judged = (reduced_none es judged.0, judged.1)
 identities_reduced c gone earlier (id ∷ ids) es v judged =
-    at_reduced (side_of c id) c gone earlier id es v (λ rest. JudgesIdentities c gone (earlier ++ id ∷ []) ids rest v)
+    at_reduced (side_of c id) c gone earlier id es v (λ rest. JudgesDeletion c gone (earlier ++ id ∷ []) ids rest v)
     (λ rest k. identities_reduced c gone (earlier ++ id ∷ []) ids rest v k) judged
 
 imported_reduced : (x : Reply) (id : ℕ) (lits : List ℤ) (es : History) (v : LineVerdict) → AtImported x id lits es v → AtImported x id lits (reduced es) v
 imported_reduced events.vacant id lits es v at = fails_reduced (faults.Missing id) es v at
 imported_reduced events.retired id lits es v at = fails_reduced (faults.Retired id) es v at
 imported_reduced (events.live d) id lits es v at =
-    test_maps (HasSame d lits) (faults.Differs id) es (reduced es) v _ _ (reduced_none es) (λ good. (reduced_none es good.0, good.1)) at
+    test_maps _ (faults.Differs id) es (reduced es) v _ _ (reduced_none es) (λ good. (reduced_none es good.0, good.1)) at
 
 import_reduced : (c : Setting) (st : Standing) (id : ℕ) (lits : List ℤ) (es : History) (v : LineVerdict) → JudgesImport c st id lits es v → JudgesImport c st id lits (reduced es) v
 import_reduced c st id lits es v judged =
@@ -204,39 +206,21 @@ good_reduced c before (line ∷ lines) (block ∷ blocks) good =
     (reduced_line c (standing_of c before) line block Good good.0, good_reduced c (before ++ line ∷ []) lines blocks good.1)
 
 ends_reduced : (c : Setting) (lines : List StreamLine) (rest : List ℕ) (end : StreamEnd) (back : List History) (report : Report) → EndsAfter c lines rest end back report → EndsAfter c lines rest end (map reduced back) report
-ends_reduced c lines rest end back report (inl e) = inl (record {
-  line = e.line;
-  more = e.more;
-  text = e.text;
-  fits = e.fits;
-  block = reduced e.block;
-  one_block = ap (map reduced) e.one_block;
-  deleted = e.deleted;
-  fault = e.fault;
-  bad = reduced_line c (standing_of c lines) e.line e.block (Bad e.deleted e.fault) e.bad;
-  says = e.says;
-})
-ends_reduced c lines rest end back report (inr (inl e)) = inr (inl (record { fault = e.fault; text = e.text; no_block = ap (map reduced) e.no_block; says = e.says }))
-ends_reduced c lines rest end back report (inr (inr (inl e))) = inr (inr (inl (record {
-  lead = e.lead;
-  ids = e.ids;
-  more = e.more;
-  text = e.text;
-  fits = e.fits;
-  block = reduced e.block;
-  one_block = ap (map reduced) e.one_block;
-  earlier = e.earlier;
-  stops = record {
-    id = e.stops.id;
-    later = e.stops.later;
-    identities = e.stops.identities;
-    before = identities_reduced c (standing_of c lines).gone [] e.earlier e.block Good e.stops.before;
-    shared = e.stops.shared;
-    new = e.stops.new;
-  };
-  says = e.says;
-})))
-ends_reduced c lines rest end back report (inr (inr (inr e))) = inr (inr (inr (record { pending = e.pending; no_block = ap (map reduced) e.no_block; says = e.says })))
+ends_reduced c lines rest end back report (at_bad_line line more text fits block one_block deleted fault bad says) =
+    at_bad_line line more text fits (reduced block) (ap (map reduced) one_block) deleted fault (reduced_line c (standing_of c lines) line block (Bad deleted fault) bad) says
+ends_reduced c lines rest end back report (at_bad_text fault text no_block says) = at_bad_text fault text (ap (map reduced) no_block) says
+ends_reduced c lines rest end back report (at_memory lead ids more text fits block one_block earlier stops says) =
+    at_memory lead ids more text fits (reduced block) (ap (map reduced) one_block) earlier
+    (record {
+      id = stops.id;
+      later = stops.later;
+      identities = stops.identities;
+      before = identities_reduced c (standing_of c lines).gone [] earlier block Good stops.before;
+      shared = stops.shared;
+      new = stops.new;
+    })
+    says
+ends_reduced c lines rest end back report (at_end pending no_block says) = at_end pending (ap (map reduced) no_block) says
 
 pub reduced_stream : ReducedStream
 reduced_stream c bytes end blocks report j = record {
@@ -245,6 +229,8 @@ reduced_stream c bytes end blocks report j = record {
   front = map reduced j.front;
   back = map reduced j.back;
   split = ap (map reduced) j.split ∙ map-append reduced j.front j.back;
-  begins = record { text = j.begins.text; fits = j.begins.fits; good = good_reduced c [] j.lines j.front j.begins.good };
+  text = j.text;
+  fits = j.fits;
+  good = good_reduced c [] j.lines j.front j.good;
   ends = ends_reduced c j.lines j.rest end j.back report j.ends;
 }

@@ -1,48 +1,54 @@
 -- What one good line more leaves.
-use Rattle.std.proofs.Common.{◌≡◌, ◌<◌, ◌&&◌, ◌||◌, ℕ, ℤ, Bool, true, false, max, List, [], ◌∷◌, ◌++◌, length, inl, inr, refl, sym, ap, ◌∙◌, arith}
+use Rattle.std.proofs.Common.{◌≡◌, ◌<◌, ◌+◌, ◌&&◌, ◌||◌, ℕ, ℤ, Bool, true, false, max, List, [], ◌∷◌, ◌++◌, length, length-append, inl, inr, refl, sym, ap, ◌∙◌, arith}
 use mathlib.Core.Path.{fun_ext}
-use Rattle.std.specs.List.{list_any}
+use Rattle.std.specs.Prelude.{◌==◌, map}
+use Rattle.std.specs.List.{fold, list_any, sum_by}
+use Rattle.std.proofs.lemmas.List.{map-append}
 use Rattle.std.proofs.lemmas.List.Folds.{list_any-append}
-use Rattle.std.proofs.lemmas.List.Sums.{sum_by-append}
-use Rattle.std.proofs.Math.Bool.{or-false}
-use Rattle.lrup_model.specs.Layout.{LayoutValue}
+use Rattle.std.proofs.lemmas.List.Sums.{fold-append, sum_by-append}
+use Rattle.lrup_model.specs.Clause.{Clause}
 use Rattle.lrup_model.specs.Event.{History}
 use Rattle.lrup_text.specs.Lines.{StreamLine, Addition, Deletion, Import}
 use Rattle.stream_check.specs.Setting.{Setting, side_of, is_shared}
-use Rattle.stream_check.specs.Standing.{Standing, Tally, last_in, line_size, deleted_by, added_by, adds_empty, adds_within, is_among, standing_of, tally_of}
+use Rattle.stream_check.specs.Standing.{Standing, additions_of, deleted_by, is_among, is_within, standing_of}
 use Rattle.stream_check.specs.Verdicts.{Good, Bad}
-use Rattle.stream_check.specs.Judging.{JudgesLine}
+use Rattle.stream_check.specs.declared.report.Ending.{Ending}
+use Rattle.stream_check.specs.declared.report.Ending.TheVariants as endings
+use Rattle.stream_check.specs.declared.report.Report.{Report}
+use Rattle.stream_check.specs.CheckerValue.{Tally, report_of_tally}
+use Rattle.stream_check.specs.Judging.{JudgesLine, report_of}
+use Rattle.stream_check.specs.ReportLemmas.{additions-append}
 use Rattle.stream_check.specs.Leaving.{SameStanding, standing_after, tally_after, last_after}
 
 -- the last identity after one line more
-last_in-snoc : (p : LayoutValue) (lines : List StreamLine) (id : ℕ) (lits : List ℤ) (hints : List ℕ) → last_in p (lines ++ Addition id lits hints ∷ []) ≡ max (last_in p lines) id
-last_in-snoc p [] id lits hints = omega arith
-last_in-snoc p (Addition j ls hs ∷ lines) id lits hints = let e = last_in-snoc p lines id lits hints in omega (arith, e)
-last_in-snoc p (Deletion lead ids ∷ lines) id lits hints = last_in-snoc p lines id lits hints
-last_in-snoc p (Import j ls ∷ lines) id lits hints = last_in-snoc p lines id lits hints
-
-last_in-snoc_deletion : (p : LayoutValue) (lines : List StreamLine) (lead : ℕ) (ids : List ℕ) → last_in p (lines ++ Deletion lead ids ∷ []) ≡ last_in p lines
-last_in-snoc_deletion p [] lead ids = refl
-last_in-snoc_deletion p (Addition j ls hs ∷ lines) lead ids = ap (max j) (last_in-snoc_deletion p lines lead ids)
-last_in-snoc_deletion p (Deletion l is ∷ lines) lead ids = last_in-snoc_deletion p lines lead ids
-last_in-snoc_deletion p (Import j ls ∷ lines) lead ids = last_in-snoc_deletion p lines lead ids
-
-last_in-snoc_import : (p : LayoutValue) (lines : List StreamLine) (id : ℕ) (lits : List ℤ) → last_in p (lines ++ Import id lits ∷ []) ≡ last_in p lines
-last_in-snoc_import p [] id lits = refl
-last_in-snoc_import p (Addition j ls hs ∷ lines) id lits = ap (max j) (last_in-snoc_import p lines id lits)
-last_in-snoc_import p (Deletion l is ∷ lines) id lits = last_in-snoc_import p lines id lits
-last_in-snoc_import p (Import j ls ∷ lines) id lits = last_in-snoc_import p lines id lits
+last-snoc : (c : Setting) (lines : List StreamLine) (line : StreamLine) → (standing_of c (lines ++ line ∷ [])).last ≡ fold max (standing_of c lines).last (map (λ a. a.0) (additions_of (line ∷ [])))
+last-snoc c lines line =
+    let ids : List (ℕ × Clause) → List ℕ = map (λ a. a.0) in
+    ap (fold max c.layout.clauses) (ap ids (additions-append lines (line ∷ [])) ∙ map-append (λ a. a.0) (additions_of lines) (additions_of (line ∷ [])))
+    ∙ fold-append max c.layout.clauses (ids (additions_of lines)) (ids (additions_of (line ∷ [])))
 
 -- a good addition has an identity above those before it
 pub last_below : (c : Setting) (st : Standing) (id : ℕ) (lits : List ℤ) (hints : List ℕ) (es : History) → JudgesLine c st (Addition id lits hints) es Good → st.last < id
 last_below c st id lits hints es j = elim j [ inl bad ↦ absurd (let e : Good ≡ Bad 0 _ = bad.1.1 in cc) | inr next ↦ next.0.1 ]
 
-pub same_last : (c : Setting) (lines : List StreamLine) (line : StreamLine) (es : History) → JudgesLine c (standing_of c lines) line es Good → last_in c.layout (lines ++ line ∷ []) ≡ last_after (last_in c.layout lines) line
+pub same_last : (c : Setting) (lines : List StreamLine) (line : StreamLine) (es : History) → JudgesLine c (standing_of c lines) line es Good → (standing_of c (lines ++ line ∷ [])).last ≡ last_after (standing_of c lines).last line
 same_last c lines (Addition id lits hints) es j =
     let below = last_below c (standing_of c lines) id lits hints es j in
-    omega (arith, last_in-snoc c.layout lines id lits hints, below)
-same_last c lines (Deletion lead ids) es j = last_in-snoc_deletion c.layout lines lead ids
-same_last c lines (Import id lits) es j = last_in-snoc_import c.layout lines id lits
+    omega (arith, last-snoc c lines (Addition id lits hints), below)
+same_last c lines (Deletion lead ids) es j = last-snoc c lines (Deletion lead ids)
+same_last c lines (Import id lits) es j = last-snoc c lines (Import id lits)
+
+-- the additions after one line more
+pub added-snoc : (lines : List StreamLine) (line : StreamLine) → length (additions_of (lines ++ line ∷ [])) ≡ length (additions_of lines) + length (additions_of (line ∷ []))
+added-snoc lines line = ap length (additions-append lines (line ∷ [])) ∙ length-append (additions_of lines) (additions_of (line ∷ []))
+
+sizes-snoc : (lines : List StreamLine) (line : StreamLine) → sum_by (λ a. length a.1) (additions_of (lines ++ line ∷ [])) ≡ sum_by (λ a. length a.1) (additions_of lines) + sum_by (λ a. length a.1) (additions_of (line ∷ []))
+sizes-snoc lines line =
+    let size : ℕ × Clause → ℕ = λ a. length a.1 in
+    ap (sum_by size) (additions-append lines (line ∷ [])) ∙ sum_by-append size (additions_of lines) (additions_of (line ∷ []))
+
+some-snoc : (test : ℕ × Clause → Bool) (lines : List StreamLine) (line : StreamLine) → (list_any test (additions_of lines) || list_any test (additions_of (line ∷ []))) ≡ list_any test (additions_of (lines ++ line ∷ []))
+some-snoc test lines line = sym (ap (list_any test) (additions-append lines (line ∷ [])) ∙ list_any-append test (additions_of lines) (additions_of (line ∷ [])))
 
 and_or : (s a b : Bool) → (s && (a || (b || false))) ≡ (s && a || s && b)
 and_or true true b = refl
@@ -54,7 +60,7 @@ and_or false a b = refl
 pub standing_of-snoc : (c : Setting) (lines : List StreamLine) (line : StreamLine) (es : History) → JudgesLine c (standing_of c lines) line es Good → SameStanding (standing_after c (standing_of c lines) line) (standing_of c (lines ++ line ∷ []))
 standing_of-snoc c lines line es j = record {
   last = sym (same_last c lines line es j);
-  free = omega (arith, sum_by-append line_size lines (line ∷ []));
+  free = omega (arith, sizes-snoc lines line);
   gone = λ id.
       let test : StreamLine → Bool = λ l. is_among (deleted_by l) id in
       sym (ap (λ b. is_shared (side_of c id) && b) (list_any-append test lines (line ∷ []))
@@ -67,13 +73,28 @@ same_tally a b added deleted empty within =
     ap (λ x. made x a.deleted a.empty a.within) added ∙ ap (λ y. made b.added y a.empty a.within) deleted
     ∙ ap (λ z. made b.added b.deleted z a.within) empty ∙ ap (λ w. made b.added b.deleted b.empty w) within
 
+-- the counts that these lines leave
+abbrev pub counts_of : Setting → List StreamLine → Tally
+counts_of c lines =
+    let r : Report = report_of c lines 0 endings.Ended in
+    record { added = r.added; deleted = r.deleted; empty = r.empty; within = r.within }
+
+-- a checker has them exactly if its reports are those of the lines
+pub tally_is : (c : Setting) (lines : List StreamLine) (t : Tally) → ((ending : Ending) → report_of_tally t ending ≡ report_of c lines 0 ending) → t ≡ counts_of c lines
+tally_is c lines t reports =
+    let same : report_of_tally t endings.Ended ≡ report_of c lines 0 endings.Ended = reports endings.Ended in
+    same_tally t (counts_of c lines) (ap (λ (r : Report). r.added) same) (ap (λ (r : Report). r.deleted) same) (ap (λ (r : Report). r.empty) same) (ap (λ (r : Report). r.within) same)
+
+pub tally_says : (c : Setting) (lines : List StreamLine) (t : Tally) → t ≡ counts_of c lines → (ending : Ending) → report_of_tally t ending ≡ report_of c lines 0 ending
+tally_says c lines t same ending = ap (λ (s : Tally). report_of_tally s ending) same
+
 -- the counts after one good line more
-pub tally_of-snoc : (c : Setting) (lines : List StreamLine) (line : StreamLine) → tally_after c (tally_of c lines) line ≡ tally_of c (lines ++ line ∷ [])
-tally_of-snoc c lines line = same_tally (tally_after c (tally_of c lines) line) (tally_of c (lines ++ line ∷ []))
-    (omega (arith, sum_by-append added_by lines (line ∷ [])))
+pub counts_of-snoc : (c : Setting) (lines : List StreamLine) (line : StreamLine) → tally_after c (counts_of c lines) line ≡ counts_of c (lines ++ line ∷ [])
+counts_of-snoc c lines line = same_tally (tally_after c (counts_of c lines) line) (counts_of c (lines ++ line ∷ []))
+    (omega (arith, added-snoc lines line))
     (omega (arith, sum_by-append (λ l. length (deleted_by l)) lines (line ∷ [])))
-    (sym (list_any-append adds_empty lines (line ∷ []) ∙ ap (λ t. list_any adds_empty lines || t) (or-false (adds_empty line))))
-    (sym (list_any-append (adds_within c.cube) lines (line ∷ []) ∙ ap (λ t. list_any (adds_within c.cube) lines || t) (or-false (adds_within c.cube line))))
+    (some-snoc (λ a. length a.1 == 0) lines line)
+    (some-snoc (λ a. is_within c.cube a.1) lines line)
 
 -- standings that are the same are equal
 pub same_standing : (a b : Standing) → SameStanding a b → a ≡ b

@@ -1,5 +1,5 @@
 -- Two judgements of one stream, of events that never fork, agree.
-use Rattle.std.proofs.Common.{◌≡◌, ◌⊎◌, ℕ, List, [], ◌∷◌, ◌++◌, length, inl, inr, refl, sym, ap, subst, ◌∙◌, append_assoc, append-nil}
+use Rattle.std.proofs.Common.{◌≡◌, ◌⊎◌, ◌+◌, ℕ, List, [], ◌∷◌, ◌++◌, length, inl, inr, refl, sym, ap, subst, ◌∙◌, append_assoc, append-nil}
 use Rattle.std.specs.List.{AllByRecursion, flat_map}
 use Rattle.std.proofs.lemmas.List.{append_cancel_left}
 use Rattle.lrup_model.specs.Event.{History}
@@ -13,9 +13,9 @@ use Rattle.stream_check.specs.declared.fault.Fault.TheVariants as faults
 use Rattle.stream_check.specs.declared.report.Ending.TheVariants as endings
 use Rattle.stream_check.specs.declared.report.Report.{Report}
 use Rattle.stream_check.specs.Setting.{Setting}
-use Rattle.stream_check.specs.Standing.{standing_of, tally_of, line_number}
+use Rattle.stream_check.specs.Standing.{standing_of, capped}
 use Rattle.stream_check.specs.Verdicts.{Good, Bad}
-use Rattle.stream_check.specs.Judging.{JudgesLine, AreGood, joined, report_of, EndsAtLine, EndsAtText, EndsAtMemory, EndsAtEnd, EndsAfter}
+use Rattle.stream_check.specs.Judging.{JudgesLine, AreGood, joined, report_of, EndsAfter, at_bad_line, at_bad_text, at_memory, at_end}
 use Rattle.stream_check.specs.Forks.{NeverFork}
 use Rattle.stream_check.specs.Laws.{IsOfMemory, RepliesDecide, OneReport}
 use Rattle.stream_check.specs.ReportLemmas.{split_first, joined-append}
@@ -66,91 +66,73 @@ goes_on read byte after more text (y ∷ x) whole e split =
 pub faulty_has_no_line : TextLaws → (rest : List ℕ) (fault : LineFault) → HasTextFault rest fault → HasNoLine rest
 faulty_has_no_line laws rest fault text line more fits e =
     let refused = text.3 in
-    let read = refused.0 in
-    let byte = refused.1 in
-    let decides = refused.3 in
+    let read = refused.read in
+    let byte = refused.byte in
     let whole : IsLine standard (line_text line) = (laws.lines (line_text line)).1 (line, (fits, refl)) in
     let split : read ++ (byte ∷ text.1) ≡ line_text line ++ more =
-    sym (append_assoc read (byte ∷ []) text.1) ∙ ap (λ b. b ++ text.1) (sym refused.2) ∙ sym text.2 ∙ e in
+    sym (append_assoc read (byte ∷ []) text.1) ∙ ap (λ b. b ++ text.1) (sym refused.is) ∙ sym text.2 ∙ e in
     elim (one_begins read (line_text line) (byte ∷ text.1) more split) [
       | inl longer ↦ elim (goes_on read byte text.1 more (line_text line) longer.0 whole longer.1 split) [
-        | inl same ↦ decides.before.whole line [] fits (sym same ∙ sym (append-nil (line_text line)))
-        | inr begins ↦ decides.after begins
+        | inl same ↦ refused.before.whole line [] fits (sym same ∙ sym (append-nil (line_text line)))
+        | inr begins ↦ refused.after (subst Begins (sym refused.is) begins)
       ]
-      | inr longer ↦ decides.before.whole line longer.0 fits longer.1
+      | inr longer ↦ refused.before.whole line longer.0 fits longer.1
     ]
 
 -- After the same good lines
 
--- a bad line, twice
-lines_agree : TextLaws → (c : Setting) (lines : List StreamLine) (rest : List ℕ) (back aft : List History) (report other : Report)
-    → EndsAtLine c lines rest back report → EndsAtLine c lines rest aft other → NeverFork (joined back) (joined aft) → (back ≡ aft) × (report ≡ other)
-lines_agree laws c lines rest back aft report other a b never =
-    let same = same_first laws a.line b.line a.more b.more a.fits b.fits (sym a.text ∙ b.text) in
-    let here = subst (λ x. NeverFork (joined x) (b.block ++ [])) a.one_block (subst (λ x. NeverFork (joined back) (joined x)) b.one_block never) in
-    let bad = subst (λ l. JudgesLine c (standing_of c lines) l a.block (Bad a.deleted a.fault)) same.0 a.bad in
-    let agree = line_agrees c (standing_of c lines) b.line a.block b.block [] [] (Bad a.deleted a.fault) (Bad b.deleted b.fault) bad b.bad here in
-    let verdict = agree.verdict in
-    let deleted : a.deleted ≡ b.deleted = cc in
-    let fault : a.fault ≡ b.fault = cc in (
-      a.one_block ∙ ap (λ x. x ∷ []) agree.events ∙ sym b.one_block,
-      a.says ∙ ap (λ d. report_of (tally_of c lines) d (endings.Bad (line_number (length lines)) a.fault)) deleted
-          ∙ ap (λ f. report_of (tally_of c lines) b.deleted (endings.Bad (line_number (length lines)) f)) fault ∙ sym b.says,
-    )
+-- what ends a stream while there is memory
+abbrev EndsWithout : Setting → List StreamLine → List ℕ → StreamEnd → List History → Report → Type 0
+EndsWithout c lines rest end back report = EndsAfter c lines rest end back report × ¬ IsOfMemory report
 
--- where a text has a fault or the stream ends, no line is whole
-rest_has_no_line : TextLaws → (c : Setting) (lines : List StreamLine) (rest : List ℕ) (end : StreamEnd) (back : List History) (report : Report)
-    → EndsAtText c lines rest back report ⊎ EndsAtEnd c lines rest end back report → HasNoLine rest
-rest_has_no_line laws c lines rest end back report (inl text) = faulty_has_no_line laws rest text.fault text.text
-rest_has_no_line laws c lines rest end back report (inr at_end) = at_end.pending.whole
-
--- a text fault or the end, twice
-rests_agree : TextLaws → (c : Setting) (lines : List StreamLine) (rest : List ℕ) (end : StreamEnd) (back aft : List History) (report other : Report)
-    → EndsAtText c lines rest back report ⊎ EndsAtEnd c lines rest end back report → EndsAtText c lines rest aft other ⊎ EndsAtEnd c lines rest end aft other
-    → (back ≡ aft) × (report ≡ other)
-rests_agree laws c lines rest end back aft report other (inl a) (inl b) = (
-  a.no_block ∙ sym b.no_block,
-  a.says ∙ ap (λ f. report_of (tally_of c lines) 0 (endings.Bad (line_number (length lines)) (faults.Text f))) ((laws.fault rest a.fault b.fault a.text).0 b.text) ∙ sym b.says,
-)
-rests_agree laws c lines rest end back aft report other (inl a) (inr b) = absurd ((laws.fault rest a.fault a.fault a.text).1 b.pending.begins)
-rests_agree laws c lines rest end back aft report other (inr a) (inl b) = absurd ((laws.fault rest b.fault b.fault b.text).1 a.pending.begins)
-rests_agree laws c lines rest end back aft report other (inr a) (inr b) = (a.no_block ∙ sym b.no_block, a.says ∙ sym b.says)
-
--- what ends a stream while there is memory: a bad line, or else
-EndsWithout : Setting → List StreamLine → List ℕ → StreamEnd → List History → Report → Type 0
-EndsWithout c lines rest end back report =
-    EndsAtLine c lines rest back report ⊎ (EndsAtText c lines rest back report ⊎ EndsAtEnd c lines rest end back report)
-
-memory_says : (c : Setting) (lines : List StreamLine) (rest : List ℕ) (back : List History) (report : Report) → EndsAtMemory c lines rest back report → IsOfMemory report
-memory_says c lines rest back report e = (line_number (length lines), ap (λ (r : Report). r.ending) e.says)
-
-without : (c : Setting) (lines : List StreamLine) (rest : List ℕ) (end : StreamEnd) (back : List History) (report : Report)
-    → EndsAfter c lines rest end back report → ¬ IsOfMemory report → EndsWithout c lines rest end back report
-unfolding EndsWithout
-without c lines rest end back report (inl line) no_memory = inl line
-without c lines rest end back report (inr (inl text)) no_memory = inr (inl text)
-without c lines rest end back report (inr (inr (inl memory))) no_memory = absurd (no_memory (memory_says c lines rest back report memory))
-without c lines rest end back report (inr (inr (inr at_end))) no_memory = inr (inr at_end)
+out_of_memory : (c : Setting) (lines : List StreamLine) (deleted : ℕ) (report : Report)
+    → report ≡ report_of c lines deleted (endings.Memory (capped (length lines + 1))) → IsOfMemory report
+out_of_memory c lines deleted report says = (capped (length lines + 1), ap (λ (r : Report). r.ending) says)
 
 ends_agree : TextLaws → (c : Setting) (lines : List StreamLine) (rest : List ℕ) (end : StreamEnd) (back aft : List History) (report other : Report)
     → EndsWithout c lines rest end back report → EndsWithout c lines rest end aft other → NeverFork (joined back) (joined aft) → (back ≡ aft) × (report ≡ other)
-unfolding EndsWithout
-ends_agree laws c lines rest end back aft report other (inl a) (inl b) never = lines_agree laws c lines rest back aft report other a b never
-ends_agree laws c lines rest end back aft report other (inl a) (inr b) never = absurd (rest_has_no_line laws c lines rest end aft other b a.line a.more a.fits a.text)
-ends_agree laws c lines rest end back aft report other (inr a) (inl b) never = absurd (rest_has_no_line laws c lines rest end back report a b.line b.more b.fits b.text)
-ends_agree laws c lines rest end back aft report other (inr a) (inr b) never = rests_agree laws c lines rest end back aft report other a b
+ends_agree laws c lines rest end back aft report other (at_memory _ _ _ _ _ _ _ earlier _ says, no_memory) b never = absurd (no_memory (out_of_memory c lines (length earlier) report says))
+ends_agree laws c lines rest end back aft report other a (at_memory _ _ _ _ _ _ _ earlier _ says, none) never = absurd (none (out_of_memory c lines (length earlier) other says))
+ends_agree laws c lines rest end back aft report other (at_bad_line line more text fits block one_block deleted fault bad says, no_memory) (at_bad_line like much words fit events all_one gone wrong fails told, none) never =
+    let same = same_first laws line like more much fits fit (sym text ∙ words) in
+    let here = subst (λ x. NeverFork (joined x) (events ++ [])) one_block (subst (λ x. NeverFork (joined back) (joined x)) all_one never) in
+    let judged = subst (λ l. JudgesLine c (standing_of c lines) l block (Bad deleted fault)) same.0 bad in
+    let agree = line_agrees c (standing_of c lines) like block events [] [] (Bad deleted fault) (Bad gone wrong) judged fails here in
+    let verdict = agree.verdict in
+    let same_deleted : deleted ≡ gone = cc in
+    let same_fault : fault ≡ wrong = cc in (
+      one_block ∙ ap (λ x. x ∷ []) agree.events ∙ sym all_one,
+      says ∙ ap (λ d. report_of c lines d (endings.Bad (capped (length lines + 1)) fault)) same_deleted
+          ∙ ap (λ f. report_of c lines gone (endings.Bad (capped (length lines + 1)) f)) same_fault ∙ sym told,
+    )
+ends_agree laws c lines rest end back aft report other (at_bad_line line more text fits block one_block deleted fault bad says, no_memory) (at_bad_text wrong words no_block told, none) never =
+    absurd (faulty_has_no_line laws rest wrong words line more fits text)
+ends_agree laws c lines rest end back aft report other (at_bad_line line more text fits block one_block deleted fault bad says, no_memory) (at_end pending no_block told, none) never =
+    absurd (pending.whole line more fits text)
+ends_agree laws c lines rest end back aft report other (at_bad_text fault text no_block says, no_memory) (at_bad_line like much words fit events all_one gone wrong fails told, none) never =
+    absurd (faulty_has_no_line laws rest fault text like much fit words)
+ends_agree laws c lines rest end back aft report other (at_end pending no_block says, no_memory) (at_bad_line like much words fit events all_one gone wrong fails told, none) never =
+    absurd (pending.whole like much fit words)
+ends_agree laws c lines rest end back aft report other (at_bad_text fault text no_block says, no_memory) (at_bad_text wrong words no_more told, none) never = (
+  no_block ∙ sym no_more,
+  says ∙ ap (λ f. report_of c lines 0 (endings.Bad (capped (length lines + 1)) (faults.Text f))) ((laws.fault rest fault wrong text).0 words) ∙ sym told,
+)
+ends_agree laws c lines rest end back aft report other (at_bad_text fault text no_block says, no_memory) (at_end pending no_more told, none) never = absurd ((laws.fault rest fault fault text).1 pending.begins)
+ends_agree laws c lines rest end back aft report other (at_end pending no_block says, no_memory) (at_bad_text wrong words no_more told, none) never = absurd ((laws.fault rest wrong wrong words).1 pending.begins)
+ends_agree laws c lines rest end back aft report other (at_end pending no_block says, no_memory) (at_end waiting no_more told, none) never = (no_block ∙ sym no_more, says ∙ sym told)
 
 -- a stream doesn't end at a line that is good
 ends_not_good : TextLaws → (c : Setting) (lines : List StreamLine) (rest more : List ℕ) (end : StreamEnd) (back : List History) (report : Report) (line : StreamLine) (block r : History)
     → EndsWithout c lines rest end back report → IsWithinLimits line → rest ≡ line_text line ++ more → JudgesLine c (standing_of c lines) line block Good
     → NeverFork (joined back) (block ++ r) → ⊥
-unfolding EndsWithout
-ends_not_good laws c lines rest more end back report line block r (inr a) fits text good never = rest_has_no_line laws c lines rest end back report a line more fits text
-ends_not_good laws c lines rest more end back report line block r (inl a) fits text good never =
-    let same = same_first laws a.line line a.more more a.fits fits (sym a.text ∙ text) in
-    let bad = subst (λ l. JudgesLine c (standing_of c lines) l a.block (Bad a.deleted a.fault)) same.0 a.bad in
-    let here = subst (λ x. NeverFork (joined x) (block ++ r)) a.one_block never in
-    let agree = line_agrees c (standing_of c lines) line a.block block [] r (Bad a.deleted a.fault) Good bad good here in
+ends_not_good laws c lines rest more end back report line block r (at_memory _ _ _ _ _ _ _ earlier _ says, no_memory) fits text good never = no_memory (out_of_memory c lines (length earlier) report says)
+ends_not_good laws c lines rest more end back report line block r (at_bad_text fault words no_block says, no_memory) fits text good never = faulty_has_no_line laws rest fault words line more fits text
+ends_not_good laws c lines rest more end back report line block r (at_end pending no_block says, no_memory) fits text good never = pending.whole line more fits text
+ends_not_good laws c lines rest more end back report line block r (at_bad_line like much words fit events one_block deleted fault bad says, no_memory) fits text good never =
+    let same = same_first laws like line much more fit fits (sym words ∙ text) in
+    let judged = subst (λ l. JudgesLine c (standing_of c lines) l events (Bad deleted fault)) same.0 bad in
+    let here = subst (λ x. NeverFork (joined x) (block ++ r)) one_block never in
+    let agree = line_agrees c (standing_of c lines) line events block [] r (Bad deleted fault) Good judged good here in
     let verdict = agree.verdict in cc
 
 -- one line moves from the lines to those before them
@@ -205,8 +187,8 @@ replies_decide laws c bytes end blocks others report other never a b no_memory n
     let split = subst (λ e. NeverFork e (joined b.front ++ joined b.back)) (ap joined a.split ∙ joined-append a.front a.back)
     (subst (λ e. NeverFork (joined blocks) e) (ap joined b.split ∙ joined-append b.front b.back) never) in
     let agree = streams_agree laws c end [] a.lines b.lines a.lines b.lines a.rest b.rest a.front a.back b.front b.back report other
-    refl refl (sym a.begins.text ∙ b.begins.text) a.begins.fits b.begins.fits a.begins.good b.begins.good
-    (without c a.lines a.rest end a.back report a.ends no_memory) (without c b.lines b.rest end b.back other b.ends none) split in
+    refl refl (sym a.text ∙ b.text) a.fits b.fits a.good b.good
+    (a.ends, no_memory) (b.ends, none) split in
     (a.split ∙ ap (λ x. x ++ a.back) agree.0 ∙ ap (λ x. b.front ++ x) agree.1 ∙ sym b.split, agree.2)
 
 pub one_report : TextLaws → OneReport

@@ -1,5 +1,5 @@
 -- A line that is taken, on whatever bytes and events came before it.
-use Rattle.std.proofs.Common.{◌≡◌, ◌+◌, ℕ, Bool, List, [], ◌∷◌, ◌++◌, length, Ok, Err, refl, sym, ap, subst, ◌∙◌, append-nil, arith}
+use Rattle.std.proofs.Common.{◌≡◌, ◌+◌, ℕ, Bool, List, [], ◌∷◌, ◌++◌, length, Ok, Err, sym, ap, subst, ◌∙◌, append-nil}
 use Rattle.lrup_model.specs.Event.{History}
 use Rattle.lrup_text.specs.Lines.{StreamLine, LineText, IsPending}
 use Rattle.lrup_text.specs.declared.LineFault.{LineFault}
@@ -12,15 +12,15 @@ use Rattle.stream_check.specs.declared.held.Held.{Held}
 use Rattle.stream_check.specs.declared.deletion.LineStop.{LineStop}
 use Rattle.stream_check.specs.declared.deletion.LineStop.TheVariants as stops
 use Rattle.stream_check.specs.Standing.{capped}
-use Rattle.stream_check.specs.Judging.{report_of}
+use Rattle.stream_check.specs.CheckerValue.{report_of_tally}
 use Rattle.stream_check.specs.Leaving.{Going, Over, Leaves}
-use Rattle.stream_check.specs.Checker.{tally_at, report_at, LeavesOn}
+use Rattle.stream_check.specs.Checker.{tally_at, LeavesOn}
 use Rattle.stream_check.specs.Taking.{hold, DeletesMore, TakesBy, ending_of}
 use Rattle.stream_check.specs.Laws.{GoodLineTaken}
 use Rattle.stream_check.proofs.LeavingLemmas.{pending_grows, bad_line_taken, bad_text_read, memory_wanted}
 
 -- the report after a line that stopped: what it deleted is counted already
-report_is : (old new : Held) (count : ℕ) (ending : ℕ → Ending) → DeletesMore old new count → report_of (tally_at old) count (ending old.line) ≡ report_at (tally_at new) (ending new.line)
+report_is : (old new : Held) (count : ℕ) (ending : ℕ → Ending) → DeletesMore old new count → report_of_tally (record (tally_at old) { deleted = capped ((tally_at old).deleted + count) }) (ending old.line) ≡ report_of_tally (tally_at new) (ending new.line)
 report_is old new count ending more =
     let made : ℕ → ℕ → Bool → Bool → Ending → Report = λ a d e w x. record { added = a; deleted = d; empty = e; within = w; ending = x } in
     ap (λ a. made a (capped ((tally_at old).deleted + count)) old.empty old.within (ending old.line)) (sym more.added)
@@ -37,7 +37,7 @@ leaves_good law old new free left read used line es text takes bytes before leav
 
 -- a line that stopped
 pub leaves_stopped : (old new : Held) (free left : ℕ) (read used : List ℕ) (line : StreamLine) (es : History) (stop : LineStop) → LineText line (read ++ used) → TakesBy old free new left line es (Err stop)
-    → LeavesOn old.setting (Going (hold old read free)) used (es ∷ []) (Over (report_at (tally_at new) (ending_of new.line stop)))
+    → LeavesOn old.setting (Going (hold old read free)) used (es ∷ []) (Over (report_of_tally (tally_at new) (ending_of new.line stop)))
 leaves_stopped old new free left read used line es (stops.Bad fault) text takes bytes before leaves =
     subst (λ (r : Report). Leaves old.setting (bytes ++ used) (before ++ es ∷ []) (Over r)) (report_is old new takes.0 (λ n. endings.Bad n fault) takes.2)
     (bad_line_taken old.setting bytes used before es (hold old read free) line takes.0 fault leaves text takes.1)
@@ -52,9 +52,7 @@ leaves_front old free read piece pending bytes before leaves =
 
 -- a text that begins no line
 pub leaves_refused : (old : Held) (free : ℕ) (read used : List ℕ) (fault : LineFault) → IsRefused (read ++ used) fault
-    → LeavesOn old.setting (Going (hold old read free)) used [] (Over (report_at (tally_at old) (endings.Bad old.line (faults.Text fault))))
+    → LeavesOn old.setting (Going (hold old read free)) used [] (Over (report_of_tally (tally_at old) (endings.Bad old.line (faults.Text fault))))
 leaves_refused old free read used fault refused bytes before leaves =
-    subst (λ (r : Report). Leaves old.setting (bytes ++ used) (before ++ []) (Over r))
-    (report_is old old 0 (λ n. endings.Bad n (faults.Text fault)) (record { added = refl; deleted = omega arith; empty = refl; within = refl; line = refl }))
-    (subst (λ (blocks : List History). Leaves old.setting (bytes ++ used) blocks (Over (report_of (tally_at old) 0 (endings.Bad old.line (faults.Text fault))))) (sym (append-nil before))
-    (bad_text_read old.setting bytes used before (hold old read free) fault leaves refused))
+    subst (λ (blocks : List History). Leaves old.setting (bytes ++ used) blocks (Over (report_of_tally (tally_at old) (endings.Bad old.line (faults.Text fault))))) (sym (append-nil before))
+    (bad_text_read old.setting bytes used before (hold old read free) fault leaves refused)

@@ -16,10 +16,12 @@ use Rattle.propagate.specs.Hints.{Leads}
 use Rattle.propagate.specs.Laws.{LeadsOn, AcceptsExactly}
 use Rattle.stream_check.specs.declared.fault.Fault.{Fault}
 use Rattle.stream_check.specs.declared.fault.Fault.TheVariants as faults
-use Rattle.stream_check.specs.Setting.{Setting, Side, formula, own, foreign, outside, side_of}
+use Rattle.stream_check.specs.declared.setting.Side.{Side}
+use Rattle.stream_check.specs.declared.setting.Side.TheVariants as sides
+use Rattle.stream_check.specs.Setting.{Setting, side_of}
 use Rattle.stream_check.specs.Verdicts.{LineVerdict, Good, Bad, Fails, Test}
 use Rattle.stream_check.specs.Asking.{AsksAt, Asks, AsksThen}
-use Rattle.stream_check.specs.Additions.{AtClause, AtReply, JudgesHints}
+use Rattle.stream_check.specs.Additions.{AtReply, JudgesHints}
 use Rattle.stream_check.specs.Checking.{IsPlaceOf, IsFetch, LooksUp, Shows, excess_of}
 
 -- one more at the end
@@ -37,11 +39,11 @@ fetches-replicate zero s id r = tt
 fetches-replicate (suc k) s id r = (tt, fetches-replicate k s id r)
 
 asks_fetches_at : (side : Side) (c : Setting) (h : ℕ) (es : History) (r : Reply) → AsksAt side c h es r → AllByRecursion IsFetch es
-asks_fetches_at formula c h es r asks = subst (AllByRecursion IsFetch) (sym asks) (tt, tt)
-asks_fetches_at own c h es r asks = subst (AllByRecursion IsFetch) (sym asks) (tt, tt)
-asks_fetches_at foreign c h es r asks =
+asks_fetches_at sides.Formula c h es r asks = subst (AllByRecursion IsFetch) (sym asks) (tt, tt)
+asks_fetches_at sides.Own c h es r asks = subst (AllByRecursion IsFetch) (sym asks) (tt, tt)
+asks_fetches_at sides.Foreign c h es r asks =
     subst (AllByRecursion IsFetch) (sym asks.3) (fetches-append (replicate asks.0 (events.fetch c.stream h events.vacant)) (events.fetch c.stream h r ∷ []) (fetches-replicate asks.0 c.stream h events.vacant) (tt, tt))
-asks_fetches_at outside c h es r asks = subst (AllByRecursion IsFetch) (sym asks.0) tt
+asks_fetches_at sides.Outside c h es r asks = subst (AllByRecursion IsFetch) (sym asks.0) tt
 
 pub asks_fetches : (c : Setting) (h : ℕ) (es : History) (r : Reply) → Asks c h es r → AllByRecursion IsFetch es
 asks_fetches c h es r asks = asks_fetches_at (side_of c h) c h es r asks
@@ -60,7 +62,7 @@ asked_last c gone id es r v Next kept asks next = inr (kept, record { asked = es
 
 -- the fault of a lookup is that of its hint or import
 pub lookup_fails : (c : Setting) (gone : ℕ → Bool) (id : ℕ) (p : Place) (es : History) (fault : Fault) (Next : Reply → History → Type 0) → LooksUp c gone id p es (Err fault)
-    → (Fails (faults.Missing id) [] (Bad 0 fault) → Next events.vacant []) → (Fails (faults.Retired id) [] (Bad 0 fault) → Next events.retired [])
+    → (Fails 0 (faults.Missing id) [] (Bad 0 fault) → Next events.vacant []) → (Fails 0 (faults.Retired id) [] (Bad 0 fault) → Next events.retired [])
     → Test (gone id ≡ false) (faults.Dropped id) es (Bad 0 fault) (AsksThen c id es Next)
 lookup_fails c gone id p es fault Next looks missing retired = elim looks [
   | inl dropped ↦ inl dropped
@@ -115,11 +117,11 @@ module _ (c : Setting) (gone : ℕ → Bool) (n m : List ℤ) (hints : List ℕ)
 
   module _ (d : Clause) (kept : gone h ≡ false) (asks : Asks c h fs (events.live d)) where
     -- its clause decides
-    at_clause : (e : Event) (more : History) (v : LineVerdict) → AtClause m d h rest e more v (λ k. JudgesHints c gone e k rest more v) → JudgesHints c gone e n hints ((es ++ fs) ++ more) v
+    at_clause : (e : Event) (more : History) (v : LineVerdict) → AtReply (events.live d) m h rest e more v (λ k. JudgesHints c gone e k rest more v) → JudgesHints c gone e n hints ((es ++ fs) ++ more) v
     at_clause e more v next = next_hint e more v (asked_then c gone h fs more (events.live d) v (λ r x. AtReply r m h rest e x v (λ k. JudgesHints c gone e k rest x v)) kept asks next)
 
     -- the same where there are no more events
-    ends_at_clause : (e : Event) (v : LineVerdict) → AtClause m d h rest e [] v (λ k. JudgesHints c gone e k rest [] v) → JudgesHints c gone e n hints (es ++ fs) v
+    ends_at_clause : (e : Event) (v : LineVerdict) → AtReply (events.live d) m h rest e [] v (λ k. JudgesHints c gone e k rest [] v) → JudgesHints c gone e n hints (es ++ fs) v
     ends_at_clause e v next = subst (λ (x : History). JudgesHints c gone e n hints x v) (append-nil (es ++ fs)) (at_clause e [] v next)
 
     pub goes_on : (l : ℤ) → IsUnit m d l → GoesOn c gone n hints (m ++ neg_ℤ l ∷ []) rest (es ++ fs)

@@ -2,7 +2,6 @@
 use Rattle.std.proofs.Common.{◌≡◌, ◌<◌, ◌≤◌, ◌+◌, ◌||◌, ℕ, ℤ, nat_abs, Bool, true, false, List, [], ◌∷◌, ◌++◌, length, eqb, inl, inr, refl, sym, ap, subst, ◌∙◌, arith, append_assoc, append-nil}
 use Rattle.std.specs.List.{AllByRecursion, list_any, sum_by}
 use Rattle.std.proofs.lemmas.Bool.Decides.{eqb_tells}
-use Rattle.std.proofs.lemmas.List.Sums.{sum_by-append}
 use Rattle.std.proofs.lemmas.Map.Steps.{length-le_from_distinct_below}
 use Rattle.lrup_model.specs.Clause.{IsTautology}
 use Rattle.lrup_model.specs.Layout.{LayoutValue, last_identity, IsIdentity, Owns}
@@ -16,16 +15,17 @@ use Rattle.lrup_text.specs.declared.device.StreamEnd.{StreamEnd}
 use Rattle.stream_check.specs.declared.fault.Fault.{Fault}
 use Rattle.stream_check.specs.declared.fault.Fault.TheVariants as faults
 use Rattle.stream_check.specs.declared.report.Report.{Report}
-use Rattle.stream_check.specs.Setting.{Setting, side_for, side_of, is_shared}
-use Rattle.stream_check.specs.Standing.{Standing, standing_of, is_gone, deleted_by, added_by, last_in}
+use Rattle.stream_check.specs.Setting.{Setting, side_of, is_shared}
+use Rattle.stream_check.specs.Standing.{Standing, standing_of, additions_of, deleted_by}
 use Rattle.stream_check.specs.Verdicts.{LineVerdict, Good, Bad, Fails, Test}
 use Rattle.stream_check.specs.Additions.{AtConflict, AtReply, JudgesHints, published_by, JudgesAddition}
 use Rattle.stream_check.specs.Asking.{AsksThen}
 use Rattle.stream_check.specs.Imports.{AtImported, JudgesImport}
-use Rattle.stream_check.specs.Judging.{JudgesLine, AreGood, joined, EndsAfter}
+use Rattle.stream_check.specs.Judging.{JudgesLine, AreGood, joined, EndsAfter, at_bad_line, at_bad_text, at_memory, at_end}
 use Rattle.stream_check.specs.Laws.{CountsWithin}
 use Rattle.stream_check.specs.ReportLemmas.{joined-append}
-use Rattle.stream_check.proofs.StandingLemmas.{last_below, same_last}
+use Rattle.stream_check.proofs.StandingLemmas.{last_below, same_last, added-snoc}
+use Rattle.stream_check.proofs.AskLemmas.{side_for}
 use Rattle.stream_check.proofs.CountLemmas.{SameOwn, OwnRun, own_runs, run_on}
 use Rattle.stream_check.proofs.DeletedLemmas.{identity_below, TakenAt, Taken, Apart, are_distinct, AreTaken, identities_took, lines_took}
 
@@ -68,7 +68,7 @@ deleted_of : LineVerdict → ℕ
 deleted_of Good = 0
 deleted_of (Bad deleted fault) = deleted
 
-failed_none : (fault : Fault) (es : History) (v : LineVerdict) → Fails fault es v → deleted_of v ≡ 0
+failed_none : (fault : Fault) (es : History) (v : LineVerdict) → Fails 0 fault es v → deleted_of v ≡ 0
 unfolding deleted_of
 failed_none fault es v f = ap deleted_of f.1
 
@@ -123,36 +123,36 @@ import_none c st id lits es v judged =
 -- Deleted
 
 line_deletes : (c : Setting) (n : State) (before : List StreamLine) (line : StreamLine) (many deleted : ℕ) (fault : Fault) (es rest : History)
-    → JudgesLine c (standing_of c before) line es (Bad deleted fault) → OwnRun n (es ++ rest) → AreTaken c n (is_gone c before) [] many → many + deleted ≤ last_identity c.layout
+    → JudgesLine c (standing_of c before) line es (Bad deleted fault) → OwnRun n (es ++ rest) → AreTaken c n (standing_of c before).gone [] many → many + deleted ≤ last_identity c.layout
 unfolding deleted_of
 line_deletes c n before (Addition id lits hints) many deleted fault es rest judged answers are =
     let none = addition_none c (standing_of c before) id lits hints es (Bad deleted fault) judged in
-    omega (arith, none, taken_within c n (is_gone c before) [] many are)
+    omega (arith, none, taken_within c n (standing_of c before).gone [] many are)
 line_deletes c n before (Import id lits) many deleted fault es rest judged answers are =
     let none = import_none c (standing_of c before) id lits es (Bad deleted fault) judged in
-    omega (arith, none, taken_within c n (is_gone c before) [] many are)
+    omega (arith, none, taken_within c n (standing_of c before).gone [] many are)
 line_deletes c n before (Deletion lead ids) many deleted fault es rest judged answers are =
-    let took = identities_took c n (is_gone c before) [] ids many es rest (Bad deleted fault) judged answers are in
-    omega (arith, took.4, taken_within c took.0 (is_gone c before) took.1 took.2 took.3)
+    let took = identities_took c n (standing_of c before).gone [] ids many es rest (Bad deleted fault) judged answers are in
+    omega (arith, took.4, taken_within c took.0 (standing_of c before).gone took.1 took.2 took.3)
 
 ends_delete : (c : Setting) (n : State) (lines : List StreamLine) (rest : List ℕ) (end : StreamEnd) (back : List History) (report : Report)
-    → OwnRun n (joined back) → AreTaken c n (is_gone c lines) [] (sum_by (λ l. length (deleted_by l)) lines) → EndsAfter c lines rest end back report
+    → OwnRun n (joined back) → AreTaken c n (standing_of c lines).gone [] (sum_by (λ l. length (deleted_by l)) lines) → EndsAfter c lines rest end back report
     → report.deleted ≤ last_identity c.layout
-ends_delete c n lines rest end back report answers are (inl e) =
-    let here = subst (λ b. OwnRun n (joined b)) e.one_block answers in
-    let few = line_deletes c n lines e.line (sum_by (λ l. length (deleted_by l)) lines) e.deleted e.fault e.block [] e.bad here are in
-    subst (λ (r : Report). r.deleted ≤ last_identity c.layout) (sym e.says) (omega (arith, few))
-ends_delete c n lines rest end back report answers are (inr (inl e)) =
-    let few = taken_within c n (is_gone c lines) [] (sum_by (λ l. length (deleted_by l)) lines) are in
-    subst (λ (r : Report). r.deleted ≤ last_identity c.layout) (sym e.says) (omega (arith, few))
-ends_delete c n lines rest end back report answers are (inr (inr (inl e))) =
-    let here = subst (λ b. OwnRun n (joined b)) e.one_block answers in
-    let took = identities_took c n (is_gone c lines) [] e.earlier (sum_by (λ l. length (deleted_by l)) lines) e.block [] Good e.stops.before here are in
-    let few = taken_within c (run n e.block) (is_gone c lines) e.earlier (sum_by (λ l. length (deleted_by l)) lines + length e.earlier) took in
-    subst (λ (r : Report). r.deleted ≤ last_identity c.layout) (sym e.says) (omega (arith, few))
-ends_delete c n lines rest end back report answers are (inr (inr (inr e))) =
-    let few = taken_within c n (is_gone c lines) [] (sum_by (λ l. length (deleted_by l)) lines) are in
-    subst (λ (r : Report). r.deleted ≤ last_identity c.layout) (sym e.says) (omega (arith, few))
+ends_delete c n lines rest end back report answers are (at_bad_line line more text fits block one_block deleted fault bad says) =
+    let here = subst (λ b. OwnRun n (joined b)) one_block answers in
+    let few = line_deletes c n lines line (sum_by (λ l. length (deleted_by l)) lines) deleted fault block [] bad here are in
+    subst (λ (r : Report). r.deleted ≤ last_identity c.layout) (sym says) (omega (arith, few))
+ends_delete c n lines rest end back report answers are (at_bad_text fault text no_block says) =
+    let few = taken_within c n (standing_of c lines).gone [] (sum_by (λ l. length (deleted_by l)) lines) are in
+    subst (λ (r : Report). r.deleted ≤ last_identity c.layout) (sym says) (omega (arith, few))
+ends_delete c n lines rest end back report answers are (at_memory lead ids more text fits block one_block earlier stops says) =
+    let here = subst (λ b. OwnRun n (joined b)) one_block answers in
+    let took = identities_took c n (standing_of c lines).gone [] earlier (sum_by (λ l. length (deleted_by l)) lines) block [] Good stops.before here are in
+    let few = taken_within c (run n block) (standing_of c lines).gone earlier (sum_by (λ l. length (deleted_by l)) lines + length earlier) took in
+    subst (λ (r : Report). r.deleted ≤ last_identity c.layout) (sym says) (omega (arith, few))
+ends_delete c n lines rest end back report answers are (at_end pending no_block says) =
+    let few = taken_within c n (standing_of c lines).gone [] (sum_by (λ l. length (deleted_by l)) lines) are in
+    subst (λ (r : Report). r.deleted ≤ last_identity c.layout) (sym says) (omega (arith, few))
 
 -- Added
 
@@ -166,8 +166,8 @@ owns_below p s id owns = (identity_below p id (λ e. let f : owners.Outside ≡ 
 
 -- so many were added that the last identity is at least that far from the formula's
 record AreFewAdded (c : Setting) (lines : List StreamLine) : Type 0 where
-  few : sum_by added_by lines + c.layout.clauses ≤ last_in c.layout lines
-  below : last_in c.layout lines ≤ last_identity c.layout
+  few : length (additions_of lines) + c.layout.clauses ≤ (standing_of c lines).last
+  below : (standing_of c lines).last ≤ last_identity c.layout
 
 one_added : (c : Setting) (before : List StreamLine) (line : StreamLine) (es : History) → JudgesLine c (standing_of c before) line es Good → AreFewAdded c before → AreFewAdded c (before ++ line ∷ [])
 one_added c before (Addition id lits hints) es judged are =
@@ -175,19 +175,19 @@ one_added c before (Addition id lits hints) es judged are =
     let above = last_below c (standing_of c before) id lits hints es judged in
     let within = owns_below c.layout c.stream id (owns_good c (standing_of c before) id lits hints es judged) in
     record {
-      few = omega (arith, last, above, are.few, sum_by-append added_by before (Addition id lits hints ∷ []));
+      few = omega (arith, last, above, are.few, added-snoc before (Addition id lits hints));
       below = omega (arith, last, within);
     }
 one_added c before (Deletion lead ids) es judged are =
     let last = same_last c before (Deletion lead ids) es judged in
     record {
-      few = omega (arith, last, are.few, sum_by-append added_by before (Deletion lead ids ∷ []));
+      few = omega (arith, last, are.few, added-snoc before (Deletion lead ids));
       below = omega (arith, last, are.below);
     }
 one_added c before (Import id lits) es judged are =
     let last = same_last c before (Import id lits) es judged in
     record {
-      few = omega (arith, last, are.few, sum_by-append added_by before (Import id lits ∷ []));
+      few = omega (arith, last, are.few, added-snoc before (Import id lits));
       below = omega (arith, last, are.below);
     }
 
@@ -198,22 +198,22 @@ lines_added c before (line ∷ lines) (block ∷ blocks) good are =
     subst (AreFewAdded c) (append_assoc before (line ∷ []) lines)
     (lines_added c (before ++ line ∷ []) lines blocks good.1 (one_added c before line block good.0 are))
 
-added_is : (c : Setting) (lines : List StreamLine) (rest : List ℕ) (end : StreamEnd) (back : List History) (report : Report) → EndsAfter c lines rest end back report → report.added ≡ sum_by added_by lines
-added_is c lines rest end back report (inl e) = ap (λ (r : Report). r.added) e.says
-added_is c lines rest end back report (inr (inl e)) = ap (λ (r : Report). r.added) e.says
-added_is c lines rest end back report (inr (inr (inl e))) = ap (λ (r : Report). r.added) e.says
-added_is c lines rest end back report (inr (inr (inr e))) = ap (λ (r : Report). r.added) e.says
+added_is : (c : Setting) (lines : List StreamLine) (rest : List ℕ) (end : StreamEnd) (back : List History) (report : Report) → EndsAfter c lines rest end back report → report.added ≡ length (additions_of lines)
+added_is c lines rest end back report (at_bad_line _ _ _ _ _ _ _ _ _ says) = ap (λ (r : Report). r.added) says
+added_is c lines rest end back report (at_bad_text _ _ _ says) = ap (λ (r : Report). r.added) says
+added_is c lines rest end back report (at_memory _ _ _ _ _ _ _ _ _ says) = ap (λ (r : Report). r.added) says
+added_is c lines rest end back report (at_end _ _ says) = ap (λ (r : Report). r.added) says
 
 pub counts_within : CountsWithin
 unfolding SameOwn
 counts_within f c h bytes end blocks report legal mine j =
     let answers : OwnRun (opening f) (own h c.stream) = own_runs f c.layout c.stream (opening f) (opening f) h legal.events (λ id owns. refl) in
     let split = subst (OwnRun (opening f)) (mine ∙ ap joined j.split ∙ joined-append j.front j.back) answers in
-    let none : AreTaken c (opening f) (is_gone c []) [] 0 = record { ids = []; apart = tt; taken = tt; count = refl } in
-    let taken = lines_took c (opening f) [] j.lines j.front 0 (joined j.back) j.begins.good split none in
-    let exact : AreTaken c (run (opening f) (joined j.front)) (is_gone c j.lines) [] (sum_by (λ l. length (deleted_by l)) j.lines) =
-    subst (AreTaken c (run (opening f) (joined j.front)) (is_gone c j.lines) []) (omega arith) taken in
-    let added = lines_added c [] j.lines j.front j.begins.good (record { few = omega arith; below = omega arith }) in (
+    let none : AreTaken c (opening f) (standing_of c []).gone [] 0 = record { ids = []; apart = tt; taken = tt; count = refl } in
+    let taken = lines_took c (opening f) [] j.lines j.front 0 (joined j.back) j.good split none in
+    let exact : AreTaken c (run (opening f) (joined j.front)) (standing_of c j.lines).gone [] (sum_by (λ l. length (deleted_by l)) j.lines) =
+    subst (AreTaken c (run (opening f) (joined j.front)) (standing_of c j.lines).gone []) (omega arith) taken in
+    let added = lines_added c [] j.lines j.front j.good (record { few = omega arith; below = omega arith }) in (
       omega (arith, added_is c j.lines j.rest end j.back report j.ends, added.few, added.below),
       ends_delete c (run (opening f) (joined j.front)) j.lines j.rest end j.back report (run_on (opening f) (joined j.front) (joined j.back) split) exact j.ends,
     )

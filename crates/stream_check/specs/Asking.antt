@@ -1,7 +1,9 @@
 -- How often a hint is fetched (this project's own).
 use Rattle.std.specs.Prelude.{◌≡◌, ◌≤◌, ◌++◌, ℕ, [], ◌∷◌, replicate}
 use Rattle.lrup_model.specs.Event.{History, Reply, vacant, fetch}
-use Rattle.stream_check.specs.Setting.{Setting, Side, formula, own, foreign, outside, side_of}
+use Rattle.stream_check.specs.declared.setting.Side.{Side}
+use Rattle.stream_check.specs.declared.setting.Side.TheVariants as sides
+use Rattle.stream_check.specs.Setting.{Setting, side_of}
 
 -- k vacant fetches of one identity and one last fetch, k at most `most`; if the last is vacant too, k is `most`
 abbrev pub FetchesUpTo : ℕ → ℕ → ℕ → History → Reply → Type 0
@@ -10,10 +12,10 @@ FetchesUpTo most s id es r = (k : ℕ) × (k ≤ most) × (r ≡ vacant → k �
 
 -- own identities and the formula's are fetched once, another stream's until it isn't vacant, and what is no identity never
 abbrev pub AsksAt : Side → Setting → ℕ → History → Reply → Type 0
-AsksAt formula c h es r = es ≡ fetch c.stream h r ∷ []
-AsksAt own c h es r = es ≡ fetch c.stream h r ∷ []
-AsksAt foreign c h es r = FetchesUpTo c.tries c.stream h es r
-AsksAt outside c h es r = (es ≡ []) × (r ≡ vacant)
+AsksAt sides.Formula c h es r = es ≡ fetch c.stream h r ∷ []
+AsksAt sides.Own c h es r = es ≡ fetch c.stream h r ∷ []
+AsksAt sides.Foreign c h es r = FetchesUpTo c.tries c.stream h es r
+AsksAt sides.Outside c h es r = (es ≡ []) × (r ≡ vacant)
 
 -- the events of a hint and the last reply, which is taken as vacant if there is no event
 abbrev pub Asks : Setting → ℕ → History → Reply → Type 0

@@ -16,18 +16,17 @@ use Rattle.stream_check.specs.declared.fault.Fault.{Fault}
 use Rattle.stream_check.specs.declared.fault.Fault.TheVariants as faults
 use Rattle.stream_check.specs.declared.report.Ending.{Ending}
 use Rattle.stream_check.specs.declared.report.Ending.TheVariants as endings
-use Rattle.stream_check.specs.declared.report.Report.{Report}
 use Rattle.stream_check.specs.declared.held.Held.{Held}
 use Rattle.stream_check.specs.declared.progress.CheckTurn.{CheckTurn}
 use Rattle.stream_check.specs.declared.progress.CheckTurn.TheVariants as turns
 use Rattle.stream_check.specs.Setting.{Setting}
-use Rattle.stream_check.specs.Standing.{capped, Standing, Tally, is_among}
+use Rattle.stream_check.specs.Standing.{capped, Standing, is_among}
 use Rattle.stream_check.specs.Verdicts.{LineVerdict, Bad}
 use Rattle.stream_check.specs.Additions.{JudgesHints, JudgesAddition, published_by}
 use Rattle.stream_check.specs.Judging.{ending_at, JudgesBlocks}
 use Rattle.stream_check.specs.Leaving.{Holding, CheckerState, Going, Over, Leaves}
 use Rattle.stream_check.specs.Checking.{IsPlaceOf}
-use Rattle.stream_check.specs.CheckerValue.{CheckerValue}
+use Rattle.stream_check.specs.CheckerValue.{Tally, report_of_tally, CheckerValue}
 
 -- what the good lines so far leave, where so much room is left
 abbrev pub standing_at : Held → ℕ → Standing
@@ -94,17 +93,6 @@ value_of h pending ending = record {
   ending = ending;
 }
 
--- the report of these counts, with this ending
-abbrev pub report_at : Tally → Ending → Report
-report_at t ending =
-    record {
-      added = t.added;
-      deleted = t.deleted;
-      empty = t.empty;
-      within = t.within;
-      ending = ending;
-    }
-
 abbrev pub holding_of : CheckerValue → ℕ → Holding
 holding_of v free = record {
   tally = v.tally;
@@ -115,7 +103,7 @@ holding_of v free = record {
 
 abbrev pub state_by : CheckerValue → ℕ → Option Ending → CheckerState
 state_by v free None = Going (holding_of v free)
-state_by v free (Some ending) = Over (report_at v.tally ending)
+state_by v free (Some ending) = Over (report_of_tally v.tally ending)
 
 -- what the checker is left as, where so much room is left
 abbrev pub checker_state : CheckerValue → ℕ → CheckerState
@@ -187,7 +175,7 @@ ReportsEnd end old new =
     (bytes : List ℕ) (blocks : List History) (free : ℕ)
     → Leaves old.setting bytes blocks (checker_state old free)
     → (ending : Ending) × (new.ending ≡ Some ending)
-    × JudgesBlocks old.setting bytes end blocks (report_at new.tally ending)
+    × JudgesBlocks old.setting bytes end blocks (report_of_tally new.tally ending)
 
 -- a checker that isn't over reads on, and its parts are for one setting
 pub record IsSound (c : Setting) (vars : ℕ) (reader : ReaderState)

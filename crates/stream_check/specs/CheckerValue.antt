@@ -1,8 +1,26 @@
 -- What contracts see of a checker (this project's own).
-use Rattle.std.specs.Prelude.{ℕ, List, Option}
+use Rattle.std.specs.Prelude.{ℕ, Bool, List, Option}
 use Rattle.stream_check.specs.declared.report.Ending.{Ending}
 use Rattle.stream_check.specs.Setting.{Setting}
-use Rattle.stream_check.specs.Standing.{Tally}
+use Rattle.stream_check.specs.declared.report.Report.{Report}
+
+-- how many additions and deleted identities were good, whether an added clause is empty, and whether one is within the cube
+pub record Tally : Type 0 where
+  pub added : ℕ
+  pub deleted : ℕ
+  pub empty : Bool
+  pub within : Bool
+
+-- the report of these counts, with this ending
+abbrev pub report_of_tally : Tally → Ending → Report
+report_of_tally t ending =
+    record {
+      added = t.added;
+      deleted = t.deleted;
+      empty = t.empty;
+      within = t.within;
+      ending = ending;
+    }
 
 -- Whose lines it checks; the counts, the last identity and the dropped ones, and how many were retired; the text read of the
 -- next line and that line's number; and how the stream ended, if it did.

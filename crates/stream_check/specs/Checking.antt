@@ -18,20 +18,12 @@ use Rattle.stream_check.specs.declared.setting.Side.{Side}
 use Rattle.stream_check.specs.declared.setting.Side.TheVariants as sides
 use Rattle.stream_check.specs.declared.deletion.LineStop.{LineStop}
 use Rattle.stream_check.specs.declared.deletion.LineStop.TheVariants as stops
-use Rattle.stream_check.specs.Setting as setting
 use Rattle.stream_check.specs.Setting.{Setting, side_of, is_shared}
 use Rattle.stream_check.specs.Standing.{is_among}
 use Rattle.stream_check.specs.Verdicts.{LineVerdict, Good, Bad, Test}
 use Rattle.stream_check.specs.Asking.{Asks}
 use Rattle.stream_check.specs.Additions.{JudgesHints, published_by}
 use Rattle.stream_check.specs.Deletions.{JudgesDeletion, StopsDeletion}
-
--- the side that a `Side` is
-abbrev pub side_is : Side → setting.Side
-side_is sides.Formula = setting.formula
-side_is sides.Own = setting.own
-side_is sides.Foreign = setting.foreign
-side_is sides.Outside = setting.outside
 
 -- the place is this stream's, at this layout
 pub record IsPlaceOf (c : Setting) (p : Place) : Type 0 where
@@ -117,12 +109,12 @@ DropsShared id old new (Err (stops.Bad fault)) =
     (is_among old id ≡ true) × (fault ≡ faults.NotLive id)
 DropsShared id old new (Err stops.Memory) = is_among old id ≡ false
 
-abbrev pub DeletesSide : setting.Side → Setting → ℕ → List ℕ → List ℕ → History
+abbrev pub DeletesSide : Side → Setting → ℕ → List ℕ → List ℕ → History
     → Result (Unit {0}) LineStop → Type 0
-DeletesSide setting.formula c id old new es result = (es ≡ []) × DropsShared id old new result
-DeletesSide setting.own c id old new es result = DeletesOwn c id old new es result
-DeletesSide setting.foreign c id old new es result = (es ≡ []) × DropsShared id old new result
-DeletesSide setting.outside c id old new es result =
+DeletesSide sides.Formula c id old new es result = (es ≡ []) × DropsShared id old new result
+DeletesSide sides.Own c id old new es result = DeletesOwn c id old new es result
+DeletesSide sides.Foreign c id old new es result = (es ≡ []) × DropsShared id old new result
+DeletesSide sides.Outside c id old new es result =
     (es ≡ []) × (result ≡ Err (stops.Bad (faults.NotLive id)))
 
 -- what became of one identity to delete, where these were dropped before, and these are afterwards
@@ -144,8 +136,8 @@ AreDropped c old ids new =
 abbrev pub Deletes : Setting → List ℕ → List ℕ → List ℕ → History → ℕ → Result (Unit {0}) LineStop
     → Type 0
 Deletes c old new ids es count (Ok _) =
-    JudgesDeletion c (is_among old) ids es Good × (count ≡ length ids) × AreDropped c old ids new
+    JudgesDeletion c (is_among old) [] ids es Good × (count ≡ length ids) × AreDropped c old ids new
 Deletes c old new ids es count (Err (stops.Bad fault)) =
-    JudgesDeletion c (is_among old) ids es (Bad count fault)
+    JudgesDeletion c (is_among old) [] ids es (Bad count fault)
 Deletes c old new ids es count (Err stops.Memory) =
     (earlier : List ℕ) × (count ≡ length earlier) × StopsDeletion c (is_among old) ids es earlier

@@ -1,7 +1,7 @@
 -- How an import is judged: the tests in their order (this project's own). What the map has is the clause of the last reply.
 use Rattle.std.specs.Prelude.{◌≡◌, ◌≤◌, ◌↔◌, ℕ, ℤ, nat_abs, true, false, List, []}
 use Rattle.std.specs.List.{AllByRecursion}
-use Rattle.lrup_model.specs.Clause.{Clause, Has}
+use Rattle.lrup_model.specs.Clause.{Has}
 use Rattle.lrup_model.specs.Event as events
 use Rattle.lrup_model.specs.Event.{History, Reply}
 use Rattle.stream_check.specs.declared.fault.Fault.TheVariants as faults
@@ -10,16 +10,13 @@ use Rattle.stream_check.specs.Standing.{Standing}
 use Rattle.stream_check.specs.Verdicts.{LineVerdict, Good, Fails, Test}
 use Rattle.stream_check.specs.Asking.{AsksThen}
 
--- the same literals, however often and in whatever order
-abbrev pub HasSame : Clause → List ℤ → Type 0
-HasSame d lits = (l : ℤ) → Has d l ↔ Has lits l
-
--- what the last reply does: a clause is compared, with no more events
+-- what the last reply does: a clause must have the import's literals, in whatever order and however often each is written; then the
+-- line is good, with no more events
 abbrev pub AtImported : Reply → ℕ → List ℤ → History → LineVerdict → Type 0
-AtImported events.vacant id lits es v = Fails (faults.Missing id) es v
+AtImported events.vacant id lits es v = Fails 0 (faults.Missing id) es v
 AtImported (events.live d) id lits es v =
-    Test (HasSame d lits) (faults.Differs id) es v ((es ≡ []) × (v ≡ Good))
-AtImported events.retired id lits es v = Fails (faults.Retired id) es v
+    Test ((l : ℤ) → Has d l ↔ Has lits l) (faults.Differs id) es v ((es ≡ []) × (v ≡ Good))
+AtImported events.retired id lits es v = Fails 0 (faults.Retired id) es v
 
 -- an import's events and its verdict, after the lines that left this standing: it is of the formula or of another stream, and not dropped
 abbrev pub JudgesImport : Setting → Standing → ℕ → List ℤ → History → LineVerdict → Type 0

@@ -1,6 +1,6 @@
 -- How a stream is judged: whole lists of lines, one block of events for each line, and no checker's state (this project's own).
-use Rattle.std.specs.Prelude.{◌≡◌, ◌⊎◌, ◌+◌, ◌++◌, ℕ, List, [], ◌∷◌, length}
-use Rattle.std.specs.List.{AllByRecursion, flat_map}
+use Rattle.std.specs.Prelude.{◌≡◌, ◌==◌, ◌+◌, ◌++◌, ℕ, List, [], ◌∷◌, length}
+use Rattle.std.specs.List.{AllByRecursion, flat_map, list_any, sum_by}
 use Rattle.lrup_model.specs.Event.{History}
 use Rattle.lrup_text.specs.declared.LineFault.TheVariants as texts
 use Rattle.lrup_text.specs.declared.LineFault.{LineFault}
@@ -14,7 +14,7 @@ use Rattle.stream_check.specs.declared.report.Ending.{Ending}
 use Rattle.stream_check.specs.declared.report.Ending.TheVariants as endings
 use Rattle.stream_check.specs.declared.report.Report.{Report}
 use Rattle.stream_check.specs.Setting.{Setting}
-use Rattle.stream_check.specs.Standing.{Standing, standing_of, Tally, tally_of, capped, line_number}
+use Rattle.stream_check.specs.Standing.{Standing, additions_of, deleted_by, standing_of, capped, is_within}
 use Rattle.stream_check.specs.Verdicts.{LineVerdict, Good, Bad}
 use Rattle.stream_check.specs.Additions.{JudgesAddition}
 use Rattle.stream_check.specs.Deletions.{JudgesDeletion, StopsDeletion}
@@ -23,7 +23,7 @@ use Rattle.stream_check.specs.Imports.{JudgesImport}
 -- a line's events and its verdict, after the lines that left this standing
 abbrev pub JudgesLine : Setting → Standing → StreamLine → History → LineVerdict → Type 0
 JudgesLine c st (Addition id lits hints) es v = JudgesAddition c st id lits hints es v
-JudgesLine c st (Deletion lead ids) es v = JudgesDeletion c st.gone ids es v
+JudgesLine c st (Deletion lead ids) es v = JudgesDeletion c st.gone [] ids es v
 JudgesLine c st (Import id lits) es v = JudgesImport c st id lits es v
 
 -- each line is good after the good lines before it, and has one block of events
@@ -39,62 +39,16 @@ AreGood c before (line ∷ lines) (block ∷ blocks) =
 abbrev pub joined : List History → History
 joined blocks = flat_map (λ block. block) blocks
 
--- the bytes are the texts of good lines, and a rest
-pub record BeginsGood (c : Setting) (bytes : List ℕ) (lines : List StreamLine) (rest : List ℕ)
-    (blocks : List History) : Type 0 where
-  pub text : bytes ≡ flat_map line_text lines ++ rest
-  pub fits : AllByRecursion IsWithinLimits lines
-  pub good : AreGood c [] lines blocks
-
--- the report after these counts, some more deleted identities, and this ending
-abbrev pub report_of : Tally → ℕ → Ending → Report
-report_of t deleted ending =
+-- the report of these good lines, some more deleted identities, and this ending
+abbrev pub report_of : Setting → List StreamLine → ℕ → Ending → Report
+report_of c lines deleted ending =
     record {
-      added = t.added;
-      deleted = capped (t.deleted + deleted);
-      empty = t.empty;
-      within = t.within;
+      added = length (additions_of lines);
+      deleted = capped (sum_by (λ line. length (deleted_by line)) lines + deleted);
+      empty = list_any (λ addition. length addition.1 == 0) (additions_of lines);
+      within = list_any (λ addition. is_within c.cube addition.1) (additions_of lines);
       ending = ending;
     }
-
--- After good lines: a line that is bad, whatever follows it.
-pub record EndsAtLine (c : Setting) (lines : List StreamLine) (rest : List ℕ)
-    (blocks : List History) (report : Report) : Type 0 where
-  pub line : StreamLine
-  pub more : List ℕ
-  pub text : rest ≡ line_text line ++ more
-  pub fits : IsWithinLimits line
-  pub block : History
-  pub one_block : blocks ≡ block ∷ []
-  pub deleted : ℕ
-  pub fault : Fault
-  pub bad : JudgesLine c (standing_of c lines) line block (Bad deleted fault)
-  pub says : report ≡ report_of (tally_of c lines) deleted
-      (endings.Bad (line_number (length lines)) fault)
-
--- After good lines: a text that begins no line, whatever follows it.
-pub record EndsAtText (c : Setting) (lines : List StreamLine) (rest : List ℕ)
-    (blocks : List History) (report : Report) : Type 0 where
-  pub fault : LineFault
-  pub text : HasTextFault rest fault
-  pub no_block : blocks ≡ []
-  pub says : report ≡ report_of (tally_of c lines) 0
-      (endings.Bad (line_number (length lines)) (faults.Text fault))
-
--- After good lines: a deletion that ran out of memory, whatever follows it.
-pub record EndsAtMemory (c : Setting) (lines : List StreamLine) (rest : List ℕ)
-    (blocks : List History) (report : Report) : Type 0 where
-  pub lead : ℕ
-  pub ids : List ℕ
-  pub more : List ℕ
-  pub text : rest ≡ line_text (Deletion lead ids) ++ more
-  pub fits : IsWithinLimits (Deletion lead ids)
-  pub block : History
-  pub one_block : blocks ≡ block ∷ []
-  pub earlier : List ℕ
-  pub stops : StopsDeletion c (standing_of c lines).gone ids block earlier
-  pub says : report ≡ report_of (tally_of c lines) (length earlier)
-      (endings.Memory (line_number (length lines)))
 
 -- the ending where all lines are good and this rest begins a line, which has this number
 abbrev pub ending_at : StreamEnd → List ℕ → ℕ → Ending
@@ -102,23 +56,38 @@ ending_at stream_ends.Ended [] number = endings.Ended
 ending_at stream_ends.Ended (byte ∷ bytes) number = endings.Bad number (faults.Text texts.Truncated)
 ending_at stream_ends.Failed rest number = endings.ReadFailed number
 
--- After good lines: the end of the stream, with a rest that may still become a line.
-pub record EndsAtEnd (c : Setting) (lines : List StreamLine) (rest : List ℕ) (end : StreamEnd)
+-- After good lines one of four things ends the stream, with the line number after theirs. The rest
+-- decides which, but for a deletion: memory may run out there before a fault is met.
+pub data EndsAfter (c : Setting) (lines : List StreamLine) (rest : List ℕ) (end : StreamEnd)
     (blocks : List History) (report : Report) : Type 0 where
-  pub pending : IsPending rest
-  pub no_block : blocks ≡ []
-  pub says : report ≡ report_of (tally_of c lines) 0
-      (ending_at end rest (line_number (length lines)))
-
--- After good lines one of four things ends the stream. The rest decides which, but for a deletion:
--- memory may run out there before a fault is met.
-abbrev pub EndsAfter : Setting → List StreamLine → List ℕ → StreamEnd → List History → Report
-    → Type 0
-EndsAfter c lines rest end blocks report =
-    EndsAtLine c lines rest blocks report
-    ⊎ (EndsAtText c lines rest blocks report
-    ⊎ (EndsAtMemory c lines rest blocks report
-    ⊎ EndsAtEnd c lines rest end blocks report))
+  -- a line that is bad, whatever follows it
+  at_bad_line :
+      (line : StreamLine) (more : List ℕ) (text : rest ≡ line_text line ++ more)
+      (fits : IsWithinLimits line) (block : History) (one_block : blocks ≡ block ∷ [])
+      (deleted : ℕ) (fault : Fault)
+      (bad : JudgesLine c (standing_of c lines) line block (Bad deleted fault))
+      (says : report ≡ report_of c lines deleted (endings.Bad (capped (length lines + 1)) fault))
+      → EndsAfter c lines rest end blocks report
+  -- a text that begins no line, whatever follows it
+  at_bad_text :
+      (fault : LineFault) (text : HasTextFault rest fault) (no_block : blocks ≡ [])
+      (says : report
+      ≡ report_of c lines 0 (endings.Bad (capped (length lines + 1)) (faults.Text fault)))
+      → EndsAfter c lines rest end blocks report
+  -- a deletion that ran out of memory, whatever follows it
+  at_memory :
+      (lead : ℕ) (ids more : List ℕ) (text : rest ≡ line_text (Deletion lead ids) ++ more)
+      (fits : IsWithinLimits (Deletion lead ids)) (block : History)
+      (one_block : blocks ≡ block ∷ []) (earlier : List ℕ)
+      (stops : StopsDeletion c (standing_of c lines).gone ids block earlier)
+      (says : report
+      ≡ report_of c lines (length earlier) (endings.Memory (capped (length lines + 1))))
+      → EndsAfter c lines rest end blocks report
+  -- the end of the stream, with a rest that may still become a line
+  at_end :
+      (pending : IsPending rest) (no_block : blocks ≡ [])
+      (says : report ≡ report_of c lines 0 (ending_at end rest (capped (length lines + 1))))
+      → EndsAfter c lines rest end blocks report
 
 -- The stream of these bytes and this end, whose lines have these blocks of events, is judged so: its good lines come first, and then what ended it.
 pub record JudgesBlocks (c : Setting) (bytes : List ℕ) (end : StreamEnd) (blocks : List History)
@@ -128,7 +97,9 @@ pub record JudgesBlocks (c : Setting) (bytes : List ℕ) (end : StreamEnd) (bloc
   pub front : List History
   pub back : List History
   pub split : blocks ≡ front ++ back
-  pub begins : BeginsGood c bytes lines rest front
+  pub text : bytes ≡ flat_map line_text lines ++ rest
+  pub fits : AllByRecursion IsWithinLimits lines
+  pub good : AreGood c [] lines front
   pub ends : EndsAfter c lines rest end back report
 
 -- the stream of these bytes, this end and these events is judged so

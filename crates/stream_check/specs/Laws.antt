@@ -1,5 +1,5 @@
 -- Laws of judging, each the contract of a function in `src/laws.rt`, and the words that they need.
-use Rattle.std.specs.Prelude.{◌≡◌, ◌≢◌, ◌↔◌, ◌≤◌, ◌++◌, ℕ, ℤ, Bool, IsTrue, List, [], ◌∷◌, map, length}
+use Rattle.std.specs.Prelude.{◌≡◌, ◌≢◌, ◌↔◌, ◌≤◌, ◌+◌, ◌++◌, ℕ, ℤ, Bool, IsTrue, List, [], ◌∷◌, map, length}
 use Rattle.std.specs.List.{AllByRecursion, Any}
 use Rattle.lrup_model.specs.Cube.{CubeValue, Within}
 use Rattle.lrup_model.specs.Formula.{Cnf}
@@ -24,16 +24,16 @@ use Rattle.stream_check.specs.declared.report.Ending.TheVariants as endings
 use Rattle.stream_check.specs.declared.report.Report.{Report}
 use Rattle.stream_check.specs.Setting.{Setting}
 use Rattle.stream_check.specs.Deletions.{StopsDeletion}
-use Rattle.stream_check.specs.Judging.{JudgesLine, joined, report_of, ending_at, JudgesBlocks, Judges}
+use Rattle.stream_check.specs.Judging.{JudgesLine, joined, ending_at, JudgesBlocks, Judges}
 use Rattle.stream_check.specs.Forks.{NeverFork}
 use Rattle.lrup_model.specs.Distinct.{distinct}
-use Rattle.stream_check.specs.Standing.{Standing}
+use Rattle.stream_check.specs.Standing.{Standing, additions_of, capped}
 use Rattle.stream_check.specs.Additions.{JudgesAddition}
 use Rattle.stream_check.specs.Reducing.{reduced, IsEarly, TriesAgain}
 use Rattle.stream_check.specs.Finding.{IsGoodAddition, FindsSound}
 use Rattle.stream_check.specs.Verdicts.{LineVerdict, Good, Bad}
 use Rattle.stream_check.specs.Leaving.{Holding, Going, Over, Leaves, IsFresh, TakesLine}
-use Rattle.stream_check.specs.CheckerValue.{CheckerValue}
+use Rattle.stream_check.specs.CheckerValue.{report_of_tally, CheckerValue}
 use Rattle.stream_check.specs.Checker.{IsNew, IsReadyAt}
 
 -- What a checker is left as, step by step
@@ -63,7 +63,8 @@ BadLineTaken = (c : Setting) (bytes piece : List ℕ) (blocks : List History) (b
     → Leaves c bytes blocks (Going old) → LineText line (old.pending ++ piece)
     → JudgesLine c old.standing line block (Bad deleted fault)
     → Leaves c (bytes ++ piece) (blocks ++ block ∷ [])
-    (Over (report_of old.tally deleted (endings.Bad old.line fault)))
+    (Over (report_of_tally (record old.tally { deleted = capped (old.tally.deleted + deleted) })
+    (endings.Bad old.line fault)))
 
 -- a text that begins no line
 abbrev pub BadTextRead : Type 0
@@ -71,7 +72,7 @@ BadTextRead = (c : Setting) (bytes piece : List ℕ) (blocks : List History) (ol
     (fault : LineFault)
     → Leaves c bytes blocks (Going old) → IsRefused (old.pending ++ piece) fault
     → Leaves c (bytes ++ piece) blocks
-    (Over (report_of old.tally 0 (endings.Bad old.line (faults.Text fault))))
+    (Over (report_of_tally old.tally (endings.Bad old.line (faults.Text fault))))
 
 -- a deletion that ran out of memory
 abbrev pub MemoryWanted : Type 0
@@ -80,13 +81,16 @@ MemoryWanted = (c : Setting) (bytes piece : List ℕ) (blocks : List History) (b
     → Leaves c bytes blocks (Going old) → LineText (Deletion lead ids) (old.pending ++ piece)
     → StopsDeletion c old.standing.gone ids block earlier
     → Leaves c (bytes ++ piece) (blocks ++ block ∷ [])
-    (Over (report_of old.tally (length earlier) (endings.Memory old.line)))
+    (Over (report_of_tally
+    (record old.tally { deleted = capped (old.tally.deleted + length earlier) })
+    (endings.Memory old.line)))
 
 -- the end of the stream, or a failed read
 abbrev pub EndJudged : Type 0
 EndJudged = (c : Setting) (bytes : List ℕ) (blocks : List History) (old : Holding) (end : StreamEnd)
     → Leaves c bytes blocks (Going old)
-    → JudgesBlocks c bytes end blocks (report_of old.tally 0 (ending_at end old.pending old.line))
+    → JudgesBlocks c bytes end blocks
+    (report_of_tally old.tally (ending_at end old.pending old.line))
 
 -- a checker that is over stays as it is, whatever follows
 abbrev pub OverStays : Type 0
@@ -258,18 +262,12 @@ CitedFetched = (c : Setting) (bytes : List ℕ) (end : StreamEnd) (blocks : List
 
 -- Cubes
 
--- the line adds a clause within the cube
-abbrev pub AddsWithin : CubeValue → StreamLine → Type 0
-AddsWithin cube (Addition id lits hints) = Within (distinct lits) cube
-AddsWithin cube (Deletion lead ids) = ⊥
-AddsWithin cube (Import id lits) = ⊥
-
 -- the report says 'within' exactly if a good addition's clause is within the cube
 abbrev pub WithinReported : Type 0
 WithinReported = (c : Setting) (bytes : List ℕ) (end : StreamEnd) (blocks : List History)
     (report : Report)
     → (j : JudgesBlocks c bytes end blocks report) → IsTrue report.within
-    ↔ Any (AddsWithin c.cube) j.lines
+    ↔ Any (λ addition. Within addition.1 c.cube) (additions_of j.lines)
 
 -- with the empty cube it says 'within' exactly if it says 'empty'
 abbrev pub EmptyCubeReported : Type 0

@@ -1,12 +1,15 @@
 -- What a checker is, and what it is left as by the bytes so far and the blocks of events of their lines (this project's own).
-use Rattle.std.specs.Prelude.{◌≡◌, ◌+◌, ◌-◌, ◌&&◌, ◌||◌, ℕ, List, [], length}
+use Rattle.std.specs.Prelude.{◌≡◌, ◌==◌, ◌+◌, ◌-◌, ◌&&◌, ◌||◌, ℕ, false, List, [], ◌∷◌, length}
+use Rattle.std.specs.List.{list_any, sum_by}
 use Rattle.lrup_model.specs.Event.{History}
 use Rattle.lrup_text.specs.Lines.{StreamLine, Addition, Deletion, Import, Cut, IsPending}
 use Rattle.lrup_text.specs.declared.device.StreamEnd.TheVariants as stream_ends
+use Rattle.stream_check.specs.declared.report.Ending.{Ending}
 use Rattle.stream_check.specs.declared.report.Report.{Report}
 use Rattle.stream_check.specs.Setting.{Setting, side_of, is_shared}
-use Rattle.stream_check.specs.Standing.{Standing, standing_of, is_among, line_size, deleted_by, added_by, adds_empty, adds_within, Tally, tally_of, capped, line_number}
-use Rattle.stream_check.specs.Judging.{AreGood, JudgesBlocks}
+use Rattle.stream_check.specs.Standing.{Standing, standing_of, additions_of, is_among, is_within, deleted_by, capped}
+use Rattle.stream_check.specs.Judging.{AreGood, report_of, JudgesBlocks}
+use Rattle.stream_check.specs.CheckerValue.{Tally, report_of_tally}
 
 -- what a checker holds that isn't over: its counts, what good lines left, the text read of the next line, and that line's number
 pub record Holding : Type 0 where
@@ -25,16 +28,17 @@ pub record SameStanding (a b : Standing) : Type 0 where
   pub free : a.free ≡ b.free
   pub gone : (id : ℕ) → a.gone id ≡ b.gone id
 
--- all lines are good, with these blocks of events, the rest may still become a line, and the checker holds what they leave
+-- All lines are good, with these blocks of events, the rest may still become a line, and the checker holds what they leave: its counts
+-- are those that a report of these lines has, whatever the ending.
 pub record LeavesGoing (c : Setting) (bytes : List ℕ) (blocks : List History)
     (now : Holding) : Type 0 where
   pub lines : List StreamLine
   pub cut : Cut bytes lines now.pending
   pub pending : IsPending now.pending
   pub good : AreGood c [] lines blocks
-  pub tally : now.tally ≡ tally_of c lines
+  pub tally : (ending : Ending) → report_of_tally now.tally ending ≡ report_of c lines 0 ending
   pub standing : SameStanding now.standing (standing_of c lines)
-  pub line : now.line ≡ line_number (length lines)
+  pub line : now.line ≡ capped (length lines + 1)
 
 -- The bytes so far, whose lines have these blocks of events, leave the checker so. One that is over has a report that is right whatever the end is.
 abbrev pub Leaves : Setting → List ℕ → List History → CheckerState → Type 0
@@ -53,16 +57,17 @@ last_after last (Import id lits) = last
 abbrev pub standing_after : Setting → Standing → StreamLine → Standing
 standing_after c st line = record {
   last = last_after st.last line;
-  free = st.free - line_size line;
+  free = st.free - sum_by (λ addition. length addition.1) (additions_of (line ∷ []));
   gone = λ id. st.gone id || is_shared (side_of c id) && is_among (deleted_by line) id;
 }
 
 abbrev pub tally_after : Setting → Tally → StreamLine → Tally
 tally_after c t line = record {
-  added = t.added + added_by line;
+  added = t.added + length (additions_of (line ∷ []));
   deleted = capped (t.deleted + length (deleted_by line));
-  empty = t.empty || adds_empty line;
-  within = t.within || adds_within c.cube line;
+  empty = t.empty || list_any (λ addition. length addition.1 == 0) (additions_of (line ∷ []));
+  within = t.within
+      || list_any (λ addition. is_within c.cube addition.1) (additions_of (line ∷ []));
 }
 
 -- what a checker holds after one good line more
@@ -75,7 +80,7 @@ pub record TakesLine (c : Setting) (old : Holding) (taken : StreamLine)
 
 -- what a checker holds before the first byte
 pub record IsFresh (c : Setting) (now : Holding) : Type 0 where
-  pub tally : now.tally ≡ tally_of c []
+  pub tally : now.tally ≡ record { added = 0; deleted = 0; empty = false; within = false }
   pub standing : SameStanding now.standing (standing_of c [])
   pub pending : now.pending ≡ []
   pub line : now.line ≡ 1

@@ -1,15 +1,18 @@
 -- Lemmas on a stream's lines and blocks, and on what a report says of them.
-use Rattle.std.proofs.Common.{◌≡◌, ℕ, List, [], ◌∷◌, ◌++◌, inl, inr, refl, sym, ap, ap₂, subst, append_assoc, append-nil}
-use Rattle.std.specs.Prelude.{◌||◌}
+use Rattle.std.proofs.Common.{◌≡◌, ℕ, List, [], ◌∷◌, ◌++◌, refl, sym, ap, ap₂, subst, append_assoc, append-nil}
+use Rattle.std.specs.Prelude.{◌||◌, ◌==◌, length}
 use Rattle.std.specs.List.{flat_map, list_any}
 use Rattle.std.proofs.lemmas.Grind.{flat_map-append}
+use Rattle.std.proofs.Math.Dec.{eqb-suc-zero}
+use Rattle.lrup_model.specs.Clause.{Clause}
+use Rattle.lrup_model.specs.Distinct.{distinct}
 use Rattle.lrup_model.specs.Event.{History}
 use Rattle.lrup_text.specs.Lines.{StreamLine, Addition, Deletion, Import, line_text}
 use Rattle.lrup_text.specs.declared.device.StreamEnd.{StreamEnd}
 use Rattle.stream_check.specs.declared.report.Report.{Report}
 use Rattle.stream_check.specs.Setting.{Setting}
-use Rattle.stream_check.specs.Standing.{adds_empty, adds_within}
-use Rattle.stream_check.specs.Judging.{EndsAfter, joined}
+use Rattle.stream_check.specs.Standing.{additions_of, is_within}
+use Rattle.stream_check.specs.Judging.{EndsAfter, at_bad_line, at_bad_text, at_memory, at_end, joined}
 use Rattle.stream_check.specs.Leaving.{CheckerState, Leaves}
 use Rattle.stream_check.specs.Checker.{LeavesOn}
 
@@ -21,6 +24,14 @@ pub split_first : (line : StreamLine) (lines : List StreamLine) (rest : List ℕ
     ++ (flat_map line_text lines ++ rest)
 split_first line lines rest = append_assoc (line_text line) (flat_map line_text lines) rest
 
+-- the additions of some lines, and then those of others
+pub additions-append : (a b : List StreamLine)
+    → additions_of (a ++ b) ≡ additions_of a ++ additions_of b
+additions-append [] b = refl
+additions-append (Addition id lits hints ∷ a) b = ap (λ (x : List (ℕ × Clause)). (id, distinct lits) ∷ x) (additions-append a b)
+additions-append (Deletion lead ids ∷ a) b = additions-append a b
+additions-append (Import id lits ∷ a) b = additions-append a b
+
 -- nothing is taken
 pub leaves_still : (c : Setting) (s : CheckerState) → LeavesOn c s [] [] s
 leaves_still c s bytes before leaves =
@@ -29,28 +40,27 @@ leaves_still c s bytes before leaves =
 -- the report tells of the good lines alone
 pub said_within : (c : Setting) (lines : List StreamLine) (rest : List ℕ) (end : StreamEnd)
     (back : List History) (report : Report) → EndsAfter c lines rest end back report
-    → report.within ≡ list_any (adds_within c.cube) lines
-said_within c lines rest end back report (inl line) = ap (λ (r : Report). r.within) line.says
-said_within c lines rest end back report (inr (inl text)) = ap (λ (r : Report). r.within) text.says
-said_within c lines rest end back report (inr (inr (inl memory))) = ap (λ (r : Report). r.within) memory.says
-said_within c lines rest end back report (inr (inr (inr ending))) = ap (λ (r : Report). r.within) ending.says
+    → report.within ≡ list_any (λ addition. is_within c.cube addition.1) (additions_of lines)
+said_within c lines rest end back report (at_bad_line _ _ _ _ _ _ _ _ _ says) = ap (λ (r : Report). r.within) says
+said_within c lines rest end back report (at_bad_text _ _ _ says) = ap (λ (r : Report). r.within) says
+said_within c lines rest end back report (at_memory _ _ _ _ _ _ _ _ _ says) = ap (λ (r : Report). r.within) says
+said_within c lines rest end back report (at_end _ _ says) = ap (λ (r : Report). r.within) says
 
 pub said_empty : (c : Setting) (lines : List StreamLine) (rest : List ℕ) (end : StreamEnd)
     (back : List History) (report : Report) → EndsAfter c lines rest end back report
-    → report.empty ≡ list_any adds_empty lines
-said_empty c lines rest end back report (inl line) = ap (λ (r : Report). r.empty) line.says
-said_empty c lines rest end back report (inr (inl text)) = ap (λ (r : Report). r.empty) text.says
-said_empty c lines rest end back report (inr (inr (inl memory))) = ap (λ (r : Report). r.empty) memory.says
-said_empty c lines rest end back report (inr (inr (inr ending))) = ap (λ (r : Report). r.empty) ending.says
+    → report.empty ≡ list_any (λ addition. length addition.1 == 0) (additions_of lines)
+said_empty c lines rest end back report (at_bad_line _ _ _ _ _ _ _ _ _ says) = ap (λ (r : Report). r.empty) says
+said_empty c lines rest end back report (at_bad_text _ _ _ says) = ap (λ (r : Report). r.empty) says
+said_empty c lines rest end back report (at_memory _ _ _ _ _ _ _ _ _ says) = ap (λ (r : Report). r.empty) says
+said_empty c lines rest end back report (at_end _ _ says) = ap (λ (r : Report). r.empty) says
 
 -- within the empty cube is the empty clause alone
-pub only_empty : (line : StreamLine) → adds_within [] line ≡ adds_empty line
-only_empty (Addition id [] hints) = refl
-only_empty (Addition id (l ∷ lits) hints) = refl
-only_empty (Deletion lead ids) = refl
-only_empty (Import id lits) = refl
+only_empty : (d : Clause) → is_within [] d ≡ (length d == 0)
+only_empty [] = refl
+only_empty (l ∷ d) = sym (eqb-suc-zero (length d))
 
-pub all_only_empty : (lines : List StreamLine)
-    → list_any (adds_within []) lines ≡ list_any adds_empty lines
+pub all_only_empty : (all : List (ℕ × Clause))
+    → list_any (λ addition. is_within [] addition.1) all
+    ≡ list_any (λ addition. length addition.1 == 0) all
 all_only_empty [] = refl
-all_only_empty (line ∷ lines) = ap₂ (λ a b. a || b) (only_empty line) (all_only_empty lines)
+all_only_empty (a ∷ all) = ap₂ (λ x y. x || y) (only_empty a.1) (all_only_empty all)

@@ -9,10 +9,11 @@ pub data LineVerdict : Type 0 where
   Good : LineVerdict
   Bad : (deleted : ℕ) (fault : Fault) → LineVerdict
 
--- no more events, and this fault
-abbrev pub Fails : Fault → History → LineVerdict → Type 0
-Fails fault es v = (es ≡ []) × (v ≡ Bad 0 fault)
+-- no more events, and this fault, where the line deleted so many identities before it
+abbrev pub Fails : ℕ → Fault → History → LineVerdict → Type 0
+Fails deleted fault es v = (es ≡ []) × (v ≡ Bad deleted fault)
 
--- either the test fails, with this fault, or it holds and what comes next decides
+-- Either the test fails, with this fault and nothing deleted, or it holds and what comes next decides. Only additions and imports
+-- have tests.
 abbrev pub Test : Type 0 → Fault → History → LineVerdict → Type 0 → Type 0
-Test Holds fault es v Next = ((¬ Holds) × Fails fault es v) ⊎ (Holds × Next)
+Test Holds fault es v Next = ((¬ Holds) × Fails 0 fault es v) ⊎ (Holds × Next)

@@ -5,7 +5,8 @@ ghost use Rattle.lrup_model.specs.Layout.{IsStream};
 ghost use Rattle.stream_check.specs.Setting.{max_tries};
 ghost use Rattle.lrup_text.specs.declared.device.StreamEnd.TheVariants as stream_ends;
 ghost use Rattle.stream_check.specs.Judging.{joined};
-ghost use Rattle.stream_check.specs.Checker.{checker_state, report_at, IsReadyAt, LeavesOn, AreBlocksOf, Turns, StaysOver, IsNew, Ends, ReportsEnd};
+ghost use Rattle.stream_check.specs.CheckerValue.{report_of_tally};
+ghost use Rattle.stream_check.specs.Checker.{checker_state, IsReadyAt, LeavesOn, AreBlocksOf, Turns, StaysOver, IsNew, Ends, ReportsEnd};
 
 use crate::addition::Buffers;
 use crate::fault::Fault;
@@ -184,7 +185,8 @@ impl Checker {
     /// What is said of the stream.
     pub fn report(&self) -> Report
         requires { IsSome self.now.ending }
-        ensures { IfSome self.now.ending (λ ending. result ≡ report_at self.now.tally ending) }
+        ensures { IfSome self.now.ending (λ ending.
+            result ≡ report_of_tally self.now.tally ending) }
     {
         Report {
             added: self.held.added,

@@ -3,7 +3,6 @@ ghost use Rattle.std.specs.Prelude.{◌≡◌, ◌↔◌, IsTrue};
 ghost use Rattle.lrup_model.specs.Layout.{IsIdentity};
 ghost use Rattle.stream_check.specs.Setting.{side_of, is_shared, tries_on};
 ghost use Rattle.stream_check.specs.Standing.{is_within};
-ghost use Rattle.stream_check.specs.Checking.{side_is};
 
 use lrup_model::{Cube, Id, Layout, Lit, Owner};
 use std::marker::Model;
@@ -119,7 +118,7 @@ impl Setting {
 
     /// Whose the identity is.
     pub fn side(&self, id: Id) -> Side
-        ensures { side_of self.now id ≡ side_is result }
+        ensures { side_of self.now id ≡ result }
     {
         match self.layout.owner(id) {
             Owner::Formula => Side::Formula,

@@ -1,13 +1,15 @@
 -- Lemmas for the worked example.
 use Rattle.std.proofs.Common.{◌≤◌, ℕ, ℤ, pos, negsuc, nat_abs, [], ◌∷◌, List, refl, inl, inr, arith}
+use Rattle.std.specs.Prelude.{◌↔◌}
 use Rattle.std.specs.List.{AllByRecursion}
+use Rattle.lrup_model.specs.Clause.{Has}
 use Rattle.lrup_model.specs.Event.{History, live}
 use Rattle.test_support.specs.Worked.{first, second, unit}
 use Rattle.test_support.specs.WorkedLemmas.{unit_is_proper, first_is_unit, second_is_conflict}
 use Rattle.lrup_text.specs.Lines.{Addition, Import}
 use Rattle.stream_check.specs.Verdicts.{LineVerdict}
 use Rattle.stream_check.specs.Additions.{JudgesHints, AtConflict, published_by}
-use Rattle.stream_check.specs.Imports.{HasSame, AtImported}
+use Rattle.stream_check.specs.Imports.{AtImported}
 use Rattle.stream_check.specs.Judging.{JudgesLine}
 use Rattle.stream_check_tests.specs.Worked.{first_stream, at_start, first_found, second_found}
 
@@ -32,7 +34,7 @@ pub first_is_compared : (lits : List ℤ) (v : LineVerdict) → AllByRecursion (
 first_is_compared lits v within compared =
     inr (refl, inr (within, inr (refl, record { asked = first_found ∷ []; reply = live first; rest = []; events = refl; asks = refl; next = compared })))
 
-pub same_first : HasSame first (pos 2 ∷ pos 1 ∷ pos 2 ∷ [])
+pub same_first : (l : ℤ) → Has first l ↔ Has (pos 2 ∷ pos 1 ∷ pos 2 ∷ []) l
 same_first l = (
   λ h. elim h [ inl one ↦ inr (inl one) | inr more ↦ elim more [ inl two ↦ inl two | inr none ↦ absurd none ] ],
   λ h. elim h [

@@ -7,8 +7,8 @@ use Rattle.stream_check.specs.declared.report.Ending.{Ending}
 use Rattle.stream_check.specs.declared.report.Report.{Report}
 use Rattle.stream_check.specs.declared.progress.CheckTurn.{CheckTurn}
 use Rattle.stream_check.specs.declared.progress.CheckTurn.TheVariants as turns
-use Rattle.stream_check.specs.Checker.{state_by, checker_state, report_at, LeavesOn, Turns, EndsBy, Ends, ReportsEnd}
-use Rattle.stream_check.specs.CheckerValue.{CheckerValue}
+use Rattle.stream_check.specs.Checker.{state_by, checker_state, LeavesOn, Turns, EndsBy, Ends, ReportsEnd}
+use Rattle.stream_check.specs.CheckerValue.{report_of_tally, CheckerValue}
 use Rattle.stream_check.specs.Judging.{JudgesBlocks}
 use Rattle.stream_check.specs.Laws.{OverStays}
 use Rattle.stream_check.specs.Leaving.{CheckerState, Over, Leaves}
@@ -25,10 +25,10 @@ leaves_append c one two three xs ys front back first second bytes before left =
 over_takes : OverStays → (c : Setting) (old : CheckerState) (used rest : List ℕ) (blocks : List History) (v : CheckerValue) (free : ℕ) (ending : Ending)
     → v.ending ≡ Some ending → LeavesOn c old used blocks (checker_state v free) → LeavesOn c old (used ++ rest) blocks (checker_state v free)
 over_takes stays c old used rest blocks v free ending is leaves bytes before left =
-    let over : checker_state v free ≡ Over (report_at v.tally ending) = ap (state_by v free) is in
+    let over : checker_state v free ≡ Over (report_of_tally v.tally ending) = ap (state_by v free) is in
     let taken = subst (Leaves c (bytes ++ used) (before ++ blocks)) over (leaves bytes before left) in
-    let all = subst (λ (t : List ℕ). Leaves c t (before ++ blocks) (Over (report_at v.tally ending))) (append_assoc bytes used rest)
-    (stays c (bytes ++ used) rest (before ++ blocks) (report_at v.tally ending) taken) in
+    let all = subst (λ (t : List ℕ). Leaves c t (before ++ blocks) (Over (report_of_tally v.tally ending))) (append_assoc bytes used rest)
+    (stays c (bytes ++ used) rest (before ++ blocks) (report_of_tally v.tally ending) taken) in
     subst (Leaves c (bytes ++ (used ++ rest)) (before ++ blocks)) (sym over) all
 
 -- a call that ends no line has come to the piece's end, or to the checker's
@@ -63,9 +63,9 @@ leaves_more c d one two three xs ys all front back same split first second =
     (leaves_append c one two three xs ys front back first (subst (λ (e : Setting). LeavesOn e two ys back three) same second))
 
 -- the report of a checker that was ended
-pub closes : (end : StreamEnd) (v u : CheckerValue) (report : Report) → ReportsEnd end v u → IfSome u.ending (λ ending. report ≡ report_at u.tally ending)
+pub closes : (end : StreamEnd) (v u : CheckerValue) (report : Report) → ReportsEnd end v u → IfSome u.ending (λ ending. report ≡ report_of_tally u.tally ending)
     → (bytes : List ℕ) (blocks : List History) (free : ℕ) → Leaves v.setting bytes blocks (checker_state v free) → JudgesBlocks v.setting bytes end blocks report
 closes end v u report reports told bytes blocks free leaves =
     let judged = reports bytes blocks free leaves in
-    let same : report ≡ report_at u.tally judged.0 = subst (λ (e : Option Ending). IfSome e (λ ending. report ≡ report_at u.tally ending)) judged.1 told in
+    let same : report ≡ report_of_tally u.tally judged.0 = subst (λ (e : Option Ending). IfSome e (λ ending. report ≡ report_of_tally u.tally ending)) judged.1 told in
     subst (JudgesBlocks v.setting bytes end blocks) (sym same) judged.2

@@ -1,11 +1,11 @@
 //! The two jobs of a stream before their threads start, and what came of them after both have ended.
-ghost use Rattle.std.specs.Prelude.{◌≡◌, ℕ, List, [], false, IfOk};
+ghost use Rattle.std.specs.Prelude.{◌≡◌, ℕ, List, [], false, IfOk, IsSome};
 ghost use Rattle.lrup_model.specs.Event.{History};
 ghost use Rattle.lrup_model.specs.Layout.{IsStream};
 ghost use Rattle.lrup_text.specs.ReadOut.{source_view};
 ghost use Rattle.rtrb.specs.Ring.{sent, received, IsPair};
 ghost use Rattle.runs.specs.Readings.{IsStreamOf};
-ghost use Rattle.runs.specs.Streams.{Stream, IsReadOut, JudgesStream};
+ghost use Rattle.runs.specs.Streams.{Stream, JudgesStream};
 ghost use Rattle.stream_check.specs.declared.report.Report.{Report};
 ghost use Rattle.stream_check.specs.Checker.{IsNew, checker_state};
 ghost use Rattle.stream_check.specs.CheckerValue.{CheckerValue};
@@ -60,7 +60,7 @@ pub fn meet<R: Source + Drop>(sent: &mut Sent<R>, checked: &mut Checked)
         (Rattle.rtrb.specs.Ring.sent sent.old.producer)
         → JudgesAtMark v room (received checked.old.consumer) blocks report
         → Leaves v.setting [] [] (checker_state v room)
-        → (stream : Stream) × IsReadOut stream
+        → (stream : Stream) × IsSome stream.end
         × IsStreamOf (source_view R.left R.has_failed R.reads) first sent.old.reader stream
         × JudgesStream v.setting stream blocks report }
 {

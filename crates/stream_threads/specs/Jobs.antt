@@ -1,5 +1,5 @@
 -- The two jobs of a stream, and what comes of them (this project's own).
-use Rattle.std.specs.Prelude.{◌≡◌, ◌≤◌, ◌<◌, ◌+◌, ◌-◌, ℕ, List, [], ◌∷◌, take, Option, IfSome}
+use Rattle.std.specs.Prelude.{◌≡◌, ◌≤◌, ◌<◌, ◌+◌, ◌-◌, ℕ, List, [], ◌∷◌, take, Option, IfSome, IsSome}
 use Rattle.lrup_model.specs.Event.{History}
 use Rattle.lrup_model.specs.Pass.{PassMoves, pass_place}
 use Rattle.clause_store.specs.Passes.{StoreValue, PassValue, store_of}
@@ -10,7 +10,7 @@ use Rattle.stream_check.specs.Judging.{joined}
 use Rattle.stream_check.specs.Leaving.{Leaves}
 use Rattle.lrup_text.specs.ReadOut.{SourceView}
 use Rattle.runs.specs.Readings.{IsStreamOf}
-use Rattle.runs.specs.Streams.{Stream, IsReadOut, JudgesStream, TermsValue}
+use Rattle.runs.specs.Streams.{Stream, JudgesStream, TermsValue}
 use Rattle.stream_jobs.specs.Judged.{JudgesAtMark}
 use Rattle.stream_threads.specs.declared.jobs.ThreadFault.{ThreadFault}
 use Rattle.stream_threads.specs.declared.jobs.ThreadFault.TheVariants.{Spawn, Ring}
@@ -64,7 +64,7 @@ pub record Finishes {S : Type 0} (view : SourceView S) (jobs : JobsValue S)
   pub moves : PassMoves jobs.pass.view found.pass.view (joined blocks)
   pub judged : Leaves jobs.checker.setting [] []
       (checker_state jobs.checker (pass_place jobs.pass.view).room)
-      → (stream : Stream) × IsReadOut stream × IsStreamOf view jobs.reader found.reader stream
+      → (stream : Stream) × IsSome stream.end × IsStreamOf view jobs.reader found.reader stream
       × JudgesStream jobs.checker.setting stream blocks found.report
 
 -- what was found of each stream, in order

@@ -4,7 +4,7 @@ use Rattle.lrup_text.specs.ReadOut.{source_view}
 use Rattle.run_laws.specs.ReportLemmas.{reports_alone}
 use Rattle.portfolio.specs.Outcomes.{layout_of, terms_of}
 use Rattle.runs.specs.StreamLemmas.{told_as_many}
-use Rattle.runs.specs.Streams.{TermsValue, tellings, terms_at}
+use Rattle.runs.specs.Streams.{TermsValue, tellings}
 use Rattle.portfolio.specs.Turns.{AreOver, AreStarted, Runs}
 use Rattle.portfolio.proofs.CubeLemmas.{sound_under_order}
 use Rattle.portfolio.proofs.HeadlineLemmas.{is_empty, no_fault}
@@ -32,8 +32,9 @@ take_turns-requires g c =
     } in
     let same : p.streams ≡ c.len.result = streams_asked c.args.options f c.len.result p c.in_ok-layout.ensures.layout.0 in
     let count : length firsts ≡ p.streams = omega (arith, same, c.len.ensures, c.args.readers.ok.0) in
+    let terms : TermsValue = record { layout = p; cube = c.args.cube.now; tries = c.tries.result } in
     record {
-      running = (f, terms_at p c.args.cube.now c.tries.result, firsts, subst (Runs view f (terms_at p c.args.cube.now c.tries.result) firsts m) (sym c.deref_mut.ensures.value) (runs_opened view f p m opened c.args.cube.now c.tries.result firsts c.in_ok-workers.workers.items count (subst (λ (t : TermsValue). AreStarted (source_view g.R.Source.left g.R.Source.has_failed g.R.Source.reads) t 1 c.args.readers.items c.in_ok-workers.workers.items) c.new-terms.ensures c.in_ok-workers.ensures)));
+      running = (f, terms, firsts, subst (Runs view f terms firsts m) (sym c.deref_mut.ensures.value) (runs_opened view f terms m opened firsts c.in_ok-workers.workers.items count (subst (λ (t : TermsValue). AreStarted (source_view g.R.Source.left g.R.Source.has_failed g.R.Source.reads) t 1 c.args.readers.items c.in_ok-workers.workers.items) c.new-terms.ensures c.in_ok-workers.ensures)));
     }
 
 pub outcome_of-requires-clause-over : goal.outcome_of-requires-clause-over
@@ -76,9 +77,10 @@ returns-clause-ordered g c =
     let count : length readers ≡ p.streams = omega (arith, each) in
     let back = written_back started.len worked (drop (length worked) started.items) (c.take_turns.auto.workers ∙ c.deref_mut.ensures.len) in
     let wanted = terms_of c.args.options c.args.cube.now f (length readers) in
-    let terms : terms_at p c.args.cube.now c.tries.result ≡ wanted = ap₂ (λ (l : LayoutValue) (n : ℕ). terms_at l c.args.cube.now n) same c.tries.ensures.tries in
-    run_ordered view f p c.args.cube.now c.tries.result wanted readers outcome.readers.items
-    m c.take_turns.new.map started.items c.deref_mut.result.now worked _ outcome.reports.items opened terms count (subst (λ (t : TermsValue). AreStarted (source_view g.R.Source.left g.R.Source.has_failed g.R.Source.reads) t 1 c.args.readers.items c.in_ok-workers.workers.items) c.new-terms.ensures c.in_ok-workers.ensures)
+    let terms : TermsValue = record { layout = p; cube = c.args.cube.now; tries = c.tries.result } in
+    let are : terms ≡ wanted = ap₂ (λ (l : LayoutValue) (n : ℕ). record { layout = l; cube = c.args.cube.now; tries = n }) same c.tries.ensures.tries in
+    run_ordered view f terms wanted readers outcome.readers.items
+    m c.take_turns.new.map started.items c.deref_mut.result.now worked _ outcome.reports.items opened are count (subst (λ (t : TermsValue). AreStarted (source_view g.R.Source.left g.R.Source.has_failed g.R.Source.reads) t 1 c.args.readers.items c.in_ok-workers.workers.items) c.new-terms.ensures c.in_ok-workers.ensures)
     c.deref_mut.ensures.value c.take_turns.ensures.runs back c.outcome_of.ensures.reports c.outcome_of.ensures.readers
 
 -- the law's premise is the layout of the formula and the readers

@@ -4,7 +4,7 @@ use Rattle.runs.specs.Headline.{HaveOneHistory, WereJudged, seen_by}
 use Rattle.lrup_text.specs.ReadOut.{source_view}
 use Rattle.portfolio.specs.Outcomes.{layout_of, terms_of}
 use Rattle.runs.specs.StreamLemmas.{told_as_many}
-use Rattle.runs.specs.Streams.{TermsValue, tellings, terms_at}
+use Rattle.runs.specs.Streams.{TermsValue, tellings}
 use Rattle.stream_threads.specs.Jobs.{AreJobs, IsFirstFault, fault_stream}
 use Rattle.run_laws.specs.ReportLemmas.{reports_alone}
 use Rattle.portfolio.proofs.CubeLemmas.{sound_under_run}
@@ -24,7 +24,7 @@ check_all-requires-clause-begin g c κs within =
     let passes = c.in_ok-store.passes in
     let opens = c.in_ok-store.ensures in
     let jobs = c.in_ok-jobs.jobs in
-    let terms = terms_at p c.args.cube.now c.tries.result in
+    let terms : TermsValue = record { layout = p; cube = c.args.cube.now; tries = c.tries.result } in
     let view = source_view g.R.Source.left g.R.Source.has_failed g.R.Source.reads in
     let firsts = c.args.readers.items in
     let opened : AreOpened c.in_ok-store.store f 1 passes.items = are_opened c.in_ok-store.store f p passes.items (sym passes.ok.0 ∙ opens.count) opens.passes in
@@ -38,7 +38,7 @@ outcome_of-requires-clause-store g c =
     let passes = c.in_ok-store.passes in
     let opens = c.in_ok-store.ensures in
     let jobs = c.in_ok-jobs.jobs in
-    let terms = terms_at p c.args.cube.now c.tries.result in
+    let terms : TermsValue = record { layout = p; cube = c.args.cube.now; tries = c.tries.result } in
     let view = source_view g.R.Source.left g.R.Source.has_failed g.R.Source.reads in
     let firsts = c.args.readers.items in
     let opened : AreOpened c.in_ok-store.store f 1 passes.items = are_opened c.in_ok-store.store f p passes.items (sym passes.ok.0 ∙ opens.count) opens.passes in
@@ -85,7 +85,7 @@ returns-in-Ok-clause-history g c =
     let passes = c.in_ok-store.passes in
     let opens = c.in_ok-store.ensures in
     let jobs = c.in_ok-jobs.jobs in
-    let terms = terms_at p c.args.cube.now c.tries.result in
+    let terms : TermsValue = record { layout = p; cube = c.args.cube.now; tries = c.tries.result } in
     let view = source_view g.R.Source.left g.R.Source.has_failed g.R.Source.reads in
     let firsts = c.args.readers.items in
     let opened : AreOpened c.in_ok-store.store f 1 passes.items = are_opened c.in_ok-store.store f p passes.items (sym passes.ok.0 ∙ opens.count) opens.passes in
@@ -107,7 +107,7 @@ returns-in-Ok-clause-reports g c =
     let passes = c.in_ok-store.passes in
     let opens = c.in_ok-store.ensures in
     let jobs = c.in_ok-jobs.jobs in
-    let terms = terms_at p c.args.cube.now c.tries.result in
+    let terms : TermsValue = record { layout = p; cube = c.args.cube.now; tries = c.tries.result } in
     let view = source_view g.R.Source.left g.R.Source.has_failed g.R.Source.reads in
     let firsts = c.args.readers.items in
     let opened : AreOpened c.in_ok-store.store f 1 passes.items = are_opened c.in_ok-store.store f p passes.items (sym passes.ok.0 ∙ opens.count) opens.passes in
@@ -119,7 +119,7 @@ returns-in-Ok-clause-reports g c =
     c.in_ok-layout.ensures.layout.0 ∙ ap (λ (n : ℕ). layout_of c.args.options f n) (c.len.ensures ∙ c.args.readers.ok.0) in
     let judged = judged_by view f terms c.in_ok-store.store opens.layout 1 firsts jobs.items found vs ready c.in-Ok.ensures.found out.ensures.met in
     let wanted = terms_of c.args.options c.args.cube.now f (length c.args.readers.items) in
-    let are : terms ≡ wanted = ap₂ (λ (l : LayoutValue) (n : ℕ). terms_at l c.args.cube.now n) same c.tries.ensures.tries in
+    let are : terms ≡ wanted = ap₂ (λ (l : LayoutValue) (n : ℕ). record { layout = l; cube = c.args.cube.now; tries = n }) same c.tries.ensures.tries in
     judged_so view f terms wanted firsts out.result.readers.items out.result.reports.items found vs
     judged are (returns-in-Ok-clause-history g c) out.ensures.readers out.ensures.reports
 
@@ -195,7 +195,7 @@ returns-in-Err-Spawn-clause-spawn g c = λ stream e.
     let passes = c.in_ok-store.passes in
     let opens = c.in_ok-store.ensures in
     let jobs = c.in_ok-jobs.jobs in
-    let terms = terms_at p c.args.cube.now c.tries.result in
+    let terms : TermsValue = record { layout = p; cube = c.args.cube.now; tries = c.tries.result } in
     let view = source_view g.R.Source.left g.R.Source.has_failed g.R.Source.reads in
     let firsts = c.args.readers.items in
     let opened : AreOpened c.in_ok-store.store f 1 passes.items = are_opened c.in_ok-store.store f p passes.items (sym passes.ok.0 ∙ opens.count) opens.passes in
@@ -215,7 +215,7 @@ returns-clause-ring g c = λ stream e.
     let passes = c.in_ok-store.passes in
     let opens = c.in_ok-store.ensures in
     let jobs = c.in_ok-jobs.jobs in
-    let terms = terms_at p c.args.cube.now c.tries.result in
+    let terms : TermsValue = record { layout = p; cube = c.args.cube.now; tries = c.tries.result } in
     let view = source_view g.R.Source.left g.R.Source.has_failed g.R.Source.reads in
     let firsts = c.args.readers.items in
     let opened : AreOpened c.in_ok-store.store f 1 passes.items = are_opened c.in_ok-store.store f p passes.items (sym passes.ok.0 ∙ opens.count) opens.passes in
@@ -235,7 +235,7 @@ returns-clause-first g c = λ stream e.
     let passes = c.in_ok-store.passes in
     let opens = c.in_ok-store.ensures in
     let jobs = c.in_ok-jobs.jobs in
-    let terms = terms_at p c.args.cube.now c.tries.result in
+    let terms : TermsValue = record { layout = p; cube = c.args.cube.now; tries = c.tries.result } in
     let wanted = terms_of c.args.options c.args.cube.now f (length c.args.readers.items) in
     let view = source_view g.R.Source.left g.R.Source.has_failed g.R.Source.reads in
     let firsts = c.args.readers.items in
@@ -243,7 +243,7 @@ returns-clause-first g c = λ stream e.
     let ready = are_ready view c.in_ok-store.store f terms 1 firsts passes.items jobs.items (subst (λ (t : TermsValue). AreJobs t 1 c.args.readers.items c.in_ok-store.passes.items c.in_ok-jobs.jobs.items) c.new-terms.ensures c.in_ok-jobs.ensures) opened in
     let same : p ≡ layout_of c.args.options f (length firsts) =
     c.in_ok-layout.ensures.layout.0 ∙ ap (λ (n : ℕ). layout_of c.args.options f n) (c.len.ensures ∙ c.args.readers.ok.0) in
-    let are : terms ≡ wanted = ap₂ (λ (l : LayoutValue) (n : ℕ). terms_at l c.args.cube.now n) same c.tries.ensures.tries in
+    let are : terms ≡ wanted = ap₂ (λ (l : LayoutValue) (n : ℕ). record { layout = l; cube = c.args.cube.now; tries = n }) same c.tries.ensures.tries in
     let before = subst (IsFirstFault view jobs.items) (c.in-Err-Ring.field-0-is) c.in-Err-Ring.ensures.first in
     let judged = were_judged view f terms c.in_ok-store.store opens.layout 1 firsts jobs.items (c.in-Err-Ring.stream - 1) before.0 ready before.1 in
     subst (λ (n : ℕ). WereJudged view wanted 1 (take (n - 1) firsts)) here

@@ -3,7 +3,7 @@ use Rattle.std.specs.List.{AllByRecursion}
 use Rattle.lrup_model.specs.Event.{History}
 use Rattle.stream_check.specs.Standing.{is_among, capped}
 use Rattle.stream_check.specs.Verdicts.{LineVerdict}
-use Rattle.stream_check.specs.Deletions.{JudgesIdentities}
+use Rattle.stream_check.specs.Deletions.{JudgesDeletion}
 use Rattle.stream_check.specs.Checking.{IsRetire, AreDropped}
 use Rattle.stream_check.specs.Checker.{KeepsLines, deleted_at}
 use Rattle.stream_check.proofs.deletion.delete.Given as goal
@@ -18,6 +18,6 @@ invariant-loop-id g l =
       dropped : AreDropped old.setting old.dropped.ids earlier l.held.dropped.ids;
       deleted : (es : History) × g.M.ClauseMap.moves l.initial.map l.map es × AllByRecursion IsRetire es
           × ((more : List ℕ) (rest : History) (v : LineVerdict)
-          → JudgesIdentities old.setting (is_among old.dropped.ids) earlier more rest v
-          → JudgesIdentities old.setting (is_among old.dropped.ids) [] (earlier ++ more) (es ++ rest) v);
+          → JudgesDeletion old.setting (is_among old.dropped.ids) earlier more rest v
+          → JudgesDeletion old.setting (is_among old.dropped.ids) [] (earlier ++ more) (es ++ rest) v);
     }

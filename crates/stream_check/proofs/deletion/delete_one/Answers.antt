@@ -1,5 +1,5 @@
 use Rattle.std.proofs.Common.{[], Err, refl, sym, subst}
-use Rattle.stream_check.specs.Setting.{Side}
+use Rattle.stream_check.specs.declared.setting.Side.{Side}
 use Rattle.stream_check.specs.declared.deletion.LineStop.TheVariants as stops
 use Rattle.stream_check.specs.declared.fault.Fault.TheVariants as faults
 use Rattle.stream_check.specs.Checking.{DeletesSide}

@@ -1,7 +1,8 @@
 use Rattle.std.proofs.Common.{List, ℕ, ◌∷◌, [], ◌++◌, map, ◌∙◌, ap}
 use Rattle.std.specs.Fmt.{decimal}
 use Rattle.std.proofs.lemmas.List.{append_assoc}
-use Rattle.lrup_text.specs.Grammar.{list_text, space, zero_digit, letter_d, letter_i, line_feed}
+use Rattle.lrup_text.specs.ByteNames.{space, zero_digit, letter_d, letter_i, line_feed}
+use Rattle.lrup_text.specs.Grammar.{list_text}
 use Rattle.lrup_text.specs.Lines.{line_text, line_of}
 use Rattle.lrup_text.specs.Reading.{literals_text}
 use Rattle.lrup_text.proofs.LineTexts.{addition_text, deletion_text, import_text}

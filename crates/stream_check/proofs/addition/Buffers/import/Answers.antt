@@ -1,14 +1,18 @@
 use Rattle.std.proofs.Common.{◌≡◌, ◌≤◌, ℕ, [], inl, inr, nat_abs, refl, sym, subst, ◌∙◌, append-nil}
+use Rattle.std.specs.Prelude.{◌↔◌, List, ℤ}
 use Rattle.std.specs.List.{AllByRecursion}
 use Rattle.std.proofs.lemmas.Bool.{true≢false}
 use Rattle.std.proofs.lemmas.Result.{err_from_is_err_and}
+use Rattle.lrup_model.specs.Clause.{Clause, Has}
 use Rattle.lrup_model.specs.Literal.{IsLiteral}
 use Rattle.lrup_model.specs.Place.{clip_clause}
-use Rattle.stream_check.specs.Imports.{HasSame}
 use Rattle.stream_check.specs.Checker.{standing_at}
 use Rattle.stream_check.proofs.AddLemmas.{variables_within, literals_within}
 use Rattle.stream_check.proofs.ImportLemmas.{bad_literal, import_unfound, import_found}
 use Rattle.stream_check.proofs.addition.Buffers.import.Goals as goal
+
+abbrev HasSame : Clause → List ℤ → Type 0
+HasSame d lits = (l : ℤ) → Has d l ↔ Has lits l
 
 pub returns-then-not-read_literals-clause-judged : goal.returns-then-not-read_literals-clause-judged
 returns-then-not-read_literals-clause-judged g c =

@@ -9,8 +9,8 @@ use Rattle.stream_check.specs.declared.fault.Fault.TheVariants as faults
 use Rattle.stream_check.specs.declared.report.Ending.{Ending}
 use Rattle.stream_check.specs.declared.report.Ending.TheVariants as endings
 use Rattle.stream_check.specs.Leaving.{Going, Over}
-use Rattle.stream_check.specs.CheckerValue.{CheckerValue}
-use Rattle.stream_check.specs.Checker.{read_of, value_of, checker_state, report_at, tally_at, LeavesOn}
+use Rattle.stream_check.specs.CheckerValue.{report_of_tally, CheckerValue}
+use Rattle.stream_check.specs.Checker.{read_of, value_of, checker_state, tally_at, LeavesOn}
 use Rattle.stream_check.specs.Taking.{hold}
 use Rattle.stream_check.specs.ReportLemmas.{leaves_still}
 use Rattle.stream_check.proofs.TakeLemmas.{leaves_good, leaves_stopped, leaves_refused}
@@ -115,15 +115,15 @@ returns-in-Err-clause-left g c =
     let none = none_of c.self.inside.ending (sym c.is_some.ensures ∙ c.if-is_some.false) in
     let gives : Feeds (Ok read) piece used (turns.Line line) = subst (λ (s : ReaderState). Feeds s piece used (turns.Line line)) (c.self.invariant.reads none) (subst (λ (t : ReaderTurn). Feeds r piece used t) c.in-Line.is c.feed-fed.ensures.gives) in
     let taken = c.in-Err.ensures.taken in
-    let stopped : LeavesOn h.setting (Going (hold h read p.room)) (take used piece) (taken.0 ∷ []) (Over (report_at (tally_at n) c.ending.result)) =
-    subst (λ (e : Ending). LeavesOn h.setting (Going (hold h read p.room)) (take used piece) (taken.0 ∷ []) (Over (report_at (tally_at n) e))) (sym c.ending.ensures)
+    let stopped : LeavesOn h.setting (Going (hold h read p.room)) (take used piece) (taken.0 ∷ []) (Over (report_of_tally (tally_at n) c.ending.result)) =
+    subst (λ (e : Ending). LeavesOn h.setting (Going (hold h read p.room)) (take used piece) (taken.0 ∷ []) (Over (report_of_tally (tally_at n) e))) (sym c.ending.ensures)
     (leaves_stopped h n p.room q.room read (take used piece) (line_of line) taken.0 c.in-Err.stop gives.2 taken.2) in
-    let left = feeds_over h read (take used piece) (taken.0 ∷ []) p.room c.self.inside.ending (report_at (tally_at n) c.ending.result) none stopped in
+    let left = feeds_over h read (take used piece) (taken.0 ∷ []) p.room c.self.inside.ending (report_of_tally (tally_at n) c.ending.result) none stopped in
     rw c.tell.ensures (
       taken.0 ∷ [],
       subst (g.M.ClauseMap.moves c.args.map.now c.take_line.new.map) (sym (append-nil taken.0)) taken.1,
       omega arith,
-      subst (λ (v : CheckerValue). LeavesOn v.setting (checker_state v p.room) (take used piece) (taken.0 ∷ []) (Over (report_at (tally_at n) c.ending.result))) c.self.view_is left,
+      subst (λ (v : CheckerValue). LeavesOn v.setting (checker_state v p.room) (take used piece) (taken.0 ∷ []) (Over (report_of_tally (tally_at n) c.ending.result))) c.self.view_is left,
     )
 
 pub returns-in-Err-clause-turn : goal.returns-in-Err-clause-turn
@@ -146,7 +146,7 @@ returns-in-Fault-clause-left g c =
     let piece = c.args.piece.now in
     let used = c.feed-fed.result.used in
     let fault = c.in-Fault.fault in
-    let report = report_at (tally_at h) (endings.Bad h.line (faults.Text fault)) in
+    let report = report_of_tally (tally_at h) (endings.Bad h.line (faults.Text fault)) in
     let none = none_of c.self.inside.ending (sym c.is_some.ensures ∙ c.if-is_some.false) in
     let gives : Feeds (Ok read) piece used (turns.Fault fault) = subst (λ (s : ReaderState). Feeds s piece used (turns.Fault fault)) (c.self.invariant.reads none) (subst (λ (t : ReaderTurn). Feeds r piece used t) c.in-Fault.is c.feed-fed.ensures.gives) in
     let left = feeds_over h read (take used piece) [] p.room c.self.inside.ending report none (leaves_refused h p.room read (take used piece) fault gives.2) in
