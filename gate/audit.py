@@ -668,7 +668,7 @@ STATUS_0_PHRASES = [
      reads gave these bytes, up to one that gave none ([[WasRead]], [[GaveAll]])."""),
     ("of the formula's file", """[[NameUnsatisfiable: AskFor words formula assume]]: the words have no fault, and their FORMULA
      is the path `formula` that was read ([[AskFor]])."""),
-    ("are a text of a formula", "[[NameUnsatisfiable: IsFormulaText bytes f]]: DIMACS CNF ([[IsFormulaText]]), and of one only (law `one_formula`)."),
+    ("are a text of a formula", "[[NameUnsatisfiable: IsFormulaText bytes f]]: DIMACS CNF ([[IsFormulaText]]), and of one only ([[law one_formula]])."),
     ("that no assignment satisfies", "[[NameUnsatisfiable: IsUnsatisfiable f]], of the same `f` ([[IsUnsatisfiable]])."),
 ]
 
@@ -803,14 +803,14 @@ RUNS_TOP = f"""# What there is to believe: whole runs
 
 {MADE}
 
-Three sentences of [README](../README.md) on whole runs: of each phrase the clause, the law and the definition that carry it;
+Three passages of [README](../README.md) on whole runs: of each phrase the clause, the law and the definition that carry it;
 then the contracts, the laws, and all definitions under them, each after one that uses it. What stands on [AUDIT](AUDIT.md) isn't
-repeated: formulas, assignments, clauses and literals, [how to read it](AUDIT.md#how-to-read-it), and
+repeated but for `Source`, which has more members here: formulas, assignments, clauses and literals, [how to read it](AUDIT.md#how-to-read-it), and
 [what one has to trust](AUDIT.md#what-one-has-to-trust).
 
 - **Run.** A call of [[fn run]], with two threads for each stream, or of [[fn run_serial]], on one thread; the program calls the
   second with `--serial`, and else the first.
-- **Stream.** The bytes that a reader gave, and how it ended, unless it was stopped early ([[Stream]]): lines that add a clause with its hints, delete
+- **Stream.** The bytes that a reader gave, and how it ended, where that is known ([[Stream]]): lines that add a clause with its hints, delete
   clauses, or import one ([[StreamLine]]). Streams count from 1.
 - **Set.** A set of streams is a test on their numbers: `λ s. true` is all of them, [[one]] a single one.
 - **Identity.** A clause's number: the formula's clauses have the first ones, the streams own the others by turns ([[owner]]).
@@ -818,6 +818,7 @@ repeated: formulas, assignments, clauses and literals, [how to read it](AUDIT.md
   asked for, and answers as the map of one thread does ([[IsLegal]]).
 - **Pass.** A stream's place at the store. Contracts see what it knows ([[View]]): `seen`, a history; `mine`, the calls made
   through it; `spelt`, where clauses lie and their literals.
+- **Told.** A reader may tell which bytes it has left; files of the machine don't ([[Source]]).
 - **Cube.** The assumed literals, as a set ([[Cube]]). **Terms** are layout, cube and tries, by which all streams are checked
   ([[TermsValue]]).
 
@@ -838,8 +839,8 @@ HEADLINE_PHRASES = [
      []]]."""),
     ("after all that it had seen", """[[fn Store::fetch.calls]], and so of [[fn Store::publish]] and [[fn Store::retire]]. What
      the pass had seen begins what it has seen then, [[PassMoves: seen : (more : History) × (new.seen ≡ old.seen ++ more)]], and
-     the call is the last of that, [[Calls: last : EndsWith new.seen e]]; `more` isn't empty, since `mine` grew, and is what `seen`
-     has of this stream ([[IsFair]]). In the end each pass has seen the one history:
+     the call is the last of that, [[Calls: last : EndsWith new.seen e]]; `more` isn't empty, since `mine` grew, and
+     `mine` is what `seen` has of this stream ([[IsFair]]). In the end each pass has seen the one history:
      [[HaveOneHistory: v.seen ≡ h]]."""),
     ("with the replies that it got", """the same clauses: the event has what the call answered.
      [[fn Store::fetch.calls: events.fetch pass.old.view.caller.stream id reply]], where
@@ -859,8 +860,9 @@ HEADLINE_PHRASES = [
     ("follows from the formula", "[[IsPublishable: follows : Follows f c]], which [[IsAllowed]] asks of each publish."),
     ("Each report is the judgement of these replies", """[[fn run.reports]]: there are streams ([[StandsOnStreams]]), and
      [[fn run.reports: AreJudgedIn terms (λ s. true) (seen_by (views outcome.passes.items)) 1 streams outcome.reports.items]], by
-     the same history. Each stream is judged, as its report says, by blocks of events ([[AreJudged]]) that are together its own events of it, [[AreJudgedIn: own h t ≡ joined blocks]]: its good
-     lines first, each with a block, and then what ended it ([[JudgesBlocks]])."""),
+     the same history. Each stream is judged, as its report says, by blocks of events ([[AreJudged]]) that are together the stream's events in it, [[AreJudgedIn: own h t ≡ joined blocks]]: its good
+     lines first, each with a block, and then what ended it ([[JudgesBlocks]]). Where memory ran out these don't decide: any
+     deletion of what isn't the stream's own may have stopped for it ([[StopsDeletion]])."""),
     ("of the bytes that reads of the stream gave", """[[fn run.reports: AreRead _ R.reads readers.items outcome.readers.items
      streams]], of the same streams: [[ReadOut: given : Gave S reads first bytes last]], from each reader as it was handed in.
      Whoever hands in the readers chooses `reads`; [AUDIT](AUDIT.md#status-0) says under 'Which reads?' why that suffices. Where
@@ -894,19 +896,19 @@ ISOLATION_PHRASES = [
     ("have such reports as they may have", """[[AreIsolated: IsGroup f terms set streams reports]]: some legal history judges the
      set's streams so, [[IsGroup: judged : AreJudgedIn terms set history 1 streams reports]]."""),
     ("where all others are empty", """that history has events of the set's streams alone,
-     [[IsGroup: members : AllByRecursion (λ e. IsTrue (set (stream_of e))) history]]. By the law [[law others_empty]] such
-     reports are those of a run in which the others have no bytes, [[OthersEmpty: with_others set empty_stream 1 streams]]."""),
+     [[IsGroup: members : AllByRecursion (λ e. IsTrue (set (stream_of e))) history]]. By the law [[law others_empty]] a
+     legal history judges the set's streams so where the others have no bytes, [[OthersEmpty: with_others set empty_stream 1 streams]]."""),
     ("whatever these hold and however the threads ran", """the clause is one of every run, and [[IsGroup]] says nothing of
      streams outside the set. The streams are any that the readers told and by which the run's reports are judged: in its history,
      [[fn run.isolated: AreJudgedIn terms (λ s. true) (seen_by (views outcome.passes.items)) 1 streams outcome.reports.items]],
      or on one thread in an order of lines, [[fn run_serial.isolated: IsOrdered formula.now terms (λ s. true) streams
-     outcome.reports.items]]."""),
+     outcome.reports.items]]. Those of [[fn run.reports]] and of [[fn run_serial.ordered]] are among them."""),
     ("unless memory ran out", "[[AreIsolated: NoneOutOfMemory set reports]]."),
     ("A stream that cites and imports only its own and the formula's", """[[fn run.alone]], [[HaveReportsAlone: IsClosed
      terms.layout (one s) streams]]."""),
     ("with the same formula, options, assumptions and number of streams", """the `f` and the `terms` of [[HaveReportsAlone:
      IsReportAlone f terms s whole end other]], which are [[fn run.alone: terms_of options cube.now formula.now (length
-     readers.items)]]."""),
+     readers.items)]]; of the assumptions the list counts."""),
     ("one report", """[[HaveReportsAlone: (other : Report) → IsReportAlone f terms s whole end other → other ≡ report]]: each
      report that the stream may have alone with these bytes and this end. Another run's report of it is such a one, by that run's
      `isolated`."""),
@@ -930,7 +932,7 @@ SERIALIZABLE_PHRASES = [
      are one after the other a legal history, [[IsOrdered: legal : IsLegal f terms.layout (events_in blocks)]]."""),
     ("one thread that takes whole lines", """a block is one stream's, [[IsBlockWithin: AllByRecursion (λ e. stream_of e ≡
      block.stream) block.events]], and has all events of one line, [[AreGood: JudgesLine c (standing_of c before) line block
-     Good]]. That is what [[fn run_serial]] promises: [[fn run_serial.ordered: IsOrdered formula.now terms (λ s. true) streams
+     Good]], or of the bad one that ends the stream, [[EndsAfter: (one_block : blocks ≡ block ∷ [])]]. That is what [[fn run_serial]] promises: [[fn run_serial.ordered: IsOrdered formula.now terms (λ s. true) streams
      outcome.reports.items]]."""),
     ("gives the same reports", """[[IsOrdered: judged : AreJudged terms set]], with the run's `reports`: each stream is
      judged by its own blocks in their order, [[IsOrdered: own_blocks ≡ blocks_of t blocks]]."""),
@@ -945,7 +947,7 @@ RUNS_HOW = """## How to read it
 
 As [on AUDIT](AUDIT.md#how-to-read-it); and besides:
 
-- **Signs.** `¬ A` is 'not A', `≢` 'is not', `m - n` is 0 where n is greater, `m / n` is rounded down, `&&` is 'and' of tests.
+- **Signs.** `¬ A` is 'not A', `≢` 'is not', `m - n` is 0 where n is greater, `m / n` is rounded down, `m % n` the remainder, `m ^ n` a power, `&&` is 'and' of tests.
   `(x y : A)` are two; `r.0` and `r.1` the parts of a pair. A `data` is one of its cases, with what that case takes.
   `elim x [ | p ↦ a | q ↦ b ]` is a where x is p, and b where it is q. `R.left` is the
   member `left` of the trait for the type R. Contracts see a slice or a `Vec` as a list (`v.items`), a `u64` and an `Id` as ℕ, a
@@ -999,7 +1001,8 @@ def audit_page():
         AUDIT_TOP, sound[0], SIGNATURE, command, "Phrase by phrase:", sound[1], ACCOUNT,
         AUDIT_HOW.replace("{count}", str(len(definitions_of(first)))).replace("{twins}", twins(things)), *first,
         STATUS_8_TOP, *under, f"{len(definitions_of(more))} definitions more.", *more,
-        AUDIT_LIBRARIES, libraries(things, []), TRUST], cited=[arguments, Law("command_line/src/laws.rt: plain_words")])
+        AUDIT_LIBRARIES, libraries(things, []), TRUST], cited=[arguments, Law("command_line/src/laws.rt: plain_words"),
+        Law("dimacs/src/laws.rt: one_formula")])
     page.sound = first
     return page
 
@@ -1095,7 +1098,7 @@ def constructors(things):
                     types.setdefault(word, set()).add(thing.name)
     said = [f"`{word}.` of {' or '.join(f'`{name}`' for name in sorted(types[word]))}" for word in sorted(types)]
     return f"""- **Constructors.** Where a dot stands in front of one, the name before it tells its type, as the file brings it in:
-        {", ".join(said)}. Without a dot it is the file's own, if there is one."""
+        {", ".join(said)}. Without a dot it is of the type that the signature has at its place."""
 
 
 def twins(things):

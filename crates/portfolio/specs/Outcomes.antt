@@ -9,7 +9,7 @@ use Rattle.portfolio.specs.declared.outcome.Verdict.{Verdict}
 use Rattle.portfolio.specs.declared.outcome.Verdict.TheVariants.{Unsatisfiable, UnsatisfiableUnder, Unknown}
 use Rattle.runs.specs.Streams.{TermsValue}
 
--- how often a hint of another stream is fetched again while it is vacant; and for each stream, identities and room in literals
+-- how often an identity of another stream is fetched again while it is vacant; and for each stream, identities and room in literals
 pub record OptionsValue : Type 0 where
   pub tries : ℕ
   pub lines : ℕ

@@ -143,7 +143,7 @@ SameReadingAgrees = (f : Cnf) (terms : TermsValue) (s : ℕ) (whole : List ℕ) 
     → IsOfStream reports s report → IsOfStream other_reports s other_report
     → ¬ IsOfMemory report → ¬ IsOfMemory other_report → report ≡ other_report
 
--- So it has where both readers have the same bytes left at first, unless memory ran out or a read failed.
+-- Where both readers have the same bytes left at first it has one report, unless memory ran out or a read failed.
 abbrev pub SameBytesAgree : Type 0
 SameBytesAgree = (f : Cnf) (terms : TermsValue) (s : ℕ) (whole : List ℕ)
     (told other_told : List Telling) (telling other_telling : Telling)

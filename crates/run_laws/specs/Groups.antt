@@ -71,7 +71,7 @@ pub record IsReportAlone (f : Cnf) (terms : TermsValue) (s : ℕ) (whole : List 
   pub reads : IsReadingOf whole end stream
   pub says : IsOfStream reports s report
 
--- Each stream that is a closed set by itself, and whose report doesn't tell that memory ran out, has the one report that it may
+-- Each stream that is a closed set by itself, and whose report doesn't tell that memory ran out, has no other report than it may
 -- have alone: for every list of streams that the readers told and by which they are judged, and for all bytes and any end of
 -- which the stream is a reading, every report that it may have alone with these bytes and this end is its report.
 abbrev pub HaveReportsAlone : Cnf → TermsValue → List Telling → (List Stream → Type 0) → List Report
@@ -107,7 +107,7 @@ with_others set x s (y ∷ ys) = (if set s then y else x) ∷ with_others set x 
 
 -- Two runs
 
--- What a run promises of its reports, with threads or on one: the readers told streams, as many as the layout has, and one
+-- What a run promises of its reports, by its clauses `history` and `reports`, or on one thread by `ordered`: the readers told streams, as many as the layout has, and one
 -- legal history judges each by its own events, as its report says.
 pub record IsRun (f : Cnf) (terms : TermsValue) (told : List Telling)
     (reports : List Report) : Type 0 where

@@ -21,7 +21,7 @@ abbrev pub FindsKept : LayoutValue → State → Event → Type 0
 FindsKept p final (events.fetch s id (events.live c)) = ¬ Owns p s id → ¬ IsRetired (final id)
 FindsKept p final _ = Unit {0}
 
--- What a stream of the set found live, and isn't its own, the history doesn't leave retired.
+-- The history doesn't leave retired what a stream of the set found live and doesn't own.
 abbrev pub FoundStays : Cnf → LayoutValue → (ℕ → Bool) → History → Type 0
 FoundStays f p set h =
     (s : ℕ) → IsStream p s → IsTrue (set s) → AllByRecursion (FindsKept p (state f h)) (own h s)

@@ -21,7 +21,8 @@ pub record CiteWithin (p : LayoutValue) (set : ℕ → Bool) (bytes : List ℕ) 
   pub cut : Cut bytes lines rest
   pub within : AllByRecursion (λ line. AllByRecursion (IsOwnedWithin p set) (cited_by line)) lines
 
--- The set is closed: no stream of it cites an identity of a stream outside it, in the bytes that were needed.
+-- The set is closed: no stream of it cites an identity of a stream outside it, in the bytes by which it is
+-- judged.
 abbrev pub IsClosed : LayoutValue → (ℕ → Bool) → List Stream → Type 0
 IsClosed p set streams = (s : ℕ) (stream : Stream) → IsTrue (set s) → IsOfStream streams s stream
     → CiteWithin p set stream.bytes

@@ -5,11 +5,11 @@ use Rattle.lrup_text.specs.Reads.{Gave, ReadsOf}
 use Rattle.runs.specs.Streams.{Stream, IsTold, telling_of}
 
 -- The stream is what reads of a reader gave, from the first on: its bytes are all that they gave up to the first end or to the read
--- that failed; or, of one that was stopped early, all that they gave but for what wasn't needed.
+-- that failed; or, of one without an end, all that they gave but for `unneeded`.
 abbrev pub IsRead : (S : Type 0) → ReadsOf S → S → S → Stream → Type 0
-IsRead S reads first last stream =
-    MatchOption stream.end (Gave S reads first (stream.bytes ++ stream.unneeded) last)
-    (λ end. ReadOut S reads end first stream.bytes last)
+IsRead S reads first after stream =
+    MatchOption stream.end (Gave S reads first (stream.bytes ++ stream.unneeded) after)
+    (λ end. ReadOut S reads end first stream.bytes after)
 
 -- the stream is what a reader told, and what its reads gave
 abbrev pub IsStreamOf : {S : Type 0} → SourceView S → S → S → Stream → Type 0

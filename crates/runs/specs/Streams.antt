@@ -13,8 +13,8 @@ use Rattle.stream_check.specs.declared.report.Report.{Report}
 use Rattle.stream_check.specs.Setting.{Setting}
 use Rattle.stream_check.specs.Judging.{JudgesBlocks}
 
--- The bytes of a stream that were needed; those that were read after them, where no more was needed; and how the stream ended: at
--- its end or at the read that failed, or nothing where it was stopped early.
+-- The bytes by which a stream is judged; those that were read after them, by which it isn't; and how the stream ended: at its end or
+-- at the read that failed, or nothing where the judgement needs no end, as of one that was stopped early.
 pub record Stream : Type 0 where
   pub bytes : List ℕ
   pub unneeded : List ℕ
@@ -27,7 +27,7 @@ pub record Telling : Type 0 where
   pub left : Option (List ℕ)
   pub has_failed : Bool
 
--- what a reader tells that was the first one before any read, and is the last one in the end
+-- what a reader tells: `first` is the reader before any read, `last` at the end
 abbrev pub telling_of : {S : Type 0} → SourceView S → S → S → Telling
 telling_of view first last = record {
   entry = view.left first;
@@ -43,7 +43,7 @@ tellings view (first ∷ firsts) (last ∷ lasts) =
     telling_of view first last ∷ tellings view firsts lasts
 
 -- The stream is what a reader told: the bytes read are a beginning of those left at first. Where the stream has an end, the reader is
--- left so, and every byte was needed; where it was stopped early, the reader hasn't failed. Where the reader doesn't tell what it has
+-- as that end says, and it is judged by all that was read; else the reader hasn't failed. Where the reader doesn't tell what it has
 -- left, any bytes will do.
 pub record IsTold (telling : Telling) (stream : Stream) : Type 0 where
   pub consumes : Consumes telling.entry telling.left (stream.bytes ++ stream.unneeded)
@@ -51,7 +51,7 @@ pub record IsTold (telling : Telling) (stream : Stream) : Type 0 where
       (λ end. EndsSo end telling.left telling.has_failed)
   pub needed : IsSome stream.end → stream.unneeded ≡ []
 
--- The stream is judged by these blocks of events; one that was stopped early is judged so whatever its end would have been.
+-- The stream is judged by these blocks of events; one without an end is judged so whatever its end would have been.
 abbrev pub JudgesStream : Setting → Stream → List History → Report → Type 0
 JudgesStream c stream blocks report =
     (end : StreamEnd) → IfSome stream.end (λ known. known ≡ end)
@@ -86,7 +86,7 @@ IsBlockWithin p set block =
     IsStream p block.stream × IsTrue (set block.stream)
     × AllByRecursion (λ e. stream_of e ≡ block.stream) block.events
 
--- What the streams of a run are all checked by: the layout, the cube, and how often a hint of another stream is fetched again.
+-- What the streams of a run are all checked by: the layout, the cube, and how often an identity of another stream is fetched again.
 pub record TermsValue : Type 0 where
   pub layout : LayoutValue
   pub cube : CubeValue
@@ -97,7 +97,8 @@ abbrev pub setting_of : TermsValue → ℕ → Setting
 setting_of terms s =
     record { layout = terms.layout; cube = terms.cube; stream = s; tries = terms.tries }
 
--- Each stream of the set, counted on from s, is judged, as its report says, by blocks of events that are the stream's own.
+-- Each stream of the set, counted on from s, is judged, as its report says, by blocks of events of which `AreOwn` holds; and there are
+-- as many reports as streams.
 abbrev pub AreJudged : TermsValue → (ℕ → Bool) → (ℕ → List History → Type 0) → ℕ → List Stream
     → List Report → Type 0
 AreJudged terms set AreOwn s [] [] = Unit {0}

@@ -1,4 +1,4 @@
--- How often a hint is fetched (this project's own).
+-- How often an identity is fetched that a hint or an import names (this project's own).
 use Rattle.std.specs.Prelude.{◌≡◌, ◌≤◌, ◌++◌, ℕ, [], ◌∷◌, replicate}
 use Rattle.lrup_model.specs.Event.{History, Reply, vacant, fetch}
 use Rattle.stream_check.specs.declared.setting.Side.{Side}
@@ -17,11 +17,11 @@ AsksAt sides.Own c h es r = es ≡ fetch c.stream h r ∷ []
 AsksAt sides.Foreign c h es r = FetchesUpTo c.tries c.stream h es r
 AsksAt sides.Outside c h es r = (es ≡ []) × (r ≡ vacant)
 
--- the events of a hint and the last reply, which is taken as vacant if there is no event
+-- the events of a hint, or of an import's identity, and the last reply, which is taken as vacant if there is no event
 abbrev pub Asks : Setting → ℕ → History → Reply → Type 0
 Asks c h es r = AsksAt (side_of c h) c h es r
 
--- first the events of this hint, and then what its last reply and the other events decide
+-- first the events of this identity, and then what its last reply and the other events decide
 pub record AsksThen (c : Setting) (h : ℕ) (es : History)
     (Next : Reply → History → Type 0) : Type 0 where
   pub asked : History

@@ -56,8 +56,8 @@ ending_at stream_ends.Ended [] number = endings.Ended
 ending_at stream_ends.Ended (byte ∷ bytes) number = endings.Bad number (faults.Text texts.Truncated)
 ending_at stream_ends.Failed rest number = endings.ReadFailed number
 
--- After good lines one of four things ends the stream, with the line number after theirs. The rest
--- decides which, but for a deletion: memory may run out there before a fault is met.
+-- After good lines one of four things ends the stream, with the line number after theirs. Where the
+-- rest begins with a deletion, good or bad, memory may run out in it.
 pub data EndsAfter (c : Setting) (lines : List StreamLine) (rest : List ℕ) (end : StreamEnd)
     (blocks : List History) (report : Report) : Type 0 where
   -- a line that is bad, whatever follows it

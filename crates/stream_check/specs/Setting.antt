@@ -6,7 +6,8 @@ use Rattle.lrup_model.specs.declared.layout.Owner.TheVariants as owners
 use Rattle.stream_check.specs.declared.setting.Side.{Side}
 use Rattle.stream_check.specs.declared.setting.Side.TheVariants as sides
 
--- the layout, the cube of assumed literals, the stream, from 1 on, and how often a hint of another stream is fetched again while it is vacant
+-- the layout, the cube of assumed literals, the stream, from 1 on, and how often an identity of another stream is fetched again while
+-- it is vacant
 pub record Setting : Type 0 where
   pub layout : LayoutValue
   pub cube : CubeValue
