@@ -1,16 +1,14 @@
 -- A report that is right for both ends of a stream tells of neither.
-use Rattle.std.proofs.Common.{◌≡◌, ℕ, List, [], ◌∷◌, Option, None, refl, sym, ap, subst, ◌∙◌}
+use Rattle.std.proofs.Common.{◌≡◌, ℕ, List, [], ◌∷◌, Option, None, sym, ap, subst, ◌∙◌}
 use Rattle.std.specs.Prelude.{IfSome}
 use Rattle.lrup_model.specs.Event.{History}
 use Rattle.lrup_text.specs.Lines.{StreamLine}
 use Rattle.lrup_text.specs.declared.device.StreamEnd.{StreamEnd}
 use Rattle.lrup_text.specs.declared.device.StreamEnd.TheVariants as stream_ends
-use Rattle.stream_check.specs.declared.report.Ending.{Ending}
 use Rattle.stream_check.specs.declared.report.Ending.TheVariants as endings
 use Rattle.stream_check.specs.declared.report.Report.{Report}
 use Rattle.stream_check.specs.Setting.{Setting}
-use Rattle.stream_check.specs.Judging.{ending_at, EndsAfter, at_bad_line, at_bad_text, at_memory, at_end, JudgesBlocks}
-use Rattle.runs.specs.Streams.{Stream, JudgesStream}
+use Rattle.stream_check.specs.Judging.{ending_at, EndsAfter, at_bad_line, at_bad_text, at_memory, at_end}
 use Rattle.run_laws.specs.GroupLaws.{EarlyIsDecided}
 
 ends_not_ended : (c : Setting) (lines : List StreamLine) (rest : List ℕ) (blocks : List History) (report : Report) → EndsAfter c lines rest stream_ends.Failed blocks report → report.ending ≡ endings.Ended → ⊥
