@@ -5,6 +5,7 @@ use Rattle.std.specs.Ordering.{int_eq}
 use Rattle.std.proofs.lemmas.Bool.Decides.{Decides-int_eq}
 use Rattle.std.proofs.lemmas.Bool.{cond-true, cond-false, false_from_ne_true}
 use Rattle.std.proofs.lemmas.List.Elements.{filter-append}
+use Rattle.std.proofs.lemmas.List.Filters.{length-filter_both}
 use Rattle.std.proofs.lemmas.List.{append-nil, take_all}
 use Rattle.std.proofs.lemmas.Option.{slice_get_read}
 use Rattle.std.proofs.Math.IntN.{neg_ℤ-neg_ℤ}
@@ -78,6 +79,15 @@ IsClause-distinct vars ls all = record {
 
 pub IsTautology-distinct : (ls : List ℤ) → IsTautology (distinct ls) → IsTautology ls
 IsTautology-distinct ls t = (t.0, Has-from_distinct ls t.0 t.1, Has-from_distinct ls (neg_ℤ t.0) t.2)
+
+pub IsTautology-in_distinct : (ls : List ℤ) → IsTautology ls → IsTautology (distinct ls)
+IsTautology-in_distinct ls t = (t.0, Has-distinct ls t.0 t.1, Has-distinct ls (neg_ℤ t.0) t.2)
+
+-- a list without repeats is no longer
+pub length-distinct : (ls : List ℤ) → length (distinct ls) ≤ length ls
+length-distinct [] = omega arith
+length-distinct (x ∷ ls) =
+    omega (arith, length-distinct ls, length-filter_both (λ y. not (int_eq y x)) (λ y. not (not (int_eq y x))) (λ y. refl) (distinct ls))
 
 pub distinct-push_other : (ls : List ℤ) (x : ℤ) → (¬ Has ls x)
     → distinct (ls ++ x ∷ []) ≡ distinct ls ++ x ∷ []

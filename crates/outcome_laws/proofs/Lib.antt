@@ -3,3 +3,4 @@ mod RunLemmas
 mod WordLemmas
 mod OutcomeLemmas
 mod StatusLemmas
+mod RightLemmas

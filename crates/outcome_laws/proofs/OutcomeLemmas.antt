@@ -23,7 +23,7 @@ use Rattle.outcome_laws.specs.Outcomes.{SayTheSame}
 use Rattle.outcome_laws.specs.Laws.{SameBytesSayTheSame, OutcomesAgree}
 
 -- a text is that of one formula: the law of `dimacs`
-abbrev OneFormula : Type 0
+abbrev pub OneFormula : Type 0
 OneFormula = (bytes : List ℕ) (one other : Cnf) → IsFormulaText bytes one → IsFormulaText bytes other → one ≡ other
 
 is_run : SerialRun → (serial : Bool) (f : Cnf) (terms : TermsValue) (told : List Telling) (reports : List Report)
@@ -45,19 +45,19 @@ same_line s report other same =
     ∙ ap (λ (n : ℕ). codes "c stream " ++ decimal s ++ codes ": " ++ decimal other.added ++ codes " added, " ++ decimal n ++ codes " deleted, " ++ ending_text report.ending ++ codes "\n") same.deleted
     ∙ ap (λ (e : Ending). codes "c stream " ++ decimal s ++ codes ": " ++ decimal other.added ++ codes " added, " ++ decimal other.deleted ++ codes " deleted, " ++ ending_text e ++ codes "\n") same.ending
 
-text_of : (told : Option (List ℕ)) (text bytes : List ℕ) → told ≡ Some text → ForSome told (λ all. all ≡ bytes) → text ≡ bytes
+pub text_of : (told : Option (List ℕ)) (text bytes : List ℕ) → told ≡ Some text → ForSome told (λ all. all ≡ bytes) → text ≡ bytes
 text_of told text bytes is all = all text is
 
-is_text : (R : Type 0) (files : FilesView R) (path : Text) (f : Cnf) (text : List ℕ) → files.tells path ≡ Some text → IsFormulaAt R files path f → IsFormulaText text f
+pub is_text : (R : Type 0) (files : FilesView R) (path : Text) (f : Cnf) (text : List ℕ) → files.tells path ≡ Some text → IsFormulaAt R files path f → IsFormulaText text f
 is_text R files path f text told at =
     subst (λ (x : List ℕ). IsFormulaText x f) (sym (text_of (files.tells path) text at.0 told at.1.told)) at.2
 
 -- what the readers of an outcome told
-told_in : (R : Type 0) (files : FilesView R) (words : List Text) (reports : List Report) (verdict : Verdict) → IsOutcome R files words reports verdict → List Telling
+pub told_in : (R : Type 0) (files : FilesView R) (words : List Text) (reports : List Report) (verdict : Verdict) → IsOutcome R files words reports verdict → List Telling
 told_in R files words reports verdict a = tellings files.reading a.readers a.checked.lasts
 
 -- an outcome's reports are those of a run
-run_of : SerialRun → (R : Type 0) (files : FilesView R) (words : List Text) (reports : List Report) (verdict : Verdict) (a : IsOutcome R files words reports verdict)
+pub run_of : SerialRun → (R : Type 0) (files : FilesView R) (words : List Text) (reports : List Report) (verdict : Verdict) (a : IsOutcome R files words reports verdict)
     → IsRun a.formula (terms_given a.given a.cube a.formula) (told_in R files words reports verdict a) reports
 unfolding told_in
 run_of serial R files words reports verdict a =
@@ -67,7 +67,7 @@ run_of serial R files words reports verdict a =
     (told_as_many files.reading a.readers a.checked.lasts a.checked.reported.streams a.checked.read ∙ readers) a.checked.reported
 
 -- what a file tells its reader had left at first
-telling_of_file : (R : Type 0) (files : FilesView R) (words : List Text) (reports : List Report) (verdict : Verdict) (a : IsOutcome R files words reports verdict)
+pub telling_of_file : (R : Type 0) (files : FilesView R) (words : List Text) (reports : List Report) (verdict : Verdict) (a : IsOutcome R files words reports verdict)
     (s : ℕ) (path : Text) (whole : List ℕ) → IsOfStream a.given.streams s path → files.tells path ≡ Some whole
     → (telling : Telling) × IsOfStream (told_in R files words reports verdict a) s telling × (telling.entry ≡ Some whole)
 unfolding told_in

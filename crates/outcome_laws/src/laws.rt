@@ -1,10 +1,12 @@
 //! Laws of outcomes. Each function does nothing; its contract is the law.
 ghost use Rattle.command.specs.Commands.{files_view};
+ghost use Rattle.outcome_laws.specs.Right.{RightOrderSays, RightRefutationSays};
 ghost use Rattle.outcome_laws.specs.Laws.{NoCubeJudgesAlike, SameBytesSayTheSame, SameWordsAskAlike, OutcomesAgree, Status0HasACommandLine};
 
 use command::Files;
-use dimacs::laws::one_formula;
+use dimacs::laws::{formula_or_fault, one_formula};
 use run_laws::groups::{same_bytes_agree, serial_run};
+use run_laws::right::{right_empty, right_reported, right_together};
 
 /// What a stream is judged by under a cube, it is judged by without one, and its report says the same, but of clauses within the
 /// cube.
@@ -49,3 +51,34 @@ pub fn status_0_has_a_command_line<F: Files>(files: &F)
         F.Input.Source.left F.Input.Source.has_failed (F.opens files.now) F.Input.Source.reads in
         Status0HasACommandLine _ view }
 {}
+
+/// Where the words ask for a right refutation, the program ends with status 0; or with 7, for a report that wasn't written; or with
+/// 5 or 6, for a fault of the machine; or with 3 or 8, and then memory ran out in that stream, or a read of it failed: the clause
+/// `ends` of `command` says so.
+pub fn right_refutation_says<F: Files>(files: &F)
+    ensures { let view = files_view (F.tells files.now) (F.may_refuse files.now)
+        F.Input.Source.left F.Input.Source.has_failed (F.opens files.now) F.Input.Source.reads in
+        RightRefutationSays _ view }
+{
+    one_formula();
+    formula_or_fault();
+    serial_run();
+    same_words_ask_alike();
+    right_reported();
+    right_empty();
+}
+
+/// So it is where they ask for streams whose lines have a right order, and one of which adds the empty clause; or with 3 or 8 that
+/// stream has a line that cites a clause of another stream, which wasn't there, or wasn't any more.
+pub fn right_order_says<F: Files>(files: &F)
+    ensures { let view = files_view (F.tells files.now) (F.may_refuse files.now)
+        F.Input.Source.left F.Input.Source.has_failed (F.opens files.now) F.Input.Source.reads in
+        RightOrderSays _ view }
+{
+    one_formula();
+    formula_or_fault();
+    serial_run();
+    same_words_ask_alike();
+    right_together();
+    right_empty();
+}

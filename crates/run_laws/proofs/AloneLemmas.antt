@@ -40,7 +40,7 @@ own-one s [] all = refl
 own-one s (e ∷ h) all = cond-true (eqb (stream_of e) s) (e ∷ own h s) (own h s) all.0 ∙ ap (λ (k : History). e ∷ k) (own-one s h all.1)
 
 -- the group of one stream is a judgement of all its bytes
-alone_judged : OverStays → (f : Cnf) (terms : TermsValue) (s : ℕ) (streams : List Stream) (reports : List Report)
+pub alone_judged : OverStays → (f : Cnf) (terms : TermsValue) (s : ℕ) (streams : List Stream) (reports : List Report)
     (whole : List ℕ) (end : StreamEnd) (stream : Stream) (report : Report)
     → (g : IsGroup f terms (one s) streams reports) → IsOfStream streams s stream → IsReadingOf whole end stream → IsOfStream reports s report
     → Judges (setting_of terms s) whole end g.history report

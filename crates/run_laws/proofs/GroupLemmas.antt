@@ -23,7 +23,8 @@ use Rattle.runs.specs.Streams.{Stream, JudgesStream, TermsValue, setting_of}
 use Rattle.runs.specs.Headline.{AreJudgedIn}
 use Rattle.runs.specs.Closed.{IsOwnedWithin, CiteWithin, IsClosed}
 use Rattle.run_laws.specs.GroupLaws.{ClosedIsGroup}
-use Rattle.run_laws.proofs.Places.{has_place, judged_count, judged_at}
+use Rattle.run_laws.proofs.Places.{has_place, judged_at}
+use Rattle.runs.specs.StreamLemmas.{judged_count}
 
 -- The set's streams that are streams of the layout
 

@@ -83,12 +83,12 @@ judged_blocks early_events vacant_tries_again c bytes end blocks report j =
 -- Which of the lines that the bytes are cut into are judged
 
 -- the lines that were found whole at the front of a cut's bytes are its first
-record AreFirst (lines all : List StreamLine) (left rest : List ℕ) : Type 0 where
-  more : List StreamLine
-  is : all ≡ lines ++ more
-  bytes : left ≡ flat_map line_text more ++ rest
+pub record AreFirst (lines all : List StreamLine) (left rest : List ℕ) : Type 0 where
+  pub more : List StreamLine
+  pub is : all ≡ lines ++ more
+  pub bytes : left ≡ flat_map line_text more ++ rest
 
-lines_first : OneFirstLine → (lines all : List StreamLine) (left rest : List ℕ)
+pub lines_first : OneFirstLine → (lines all : List StreamLine) (left rest : List ℕ)
     → AllByRecursion IsWithinLimits lines → AllByRecursion IsWithinLimits all → HasNoLine rest
     → flat_map line_text lines ++ left ≡ flat_map line_text all ++ rest → AreFirst lines all left rest
 lines_first first [] all left rest fit fits none is = record { more = all; is = refl; bytes = is }

@@ -57,7 +57,7 @@ module _ (c : Setting) (P : Event → Type 0) (fetches : (id : ℕ) (r : Reply) 
   vacants_all id zero r = (fetches id r, tt)
   vacants_all id (suc k) r = (fetches id events.vacant, vacants_all id k r)
 
-  asked_all : (side : Side) (h : ℕ) (asked : History) (r : Reply) → AsksAt side c h asked r → AllByRecursion P asked
+  pub asked_all : (side : Side) (h : ℕ) (asked : History) (r : Reply) → AsksAt side c h asked r → AllByRecursion P asked
   asked_all sides.Formula h asked r asks = subst (AllByRecursion P) (sym asks) (fetches h r, tt)
   asked_all sides.Own h asked r asks = subst (AllByRecursion P) (sym asks) (fetches h r, tt)
   asked_all sides.Foreign h asked r asks = subst (AllByRecursion P) (sym asks.3) (vacants_all h asks.0 r)
@@ -114,7 +114,7 @@ module _ (c : Setting) (P : Event → Type 0) (fetches : (id : ℕ) (r : Reply) 
 
 -- Retires
 
-all_retire : (s : ℕ) (ids : List ℕ) → AllByRecursion (λ id. (r : Retired) → IsRetire (events.retire s id r)) ids
+pub all_retire : (s : ℕ) (ids : List ℕ) → AllByRecursion (λ id. (r : Retired) → IsRetire (events.retire s id r)) ids
 all_retire s [] = tt
 all_retire s (id ∷ ids) = ((λ r. tt), all_retire s ids)
 

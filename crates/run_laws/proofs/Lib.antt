@@ -5,7 +5,15 @@ mod AloneLemmas
 mod EarlyLemmas
 mod EmptiedLemmas
 mod RunLemmas
+mod RightLines
+mod RightLemmas
+mod RightCites
+mod RightExactly
 pub mod SwapLemmas
+mod BlameLines
+mod BlameStreams
+mod BlameLemmas
+mod TogetherLemmas
 pub mod BlockLemmas
 pub mod AheadLemmas
 pub mod WalkLemmas

@@ -1,5 +1,5 @@
 -- The stream at a place, counted on from the first.
-use Rattle.std.proofs.Common.{◌≡◌, ℕ, zero, suc, ◌+◌, ◌-◌, ◌<◌, ◌≤◌, Bool, List, [], ◌∷◌, length, Some, refl, sym, ap, subst, inl, inr, arith}
+use Rattle.std.proofs.Common.{◌≡◌, ℕ, zero, suc, ◌+◌, ◌-◌, ◌<◌, ◌≤◌, Bool, List, [], ◌∷◌, length, Some, sym, subst, inl, inr, arith}
 use Rattle.std.specs.Prelude.{IsTrue, slice_get}
 use Rattle.std.proofs.lemmas.Option.{slice_get_cases}
 use Rattle.lrup_model.specs.Event.{History, own}
@@ -17,12 +17,6 @@ has_place xs s first last =
     ]
 
 -- Judged streams
-
-pub judged_count : (terms : TermsValue) (set : ℕ → Bool) (h : History) (s : ℕ) (streams : List Stream) (reports : List Report) → AreJudgedIn terms set h s streams reports → length reports ≡ length streams
-judged_count terms set h s [] [] judged = refl
-judged_count terms set h s [] (r ∷ rs) judged = absurd judged
-judged_count terms set h s (t ∷ ts) [] judged = absurd judged
-judged_count terms set h s (t ∷ ts) (r ∷ rs) judged = ap suc (judged_count terms set h (s + 1) ts rs judged.1)
 
 judged_from : (terms : TermsValue) (set : ℕ → Bool) (h : History) (s : ℕ) (streams : List Stream) (reports : List Report) → AreJudgedIn terms set h s streams reports
     → (k : ℕ) (stream : Stream) (report : Report) → IsTrue (set (s + k)) → slice_get streams k ≡ Some stream → slice_get reports k ≡ Some report

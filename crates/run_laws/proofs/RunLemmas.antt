@@ -21,7 +21,8 @@ use Rattle.runs.specs.Closed.{IsOfStream, CiteWithin}
 use Rattle.runs.specs.StreamLemmas.{told_count, told_from, told_begins, same_at}
 use Rattle.run_laws.specs.Groups.{one, IsGroup, IsRun}
 use Rattle.run_laws.specs.GroupLaws.{BeginningsWithin, ReadersClosed, ClosedIsGroup, OrderedIsGroup, AloneHasOneReport, RunIsolated, SerialIsolated, ThreadsRun, SerialRun, ToldIsReading, FailedIsReading, SameReadingAgrees, SameBytesAgree}
-use Rattle.run_laws.proofs.Places.{has_place, judged_count, judged_at, judged_fewer}
+use Rattle.run_laws.proofs.Places.{has_place, judged_at, judged_fewer}
+use Rattle.runs.specs.StreamLemmas.{judged_count}
 use Rattle.run_laws.proofs.RestrictingLemmas.{ordered_judged}
 use Rattle.run_laws.specs.ReportLemmas.{only}
 use Rattle.run_laws.proofs.AloneLemmas.{ReadsTo, me, own-one}
@@ -29,7 +30,7 @@ use Rattle.run_laws.proofs.AloneLemmas.{ReadsTo, me, own-one}
 -- What a reader told
 
 -- what a reader of known place told
-told_at : (told : List Telling) (streams : List Stream) (s : ℕ) (telling : Telling) (stream : Stream)
+pub told_at : (told : List Telling) (streams : List Stream) (s : ℕ) (telling : Telling) (stream : Stream)
     → AllZip IsTold told streams → IsOfStream told s telling → IsOfStream streams s stream → IsTold telling stream
 told_at told streams s telling stream are_told here at =
     let was = told_from told streams (s - 1) stream are_told at.1 in
@@ -48,7 +49,7 @@ readers_closed law p set told streams are_told closed s stream member at =
     told_within law p set was.telling known.0 stream was.is_told known.1 known.2
 
 -- how a reader ends whose stream has this end, if any
-abbrev EndsWith : Option StreamEnd → Option (List ℕ) → Bool → Type 0
+abbrev pub EndsWith : Option StreamEnd → Option (List ℕ) → Bool → Type 0
 EndsWith its left has_failed = MatchOption its (has_failed ≡ false) (λ end. EndsSo end left has_failed)
 
 told_reads : (left : Option (List ℕ)) (its : Option StreamEnd) (whole bytes unneeded : List ℕ)
@@ -151,7 +152,7 @@ same_reading_agrees within group alone f terms s whole end told other_told repor
     (reading_within within p (one s) other.end other.bytes whole end also cites) none)
     at there reads also says too
 
-judged_to : DecidedBeforeFailure → (c : Setting) (its : Option StreamEnd) (bytes unneeded whole : List ℕ) (left : Option (List ℕ)) (has_failed : Bool) (blocks : List History) (report : Report)
+pub judged_to : DecidedBeforeFailure → (c : Setting) (its : Option StreamEnd) (bytes unneeded whole : List ℕ) (left : Option (List ℕ)) (has_failed : Bool) (blocks : List History) (report : Report)
     → Consumes (Some whole) left (bytes ++ unneeded) → EndsWith its left has_failed → (IsSome its → unneeded ≡ []) → ¬ IsOfFailure report
     → ((end : StreamEnd) → IfSome its (λ e. e ≡ end) → JudgesBlocks c bytes end blocks report) → JudgesBlocks c whole stream_ends.Ended blocks report
 judged_to law c its bytes unneeded whole None has_failed blocks report took ends needed machine j = absurd took
@@ -166,12 +167,12 @@ judged_to law c None bytes unneeded whole (Some left) has_failed blocks report t
     (law c bytes (unneeded ++ left) stream_ends.Ended blocks report machine (j stream_ends.Failed tt))
 
 -- a legal history judges all these bytes so
-record IsJudgedWhole (f : Cnf) (terms : TermsValue) (s : ℕ) (whole : List ℕ) (report : Report) : Type 0 where
-  history : History
-  legal : IsLegal f terms.layout history
-  judges : Judges (setting_of terms s) whole stream_ends.Ended history report
+pub record IsJudgedWhole (f : Cnf) (terms : TermsValue) (s : ℕ) (whole : List ℕ) (report : Report) : Type 0 where
+  pub history : History
+  pub legal : IsLegal f terms.layout history
+  pub judges : Judges (setting_of terms s) whole stream_ends.Ended history report
 
-whole_judged : BeginningsWithin → ClosedIsGroup → DecidedBeforeFailure
+pub whole_judged : BeginningsWithin → ClosedIsGroup → DecidedBeforeFailure
     → (f : Cnf) (terms : TermsValue) (s : ℕ) (whole : List ℕ) (told : List Telling) (telling : Telling) (reports : List Report) (report : Report)
     → Fits terms.layout f → CiteWithin terms.layout (one s) whole → IsRun f terms told reports
     → IsOfStream told s telling → telling.entry ≡ Some whole → IsOfStream reports s report → ¬ IsOfMemory report → ¬ IsOfFailure report

@@ -47,12 +47,12 @@ mine_or_not p s id =
 
 -- States that agree
 
-abbrev identity_of : Event → ℕ
+abbrev pub identity_of : Event → ℕ
 identity_of (events.fetch s id r) = id
 identity_of (events.publish s id c r) = id
 identity_of (events.retire s id r) = id
 
-answers-agree : (m n : State) (e : Event) → m (identity_of e) ≡ n (identity_of e) → Answers m e → Answers n e
+pub answers-agree : (m n : State) (e : Event) → m (identity_of e) ≡ n (identity_of e) → Answers m e → Answers n e
 answers-agree m n (events.fetch s id events.vacant) is answers = sym is ∙ answers
 answers-agree m n (events.fetch s id (events.live c)) is answers = sym is ∙ answers
 answers-agree m n (events.fetch s id events.retired) is answers = subst IsRetired is answers

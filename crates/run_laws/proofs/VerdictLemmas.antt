@@ -33,7 +33,7 @@ use Rattle.run_laws.proofs.KindLemmas.{addition_all, import_all, identities_all}
 
 -- Truth values
 
-or_none : (a b : Bool) → a ≡ false → b ≡ false → (a || b) ≡ false
+pub or_none : (a b : Bool) → a ≡ false → b ≡ false → (a || b) ≡ false
 or_none true b first rest = first
 or_none false b first rest = rest
 

@@ -6,3 +6,7 @@ pub mod Premises
 pub mod PublishLemmas
 pub mod Serializable
 pub mod OrderLaws
+pub mod Right
+pub mod RightLaws
+pub mod Blame
+pub mod Together

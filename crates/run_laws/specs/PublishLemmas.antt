@@ -1,5 +1,5 @@
 -- Tests of the clauses that a history published, as tests of its events.
-use Rattle.std.proofs.Common.{◌≡◌, ◌||◌, ℕ, Bool, false, List, [], ◌∷◌, length, refl, ap}
+use Rattle.std.proofs.Common.{◌≡◌, ◌||◌, Bool, false, [], ◌∷◌, length, refl, ap}
 use Rattle.std.specs.Prelude.{◌==◌}
 use Rattle.std.specs.List.{list_any}
 use Rattle.lrup_model.specs.Clause.{Clause}

@@ -5,3 +5,4 @@
 
 pub mod groups;
 pub mod orders;
+pub mod right;

@@ -1,5 +1,5 @@
 -- Lemmas on the streams of a run, on places in lists of them, and on the blocks of one stream.
-use Rattle.std.proofs.Common.{◌≡◌, ◌∙◌, ◌++◌, ℕ, zero, suc, List, [], ◌∷◌, Option, Some, None, length, map, eqb, refl, sym, ap, subst, append_assoc, eq-eqb, ne_eqb}
+use Rattle.std.proofs.Common.{◌≡◌, ◌∙◌, ◌++◌, ℕ, ◌+◌, zero, suc, Bool, List, [], ◌∷◌, Option, Some, None, length, map, eqb, refl, sym, ap, subst, append_assoc, eq-eqb, ne_eqb}
 use Rattle.std.specs.Prelude.{IfSome, slice_get}
 use Rattle.std.specs.List.{AllZip}
 use Rattle.std.specs.Io.KnownBytes.{Consumes}
@@ -12,8 +12,9 @@ use Rattle.stream_check.specs.declared.report.Report.{Report}
 use Rattle.stream_check.specs.Setting.{Setting}
 use Rattle.stream_check.specs.Judging.{joined, JudgesBlocks}
 use Rattle.runs.specs.Closed.{IsOfStream}
+use Rattle.runs.specs.Headline.{AreJudgedIn}
 use Rattle.runs.specs.Readings.{AreRead}
-use Rattle.runs.specs.Streams.{Stream, Telling, telling_of, tellings, IsTold, JudgesStream, Block, blocks_of}
+use Rattle.runs.specs.Streams.{TermsValue, Stream, Telling, telling_of, tellings, IsTold, JudgesStream, Block, blocks_of}
 
 -- at one place stands one thing
 pub same_at : {X : Type 0} (xs : List X) (s : ℕ) (x y : X)
@@ -111,3 +112,12 @@ blocks-same block blocks s same = cond-true (eqb block.stream s) (block.events �
 pub blocks-other : (block : Block) (blocks : List Block) (s : ℕ) → (block.stream ≡ s → ⊥)
     → blocks_of s (block ∷ blocks) ≡ blocks_of s blocks
 blocks-other block blocks s other = cond-false (eqb block.stream s) (block.events ∷ blocks_of s blocks) (blocks_of s blocks) (ne_eqb block.stream s other)
+
+-- there are as many reports as streams
+pub judged_count : (terms : TermsValue) (set : ℕ → Bool) (h : History) (s : ℕ)
+    (streams : List Stream) (reports : List Report) → AreJudgedIn terms set h s streams reports
+    → length reports ≡ length streams
+judged_count terms set h s [] [] judged = refl
+judged_count terms set h s [] (r ∷ rs) judged = absurd judged
+judged_count terms set h s (t ∷ ts) [] judged = absurd judged
+judged_count terms set h s (t ∷ ts) (r ∷ rs) judged = ap suc (judged_count terms set h (s + 1) ts rs judged.1)

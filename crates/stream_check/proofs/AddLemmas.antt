@@ -18,9 +18,11 @@ use Rattle.lrup_model.specs.declared.clause_map.Published.TheVariants as publish
 use Rattle.lrup_model.specs.Laws.{PropagationSound}
 use Rattle.lrup_text.specs.Lines.{IsStreamLiteral}
 use Rattle.lrup_model.specs.Distinct.{distinct}
+use Rattle.lrup_model.specs.DistinctLemmas.{length-distinct}
 use Rattle.propagate.specs.Marks.{Propagation}
 use Rattle.stream_check.specs.Setting.{Setting}
 use Rattle.stream_check.specs.Standing.{Standing}
+use Rattle.stream_check.specs.AdditionLemmas.{run-fetches}
 use Rattle.stream_check.specs.Additions.{published_by}
 use Rattle.stream_check.specs.Checking.{IsPlaceOf, IsFetch, KeepsClause, Shows}
 use Rattle.stream_check.specs.Checker.{Admits}
@@ -37,12 +39,6 @@ spent-fetches s [] h = refl
 spent-fetches s (events.fetch t id r ∷ es) h = spent-skips (events.fetch t id r) (own es s) (stream_of (events.fetch t id r) == s) refl ∙ spent-fetches s es h.1
 spent-fetches s (events.publish t id c r ∷ es) h = absurd h.0
 spent-fetches s (events.retire t id r ∷ es) h = absurd h.0
-
-pub run-fetches : (m : State) (es : History) → AllByRecursion IsFetch es → run m es ≡ m
-run-fetches m [] h = refl
-run-fetches m (events.fetch s id r ∷ es) h = run-fetches m es h.1
-run-fetches m (events.publish s id c r ∷ es) h = absurd h.0
-run-fetches m (events.retire s id r ∷ es) h = absurd h.0
 
 pub room_stays : (p q : Place) (es : History) → Tells p q es → AllByRecursion IsFetch es → q.room ≡ p.room
 room_stays p q es tells quiet = omega (arith, tells.room, spent-fetches p.caller.stream es quiet)
@@ -70,16 +66,7 @@ pub variables_within : (vars : ℕ) (ls : List ℤ) → AllByRecursion (IsLitera
 variables_within vars [] all = tt
 variables_within vars (l ∷ ls) all = (all.0.1, variables_within vars ls all.1)
 
-pub literals_within : (vars : ℕ) (ls : List ℤ) → AllByRecursion IsStreamLiteral ls → AllByRecursion (λ l. nat_abs l ≤ vars) ls → AllByRecursion (IsLiteral vars) ls
-literals_within vars [] nonzero all = tt
-literals_within vars (l ∷ ls) nonzero all = ((nonzero.0.0, all.0), literals_within vars ls nonzero.1 all.1)
-
 -- The conditions of the publish
-
--- a list without repeats is no longer
-pub length-distinct : (ls : List ℤ) → length (distinct ls) ≤ length ls
-length-distinct [] = omega arith
-length-distinct (x ∷ ls) = omega (arith, length-distinct ls, length-filter_both (λ y. not (int_eq y x)) (λ y. not (not (int_eq y x))) (λ y. refl) (distinct ls))
 
 -- the clause of the marks, after the hints, is the addition's
 pub clause_is : (c : Setting) (st : Standing) (id : ℕ) (lits : List ℤ) (old new : Propagation) (clause : Clause) → Admits c st id lits old → KeepsClause old new → clause ≡ new.clause → clause ≡ distinct lits

@@ -32,7 +32,7 @@ use Rattle.stream_check.specs.CheckerValue.{Tally, report_of_tally, CheckerValue
 use Rattle.stream_check.specs.Checker.{read_of, value_of, checker_state, state_by, holding_of, tally_at, IsReadyAt, IsSound, LeavesOn, IsNew, EndsBy, Ends, ReportsEnd}
 use Rattle.stream_check.specs.Taking.{IsReady, hold}
 use Rattle.stream_check.proofs.LeavingLemmas.{end_judged, line_grows, all_snoc}
-use Rattle.stream_check.proofs.StandingLemmas.{same_tally}
+use Rattle.stream_check.specs.StandingLemmas.{same_tally}
 use Rattle.stream_check.proofs.TakeLemmas.{leaves_front}
 
 pub some_of : (o : Option Ending) → is_some o ≡ true → (ending : Ending) × (o ≡ Some ending)

@@ -13,7 +13,7 @@ use Rattle.lrup_model.specs.Propagation.{IsConflict, IsUnit, Refutes}
 use Rattle.lrup_model.specs.Laws.{PropagationSound}
 use Rattle.lrup_model.specs.Distinct.{distinct}
 use Rattle.lrup_model.specs.ClauseLemmas.{int_cases}
-use Rattle.lrup_model.specs.DistinctLemmas.{Has-distinct, IsTautology-distinct}
+use Rattle.lrup_model.specs.DistinctLemmas.{IsTautology-distinct, IsTautology-in_distinct}
 use Rattle.stream_check.specs.declared.fault.Fault.{Fault}
 use Rattle.stream_check.specs.declared.fault.Fault.TheVariants as faults
 use Rattle.stream_check.specs.declared.setting.Side.{Side}
@@ -53,9 +53,6 @@ Has-others x (y ∷ ls) l (inr h) ne = elim (int_cases y x) [
   | inl e ↦ subst (λ m. Has m l) (sym (others-same x y ls e)) (Has-others x ls l h ne)
   | inr other ↦ subst (λ m. Has m l) (sym (others-other x y ls other)) (inr (Has-others x ls l h ne))
 ]
-
-tautology_of : (ls : List ℤ) → IsTautology ls → IsTautology (distinct ls)
-tautology_of ls t = (t.0, Has-distinct ls t.0 t.1, Has-distinct ls (neg_ℤ t.0) t.2)
 
 -- From a good verdict to the clauses found
 
@@ -189,7 +186,7 @@ shown_good c st id lits hints es g =
       inr (
         g.literals,
         inr (
-          (λ t. g.accepts.0 (tautology_of lits t)),
+          (λ t. g.accepts.0 (IsTautology-in_distinct lits t)),
           inr (
             g.room,
             shown_judged c st.gone (published_by c id lits) (distinct lits) hints g.clauses es g.fetches g.found g.accepts.1 g.published,

@@ -21,7 +21,7 @@ use Rattle.stream_check.specs.Judging.{JudgesLine, AreGood, report_of, EndsAfter
 use Rattle.stream_check.specs.CheckerValue.{Tally, report_of_tally}
 use Rattle.stream_check.specs.Leaving.{Holding, SameStanding, LeavesGoing, standing_after, tally_after}
 use Rattle.stream_check.specs.Laws.{FreshLeft, PendingGrows, GoodLineTaken, BadLineTaken, BadTextRead, MemoryWanted, EndJudged, OverStays, IsDecided, EitherEnd, DecidedBeforeFailure}
-use Rattle.stream_check.proofs.StandingLemmas.{standing_of-snoc, counts_of, tally_is, tally_says, counts_of-snoc, same_standing}
+use Rattle.stream_check.specs.StandingLemmas.{standing_of-snoc, counts_of, tally_is, tally_says, counts_of-snoc, same_standing}
 
 -- one good line more, with its block
 good_snoc : (c : Setting) (before lines : List StreamLine) (blocks : List History) (line : StreamLine) (block : History)

@@ -1,4 +1,3 @@
-pub mod StandingLemmas
 pub mod LeavingLemmas
 pub mod TryLemmas
 pub mod AskLemmas

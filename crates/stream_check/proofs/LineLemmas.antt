@@ -28,8 +28,9 @@ use Rattle.stream_check.specs.DroppedValue.{DroppedValue}
 use Rattle.stream_check.specs.Checking.{IsPlaceOf, IsFetch, IsRetire, MakesEvents, Deletes}
 use Rattle.stream_check.specs.Checker.{standing_at, tally_at, deleted_at, KeepsLines}
 use Rattle.stream_check.specs.Taking.{IsReady, DeletesMore, TakesBy}
-use Rattle.stream_check.proofs.AddLemmas.{spent-skips, spent-fetches, run-fetches, still_at}
-use Rattle.stream_check.proofs.StandingLemmas.{same_tally}
+use Rattle.stream_check.proofs.AddLemmas.{spent-skips, spent-fetches, still_at}
+use Rattle.stream_check.specs.AdditionLemmas.{run-fetches}
+use Rattle.stream_check.specs.StandingLemmas.{same_tally}
 
 -- The place after fetches alone
 

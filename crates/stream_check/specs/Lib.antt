@@ -19,4 +19,6 @@ pub mod Forks
 pub mod Reducing
 pub mod ReducingLemmas
 pub mod Finding
+pub mod AdditionLemmas
+pub mod StandingLemmas
 pub mod Laws

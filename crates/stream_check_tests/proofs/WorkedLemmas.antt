@@ -33,12 +33,3 @@ unit_passes hints es v judged = inr ((refl, omega arith), inr ((omega arith, tt)
 pub first_is_compared : (lits : List ℤ) (v : LineVerdict) → AllByRecursion (λ l. nat_abs l ≤ 2) lits → AtImported (live first) 1 lits [] v → JudgesLine first_stream at_start (Import 1 lits) (first_found ∷ []) v
 first_is_compared lits v within compared =
     inr (refl, inr (within, inr (refl, record { asked = first_found ∷ []; reply = live first; rest = []; events = refl; asks = refl; next = compared })))
-
-pub same_first : (l : ℤ) → Has first l ↔ Has (pos 2 ∷ pos 1 ∷ pos 2 ∷ []) l
-same_first l = (
-  λ h. elim h [ inl one ↦ inr (inl one) | inr more ↦ elim more [ inl two ↦ inl two | inr none ↦ absurd none ] ],
-  λ h. elim h [
-    | inl two ↦ inr (inl two)
-    | inr more ↦ elim more [ inl one ↦ inl one | inr rest ↦ elim rest [ inl two ↦ inr (inl two) | inr none ↦ absurd none ] ]
-  ],
-)

@@ -1,5 +1,5 @@
 -- Hints of the worked formula.
-use Rattle.std.specs.Prelude.{◌≡◌, ℕ, ℤ, pos, negsuc, neg_ℤ, nat_abs, [], ◌∷◌}
+use Rattle.std.specs.Prelude.{◌↔◌, ◌≡◌, ℕ, ℤ, pos, negsuc, neg_ℤ, nat_abs, [], ◌∷◌}
 use Rattle.std.proofs.Common.{refl, sym, ap, ◌∙◌, inl, inr, arith}
 use Rattle.lrup_model.specs.Clause.{Has, IsTautology}
 use Rattle.lrup_model.specs.Propagation.{IsConflict, IsUnit}
@@ -31,3 +31,13 @@ swapped x y l h = elim h [ inl e ↦ inr (inl e) | inr there ↦ elim there [ in
 
 pub second_is_conflict : IsConflict (pos 2 ∷ negsuc 0 ∷ []) second
 second_is_conflict = swapped (negsuc 0) (pos 2)
+
+-- the first clause in another way
+pub same_first : (l : ℤ) → Has first l ↔ Has (pos 2 ∷ pos 1 ∷ pos 2 ∷ []) l
+same_first l = (
+  λ h. elim h [ inl one ↦ inr (inl one) | inr more ↦ elim more [ inl two ↦ inl two | inr none ↦ absurd none ] ],
+  λ h. elim h [
+    | inl two ↦ inr (inl two)
+    | inr more ↦ elim more [ inl one ↦ inl one | inr rest ↦ elim rest [ inl two ↦ inr (inl two) | inr none ↦ absurd none ] ]
+  ],
+)

@@ -3,7 +3,8 @@ use Rattle.lrup_model.specs.Event.{vacant}
 use Rattle.stream_check.specs.Verdicts.{Good, Bad}
 use Rattle.stream_check.specs.declared.fault.Fault.TheVariants as faults
 use Rattle.stream_check_tests.specs.Worked.{six_vacant}
-use Rattle.stream_check_tests.proofs.WorkedLemmas.{first_is_compared, same_first}
+use Rattle.stream_check_tests.proofs.WorkedLemmas.{first_is_compared}
+use Rattle.test_support.specs.WorkedLemmas.{same_first}
 use Rattle.stream_check_tests.proofs.worked.imports_are_judged.Goals as goal
 
 pub returns-clause-good : goal.returns-clause-good

@@ -1,0 +1,130 @@
+-- What the program says of a right refutation, and the law that says so (this project's own).
+use Rattle.std.specs.Prelude.{◌≡◌, ◌≢◌, ◌⊎◌, ℕ, Bool, true, IsTrue, List, [], Option, None, Some}
+use Rattle.std.specs.List.{AllByRecursion, Any, flat_map}
+use Rattle.lrup_model.specs.Formula.{Cnf}
+use Rattle.lrup_model.specs.Layout.{IsFault, IsStream}
+use Rattle.lrup_model.specs.declared.layout.LayoutFault.{LayoutFault}
+use Rattle.lrup_text.specs.Lines.{line_text}
+use Rattle.lrup_text.specs.Cubes.{IsCubeFault}
+use Rattle.lrup_text.specs.declared.cube.CubeFault.{CubeFault}
+use Rattle.lrup_text.specs.declared.cube.CubeFault.TheVariants as cubes
+use Rattle.dimacs.specs.FormulaText.{IsFormulaText}
+use Rattle.stream_check.specs.declared.report.Report.{Report}
+use Rattle.stream_check.specs.Laws.{IsOfMemory, IsOfFailure}
+use Rattle.runs.specs.Closed.{IsOfStream}
+use Rattle.runs.specs.Streams.{setting_of}
+use Rattle.run_laws.specs.Blame.{LacksOfAnother}
+use Rattle.run_laws.specs.Right.{AddsEmpty, IsRightRefutation}
+use Rattle.run_laws.specs.Together.{Step, IsRightOrder, lines_by}
+use Rattle.portfolio.specs.declared.outcome.Verdict.{Verdict}
+use Rattle.command_line.specs.CommandLine.{IsCommandLineOf}
+use Rattle.command_line.specs.declared.words.CommandLine.{CommandLine}
+use Rattle.command.specs.Commands.{EndsWithFault, EndsWithReport, FilesView, IsCause, IsOutcome, SinkChange, Text, assumed_at, layout_at, terms_given}
+use Rattle.command.specs.Faults.{status_of}
+use Rattle.command.specs.declared.fault.CommandFault.{CommandFault}
+use Rattle.command.specs.declared.fault.CommandFault.TheVariants as faults
+
+-- there are no assumed literals, or the file at their path tells bytes that have no fault
+abbrev pub AreRightAssumptions : (R : Type 0) → FilesView R → ℕ → Option Text → Type 0
+AreRightAssumptions R files vars None = Unit {0}
+AreRightAssumptions R files vars (Some path) =
+    (bytes : List ℕ) × (files.tells path ≡ Some bytes)
+    × ((fault : CubeFault) → fault ≢ cubes.Memory → ¬ IsCubeFault vars bytes fault)
+
+-- The words ask for a formula whose file tells a text of it, for assumed literals that have no fault, if any, and for streams that
+-- there is a layout for. Nothing is asked of the streams.
+pub record AskWell (R : Type 0) (files : FilesView R) (words : List Text) : Type 0 where
+  pub given : CommandLine
+  pub command_line : IsCommandLineOf words given
+  pub text : List ℕ
+  pub told : files.tells given.formula.now ≡ Some text
+  pub formula : Cnf
+  pub is_text : IsFormulaText text formula
+  pub layout : (fault : LayoutFault) → ¬ IsFault (layout_at given formula) fault
+  pub assumptions : AreRightAssumptions R files formula.vars (assumed_at given)
+
+-- And the file of stream s tells a right refutation of the formula. Nothing is asked of the other streams.
+pub record AskForRightRefutation (R : Type 0) (files : FilesView R) (words : List Text)
+    (s : ℕ) : Type 0 where
+  pub asks : AskWell R files words
+  pub path : Text
+  pub names : IsOfStream asks.given.streams s path
+  pub bytes : List ℕ
+  pub tells : files.tells path ≡ Some bytes
+  pub right : IsRightRefutation asks.formula (layout_at asks.given asks.formula) s bytes
+
+-- Or lines of a set of streams have a right order, the files of these streams tell the texts of their lines, and some line of
+-- stream s adds the empty clause. Nothing is asked of the streams outside the set.
+pub record AskForRightOrder (R : Type 0) (files : FilesView R) (words : List Text)
+    (s : ℕ) : Type 0 where
+  pub asks : AskWell R files words
+  pub set : ℕ → Bool
+  pub steps : List Step
+  pub order : IsRightOrder asks.formula (layout_at asks.given asks.formula) steps
+  pub members : AllByRecursion (λ step. IsTrue (set step.stream)) steps
+  pub tells : (t : ℕ) (path : Text) → IsTrue (set t) → IsOfStream asks.given.streams t path
+      → files.tells path ≡ Some (flat_map line_text (lines_by t steps))
+  pub member : IsTrue (set s)
+  pub among : IsStream (layout_at asks.given asks.formula) s
+  pub empty : Any AddsEmpty (lines_by s steps)
+
+-- The fault is the machine's: a file wasn't opened, or a read of the formula or of the assumed literals failed (5); memory ran out,
+-- a thread wasn't started, or a ring met no end (6).
+abbrev pub IsOfMachine : CommandFault → Type 0
+IsOfMachine (faults.Usage text) = ⊥
+IsOfMachine faults.Unread = Unit {0}
+IsOfMachine (faults.Refused fault) = ⊥
+IsOfMachine faults.CubeUnread = Unit {0}
+IsOfMachine (faults.CubeRefused fault) = ⊥
+IsOfMachine (faults.NotOpened stream) = Unit {0}
+IsOfMachine (faults.Layout fault) = ⊥
+IsOfMachine (faults.NotStarted stream) = Unit {0}
+IsOfMachine (faults.Ring stream) = Unit {0}
+IsOfMachine faults.Memory = Unit {0}
+IsOfMachine faults.Unwritten = ⊥
+
+-- memory ran out in the stream, in a deletion; or a read of it failed
+abbrev pub IsCutOff : Report → Type 0
+IsCutOff report = IsOfMemory report ⊎ IsOfFailure report
+
+-- or a line of it cites a clause of another stream that wasn't there, or wasn't any more
+abbrev pub IsHeldUp : (R : Type 0) (files : FilesView R) (words : List Text) → AskWell R files words
+    → ℕ → Report → Type 0
+IsHeldUp R files words asks s report =
+    IsCutOff report
+    ⊎ LacksOfAnother (setting_of (terms_given asks.given [] asks.formula) s) report
+
+-- Why the program doesn't say 'unsatisfiable', where stream s adds the empty clause by right lines. None of these says that a line
+-- is wrong.
+pub data IsExcused (R : Type 0) (files : FilesView R) (words : List Text) (s : ℕ)
+    (Lost : Report → Type 0) (out : SinkChange) (status : ℕ) : Type 0 where
+  -- it said so, and the writing failed
+  unwritten : (failed : out.failed ≡ true) (is : status ≡ 7)
+      → IsExcused R files words s Lost out status
+  -- there is no report, for a fault of the machine
+  no_report :
+      (fault : CommandFault) (cause : IsCause R files words fault) (machine : IsOfMachine fault)
+      (status_is : status ≡ status_of fault) (is : (status ≡ 5) ⊎ (status ≡ 6))
+      → IsExcused R files words s Lost out status
+  -- stream s wasn't checked to its end, and no other stream added the empty clause
+  lost :
+      (reports : List Report) (verdict : Verdict)
+      (outcome : IsOutcome R files words reports verdict) (report : Report)
+      (says : IsOfStream reports s report) (why : Lost report)
+      (is : (status ≡ 3) ⊎ (status ≡ 8)) → IsExcused R files words s Lost out status
+
+-- Where the words ask for a right refutation, the program ends with status 0; or with 7, for a report that wasn't written; or with 5
+-- or 6, for a fault of the machine; or with 3 or 8, and then memory ran out in that stream, or a read of it failed.
+abbrev pub RightRefutationSays : (R : Type 0) → FilesView R → Type 0
+RightRefutationSays R files = (words : List Text) (s : ℕ) (out err : SinkChange) (status : ℕ)
+    → AskForRightRefutation R files words s
+    → EndsWithReport R files words out err status ⊎ EndsWithFault R files words out err status
+    → (status ≡ 0) ⊎ IsExcused R files words s IsCutOff out status
+
+-- So it is where they ask for streams whose lines have a right order; or with 3 or 8 that stream has a line that cites a clause of
+-- another stream, which wasn't there, or wasn't any more.
+abbrev pub RightOrderSays : (R : Type 0) → FilesView R → Type 0
+RightOrderSays R files = (words : List Text) (s : ℕ) (out err : SinkChange) (status : ℕ)
+    → (ask : AskForRightOrder R files words s)
+    → EndsWithReport R files words out err status ⊎ EndsWithFault R files words out err status
+    → (status ≡ 0) ⊎ IsExcused R files words s (IsHeldUp R files words ask.asks s) out status

@@ -1,0 +1,493 @@
+-- A stream that ended alone is right.
+use Rattle.std.proofs.Common.{◌≡◌, ◌≢◌, ◌⊎◌, ◌++◌, ℕ, ℤ, Bool, true, false, cond, eqb, List, [], ◌∷◌, length, Option, Some, None, inl, inr, refl, sym, ap, subst, ◌∙◌, arith, append_assoc, append-nil, eq-eqb, ne_eqb, ltb, leb}
+use Rattle.std.specs.Prelude.{IsSome, ◌||◌, ◌&&◌, ◌==◌}
+use Rattle.std.specs.List.{AllByRecursion, AllZip, flat_map}
+use Rattle.std.proofs.lemmas.Bool.{cases_Bool, cases_eq, or_right, cond-true, cond-false, true≢false}
+use Rattle.std.proofs.lemmas.List.Folds.{list_any-append}
+use Rattle.std.proofs.lemmas.List.Sums.{sum_by-cons}
+use Rattle.lrup_model.specs.Clause.{Clause}
+use Rattle.lrup_model.specs.Distinct.{distinct}
+use Rattle.lrup_model.specs.Event as events
+use Rattle.lrup_model.specs.Event.{Event, History, own, stream_of}
+use Rattle.lrup_model.specs.Formula.{Cnf, clause_at}
+use Rattle.lrup_model.specs.Layout.{Fits, Owns, owner}
+use Rattle.lrup_model.specs.State.{State, Slot, absent, live, retired, IsLive, retire_slot, opening, run, state}
+use Rattle.lrup_model.specs.HistoryLemmas.{opening-formula, put, put-same, put-other}
+use Rattle.lrup_model.specs.ListLemmas.{All-map}
+use Rattle.lrup_model.specs.declared.clause_map.Retired.TheVariants as retiring
+use Rattle.lrup_model.specs.declared.layout.Owner.{Owner}
+use Rattle.lrup_model.specs.declared.layout.Owner.TheVariants as owners
+use Rattle.lrup_text.specs.Lines.{StreamLine, Addition, Deletion, Import, Cut, line_text}
+use Rattle.lrup_text.specs.Laws.{EmptyCut, OneCut}
+use Rattle.lrup_text.specs.declared.device.StreamEnd.TheVariants as stream_ends
+use Rattle.stream_check.specs.declared.fault.Fault.TheVariants as faults
+use Rattle.stream_check.specs.declared.setting.Side.{Side}
+use Rattle.stream_check.specs.declared.setting.Side.TheVariants as sides
+use Rattle.stream_check.specs.AdditionLemmas.{run-fetches}
+use Rattle.stream_check.specs.Additions.{published_by}
+use Rattle.stream_check.specs.Laws.{cited_by, GoodExactlyIf, OverStays}
+use Rattle.stream_check.specs.Checking.{IsFetch}
+use Rattle.stream_check.specs.Judging.{JudgesLine, AreGood, joined}
+use Rattle.stream_check.specs.Asking.{AsksAt, Asks}
+use Rattle.stream_check.specs.Deletions.{DeletesAt, JudgesDeletion}
+use Rattle.stream_check.specs.Finding.{AreFound, IsGoodAddition}
+use Rattle.stream_check.specs.Imports.{JudgesImport}
+use Rattle.stream_check.specs.Leaving.{SameStanding, standing_after}
+use Rattle.stream_check.specs.ReportLemmas.{joined-append}
+use Rattle.stream_check.specs.StandingLemmas.{standing_of-snoc}
+use Rattle.stream_check.specs.Setting.{Setting, side_of, is_shared}
+use Rattle.stream_check.specs.Standing.{Standing, standing_of, deleted_by, is_among}
+use Rattle.stream_check.specs.Verdicts.{Good}
+use Rattle.runs.specs.Streams.{setting_of}
+use Rattle.runs.specs.Closed.{IsOwnedWithin}
+use Rattle.run_laws.specs.Groups.{one}
+use Rattle.run_laws.specs.Right.{Database, first_database, after_line, AreRight, AreDistinct, IsRightAddition, IsRightDeletion, IsRightImport}
+use Rattle.run_laws.specs.RightLaws.{EndedIsRight}
+use Rattle.run_laws.proofs.AloneLemmas.{alone_judged, own-one}
+use Rattle.run_laws.proofs.BlameLines.{IsNearSide, AreFair, IsAsked, asked_fair, FindsImport, good_import, fails_not, good_runs, IsFoundIn}
+use Rattle.run_laws.proofs.KindLemmas.{import_all}
+use Rattle.run_laws.proofs.BlameStreams.{fair_front, fair_back, near_fair, own_all, IsStillThere, all_still_there, still_found, has_ended}
+use Rattle.run_laws.proofs.RightLines.{side_by, formulas_side, own_side, formulas_near, not_or, not_same, neither}
+use Rattle.run_laws.proofs.VerdictLemmas.{or_none}
+
+-- Whose an identity is
+
+inside_side : (c : Setting) (id : ℕ) (o : Owner) → owner c.layout id ≡ o → IsOwnedWithin c.layout (one c.stream) id → (side_by c o ≡ sides.Outside → ⊥) → IsNearSide (side_by c o)
+inside_side c id owners.Formula is within some = tt
+inside_side c id owners.Outside is within some = absurd (some refl)
+inside_side c id (owners.Stream t) is within some =
+    subst IsNearSide (sym (cond-true (eqb t c.stream) sides.Own sides.Foreign (within t is))) tt
+
+near_or_outside : (c : Setting) (id : ℕ) → IsOwnedWithin c.layout (one c.stream) id → (side_of c id ≡ sides.Outside → ⊥) → IsNearSide (side_of c id)
+near_or_outside c id within some = inside_side c id (owner c.layout id) refl within some
+
+-- of a near side it is one or the other
+by_side : (c : Setting) (id : ℕ) (o : Owner) → owner c.layout id ≡ o → IsNearSide (side_by c o) → (owner c.layout id ≡ owners.Formula) ⊎ Owns c.layout c.stream id
+by_side c id owners.Formula is near = inl is
+by_side c id owners.Outside is near = absurd near
+by_side c id (owners.Stream t) is near = elim (cases_eq t c.stream) [
+  | inl same ↦ inr (is ∙ ap (λ (x : ℕ). owners.Stream x) same)
+  | inr other ↦ absurd (subst IsNearSide (cond-false (eqb t c.stream) sides.Own sides.Foreign (ne_eqb t c.stream other)) near)
+]
+
+formula_or_own : (c : Setting) (id : ℕ) → IsNearSide (side_of c id) → (owner c.layout id ≡ owners.Formula) ⊎ Owns c.layout c.stream id
+formula_or_own c id near = by_side c id (owner c.layout id) refl near
+
+-- What lines leave
+
+-- the database of some lines has every clause of the formula and of the stream that can be cited
+pub record Mirrors (f : Cnf) (c : Setting) (base : Database) (st : Standing) (m : State) : Type 0 where
+  pub last : st.last ≡ base.last
+  pub free : st.free ≡ base.free
+  pub there : (id : ℕ) (d : Clause) → IsNearSide (side_of c id) → m id ≡ live d → st.gone id ≡ false → base.clauses id ≡ Some d
+  pub formulas : (id : ℕ) → owner c.layout id ≡ owners.Formula → m id ≡ live (clause_at f id)
+  pub own : (id : ℕ) → Owns c.layout c.stream id → st.gone id ≡ false
+
+abbrev Cites : Setting → StreamLine → Type 0
+Cites c line = AllByRecursion (IsOwnedWithin c.layout (one c.stream)) (cited_by line)
+
+abbrev Deletes : Setting → StreamLine → Type 0
+Deletes c line = AllByRecursion (IsOwnedWithin c.layout (one c.stream)) (deleted_by line)
+
+-- Additions
+
+not_outside : (c : Setting) (h : ℕ) (asked : History) (d : Clause) → Asks c h asked (events.live d) → side_of c h ≡ sides.Outside → ⊥
+not_outside c h asked d asks is =
+    let at : AsksAt sides.Outside c h asked (events.live d) = subst (λ (side : Side). AsksAt side c h asked (events.live d)) is asks in
+    let no : events.live d ≡ events.vacant = at.1 in cc
+
+found_named : (f : Cnf) (c : Setting) (k m : State) (base : Database) (st : Standing) (hints : List ℕ) (ds : List Clause) (fetches tail : History)
+    → Mirrors f c base st m → AllByRecursion (IsOwnedWithin c.layout (one c.stream)) hints → AreFound c st.gone hints ds fetches → AreFair c k m (fetches ++ tail)
+    → AllZip (λ h d. base.clauses h ≡ Some d) hints ds
+found_named f c k m base st [] [] fetches tail a within found fair = tt
+found_named f c k m base st [] (d ∷ ds) fetches tail a within found fair = absurd found
+found_named f c k m base st (h ∷ hints) [] fetches tail a within found fair = absurd found
+found_named f c k m base st (h ∷ hints) (d ∷ ds) fetches tail a within found fair =
+    let asked = found.1.0 in
+    let rest = found.1.1 in
+    let cut : fetches ++ tail ≡ asked ++ (rest ++ tail) = ap (λ (x : History). x ++ tail) found.1.2 ∙ append_assoc asked rest tail in
+    let here : IsAsked c k m h (events.live d) (rest ++ tail) =
+    asked_fair (side_of c h) c k m h asked (rest ++ tail) (events.live d) refl found.1.3 (subst (AreFair c k m) cut fair) in
+    let near = near_or_outside c h within.0 (not_outside c h asked d found.1.3) in (
+      a.there h d near (here.near near) found.0,
+      found_named f c k m base st hints ds rest tail a within.1 found.1.4 here.later,
+    )
+
+pub right_addition : (f : Cnf) (c : Setting) (k m : State) (base : Database) (st : Standing) (id : ℕ) (lits : List ℤ) (hints : List ℕ) (es : History)
+    → Mirrors f c base st m → AllByRecursion (IsOwnedWithin c.layout (one c.stream)) hints → IsGoodAddition c st id lits hints es → AreFair c k m es
+    → IsRightAddition c.layout c.stream base id lits hints
+right_addition f c k m base st id lits hints es a within good fair = record {
+  owns = good.owns;
+  above = omega (arith, a.last, good.above);
+  literals = good.literals;
+  room = omega (arith, a.free, good.room);
+  hinted = good.clauses;
+  named = found_named f c k m base st hints good.clauses good.fetches (published_by c id lits ∷ []) a within good.found (subst (AreFair c k m) good.published fair);
+  shown = good.accepts;
+}
+
+-- the parts of what is gone one line further
+was_kept : (c : Setting) (st next : Standing) (line : StreamLine) (j : ℕ) → SameStanding (standing_after c st line) next → next.gone j ≡ false
+    → (st.gone j ≡ false) × ((is_shared (side_of c j) && is_among (deleted_by line) j) ≡ false)
+was_kept c st next line j same kept =
+    not_or (st.gone j) (is_shared (side_of c j) && is_among (deleted_by line) j) (same.gone j ∙ kept)
+
+own_kept : (c : Setting) (st next : Standing) (line : StreamLine) (j : ℕ) → SameStanding (standing_after c st line) next → Owns c.layout c.stream j
+    → st.gone j ≡ false → next.gone j ≡ false
+own_kept c st next line j same owns kept =
+    sym (same.gone j)
+    ∙ or_none (st.gone j) (is_shared (side_of c j) && is_among (deleted_by line) j) kept
+    (ap (λ (side : Side). is_shared side && is_among (deleted_by line) j) (own_side c j owns))
+
+pub addition_mirrors : (f : Cnf) (c : Setting) (m : State) (base : Database) (before : List StreamLine) (id : ℕ) (lits : List ℤ) (hints : List ℕ) (es : History)
+    → Mirrors f c base (standing_of c before) m → JudgesLine c (standing_of c before) (Addition id lits hints) es Good
+    → IsGoodAddition c (standing_of c before) id lits hints es
+    → Mirrors f c (after_line base (Addition id lits hints)) (standing_of c (before ++ Addition id lits hints ∷ [])) (run m es)
+addition_mirrors f c m base before id lits hints es a judged good =
+    let line = Addition id lits hints in
+    let next = standing_of c (before ++ line ∷ []) in
+    let standing = standing_of-snoc c before line es judged in
+    let clause = distinct lits in
+    let st = standing_of c before in
+    subst (Mirrors f c (after_line base line) (standing_of c (before ++ line ∷ []))) (sym (good_runs c st m id lits hints es good)) (record {
+      last = sym standing.last;
+      free = omega (arith, standing.free, sum_by-cons (λ (x : ℕ × Clause). length x.1) (id, clause) [], a.free);
+      there = λ j d near is kept. elim (cases_eq j id) [
+        | inl same ↦
+            let at : live clause ≡ live d = sym (put-same m id (live clause) j same) ∙ is in
+            let it : clause ≡ d = cc in
+            cond-true (eqb j id) (Some clause) (base.clauses j) (eq-eqb j id same) ∙ ap (λ (x : Clause). Some x) it
+        | inr other ↦
+            cond-false (eqb j id) (Some clause) (base.clauses j) (ne_eqb j id other)
+            ∙ a.there j d near (sym (put-other m id (live clause) j other) ∙ is) (was_kept c st next line j standing kept).0
+      ];
+      formulas = λ j is. put-other m id (live clause) j (λ same. let no : owners.Formula ≡ owners.Stream c.stream = sym is ∙ ap (owner c.layout) same ∙ good.owns in cc) ∙ a.formulas j is;
+      own = λ j owns. own_kept c st next line j standing owns (a.own j owns);
+    })
+
+-- Deletions
+
+-- the identity can go: an own one is live, and one of the formula isn't gone
+abbrev CanGo : Setting → (ℕ → Bool) → List ℕ → State → ℕ → Type 0
+CanGo c gone earlier m id =
+    ((side_of c id ≡ sides.Own) × IsLive (m id))
+    ⊎ ((side_of c id ≡ sides.Formula) × ((gone id || is_among earlier id) ≡ false))
+
+-- what a good deletion of near identities says of them
+record HasGone (c : Setting) (gone : ℕ → Bool) (earlier ids : List ℕ) (m after_it : State) : Type 0 where
+  can : AllByRecursion (CanGo c gone earlier m) ids
+  once : AreDistinct ids
+  apart : (j : ℕ) → is_among ids j ≡ false → after_it j ≡ m j
+  formulas : (j : ℕ) → side_of c j ≡ sides.Formula → after_it j ≡ m j
+  dead : (j : ℕ) → side_of c j ≡ sides.Own → is_among ids j ≡ true → ¬ IsLive (after_it j)
+
+retired_is_dead : (slot : Slot) → ¬ IsLive (retire_slot slot)
+retired_is_dead absent alive = alive
+retired_is_dead (live d) alive = alive
+retired_is_dead (retired d) alive = alive
+
+among_last : (earlier : List ℕ) (id : ℕ) → is_among (earlier ++ id ∷ []) id ≡ true
+among_last [] id = ap (λ (b : Bool). b || false) (eq-eqb id id refl)
+among_last (i ∷ earlier) id = elim (cases_Bool (i == id)) [
+  | inl is ↦ ap (λ (b : Bool). b || is_among (earlier ++ id ∷ []) id) is
+  | inr other ↦ ap (λ (b : Bool). b || is_among (earlier ++ id ∷ []) id) other ∙ among_last earlier id
+]
+
+-- none of the others is this one, if this one can't go any more
+none_same : (c : Setting) (gone : ℕ → Bool) (earlier ids : List ℕ) (n : State) (id : ℕ) → ¬ CanGo c gone earlier n id
+    → AllByRecursion (CanGo c gone earlier n) ids → is_among ids id ≡ false
+none_same c gone earlier [] n id cannot can = refl
+none_same c gone earlier (j ∷ ids) n id cannot can =
+    or_none (j == id) (is_among ids id)
+    (ne_eqb j id (λ same. cannot (subst (CanGo c gone earlier n) same can.0)))
+    (none_same c gone earlier ids n id cannot can.1)
+
+-- what holds of the others before this one
+others_can : (c : Setting) (gone : ℕ → Bool) (earlier ids : List ℕ) (id : ℕ) (m n : State) → is_among ids id ≡ false
+    → ((j : ℕ) → j ≢ id → n j ≡ m j) → AllByRecursion (CanGo c gone (earlier ++ id ∷ []) n) ids → AllByRecursion (CanGo c gone earlier m) ids
+others_can c gone earlier [] id m n none same can = tt
+others_can c gone earlier (j ∷ ids) id m n none same can =
+    let parts = not_or (j == id) (is_among ids id) none in (
+      elim can.0 [
+        | inl own ↦ inl (own.0, subst IsLive (same j (not_same j id parts.0)) own.1)
+        | inr formula ↦
+            let kept = not_or (gone j) (is_among (earlier ++ id ∷ []) j) formula.1 in
+            let new = not_or (is_among earlier j) (is_among (id ∷ []) j) (sym (list_any-append (λ i. i == j) earlier (id ∷ [])) ∙ kept.1) in
+            inr (formula.0, or_none (gone j) (is_among earlier j) kept.0 new.0)
+      ],
+      others_can c gone earlier ids id m n parts.1 same can.1,
+    )
+
+sides_differ : (a b : Side) (c : Setting) (id : ℕ) → side_of c id ≡ a → side_of c id ≡ b → a ≡ b
+sides_differ a b c id is also = sym is ∙ also
+
+gone_at : (side : Side) (c : Setting) (k : State) (gone : ℕ → Bool) (earlier ids : List ℕ) (id : ℕ) (m : State) (es : History)
+    → side_of c id ≡ side → IsNearSide side ⊎ (side ≡ sides.Outside)
+    → ((n : State) (rest : History) → AreFair c k n rest → JudgesDeletion c gone (earlier ++ id ∷ []) ids rest Good → HasGone c gone (earlier ++ id ∷ []) ids n (run n rest))
+    → AreFair c k m es → DeletesAt side c gone earlier id es Good (λ rest. JudgesDeletion c gone (earlier ++ id ∷ []) ids rest Good)
+    → HasGone c gone earlier (id ∷ ids) m (run m es)
+gone_at sides.Foreign c k gone earlier ids id m es is (inl near) next fair at = absurd near
+gone_at sides.Foreign c k gone earlier ids id m es is (inr out) next fair at = absurd (let no : sides.Foreign ≡ sides.Outside = out in cc)
+gone_at sides.Outside c k gone earlier ids id m es is near next fair at = absurd (fails_not (length earlier) (faults.NotLive id) es at)
+gone_at sides.Formula c k gone earlier ids id m es is near next fair (inl bad) = absurd (fails_not (length earlier) (faults.NotLive id) es bad.1)
+gone_at sides.Formula c k gone earlier ids id m es is near next fair (inr good) =
+    let rest : HasGone c gone (earlier ++ id ∷ []) ids m (run m es) = next m es fair good.1 in
+    let none : is_among ids id ≡ false = none_same c gone (earlier ++ id ∷ []) ids m id
+    (λ can. elim can [
+      | inl own ↦ let no : sides.Formula ≡ sides.Own = sides_differ sides.Formula sides.Own c id is own.0 in cc
+      | inr formula ↦ true≢false (sym (or_right (gone id) (is_among (earlier ++ id ∷ []) id) (among_last earlier id)) ∙ formula.1)
+    ]) rest.can in
+    record {
+      can = (inr (is, good.0), others_can c gone earlier ids id m m none (λ j other. refl) rest.can);
+      once = (none, rest.once);
+      apart = λ j out. rest.apart j (not_or (id == j) (is_among ids j) out).1;
+      formulas = rest.formulas;
+      dead = λ j own among. elim (cases_eq id j) [
+        | inl same ↦ absurd (let no : sides.Formula ≡ sides.Own = sym is ∙ ap (side_of c) same ∙ own in cc)
+        | inr other ↦ rest.dead j own (sym (ap (λ (b : Bool). b || is_among ids j) (ne_eqb id j other)) ∙ among)
+      ];
+    }
+gone_at sides.Own c k gone earlier ids id m es is near next fair at =
+    let done = events.retire c.stream id retiring.Done in
+    let n : State = put m id (retire_slot (m id)) in
+    elim at.decided [
+      | inr bad ↦ absurd (fails_not (length earlier) (faults.NotLive id) at.rest bad.1)
+      | inl good ↦
+          let here : AreFair c k m (done ∷ at.rest) = subst (AreFair c k m) good.0 fair in
+          let alive : IsLive (m id) = here.0 (subst IsNearSide (sym is) tt) in
+          let gone_then : n id ≡ retire_slot (m id) = put-same m id (retire_slot (m id)) id refl in
+          let rest : HasGone c gone (earlier ++ id ∷ []) ids n (run n at.rest) = next n at.rest here.2 good.1 in
+          let none : is_among ids id ≡ false = none_same c gone (earlier ++ id ∷ []) ids n id
+          (λ can. elim can [
+            | inl own ↦ retired_is_dead (m id) (subst IsLive gone_then own.1)
+            | inr formula ↦ let no : sides.Own ≡ sides.Formula = sides_differ sides.Own sides.Formula c id is formula.0 in cc
+          ]) rest.can in
+          subst (λ (x : History). HasGone c gone earlier (id ∷ ids) m (run m x)) (sym good.0) (record {
+            can = (inl (is, alive), others_can c gone earlier ids id m n none (λ j other. put-other m id (retire_slot (m id)) j other) rest.can);
+            once = (none, rest.once);
+            apart = λ j out.
+                let parts = not_or (id == j) (is_among ids j) out in
+                rest.apart j parts.1 ∙ put-other m id (retire_slot (m id)) j (λ same. not_same id j parts.0 (sym same));
+            formulas = λ j formula.
+                rest.formulas j formula
+                ∙ put-other m id (retire_slot (m id)) j (λ same. let no : sides.Formula ≡ sides.Own = sym formula ∙ ap (side_of c) same ∙ is in cc);
+            dead = λ j own among. elim (cases_eq id j) [
+              | inl same ↦ λ live_then.
+                  retired_is_dead (m id) (subst IsLive (rest.apart id none ∙ gone_then) (subst (λ (i : ℕ). IsLive (run n at.rest i)) (sym same) live_then))
+              | inr other ↦ rest.dead j own (sym (ap (λ (b : Bool). b || is_among ids j) (ne_eqb id j other)) ∙ among)
+            ];
+          })
+    ]
+
+has_gone : (c : Setting) (k : State) (gone : ℕ → Bool) (earlier ids : List ℕ) (m : State) (es : History)
+    → AllByRecursion (λ id. IsNearSide (side_of c id) ⊎ (side_of c id ≡ sides.Outside)) ids → AreFair c k m es → JudgesDeletion c gone earlier ids es Good
+    → HasGone c gone earlier ids m (run m es)
+has_gone c k gone earlier [] m es near fair judged = subst (λ (x : History). HasGone c gone earlier [] m (run m x)) (sym judged.0) (record {
+  can = tt;
+  once = tt;
+  apart = λ j out. refl;
+  formulas = λ j is. refl;
+  dead = λ j own among. absurd (true≢false (sym among));
+})
+has_gone c k gone earlier (id ∷ ids) m es near fair judged =
+    gone_at (side_of c id) c k gone earlier ids id m es refl near.0
+    (λ n rest also good. has_gone c k gone (earlier ++ id ∷ []) ids n rest near.1 also good) fair judged
+
+near_one : (c : Setting) (id : ℕ) (side : Side) → side_of c id ≡ side → IsOwnedWithin c.layout (one c.stream) id
+    → IsNearSide (side_of c id) ⊎ (side_of c id ≡ sides.Outside)
+near_one c id sides.Outside is within = inr is
+near_one c id sides.Formula is within = inl (subst IsNearSide (sym is) tt)
+near_one c id sides.Own is within = inl (subst IsNearSide (sym is) tt)
+near_one c id sides.Foreign is within = inl (near_or_outside c id within (λ out. let no : sides.Foreign ≡ sides.Outside = sym is ∙ out in cc))
+
+near_all : (c : Setting) (ids : List ℕ) → AllByRecursion (IsOwnedWithin c.layout (one c.stream)) ids
+    → AllByRecursion (λ id. IsNearSide (side_of c id) ⊎ (side_of c id ≡ sides.Outside)) ids
+near_all c [] all = tt
+near_all c (id ∷ ids) all = (near_one c id (side_of c id) refl all.0, near_all c ids all.1)
+
+live_slot : (slot : Slot) → IsLive slot → (d : Clause) × (slot ≡ live d)
+live_slot absent alive = absurd alive
+live_slot (live d) alive = (d, refl)
+live_slot (retired d) alive = absurd alive
+
+has_clause : {X : Type 0} (o : Option X) (x : X) → o ≡ Some x → IsSome o
+has_clause None x is = absurd (let no : None ≡ Some x = is in cc)
+has_clause (Some y) x is = refl
+
+all_have : (f : Cnf) (c : Setting) (m : State) (base : Database) (st : Standing) (ids : List ℕ) → Mirrors f c base st m
+    → AllByRecursion (CanGo c st.gone [] m) ids → AllByRecursion (λ id. IsSome (base.clauses id)) ids
+all_have f c m base st [] a can = tt
+all_have f c m base st (id ∷ ids) a can = (
+  elim can.0 [
+    | inl own ↦
+        let near : IsNearSide (side_of c id) = subst IsNearSide (sym own.0) tt in
+        let d = live_slot (m id) own.1 in
+        let owns : Owns c.layout c.stream id = elim (formula_or_own c id near) [
+          | inl formula ↦ absurd (let no : sides.Formula ≡ sides.Own = sym (formulas_side c id formula) ∙ own.0 in cc)
+          | inr owns ↦ owns
+        ] in
+        has_clause (base.clauses id) d.0 (a.there id d.0 near d.1 (a.own id owns))
+    | inr formula ↦
+        let near : IsNearSide (side_of c id) = subst IsNearSide (sym formula.0) tt in
+        let its : owner c.layout id ≡ owners.Formula = elim (formula_or_own c id near) [
+          | inl is ↦ is
+          | inr owns ↦ absurd (let no : sides.Own ≡ sides.Formula = sym (own_side c id owns) ∙ formula.0 in cc)
+        ] in
+        has_clause (base.clauses id) (clause_at f id) (a.there id (clause_at f id) near (a.formulas id its) (not_or (st.gone id) false formula.1).0)
+  ],
+  all_have f c m base st ids a can.1,
+)
+
+pub right_deletion : (f : Cnf) (c : Setting) (k m : State) (base : Database) (st : Standing) (ids : List ℕ) (es : History)
+    → Mirrors f c base st m → AllByRecursion (IsOwnedWithin c.layout (one c.stream)) ids → AreFair c k m es → JudgesDeletion c st.gone [] ids es Good
+    → IsRightDeletion base ids
+right_deletion f c k m base st ids es a within fair judged =
+    let gone = has_gone c k st.gone [] ids m es (near_all c ids within) fair judged in
+    record { there = all_have f c m base st ids a gone.can; once = gone.once }
+
+-- what is shared and deleted is gone
+kept_apart : (side : Side) (among : Bool) → side ≡ sides.Formula → (is_shared side && among) ≡ false → among ≡ false
+kept_apart side among is kept = sym (ap (λ (x : Side). is_shared x && among) is) ∙ kept
+
+pub deletion_mirrors : (f : Cnf) (c : Setting) (k m : State) (base : Database) (before : List StreamLine) (lead : ℕ) (ids : List ℕ) (es : History)
+    → Mirrors f c base (standing_of c before) m → AllByRecursion (IsOwnedWithin c.layout (one c.stream)) ids → AreFair c k m es
+    → JudgesDeletion c (standing_of c before).gone [] ids es Good
+    → Mirrors f c (after_line base (Deletion lead ids)) (standing_of c (before ++ Deletion lead ids ∷ [])) (run m es)
+deletion_mirrors f c k m base before lead ids es a within fair judged =
+    let line = Deletion lead ids in
+    let st = standing_of c before in
+    let next = standing_of c (before ++ line ∷ []) in
+    let standing = standing_of-snoc c before line es judged in
+    let gone = has_gone c k (standing_of c before).gone [] ids m es (near_all c ids within) fair judged in
+    record {
+      last = sym standing.last ∙ a.last;
+      free = omega (arith, standing.free, a.free);
+      there = λ j d near is kept.
+          let parts = was_kept c st next line j standing kept in
+          let out : is_among ids j ≡ false = elim (formula_or_own c j near) [
+            | inl formula ↦ kept_apart (side_of c j) (is_among ids j) (formulas_side c j formula) parts.1
+            | inr owns ↦ elim (cases_Bool (is_among ids j)) [
+              | inl among ↦ absurd (gone.dead j (own_side c j owns) among (subst IsLive (sym is) tt))
+              | inr out ↦ out
+            ]
+          ] in
+          cond-false (is_among ids j) None (base.clauses j) out ∙ a.there j d near (sym (gone.apart j out) ∙ is) parts.0;
+      formulas = λ j is. gone.formulas j (formulas_side c j is) ∙ a.formulas j is;
+      own = λ j owns. own_kept c st next line j standing owns (a.own j owns);
+    }
+
+-- Imports
+
+import_formula : (c : Setting) (st : Standing) (id : ℕ) (lits : List ℤ) (es : History) → JudgesImport c st id lits es Good
+    → (is_shared (side_of c id) ≡ true) × (st.gone id ≡ false)
+import_formula c st id lits es (inl bad) = absurd (fails_not 0 faults.Identity es bad.1)
+import_formula c st id lits es (inr (a, inl bad)) = absurd (fails_not 0 faults.Literal es bad.1)
+import_formula c st id lits es (inr (a, inr (b, inl bad))) = absurd (fails_not 0 (faults.Dropped id) es bad.1)
+import_formula c st id lits es (inr (a, inr (b, inr (d, found)))) = (a, d)
+
+pub right_import : (f : Cnf) (c : Setting) (k m : State) (base : Database) (st : Standing) (id : ℕ) (lits : List ℤ) (es : History)
+    → Fits c.layout f → Mirrors f c base st m → IsOwnedWithin c.layout (one c.stream) id → AreFair c k m es → JudgesImport c st id lits es Good
+    → IsRightImport c.layout c.stream base id lits
+right_import f c k m base st id lits es fits a within fair judged =
+    let tests = import_formula c st id lits es judged in
+    let found : FindsImport c id lits es = good_import c st id lits es judged in
+    let near = near_or_outside c id within (not_outside c id found.asked found.clause found.asks) in
+    let here = asked_fair (side_of c id) c k m id found.asked found.rest (events.live found.clause) refl found.asks (subst (AreFair c k m) found.is fair) in
+    record {
+      other = λ owns. true≢false (sym tests.0 ∙ ap is_shared (own_side c id owns));
+      clause = found.clause;
+      there = a.there id found.clause near (here.near near) tests.1;
+      same = found.same;
+    }
+
+pub import_mirrors : (f : Cnf) (c : Setting) (m n : State) (base : Database) (before : List StreamLine) (id : ℕ) (lits : List ℤ) (es : History)
+    → JudgesLine c (standing_of c before) (Import id lits) es Good → n ≡ m → Mirrors f c base (standing_of c before) m
+    → Mirrors f c (after_line base (Import id lits)) (standing_of c (before ++ Import id lits ∷ [])) n
+import_mirrors f c m n base before id lits es judged same a =
+    let line = Import id lits in
+    let st = standing_of c before in
+    let next = standing_of c (before ++ line ∷ []) in
+    let standing = standing_of-snoc c before line es judged in
+    subst (Mirrors f c base (standing_of c (before ++ line ∷ []))) (sym same) (record {
+      last = sym standing.last ∙ a.last;
+      free = omega (arith, standing.free, a.free);
+      there = λ j d near is kept. a.there j d near is (was_kept c st next line j standing kept).0;
+      formulas = a.formulas;
+      own = λ j owns. own_kept c st next line j standing owns (a.own j owns);
+    })
+
+-- All lines
+
+lines_right : GoodExactlyIf → (f : Cnf) (c : Setting) (k : State) → Fits c.layout f
+    → (before lines : List StreamLine) (blocks : List History) (base : Database) (m : State)
+    → Mirrors f c base (standing_of c before) m → AreGood c before lines blocks → AreFair c k m (joined blocks)
+    → AllByRecursion (Cites c) lines → AllByRecursion (Deletes c) lines → AreRight c.layout c.stream base lines
+lines_right law f c k fits before [] blocks base m a good fair cites deletes = tt
+lines_right law f c k fits before (line ∷ lines) [] base m a good fair cites deletes = absurd good
+lines_right law f c k fits before (Addition id lits hints ∷ lines) (block ∷ blocks) base m a good fair cites deletes =
+    let line = Addition id lits hints in
+    let here : AreFair c k m block = fair_front c k m block (joined blocks) fair in
+    let is : IsGoodAddition c (standing_of c before) id lits hints block = (law c (standing_of c before) id lits hints block).0 good.0 in (
+      right_addition f c k m base (standing_of c before) id lits hints block a cites.0 is here,
+      lines_right law f c k fits (before ++ line ∷ []) lines blocks (after_line base line) (run m block)
+          (addition_mirrors f c m base before id lits hints block a good.0 is) good.1 (fair_back c k m block (joined blocks) fair) cites.1 deletes.1,
+    )
+lines_right law f c k fits before (Deletion lead ids ∷ lines) (block ∷ blocks) base m a good fair cites deletes =
+    let line = Deletion lead ids in
+    let here : AreFair c k m block = fair_front c k m block (joined blocks) fair in (
+      right_deletion f c k m base (standing_of c before) ids block a deletes.0 here good.0,
+      lines_right law f c k fits (before ++ line ∷ []) lines blocks (after_line base line) (run m block)
+          (deletion_mirrors f c k m base before lead ids block a deletes.0 here good.0) good.1 (fair_back c k m block (joined blocks) fair) cites.1 deletes.1,
+    )
+lines_right law f c k fits before (Import id lits ∷ lines) (block ∷ blocks) base m a good fair cites deletes =
+    let line = Import id lits in
+    let here : AreFair c k m block = fair_front c k m block (joined blocks) fair in (
+      right_import f c k m base (standing_of c before) id lits block fits a cites.0.0 here good.0,
+      lines_right law f c k fits (before ++ line ∷ []) lines blocks (after_line base line) (run m block)
+          (import_mirrors f c m (run m block) base before id lits block good.0
+          (run-fetches m block (import_all c IsFetch (λ h r. tt) (standing_of c before) id lits block Good good.0)) a)
+          good.1 (fair_back c k m block (joined blocks) fair) cites.1 deletes.1,
+    )
+
+opened : (b : Bool) (x d : Clause) → cond b (live x) absent ≡ live d → cond b (Some x) None ≡ Some d
+opened true x d is = let it : x ≡ d = cc in ap (λ (y : Clause). Some y) it
+opened false x d is = absurd (let no : absent ≡ live d = is in cc)
+
+first_mirrors : (f : Cnf) (c : Setting) → Fits c.layout f → Mirrors f c (first_database f c.layout) (standing_of c []) (opening f)
+first_mirrors f c fits = record {
+  last = refl;
+  free = omega arith;
+  there = λ id d near is kept. opened (ltb 0 id && leb id (length f.clauses)) (clause_at f id) d is;
+  formulas = λ id is. let at = formulas_near c.layout id is in opening-formula f id at.0 (omega (arith, at.1, fits.clauses));
+  own = λ id owns. neither false (is_shared (side_of c id)) refl;
+}
+
+pub ended_is_right : GoodExactlyIf → OverStays → OneCut → EmptyCut → EndedIsRight
+ended_is_right law stays one_cut empty_cut f terms s bytes report fits cites deletes alone ended =
+    let c = setting_of terms s in
+    let g = alone.alone in
+    let j = alone_judged stays f terms s alone.streams alone.reports bytes stream_ends.Ended alone.stream report g alone.at alone.reads alone.says in
+    let its = j.judges in
+    let over = has_ended c its.lines its.rest stream_ends.Ended its.back report its.ends ended in
+    let text : bytes ≡ flat_map line_text its.lines =
+    its.text ∙ ap (λ (b : List ℕ). flat_map line_text its.lines ++ b) over.none ∙ append-nil (flat_map line_text its.lines) in
+    let cut : Cut bytes its.lines [] = record { bytes = text ∙ sym (append-nil (flat_map line_text its.lines)); each = its.fits; last = empty_cut.last } in
+    let cited : AllByRecursion (Cites c) its.lines =
+    subst (AllByRecursion (Cites c)) (one_cut bytes cites.lines its.lines cites.rest [] cites.cut cut).0 cites.within in
+    let deleted : AllByRecursion (Deletes c) its.lines =
+    subst (AllByRecursion (Deletes c)) (one_cut bytes deletes.lines its.lines deletes.rest [] deletes.cut cut).0 deletes.within in
+    let k = state f g.history in
+    let fair : AreFair c k (opening f) (own g.history s) =
+    near_fair f c k (opening f) (opening f) g.history g.legal.events (λ id near. refl)
+    (own_all (IsFoundIn c k) g.history s (All-map (IsStillThere k) (IsFoundIn c k) (still_found c k) g.history
+    (all_still_there f terms.layout (opening f) g.history g.legal.events))) in
+    let all : own g.history s ≡ joined its.front ++ joined its.back = own-one s g.history g.members ∙ j.events ∙ ap joined its.split ∙ joined-append its.front its.back in
+    let front : AreFair c k (opening f) (joined its.front) =
+    fair_front c k (opening f) (joined its.front) (joined its.back) (subst (AreFair c k (opening f)) all fair) in (
+      its.lines,
+      record {
+        text = text;
+        fits = its.fits;
+        right = lines_right law f c k fits [] its.lines its.front (first_database f terms.layout) (opening f) (first_mirrors f c fits) its.good front cited deleted;
+      },
+    )

@@ -1,0 +1,275 @@
+-- Right streams, alone and in a run.
+use Rattle.std.proofs.Common.{◌≡◌, ◌≢◌, ◌<◌, ◌≤◌, ◌+◌, ◌-◌, ℕ, zero, suc, Bool, true, false, cond, List, [], ◌∷◌, ◌++◌, length, Some, None, inl, inr, refl, sym, ap, subst, ◌∙◌, arith, append_assoc, append-nil, eq-eqb, ltb, ltb-true, leb, leb-true}
+use Rattle.std.specs.Prelude.{IsTrue, slice_get, ◌&&◌}
+use Rattle.std.specs.List.{AllByRecursion, flat_map, sum_by}
+use Rattle.std.proofs.lemmas.Bool.{cases_eq, true≢false}
+use Rattle.std.proofs.lemmas.List.Sums.{sum_by-append}
+use Rattle.lrup_model.specs.Clause.{Clause, IsClause}
+use Rattle.lrup_model.specs.Entailment.{Follows}
+use Rattle.lrup_model.specs.EntailmentLemmas.{formula_sound}
+use Rattle.lrup_model.specs.Event.{History, stream_of, own, spent}
+use Rattle.lrup_model.specs.Formula.{Cnf, IsCnf, clause_at}
+use Rattle.lrup_model.specs.History.{LegalFrom}
+use Rattle.lrup_model.specs.HistoryLemmas.{formula_owned, opening-formula, opening-owned, own-all, own-none}
+use Rattle.lrup_model.specs.Laws.{PropagationSound}
+use Rattle.lrup_model.specs.Layout.{LayoutValue, Fits, IsStream, last_identity}
+use Rattle.lrup_model.specs.Running.{legal-append, callers-append, size_of, spent-sizes}
+use Rattle.lrup_model.specs.State.{State, live, opening, run}
+use Rattle.lrup_text.specs.Lines.{StreamLine, IsWithinLimits, line_text, Cut}
+use Rattle.lrup_text.specs.Laws.{EmptyCut, OneCut}
+use Rattle.lrup_text.specs.declared.device.StreamEnd.TheVariants as stream_ends
+use Rattle.stream_check.specs.declared.report.Ending.TheVariants as endings
+use Rattle.stream_check.specs.declared.report.Report.{Report}
+use Rattle.stream_check.specs.CheckerValue.{report_of_tally}
+use Rattle.stream_check.specs.Judging.{joined, ending_at, report_of, JudgesBlocks}
+use Rattle.stream_check.specs.Laws.{AloneDecides, CountsWithin, DecidedBeforeFailure, EndJudged, FreshLeft, GoodExactlyIf, GoodLineTaken, IsOfMemory}
+use Rattle.stream_check.specs.Leaving.{Holding, Going, Leaves, standing_after, tally_after}
+use Rattle.stream_check.specs.Setting.{Setting, side_of, is_shared}
+use Rattle.stream_check.specs.Standing.{standing_of, capped, deleted_by}
+use Rattle.runs.specs.Closed.{IsOfStream}
+use Rattle.runs.specs.Headline.{AreJudgedIn}
+use Rattle.runs.specs.Streams.{Stream, TermsValue, setting_of}
+use Rattle.runs.specs.StreamLemmas.{IsJudgedBy, same_at, judged_out}
+use Rattle.run_laws.specs.GroupLaws.{AloneHasOneReport, BeginningsWithin, ClosedIsGroup}
+use Rattle.run_laws.specs.Groups.{one, empty_stream, empty_report}
+use Rattle.run_laws.specs.ReportLemmas.{only}
+use Rattle.run_laws.specs.Right.{Database, first_database, after_line, AreRight, IsRightStream, right_report}
+use Rattle.run_laws.specs.RightLaws.{RightCiteWithin, RightAccepted, RightCounted, RightHasOneReport, RightReported}
+use Rattle.run_laws.proofs.RightLines.{Agrees, Goes, line_goes, neither}
+use Rattle.run_laws.proofs.RunLemmas.{IsJudgedWhole, whole_judged}
+
+-- Before the first line
+
+first_there : (b : Bool) (x d : Clause) → cond b (Some x) None ≡ Some d → (b ≡ true) × (x ≡ d)
+first_there true x d is = (refl, let it : x ≡ d = cc in it)
+first_there false x d is = absurd (let no : None ≡ Some d = is in cc)
+
+both_true : (a b : Bool) → (a && b) ≡ true → (a ≡ true) × (b ≡ true)
+both_true true b is = (refl, is)
+both_true false b is = absurd (true≢false (sym is))
+
+-- an identity that has a clause there is the formula's
+pub record IsFirst (f : Cnf) (id : ℕ) (d : Clause) : Type 0 where
+  pub positive : 0 < id
+  pub within : id ≤ length f.clauses
+  pub clause : clause_at f id ≡ d
+
+pub is_first : (f : Cnf) (p : LayoutValue) (id : ℕ) (d : Clause) → (first_database f p).clauses id ≡ Some d → IsFirst f id d
+is_first f p id d is =
+    let found = first_there (ltb 0 id && leb id (length f.clauses)) (clause_at f id) d is in
+    let tests = both_true (ltb 0 id) (leb id (length f.clauses)) found.0 in
+    record {
+      positive = ltb-true 0 id tests.0;
+      within = leb-true id (length f.clauses) tests.1;
+      clause = found.1;
+    }
+
+pub first_agrees : (f : Cnf) (c : Setting) → IsCnf f → Fits c.layout f → Agrees f c.layout c.stream (first_database f c.layout) (standing_of c []) (opening f)
+first_agrees f c cnf fits = record {
+  last = refl;
+  free = omega arith;
+  there = λ id d is. let at = is_first f c.layout id d is in opening-formula f id at.positive at.within ∙ ap live at.clause;
+  kept = λ id d is. neither false (is_shared (side_of c id)) refl;
+  known = λ id d is. let at = is_first f c.layout id d is in inl (formula_owned c.layout id at.positive (omega (arith, at.within, fits.clauses)));
+  sound = λ id d is. let at = is_first f c.layout id d is in
+      subst (λ (x : Clause). IsClause f.vars x × Follows f x) at.clause (formula_sound f id cnf at.positive at.within);
+  own = λ id owns. neither false (is_shared (side_of c id)) refl;
+  unseen = λ id is. neither false (is_shared (side_of c id)) refl;
+  vacant = λ id owns above. opening-owned f c.layout c.stream id fits owns;
+}
+
+-- The lines one after the other
+
+-- these blocks more are legal there, take no more than the room that is left, and leave a checker going
+record Goes_on (f : Cnf) (c : Setting) (base : Database) (m : State) (bytes : List ℕ) (blocks : List History) (lines : List StreamLine) : Type 0 where
+  more : List History
+  legal : LegalFrom f c.layout m (joined more)
+  callers : AllByRecursion (λ e. stream_of e ≡ c.stream) (joined more)
+  room : sum_by size_of (joined more) ≤ base.free
+  holding : Holding
+  pending : holding.pending ≡ []
+  leaves : Leaves c (bytes ++ flat_map line_text lines) (blocks ++ more) (Going holding)
+
+abbrev pub next_holding : Setting → Holding → StreamLine → Holding
+next_holding c old line = record {
+  tally = tally_after c old.tally line;
+  standing = standing_after c old.standing line;
+  pending = [];
+  line = capped (old.line + 1);
+}
+
+lines_go : GoodExactlyIf → PropagationSound → GoodLineTaken → (f : Cnf) (c : Setting) → Fits c.layout f → 0 < c.layout.streams
+    → (lines : List StreamLine) (base : Database) (m : State) (bytes : List ℕ) (blocks : List History) (old : Holding)
+    → old.pending ≡ [] → Agrees f c.layout c.stream base old.standing m → AllByRecursion IsWithinLimits lines → AreRight c.layout c.stream base lines
+    → Leaves c bytes blocks (Going old) → Goes_on f c base m bytes blocks lines
+lines_go good sound taken f c fits some [] base m bytes blocks old pending a limits right leaves = record {
+  more = [];
+  legal = tt;
+  callers = tt;
+  room = omega arith;
+  holding = old;
+  pending = pending;
+  leaves = subst (λ (b : List ℕ). Leaves c b (blocks ++ []) (Going old)) (sym (append-nil bytes))
+      (subst (λ (b : List History). Leaves c bytes b (Going old)) (sym (append-nil blocks)) leaves);
+}
+lines_go good sound taken f c fits some (line ∷ lines) base m bytes blocks old pending a limits right leaves =
+    let goes : Goes f c base old.standing m line = line_goes good sound f c base old.standing m line fits some a limits.0 right.0 in
+    let new = next_holding c old line in
+    let left : Leaves c (bytes ++ line_text line) (blocks ++ goes.block ∷ []) (Going new) =
+    taken c bytes (line_text line) blocks goes.block old new line leaves
+    (limits.0, ap (λ (p : List ℕ). p ++ line_text line) pending) goes.judged
+    (record { tally = refl; standing = record { last = refl; free = refl; gone = λ id. refl }; pending = refl; line = refl }) in
+    let rest : Goes_on f c (after_line base line) (run m goes.block) (bytes ++ line_text line) (blocks ++ goes.block ∷ []) lines =
+    lines_go good sound taken f c fits some lines (after_line base line) (run m goes.block) (bytes ++ line_text line) (blocks ++ goes.block ∷ []) new
+    refl goes.next limits.1 right.1 left in
+    record {
+      more = goes.block ∷ rest.more;
+      legal = legal-append f c.layout m goes.block (joined rest.more) goes.legal rest.legal;
+      callers = callers-append c.stream goes.block (joined rest.more) goes.callers rest.callers;
+      room = omega (arith, sum_by-append size_of goes.block (joined rest.more), goes.room, rest.room);
+      holding = rest.holding;
+      pending = rest.pending;
+      leaves = subst (λ (b : List ℕ). Leaves c b (blocks ++ goes.block ∷ rest.more) (Going rest.holding)) (append_assoc bytes (line_text line) (flat_map line_text lines))
+          (subst (λ (b : List History). Leaves c ((bytes ++ line_text line) ++ flat_map line_text lines) b (Going rest.holding)) (append_assoc blocks (goes.block ∷ []) rest.more) rest.leaves);
+    }
+
+-- The whole stream
+
+all_others : (s t : ℕ) (h : History) → s ≢ t → AllByRecursion (λ e. stream_of e ≡ s) h → AllByRecursion (λ e. stream_of e ≡ t → ⊥) h
+all_others s t [] other all = tt
+all_others s t (e ∷ h) other all = (λ same. other (sym all.0 ∙ same), all_others s t h other all.1)
+
+-- the room of a history that is all one stream's
+all_spent : (p : LayoutValue) (s : ℕ) (h : History) → AllByRecursion (λ e. stream_of e ≡ s) h → sum_by size_of h ≤ p.room
+    → (t : ℕ) → spent t h ≤ p.room
+all_spent p s h callers room t = elim (cases_eq s t) [
+  | inl same ↦ subst (λ (n : ℕ). spent n h ≤ p.room) same (omega (arith, spent-sizes s h, ap (sum_by size_of) (own-all s h callers), room))
+  | inr other ↦
+      let none : own h t ≡ [] = own-none h t (all_others s t h other callers) in
+      omega (arith, spent-sizes t h, ap (sum_by size_of) none)
+]
+
+-- A list that has one thing at its end, after so many of another
+
+padded : {X : Type 0} → ℕ → X → X → List X
+padded zero x y = y ∷ []
+padded (suc k) x y = x ∷ padded k x y
+
+padded_at : {X : Type 0} (k : ℕ) (x y : X) → slice_get (padded k x y) k ≡ Some y
+unfolding padded
+padded_at zero x y = refl
+padded_at (suc k) x y = padded_at k x y
+
+padded_judged : (terms : TermsValue) (s : ℕ) (h : History) (stream : Stream) (report : Report) (k n : ℕ) → n + k ≡ s
+    → IsJudgedBy (setting_of terms s) stream (own h s) report
+    → AreJudgedIn terms (one s) h n (padded k empty_stream stream) (padded k empty_report report)
+unfolding padded
+padded_judged terms s h stream report zero n is judged =
+    let here : n ≡ s = omega arith in
+    ((λ member. subst (λ (t : ℕ). IsJudgedBy (setting_of terms t) stream (own h t) report) (sym here) judged), tt)
+padded_judged terms s h stream report (suc k) n is judged = (
+  (λ member. absurd (omega (arith, only s n member, is))),
+  padded_judged terms s h stream report k (n + 1) (omega arith) judged,
+)
+
+all_members : (s : ℕ) (h : History) → AllByRecursion (λ e. stream_of e ≡ s) h → AllByRecursion (λ e. IsTrue (one s (stream_of e))) h
+all_members s [] all = tt
+all_members s (e ∷ h) all = (eq-eqb (stream_of e) s all.0, all_members s h all.1)
+
+-- a count that is shown as few is shown as it is
+all_counted : (n most : ℕ) → capped (n + 0) ≤ most → most ≤ 268435456 → capped (n + 0) ≡ n
+all_counted n most shown few = omega (arith, shown, few)
+
+-- a stream whose lines were all taken, and of which nothing is left, is judged as its right report says
+pub ended_report : EndJudged → EmptyCut → OneCut → (terms : TermsValue) (s : ℕ) (lines : List StreamLine) (more : List History) (holding : Holding)
+    → holding.pending ≡ [] → AllByRecursion IsWithinLimits lines
+    → Leaves (setting_of terms s) (flat_map line_text lines) more (Going holding)
+    → JudgesBlocks (setting_of terms s) (flat_map line_text lines) stream_ends.Ended more (right_report terms s lines)
+ended_report ends empty_cut one_cut terms s lines more holding pending limits leaves =
+    let c = setting_of terms s in
+    let texts = flat_map line_text lines in
+    let cut : Cut texts lines [] = record { bytes = sym (append-nil texts); each = limits; last = empty_cut.last } in
+    let same = one_cut texts leaves.lines lines holding.pending [] leaves.cut cut in
+    let says : report_of_tally holding.tally (ending_at stream_ends.Ended holding.pending holding.line) ≡ right_report terms s lines =
+    ap (λ (p : List ℕ). report_of_tally holding.tally (ending_at stream_ends.Ended p holding.line)) pending
+    ∙ leaves.tally endings.Ended
+    ∙ ap (λ (ls : List StreamLine). report_of c ls 0 endings.Ended) same.0 in
+    subst (JudgesBlocks c texts stream_ends.Ended more) says (ends c texts more holding stream_ends.Ended leaves)
+
+module _ (good : GoodExactlyIf) (sound : PropagationSound) (taken : GoodLineTaken) (fresh : FreshLeft) (ends : EndJudged) (empty_cut : EmptyCut) (one_cut : OneCut) where
+  -- a legal history of its own judges it so
+  pub right_judged : (f : Cnf) (terms : TermsValue) (s : ℕ) (bytes : List ℕ) (lines : List StreamLine)
+      → IsCnf f → Fits terms.layout f → IsStream terms.layout s → IsRightStream f terms.layout s bytes lines
+      → (j : IsJudgedWhole f terms s bytes (right_report terms s lines)) × AllByRecursion (λ e. stream_of e ≡ s) j.history
+  right_judged f terms s bytes lines cnf fits stream right =
+      let c = setting_of terms s in
+      let first : Holding = record { tally = record { added = 0; deleted = 0; empty = false; within = false }; standing = standing_of c []; pending = []; line = 1 } in
+      let left : Leaves c [] [] (Going first) = fresh c first (record { tally = refl; standing = record { last = refl; free = refl; gone = λ id. refl }; pending = refl; line = refl }) in
+      let on : Goes_on f c (first_database f terms.layout) (opening f) [] [] lines =
+      lines_go good sound taken f c fits (omega (arith, stream.0, stream.1)) lines (first_database f terms.layout) (opening f) [] [] first refl
+      (first_agrees f c cnf fits) right.fits right.right left in
+      let texts = flat_map line_text lines in
+      let whole : JudgesBlocks c texts stream_ends.Ended on.more (right_report terms s lines) =
+      ended_report ends empty_cut one_cut terms s lines on.more on.holding on.pending right.fits on.leaves in (
+        record {
+          history = joined on.more;
+          legal = record { events = on.legal; room = all_spent terms.layout s (joined on.more) on.callers on.room };
+          judges = record { blocks = on.more; events = refl; judges = subst (λ (b : List ℕ). JudgesBlocks c b stream_ends.Ended on.more (right_report terms s lines)) (sym right.text) whole };
+        },
+        on.callers,
+      )
+
+  -- A stream alone
+
+  pub right_accepted : RightAccepted
+  right_accepted f terms s bytes lines cnf fits stream right =
+      let j = right_judged f terms s bytes lines cnf fits stream right in
+      let report = right_report terms s lines in
+      let its : Stream = record { bytes = bytes; unneeded = []; end = Some stream_ends.Ended } in
+      let at = padded_at (s - 1) empty_stream its in
+      let says = padded_at (s - 1) empty_report report in
+      record {
+        streams = padded (s - 1) empty_stream its;
+        reports = padded (s - 1) empty_report report;
+        stream = its;
+        alone = record {
+          history = j.0.history;
+          members = all_members s j.0.history j.1;
+          legal = j.0.legal;
+          judged = padded_judged terms s j.0.history its report (s - 1) 1 (omega (arith, stream.0))
+              (j.0.judges.blocks, own-all s j.0.history j.1 ∙ j.0.judges.events, judged_out (setting_of terms s) bytes [] stream_ends.Ended j.0.judges.blocks report j.0.judges.judges);
+          memory = λ t other member there.
+              let here = subst (λ (n : ℕ). IsOfStream (padded (s - 1) empty_report report) n other) (only s t member) there in
+              let same : report ≡ other = same_at (padded (s - 1) empty_report report) s report other (stream.0, says) here in
+              subst (λ (r : Report). ¬ IsOfMemory r) same (λ memory. let no : endings.Ended ≡ endings.Memory memory.0 = memory.1 in cc);
+        };
+        at = (stream.0, at);
+        reads = (refl, refl);
+        says = (stream.0, says);
+      }
+
+  -- What is counted
+
+  pub right_counted : CountsWithin → RightCounted
+  right_counted within f terms s bytes lines cnf layout fits stream right =
+      let j = right_judged f terms s bytes lines cnf fits stream right in
+      let report = right_report terms s lines in
+      let few = within f (setting_of terms s) j.0.history bytes stream_ends.Ended j.0.judges.blocks report j.0.legal
+      (own-all s j.0.history j.1 ∙ j.0.judges.events) j.0.judges.judges in
+      all_counted (sum_by (λ line. length (deleted_by line)) lines) (last_identity terms.layout) few.1 (omega (arith, layout.row))
+
+  -- In a run
+
+  pub right_reported : RightCiteWithin → BeginningsWithin → ClosedIsGroup → AloneDecides → DecidedBeforeFailure → RightReported
+  right_reported within begins group decides decided f terms s bytes lines told telling reports report cnf fits stream right run here entry says memory failure =
+      let mine = right_judged f terms s bytes lines cnf fits stream right in
+      let theirs = whole_judged begins group decided f terms s bytes told telling reports report fits
+      (within f terms.layout s bytes lines fits right) run here entry says memory failure in
+      (decides f terms.layout (setting_of terms s) bytes stream_ends.Ended theirs.history mine.0.history report (right_report terms s lines)
+      theirs.legal mine.0.legal theirs.judges mine.0.judges memory (λ m. let no : endings.Ended ≡ endings.Memory m.0 = m.1 in cc)).1
+
+pub right_has_one_report : RightAccepted → AloneHasOneReport → RightHasOneReport
+right_has_one_report accepted law f terms s bytes lines report cnf fits stream right other =
+    let mine = accepted f terms s bytes lines cnf fits stream right in
+    law f terms s bytes stream_ends.Ended other.streams mine.streams other.reports mine.reports other.stream mine.stream
+    report (right_report terms s lines) other.alone mine.alone other.at mine.at other.reads mine.reads other.says mine.says

@@ -1,0 +1,377 @@
+-- Lines of several streams that are right together, and their streams in a run.
+use Rattle.std.proofs.Common.{◌≡◌, ◌≢◌, ◌<◌, ◌≤◌, ◌+◌, ◌-◌, ℕ, zero, suc, Bool, true, false, cond, List, [], ◌∷◌, ◌++◌, length, Some, inl, inr, refl, sym, ap, subst, ◌∙◌, arith, append_assoc, append-nil, eqb, eqb-true, eq-eqb, ne_eqb}
+use Rattle.std.specs.Prelude.{IsTrue, slice_get, ◌&&◌}
+use Rattle.std.specs.List.{AllByRecursion, AllZip, flat_map, sum_by}
+use Rattle.std.proofs.lemmas.Bool.{cases_eq, cond-true, cond-false, true≢false}
+use Rattle.std.proofs.lemmas.Option.{slice_get_within}
+use Rattle.lrup_model.specs.Clause.{Clause}
+use Rattle.lrup_model.specs.Distinct.{distinct}
+use Rattle.lrup_model.specs.Event.{History, own, spent}
+use Rattle.lrup_model.specs.Formula.{Cnf}
+use Rattle.lrup_model.specs.History.{LegalFrom, IsLegal}
+use Rattle.lrup_model.specs.HistoryLemmas.{formula_owned, one_owner, own-all, own-none}
+use Rattle.lrup_model.specs.Laws.{PropagationSound}
+use Rattle.lrup_model.specs.Layout.{LayoutValue, Fits, IsStream, Owns}
+use Rattle.lrup_model.specs.Running.{legal-append, own-append, size_of, spent-append, spent-sizes}
+use Rattle.lrup_model.specs.State.{State, opening, run}
+use Rattle.lrup_model.specs.declared.layout.Owner.TheVariants as owners
+use Rattle.lrup_text.specs.Laws.{EmptyCut, OneCut}
+use Rattle.lrup_text.specs.Lines.{StreamLine, Addition, Deletion, Import, IsWithinLimits, line_text}
+use Rattle.lrup_text.specs.declared.device.StreamEnd.TheVariants as stream_ends
+use Rattle.stream_check.specs.declared.report.Report.{Report}
+use Rattle.stream_check.specs.Judging.{joined}
+use Rattle.stream_check.specs.Laws.{cited_by, EndJudged, FreshLeft, GoodExactlyIf, GoodLineTaken}
+use Rattle.stream_check.specs.Leaving.{Holding, Going, Leaves}
+use Rattle.stream_check.specs.Standing.{is_among, standing_of}
+use Rattle.runs.specs.Closed.{IsOfStream, IsOwnedWithin, CiteWithin, IsClosed}
+use Rattle.runs.specs.Headline.{AreJudgedIn}
+use Rattle.runs.specs.Streams.{Stream, TermsValue, setting_of}
+use Rattle.runs.specs.StreamLemmas.{IsJudgedBy, judged_count, judged_out}
+use Rattle.run_laws.specs.Blame.{AllEnded, HaveBytesOf, NoFalseBlame}
+use Rattle.run_laws.specs.Right.{Database, first_database, after_line, IsRightLine, right_report}
+use Rattle.run_laws.specs.Together.{Step, is_own, beside_line, after_step, AreRightTogether, lines_by, RightTogether}
+use Rattle.run_laws.proofs.RightLemmas.{next_holding, first_agrees, is_first, ended_report}
+use Rattle.run_laws.proofs.RightLines.{Agrees, Goes, line_goes, left, not_callers}
+
+-- Each stream, one line further
+
+-- a stream as far as it was checked: its bytes, their blocks, and what they leave
+record Track : Type 0 where
+  bytes : List ℕ
+  blocks : List History
+  holding : Holding
+
+record IsOn (f : Cnf) (terms : TermsValue) (t : ℕ) (base : Database) (m : State) (track : Track) : Type 0 where
+  pending : track.holding.pending ≡ []
+  agrees : Agrees f terms.layout t base track.holding.standing m
+  leaves : Leaves (setting_of terms t) track.bytes track.blocks (Going track.holding)
+
+-- the stream goes on to the end of its lines, by its events of this history
+record GoesOn (terms : TermsValue) (t : ℕ) (base : Database) (track : Track) (steps : List Step) (h : History) : Type 0 where
+  more : List History
+  events : own h t ≡ joined more
+  room : spent t h ≤ base.free
+  holding : Holding
+  pending : holding.pending ≡ []
+  leaves : Leaves (setting_of terms t) (track.bytes ++ flat_map line_text (lines_by t steps)) (track.blocks ++ more) (Going holding)
+
+-- what is said of either case of a test is said of both
+on_either : {A B : Type 0} (P : A → B → Type 0) (b : Bool) (x y : A) (v w : B) → (b ≡ true → P x v) → (b ≡ false → P y w) → P (cond b x y) (cond b v w)
+on_either P true x y v w holds fails = holds refl
+on_either P false x y v w holds fails = fails refl
+
+further : TermsValue → Step → History → ℕ → Track → Track
+further terms step block t track = record {
+  bytes = track.bytes ++ line_text step.line;
+  blocks = track.blocks ++ block ∷ [];
+  holding = next_holding (setting_of terms t) track.holding step.line;
+}
+
+tracks_after : TermsValue → Step → History → (ℕ → Track) → ℕ → Track
+tracks_after terms step block tracks t = cond (eqb t step.stream) (further terms step block t (tracks t)) (tracks t)
+
+beside_free : (p : LayoutValue) (s : ℕ) (base : Database) (line : StreamLine) → (beside_line p s base line).free ≡ base.free
+beside_free p s base (Addition id lits hints) = refl
+beside_free p s base (Deletion lead ids) = refl
+beside_free p s base (Import id lits) = refl
+
+not_eqb : (a b : ℕ) → eqb a b ≡ false → a ≢ b
+not_eqb a b test same = true≢false (sym (eq-eqb a b same) ∙ test)
+
+module _ (good : GoodExactlyIf) (sound : PropagationSound) (taken : GoodLineTaken) (f : Cnf) (terms : TermsValue) (fits : Fits terms.layout f) where
+  -- the stream whose line it is
+  on_with : (step : Step) (base : Database) (m : State) (track : Track) → 0 < terms.layout.streams → IsWithinLimits step.line
+      → IsOn f terms step.stream base m track
+      → (g : Goes f (setting_of terms step.stream) base track.holding.standing m step.line)
+      → IsOn f terms step.stream (after_line base step.line) (run m g.block) (further terms step g.block step.stream track)
+  unfolding further
+  on_with step base m track some limits on g = record {
+    pending = refl;
+    agrees = g.next;
+    leaves = taken (setting_of terms step.stream) track.bytes (line_text step.line) track.blocks g.block track.holding
+        (next_holding (setting_of terms step.stream) track.holding step.line) step.line on.leaves
+        (limits, ap (λ (p : List ℕ). p ++ line_text step.line) on.pending) g.judged
+        (record { tally = refl; standing = record { last = refl; free = refl; gone = λ id. refl }; pending = refl; line = refl });
+  }
+
+  -- and any other
+  on_beside : (step : Step) (base its : Database) (m : State) (track other : Track) (t : ℕ) → t ≢ step.stream
+      → IsOn f terms t its m other
+      → (g : Goes f (setting_of terms step.stream) base track.holding.standing m step.line)
+      → IsOn f terms t (beside_line terms.layout step.stream its step.line) (run m g.block) other
+  on_beside step base its m track other t apart on g = record {
+    pending = on.pending;
+    agrees = g.beside t its other.holding.standing apart on.agrees;
+    leaves = on.leaves;
+  }
+
+  -- a stream that goes on after a line goes on from before it
+  goes_with : (step : Step) (base : Database) (m : State) (track : Track) (steps : List Step) (h : History)
+      → (g : Goes f (setting_of terms step.stream) base track.holding.standing m step.line)
+      → GoesOn terms step.stream (after_line base step.line) (further terms step g.block step.stream track) steps h
+      → GoesOn terms step.stream base track (step ∷ steps) (g.block ++ h)
+  unfolding further
+  goes_with step base m track steps h g on =
+      let s = step.stream in
+      let lines : lines_by s (step ∷ steps) ≡ step.line ∷ lines_by s steps =
+      cond-true (eqb s s) (step.line ∷ lines_by s steps) (lines_by s steps) (eq-eqb s s refl) in
+      let mine : own g.block s ≡ g.block = own-all s g.block g.callers in
+      record {
+        more = g.block ∷ on.more;
+        events = own-append g.block h s ∙ ap (λ (x : History). x ++ own h s) mine ∙ ap (λ (x : History). g.block ++ x) on.events;
+        room = omega (arith, spent-append s g.block h, spent-sizes s g.block, ap (sum_by size_of) mine, g.room, on.room);
+        holding = on.holding;
+        pending = on.pending;
+        leaves = subst (λ (ls : List StreamLine). Leaves (setting_of terms s) (track.bytes ++ flat_map line_text ls) (track.blocks ++ g.block ∷ on.more) (Going on.holding)) (sym lines)
+            (subst (λ (b : List ℕ). Leaves (setting_of terms s) b (track.blocks ++ g.block ∷ on.more) (Going on.holding))
+            (append_assoc track.bytes (line_text step.line) (flat_map line_text (lines_by s steps)))
+            (subst (λ (b : List History). Leaves (setting_of terms s) ((track.bytes ++ line_text step.line) ++ flat_map line_text (lines_by s steps)) b (Going on.holding))
+            (append_assoc track.blocks (g.block ∷ []) on.more) on.leaves));
+      }
+
+  goes_beside : (step : Step) (base its : Database) (m : State) (track other : Track) (steps : List Step) (h : History) (t : ℕ) → t ≢ step.stream
+      → (g : Goes f (setting_of terms step.stream) base track.holding.standing m step.line)
+      → GoesOn terms t (beside_line terms.layout step.stream its step.line) other steps h
+      → GoesOn terms t its other (step ∷ steps) (g.block ++ h)
+  goes_beside step base its m track other steps h t apart g on =
+      let s = step.stream in
+      let lines : lines_by t (step ∷ steps) ≡ lines_by t steps =
+      cond-false (eqb s t) (step.line ∷ lines_by t steps) (lines_by t steps) (ne_eqb s t (λ same. apart (sym same))) in
+      let none : own g.block t ≡ [] = own-none g.block t (not_callers s t g.block apart g.callers) in
+      record {
+        more = on.more;
+        events = own-append g.block h t ∙ ap (λ (x : History). x ++ own h t) none ∙ on.events;
+        room = omega (arith, spent-append t g.block h, spent-sizes t g.block, ap (sum_by size_of) none, on.room, beside_free terms.layout s its step.line);
+        holding = on.holding;
+        pending = on.pending;
+        leaves = subst (λ (ls : List StreamLine). Leaves (setting_of terms t) (other.bytes ++ flat_map line_text ls) (other.blocks ++ on.more) (Going on.holding)) (sym lines) on.leaves;
+      }
+
+  -- a legal history of all lines
+  record AllGo (bases : ℕ → Database) (m : State) (tracks : ℕ → Track) (steps : List Step) : Type 0 where
+    history : History
+    legal : LegalFrom f terms.layout m history
+    each : (t : ℕ) → GoesOn terms t (bases t) (tracks t) steps history
+
+  steps_go : (steps : List Step) (bases : ℕ → Database) (m : State) (tracks : ℕ → Track)
+      → AllByRecursion (λ step. IsStream terms.layout step.stream) steps → AllByRecursion (λ step. IsWithinLimits step.line) steps
+      → AreRightTogether terms.layout bases steps → ((t : ℕ) → IsOn f terms t (bases t) m (tracks t)) → AllGo bases m tracks steps
+  unfolding tracks_after
+  steps_go [] bases m tracks streams limits right on = record {
+    history = [];
+    legal = tt;
+    each = λ t. record {
+      more = [];
+      events = refl;
+      room = omega arith;
+      holding = (tracks t).holding;
+      pending = (on t).pending;
+      leaves = subst (λ (b : List ℕ). Leaves (setting_of terms t) b ((tracks t).blocks ++ []) (Going (tracks t).holding)) (sym (append-nil (tracks t).bytes))
+          (subst (λ (b : List History). Leaves (setting_of terms t) (tracks t).bytes b (Going (tracks t).holding)) (sym (append-nil (tracks t).blocks)) (on t).leaves);
+    };
+  }
+  steps_go (step ∷ steps) bases m tracks streams limits right on =
+      let s = step.stream in
+      let some : 0 < terms.layout.streams = omega (arith, streams.0.0, streams.0.1) in
+      let g : Goes f (setting_of terms s) (bases s) (tracks s).holding.standing m step.line =
+      line_goes good sound f (setting_of terms s) (bases s) (tracks s).holding.standing m step.line fits some (on s).agrees limits.0 right.0 in
+      let later : AllGo (after_step terms.layout step bases) (run m g.block) (tracks_after terms step g.block tracks) steps =
+      steps_go steps (after_step terms.layout step bases) (run m g.block) (tracks_after terms step g.block tracks) streams.1 limits.1 right.1
+      (λ t. on_either (λ base track. IsOn f terms t base (run m g.block) track) (eqb t s)
+      (after_line (bases t) step.line) (beside_line terms.layout s (bases t) step.line) (further terms step g.block t (tracks t)) (tracks t)
+      (λ test. let same : t ≡ s = eqb-true t s test in
+      subst (λ (n : ℕ). IsOn f terms n (after_line (bases n) step.line) (run m g.block) (further terms step g.block n (tracks n))) (sym same)
+      (on_with step (bases s) m (tracks s) some limits.0 (on s) g))
+      (λ test. on_beside step (bases s) (bases t) m (tracks s) (tracks t) t (not_eqb t s test) (on t) g)) in
+      record {
+        history = g.block ++ later.history;
+        legal = legal-append f terms.layout m g.block later.history g.legal later.legal;
+        each = λ t. elim (cases_eq t s) [
+          | inl same ↦
+              let here : GoesOn terms s (after_line (bases s) step.line) (further terms step g.block s (tracks s)) steps later.history =
+              subst (λ (track : Track). GoesOn terms s (after_line (bases s) step.line) track steps later.history)
+              (cond-true (eqb s s) (further terms step g.block s (tracks s)) (tracks s) (eq-eqb s s refl))
+              (subst (λ (base : Database). GoesOn terms s base (tracks_after terms step g.block tracks s) steps later.history)
+              (cond-true (eqb s s) (after_line (bases s) step.line) (beside_line terms.layout s (bases s) step.line) (eq-eqb s s refl)) (later.each s)) in
+              subst (λ (n : ℕ). GoesOn terms n (bases n) (tracks n) (step ∷ steps) (g.block ++ later.history)) (sym same)
+              (goes_with step (bases s) m (tracks s) steps later.history g here)
+          | inr apart ↦
+              let there : GoesOn terms t (beside_line terms.layout s (bases t) step.line) (tracks t) steps later.history =
+              subst (λ (track : Track). GoesOn terms t (beside_line terms.layout s (bases t) step.line) track steps later.history)
+              (cond-false (eqb t s) (further terms step g.block t (tracks t)) (tracks t) (ne_eqb t s apart))
+              (subst (λ (base : Database). GoesOn terms t base (tracks_after terms step g.block tracks t) steps later.history)
+              (cond-false (eqb t s) (after_line (bases t) step.line) (beside_line terms.layout s (bases t) step.line) (ne_eqb t s apart)) (later.each t)) in
+              goes_beside step (bases s) (bases t) m (tracks s) (tracks t) steps later.history t apart g there
+        ];
+      }
+
+-- What is cited
+
+-- every clause of every database is the formula's, or of a stream of the set
+abbrev AreWithin : LayoutValue → (ℕ → Bool) → (ℕ → Database) → Type 0
+AreWithin p set bases = (t id : ℕ) (d : Clause) → (bases t).clauses id ≡ Some d → IsOwnedWithin p set id
+
+named_within : (p : LayoutValue) (set : ℕ → Bool) (base : Database) (hints : List ℕ) (ds : List Clause)
+    → ((id : ℕ) (d : Clause) → base.clauses id ≡ Some d → IsOwnedWithin p set id)
+    → AllZip (λ h d. base.clauses h ≡ Some d) hints ds → AllByRecursion (IsOwnedWithin p set) hints
+named_within p set base [] [] within named = tt
+named_within p set base [] (d ∷ ds) within named = absurd named
+named_within p set base (h ∷ hints) [] within named = absurd named
+named_within p set base (h ∷ hints) (d ∷ ds) within named = (within h d named.0, named_within p set base hints ds within named.1)
+
+line_cites : (p : LayoutValue) (set : ℕ → Bool) (s : ℕ) (base : Database) (line : StreamLine) → ((id : ℕ) (d : Clause) → base.clauses id ≡ Some d → IsOwnedWithin p set id)
+    → IsRightLine p s base line → AllByRecursion (IsOwnedWithin p set) (cited_by line)
+line_cites p set s base (Addition id lits hints) within right = named_within p set base hints right.hinted within right.named
+line_cites p set s base (Deletion lead ids) within right = tt
+line_cites p set s base (Import id lits) within right = (within id right.clause right.there, tt)
+
+owned_by_member : (p : LayoutValue) (set : ℕ → Bool) (s id : ℕ) → IsTrue (set s) → Owns p s id → IsOwnedWithin p set id
+owned_by_member p set s id member owns t theirs = subst (λ (n : ℕ). IsTrue (set n)) (one_owner p s t id owns theirs) member
+
+line_within : (p : LayoutValue) (set : ℕ → Bool) (s : ℕ) (base : Database) (line : StreamLine) → IsTrue (set s) → IsRightLine p s base line
+    → (its : Database) → ((id : ℕ) (d : Clause) → its.clauses id ≡ Some d → IsOwnedWithin p set id)
+    → ((id : ℕ) (d : Clause) → (after_line its line).clauses id ≡ Some d → IsOwnedWithin p set id)
+    × ((id : ℕ) (d : Clause) → (beside_line p s its line).clauses id ≡ Some d → IsOwnedWithin p set id)
+line_within p set s base (Addition id lits hints) member right its within =
+    let added : (j : ℕ) (d : Clause) → cond (eqb j id) (Some (distinct lits)) (its.clauses j) ≡ Some d → IsOwnedWithin p set j = λ j d is.
+    elim (cases_eq j id) [
+      | inl same ↦ owned_by_member p set s j member (subst (Owns p s) (sym same) right.owns)
+      | inr other ↦ within j d (sym (cond-false (eqb j id) (Some (distinct lits)) (its.clauses j) (ne_eqb j id other)) ∙ is)
+    ] in
+    (added, added)
+line_within p set s base (Deletion lead ids) member right its within = (
+  (λ j d is. within j d (left (is_among ids j) (its.clauses j) d is).1),
+  (λ j d is. within j d (left (is_among ids j && is_own p s j) (its.clauses j) d is).1),
+)
+line_within p set s base (Import id lits) member right its within = (within, within)
+
+steps_cite : (p : LayoutValue) (set : ℕ → Bool) (steps : List Step) (bases : ℕ → Database) → AreWithin p set bases
+    → AllByRecursion (λ step. IsTrue (set step.stream)) steps → AreRightTogether p bases steps
+    → (t : ℕ) → AllByRecursion (λ line. AllByRecursion (IsOwnedWithin p set) (cited_by line)) (lines_by t steps)
+steps_cite p set [] bases within members right t = tt
+steps_cite p set (step ∷ steps) bases within members right t =
+    let s = step.stream in
+    let cites = line_cites p set s (bases s) step.line (within s) right.0 in
+    let rest = steps_cite p set steps (after_step p step bases)
+    (λ n id d is. elim (cases_eq n s) [
+      | inl same ↦ (line_within p set s (bases s) step.line members.0 right.0 (bases n) (within n)).0 id d
+          (sym (ap (λ (base : Database). base.clauses id) (cond-true (eqb n s) (after_line (bases n) step.line) (beside_line p s (bases n) step.line) (eq-eqb n s same))) ∙ is)
+      | inr apart ↦ (line_within p set s (bases s) step.line members.0 right.0 (bases n) (within n)).1 id d
+          (sym (ap (λ (base : Database). base.clauses id) (cond-false (eqb n s) (after_line (bases n) step.line) (beside_line p s (bases n) step.line) (ne_eqb n s apart))) ∙ is)
+    ]) members.1 right.1 t in
+    elim (cases_eq s t) [
+      | inl same ↦ subst (AllByRecursion (λ line. AllByRecursion (IsOwnedWithin p set) (cited_by line)))
+          (sym (cond-true (eqb s t) (step.line ∷ lines_by t steps) (lines_by t steps) (eq-eqb s t same))) (cites, rest)
+      | inr apart ↦ subst (AllByRecursion (λ line. AllByRecursion (IsOwnedWithin p set) (cited_by line)))
+          (sym (cond-false (eqb s t) (step.line ∷ lines_by t steps) (lines_by t steps) (ne_eqb s t apart))) rest
+    ]
+
+lines_limits : (steps : List Step) (t : ℕ) → AllByRecursion (λ step. IsWithinLimits step.line) steps → AllByRecursion IsWithinLimits (lines_by t steps)
+lines_limits [] t all = tt
+lines_limits (step ∷ steps) t all = elim (cases_eq step.stream t) [
+  | inl same ↦ subst (AllByRecursion IsWithinLimits)
+      (sym (cond-true (eqb step.stream t) (step.line ∷ lines_by t steps) (lines_by t steps) (eq-eqb step.stream t same))) (all.0, lines_limits steps t all.1)
+  | inr apart ↦ subst (AllByRecursion IsWithinLimits)
+      (sym (cond-false (eqb step.stream t) (step.line ∷ lines_by t steps) (lines_by t steps) (ne_eqb step.stream t apart))) (lines_limits steps t all.1)
+]
+
+-- Lists that have a thing for each stream
+
+each_from : {X : Type 0} → ℕ → ℕ → (ℕ → X) → List X
+each_from zero k of = []
+each_from (suc n) k of = of k ∷ each_from n (k + 1) of
+
+each_count : {X : Type 0} (n k : ℕ) (of : ℕ → X) → length (each_from n k of) ≡ n
+unfolding each_from
+each_count zero k of = refl
+each_count (suc n) k of = ap suc (each_count n (k + 1) of)
+
+each_at : {X : Type 0} (n k i : ℕ) (of : ℕ → X) (x : X) → slice_get (each_from n k of) i ≡ Some x → of (k + i) ≡ x
+unfolding each_from
+each_at zero k i of x is = absurd (cc)
+each_at (suc n) k zero of x is =
+    let first : of k ≡ x = cc in
+    let place : k + 0 ≡ k = omega arith in
+    ap of place ∙ first
+each_at (suc n) k (suc i) of x is =
+    let place : k + suc i ≡ k + 1 + i = omega arith in
+    ap of place ∙ each_at n (k + 1) i of x is
+
+each_get : {X : Type 0} (n k i : ℕ) (of : ℕ → X) → i < n → slice_get (each_from n k of) i ≡ Some (of (k + i))
+unfolding each_from
+each_get zero k i of below = absurd (omega (arith, below))
+each_get (suc n) k zero of below = let place : k ≡ k + 0 = omega arith in ap (λ (j : ℕ). Some (of j)) place
+each_get (suc n) k (suc i) of below =
+    let place : k + 1 + i ≡ k + suc i = omega arith in
+    each_get n (k + 1) i of (omega (arith, below)) ∙ ap (λ (j : ℕ). Some (of j)) place
+
+at_stream : {X : Type 0} (n s : ℕ) (of : ℕ → X) (x : X) → IsOfStream (each_from n 1 of) s x → of s ≡ x
+at_stream n s of x at =
+    let first = at.0 in
+    let place : s ≡ 1 + (s - 1) = omega (arith, first) in
+    ap of place ∙ each_at n 1 (s - 1) of x at.1
+
+each_judged : (terms : TermsValue) (set : ℕ → Bool) (h : History) (n k : ℕ) (streams : ℕ → Stream) (reports : ℕ → Report)
+    → ((t : ℕ) → IsJudgedBy (setting_of terms t) (streams t) (own h t) (reports t))
+    → AreJudgedIn terms set h k (each_from n k streams) (each_from n k reports)
+unfolding each_from
+each_judged terms set h zero k streams reports judged = tt
+each_judged terms set h (suc n) k streams reports judged = ((λ member. judged k), each_judged terms set h n (k + 1) streams reports judged)
+
+-- All together
+
+module _ (good : GoodExactlyIf) (sound : PropagationSound) (taken : GoodLineTaken) (fresh : FreshLeft) (ends : EndJudged) (empty_cut : EmptyCut) (one_cut : OneCut) where
+  pub right_together : NoFalseBlame → RightTogether
+  right_together law f terms set steps told reports s report cnf fits order members r texts member says memory failure =
+      let p = terms.layout in
+      let first : ℕ → Track = λ t. record {
+        bytes = [];
+        blocks = [];
+        holding = record {
+          tally = record { added = 0; deleted = 0; empty = false; within = false };
+          standing = standing_of (setting_of terms t) [];
+          pending = [];
+          line = 1;
+        };
+      } in
+      let all : AllGo good sound taken f terms fits (λ t. first_database f p) (opening f) first steps =
+      steps_go good sound taken f terms fits steps (λ t. first_database f p) (opening f) first order.streams order.fits order.right
+      (λ t. record {
+        pending = refl;
+        agrees = first_agrees f (setting_of terms t) cnf fits;
+        leaves = fresh (setting_of terms t) (first t).holding
+            (record { tally = refl; standing = record { last = refl; free = refl; gone = λ id. refl }; pending = refl; line = refl });
+      }) in
+      let streams : ℕ → Stream = λ t. record { bytes = flat_map line_text (lines_by t steps); unneeded = []; end = Some stream_ends.Ended } in
+      let said : ℕ → Report = λ t. right_report terms t (lines_by t steps) in
+      let n = terms.layout.streams in
+      let legal : IsLegal f p all.history = record { events = all.legal; room = λ t. (all.each t).room } in
+      let judged : AreJudgedIn terms set all.history 1 (each_from n 1 streams) (each_from n 1 said) =
+      each_judged terms set all.history n 1 streams said (λ t.
+      let its = all.each t in (
+        its.more,
+        its.events,
+        judged_out (setting_of terms t) (flat_map line_text (lines_by t steps)) [] stream_ends.Ended its.more (said t)
+            (ended_report ends empty_cut one_cut terms t (lines_by t steps) its.more its.holding its.pending (lines_limits steps t order.fits) its.leaves),
+      )) in
+      let ended : AllEnded set (each_from n 1 said) = λ t x m at. ap (λ (y : Report). y.ending) (sym (at_stream n t said x at)) in
+      let closed : IsClosed p set (each_from n 1 streams) = λ t x m at.
+      subst (λ (y : Stream). CiteWithin p set y.bytes) (at_stream n t streams x at) (record {
+        lines = lines_by t steps;
+        rest = [];
+        cut = record { bytes = sym (append-nil (flat_map line_text (lines_by t steps))); each = lines_limits steps t order.fits; last = empty_cut.last };
+        within = steps_cite p set steps (λ k. first_database f p) (λ k id d is.
+            let found = is_first f p id d is in
+            λ owner_of owns. absurd (let no : owners.Formula ≡ owners.Stream owner_of =
+            sym (formula_owned p id found.positive (omega (arith, found.within, fits.clauses))) ∙ owns in cc)) members order.right t;
+      }) in
+      let bytes : HaveBytesOf set (each_from n 1 streams) told = λ t x telling m at here.
+      texts t telling m here ∙ ap (λ (y : Stream). Some y.bytes) (at_stream n t streams x at) in
+      let within = slice_get_within reports (s - 1) report says.1 in
+      let many = judged_count terms (λ t. true) r.history 1 r.streams reports r.judged in
+      let first_place = says.0 in
+      let below : s - 1 < n = omega (arith, within, many, r.count, first_place) in
+      let place : 1 + (s - 1) ≡ s = omega (arith, first_place) in
+      let its_report : IsOfStream (each_from n 1 said) s (said s) = (first_place, each_get n 1 (s - 1) said below ∙ ap (λ (j : ℕ). Some (said j)) place) in
+      law f terms set all.history (each_from n 1 streams) (each_from n 1 said) told reports s (said s) report fits (each_count n 1 streams)
+      legal judged ended closed r bytes member its_report says memory failure

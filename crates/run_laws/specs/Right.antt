@@ -1,0 +1,113 @@
+-- Right streams: what a stream has to write that cites only its own clauses and the formula's. The lines are replayed over a
+-- database of clauses, as LRAT proofs are (Cruz-Filipe et al., CADE 2017); identities by residue, room and imports are this
+-- project's own. All is read off the lines: there is no map here, no event and no checker.
+use Rattle.std.specs.Prelude.{◌≡◌, ◌↔◌, ◌≤◌, ◌<◌, ◌-◌, ◌==◌, ◌&&◌, ℕ, ℤ, nat_abs, nat_lt, nat_le, false, List, [], ◌∷◌, length, Option, None, Some, IsSome, if◌then◌else◌}
+use Rattle.std.specs.List.{AllByRecursion, AllZip, Any, flat_map}
+use Rattle.lrup_model.specs.Clause.{Clause, Has}
+use Rattle.lrup_model.specs.Distinct.{distinct}
+use Rattle.lrup_model.specs.Formula.{Cnf, clause_at}
+use Rattle.lrup_model.specs.Layout.{LayoutValue, Owns}
+use Rattle.lrup_model.specs.Propagation.{Accepts}
+use Rattle.lrup_text.specs.Lines.{StreamLine, Addition, Deletion, Import, IsWithinLimits, line_text}
+use Rattle.stream_check.specs.declared.report.Ending.TheVariants as endings
+use Rattle.stream_check.specs.declared.report.Report.{Report}
+use Rattle.stream_check.specs.Standing.{is_among}
+use Rattle.stream_check.specs.Judging.{report_of}
+use Rattle.runs.specs.Streams.{TermsValue, setting_of}
+
+-- What the lines so far leave: the clauses that may be cited and deleted, by identity; the greatest identity that was added; and
+-- the room that is left, in literals.
+pub record Database : Type 0 where
+  pub clauses : ℕ → Option Clause
+  pub last : ℕ
+  pub free : ℕ
+
+-- before the first line: the formula's clauses, from 1 on
+abbrev pub first_database : Cnf → LayoutValue → Database
+first_database f p = record {
+  clauses = λ id.
+      if nat_lt 0 id && nat_le id (length f.clauses) then Some (clause_at f id) else None;
+  last = p.clauses;
+  free = p.room;
+}
+
+-- after a line: an addition puts its clause at its identity, each literal once; a deletion takes clauses away; an import changes
+-- nothing
+abbrev pub after_line : Database → StreamLine → Database
+after_line base (Addition id lits hints) = record {
+  clauses = λ j. if j == id then Some (distinct lits) else base.clauses j;
+  last = id;
+  free = base.free - length (distinct lits);
+}
+after_line base (Deletion lead ids) = record {
+  clauses = λ j. if is_among ids j then None else base.clauses j;
+  last = base.last;
+  free = base.free;
+}
+after_line base (Import id lits) = base
+
+-- An addition is right: its identity is the stream's own, and above the last; its literals are over the variables; there is room
+-- for its clause; its hints name clauses that are there; and these show its clause, which is no tautology, by propagation.
+pub record IsRightAddition (p : LayoutValue) (s : ℕ) (base : Database) (id : ℕ) (lits : List ℤ)
+    (hints : List ℕ) : Type 0 where
+  pub owns : Owns p s id
+  pub above : base.last < id
+  pub literals : AllByRecursion (λ l. nat_abs l ≤ p.vars) lits
+  pub room : length (distinct lits) ≤ base.free
+  pub hinted : List Clause
+  pub named : AllZip (λ h d. base.clauses h ≡ Some d) hints hinted
+  pub shown : Accepts (distinct lits) hinted
+
+-- no number stands twice
+abbrev pub AreDistinct : List ℕ → Type 0
+AreDistinct [] = Unit {0}
+AreDistinct (id ∷ ids) = (is_among ids id ≡ false) × AreDistinct ids
+
+-- A deletion is right: each of its identities has a clause, and none stands twice.
+pub record IsRightDeletion (base : Database) (ids : List ℕ) : Type 0 where
+  pub there : AllByRecursion (λ id. IsSome (base.clauses id)) ids
+  pub once : AreDistinct ids
+
+-- An import is right: its identity isn't the stream's own, and the clause that is there has its literals, in whatever order and
+-- however often each is written.
+pub record IsRightImport (p : LayoutValue) (s : ℕ) (base : Database) (id : ℕ)
+    (lits : List ℤ) : Type 0 where
+  pub other : ¬ Owns p s id
+  pub clause : Clause
+  pub there : base.clauses id ≡ Some clause
+  pub same : (l : ℤ) → Has clause l ↔ Has lits l
+
+-- a line of stream s is right, after lines that left this database
+abbrev pub IsRightLine : LayoutValue → ℕ → Database → StreamLine → Type 0
+IsRightLine p s base (Addition id lits hints) = IsRightAddition p s base id lits hints
+IsRightLine p s base (Deletion lead ids) = IsRightDeletion base ids
+IsRightLine p s base (Import id lits) = IsRightImport p s base id lits
+
+-- each line is right after those before it
+abbrev pub AreRight : LayoutValue → ℕ → Database → List StreamLine → Type 0
+AreRight p s base [] = Unit {0}
+AreRight p s base (line ∷ lines) =
+    IsRightLine p s base line × AreRight p s (after_line base line) lines
+
+-- The bytes are a right stream s, by these lines: they are the lines' texts and nothing else, and each line is right.
+pub record IsRightStream (f : Cnf) (p : LayoutValue) (s : ℕ) (bytes : List ℕ)
+    (lines : List StreamLine) : Type 0 where
+  pub text : bytes ≡ flat_map line_text lines
+  pub fits : AllByRecursion IsWithinLimits lines
+  pub right : AreRight p s (first_database f p) lines
+
+-- the line adds the empty clause
+abbrev pub AddsEmpty : StreamLine → Type 0
+AddsEmpty (Addition id lits hints) = lits ≡ []
+AddsEmpty (Deletion lead ids) = ⊥
+AddsEmpty (Import id lits) = ⊥
+
+-- The bytes are a right refutation of the formula, as stream s: a right stream, of which some line adds the empty clause.
+pub record IsRightRefutation (f : Cnf) (p : LayoutValue) (s : ℕ) (bytes : List ℕ) : Type 0 where
+  pub lines : List StreamLine
+  pub right : IsRightStream f p s bytes lines
+  pub empty : Any AddsEmpty lines
+
+-- The report of a right stream: that it ended, and what was added and deleted, as counted off the lines.
+abbrev pub right_report : TermsValue → ℕ → List StreamLine → Report
+right_report terms s lines = report_of (setting_of terms s) lines 0 endings.Ended

@@ -1,0 +1,91 @@
+-- Right streams that cite one another: lines of several streams, in some order, each of which is right by what the lines before it
+-- leave to its stream; and the law that they aren't blamed (this project's own).
+use Rattle.std.specs.Prelude.{◌≡◌, ◌⊎◌, ◌==◌, ◌&&◌, ℕ, Bool, false, IsTrue, List, [], ◌∷◌, None, Some, if◌then◌else◌}
+use Rattle.std.specs.List.{AllByRecursion, flat_map}
+use Rattle.lrup_model.specs.Distinct.{distinct}
+use Rattle.lrup_model.specs.Formula.{Cnf, IsCnf}
+use Rattle.lrup_model.specs.Layout.{LayoutValue, Fits, IsStream, owner}
+use Rattle.lrup_model.specs.declared.layout.Owner.TheVariants as owners
+use Rattle.lrup_text.specs.Lines.{StreamLine, Addition, Deletion, Import, IsWithinLimits, line_text}
+use Rattle.stream_check.specs.declared.report.Report.{Report}
+use Rattle.stream_check.specs.Laws.{IsOfMemory, IsOfFailure}
+use Rattle.stream_check.specs.Standing.{is_among}
+use Rattle.runs.specs.Closed.{IsOfStream}
+use Rattle.runs.specs.Streams.{Telling, TermsValue, setting_of}
+use Rattle.run_laws.specs.Blame.{LacksOfAnother}
+use Rattle.run_laws.specs.Groups.{IsRun}
+use Rattle.run_laws.specs.Right.{Database, first_database, after_line, IsRightLine, right_report}
+
+-- a line, and the stream, from 1 on, whose line it is
+pub record Step : Type 0 where
+  pub stream : ℕ
+  pub line : StreamLine
+
+-- the identity is the stream's own
+abbrev pub is_own : LayoutValue → ℕ → ℕ → Bool
+is_own p s id =
+    elim (owner p id) [
+      | owners.Formula ↦ false
+      | owners.Stream t ↦ t == s
+      | owners.Outside ↦ false
+    ]
+
+-- what a line of stream s leaves of another stream's database: an addition puts its clause there too, and a deletion takes away
+-- what is stream s's own
+abbrev pub beside_line : LayoutValue → ℕ → Database → StreamLine → Database
+beside_line p s base (Addition id lits hints) = record {
+  clauses = λ j. if j == id then Some (distinct lits) else base.clauses j;
+  last = base.last;
+  free = base.free;
+}
+beside_line p s base (Deletion lead ids) = record {
+  clauses = λ j. if is_among ids j && is_own p s j then None else base.clauses j;
+  last = base.last;
+  free = base.free;
+}
+beside_line p s base (Import id lits) = base
+
+-- the databases of all streams, after a line of one
+abbrev pub after_step : LayoutValue → Step → (ℕ → Database) → ℕ → Database
+after_step p step bases t =
+    if t == step.stream then after_line (bases t) step.line
+    else beside_line p step.stream (bases t) step.line
+
+-- each line is right, after those before it
+abbrev pub AreRightTogether : LayoutValue → (ℕ → Database) → List Step → Type 0
+AreRightTogether p bases [] = Unit {0}
+AreRightTogether p bases (step ∷ steps) =
+    IsRightLine p step.stream (bases step.stream) step.line
+    × AreRightTogether p (after_step p step bases) steps
+
+-- the lines of one stream, in order
+abbrev pub lines_by : ℕ → List Step → List StreamLine
+lines_by s [] = []
+lines_by s (step ∷ steps) =
+    if step.stream == s then step.line ∷ lines_by s steps else lines_by s steps
+
+-- This order of lines shows that its streams are right together: each line has a text within the limits, and is right.
+pub record IsRightOrder (f : Cnf) (p : LayoutValue) (steps : List Step) : Type 0 where
+  pub streams : AllByRecursion (λ step. IsStream p step.stream) steps
+  pub fits : AllByRecursion (λ step. IsWithinLimits step.line) steps
+  pub right : AreRightTogether p (λ t. first_database f p) steps
+
+-- the readers of the set have the texts of its streams' lines left at first, and nothing else
+abbrev pub HaveTexts : (ℕ → Bool) → List Step → List Telling → Type 0
+HaveTexts set steps told =
+    (t : ℕ) (telling : Telling) → IsTrue (set t) → IsOfStream told t telling
+    → telling.entry ≡ Some (flat_map line_text (lines_by t steps))
+
+-- Where lines of a set of streams have a right order, then in every run of these streams each ended, as its right report says; or
+-- memory ran out, or a read failed; or a line of it cites a clause of another stream that wasn't there, or wasn't any more. Whatever
+-- the streams outside the set are.
+abbrev pub RightTogether : Type 0
+RightTogether = (f : Cnf) (terms : TermsValue) (set : ℕ → Bool) (steps : List Step)
+    (told : List Telling) (reports : List Report) (s : ℕ) (report : Report)
+    → IsCnf f → Fits terms.layout f → IsRightOrder f terms.layout steps
+    → AllByRecursion (λ step. IsTrue (set step.stream)) steps
+    → IsRun f terms told reports → HaveTexts set steps told
+    → IsTrue (set s) → IsOfStream reports s report
+    → ¬ IsOfMemory report → ¬ IsOfFailure report
+    → (report ≡ right_report terms s (lines_by s steps))
+    ⊎ LacksOfAnother (setting_of terms s) report

@@ -1,0 +1,121 @@
+//! Laws of right streams. Each function does nothing; its contract is the law, which holds of every formula, layout, stream and run.
+ghost use Rattle.run_laws.specs.Blame.{NoFalseBlame};
+ghost use Rattle.run_laws.specs.Together.{RightTogether};
+ghost use Rattle.run_laws.specs.RightLaws.{RightCiteWithin, RightAccepted, RightHasOneReport, RightReported, RightCounted, EndedIsRight, RightEmpty};
+
+use crate::groups::{alone_has_one_report, beginnings_within, closed_is_group, readers_closed};
+use lrup_model::laws::propagation_sound;
+use lrup_text::laws::{
+    a_refused_text_holds_no_line, a_stream_is_cut_in_one_way, a_text_has_one_fault,
+    bytes_begin_with_one_line, no_bytes_have_no_lines, no_bytes_may_become_a_line,
+};
+use stream_check::laws::{
+    alone_decides, cited_fetched, counts_within, decided_before_failure, end_judged, fresh_left,
+    good_exactly_if, good_line_taken, over_stays,
+};
+
+/// A right stream cites only its own clauses and the formula's.
+pub fn right_cite_within()
+    ensures { RightCiteWithin }
+{
+    no_bytes_have_no_lines();
+}
+
+/// Alone, a right stream may have the report that it ended, with its additions and deletions counted.
+pub fn right_accepted()
+    ensures { RightAccepted }
+{
+    good_exactly_if();
+    propagation_sound();
+    good_line_taken();
+    fresh_left();
+    end_judged();
+    no_bytes_have_no_lines();
+    a_stream_is_cut_in_one_way();
+}
+
+/// Alone, a right stream has no other report.
+pub fn right_has_one_report()
+    ensures { RightHasOneReport }
+{
+    right_accepted();
+    alone_has_one_report();
+}
+
+/// In every run a right stream has this report, unless memory ran out or a read failed.
+pub fn right_reported()
+    ensures { RightReported }
+{
+    good_exactly_if();
+    propagation_sound();
+    good_line_taken();
+    fresh_left();
+    end_judged();
+    no_bytes_have_no_lines();
+    a_stream_is_cut_in_one_way();
+    right_cite_within();
+    beginnings_within();
+    closed_is_group();
+    alone_decides();
+    decided_before_failure();
+}
+
+/// Of the identities that a right stream deletes all are counted.
+pub fn right_counted()
+    ensures { RightCounted }
+{
+    good_exactly_if();
+    propagation_sound();
+    good_line_taken();
+    fresh_left();
+    end_judged();
+    no_bytes_have_no_lines();
+    a_stream_is_cut_in_one_way();
+    counts_within();
+}
+
+/// A stream that cites, imports and deletes only its own clauses and the formula's, and that may end alone, is right.
+pub fn ended_is_right()
+    ensures { EndedIsRight }
+{
+    good_exactly_if();
+    over_stays();
+    a_stream_is_cut_in_one_way();
+    no_bytes_have_no_lines();
+}
+
+/// The report of a right stream says 'empty' exactly if some line adds the empty clause.
+pub fn right_empty()
+    ensures { RightEmpty }
+{}
+
+/// Where some legal history judges a closed set of streams, all of which ended, each has the same report in every run of the same
+/// bytes, unless memory ran out or a read failed; or a line of it cites a clause of another stream that wasn't there, or wasn't any
+/// more.
+pub fn no_false_blame()
+    ensures { NoFalseBlame }
+{
+    good_exactly_if();
+    bytes_begin_with_one_line();
+    a_refused_text_holds_no_line();
+    a_text_has_one_fault();
+    no_bytes_may_become_a_line();
+    cited_fetched();
+    decided_before_failure();
+    readers_closed();
+}
+
+/// Where lines of a set of streams have a right order, each stream of the set ended in every run, as its right report says, unless
+/// memory ran out or a read failed; or a line of it cites a clause of another stream that wasn't there, or wasn't any more.
+pub fn right_together()
+    ensures { RightTogether }
+{
+    good_exactly_if();
+    propagation_sound();
+    good_line_taken();
+    fresh_left();
+    end_judged();
+    no_bytes_have_no_lines();
+    a_stream_is_cut_in_one_way();
+    no_false_blame();
+}
