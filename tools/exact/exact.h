@@ -73,7 +73,7 @@ bool line_is_text(Line line);
 // clauses.c: clauses in one row, by places in it, the names that the proof has for them, and deletion by literals.
 typedef uint32_t Place;                 // 0: none
 
-enum { DEAD = 1, TAUTOLOGY = 2 };
+enum { DEAD = 1, TAUTOLOGY = 2, AGE = 4, RECENT = 3 * AGE };     // a clause is recent while one of these bits is set
 
 typedef struct {
     uint64_t identity;                  // in the stream
@@ -110,6 +110,7 @@ void clauses_keep_sets(Clauses *clauses);       // of those that are there, too
 void clauses_keep_set(Clauses *clauses, Place place);
 Place clauses_take_set(Clauses *clauses, const Literal *literals, size_t length, const unsigned char *marks);
 void clauses_delete(Clauses *clauses, Place place);
+void clauses_age(Clauses *clauses);
 uint64_t *clauses_begin_move(Clauses *clauses);         // to a new row, without the dead; the old one is returned
 Place clauses_moved(const uint64_t *old, Place place);  // 0 for a dead one
 void clauses_end_move(Clauses *clauses, uint64_t *old);
@@ -126,9 +127,10 @@ typedef struct {
     Place *reasons;             // by variable
     uint32_t *positions;        // by variable, on the trail
     unsigned char *seen;        // by variable, while a conflict is traced
-    Watches *watches;           // by literal
+    Watches *watches[2];        // by literal: those of clauses that were needed of late, and of the others
     Literals trail;             // the true ones, in order; at first those that are true for good
-    size_t propagated, root;
+    size_t propagated[2], root;     // how far each of the two has come on the trail
+    size_t chains;                  // since clauses aged
     Places waiting;             // clauses that nobody has looked for yet
     bool used;
     Place conflict;             // one without an assumption

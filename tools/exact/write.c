@@ -33,11 +33,15 @@ static void make_room(size_t bytes) {
     }
 }
 
-// The digits are copied with some bytes after them: a length that is known takes fewer steps.
+#define TENS(ten) ten "0" ten "1" ten "2" ten "3" ten "4" ten "5" ten "6" ten "7" ten "8" ten "9"
+static const char pairs[] = TENS("0") TENS("1") TENS("2") TENS("3") TENS("4") TENS("5") TENS("6") TENS("7") TENS("8") TENS("9");
+
+// Two digits at a time. They are copied with some bytes after them: a length that is known takes fewer steps.
 static inline void put_number(uint64_t number, bool negative, char after) {
     char digits[2 * LONGEST], *end = digits + LONGEST, *at = end;
     *--at = after;
-    do *--at = (char)('0' + number % 10); while ((number /= 10) > 0);
+    for (; number > 9; number /= 100) memcpy(at -= 2, pairs + 2 * (number % 100), 2);
+    if (number > 0 || at == end - 1) *--at = (char)('0' + number);
     if (negative) *--at = '-';
     if (capacity - used < LONGEST) make_room(LONGEST);
     memcpy(buffer + used, at, LONGEST);
