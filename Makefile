@@ -7,12 +7,16 @@ PROGRAM := crates/lrupd/out/lrupd
 LOG := crates/lrupd/out/build.log
 SOLVER := examples/solver/out/solver
 EXACT := tools/exact/out/exact
+SOLVE := tools/solve/out/lrup-solve
+SOLVE_FLAGS ?= -O2
+# What of the filter is part of lrup-solve.
+FILTER := $(addprefix tools/exact/,binary.c clauses.c filter.c formula.c hints.c input.c others.c propagation.c words.c write.c)
 FORMULA ?= examples/bmc.cnf
 STREAMS ?= $(addprefix examples/bmc-four.,1 2 3 4)
 OPTIONS ?= --tries 1000000
 
-.PHONY: run build install examples live demo solver exact solver-test filter-test neighbours sweep leaks instructions audit pages \
-    test toolchain c-and-python
+.PHONY: run build install examples live demo solver exact solve solver-test filter-test solve-test neighbours sweep leaks \
+    instructions audit pages test toolchain c-and-python libcadical
 
 # Builds the proved program and runs it on an example, or on files of one's own:
 #     make run FORMULA=path/to/formula.cnf STREAMS="path/to/stream1 path/to/stream2"
@@ -28,12 +32,15 @@ build: toolchain
 	@set -o pipefail; cd crates/lrupd && $(RT) run -- "$(abspath examples/four-clause.cnf)" "$(abspath examples/four-clause.lrup)" \
 	2>&1 | sh $(abspath gate/progress.sh) $(abspath $(LOG)) || { cat $(abspath $(LOG)); exit 1; }
 
-# The program, and the filter as lrup-exact, with their manual pages, below PREFIX.
+# The program, the filter as lrup-exact, and lrup-solve where CaDiCaL's library is there, with their manual pages, below PREFIX.
 install: build exact
 	install -d "$(DESTDIR)$(PREFIX)/bin" "$(DESTDIR)$(PREFIX)/share/man/man1"
 	install -m 755 $(PROGRAM) "$(DESTDIR)$(PREFIX)/bin/lrupd"
 	install -m 755 $(EXACT) "$(DESTDIR)$(PREFIX)/bin/lrup-exact"
 	install -m 644 docs/lrupd.1 docs/lrup-exact.1 "$(DESTDIR)$(PREFIX)/share/man/man1"
+	@if $(MAKE) -s solve; then \
+	install -m 755 $(SOLVE) "$(DESTDIR)$(PREFIX)/bin/lrup-solve" && \
+	install -m 644 docs/lrup-solve.1 "$(DESTDIR)$(PREFIX)/share/man/man1"; else echo "lrup-solve isn't installed"; fi
 
 # What the program writes on standard output and standard error, and its status, on the examples and on some hundred small runs;
 # two groups of streams, checked apart; and whether README, USING, the manual page and --help say the same.
@@ -60,6 +67,14 @@ exact: c-and-python
 	@mkdir -p $(dir $(EXACT))
 	@$(CC) -std=c11 -O2 -Wall -Wextra -o $(EXACT) tools/exact/*.c
 
+# From a formula to a proved verdict: engines of CaDiCaL that share clauses, each with a filter, and lrupd. Neither verified nor trusted.
+# lrupd is looked for beside it.
+solve: c-and-python libcadical
+	@mkdir -p $(SOLVE).objects
+	@cd $(SOLVE).objects && $(CC) -std=c11 -D_GNU_SOURCE $(SOLVE_FLAGS) -Wall -Wextra -c $(abspath tools/solve/filtering.c $(FILTER))
+	@$(CXX) -std=c++17 $(SOLVE_FLAGS) -Wall -Wextra -o $(SOLVE) tools/solve/*.cpp $(SOLVE).objects/*.o -lcadical
+	@ln -sf $(abspath $(PROGRAM)) $(dir $(SOLVE))lrupd
+
 # The solver's streams, and those that the filter for inexact proofs makes.
 solver-test: build solver
 	@python3 examples/solver/test.py $(PROGRAM) $(SOLVER)
@@ -67,6 +82,10 @@ solver-test: build solver
 # The filter for inexact proofs, with the solvers that are on the PATH, and 10,000 mutated proofs.
 filter-test: build exact
 	@python3 tools/test.py $(PROGRAM) && python3 tools/mutate.py $(PROGRAM)
+
+# lrup-solve, with all that may happen to it; without CaDiCaL's library nothing is run.
+solve-test: build c-and-python
+	@python3 tools/solve_test.py $(PROGRAM)
 
 # A good proof beside hostile streams: what is said of it never changes.
 neighbours: build c-and-python
@@ -96,15 +115,16 @@ pages: c-and-python
 
 # The whole gate: the pages; every proof from nothing, each edit that must be refused, each test, and the program as two compilers
 # build it; then, with the program that was built there, the examples, the live run, the solver's streams and the filter's, mutated
-# proofs, a proof beside hostile streams, each call of the system refused in turn, of the program and of tests, memory given back,
+# proofs, lrup-solve, a proof beside hostile streams, each call of the system refused in turn, of the program and of tests, memory given back,
 # and the instructions that lines take. The last line is rt's own, 'N passed, M failed'.
 test: SHELL := /bin/bash
 test: toolchain pages solver exact
 	@set -o pipefail; log=$$(mktemp); trap 'rm -f "$$log"' EXIT; \
 	$(RT) ci | tee "$$log" && sh examples/compare.sh $(PROGRAM) && sh examples/groups.sh $(PROGRAM) && \
 	sh examples/words.sh $(PROGRAM) && sh examples/live.sh $(PROGRAM) && python3 examples/solver/test.py $(PROGRAM) $(SOLVER) && \
-	python3 tools/test.py $(PROGRAM) && python3 tools/mutate.py $(PROGRAM) && python3 examples/neighbours.py $(PROGRAM) && \
-	python3 gate/sweep.py $(PROGRAM) $(RT) && sh gate/leaks.sh $(PROGRAM) && python3 gate/instructions.py $(PROGRAM) && \
+	python3 tools/test.py $(PROGRAM) && python3 tools/mutate.py $(PROGRAM) && python3 tools/solve_test.py $(PROGRAM) && \
+	python3 examples/neighbours.py $(PROGRAM) && python3 gate/sweep.py $(PROGRAM) $(RT) && sh gate/leaks.sh $(PROGRAM) && \
+	python3 gate/instructions.py $(PROGRAM) && \
 	tail -n 1 "$$log"
 
 toolchain:
@@ -113,3 +133,9 @@ toolchain:
 c-and-python:
 	@for command in $(firstword $(CC)) python3; do command -v $$command > /dev/null || \
 	{ echo "make demo and make test need a C compiler and Python 3: no command '$$command' is on the PATH"; exit 1; }; done
+
+libcadical:
+	@command -v $(firstword $(CXX)) > /dev/null || \
+	{ echo "make solve needs a C++ compiler: no command '$(firstword $(CXX))' is on the PATH"; exit 1; }
+	@$(CXX) -E -x c++ -include cadical.hpp /dev/null > /dev/null 2>&1 || \
+	{ echo "make solve needs CaDiCaL as a library: in Debian the package libcadical-dev"; exit 1; }
