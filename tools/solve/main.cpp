@@ -65,6 +65,14 @@ std::string grouped(uint64_t number) {
     return digits;
 }
 
+// For a shell.
+std::string quoted(const std::string &word) {
+    if (word.find_first_not_of("abcdefghijklmnopqrstuvwxyzABCDEFGHIJKLMNOPQRSTUVWXYZ0123456789-_./+=,:@%") == std::string::npos) return word;
+    std::string text = "'";
+    for (char letter : word) text += letter == '\'' ? std::string("'\\''") : std::string(1, letter);
+    return text + "'";
+}
+
 template <typename Item> Item *shared_memory(size_t count) {
     size_t bytes = std::max<size_t>(count, 1) * sizeof(Item);
     void *memory = mmap(nullptr, bytes, PROT_READ | PROT_WRITE, MAP_SHARED | MAP_ANONYMOUS | MAP_NORESERVE, -1, 0);
@@ -447,12 +455,12 @@ void Run::start_checker(Row wanted) {
     std::vector<std::string> words = row_words(row);
     if (options.assume) words.insert(words.end(), { "--assume", assume_path });
     command = "lrupd";
-    for (const std::string &word : words) command += " " + word;
-    command += " " + formula_path;
+    for (const std::string &word : words) command += " " + quoted(word);
+    command += " " + quoted(formula_path);
     if (options.verbose) words.push_back("--watch");
     words.push_back(formula_path);
     std::vector<int> files;
-    for (size_t k = 0; k < teams.size(); k++) files.push_back(teams[k].stream), command += " " + stream_path(k);
+    for (size_t k = 0; k < teams.size(); k++) files.push_back(teams[k].stream), command += " " + quoted(stream_path(k));
     checker.start(checker_program, words, copies, files);
     if (options.verbose) tell(command);
 }
