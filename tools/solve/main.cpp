@@ -29,8 +29,9 @@ namespace {
 
 const int PROOF_PIPE = 1 << 16;
 const uint64_t MOST_WORDS = UINT64_C(1) << 28;      // of a row
-const uint64_t FIRST_WORDS = UINT64_C(1) << 24;     // of the first row's streams
-const double FILLED = 0.6;                          // of that row, and a larger one is made
+const uint64_t FIRST_WORDS = UINT64_C(1) << 23;     // of the first row's streams
+const uint64_t GROWTH = 4;                          // from row to row
+const double FILLED = 0.6;                          // of a row, and a larger one is made
 const double SHORT_RUN = 0.3;                       // seconds, before the first one is
 const double ENDING = 10;                           // seconds that a filter has for the line that it is at
 const uint64_t LONGEST_LINE = 65535;                // literals
@@ -73,6 +74,10 @@ std::string quoted(const std::string &word) {
     return text + "'";
 }
 
+bool is_filled(const Row &row, const Row &needed) {
+    return double(needed.lines) > FILLED * double(row.lines) || double(needed.room) > FILLED * double(row.room);
+}
+
 template <typename Item> Item *shared_memory(size_t count) {
     size_t bytes = std::max<size_t>(count, 1) * sizeof(Item);
     void *memory = mmap(nullptr, bytes, PROT_READ | PROT_WRITE, MAP_SHARED | MAP_ANONYMOUS | MAP_NORESERVE, -1, 0);
@@ -96,6 +101,7 @@ private:
     std::vector<Team> teams;
     Checker probe, checker;
     Row row = { 0, 0 };
+    uint64_t words_of_row = 0;          // for each stream
     Phase phase = SOLVING;
     Answer answer = UNKNOWN_ANSWER;
     std::string cause;
@@ -432,14 +438,16 @@ Row Run::fitted_row(uint64_t words) const {
     return split(words, std::min(200.0, std::max(2.0, average)));
 }
 
+// The first row, or a larger one where that fills up. What a stream has so far is checked again.
 void Run::look_at_row() {
     if (is_last_row || now() - started < SHORT_RUN) return;
     Row needed = needed_row();
+    if (checker.child.pid && !is_filled(row, needed)) return;
     const char *given = test_word("LRUP_SOLVE_FIRST_WORDS");
     uint64_t most = words_of_a_stream(), first = (given ? strtoull(given, nullptr, 10) : FIRST_WORDS) / teams.size();
-    if (!checker.child.pid && first < most) return start_checker(fitted_row(first));
-    bool filled = double(needed.lines) > FILLED * double(row.lines) || double(needed.room) > FILLED * double(row.room);
-    if (checker.child.pid && !filled) return;
+    do words_of_row = words_of_row > 0 ? GROWTH * words_of_row : first + 1;
+    while (words_of_row < most && is_filled(fitted_row(words_of_row), needed));
+    if (words_of_row < most) return start_checker(fitted_row(words_of_row));
     // A filter may be at a line for which it has asked the old sizes.
     Row largest = fitted_row(most);
     if (largest.lines > needed.lines + 1 && largest.room > needed.room + LONGEST_LINE) {
