@@ -11,8 +11,17 @@ FORMULA ?= examples/bmc.cnf
 STREAMS ?= $(addprefix examples/bmc-four.,1 2 3 4)
 OPTIONS ?= --tries 1000000
 
-.PHONY: run build install examples live demo solver exact solver-test filter-test neighbours sweep leaks instructions audit pages \
+.PHONY: try run build install examples live demo solver exact solver-test filter-test neighbours sweep leaks instructions audit pages \
     test toolchain c-and-python
+
+# The program before anything is proved, on the example of `make run` or on files of one's own. rt's lines about the try are left out.
+try: toolchain
+	@log=$$(mktemp); trap 'rm -f "$$log"' EXIT; status=0; cd crates/lrupd && $(RT) try -- \
+	$(foreach word,$(OPTIONS) $(FORMULA) $(STREAMS),$(or $(realpath $(word)),$(word))) < /dev/null 2> "$$log" || status=$$?; \
+	grep -q '^run=ended ' "$$log" || { cat "$$log"; exit 1; }; \
+	grep -v '^checked: \|^races: \|^run=' "$$log" >&2; \
+	echo "status $$status, not proved: make run proves it"; \
+	case $$status in 0|3|8) ;; *) exit $$status ;; esac
 
 # Builds the proved program and runs it on an example, or on files of one's own:
 #     make run FORMULA=path/to/formula.cnf STREAMS="path/to/stream1 path/to/stream2"
