@@ -5,8 +5,8 @@
 
 It lists names in backticks, in the documents, that don't exist; lines of clauses and of definitions beyond 100 columns; lemmas
 that are stated twice; names that mean one thing in one crate and another in another; where the picture of the crates isn't what
-crates.txt says; and targets of the Makefile that CONTRIBUTING doesn't tell as `make help` does. The last line has the counts, and
-the status is 1 where one of them isn't 0.
+crates.txt says; targets of the Makefile that CONTRIBUTING doesn't tell as `make help` does; and whether the logic of README is the
+one of the `rt` on the PATH, if there is one. The last line has the counts, and the status is 1 where one of them isn't 0.
 
 A name in backticks is looked for in the code, the definitions and proofs, the scripts, and the names of files; of `Type::call`
 and `Module.name` the pair. Where several words stand in backticks, a name is one with an underscore, a capital within or `::`, an
@@ -14,6 +14,7 @@ option or a path.
 """
 import os
 import re
+import shutil
 import subprocess
 import sys
 from collections import defaultdict
@@ -217,6 +218,18 @@ def untold_targets():
         yield f"{shown(page)}: the lines of make help stand in another order"
 
 
+# The logic that all is proved in.
+
+
+def other_logics():
+    """The logic's number in README, where `rt version` has another one."""
+    if shutil.which("rt"):
+        says = subprocess.run(["rt", "version"], capture_output=True, text=True, check=True).stdout.strip()
+        told = re.search(r"`rattle-kit-\w+ (logic \w+)`", (ROOT / "README.md").read_text())
+        if not told or not says.endswith(told[1]):
+            yield f"README.md: rt version says '{says}'"
+
+
 # Names in backticks.
 
 
@@ -327,7 +340,7 @@ def main():
     checks = [("names in backticks that don't exist", unknown_names), ("lines of clauses too wide", wide_clauses),
               ("lines of definitions too wide", wide_definitions), ("statements of lemmas more than once", repeated_statements),
               ("names with two meanings", names_with_two_meanings), ("arrows that are wrong", wrong_arrows),
-              ("lines of make help told otherwise", untold_targets)]
+              ("lines of make help told otherwise", untold_targets), ("logics told otherwise", other_logics)]
     counts = []
     for what, check in checks:
         found = list(check())
