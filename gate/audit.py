@@ -735,6 +735,7 @@ TRUST = """## What one has to trust
 GLOSSES = """
 `AllByRecursion P xs` P of each element
 `AllZip R xs ys` R of the elements at each place of the two lists, which are equally long
+`Any P xs` P of some element
 `App` a command of `clap`: what it takes itself, `top`, and its subcommands, `subs`
 `Append` each use of the argument adds to its values
 `Consumes old new bs` if `old` is `Some xs`, `new` is `Some ys`, and xs is `bs ++ ys`; of `None` it says nothing
@@ -803,7 +804,7 @@ RUNS_TOP = f"""# What there is to believe: whole runs
 
 {MADE}
 
-Three passages of [README](../README.md) on whole runs: of each phrase the clause, the law and the definition that carry it;
+Four passages of [README](../README.md) on whole runs: of each phrase the clause, the law and the definition that carry it;
 then the contracts, the laws, and all definitions under them, each after one that uses it. What stands on [AUDIT](AUDIT.md) isn't
 repeated but for `Source`, which has more members here: formulas, assignments, clauses and literals, [how to read it](AUDIT.md#how-to-read-it), and
 [what one has to trust](AUDIT.md#what-one-has-to-trust).
@@ -882,6 +883,10 @@ HEADLINE_PHRASES = [
      PassMoves jobs.pass.view found.pass.view (joined blocks)]]. That a pass can't be made or copied otherwise is by its fields,
      which are private."""),
     ("the rest is one of the run", "[[fn run.history+reports+sound+sound_under]]."),
+    ("sequentially consistent", """Lamport's condition, which two phrases above have: [[HaveOneHistory: legal : IsLegal f p h]],
+     and for each stream [[HaveOneHistory: v.mine ≡ own h s]]."""),
+    ("no contract speaks of real time", """an [[Event]] has a stream, an identity, the clause of a publish and a reply, but no
+     moment. The calls of two streams are ordered by legality, and by what a pass had seen."""),
 ]
 
 ISOLATION_TOP = """## Groups of streams are isolated
@@ -943,6 +948,56 @@ publishes the empty clause exactly if a report has it, and a clause within the c
 terms.cube (events_in order.blocks) reports]]. The run's verdict is [[fn run.verdict: outcome.verdict ≡ verdict_of
 outcome.reports.items]]."""
 
+RIGHT_TOP = """## Right proofs are accepted
+
+The three theorems above say what holds of the reports that came. These laws say which reports come: they begin at the bytes, and
+know no events. Each is the contract of a function without a body, and holds of every formula, layout, stream and run."""
+
+RIGHT_PHRASES = [
+    ("if its bytes are lines of which", """[[IsRightStream: text : bytes ≡ flat_map line_text lines]], each within the limits,
+     [[IsRightStream: fits : AllByRecursion IsWithinLimits lines]]."""),
+    ("each is right by those before it", """[[AreRight: IsRightLine p s base line × AreRight p s (after_line base line) lines]]: by
+     the [[Database]] that those before it left, from the formula's clauses on ([[first_database]])."""),
+    ("as LRAT has it", """whether the definitions are LRAT's, without RAT steps, is for a reader to judge: clauses are put into the
+     database and taken away by identity ([[after_line]]). Identities by turns, room and imports are this project's own."""),
+    ("the next identity of its own or a later one", """[[IsRightAddition: owns : Owns p s id]], and [[IsRightAddition: above :
+     base.last < id]]."""),
+    ("variables of the formula, room", """[[IsRightAddition: literals : AllByRecursion (λ l. nat_abs l ≤ p.vars) lits]], and
+     [[IsRightAddition: room : length (distinct lits) ≤ base.free]]; what is deleted gives no room back."""),
+    ("hints whose clauses are there and show its clause", """[[IsRightAddition: named : AllZip (λ h d. base.clauses h ≡ Some d)
+     hints hinted]], and [[IsRightAddition: shown : Accepts (distinct lits) hinted]]: no tautology, and with its literals false the
+     clauses but the last become unit in turn, and the last a conflict ([[Accepts]])."""),
+    ("what a deletion or an import names is there", """[[IsRightDeletion: there : AllByRecursion (λ id. IsSome (base.clauses id))
+     ids]], each once; [[IsRightImport: there : base.clauses id ≡ Some clause]], of another stream or the formula, with the same
+     literals."""),
+    ("In every run a right stream ends, with its lines counted", """the law [[law right_reported]], [[RightReported: report ≡
+     right_report terms s lines]], of the reports of [[fn run]] and of [[fn run_serial]] ([[IsRun]]). Alone it has this
+     report, and no other, by the laws [[law right_accepted]] and [[law right_has_one_report]]; all that it deletes is counted, by
+     the law [[law right_counted]], and 'empty' is told exactly if a line adds the empty clause, by the law [[law right_empty]]."""),
+    ("unless memory ran out or a read failed", "[[RightReported: ¬ IsOfMemory report → ¬ IsOfFailure report]]."),
+    ("that cite, import and delete only their own clauses and the formula's", """[[EndedIsRight: CiteWithin terms.layout (one s)
+     bytes → DeleteWithin terms.layout (one s) bytes]]. A right stream cites so by the law [[law right_cite_within]]. A checker takes
+     a deletion of what another stream never had, which is no right line."""),
+    ("alone no other ends", """the law [[law ended_is_right]], [[EndedIsRight: (lines : List StreamLine) × IsRightStream f terms.layout s
+     bytes lines]]."""),
+    ("the lines of several streams have an order in which each is right", """[[IsRightOrder: right : AreRightTogether p (λ t.
+     first_database f p) steps]]: each stream has a database of its own, and another's addition puts its clause there too
+     ([[beside_line]])."""),
+    ("each stream ends so, or a line of it cites a clause of another stream that wasn't there, or wasn't any more", """the law [[law
+     right_together]], [[RightTogether: (report ≡ right_report terms s (lines_by s steps)) ⊎ LacksOfAnother (setting_of terms s)
+     report]]. No order is needed where some legal history judges them and all ended: the law [[law no_false_blame]]."""),
+    ("With a right refutation among its streams", """[[AskForRightRefutation: right : IsRightRefutation asks.formula (layout_at
+     asks.given asks.formula) s bytes]]: the words have no fault and a layout, the files tell a formula and assumptions without fault
+     ([[AskWell]]), and the file of one stream a right stream, of which some line adds the empty clause."""),
+    ("the program ends with status 0", """the law [[law right_refutation_says]], [[RightRefutationSays: (status ≡ 0) ⊎ IsExcused R files
+     words s IsCutOff out status]], of all that `command` may do by its clause `ends`. For streams whose lines have a right order
+     the law [[law right_order_says]]."""),
+    ("or with 7; or with 5 or 6, for a fault of the machine", """[[IsExcused: unwritten : (failed : out.failed ≡ true)]];
+     [[IsExcused: machine : IsOfMachine fault]]."""),
+    ("with 3 or 8, and then memory ran out in that stream or a read of it failed", """[[IsExcused: (why : Lost report)]], with
+     [[IsCutOff: IsOfMemory report ⊎ IsOfFailure report]]."""),
+]
+
 RUNS_HOW = """## How to read it
 
 As [on AUDIT](AUDIT.md#how-to-read-it); and besides:
@@ -967,10 +1022,16 @@ it promises nothing."""
 
 STORE_LAWS = [f"lrup_model/src/laws.rt: {name}" for name in "entries_advance known_stays pass_tells".split()]
 GROUP_LAWS = [f"run_laws/src/groups.rt: {name}" for name in "others_empty same_reading_agrees same_bytes_agree".split()]
+RIGHT_LAWS = [f"run_laws/src/right.rt: {name}" for name in """right_reported right_accepted right_has_one_report right_counted
+    right_empty right_cite_within ended_is_right right_together no_false_blame""".split()]
+PROGRAM_LAWS = [f"outcome_laws/src/laws.rt: {name}" for name in "right_refutation_says right_order_says".split()]
 
 LAWS = """## The laws
 
 Each is the contract of a function that does nothing, and holds of every formula, layout and history."""
+
+PROGRAM = """And of the program. What an outcome is, a cause, and what goes out, is linked to in `command`, and not repeated here:
+[DEFINITIONS](DEFINITIONS.md#12-command-a-run-of-the-program) has it in a table."""
 
 RUNS_LIBRARIES = """## What the libraries define
 
@@ -1014,36 +1075,52 @@ def runs_page(audit):
     store = [Contract(f"clause_store/src/store.rt: Store::{call}") for call in calls]
     asked = [Contract("portfolio/src/options.rt: Options::new"), Contract("dimacs/src/lib.rt: parse", ["formula"]),
              Contract("lrup_text/src/cube.rt: read_cube"), Contract("lrup_model/src/cube.rt: Cube::of")]
-    store_laws, group_laws = [Law(place) for place in STORE_LAWS], [Law(place) for place in GROUP_LAWS]
+    lists = STORE_LAWS, GROUP_LAWS, RIGHT_LAWS, PROGRAM_LAWS
+    store_laws, group_laws, right_laws, program_laws = ([Law(place) for place in places] for places in lists)
     texts = [phrase_by_phrase(sentence("The headline."), HEADLINE_PHRASES),
              phrase_by_phrase(sentence("Groups of streams are isolated."), ISOLATION_PHRASES),
-             phrase_by_phrase(sentence("Lines are serializable."), SERIALIZABLE_PHRASES)]
+             phrase_by_phrase(sentence("Lines are serializable."), SERIALIZABLE_PHRASES),
+             phrase_by_phrase(sentence("Right proofs are accepted."), RIGHT_PHRASES)]
     traits = [whole(rust_type("lrup_text", "Source")), rust_type("stream_check", "Gate")]
     placed = {thing.key(): thing for thing in [*audit.things, *traits]}
+    linked = [thing for thing in closure(of_all(program_laws)) if thing.key() not in placed and is_linked(thing)]
+    placed.update({thing.key(): thing for thing in linked})
     told = "\n".join(phrases for _, phrases in texts)
-    of = lambda *contracts: [thing for contract in contracts for thing in contract.used()[0]]
+    of = lambda *contracts: of_all(contracts)
     sections = {
         "the history": run.named_by(["history"]), "the calls of the store": of(*store, *store_laws),
         "the reports": run.named_by(["reports"]), "isolated groups": run.named_by(["isolated", "alone"]) + of(*group_laws),
-        "serializable lines": run.named_by(["serializable"]),
+        "serializable lines": run.named_by(["serializable"]), "right proofs": of(*right_laws),
+        "the program": [thing for thing in of(*program_laws) if thing.crate == "outcome_laws"],
         "the rest": of(run, serial, *asked)}
     blocks = []
     for title, roots in sections.items():
         blocks += [f"## Definitions: {title}", *top_down(by_mention(roots, told), placed)]
-    things = [run, serial, *store, *asked, *traits, *store_laws, *group_laws, *blocks]
+    things = [run, serial, *store, *asked, *traits, *store_laws, *group_laws, *right_laws, *program_laws, *blocks]
     things = [thing for thing in things if not isinstance(thing, str)]
     count = f"{len(definitions_of(things))} definitions stand here; they use {len(definitions_of(shared(things, audit)))} of AUDIT."
     blocks = [
         RUNS_TOP, *texts[0], ISOLATION_TOP, *texts[1], SERIALIZABLE_TOP, *texts[2], SERIALIZABLE_VERDICT,
-        RUNS_HOW.replace("{constructors}", constructors(things)).replace("{twins}", twins(things)).strip(),
-        CONTRACTS, run, serial, CALLS, *store, ASKED, *traits, *asked, LAWS, *store_laws, *group_laws, count, *blocks,
+        RIGHT_TOP, *texts[3], RUNS_HOW.replace("{constructors}", constructors(things)).replace("{twins}", twins(things)).strip(),
+        CONTRACTS, run, serial, CALLS, *store, ASKED, *traits, *asked, LAWS, *store_laws, *group_laws,
+        *right_laws, PROGRAM, *program_laws, count, *blocks,
         RUNS_LIBRARIES, libraries(things, [audit])]
     below = Contract("stream_threads/src/joining.rt: check_all", ["found"])
     blocks[0] = RUNS_TOP.replace("{contents}", contents(blocks))
     finishes = specs("stream_threads", "Jobs").definitions["Finishes"]
-    page = Page("AUDIT-RUNS.md", blocks, other=audit, cited=[below, finishes])
+    page = Page("AUDIT-RUNS.md", blocks, other=audit, cited=[below, finishes, *linked])
     page.run = run
     return page
+
+
+def of_all(contracts):
+    """What the contracts name."""
+    return [thing for contract in contracts for thing in contract.used()[0]]
+
+
+def is_linked(thing):
+    """Whether the page on runs links to it in the sources: what the program's outcomes and causes are."""
+    return thing.crate in ("command", "command_line", "dimacs") or thing.name in ("IsCubeFault", "CubeFault")
 
 
 def shared(things, page):
