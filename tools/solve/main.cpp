@@ -280,6 +280,7 @@ void Run::start_team(size_t k) {
     if (begin(team.engine, "engine " + title, { team.proof.write })) {
         std::vector<const uint32_t *> outboxes;
         for (const Team &other : teams) outboxes.push_back(other.outbox);
+        if (!options.verbose) dup2(open("/dev/null", O_WRONLY), STDERR_FILENO);     // CaDiCaL's last words
         engine_process({ &options, &formula, &assumed, shared, outboxes.data(), team.model, number, team.proof.write });
     }
     close_file(team.proof.read);
