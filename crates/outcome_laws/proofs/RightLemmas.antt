@@ -125,9 +125,9 @@ machine_status (faults.Ring stream) is = inr refl
 machine_status faults.Memory is = inr refl
 machine_status faults.Unwritten is = absurd is
 
--- the identity is another stream's than s
-abbrev owner_is_foreign : LayoutValue → ℕ → ℕ → Type 0
-owner_is_foreign p s id = side_of (setting_of (record { layout = p; cube = []; tries = 0 }) s) id ≡ sides.Foreign
+-- another stream than s owns the identity
+abbrev IsAnothers : LayoutValue → ℕ → ℕ → Type 0
+IsAnothers p s id = side_of (setting_of (record { layout = p; cube = []; tries = 0 }) s) id ≡ sides.Foreign
 
 -- A report of 'empty' comes to 'unsatisfiable'
 comes_to : (reports : List Report) (verdict : Verdict) (s : ℕ) (report : Report) → verdict ≡ verdict_of reports → IsOfStream reports s report → report.empty ≡ true
@@ -236,7 +236,7 @@ module _ (one_formula : OneFormula) (serial : SerialRun) (alike : SameWordsAskAl
               | inr lacks ↦ inr (
                 report.0,
                 report.1,
-                inr (lacks.0, lacks.1, subst (λ (p : LayoutValue). owner_is_foreign p s lacks.1) (sym is.layouts) lacks.2, lacks.3),
+                inr (lacks.0, lacks.1, subst (λ (p : LayoutValue). IsAnothers p s lacks.1) (sym is.layouts) lacks.2, lacks.3),
               )
             ]
       ]

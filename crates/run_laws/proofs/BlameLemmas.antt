@@ -32,7 +32,7 @@ use Rattle.stream_check.specs.Standing.{additions_of}
 use Rattle.runs.specs.Closed.{IsOfStream, IsClosed}
 use Rattle.runs.specs.Headline.{AreJudgedIn}
 use Rattle.runs.specs.Streams.{Stream, Telling, IsTold, TermsValue, setting_of}
-use Rattle.runs.specs.StreamLemmas.{same_at, some_end, told_begins, told_count}
+use Rattle.runs.specs.StreamLemmas.{judged_count, same_at, some_end, told_begins, told_count}
 use Rattle.run_laws.specs.Blame.{AllEnded, HaveBytesOf, LacksOfAnother, NoFalseBlame}
 use Rattle.run_laws.specs.GroupLaws.{ReadersClosed}
 use Rattle.run_laws.specs.Groups.{IsRun}
@@ -41,7 +41,6 @@ use Rattle.run_laws.proofs.BlameStreams.{near_fair, IsStillThere, all_still_ther
 use Rattle.run_laws.proofs.GroupLemmas.{inside, is_inside, inside_is, closed_finds}
 use Rattle.run_laws.proofs.JudgedLemmas.{lines_first}
 use Rattle.run_laws.proofs.Places.{has_place, judged_at, judged_fewer}
-use Rattle.runs.specs.StreamLemmas.{judged_count}
 use Rattle.run_laws.proofs.RightLines.{side_by}
 use Rattle.run_laws.proofs.WalkLemmas.{own-calls}
 use Rattle.run_laws.proofs.RunLemmas.{told_at, judged_to}

@@ -83,11 +83,13 @@ pub record Mirrors (f : Cnf) (c : Setting) (base : Database) (st : Standing) (m 
   pub formulas : (id : ℕ) → owner c.layout id ≡ owners.Formula → m id ≡ live (clause_at f id)
   pub own : (id : ℕ) → Owns c.layout c.stream id → st.gone id ≡ false
 
-abbrev Cites : Setting → StreamLine → Type 0
-Cites c line = AllByRecursion (IsOwnedWithin c.layout (one c.stream)) (cited_by line)
+-- the line cites no clause of another stream
+abbrev CitesNear : Setting → StreamLine → Type 0
+CitesNear c line = AllByRecursion (IsOwnedWithin c.layout (one c.stream)) (cited_by line)
 
-abbrev Deletes : Setting → StreamLine → Type 0
-Deletes c line = AllByRecursion (IsOwnedWithin c.layout (one c.stream)) (deleted_by line)
+-- the line deletes no clause of another stream
+abbrev DeletesNear : Setting → StreamLine → Type 0
+DeletesNear c line = AllByRecursion (IsOwnedWithin c.layout (one c.stream)) (deleted_by line)
 
 -- Additions
 
@@ -421,7 +423,7 @@ import_mirrors f c m n base before id lits es judged same a =
 lines_right : GoodExactlyIf → (f : Cnf) (c : Setting) (k : State) → Fits c.layout f
     → (before lines : List StreamLine) (blocks : List History) (base : Database) (m : State)
     → Mirrors f c base (standing_of c before) m → AreGood c before lines blocks → AreFair c k m (joined blocks)
-    → AllByRecursion (Cites c) lines → AllByRecursion (Deletes c) lines → AreRight c.layout c.stream base lines
+    → AllByRecursion (CitesNear c) lines → AllByRecursion (DeletesNear c) lines → AreRight c.layout c.stream base lines
 lines_right law f c k fits before [] blocks base m a good fair cites deletes = tt
 lines_right law f c k fits before (line ∷ lines) [] base m a good fair cites deletes = absurd good
 lines_right law f c k fits before (Addition id lits hints ∷ lines) (block ∷ blocks) base m a good fair cites deletes =
@@ -472,10 +474,10 @@ ended_is_right law stays one_cut empty_cut f terms s bytes report fits cites del
     let text : bytes ≡ flat_map line_text its.lines =
     its.text ∙ ap (λ (b : List ℕ). flat_map line_text its.lines ++ b) over.none ∙ append-nil (flat_map line_text its.lines) in
     let cut : Cut bytes its.lines [] = record { bytes = text ∙ sym (append-nil (flat_map line_text its.lines)); each = its.fits; last = empty_cut.last } in
-    let cited : AllByRecursion (Cites c) its.lines =
-    subst (AllByRecursion (Cites c)) (one_cut bytes cites.lines its.lines cites.rest [] cites.cut cut).0 cites.within in
-    let deleted : AllByRecursion (Deletes c) its.lines =
-    subst (AllByRecursion (Deletes c)) (one_cut bytes deletes.lines its.lines deletes.rest [] deletes.cut cut).0 deletes.within in
+    let cited : AllByRecursion (CitesNear c) its.lines =
+    subst (AllByRecursion (CitesNear c)) (one_cut bytes cites.lines its.lines cites.rest [] cites.cut cut).0 cites.within in
+    let deleted : AllByRecursion (DeletesNear c) its.lines =
+    subst (AllByRecursion (DeletesNear c)) (one_cut bytes deletes.lines its.lines deletes.rest [] deletes.cut cut).0 deletes.within in
     let k = state f g.history in
     let fair : AreFair c k (opening f) (own g.history s) =
     near_fair f c k (opening f) (opening f) g.history g.legal.events (λ id near. refl)

@@ -1,6 +1,7 @@
--- Right streams: what a stream has to write that cites only its own clauses and the formula's. The lines are replayed over a
--- database of clauses, as LRAT proofs are (Cruz-Filipe et al., CADE 2017); identities by residue, room and imports are this
--- project's own. All is read off the lines: there is no map here, no event and no checker.
+-- Right streams: what a stream that cites only its own clauses and the formula's has to write. The lines are replayed over a
+-- database of clauses, as LRAT proofs are (Cruz-Filipe et al., CADE 2017), without RAT. This project's own are identities by
+-- residue, each above those before it, room and imports; and that no hint comes after the conflict, and nothing is deleted that
+-- isn't there. All is read off the lines: there is no history here, and no checker.
 use Rattle.std.specs.Prelude.{◌≡◌, ◌↔◌, ◌≤◌, ◌<◌, ◌-◌, ◌==◌, ◌&&◌, ℕ, ℤ, nat_abs, nat_lt, nat_le, false, List, [], ◌∷◌, length, Option, None, Some, IsSome, if◌then◌else◌}
 use Rattle.std.specs.List.{AllByRecursion, AllZip, Any, flat_map}
 use Rattle.lrup_model.specs.Clause.{Clause, Has}
@@ -15,8 +16,8 @@ use Rattle.stream_check.specs.Standing.{is_among}
 use Rattle.stream_check.specs.Judging.{report_of}
 use Rattle.runs.specs.Streams.{TermsValue, setting_of}
 
--- What the lines so far leave: the clauses that may be cited and deleted, by identity; the greatest identity that was added; and
--- the room that is left, in literals.
+-- What the lines so far leave: the clauses that may be cited, imported and deleted, by identity; the greatest identity that was
+-- added, or the formula's last one; and the room that is left, in literals.
 pub record Database : Type 0 where
   pub clauses : ℕ → Option Clause
   pub last : ℕ
@@ -108,6 +109,7 @@ pub record IsRightRefutation (f : Cnf) (p : LayoutValue) (s : ℕ) (bytes : List
   pub right : IsRightStream f p s bytes lines
   pub empty : Any AddsEmpty lines
 
--- The report of a right stream: that it ended, and what was added and deleted, as counted off the lines.
+-- The report of a right stream: that it ended; what was added and deleted, as counted off the lines; and whether a line adds the
+-- empty clause, or one within the cube.
 abbrev pub right_report : TermsValue → ℕ → List StreamLine → Report
 right_report terms s lines = report_of (setting_of terms s) lines 0 endings.Ended

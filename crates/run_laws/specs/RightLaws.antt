@@ -14,7 +14,7 @@ use Rattle.runs.specs.Streams.{Telling, TermsValue}
 use Rattle.run_laws.specs.Groups.{one, IsReportAlone, IsRun}
 use Rattle.run_laws.specs.Right.{AddsEmpty, IsRightStream, right_report}
 
--- a right stream cites and imports only its own clauses and the formula's
+-- a right stream cites and imports no clause of another stream
 abbrev pub RightCiteWithin : Type 0
 RightCiteWithin = (f : Cnf) (p : LayoutValue) (s : ℕ) (bytes : List ℕ) (lines : List StreamLine)
     → Fits p f → IsRightStream f p s bytes lines → CiteWithin p (one s) bytes
@@ -34,8 +34,8 @@ RightHasOneReport = (f : Cnf) (terms : TermsValue) (s : ℕ) (bytes : List ℕ)
     → IsRightStream f terms.layout s bytes lines
     → IsReportAlone f terms s bytes stream_ends.Ended report → report ≡ right_report terms s lines
 
--- So in every run it has this report, unless memory ran out or a read failed: whatever the other streams are, and however the
--- threads ran.
+-- So it has this report in every run in which its reader has these bytes, unless memory ran out or a read failed: whatever the other
+-- streams are, and however the threads ran.
 abbrev pub RightReported : Type 0
 RightReported = (f : Cnf) (terms : TermsValue) (s : ℕ) (bytes : List ℕ) (lines : List StreamLine)
     (told : List Telling) (telling : Telling) (reports : List Report) (report : Report)
@@ -45,7 +45,7 @@ RightReported = (f : Cnf) (terms : TermsValue) (s : ℕ) (bytes : List ℕ) (lin
     → IsOfStream reports s report → ¬ IsOfMemory report → ¬ IsOfFailure report
     → report ≡ right_report terms s lines
 
--- of the deleted identities all are counted: 64 bits show them
+-- its count of deletions is that of all identities in them: 64 bits suffice for it
 abbrev pub RightCounted : Type 0
 RightCounted = (f : Cnf) (terms : TermsValue) (s : ℕ) (bytes : List ℕ) (lines : List StreamLine)
     → IsCnf f → IsLayout terms.layout → Fits terms.layout f → IsStream terms.layout s
@@ -59,8 +59,8 @@ pub record DeleteWithin (p : LayoutValue) (set : ℕ → Bool) (bytes : List ℕ
   pub cut : Cut bytes lines rest
   pub within : AllByRecursion (λ line. AllByRecursion (IsOwnedWithin p set) (deleted_by line)) lines
 
--- And no other streams end so: one that cites, imports and deletes only its own clauses and the formula's is right if it may have,
--- alone, a report that it ended.
+-- Conversely, a stream that cites, imports and deletes only its own clauses and the formula's is right if it may have, alone, a
+-- report that it ended. (One that deletes what another stream never had may end too, and isn't right.)
 abbrev pub EndedIsRight : Type 0
 EndedIsRight = (f : Cnf) (terms : TermsValue) (s : ℕ) (bytes : List ℕ) (report : Report)
     → Fits terms.layout f

@@ -1,5 +1,6 @@
 -- Right streams that cite one another: lines of several streams, in some order, each of which is right by what the lines before it
--- leave to its stream; and the law that they aren't blamed (this project's own).
+-- leave to its stream; and the law that they aren't blamed (this project's own). Some good lines have no such order: a checker
+-- also takes the deletion of another stream's clause that its owner has deleted already (the law `NoFalseBlame` speaks of those).
 use Rattle.std.specs.Prelude.{◌≡◌, ◌⊎◌, ◌==◌, ◌&&◌, ℕ, Bool, false, IsTrue, List, [], ◌∷◌, None, Some, if◌then◌else◌}
 use Rattle.std.specs.List.{AllByRecursion, flat_map}
 use Rattle.lrup_model.specs.Distinct.{distinct}
@@ -77,8 +78,8 @@ HaveTexts set steps told =
     → telling.entry ≡ Some (flat_map line_text (lines_by t steps))
 
 -- Where lines of a set of streams have a right order, then in every run of these streams each ended, as its right report says; or
--- memory ran out, or a read failed; or a line of it cites a clause of another stream that wasn't there, or wasn't any more. Whatever
--- the streams outside the set are.
+-- memory ran out, or a read failed; or a line of it cites a clause of another stream that wasn't there, or wasn't any more. That is
+-- so whatever the streams outside the set are.
 abbrev pub RightTogether : Type 0
 RightTogether = (f : Cnf) (terms : TermsValue) (set : ℕ → Bool) (steps : List Step)
     (told : List Telling) (reports : List Report) (s : ℕ) (report : Report)
