@@ -87,7 +87,7 @@ IsOfMachine faults.Unwritten = ⊥
 abbrev pub IsCutOff : Report → Type 0
 IsCutOff report = IsOfMemory report ⊎ IsOfFailure report
 
--- or a line of it cites a clause of another stream that wasn't there, or wasn't any more
+-- the stream was cut off so; or a line of it cites a clause of another stream that wasn't there, or wasn't any more
 abbrev pub IsHeldUp : (R : Type 0) (files : FilesView R) (words : List Text) → AskWell R files words
     → ℕ → Report → Type 0
 IsHeldUp R files words asks s report =
@@ -121,8 +121,8 @@ RightRefutationSays R files = (words : List Text) (s : ℕ) (out err : SinkChang
     → EndsWithReport R files words out err status ⊎ EndsWithFault R files words out err status
     → (status ≡ 0) ⊎ IsExcused R files words s IsCutOff out status
 
--- So it is where they ask for streams whose lines have a right order; or with 3 or 8 that stream has a line that cites a clause of
--- another stream, which wasn't there, or wasn't any more.
+-- So it is where they ask for streams whose lines have a right order, with one more reason for 3 or 8: a line of that stream cites a
+-- clause of another stream that wasn't there, or wasn't any more.
 abbrev pub RightOrderSays : (R : Type 0) → FilesView R → Type 0
 RightOrderSays R files = (words : List Text) (s : ℕ) (out err : SinkChange) (status : ℕ)
     → (ask : AskForRightOrder R files words s)

@@ -60,7 +60,7 @@ pub fn right_reported()
     decided_before_failure();
 }
 
-/// Of the identities that a right stream deletes all are counted.
+/// All identities that a right stream deletes are counted.
 pub fn right_counted()
     ensures { RightCounted }
 {
