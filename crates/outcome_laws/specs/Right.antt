@@ -117,8 +117,8 @@ RightRefutationSays R files = (words : List Text) (s : ℕ) (out err : SinkChang
     → (status ≡ 0)
     ⊎ IsExcused R files words s (IsCutOffIn (length ask.right.lines)) out status
 
--- So it is where they ask for streams whose lines have a right order; or with 3 or 8 that stream has a line that cites a clause of
--- another stream, which wasn't there, or wasn't any more.
+-- So it is where they ask for streams whose lines have a right order, with one more reason for 3 or 8: a line of that stream cites a
+-- clause of another stream that wasn't there, or wasn't any more.
 abbrev pub RightOrderSays : (R : Type 0) → FilesView R → Type 0
 RightOrderSays R files = (words : List Text) (s : ℕ) (out err : SinkChange) (status : ℕ)
     → (ask : AskForRightOrder R files words s)

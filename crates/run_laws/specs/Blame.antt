@@ -23,20 +23,20 @@ HaveBytesOf set streams told =
 
 -- the report tells of a line that cites a clause of another stream, which wasn't there, or wasn't any more
 abbrev pub LacksOfAnother : Setting → Report → Type 0
-LacksOfAnother c report = (line h : ℕ) × (side_of c h ≡ sides.Foreign)
-    × ((report.ending ≡ endings.Bad line (faults.Missing h))
-    ⊎ (report.ending ≡ endings.Bad line (faults.Retired h)))
+LacksOfAnother c report = (line id : ℕ) × (side_of c id ≡ sides.Foreign)
+    × ((report.ending ≡ endings.Bad line (faults.Missing id))
+    ⊎ (report.ending ≡ endings.Bad line (faults.Retired id)))
 
 -- No false blame: where some legal history judges a closed set of streams, and one of them ended, then in every run in which its
 -- reader has the same bytes, and the readers of the set begin with theirs, it has the same report; or memory ran out, or a read
 -- failed; or a line of it cites a clause of another stream that wasn't there, or wasn't any more.
 abbrev pub NoFalseBlame : Type 0
-NoFalseBlame = (f : Cnf) (terms : TermsValue) (set : ℕ → Bool) (h : History)
+NoFalseBlame = (f : Cnf) (terms : TermsValue) (set : ℕ → Bool) (history : History)
     (streams : List Stream) (reports : List Report) (told : List Telling)
     (other_reports : List Report) (s : ℕ) (stream : Stream) (telling : Telling)
     (report other : Report)
     → Fits terms.layout f → length streams ≡ terms.layout.streams
-    → IsLegal f terms.layout h → AreJudgedIn terms set h 1 streams reports
+    → IsLegal f terms.layout history → AreJudgedIn terms set history 1 streams reports
     → IsClosed terms.layout set streams
     → IsTrue (set s) → IsOfStream streams s stream → IsOfStream reports s report
     → report.ending ≡ endings.Ended

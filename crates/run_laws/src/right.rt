@@ -76,7 +76,7 @@ pub fn right_begins()
     a_refused_text_holds_no_line();
 }
 
-/// Of the identities that a right stream deletes all are counted.
+/// All identities that a right stream deletes are counted.
 pub fn right_counted()
     ensures { RightCounted }
 {

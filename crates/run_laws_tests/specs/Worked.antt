@@ -78,8 +78,8 @@ retired_first =
 -- What the laws say of runs of these lines
 
 -- any cube and number of tries, with this layout
-abbrev pub terms_of : LayoutValue → CubeValue → ℕ → TermsValue
-terms_of p cube tries = record { layout = p; cube = cube; tries = tries }
+abbrev pub terms_at : LayoutValue → CubeValue → ℕ → TermsValue
+terms_at p cube tries = record { layout = p; cube = cube; tries = tries }
 
 -- the report tells that the stream ended, and counts these
 pub record Counts (report : Report) (additions deletions : ℕ) : Type 0 where
@@ -93,7 +93,7 @@ pub record Counts (report : Report) (additions deletions : ℕ) : Type 0 where
 abbrev pub RefutationCounted : Type 0
 RefutationCounted = (cube : CubeValue) (tries : ℕ) (told : List Telling) (telling : Telling)
     (reports : List Report) (report : Report)
-    → IsRun four (terms_of one_stream cube tries) told reports → IsOfStream told 1 telling
+    → IsRun four (terms_at one_stream cube tries) told reports → IsOfStream told 1 telling
     → telling.entry ≡ Some (codes "5 2 0 1 2 0\n6 0 5 3 4 0\n") → IsOfStream reports 1 report
     → ¬ IsOfMemory report → ¬ IsOfFailure report → Counts report 2 0
 
@@ -102,6 +102,6 @@ RefutationCounted = (cube : CubeValue) (tries : ℕ) (told : List Telling) (tell
 abbrev pub SharedCounted : Type 0
 SharedCounted = (cube : CubeValue) (tries : ℕ) (told : List Telling) (reports : List Report)
     (report : Report)
-    → IsRun four (terms_of two_streams cube tries) told reports → HaveTexts (λ s. true) shared told
+    → IsRun four (terms_at two_streams cube tries) told reports → HaveTexts (λ s. true) shared told
     → IsOfStream reports 2 report → ¬ IsOfMemory report → ¬ IsOfFailure report
-    → Counts report 1 1 ⊎ LacksOfAnother (setting_of (terms_of two_streams cube tries) 2) report
+    → Counts report 1 1 ⊎ LacksOfAnother (setting_of (terms_at two_streams cube tries) 2) report
