@@ -1,25 +1,29 @@
 //! Lines of one stream, right and not, by the definitions alone.
-ghost use Rattle.std.specs.Prelude.{◌≡◌, [], ◌∷◌, pos, negsuc, Some, codes};
+ghost use Rattle.std.specs.Prelude.{◌≡◌, ◌++◌, ℕ, List, [], ◌∷◌, pos, negsuc, Some, codes};
 ghost use Rattle.lrup_text.specs.Lines.{Addition, Deletion, Import};
 ghost use Rattle.run_laws.specs.Right.{IsRightLine, IsRightRefutation, first_database};
 ghost use Rattle.run_laws.specs.Together.{IsRightOrder};
-ghost use Rattle.run_laws_tests.specs.Worked.{at_first, at_roomy, crossed, one_stream, retired_first, roomy, shared, two_streams, with_five, with_repeat, without_five, without_one, RefutationCounted, SharedCounted};
+ghost use Rattle.run_laws_tests.specs.Worked.{at_first, at_roomy, crossed, one_stream, retired_first, roomy, shared, two_streams, with_five, with_repeat, without_five, without_one, BeginningCounted, RefutationCounted, SharedCounted};
 ghost use Rattle.test_support.specs.Worked.{four, unit};
 
-use lrup_text::laws::{a_stream_is_cut_in_one_way, no_bytes_have_no_lines};
-use run_laws::right::{right_reported, right_together};
+use lrup_text::laws::{bytes_begin_with_one_line, no_bytes_may_become_a_line};
+use run_laws::right::{right_begins, right_reported, right_together};
 
-/// The worked stream is a right refutation.
+/// The worked stream is a right refutation, also where a torn line comes behind it, or whatever else.
 fn the_stream_is_right()
-    ensures { IsRightRefutation four one_stream 1 (codes "5 2 0 1 2 0\n6 0 5 3 4 0\n") }
+    ensures whole { IsRightRefutation four one_stream 1 (codes "5 2 0 1 2 0\n6 0 5 3 4 0\n") }
+    ensures torn { IsRightRefutation four one_stream 1
+        (codes "5 2 0 1 2 0\n6 0 5 3 4 0\n7 0 5") }
+    ensures any_more { (more : List ℕ)
+        → IsRightRefutation four one_stream 1 (codes "5 2 0 1 2 0\n6 0 5 3 4 0\n" ++ more) }
 {}
 
 /// Its first line alone is none: it adds no empty clause.
 fn the_first_line_is_no_refutation()
     ensures { ¬ IsRightRefutation four one_stream 1 (codes "5 2 0 1 2 0\n") }
 {
-    a_stream_is_cut_in_one_way();
-    no_bytes_have_no_lines();
+    bytes_begin_with_one_line();
+    no_bytes_may_become_a_line();
 }
 
 /// Hints may stand in either order here, identities may have gaps, and imports may say a clause in their own way. A deletion takes
@@ -107,6 +111,13 @@ fn the_refutation_is_counted()
     ensures { RefutationCounted }
 {
     right_reported();
+}
+
+/// By the law of right beginnings, so it does whatever comes behind the refutation.
+fn the_beginning_is_counted()
+    ensures { BeginningCounted }
+{
+    right_begins();
 }
 
 /// By the law of right orders, every run tells so of the second stream.
