@@ -1,8 +1,8 @@
 -- What the program says of a right refutation.
-use Rattle.std.proofs.Common.{◌≡◌, ◌⊎◌, ◌≤◌, ◌-◌, ℕ, zero, suc, ℤ, Bool, true, false, List, [], ◌∷◌, length, map, Option, None, Some, inl, inr, refl, sym, ap, subst, ◌∙◌, arith}
-use Rattle.std.specs.Prelude.{slice_get, ◌||◌, if◌then◌else◌}
+use Rattle.std.proofs.Common.{◌≡◌, ◌⊎◌, ◌<◌, ◌≤◌, ◌-◌, ◌++◌, ℕ, eqb, ne_eqb, zero, suc, ℤ, Bool, true, false, List, [], ◌∷◌, length, map, Option, None, Some, inl, inr, refl, sym, ap, subst, ◌∙◌, arith}
+use Rattle.std.specs.Prelude.{IsTrue, slice_get, ◌||◌, if◌then◌else◌}
 use Rattle.std.specs.List.{AllByRecursion, flat_map, list_any}
-use Rattle.std.proofs.lemmas.Bool.{cond-true, or_right}
+use Rattle.std.proofs.lemmas.Bool.{cases_eq, cond-true, cond-false, or_right}
 use Rattle.std.proofs.lemmas.Option.{slice_get_within, slice_get_cases}
 use Rattle.lrup_model.specs.Distinct.{distinct}
 use Rattle.lrup_model.specs.DistinctLemmas.{IsClause-distinct, length-distinct}
@@ -10,26 +10,23 @@ use Rattle.lrup_model.specs.Formula.{Cnf, IsCnf, IsFormulaClause, max_clause_lit
 use Rattle.lrup_model.specs.Layout.{LayoutValue, IsFault, IsStream}
 use Rattle.lrup_model.specs.Literal.{IsLiteral}
 use Rattle.lrup_model.specs.declared.layout.LayoutFault.{LayoutFault}
-use Rattle.lrup_text.specs.Lines.{line_text}
+use Rattle.lrup_text.specs.Lines.{StreamLine, line_text}
 use Rattle.lrup_text.specs.Cubes.{IsCubeFault}
 use Rattle.lrup_text.specs.declared.cube.CubeFault.{CubeFault}
 use Rattle.dimacs.specs.FormulaText.{IsFormulaText}
 use Rattle.dimacs.specs.FormulaFault.{IsFormulaFault}
 use Rattle.dimacs.specs.declared.fault.DimacsFault.{DimacsFault}
-use Rattle.stream_check.specs.declared.report.Ending.{Ending}
-use Rattle.stream_check.specs.declared.report.Ending.TheVariants as endings
 use Rattle.stream_check.specs.declared.report.Report.{Report}
 use Rattle.stream_check.specs.Setting.{side_of}
 use Rattle.stream_check.specs.declared.setting.Side.TheVariants as sides
-use Rattle.stream_check.specs.Laws.{IsOfMemory, IsOfFailure}
 use Rattle.runs.specs.Closed.{IsOfStream}
 use Rattle.runs.specs.Streams.{Telling, TermsValue, setting_of}
 use Rattle.runs.specs.StreamLemmas.{judged_count, same_at, told_count}
 use Rattle.run_laws.specs.Groups.{IsRun}
 use Rattle.run_laws.specs.GroupLaws.{SerialRun}
-use Rattle.run_laws.specs.Together.{IsRightOrder, HaveTexts, lines_by, RightTogether}
-use Rattle.run_laws.specs.Right.{IsRightRefutation, right_report}
-use Rattle.run_laws.specs.RightLaws.{RightReported, RightEmpty}
+use Rattle.run_laws.specs.Together.{Step, IsRightOrder, HaveTexts, lines_by, TogetherBegins}
+use Rattle.run_laws.specs.Right.{IsCutOffIn, IsRightBeginning}
+use Rattle.run_laws.specs.RightLaws.{RightBegins, RightEmpty}
 use Rattle.portfolio.specs.Outcomes.{OptionsValue, layout_of, verdict_of}
 use Rattle.portfolio.specs.declared.outcome.Verdict.{Verdict}
 use Rattle.portfolio.specs.declared.outcome.Verdict.TheVariants.{Unsatisfiable, UnsatisfiableUnder, Unknown}
@@ -39,7 +36,7 @@ use Rattle.command.specs.Commands.{EndsWithFault, EndsWithReport, FilesView, IsA
 use Rattle.command.specs.Faults.{status_of}
 use Rattle.command.specs.declared.fault.CommandFault.{CommandFault}
 use Rattle.command.specs.declared.fault.CommandFault.TheVariants as faults
-use Rattle.outcome_laws.specs.Right.{AreRightAssumptions, AskWell, AskForRightRefutation, AskForRightOrder, IsOfMachine, IsCutOff, IsHeldUp, IsExcused, unwritten, no_report, lost, RightRefutationSays, RightOrderSays}
+use Rattle.outcome_laws.specs.Right.{AreRightAssumptions, AskWell, AskForRightRefutation, AskForRightOrder, IsOfMachine, IsHeldUp, IsExcused, unwritten, no_report, lost, RightRefutationSays, RightOrderSays}
 use Rattle.outcome_laws.specs.Laws.{SameWordsAskAlike}
 use Rattle.outcome_laws.proofs.OutcomeLemmas.{OneFormula, text_of, is_text, told_in, run_of, telling_of_file}
 
@@ -68,21 +65,16 @@ one_says [] k report at is = absurd (cc)
 one_says (r ∷ rs) zero report at is = let same : r ≡ report = cc in ap (λ (x : Report). x.empty || list_any (λ y. y.empty) rs) same ∙ ap (λ (b : Bool). b || list_any (λ y. y.empty) rs) is
 one_says (r ∷ rs) (suc k) report at is = or_right r.empty (list_any (λ y. y.empty) rs) (one_says rs k report at is)
 
-by_ending : (ending : Ending) (report : Report) → report.ending ≡ ending → (IsOfMemory report ⊎ IsOfFailure report) ⊎ ((¬ IsOfMemory report) × ¬ IsOfFailure report)
-by_ending endings.Ended report is = inr (
-  λ memory. let no : endings.Ended ≡ endings.Memory memory.0 = sym is ∙ memory.1 in cc,
-  λ failed. let no : endings.Ended ≡ endings.ReadFailed failed.0 = sym is ∙ failed.1 in cc,
-)
-by_ending (endings.Bad line fault) report is = inr (
-  λ memory. let no : endings.Bad line fault ≡ endings.Memory memory.0 = sym is ∙ memory.1 in cc,
-  λ failed. let no : endings.Bad line fault ≡ endings.ReadFailed failed.0 = sym is ∙ failed.1 in cc,
-)
-by_ending (endings.ReadFailed line) report is = inl (inr (line, is))
-by_ending (endings.Memory line) report is = inl (inl (line, is))
+-- What streams have
 
--- what became of one stream
-said_of : (report : Report) → (IsOfMemory report ⊎ IsOfFailure report) ⊎ ((¬ IsOfMemory report) × ¬ IsOfFailure report)
-said_of report = by_ending report.ending report refl
+-- what holds of the stream of each step holds of one that has a line
+of_some : (s : ℕ) (P : ℕ → Type 0) (steps : List Step) → AllByRecursion (λ step. P step.stream) steps → 0 < length (lines_by s steps) → P s
+of_some s P [] all some = absurd (omega (arith, some))
+of_some s P (step ∷ steps) all some = elim (cases_eq step.stream s) [
+  | inl same ↦ subst P same all.0
+  | inr other ↦ of_some s P steps all.1 (subst (λ (ls : List StreamLine). 0 < length ls)
+      (cond-false (eqb step.stream s) (step.line ∷ lines_by s steps) (lines_by s steps) (ne_eqb step.stream s other)) some)
+]
 
 -- a stream of a run has a report
 has_report : (f : Cnf) (terms : TermsValue) (told : List Telling) (reports : List Report) (r : IsRun f terms told reports) (s : ℕ) → IsStream terms.layout s
@@ -172,31 +164,29 @@ module _ (one_formula : OneFormula) (serial : SerialRun) (alike : SameWordsAskAl
         run = run_of serial R files words reports verdict a;
       }
 
-  refutation_says : RightReported → (words : List Text) (s : ℕ) (ask : AskForRightRefutation R files words s) (reports : List Report) (verdict : Verdict)
+  refutation_says : RightBegins → (words : List Text) (s : ℕ) (ask : AskForRightRefutation R files words s) (reports : List Report) (verdict : Verdict)
       (a : IsOutcome R files words reports verdict)
-      → (verdict ≡ Unsatisfiable) ⊎ ((report : Report) × IsOfStream reports s report × IsCutOff report)
-  refutation_says reported words s ask reports verdict a =
+      → (verdict ≡ Unsatisfiable) ⊎ ((report : Report) × IsOfStream reports s report × IsCutOffIn (length ask.right.lines) report)
+  refutation_says begins words s ask reports verdict a =
       let asks = ask.asks in
+      let lines = ask.right.lines in
       let is : IsOf words asks reports verdict a = is_of words asks reports verdict a in
-      let right : IsRightRefutation a.formula (layout_at a.given a.formula) s ask.bytes =
-      subst (λ (x : Cnf). IsRightRefutation x (layout_at a.given a.formula) s ask.bytes) (sym is.formulas)
-      (subst (λ (p : LayoutValue). IsRightRefutation asks.formula p s ask.bytes) is.layouts ask.right) in
+      let right : IsRightBeginning a.formula (layout_at a.given a.formula) s ask.bytes lines =
+      subst (λ (x : Cnf). IsRightBeginning x (layout_at a.given a.formula) s ask.bytes lines) (sym is.formulas)
+      (subst (λ (p : LayoutValue). IsRightBeginning asks.formula p s ask.bytes lines) is.layouts ask.right.right) in
       let names : IsOfStream a.given.streams s ask.path = subst (λ (x : List Text). IsOfStream x s ask.path) (sym is.streams) ask.names in
       let terms = terms_given a.given a.cube a.formula in
       let here = telling_of_file R files words reports verdict a s ask.path ask.bytes names ask.tells in
       let within = slice_get_within a.given.streams (s - 1) ask.path names.1 in
       let stream : IsStream terms.layout s = (names.0, omega (arith, within, names.0)) in
       let report = has_report a.formula terms (told_in R files words reports verdict a) reports is.run s stream in
-      elim (said_of report.0) [
-        | inl why ↦ inr (report.0, report.1, why)
-        | inr fine ↦
-            let same : report.0 ≡ right_report terms s right.lines =
-            reported a.formula terms s ask.bytes right.lines (told_in R files words reports verdict a) here.0 reports report.0
-            is.cnf (record { vars = refl; clauses = refl; literals = refl }) stream right.right is.run here.1 here.2 report.1 fine.0 fine.1 in
-            inl (comes_to reports verdict s report.0 a.checked.is_verdict report.1 (ap (λ (r : Report). r.empty) same ∙ (empty terms s right.lines).1 right.empty))
+      elim (begins a.formula terms s ask.bytes lines (told_in R files words reports verdict a) here.0 reports report.0
+      is.cnf (record { vars = refl; clauses = refl; literals = refl }) stream right is.run here.1 here.2 report.1) [
+        | inl tells ↦ inl (comes_to reports verdict s report.0 a.checked.is_verdict report.1 (tells.empty ((empty terms s lines).1 ask.right.empty)))
+        | inr cut ↦ inr (report.0, report.1, cut)
       ]
 
-  -- each stream of the set has the texts of its lines left at first
+  -- the file of each stream of the set begins with the texts of its lines
   have_texts : (words : List Text) (s : ℕ) (ask : AskForRightOrder R files words s) (reports : List Report) (verdict : Verdict)
       (a : IsOutcome R files words reports verdict) → IsOf words ask.asks reports verdict a
       → HaveTexts ask.set ask.steps (told_in R files words reports verdict a)
@@ -208,15 +198,15 @@ module _ (one_formula : OneFormula) (serial : SerialRun) (alike : SameWordsAskAl
         | inr past ↦ absurd (omega (arith, past.0, within, told_count told is.run.streams is.run.are_told, is.run.count))
         | inl has ↦
             let names : IsOfStream a.given.streams t has.0 = (first, has.2) in
-            let whole = flat_map line_text (lines_by t ask.steps) in
-            let tells : files.tells has.0 ≡ Some whole = ask.tells t has.0 member (subst (λ (x : List Text). IsOfStream x t has.0) is.streams names) in
-            let here = telling_of_file R files words reports verdict a t has.0 whole names tells in
-            ap (λ (x : Telling). x.entry) (same_at told t telling here.0 at here.1) ∙ here.2
+            let tells = ask.tells t has.0 member (subst (λ (x : List Text). IsOfStream x t has.0) is.streams names) in
+            let here = telling_of_file R files words reports verdict a t has.0 (flat_map line_text (lines_by t ask.steps) ++ tells.0) names tells.1 in
+            (tells.0, ap (λ (x : Telling). x.entry) (same_at told t telling here.0 at here.1) ∙ here.2)
       ]
 
-  order_says : RightTogether → (words : List Text) (s : ℕ) (ask : AskForRightOrder R files words s) (reports : List Report) (verdict : Verdict)
+  order_says : TogetherBegins → (words : List Text) (s : ℕ) (ask : AskForRightOrder R files words s) (reports : List Report) (verdict : Verdict)
       (a : IsOutcome R files words reports verdict)
-      → (verdict ≡ Unsatisfiable) ⊎ ((report : Report) × IsOfStream reports s report × IsHeldUp R files words ask.asks s report)
+      → (verdict ≡ Unsatisfiable)
+      ⊎ ((report : Report) × IsOfStream reports s report × IsHeldUp R files words ask.asks s (length (lines_by s ask.steps)) report)
   order_says together words s ask reports verdict a =
       let asks = ask.asks in
       let is : IsOf words asks reports verdict a = is_of words asks reports verdict a in
@@ -224,21 +214,20 @@ module _ (one_formula : OneFormula) (serial : SerialRun) (alike : SameWordsAskAl
       let order : IsRightOrder a.formula terms.layout ask.steps =
       subst (λ (x : Cnf). IsRightOrder x (layout_at a.given a.formula) ask.steps) (sym is.formulas)
       (subst (λ (p : LayoutValue). IsRightOrder asks.formula p ask.steps) is.layouts ask.order) in
-      let stream : IsStream terms.layout s = subst (λ (p : LayoutValue). IsStream p s) is.layouts ask.among in
+      let some : 0 < length (lines_by s ask.steps) = omega (arith, ask.empty.2) in
+      let stream : IsStream terms.layout s = of_some s (IsStream terms.layout) ask.steps order.streams some in
+      let member : IsTrue (ask.set s) = of_some s (λ t. IsTrue (ask.set t)) ask.steps ask.members some in
       let report = has_report a.formula terms (told_in R files words reports verdict a) reports is.run s stream in
-      elim (said_of report.0) [
-        | inl why ↦ inr (report.0, report.1, inl why)
-        | inr fine ↦ elim (together a.formula terms ask.set ask.steps (told_in R files words reports verdict a) reports s report.0 is.cnf
-            (record { vars = refl; clauses = refl; literals = refl }) order ask.members is.run (have_texts words s ask reports verdict a is)
-            ask.member report.1 fine.0 fine.1) [
-              | inl same ↦ inl (comes_to reports verdict s report.0 a.checked.is_verdict report.1
-                  (ap (λ (r : Report). r.empty) same ∙ (empty terms s (lines_by s ask.steps)).1 ask.empty))
-              | inr lacks ↦ inr (
-                report.0,
-                report.1,
-                inr (lacks.0, lacks.1, subst (λ (p : LayoutValue). IsAnothers p s lacks.1) (sym is.layouts) lacks.2, lacks.3),
-              )
-            ]
+      elim (together a.formula terms ask.set ask.steps (told_in R files words reports verdict a) reports s report.0 is.cnf
+      (record { vars = refl; clauses = refl; literals = refl }) order ask.members is.run (have_texts words s ask reports verdict a is)
+      member report.1) [
+        | inl tells ↦ inl (comes_to reports verdict s report.0 a.checked.is_verdict report.1 (tells.empty ((empty terms s (lines_by s ask.steps)).1 ask.empty)))
+        | inr (inl cut) ↦ inr (report.0, report.1, inl cut)
+        | inr (inr lacks) ↦ inr (
+          report.0,
+          report.1,
+          inr (lacks.0, lacks.1, subst (λ (p : LayoutValue). IsAnothers p s lacks.1) (sym is.layouts) lacks.2, lacks.3),
+        )
       ]
 
 -- Without one
@@ -341,16 +330,18 @@ module _ (one_formula : OneFormula) (no_fault : NoFormulaFault) (alike : SameWor
       no_report ends.fault ends.cause machine ends.status_is
       (subst (λ (n : ℕ). (n ≡ 5) ⊎ (n ≡ 6)) (sym ends.status_is) (machine_status ends.fault machine))
 
-pub right_refutation_says : OneFormula → NoFormulaFault → SerialRun → SameWordsAskAlike → RightReported → RightEmpty
+pub right_refutation_says : OneFormula → NoFormulaFault → SerialRun → SameWordsAskAlike → RightBegins → RightEmpty
     → (R : Type 0) (files : FilesView R) → RightRefutationSays R files
-right_refutation_says one_formula no_fault serial alike reported empty R files words s out err status ask (inl report) =
-    with_report R files IsCutOff words s out err status (refutation_says one_formula serial alike empty R files reported words s ask) report
-right_refutation_says one_formula no_fault serial alike reported empty R files words s out err status ask (inr fault) =
-    inr (without_report one_formula no_fault alike R files IsCutOff words s out err status ask.asks fault)
+right_refutation_says one_formula no_fault serial alike begins empty R files words s out err status ask (inl report) =
+    with_report R files (IsCutOffIn (length ask.right.lines)) words s out err status
+    (refutation_says one_formula serial alike empty R files begins words s ask) report
+right_refutation_says one_formula no_fault serial alike begins empty R files words s out err status ask (inr fault) =
+    inr (without_report one_formula no_fault alike R files (IsCutOffIn (length ask.right.lines)) words s out err status ask.asks fault)
 
-pub right_order_says : OneFormula → NoFormulaFault → SerialRun → SameWordsAskAlike → RightTogether → RightEmpty
+pub right_order_says : OneFormula → NoFormulaFault → SerialRun → SameWordsAskAlike → TogetherBegins → RightEmpty
     → (R : Type 0) (files : FilesView R) → RightOrderSays R files
 right_order_says one_formula no_fault serial alike together empty R files words s out err status ask (inl report) =
-    with_report R files (IsHeldUp R files words ask.asks s) words s out err status (order_says one_formula serial alike empty R files together words s ask) report
+    with_report R files (IsHeldUp R files words ask.asks s (length (lines_by s ask.steps))) words s out err status
+    (order_says one_formula serial alike empty R files together words s ask) report
 right_order_says one_formula no_fault serial alike together empty R files words s out err status ask (inr fault) =
-    inr (without_report one_formula no_fault alike R files (IsHeldUp R files words ask.asks s) words s out err status ask.asks fault)
+    inr (without_report one_formula no_fault alike R files (IsHeldUp R files words ask.asks s (length (lines_by s ask.steps))) words s out err status ask.asks fault)

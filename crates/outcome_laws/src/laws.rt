@@ -6,7 +6,7 @@ ghost use Rattle.outcome_laws.specs.Laws.{NoCubeJudgesAlike, SameBytesSayTheSame
 use command::Files;
 use dimacs::laws::{formula_or_fault, one_formula};
 use run_laws::groups::{same_bytes_agree, serial_run};
-use run_laws::right::{right_empty, right_reported, right_together};
+use run_laws::right::{right_begins, right_empty, together_begins};
 
 /// What a stream is judged by under a cube, it is judged by without one, and its report says the same, but of clauses within the
 /// cube.
@@ -53,8 +53,8 @@ pub fn status_0_has_a_command_line<F: Files>(files: &F)
 {}
 
 /// Where the words ask for a right refutation, the program ends with status 0; or with 7, for a report that wasn't written; or with
-/// 5 or 6, for a fault of the machine; or with 3 or 8, and then memory ran out in that stream, or a read of it failed: the clause
-/// `ends` of `command` says so.
+/// 5 or 6, for a fault of the machine; or with 3 or 8, and then memory ran out, or a read failed, in the refutation's lines: the
+/// clause `ends` of `command` says so.
 pub fn right_refutation_says<F: Files>(files: &F)
     ensures { let view = files_view (F.tells files.now) (F.may_refuse files.now)
         F.Input.Source.left F.Input.Source.has_failed (F.opens files.now) F.Input.Source.reads in
@@ -64,7 +64,7 @@ pub fn right_refutation_says<F: Files>(files: &F)
     formula_or_fault();
     serial_run();
     same_words_ask_alike();
-    right_reported();
+    right_begins();
     right_empty();
 }
 
@@ -79,6 +79,6 @@ pub fn right_order_says<F: Files>(files: &F)
     formula_or_fault();
     serial_run();
     same_words_ask_alike();
-    right_together();
+    together_begins();
     right_empty();
 }

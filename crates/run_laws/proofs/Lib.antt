@@ -13,6 +13,7 @@ pub mod SwapLemmas
 mod BlameLines
 mod BlameStreams
 mod BlameLemmas
+mod BeginLemmas
 mod TogetherLemmas
 pub mod BlockLemmas
 pub mod AheadLemmas

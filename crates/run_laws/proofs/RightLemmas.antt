@@ -135,7 +135,7 @@ lines_go good sound taken f c fits some (line ∷ lines) base m bytes blocks old
 
 -- The whole stream
 
-all_others : (s t : ℕ) (h : History) → s ≢ t → AllByRecursion (λ e. stream_of e ≡ s) h → AllByRecursion (λ e. stream_of e ≡ t → ⊥) h
+pub all_others : (s t : ℕ) (h : History) → s ≢ t → AllByRecursion (λ e. stream_of e ≡ s) h → AllByRecursion (λ e. stream_of e ≡ t → ⊥) h
 all_others s t [] other all = tt
 all_others s t (e ∷ h) other all = (λ same. other (sym all.0 ∙ same), all_others s t h other all.1)
 

@@ -1,5 +1,5 @@
 -- Lines of several streams that are right together, and their streams in a run.
-use Rattle.std.proofs.Common.{◌≡◌, ◌≢◌, ◌<◌, ◌≤◌, ◌+◌, ◌-◌, ℕ, zero, suc, Bool, true, false, cond, List, [], ◌∷◌, ◌++◌, length, Some, inl, inr, refl, sym, ap, subst, ◌∙◌, arith, append_assoc, append-nil, eqb, eqb-true, eq-eqb, ne_eqb}
+use Rattle.std.proofs.Common.{◌≡◌, ◌≢◌, ◌⊎◌, ◌<◌, ◌≤◌, ◌+◌, ◌-◌, ℕ, zero, suc, Bool, true, false, cond, List, [], ◌∷◌, ◌++◌, length, Some, inl, inr, refl, sym, ap, subst, ◌∙◌, arith, append_assoc, append-nil, eqb, eqb-true, eq-eqb, ne_eqb}
 use Rattle.std.specs.Prelude.{IsTrue, slice_get, ◌&&◌}
 use Rattle.std.specs.List.{AllByRecursion, AllZip, flat_map, sum_by}
 use Rattle.std.proofs.lemmas.Bool.{cases_eq, cond-true, cond-false, true≢false}
@@ -7,7 +7,7 @@ use Rattle.std.proofs.lemmas.Option.{slice_get_within}
 use Rattle.lrup_model.specs.Clause.{Clause}
 use Rattle.lrup_model.specs.Distinct.{distinct}
 use Rattle.lrup_model.specs.Event.{History, own, spent}
-use Rattle.lrup_model.specs.Formula.{Cnf}
+use Rattle.lrup_model.specs.Formula.{Cnf, IsCnf}
 use Rattle.lrup_model.specs.History.{LegalFrom, IsLegal}
 use Rattle.lrup_model.specs.HistoryLemmas.{formula_owned, one_owner, own-all, own-none}
 use Rattle.lrup_model.specs.Laws.{PropagationSound}
@@ -15,21 +15,23 @@ use Rattle.lrup_model.specs.Layout.{LayoutValue, Fits, IsStream, Owns}
 use Rattle.lrup_model.specs.Running.{legal-append, own-append, size_of, spent-append, spent-sizes}
 use Rattle.lrup_model.specs.State.{State, opening, run}
 use Rattle.lrup_model.specs.declared.layout.Owner.TheVariants as owners
-use Rattle.lrup_text.specs.Laws.{EmptyCut, OneCut}
+use Rattle.lrup_text.specs.Laws.{EmptyCut, OneCut, OneFirstLine, RefusedStays}
 use Rattle.lrup_text.specs.Lines.{StreamLine, Addition, Deletion, Import, IsWithinLimits, line_text}
 use Rattle.lrup_text.specs.declared.device.StreamEnd.TheVariants as stream_ends
 use Rattle.stream_check.specs.declared.report.Report.{Report}
 use Rattle.stream_check.specs.Judging.{joined}
-use Rattle.stream_check.specs.Laws.{cited_by, EndJudged, FreshLeft, GoodExactlyIf, GoodLineTaken}
+use Rattle.stream_check.specs.Laws.{cited_by, CitedFetched, EndJudged, FreshLeft, GoodExactlyIf, GoodLineTaken}
 use Rattle.stream_check.specs.Leaving.{Holding, Going, Leaves}
 use Rattle.stream_check.specs.Standing.{is_among, standing_of}
 use Rattle.runs.specs.Closed.{IsOfStream, IsOwnedWithin, CiteWithin, IsClosed}
 use Rattle.runs.specs.Headline.{AreJudgedIn}
-use Rattle.runs.specs.Streams.{Stream, TermsValue, setting_of}
+use Rattle.runs.specs.Streams.{Stream, Telling, TermsValue, setting_of}
 use Rattle.runs.specs.StreamLemmas.{IsJudgedBy, judged_count, judged_out}
-use Rattle.run_laws.specs.Blame.{AllEnded, HaveBytesOf, NoFalseBlame}
-use Rattle.run_laws.specs.Right.{Database, first_database, after_line, IsRightLine, right_report}
-use Rattle.run_laws.specs.Together.{Step, is_own, beside_line, after_step, AreRightTogether, lines_by, RightTogether}
+use Rattle.run_laws.specs.Blame.{HaveBytesOf, LacksOfAnother, NoFalseBlame}
+use Rattle.run_laws.specs.Groups.{IsRun}
+use Rattle.run_laws.specs.Right.{Database, first_database, after_line, IsRightLine, right_report, IsCutOffIn, TellsAtLeast}
+use Rattle.run_laws.specs.Together.{Step, is_own, beside_line, after_step, AreRightTogether, lines_by, IsRightOrder, HaveTexts, RightTogether, TogetherBegins}
+use Rattle.run_laws.proofs.BlameLemmas.{tells_on}
 use Rattle.run_laws.proofs.RightLemmas.{next_holding, first_agrees, is_first, ended_report}
 use Rattle.run_laws.proofs.RightLines.{Agrees, Goes, line_goes, left, not_callers}
 
@@ -320,9 +322,46 @@ each_judged terms set h (suc n) k streams reports judged = ((λ member. judged k
 
 -- All together
 
+-- the stream of these lines, and what is said of it
+its_stream : List Step → ℕ → Stream
+its_stream steps t = record { bytes = flat_map line_text (lines_by t steps); unneeded = []; end = Some stream_ends.Ended }
+
+its_report : TermsValue → List Step → ℕ → Report
+its_report terms steps t = right_report terms t (lines_by t steps)
+
+-- a legal history judges all of them so
+record AreJudgedTogether (f : Cnf) (terms : TermsValue) (set : ℕ → Bool) (steps : List Step) : Type 0 where
+  history : History
+  legal : IsLegal f terms.layout history
+  judged : AreJudgedIn terms set history 1 (each_from terms.layout.streams 1 (its_stream steps)) (each_from terms.layout.streams 1 (its_report terms steps))
+  closed : IsClosed terms.layout set (each_from terms.layout.streams 1 (its_stream steps))
+
+-- the readers begin with the streams' bytes
+have_bytes : (p : LayoutValue) (set : ℕ → Bool) (steps : List Step) (told : List Telling) → HaveTexts set steps told
+    → HaveBytesOf set (each_from p.streams 1 (its_stream steps)) told
+unfolding its_stream
+have_bytes p set steps told texts t x telling member at here =
+    let its = texts t telling member here in
+    (its.0, its.1 ∙ ap (λ (y : Stream). Some (y.bytes ++ its.0)) (at_stream p.streams t (its_stream steps) x at))
+
+-- a stream that has a report in a run is a stream of the layout
+report_place : (f : Cnf) (terms : TermsValue) (told : List Telling) (reports : List Report) (r : IsRun f terms told reports) (s : ℕ) (report : Report)
+    → IsOfStream reports s report → IsStream terms.layout s
+report_place f terms told reports r s report says =
+    let within = slice_get_within reports (s - 1) report says.1 in
+    let many = judged_count terms (λ t. true) r.history 1 r.streams reports r.judged in
+    (says.0, omega (arith, within, many, r.count, says.0))
+
+each_place : {X : Type 0} (n s : ℕ) (of : ℕ → X) → 0 < s → s ≤ n → IsOfStream (each_from n 1 of) s (of s)
+each_place n s of first last =
+    let place : 1 + (s - 1) ≡ s = omega (arith, first) in
+    (first, each_get n 1 (s - 1) of (omega (arith, first, last)) ∙ ap (λ (j : ℕ). Some (of j)) place)
+
 module _ (good : GoodExactlyIf) (sound : PropagationSound) (taken : GoodLineTaken) (fresh : FreshLeft) (ends : EndJudged) (empty_cut : EmptyCut) (one_cut : OneCut) where
-  pub right_together : NoFalseBlame → RightTogether
-  right_together law f terms set steps told reports s report cnf fits order members r texts member says memory failure =
+  judged_together : (f : Cnf) (terms : TermsValue) (set : ℕ → Bool) (steps : List Step) → IsCnf f → Fits terms.layout f
+      → IsRightOrder f terms.layout steps → AllByRecursion (λ step. IsTrue (set step.stream)) steps → AreJudgedTogether f terms set steps
+  unfolding its_stream its_report
+  judged_together f terms set steps cnf fits order members =
       let p = terms.layout in
       let first : ℕ → Track = λ t. record {
         bytes = [];
@@ -342,36 +381,53 @@ module _ (good : GoodExactlyIf) (sound : PropagationSound) (taken : GoodLineTake
         leaves = fresh (setting_of terms t) (first t).holding
             (record { tally = refl; standing = record { last = refl; free = refl; gone = λ id. refl }; pending = refl; line = refl });
       }) in
-      let streams : ℕ → Stream = λ t. record { bytes = flat_map line_text (lines_by t steps); unneeded = []; end = Some stream_ends.Ended } in
-      let said : ℕ → Report = λ t. right_report terms t (lines_by t steps) in
+      record {
+        history = all.history;
+        legal = record { events = all.legal; room = λ t. (all.each t).room };
+        judged = each_judged terms set all.history p.streams 1 (its_stream steps) (its_report terms steps) (λ t.
+            let its = all.each t in (
+              its.more,
+              its.events,
+              judged_out (setting_of terms t) (flat_map line_text (lines_by t steps)) [] stream_ends.Ended its.more (its_report terms steps t)
+                  (ended_report ends empty_cut one_cut terms t (lines_by t steps) its.more its.holding its.pending (lines_limits steps t order.fits) its.leaves),
+            ));
+        closed = λ t x m at.
+            subst (λ (y : Stream). CiteWithin p set y.bytes) (at_stream p.streams t (its_stream steps) x at) (record {
+              lines = lines_by t steps;
+              rest = [];
+              cut = record { bytes = sym (append-nil (flat_map line_text (lines_by t steps))); each = lines_limits steps t order.fits; last = empty_cut.last };
+              within = steps_cite p set steps (λ k. first_database f p) (λ k id d is.
+                  let found = is_first f p id d is in
+                  λ owner_of owns. absurd (let no : owners.Formula ≡ owners.Stream owner_of =
+                  sym (formula_owned p id found.positive (omega (arith, found.within, fits.clauses))) ∙ owns in cc)) members order.right t;
+            });
+      }
+
+  pub right_together : NoFalseBlame → RightTogether
+  unfolding its_stream its_report
+  right_together law f terms set steps told reports s telling report cnf fits order members r texts member here entry says memory failure =
       let n = terms.layout.streams in
-      let legal : IsLegal f p all.history = record { events = all.legal; room = λ t. (all.each t).room } in
-      let judged : AreJudgedIn terms set all.history 1 (each_from n 1 streams) (each_from n 1 said) =
-      each_judged terms set all.history n 1 streams said (λ t.
-      let its = all.each t in (
-        its.more,
-        its.events,
-        judged_out (setting_of terms t) (flat_map line_text (lines_by t steps)) [] stream_ends.Ended its.more (said t)
-            (ended_report ends empty_cut one_cut terms t (lines_by t steps) its.more its.holding its.pending (lines_limits steps t order.fits) its.leaves),
-      )) in
-      let ended : AllEnded set (each_from n 1 said) = λ t x m at. ap (λ (y : Report). y.ending) (sym (at_stream n t said x at)) in
-      let closed : IsClosed p set (each_from n 1 streams) = λ t x m at.
-      subst (λ (y : Stream). CiteWithin p set y.bytes) (at_stream n t streams x at) (record {
-        lines = lines_by t steps;
-        rest = [];
-        cut = record { bytes = sym (append-nil (flat_map line_text (lines_by t steps))); each = lines_limits steps t order.fits; last = empty_cut.last };
-        within = steps_cite p set steps (λ k. first_database f p) (λ k id d is.
-            let found = is_first f p id d is in
-            λ owner_of owns. absurd (let no : owners.Formula ≡ owners.Stream owner_of =
-            sym (formula_owned p id found.positive (omega (arith, found.within, fits.clauses))) ∙ owns in cc)) members order.right t;
-      }) in
-      let bytes : HaveBytesOf set (each_from n 1 streams) told = λ t x telling m at here.
-      texts t telling m here ∙ ap (λ (y : Stream). Some y.bytes) (at_stream n t streams x at) in
-      let within = slice_get_within reports (s - 1) report says.1 in
-      let many = judged_count terms (λ t. true) r.history 1 r.streams reports r.judged in
-      let first_place = says.0 in
-      let below : s - 1 < n = omega (arith, within, many, r.count, first_place) in
-      let place : 1 + (s - 1) ≡ s = omega (arith, first_place) in
-      let its_report : IsOfStream (each_from n 1 said) s (said s) = (first_place, each_get n 1 (s - 1) said below ∙ ap (λ (j : ℕ). Some (said j)) place) in
-      law f terms set all.history (each_from n 1 streams) (each_from n 1 said) told reports s (said s) report fits (each_count n 1 streams)
-      legal judged ended closed r bytes member its_report says memory failure
+      let j : AreJudgedTogether f terms set steps = judged_together f terms set steps cnf fits order members in
+      let place = report_place f terms told reports r s report says in
+      law f terms set j.history (each_from n 1 (its_stream steps)) (each_from n 1 (its_report terms steps)) told reports s
+      (its_stream steps s) telling (its_report terms steps s) report fits (each_count n 1 (its_stream steps))
+      j.legal j.judged j.closed member (each_place n s (its_stream steps) place.0 place.1) (each_place n s (its_report terms steps) place.0 place.1) refl
+      r (have_bytes terms.layout set steps told texts) here entry says memory failure
+
+  pub together_begins : OneFirstLine → RefusedStays → CitedFetched → TogetherBegins
+  unfolding its_stream its_report
+  together_begins first refused cited f terms set steps told reports s report cnf fits order members r texts member says =
+      let n = terms.layout.streams in
+      let c = setting_of terms s in
+      let j : AreJudgedTogether f terms set steps = judged_together f terms set steps cnf fits order members in
+      let place = report_place f terms told reports r s report says in
+      let on = tells_on good first refused cited f terms set j.history (each_from n 1 (its_stream steps)) (each_from n 1 (its_report terms steps)) told reports
+      fits (each_count n 1 (its_stream steps)) j.legal j.judged j.closed r (have_bytes terms.layout set steps told texts)
+      s (its_report terms steps s) report member (each_place n s (its_report terms steps) place.0 place.1) refl says in
+      let whole = flat_map line_text (lines_by s steps) in
+      let bytes : whole ≡ flat_map line_text on.lines = ap (λ (x : Stream). x.bytes) (at_stream n s (its_stream steps) on.stream on.at) ∙ on.text in
+      let same : on.lines ≡ lines_by s steps = (one_cut whole on.lines (lines_by s steps) [] []
+      (record { bytes = bytes ∙ sym (append-nil (flat_map line_text on.lines)); each = on.limits; last = empty_cut.last })
+      (record { bytes = sym (append-nil whole); each = lines_limits steps s order.fits; last = empty_cut.last })).0 in
+      subst (λ (ls : List StreamLine). TellsAtLeast report (right_report terms s (lines_by s steps)) ⊎ (IsCutOffIn (length ls) report ⊎ LacksOfAnother c report))
+      same on.tells

@@ -1,5 +1,5 @@
 -- Laws of right streams. Each is the contract of a function of laws.
-use Rattle.std.specs.Prelude.{◌≡◌, ◌↔◌, ℕ, Bool, IsTrue, List, length, Some}
+use Rattle.std.specs.Prelude.{◌≡◌, ◌⊎◌, ◌↔◌, ℕ, Bool, IsTrue, List, length, Some}
 use Rattle.std.specs.List.{AllByRecursion, Any, sum_by}
 use Rattle.lrup_model.specs.Formula.{Cnf, IsCnf}
 use Rattle.lrup_model.specs.Layout.{LayoutValue, IsLayout, Fits, IsStream}
@@ -12,7 +12,7 @@ use Rattle.stream_check.specs.Standing.{deleted_by}
 use Rattle.runs.specs.Closed.{IsOfStream, IsOwnedWithin, CiteWithin}
 use Rattle.runs.specs.Streams.{Telling, TermsValue}
 use Rattle.run_laws.specs.Groups.{one, IsReportAlone, IsRun}
-use Rattle.run_laws.specs.Right.{AddsEmpty, IsRightStream, right_report}
+use Rattle.run_laws.specs.Right.{AddsEmpty, IsCutOffIn, IsRightBeginning, IsRightStream, TellsAtLeast, right_report}
 
 -- a right stream cites and imports no clause of another stream
 abbrev pub RightCiteWithin : Type 0
@@ -45,7 +45,18 @@ RightReported = (f : Cnf) (terms : TermsValue) (s : ℕ) (bytes : List ℕ) (lin
     → IsOfStream reports s report → ¬ IsOfMemory report → ¬ IsOfFailure report
     → report ≡ right_report terms s lines
 
--- its count of deletions is that of all identities in them: 64 bits suffice for it
+-- Where the bytes only begin with a right stream, the report tells at least what these lines do, whatever comes behind them; unless
+-- memory ran out, or a read failed, in these lines.
+abbrev pub RightBegins : Type 0
+RightBegins = (f : Cnf) (terms : TermsValue) (s : ℕ) (bytes : List ℕ) (lines : List StreamLine)
+    (told : List Telling) (telling : Telling) (reports : List Report) (report : Report)
+    → IsCnf f → Fits terms.layout f → IsStream terms.layout s
+    → IsRightBeginning f terms.layout s bytes lines
+    → IsRun f terms told reports → IsOfStream told s telling → telling.entry ≡ Some bytes
+    → IsOfStream reports s report
+    → TellsAtLeast report (right_report terms s lines) ⊎ IsCutOffIn (length lines) report
+
+-- The count of deletions of a right stream is that of all identities in them: 64 bits suffice for it
 abbrev pub RightCounted : Type 0
 RightCounted = (f : Cnf) (terms : TermsValue) (s : ℕ) (bytes : List ℕ) (lines : List StreamLine)
     → IsCnf f → IsLayout terms.layout → Fits terms.layout f → IsStream terms.layout s
