@@ -1,5 +1,5 @@
-# lrupd: make run, make test, make install. Building needs Rattle's toolchain, the command rt, and nothing else; make demo and
-# make test also need a C compiler and Python 3.
+# `make help` tells what there is, by the words behind ##. Building needs Rattle's toolchain, the command rt, and nothing else; make
+# demo and make test also need a C compiler and Python 3.
 
 RT ?= rt
 PREFIX ?= /usr/local
@@ -11,25 +11,37 @@ FORMULA ?= examples/bmc.cnf
 STREAMS ?= $(addprefix examples/bmc-four.,1 2 3 4)
 OPTIONS ?= --tries 1000000
 
-.PHONY: run build install examples live demo solver exact solver-test filter-test neighbours sweep leaks instructions audit pages \
+.PHONY: help try run build install examples live demo solver exact solver-test filter-test neighbours sweep leaks instructions audit pages \
     test toolchain c-and-python
 
-# Builds the proved program and runs it on an example, or on files of one's own:
+help:
+	@awk -f gate/help.awk $(firstword $(MAKEFILE_LIST))
+
+# rt's own lines are left out.
+try: toolchain ## try: run the program on an example in about a minute, before anything is proved
+	@log=$$(mktemp); trap 'rm -f "$$log"' EXIT; status=0; cd crates/lrupd && $(RT) try -- \
+	$(foreach word,$(OPTIONS) $(FORMULA) $(STREAMS),$(or $(realpath $(word)),$(word))) < /dev/null 2> "$$log" || status=$$?; \
+	grep -q '^run=ended ' "$$log" || { cat "$$log"; exit 1; }; \
+	grep -v '^checked: \|^races: \|^run=' "$$log" >&2; \
+	echo "status $$status, not proved: make run proves it"; \
+	case $$status in 0|3|8) ;; *) exit $$status ;; esac
+
+# Of one's own files, as make try:
 #     make run FORMULA=path/to/formula.cnf STREAMS="path/to/stream1 path/to/stream2"
-run: build
+run: build ## try: the same, proved first; both take FORMULA=path STREAMS="path path" OPTIONS=--serial
 	@status=0; $(PROGRAM) $(OPTIONS) $(FORMULA) $(STREAMS) || status=$$?; \
 	echo "status $$status"; \
 	case $$status in 0|3|8) ;; *) exit $$status ;; esac
 
-# Proves the program and all that it stands on, and leaves it at crates/lrupd/out/lrupd. A line a crate as it is proved.
+# A line a crate as it is proved.
 build: SHELL := /bin/bash
-build: toolchain
+build: toolchain ## build: prove the program, 7 to 30 minutes the first time, and leave it at crates/lrupd/out/lrupd
 	@mkdir -p $(dir $(LOG))
 	@set -o pipefail; cd crates/lrupd && $(RT) run -- "$(abspath examples/four-clause.cnf)" "$(abspath examples/four-clause.lrup)" \
 	2>&1 | sh $(abspath gate/progress.sh) $(abspath $(LOG)) || { cat $(abspath $(LOG)); exit 1; }
 
-# The program, and the filter as lrup-exact, with their manual pages, below PREFIX.
-install: build exact
+# The filter's name is lrup-exact.
+install: build exact ## use: install the program and the filter, with their manual pages, below PREFIX=/usr/local
 	install -d "$(DESTDIR)$(PREFIX)/bin" "$(DESTDIR)$(PREFIX)/share/man/man1"
 	install -m 755 $(PROGRAM) "$(DESTDIR)$(PREFIX)/bin/lrupd"
 	install -m 755 $(EXACT) "$(DESTDIR)$(PREFIX)/bin/lrup-exact"
@@ -37,60 +49,53 @@ install: build exact
 
 # What the program writes on standard output and standard error, and its status, on the examples and on some hundred small runs;
 # two groups of streams, checked apart; and whether README, USING, the manual page and --help say the same.
-examples: build
+examples: build ## check: compare what the program answers on the examples, and on some hundred small runs
 	@sh examples/compare.sh $(PROGRAM)
 	@sh examples/groups.sh $(PROGRAM)
 	@sh examples/words.sh $(PROGRAM)
 
-# Four recorded solvers, line by line through pipes, checked while they run.
-live: build
+live: build ## check: four recorded solvers, line by line through pipes, checked while they run
 	@sh examples/live.sh $(PROGRAM)
 
-# Four solvers that share their clauses, and the program beside them.
-demo: build solver
+demo: build solver ## try: four solvers that share their clauses, and the program beside them
 	@python3 examples/solver/demo.py $(PROGRAM) $(SOLVER)
 
-# The solver of the demo: an example, and not verified.
-solver: c-and-python
+# An example, and not verified.
+solver: c-and-python ## build: the solver of the demo, at examples/solver/out/solver
 	@mkdir -p $(dir $(SOLVER))
 	@$(CC) -std=c11 -O2 -Wall -Wextra -pthread -I tools/exact -o $(SOLVER) examples/solver/*.c tools/exact/formula.c
 
-# The filter that makes streams of other solvers' proofs: not verified, and not trusted.
-exact: c-and-python
+# Not verified, and not trusted.
+exact: c-and-python ## build: the filter that makes streams of other solvers' proofs, at tools/exact/out/exact
 	@mkdir -p $(dir $(EXACT))
 	@$(CC) -std=c11 -O2 -Wall -Wextra -o $(EXACT) tools/exact/*.c
 
-# The solver's streams, and those that the filter for inexact proofs makes.
-solver-test: build solver
+solver-test: build solver ## check: the example solver's streams, of one to eight solvers, and of some that are killed
 	@python3 examples/solver/test.py $(PROGRAM) $(SOLVER)
 
-# The filter for inexact proofs, with the solvers that are on the PATH, and 10,000 mutated proofs.
-filter-test: build exact
+filter-test: build exact ## check: the filter, with the solvers that are on the PATH, and 10,000 mutated proofs
 	@python3 tools/test.py $(PROGRAM) && python3 tools/mutate.py $(PROGRAM)
 
-# A good proof beside hostile streams: what is said of it never changes.
-neighbours: build c-and-python
+neighbours: build c-and-python ## check: what is said of a good proof beside hostile streams, which never changes
 	@python3 examples/neighbours.py $(PROGRAM)
 
-# Runs with each allocation, read, write and thread refused in turn.
-sweep: build c-and-python
+sweep: build c-and-python ## check: runs with each allocation, read, write and thread refused in turn
 	@python3 gate/sweep.py $(PROGRAM) $(RT)
 
-# Whether all memory is given back, with valgrind; without valgrind nothing is run.
-leaks: build
+# Without valgrind nothing is run, nor by make instructions.
+leaks: build ## measure: memory that isn't given back, by valgrind
 	@sh gate/leaks.sh $(PROGRAM)
 
-# How many instructions lines take, with valgrind, beside what they took; without valgrind nothing is counted.
-instructions: build c-and-python
+instructions: build c-and-python ## measure: how many instructions lines take, by valgrind, beside what they took
 	@python3 gate/instructions.py $(PROGRAM)
 
-# Writes docs/AUDIT.md and docs/AUDIT-RUNS.md: what one has to read to believe status 0 and 8, and whole runs, from the sources.
-audit:
+# What one has to read to believe status 0 and 8, and whole runs.
+audit: ## check: write docs/AUDIT.md and docs/AUDIT-RUNS.md anew from the sources
 	@python3 gate/audit.py
 
-# What needs no prover: whether these pages are what the sources give, and DEFINITIONS has their counts; whether the names in backticks
-# in the documents exist; and whether clauses and definitions are within 100 columns, and each lemma stands once.
-pages: c-and-python
+# Whether the two pages are what the sources give, and DEFINITIONS has their counts; whether the names in backticks in the documents
+# exist; and whether clauses and definitions are within 100 columns, and each lemma stands once.
+pages: c-and-python ## check: the documents, against the sources and each other; needs no prover
 	@python3 gate/audit.py --check
 	@python3 gate/style.py
 
@@ -99,7 +104,7 @@ pages: c-and-python
 # proofs, a proof beside hostile streams, each call of the system refused in turn, of the program and of tests, memory given back,
 # and the instructions that lines take. The last line is rt's own, 'N passed, M failed'.
 test: SHELL := /bin/bash
-test: toolchain pages solver exact
+test: toolchain pages solver exact ## check: the gate, 25 to 100 minutes: every proof, edit and test; has to pass before a push
 	@set -o pipefail; log=$$(mktemp); trap 'rm -f "$$log"' EXIT; \
 	$(RT) ci | tee "$$log" && sh examples/compare.sh $(PROGRAM) && sh examples/groups.sh $(PROGRAM) && \
 	sh examples/words.sh $(PROGRAM) && sh examples/live.sh $(PROGRAM) && python3 examples/solver/test.py $(PROGRAM) $(SOLVER) && \

@@ -4,8 +4,9 @@
     python3 gate/style.py
 
 It lists names in backticks, in the documents, that don't exist; lines of clauses and of definitions beyond 100 columns; lemmas
-that are stated twice; names that mean one thing in one crate and another in another; and where the picture of the crates isn't
-what crates.txt says. The last line has the counts, and the status is 1 where one of them isn't 0.
+that are stated twice; names that mean one thing in one crate and another in another; where the picture of the crates isn't what
+crates.txt says; targets of the Makefile that CONTRIBUTING doesn't tell as `make help` does; and whether the logic of README is the
+one of the `rt` on the PATH, if there is one. The last line has the counts, and the status is 1 where one of them isn't 0.
 
 A name in backticks is looked for in the code, the definitions and proofs, the scripts, and the names of files; of `Type::call`
 and `Module.name` the pair. Where several words stand in backticks, a name is one with an underscore, a capital within or `::`, an
@@ -13,6 +14,8 @@ option or a path.
 """
 import os
 import re
+import shutil
+import subprocess
 import sys
 from collections import defaultdict
 from pathlib import Path
@@ -193,6 +196,40 @@ def wrong_arrows():
             yield f"{shown(page)}: the picture {what} {crate} --> {name}"
 
 
+# What CONTRIBUTING says of the Makefile.
+
+UNTOLD = {"help", "toolchain", "c-and-python"}
+
+
+def untold_targets():
+    """Those that `make help` leaves out, and its lines that CONTRIBUTING hasn't, or has beyond them."""
+    says = subprocess.run(["make", "-s", "--no-print-directory", "help"], cwd=ROOT, capture_output=True, text=True, check=True).stdout
+    for name in re.findall(r"^([a-z-]+):(?! [A-Z]+ :=)", (ROOT / "Makefile").read_text(), re.M):
+        if name not in UNTOLD and f"  make {name} " not in says:
+            yield f"Makefile: make help says nothing of {name}: its line lacks ' ## KIND: WHAT IT DOES'"
+    page = ROOT / "CONTRIBUTING.md"
+    block = re.search(r"^    \$ make help\n((?:    .+\n)*)", page.read_text(), re.M)
+    told = re.sub(r"^    ", "", block[1], flags=re.M).splitlines() if block else []
+    for what, lines, others in (("lacks", says.splitlines(), told), ("has, and make help doesn't print,", told, says.splitlines())):
+        for line in lines:
+            if line not in others:
+                yield f"{shown(page)}: {what} '{line}'"
+    if not block or sorted(told) == sorted(says.splitlines()) and told != says.splitlines():
+        yield f"{shown(page)}: the lines of make help stand in another order"
+
+
+# The logic that all is proved in.
+
+
+def other_logics():
+    """The logic's number in README, where `rt version` has another one."""
+    if shutil.which("rt"):
+        says = subprocess.run(["rt", "version"], capture_output=True, text=True, check=True).stdout.strip()
+        told = re.search(r"`rattle-kit-\w+ (logic \w+)`", (ROOT / "README.md").read_text())
+        if not told or not says.endswith(told[1]):
+            yield f"README.md: rt version says '{says}'"
+
+
 # Names in backticks.
 
 
@@ -302,7 +339,8 @@ def main():
         sys.exit(__doc__)
     checks = [("names in backticks that don't exist", unknown_names), ("lines of clauses too wide", wide_clauses),
               ("lines of definitions too wide", wide_definitions), ("statements of lemmas more than once", repeated_statements),
-              ("names with two meanings", names_with_two_meanings), ("arrows that are wrong", wrong_arrows)]
+              ("names with two meanings", names_with_two_meanings), ("arrows that are wrong", wrong_arrows),
+              ("lines of make help told otherwise", untold_targets), ("logics told otherwise", other_logics)]
     counts = []
     for what, check in checks:
         found = list(check())

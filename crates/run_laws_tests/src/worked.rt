@@ -1,7 +1,7 @@
 //! Lines of one stream, right and not, by the definitions alone.
 ghost use Rattle.std.specs.Prelude.{◌≡◌, ◌++◌, ℕ, List, [], ◌∷◌, pos, negsuc, Some, codes};
 ghost use Rattle.lrup_text.specs.Lines.{Addition, Deletion, Import};
-ghost use Rattle.run_laws.specs.Right.{IsRightLine, IsRightRefutation, first_database};
+ghost use Rattle.run_laws.specs.Right.{IsRightLine, IsRightRefutation, IsRightStream, first_database};
 ghost use Rattle.run_laws.specs.Together.{IsRightOrder};
 ghost use Rattle.run_laws_tests.specs.Worked.{at_first, at_roomy, crossed, one_stream, retired_first, roomy, shared, two_streams, with_five, with_repeat, without_five, without_one, BeginningCounted, RefutationCounted, SharedCounted};
 ghost use Rattle.test_support.specs.Worked.{four, unit};
@@ -25,6 +25,12 @@ fn the_first_line_is_no_refutation()
     bytes_begin_with_one_line();
     no_bytes_may_become_a_line();
 }
+
+/// Bytes after the lines, and a line that breaks a limit of streams.
+fn streams_are_not_right()
+    ensures rest { ¬ IsRightStream four one_stream 1 (codes "5 d 0\n5") (Deletion 5 [] ∷ []) }
+    ensures limits { ¬ IsRightStream four one_stream 1 (codes "0 d 0\n") (Deletion 0 [] ∷ []) }
+{}
 
 /// Hints may stand in either order here, identities may have gaps, and imports may say a clause in their own way. A deletion takes
 /// clauses of the formula and of the stream.
@@ -101,9 +107,13 @@ fn streams_leave_one_another_alone()
     ensures { IsRightOrder four two_streams crossed }
 {}
 
-/// What its owner deleted, no other stream may cite.
-fn retired_clauses_are_not_right()
-    ensures { ¬ IsRightOrder four two_streams retired_first }
+/// What its owner deleted, no other stream may import; a line breaks a limit of streams; there is no such stream.
+fn orders_are_not_right()
+    ensures retired { ¬ IsRightOrder four two_streams retired_first }
+    ensures limits { ¬ IsRightOrder four two_streams
+        (record { stream = 1; line = Deletion 0 [] } ∷ []) }
+    ensures stream { ¬ IsRightOrder four two_streams
+        (record { stream = 3; line = Deletion 5 [] } ∷ []) }
 {}
 
 /// By the law of right streams, every run tells so of the worked stream.
