@@ -226,7 +226,7 @@ module _ (one_formula : OneFormula) (serial : SerialRun) (alike : SameWordsAskAl
         | inr (inr lacks) ↦ inr (
           report.0,
           report.1,
-          inr (lacks.0, lacks.1, subst (λ (p : LayoutValue). IsAnothers p s lacks.1) (sym is.layouts) lacks.2, lacks.3),
+          inr (lacks.0, lacks.1, lacks.2, subst (λ (p : LayoutValue). IsAnothers p s lacks.1) (sym is.layouts) lacks.3, lacks.4),
         )
       ]
 

@@ -12,7 +12,7 @@ use Rattle.dimacs.specs.FormulaText.{IsFormulaText}
 use Rattle.stream_check.specs.declared.report.Report.{Report}
 use Rattle.runs.specs.Closed.{IsOfStream}
 use Rattle.runs.specs.Streams.{setting_of}
-use Rattle.run_laws.specs.Blame.{LacksOfAnother}
+use Rattle.run_laws.specs.Blame.{LacksOfAnotherIn}
 use Rattle.run_laws.specs.Right.{AddsEmpty, IsCutOffIn, IsRightRefutation}
 use Rattle.run_laws.specs.Together.{Step, IsRightOrder, lines_by}
 use Rattle.portfolio.specs.declared.outcome.Verdict.{Verdict}
@@ -81,13 +81,13 @@ IsOfMachine (faults.Ring stream) = Unit {0}
 IsOfMachine faults.Memory = Unit {0}
 IsOfMachine faults.Unwritten = ⊥
 
--- memory ran out, or a read failed, in the first lines of stream s, so many; or a line of it cites a clause of another stream that
+-- memory ran out, or a read failed, in the first lines of stream s, so many; or one of them cites a clause of another stream that
 -- wasn't there, or wasn't any more
 abbrev pub IsHeldUp : (R : Type 0) (files : FilesView R) (words : List Text) → AskWell R files words
     → ℕ → ℕ → Report → Type 0
 IsHeldUp R files words asks s count report =
     IsCutOffIn count report
-    ⊎ LacksOfAnother (setting_of (terms_given asks.given [] asks.formula) s) report
+    ⊎ LacksOfAnotherIn (setting_of (terms_given asks.given [] asks.formula) s) count report
 
 -- Why the program doesn't say 'unsatisfiable', where stream s adds the empty clause by right lines. None of these says that a line
 -- is wrong.
@@ -117,8 +117,8 @@ RightRefutationSays R files = (words : List Text) (s : ℕ) (out err : SinkChang
     → (status ≡ 0)
     ⊎ IsExcused R files words s (IsCutOffIn (length ask.right.lines)) out status
 
--- So it is where they ask for streams whose lines have a right order, with one more reason for 3 or 8: a line of that stream cites a
--- clause of another stream that wasn't there, or wasn't any more.
+-- So it is where they ask for streams whose lines have a right order, with one more reason for 3 or 8: one of that stream's lines
+-- cites a clause of another stream that wasn't there, or wasn't any more.
 abbrev pub RightOrderSays : (R : Type 0) → FilesView R → Type 0
 RightOrderSays R files = (words : List Text) (s : ℕ) (out err : SinkChange) (status : ℕ)
     → (ask : AskForRightOrder R files words s)

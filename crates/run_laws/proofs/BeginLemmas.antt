@@ -97,5 +97,5 @@ right_begins good sound taken fresh ends empty_cut one_cut first refused
           (subst (λ (ls : List StreamLine). EndsAfter c ls j.rest read.reads.end j.back report)
           (on.1 ∙ ap (λ (ls : List StreamLine). ls ++ on.0) same) j.ends))
       | inr (inl cut) ↦ inr cut
-      | inr (inr lacks) ↦ absurd lacks.4
+      | inr (inr lacks) ↦ absurd lacks.3
     ]

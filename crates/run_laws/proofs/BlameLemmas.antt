@@ -32,11 +32,11 @@ use Rattle.runs.specs.Closed.{IsOfStream, IsClosed}
 use Rattle.runs.specs.Headline.{AreJudgedIn}
 use Rattle.runs.specs.Streams.{Stream, Telling, TermsValue, setting_of}
 use Rattle.runs.specs.StreamLemmas.{judged_count, same_at, some_end, told_count}
-use Rattle.run_laws.specs.Blame.{HaveBytesOf, LacksOfAnother, NoFalseBlame}
+use Rattle.run_laws.specs.Blame.{HaveBytesOf, LacksOfAnother, LacksOfAnotherIn, NoFalseBlame}
 use Rattle.run_laws.specs.Right.{IsCutOffIn, TellsAtLeast}
 use Rattle.run_laws.specs.Groups.{IsRun}
 use Rattle.run_laws.proofs.BlameLines.{IsFoundIn, AreFair, FindAlike, same_clause}
-use Rattle.run_laws.proofs.BlameStreams.{near_fair, IsStillThere, all_still_there, own_all, IsIn, in_left, in_all, own_published, left_published, stream_publishes, has_ended, fair_front, LacksFound, IsBlameless, GoesOn, lines_go_on, goes_on_tells, whole_told}
+use Rattle.run_laws.proofs.BlameStreams.{near_fair, IsStillThere, all_still_there, own_all, IsIn, in_left, in_all, own_published, left_published, stream_publishes, has_ended, fair_front, IsBlameless, GoesOn, lines_go_on, goes_on_tells, whole_told}
 use Rattle.run_laws.proofs.GroupLemmas.{inside, is_inside, inside_is, closed_finds}
 use Rattle.run_laws.proofs.Places.{has_place, judged_at}
 use Rattle.run_laws.proofs.RightLines.{side_by}
@@ -307,10 +307,8 @@ module _ (law : GoodExactlyIf) (first : OneFirstLine) (refused : RefusedStays) (
       pub lines : List StreamLine
       pub limits : AllByRecursion IsWithinLimits lines
       pub text : stream.bytes ≡ flat_map line_text lines
-      pub tells : TellsAtLeast other report ⊎ (IsCutOffIn (length lines) other ⊎ LacksOfAnother (setting_of terms s) other)
-
-    lacks_another : (c : Setting) (report : Report) → LacksFound c Mine report → LacksOfAnother c report
-    lacks_another c report lacks = (lacks.0, lacks.1, lacks.3, lacks.5)
+      pub tells : TellsAtLeast other report
+          ⊎ (IsCutOffIn (length lines) other ⊎ LacksOfAnotherIn (setting_of terms s) (length lines) other)
 
     pub tells_on : (s : ℕ) (report other : Report) → IsTrue (set s) → IsOfStream reports s report → report.ending ≡ endings.Ended
         → IsOfStream others s other → TellsOn s report other
@@ -330,14 +328,14 @@ module _ (law : GoodExactlyIf) (first : OneFirstLine) (refused : RefusedStays) (
           lines = w.judges.lines;
           limits = w.judges.fits;
           text = w.judges.text ∙ ap (λ (b : List ℕ). flat_map line_text w.judges.lines ++ b) over.none ∙ append-nil (flat_map line_text w.judges.lines);
-          tells = subst (λ (x : Report). TellsAtLeast x report ⊎ (IsCutOffIn (length w.judges.lines) x ⊎ LacksOfAnother c x)) its_other_report
+          tells = subst (λ (x : Report). TellsAtLeast x report ⊎ (IsCutOffIn (length w.judges.lines) x ⊎ LacksOfAnotherIn c (length w.judges.lines) x)) its_other_report
               (elim (goes_on s here w its.0 its.1 over.none) [
                 | inl on ↦ inl (subst (TellsAtLeast its.1.report) (sym over.says ∙ its_report)
                     (goes_on_tells c w.judges.lines on.0 its.1.read.reads.judges.rest its.1.read.reads.end its.1.read.reads.judges.back its.1.report
                     (subst (λ (ls : List StreamLine). EndsAfter c ls its.1.read.reads.judges.rest its.1.read.reads.end its.1.read.reads.judges.back its.1.report) on.1
                     its.1.read.reads.judges.ends)))
                 | inr (inl cut) ↦ inr (inl cut)
-                | inr (inr lacks) ↦ inr (inr (lacks_another c its.1.report lacks))
+                | inr (inr lacks) ↦ inr (inr (lacks.1, lacks.2, lacks.4, lacks.5, lacks.6))
               ]);
         }
 
@@ -368,7 +366,7 @@ module _ (law : GoodExactlyIf) (first : OneFirstLine) (refused : RefusedStays) (
                 no_memory no_failure j.ends ∙ sym over.says ∙ its_report)
             | inr (inl (line, below, inl lost)) ↦ absurd (no_memory (line, lost))
             | inr (inl (line, below, inr failed)) ↦ absurd (no_failure (line, failed))
-            | inr (inr lacks) ↦ inr (subst (LacksOfAnother c) its_other (lacks_another c o.report lacks))
+            | inr (inr lacks) ↦ inr (subst (LacksOfAnother c) its_other (length w.judges.lines, (lacks.1, lacks.2, lacks.4, lacks.5, lacks.6)))
           ]
 
 pub no_false_blame : GoodExactlyIf → OneFirstLine → RefusedStays → OneFault → EmptyPending → CitedFetched → NoFalseBlame

@@ -242,14 +242,14 @@ pub fair_back : (c : Setting) (Found : ℕ → Clause → Type 0) (m : State) (a
 fair_back c Found m [] b fair = fair
 fair_back c Found m (e ∷ a) b fair = fair_back c Found (after m e) a b fair.2
 
--- a line lacks a clause of another stream, which was found
-abbrev pub LacksFound : Setting → (ℕ → Clause → Type 0) → Report → Type 0
-LacksFound c Mine report = (line h : ℕ) × (d : Clause) × (side_of c h ≡ sides.Foreign) × Mine h d
+-- one of the first lines, so many, lacks a clause of another stream, which was found
+abbrev pub LacksFound : Setting → (ℕ → Clause → Type 0) → ℕ → Report → Type 0
+LacksFound c Mine count report = (d : Clause) × (line h : ℕ) × Mine h d × (line ≤ count) × (side_of c h ≡ sides.Foreign)
     × ((report.ending ≡ endings.Bad line (faults.Missing h)) ⊎ (report.ending ≡ endings.Bad line (faults.Retired h)))
 
--- the report is of an ending in these lines for which none of them is to blame
+-- the report is of an ending in the first lines, so many, for which none of them is to blame
 abbrev pub IsBlameless : Setting → (ℕ → Clause → Type 0) → ℕ → Report → Type 0
-IsBlameless c Mine count report = IsCutOffIn count report ⊎ LacksFound c Mine report
+IsBlameless c Mine count report = IsCutOffIn count report ⊎ LacksFound c Mine count report
 
 -- the good lines go on from these
 abbrev pub GoesOn : List StreamLine → List StreamLine → Type 0
@@ -257,15 +257,15 @@ GoesOn lines all = (later : List StreamLine) × (all ≡ lines ++ later)
 
 module _ (law : GoodExactlyIf) (first : OneFirstLine) (refused : RefusedStays) (c : Setting) (Mine Theirs : ℕ → Clause → Type 0)
     (alike : FindAlike c Mine Theirs) where
-  lacks : (deleted n : ℕ) (fault : Fault) (report : Report) → report.ending ≡ endings.Bad n fault
-      → IsGoodOrLacks c Mine (Bad deleted fault) → LacksFound c Mine report
-  lacks deleted n fault report says (inl good) = absurd (let no : Bad deleted fault ≡ Good = good in cc)
-  lacks deleted n fault report says (inr (h, d, foreign, was, inl missing)) =
+  lacks : (deleted n count : ℕ) (fault : Fault) (report : Report) → n ≤ count → report.ending ≡ endings.Bad n fault
+      → IsGoodOrLacks c Mine (Bad deleted fault) → LacksFound c Mine count report
+  lacks deleted n count fault report below says (inl good) = absurd (let no : Bad deleted fault ≡ Good = good in cc)
+  lacks deleted n count fault report below says (inr (h, d, foreign, was, inl missing)) =
       let is : fault ≡ faults.Missing h = let e : Bad deleted fault ≡ Bad 0 (faults.Missing h) = missing in cc in
-      (n, h, d, foreign, was, inl (says ∙ ap (λ (x : Fault). endings.Bad n x) is))
-  lacks deleted n fault report says (inr (h, d, foreign, was, inr gone)) =
+      (d, n, h, was, below, foreign, inl (says ∙ ap (λ (x : Fault). endings.Bad n x) is))
+  lacks deleted n count fault report below says (inr (h, d, foreign, was, inr gone)) =
       let is : fault ≡ faults.Retired h = let e : Bad deleted fault ≡ Bad 0 (faults.Retired h) = gone in cc in
-      (n, h, d, foreign, was, inr (says ∙ ap (λ (x : Fault). endings.Bad n x) is))
+      (d, n, h, was, below, foreign, inr (says ∙ ap (λ (x : Fault). endings.Bad n x) is))
 
   -- where a whole line is left, the stream didn't come to its end
   at_its_end : (line : StreamLine) (later rest left : List ℕ) (end : StreamEnd) (before : List StreamLine) (n count : ℕ) (report : Report)
@@ -284,7 +284,7 @@ module _ (law : GoodExactlyIf) (first : OneFirstLine) (refused : RefusedStays) (
   at_line before line later rest left end fs back m count report below limits is none good mine theirs (at_bad_line other more text fits block is_one deleted fault bad says) =
       let same = first line other later (more ++ left) limits fits (sym is ∙ ap (λ (b : List ℕ). b ++ left) text ∙ append_assoc (line_text other) more left) in
       let here : AreFair c Theirs m block = fair_front c Theirs m block [] (subst (λ (x : List History). AreFair c Theirs m (joined x)) is_one theirs) in
-      inr (lacks deleted (capped (length before + 1)) fault report (ap (λ (r : Report). r.ending) says)
+      inr (lacks deleted (capped (length before + 1)) count fault report (omega (arith, below)) (ap (λ (r : Report). r.ending) says)
       (line_agrees law c Mine Theirs m (standing_of c before) line fs block (Bad deleted fault) alike mine here good
       (subst (λ (l : StreamLine). JudgesLine c (standing_of c before) l block (Bad deleted fault)) (sym same.0) bad)))
   at_line before line later rest left end fs back m count report below limits is none good mine theirs (at_bad_text fault text no_block says) =

@@ -27,7 +27,7 @@ use Rattle.runs.specs.Closed.{IsOfStream, IsOwnedWithin, CiteWithin, IsClosed}
 use Rattle.runs.specs.Headline.{AreJudgedIn}
 use Rattle.runs.specs.Streams.{Stream, Telling, TermsValue, setting_of}
 use Rattle.runs.specs.StreamLemmas.{IsJudgedBy, judged_count, judged_out}
-use Rattle.run_laws.specs.Blame.{HaveBytesOf, LacksOfAnother, NoFalseBlame}
+use Rattle.run_laws.specs.Blame.{HaveBytesOf, LacksOfAnotherIn, NoFalseBlame}
 use Rattle.run_laws.specs.Groups.{IsRun}
 use Rattle.run_laws.specs.Right.{Database, first_database, after_line, IsRightLine, right_report, IsCutOffIn, TellsAtLeast}
 use Rattle.run_laws.specs.Together.{Step, is_own, beside_line, after_step, AreRightTogether, lines_by, IsRightOrder, HaveTexts, RightTogether, TogetherBegins}
@@ -429,5 +429,5 @@ module _ (good : GoodExactlyIf) (sound : PropagationSound) (taken : GoodLineTake
       let same : on.lines ≡ lines_by s steps = (one_cut whole on.lines (lines_by s steps) [] []
       (record { bytes = bytes ∙ sym (append-nil (flat_map line_text on.lines)); each = on.limits; last = empty_cut.last })
       (record { bytes = sym (append-nil whole); each = lines_limits steps s order.fits; last = empty_cut.last })).0 in
-      subst (λ (ls : List StreamLine). TellsAtLeast report (right_report terms s (lines_by s steps)) ⊎ (IsCutOffIn (length ls) report ⊎ LacksOfAnother c report))
+      subst (λ (ls : List StreamLine). TellsAtLeast report (right_report terms s (lines_by s steps)) ⊎ (IsCutOffIn (length ls) report ⊎ LacksOfAnotherIn c (length ls) report))
       same on.tells

@@ -1,5 +1,5 @@
 -- Streams that are right in one history aren't blamed in another, and the law that says so.
-use Rattle.std.specs.Prelude.{◌≡◌, ◌⊎◌, ◌++◌, ℕ, Bool, IsTrue, List, length, Some}
+use Rattle.std.specs.Prelude.{◌≡◌, ◌⊎◌, ◌≤◌, ◌++◌, ℕ, Bool, IsTrue, List, length, Some}
 use Rattle.lrup_model.specs.Formula.{Cnf}
 use Rattle.lrup_model.specs.Layout.{Fits}
 use Rattle.lrup_model.specs.Event.{History}
@@ -21,14 +21,18 @@ HaveBytesOf set streams told =
     (t : ℕ) (stream : Stream) (telling : Telling) → IsTrue (set t) → IsOfStream streams t stream
     → IsOfStream told t telling → (more : List ℕ) × (telling.entry ≡ Some (stream.bytes ++ more))
 
--- the report tells of a line that cites a clause of another stream, which wasn't there, or wasn't any more
-abbrev pub LacksOfAnother : Setting → Report → Type 0
-LacksOfAnother c report = (line id : ℕ) × (side_of c id ≡ sides.Foreign)
+-- the report tells of one of the first lines, so many, that cites a clause of another stream, which wasn't there, or wasn't any more
+abbrev pub LacksOfAnotherIn : Setting → ℕ → Report → Type 0
+LacksOfAnotherIn c count report = (line id : ℕ) × (line ≤ count) × (side_of c id ≡ sides.Foreign)
     × ((report.ending ≡ endings.Bad line (faults.Missing id))
     ⊎ (report.ending ≡ endings.Bad line (faults.Retired id)))
 
--- No false blame: where some legal history judges a closed set of streams, and one of them ended, then in every run in which its
--- reader has the same bytes, and the readers of the set begin with theirs, it has the same report; or memory ran out, or a read
+-- or of any line
+abbrev pub LacksOfAnother : Setting → Report → Type 0
+LacksOfAnother c report = (count : ℕ) × LacksOfAnotherIn c count report
+
+-- No false blame: where some legal history judges a closed set of streams, and one of them ended there, it has the same report in
+-- every run in which its reader has the same bytes, and the set's other readers have at least theirs; or memory ran out, or a read
 -- failed; or a line of it cites a clause of another stream that wasn't there, or wasn't any more.
 abbrev pub NoFalseBlame : Type 0
 NoFalseBlame = (f : Cnf) (terms : TermsValue) (set : ℕ → Bool) (history : History)

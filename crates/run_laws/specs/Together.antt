@@ -13,7 +13,7 @@ use Rattle.stream_check.specs.Laws.{IsOfMemory, IsOfFailure}
 use Rattle.stream_check.specs.Standing.{is_among}
 use Rattle.runs.specs.Closed.{IsOfStream}
 use Rattle.runs.specs.Streams.{Telling, TermsValue, setting_of}
-use Rattle.run_laws.specs.Blame.{LacksOfAnother}
+use Rattle.run_laws.specs.Blame.{LacksOfAnother, LacksOfAnotherIn}
 use Rattle.run_laws.specs.Groups.{IsRun}
 use Rattle.run_laws.specs.Right.{Database, first_database, after_line, IsRightLine, right_report, IsCutOffIn, TellsAtLeast}
 
@@ -79,7 +79,7 @@ HaveTexts set steps told =
     × (telling.entry ≡ Some (flat_map line_text (lines_by t steps) ++ more))
 
 -- Where lines of a set of streams have a right order, then in every run of these streams the report of each tells at least what its
--- lines do; or memory ran out, or a read failed, in these lines; or a line of it cites a clause of another stream that wasn't there,
+-- lines do; or memory ran out, or a read failed, in these lines; or one of them cites a clause of another stream that wasn't there,
 -- or wasn't any more. That is so whatever the streams outside the set are, and whatever comes behind the lines.
 abbrev pub TogetherBegins : Type 0
 TogetherBegins = (f : Cnf) (terms : TermsValue) (set : ℕ → Bool) (steps : List Step)
@@ -90,7 +90,7 @@ TogetherBegins = (f : Cnf) (terms : TermsValue) (set : ℕ → Bool) (steps : Li
     → IsTrue (set s) → IsOfStream reports s report
     → TellsAtLeast report (right_report terms s (lines_by s steps))
     ⊎ (IsCutOffIn (length (lines_by s steps)) report
-    ⊎ LacksOfAnother (setting_of terms s) report)
+    ⊎ LacksOfAnotherIn (setting_of terms s) (length (lines_by s steps)) report)
 
 -- Where nothing comes behind a stream's lines, it ended, as its right report says; or memory ran out, or a read failed; or a line of
 -- it cites a clause of another stream that wasn't there, or wasn't any more.

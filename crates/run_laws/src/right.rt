@@ -105,9 +105,9 @@ pub fn right_empty()
     ensures { RightEmpty }
 {}
 
-/// Where some legal history judges a closed set of streams, and one of them ended, it has the same report in every run in which its
-/// reader has the same bytes, and the readers of the set begin with theirs, unless memory ran out or a read failed; or a line of it
-/// cites a clause of another stream that wasn't there, or wasn't any more.
+/// Where some legal history judges a closed set of streams, and one of them ended there, it has the same report in every run in which
+/// its reader has the same bytes, and the set's other readers have at least theirs, unless memory ran out or a read failed; or a line
+/// of it cites a clause of another stream that wasn't there, or wasn't any more.
 pub fn no_false_blame()
     ensures { NoFalseBlame }
 {
@@ -120,7 +120,7 @@ pub fn no_false_blame()
 }
 
 /// Where lines of a set of streams have a right order, the report of each tells at least what its lines do, in every run in which the
-/// readers begin with them, unless memory ran out, or a read failed, in these lines; or a line of it cites a clause of another stream
+/// readers begin with them, unless memory ran out, or a read failed, in these lines; or one of them cites a clause of another stream
 /// that wasn't there, or wasn't any more.
 pub fn together_begins()
     ensures { TogetherBegins }
