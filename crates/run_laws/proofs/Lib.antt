@@ -14,6 +14,9 @@ mod BlameLines
 mod BlameStreams
 mod BlameLemmas
 mod TogetherLemmas
+mod OneOrder
+mod TurnsLemmas
+mod RightTurns
 pub mod BlockLemmas
 pub mod AheadLemmas
 pub mod WalkLemmas
