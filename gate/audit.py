@@ -632,14 +632,14 @@ def phrase_by_phrase(said, rows):
 
 # Of these traits what the clauses rest on: the members, and the clauses of each.
 SHOWN = {
-    "Files": {"Input": [], "tells": [], "opens": [], "open": ["opens", "stays_opens"]},
+    "Files": {"Input": [], "tells": [], "opens": [], "open": ["opens"]},
     "Source": {"reads": [], "read": ["reads"]},
 }
 
 # What signatures name and no clause on the pages speaks of.
 UNSEEN = {"DimacsFault", "OpenFault", "ReadFault", "Sink"}
 
-MOST_WORDS = 4000       # of the page on status 0 and 8
+MOST_WORDS = 4100       # of the page on status 0 and 8
 
 MADE = "Made from the sources by `make audit`; the gate fails where this page isn't what they give."
 
@@ -663,9 +663,9 @@ where memory is from."""
 
 STATUS_0_PHRASES = [
     ("with status 0", "[[fn command.sound: result ≡ 0 →]], where `result` is the status."),
-    ("the bytes that were read", """they are the `bytes` of [[NameUnsatisfiable: Read formula bytes]], and `Read` is
-     [[fn command.sound: WasRead _ (F.opens files.old) F.Input.Source.reads (F.tells files.old)]]: the file was opened, and its
-     reads gave these bytes, up to one that gave none ([[WasRead]], [[GaveAll]])."""),
+    ("the bytes that were read", """they are the `bytes` of [[NameUnsatisfiable: Read first formula bytes after]], and `Read` is
+     [[fn command.sound: WasRead F.opens F.Input.Source.reads (F.tells files.old)]]: the first opening, of `files.old`, opened
+     the file, and its reads gave these bytes, up to one that gave none ([[WasRead]], [[GaveAll]])."""),
     ("of the formula's file", """[[NameUnsatisfiable: AskFor words formula assume]]: the words have no fault, and their FORMULA
      is the path `formula` that was read ([[AskFor]])."""),
     ("are a text of a formula", "[[NameUnsatisfiable: IsFormulaText bytes f]]: DIMACS CNF ([[IsFormulaText]]), and of one only ([[law one_formula]])."),
@@ -674,8 +674,11 @@ STATUS_0_PHRASES = [
 
 ACCOUNT = """**Which reads?** Whoever hands in the files chooses what `opens` and `reads` are; [[Files]] and [[Source]] promise
 of each call that it stands in them. The machine's files tell nothing and allow all, so of them alone the clause says only that
-the words have no fault. But take any run, and files that play its calls back, where `opens` and `reads` hold of these calls alone. `command` is proved for them too; and it knows files only by the calls of their traits, so it
-would do the same with them, and there only what was read can be meant. This last step is an argument, and no theorem."""
+the words have no fault. But `command` hands the bytes
+that it has read to [[fn check_formula]], of which this is proved: [[fn check_formula.sound: result ≡ 0 → (f : Cnf) × IsFormulaText
+asked.entry.formula.items f × IsUnsatisfiable f]]. So one loop, `read_all`, which fills their list, is left to an argument: take
+any run, and files that play its calls back, where `opens` and `reads` hold of these calls alone. `command` would do the same
+with them, since it knows files only by the calls of their traits, and there only what was read can be meant."""
 
 AUDIT_HOW = """## How to read it
 
@@ -711,8 +714,8 @@ By the [[fn command.sound_under]]:"""
 STATUS_8_PHRASES = [
     ("with status 8", "[[fn command.sound_under: result ≡ 8 →]]; formula and file as above."),
     ("none satisfies it and makes the assumed literals true", """[[NameUnsatisfiableUnder: IsUnsatisfiableUnder f cube]]. These
-     literals are the set `cube`: [[NameUnsatisfiableUnder: AreAssumed Read f.vars assume cube]], what was read of `--assume`'s
-     file is its text ([[IsCubeText]]); without `--assume` there are none."""),
+     literals are the set `cube`: [[NameUnsatisfiableUnder: AreAssumed Read f.vars next assume cube last]], what was read of
+     `--assume`'s file, by the next opening, is its text ([[IsCubeText]]); without `--assume` there are none."""),
 ]
 
 AUDIT_LIBRARIES = """## What the libraries define
@@ -728,7 +731,7 @@ TRUST = """## What one has to trust
   where no word begins with a hyphen it is the first of two or more ([[law plain_words]]).
 - **[`main`](../crates/lrupd/src/main.rt)**, which has no contract. It opens the machine's file at the path that it is given,
   hands files, arguments and outputs to `command_with_arguments`, and returns what that answers: [[fn command_with_arguments.sound: exit_status result ≡ 0 → IsOkAnd arguments (λ given. NameUnsatisfiable
-  read (words_after_name given))]]. `exit_status` is the status; `IsOkAnd`: they were given, and of them it holds;
+  _ read files.old (words_after_name given))]]. `exit_status` is the status; `IsOkAnd`: they were given, and of them it holds;
   `words_after_name`: those after the first.
 - **The machine's files**: that reads give what the file holds, and that it is the one you mean. No clause says so."""
 
@@ -1052,6 +1055,7 @@ def audit_page():
     """The page on status 0 and 8, with the definitions that each clause takes."""
     command = Contract("command/src/program.rt: command", ["out", "err", "sound", "sound_under"], commented=False)
     arguments = Contract("command/src/arguments.rt: command_with_arguments", ["sound"])
+    check = Contract("command/src/program.rt: check_formula", ["sound"])
     guarantee = sentence("The guarantee:").split(". ")[0].split("; ")
     sound, under = phrase_by_phrase(guarantee[0], STATUS_0_PHRASES), phrase_by_phrase(guarantee[1], STATUS_8_PHRASES)
     placed = {}
@@ -1062,7 +1066,7 @@ def audit_page():
         AUDIT_TOP, sound[0], SIGNATURE, command, "Phrase by phrase:", sound[1], ACCOUNT,
         AUDIT_HOW.replace("{count}", str(len(definitions_of(first)))).replace("{twins}", twins(things)), *first,
         STATUS_8_TOP, *under, f"{len(definitions_of(more))} definitions more.", *more,
-        AUDIT_LIBRARIES, libraries(things, []), TRUST], cited=[arguments, Law("command_line/src/laws.rt: plain_words"),
+        AUDIT_LIBRARIES, libraries(things, []), TRUST], cited=[arguments, check, Law("command_line/src/laws.rt: plain_words"),
         Law("dimacs/src/laws.rt: one_formula")])
     page.sound = first
     return page
