@@ -3,6 +3,7 @@
 
 RT ?= rt
 PREFIX ?= /usr/local
+VERSION := $(shell cat VERSION)
 PROGRAM := crates/lrupd/out/lrupd
 LOG := crates/lrupd/out/build.log
 SOLVER := examples/solver/out/solver
@@ -40,12 +41,13 @@ build: toolchain ## build: prove the program, 7 to 30 minutes the first time, an
 	@set -o pipefail; cd crates/lrupd && $(RT) run -- "$(abspath examples/four-clause.cnf)" "$(abspath examples/four-clause.lrup)" \
 	2>&1 | sh $(abspath gate/progress.sh) $(abspath $(LOG)) || { cat $(abspath $(LOG)); exit 1; }
 
-# The filter's name is lrup-exact.
+# The filter's name is lrup-exact. The manual pages tell the version at their feet.
 install: build exact ## use: install the program and the filter, with their manual pages, below PREFIX=/usr/local
 	install -d "$(DESTDIR)$(PREFIX)/bin" "$(DESTDIR)$(PREFIX)/share/man/man1"
 	install -m 755 $(PROGRAM) "$(DESTDIR)$(PREFIX)/bin/lrupd"
 	install -m 755 $(EXACT) "$(DESTDIR)$(PREFIX)/bin/lrup-exact"
-	install -m 644 docs/lrupd.1 docs/lrup-exact.1 "$(DESTDIR)$(PREFIX)/share/man/man1"
+	for page in lrupd.1 lrup-exact.1; do sed 's/^\.Os$$/.Os lrupd $(VERSION)/' docs/$$page | \
+	install -m 644 /dev/stdin "$(DESTDIR)$(PREFIX)/share/man/man1/$$page" || exit 1; done
 
 # What the program writes on standard output and standard error, and its status, on the examples and on some hundred small runs;
 # two groups of streams, checked apart; and whether README, USING, the manual page and --help say the same.
