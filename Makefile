@@ -12,7 +12,7 @@ FORMULA ?= examples/bmc.cnf
 STREAMS ?= $(addprefix examples/bmc-four.,1 2 3 4)
 OPTIONS ?= --tries 1000000
 
-.PHONY: help try run build install examples live demo solver exact solver-test filter-test neighbours sweep leaks instructions audit pages \
+.PHONY: help try run build install deb dist examples live demo solver exact solver-test filter-test neighbours sweep leaks instructions audit pages \
     test toolchain c-and-python
 
 help:
@@ -48,6 +48,15 @@ install: build exact ## use: install the program and the filter, with their manu
 	install -m 755 $(EXACT) "$(DESTDIR)$(PREFIX)/bin/lrup-exact"
 	for page in lrupd.1 lrup-exact.1; do sed 's/^\.Os$$/.Os lrupd $(VERSION)/' docs/$$page | \
 	install -m 644 /dev/stdin "$(DESTDIR)$(PREFIX)/share/man/man1/$$page" || exit 1; done
+
+# With dpkg-deb and dpkg-dev.
+deb: ## use: a Debian package of what make install installs, with README, USING and the examples, in out/
+	@rm -rf out/deb && $(MAKE) --no-print-directory install DESTDIR="$(abspath out/deb)" PREFIX=/usr
+	@sh tools/deb.sh out/deb $(VERSION)
+
+# Of what is committed.
+dist: ## use: an archive of the sources, in out/
+	@mkdir -p out && git archive --prefix=lrupd-$(VERSION)/ -o out/lrupd-$(VERSION).tar.gz HEAD && echo out/lrupd-$(VERSION).tar.gz
 
 # What the program writes on standard output and standard error, and its status, on the examples and on some hundred small runs;
 # two groups of streams, checked apart; and whether README, USING, the manual page and --help say the same.
