@@ -12,7 +12,7 @@ FORMULA ?= examples/bmc.cnf
 STREAMS ?= $(addprefix examples/bmc-four.,1 2 3 4)
 OPTIONS ?= --tries 1000000
 
-.PHONY: help try run build install deb dist examples live demo solver exact solver-test filter-test neighbours sweep leaks instructions audit pages \
+.PHONY: help try run build install deb dist quick examples live demo solver exact solver-test filter-test neighbours sweep leaks instructions audit pages \
     test toolchain c-and-python
 
 help:
@@ -57,6 +57,10 @@ deb: ## use: a Debian package of what make install installs, with README, USING 
 # Of what is committed.
 dist: ## use: an archive of the sources, in out/
 	@mkdir -p out && git archive --prefix=lrupd-$(VERSION)/ -o out/lrupd-$(VERSION).tar.gz HEAD && echo out/lrupd-$(VERSION).tar.gz
+
+# tools/pre-push runs it before a push.
+quick: toolchain c-and-python ## check: after a change of CRATE=name: layout, proofs, its tests before they are proved, the pages
+	@sh gate/quick.sh $(RT) $(CRATE)
 
 # What the program writes on standard output and standard error, and its status, on the examples and on some hundred small runs;
 # two groups of streams, checked apart; and whether README, USING, the manual page and --help say the same.
