@@ -1,11 +1,10 @@
-# `make help` tells what there is, by the words behind ##. Building needs Rattle's toolchain, the command rt, and nothing else; make
-# demo and make test also need a C compiler and Python 3.
+# `make help` tells what there is, by the words behind ##. Building needs Rattle's toolchain, the command rt, and Python 3, as rt
+# itself; make demo and make test also need a C compiler.
 
 RT ?= rt
 PREFIX ?= /usr/local
 VERSION := $(shell cat VERSION)
 PROGRAM := crates/lrupd/out/lrupd
-LOG := crates/lrupd/out/build.log
 SOLVER := examples/solver/out/solver
 EXACT := tools/exact/out/exact
 FORMULA ?= examples/bmc.cnf
@@ -34,12 +33,9 @@ run: build ## try: the same, proved first; both take FORMULA=path STREAMS="path 
 	echo "status $$status"; \
 	case $$status in 0|3|8) ;; *) exit $$status ;; esac
 
-# A line a crate as it is proved.
-build: SHELL := /bin/bash
+# A line a crate as it is proved, and what is left.
 build: toolchain ## build: prove the program, 7 to 30 minutes the first time, and leave it at crates/lrupd/out/lrupd
-	@mkdir -p $(dir $(LOG))
-	@set -o pipefail; cd crates/lrupd && $(RT) run -- "$(abspath examples/four-clause.cnf)" "$(abspath examples/four-clause.lrup)" \
-	2>&1 | sh $(abspath gate/progress.sh) $(abspath $(LOG)) || { cat $(abspath $(LOG)); exit 1; }
+	@python3 gate/build.py $(RT)
 
 # The filter's name is lrup-exact. The manual pages tell the version at their feet.
 install: build exact ## use: install the program and the filter, with their manual pages, below PREFIX=/usr/local
