@@ -1,13 +1,14 @@
 -- Lemmas for the worked example.
-use Rattle.std.proofs.Common.{◌≡◌, ◌<◌, ℕ, zero, suc, pos, negsuc, List, [], ◌∷◌, Some, refl, sym, ap, ◌∙◌, subst, inl, inr, arith}
+use Rattle.std.proofs.Common.{◌≡◌, ◌<◌, ℕ, zero, suc, pos, negsuc, List, [], ◌∷◌, ◌++◌, append_assoc, Some, refl, sym, ap, ◌∙◌, subst, inl, inr, arith}
 use Rattle.std.specs.Prelude.{neg_ℤ, codes, slice_index_or}
 use Rattle.std.specs.Fmt.{digits}
-use Rattle.std.specs.List.{AllZip}
+use Rattle.std.specs.List.{AllByRecursion, AllZip, Any, flat_map}
 use Rattle.lrup_model.specs.Clause.{Clause, Has, IsTautology}
 use Rattle.lrup_model.specs.Formula.{IsCnf}
 use Rattle.lrup_model.specs.Propagation.{Accepts, IsConflict, IsUnit}
-use Rattle.lrup_text.specs.Lines.{StreamLine, Addition}
-use Rattle.run_laws.specs.Right.{AddsEmpty, IsRightImport, IsRightStream}
+use Rattle.lrup_text.specs.Laws.{EmptyPending, OneFirstLine}
+use Rattle.lrup_text.specs.Lines.{StreamLine, Addition, IsWithinLimits, line_text}
+use Rattle.run_laws.specs.Right.{AddsEmpty, IsRightBeginning, IsRightImport, IsRightRefutation, IsRightStream}
 use Rattle.run_laws.specs.Together.{IsRightOrder}
 use Rattle.lrup_model.specs.Layout.{Owns}
 use Rattle.lrup_model.specs.declared.layout.Owner.TheVariants as owners
@@ -156,6 +157,41 @@ refutation_is_right = record {
     ),
   );
 }
+
+-- whatever comes behind it
+pub refutation_begins : (more : List ℕ) → IsRightBeginning four one_stream 1 (codes "5 2 0 1 2 0\n6 0 5 3 4 0\n" ++ more) refutation
+refutation_begins more = record {
+  more = more;
+  text = ap (λ (bytes : List ℕ). bytes ++ more) refutation_is_right.text;
+  fits = refutation_is_right.fits;
+  right = refutation_is_right.right;
+}
+
+pub begins_and_refutes : (more : List ℕ) → IsRightRefutation four one_stream 1 (codes "5 2 0 1 2 0\n6 0 5 3 4 0\n" ++ more)
+begins_and_refutes more = record {
+  lines = refutation;
+  right = refutation_begins more;
+  empty = (1, Addition 6 [] (5 ∷ 3 ∷ 4 ∷ []), omega arith, refl, refl);
+}
+
+-- bytes that begin with the first line alone begin with no line that adds the empty clause
+pub no_empty_begins : OneFirstLine → EmptyPending → (lines : List StreamLine) (more : List ℕ) → AllByRecursion IsWithinLimits lines
+    → codes "5 2 0 1 2 0\n" ≡ flat_map line_text lines ++ more → Any AddsEmpty lines → ⊥
+unfolding digits
+no_empty_begins first empty [] more fits is some = omega (arith, some.2)
+no_empty_begins first empty (line ∷ []) more fits is some =
+    let known = Addition 5 unit (1 ∷ 2 ∷ []) in
+    let same = first known line [] (flat_map line_text [] ++ more)
+    ((omega arith, omega arith), record { count = omega arith; each = ((omega arith, omega arith), tt) }, record { count = omega arith; each = ((omega arith, omega arith), ((omega arith, omega arith), tt)) })
+    fits.0 (is ∙ append_assoc (line_text line) [] more) in
+    let only : Any AddsEmpty (known ∷ []) = subst (λ (l : StreamLine). Any AddsEmpty (l ∷ [])) (sym same.0) some in
+    adds_no_empty only.0 only.1 only.2 only.3 only.4
+no_empty_begins first empty (line ∷ other ∷ lines) more fits is some =
+    let known = Addition 5 unit (1 ∷ 2 ∷ []) in
+    let same = first known line [] (flat_map line_text (other ∷ lines) ++ more)
+    ((omega arith, omega arith), record { count = omega arith; each = ((omega arith, omega arith), tt) }, record { count = omega arith; each = ((omega arith, omega arith), ((omega arith, omega arith), tt)) })
+    fits.0 (is ∙ append_assoc (line_text line) (flat_map line_text (other ∷ lines)) more) in
+    empty.whole other (flat_map line_text lines ++ more) fits.1.0 (same.1 ∙ append_assoc (line_text other) (flat_map line_text lines) more)
 
 five_is_the_first_stream's : Owns two_streams 2 5 → ⊥
 five_is_the_first_stream's owns = let no : owners.Stream 1 ≡ owners.Stream 2 = owns in cc

@@ -1,6 +1,6 @@
 -- The worked example: four clauses over two variables, and room for one literal a stream. One stream with two identities, 5 and 6, or
 -- two streams, of which the first has 5 and 7.
-use Rattle.std.specs.Prelude.{◌≡◌, ◌⊎◌, ℕ, true, pos, negsuc, [], ◌∷◌, List, Some, codes}
+use Rattle.std.specs.Prelude.{◌≡◌, ◌⊎◌, ◌≤◌, ◌++◌, ℕ, true, false, pos, negsuc, [], ◌∷◌, List, Some, codes}
 use Rattle.lrup_model.specs.Cube.{CubeValue}
 use Rattle.lrup_model.specs.Layout.{LayoutValue}
 use Rattle.lrup_text.specs.Lines.{StreamLine, Addition, Deletion, Import}
@@ -11,7 +11,7 @@ use Rattle.runs.specs.Closed.{IsOfStream}
 use Rattle.runs.specs.Streams.{Telling, TermsValue, setting_of}
 use Rattle.run_laws.specs.Blame.{LacksOfAnother}
 use Rattle.run_laws.specs.Groups.{IsRun}
-use Rattle.run_laws.specs.Right.{Database, first_database, after_line}
+use Rattle.run_laws.specs.Right.{Database, IsCutOffIn, first_database, after_line}
 use Rattle.run_laws.specs.Together.{Step, HaveTexts}
 use Rattle.test_support.specs.Worked.{four, unit}
 
@@ -77,6 +77,16 @@ retired_first =
 
 -- What the laws say of runs of these lines
 
+-- a report of one addition
+abbrev pub one_added : Report
+one_added = record {
+  added = 1;
+  deleted = 0;
+  empty = false;
+  within = false;
+  ending = endings.Ended;
+}
+
 -- any cube and number of tries, with this layout
 abbrev pub terms_at : LayoutValue → CubeValue → ℕ → TermsValue
 terms_at p cube tries = record { layout = p; cube = cube; tries = tries }
@@ -97,11 +107,23 @@ RefutationCounted = (cube : CubeValue) (tries : ℕ) (told : List Telling) (tell
     → telling.entry ≡ Some (codes "5 2 0 1 2 0\n6 0 5 3 4 0\n") → IsOfStream reports 1 report
     → ¬ IsOfMemory report → ¬ IsOfFailure report → Counts report 2 0
 
--- A run whose readers have the texts of the shared lines left at first tells of stream 2 an addition and a deletion, or that the clause
--- of stream 1 wasn't there.
+-- Whatever comes behind the refutation, such a run tells two additions at least, one of them the empty clause, unless memory ran out,
+-- or a read failed, in these two lines.
+abbrev pub BeginningCounted : Type 0
+BeginningCounted = (cube : CubeValue) (tries : ℕ) (told : List Telling) (telling : Telling)
+    (reports : List Report) (report : Report) (more : List ℕ)
+    → IsRun four (terms_at one_stream cube tries) told reports → IsOfStream told 1 telling
+    → telling.entry ≡ Some (codes "5 2 0 1 2 0\n6 0 5 3 4 0\n" ++ more)
+    → IsOfStream reports 1 report
+    → ((2 ≤ report.added) × (report.empty ≡ true)) ⊎ IsCutOffIn 2 report
+
+-- A run whose readers begin with the texts of the shared lines, and where nothing is behind those of stream 2, tells of that stream an
+-- addition and a deletion, or that the clause of stream 1 wasn't there.
 abbrev pub SharedCounted : Type 0
-SharedCounted = (cube : CubeValue) (tries : ℕ) (told : List Telling) (reports : List Report)
-    (report : Report)
+SharedCounted = (cube : CubeValue) (tries : ℕ) (told : List Telling) (telling : Telling)
+    (reports : List Report) (report : Report)
     → IsRun four (terms_at two_streams cube tries) told reports → HaveTexts (λ s. true) shared told
+    → IsOfStream told 2 telling
+    → telling.entry ≡ Some (codes "5 i 2 0\n6 0 5 3 4 0\n6 d 5 0\n")
     → IsOfStream reports 2 report → ¬ IsOfMemory report → ¬ IsOfFailure report
     → Counts report 1 1 ⊎ LacksOfAnother (setting_of (terms_at two_streams cube tries) 2) report

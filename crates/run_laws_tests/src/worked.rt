@@ -1,26 +1,37 @@
 //! Lines of one stream, right and not, by the definitions alone.
-ghost use Rattle.std.specs.Prelude.{◌≡◌, [], ◌∷◌, pos, negsuc, Some, codes};
+ghost use Rattle.std.specs.Prelude.{◌≡◌, ◌++◌, ℕ, true, List, [], ◌∷◌, pos, negsuc, Some, codes};
 ghost use Rattle.lrup_text.specs.Lines.{Addition, Deletion, Import};
-ghost use Rattle.run_laws.specs.Right.{IsRightLine, IsRightRefutation, first_database};
+ghost use Rattle.stream_check.specs.declared.report.Ending.TheVariants as endings;
+ghost use Rattle.run_laws.specs.Right.{IsCutOffIn, IsRightLine, IsRightRefutation, IsRightStream, TellsAtLeast, first_database};
 ghost use Rattle.run_laws.specs.Together.{IsRightOrder};
-ghost use Rattle.run_laws_tests.specs.Worked.{at_first, at_roomy, crossed, one_stream, retired_first, roomy, shared, two_streams, with_five, with_repeat, without_five, without_one, RefutationCounted, SharedCounted};
+ghost use Rattle.run_laws_tests.specs.Worked.{at_first, at_roomy, crossed, one_added, one_stream, retired_first, roomy, shared, two_streams, with_five, with_repeat, without_five, without_one, BeginningCounted, RefutationCounted, SharedCounted};
 ghost use Rattle.test_support.specs.Worked.{four, unit};
 
-use lrup_text::laws::{a_stream_is_cut_in_one_way, no_bytes_have_no_lines};
-use run_laws::right::{right_reported, right_together};
+use lrup_text::laws::{bytes_begin_with_one_line, no_bytes_may_become_a_line};
+use run_laws::right::{right_begins, right_reported, right_together};
 
-/// The worked stream is a right refutation.
+/// The worked stream is a right refutation, also where a torn line comes behind it, or whatever else.
 fn the_stream_is_right()
-    ensures { IsRightRefutation four one_stream 1 (codes "5 2 0 1 2 0\n6 0 5 3 4 0\n") }
+    ensures whole { IsRightRefutation four one_stream 1 (codes "5 2 0 1 2 0\n6 0 5 3 4 0\n") }
+    ensures torn { IsRightRefutation four one_stream 1
+        (codes "5 2 0 1 2 0\n6 0 5 3 4 0\n7 0 5") }
+    ensures any_more { (more : List ℕ)
+        → IsRightRefutation four one_stream 1 (codes "5 2 0 1 2 0\n6 0 5 3 4 0\n" ++ more) }
 {}
 
 /// Its first line alone is none: it adds no empty clause.
 fn the_first_line_is_no_refutation()
     ensures { ¬ IsRightRefutation four one_stream 1 (codes "5 2 0 1 2 0\n") }
 {
-    a_stream_is_cut_in_one_way();
-    no_bytes_have_no_lines();
+    bytes_begin_with_one_line();
+    no_bytes_may_become_a_line();
 }
+
+/// Bytes after the lines, and a line that breaks a limit of streams.
+fn streams_are_not_right()
+    ensures rest { ¬ IsRightStream four one_stream 1 (codes "5 d 0\n5") (Deletion 5 [] ∷ []) }
+    ensures limits { ¬ IsRightStream four one_stream 1 (codes "0 d 0\n") (Deletion 0 [] ∷ []) }
+{}
 
 /// Hints may stand in either order here, identities may have gaps, and imports may say a clause in their own way. A deletion takes
 /// clauses of the formula and of the stream.
@@ -97,9 +108,24 @@ fn streams_leave_one_another_alone()
     ensures { IsRightOrder four two_streams crossed }
 {}
 
-/// What its owner deleted, no other stream may cite.
-fn retired_clauses_are_not_right()
-    ensures { ¬ IsRightOrder four two_streams retired_first }
+/// What its owner deleted, no other stream may import; a line breaks a limit of streams; there is no such stream.
+fn orders_are_not_right()
+    ensures retired { ¬ IsRightOrder four two_streams retired_first }
+    ensures limits { ¬ IsRightOrder four two_streams
+        (record { stream = 1; line = Deletion 0 [] } ∷ []) }
+    ensures stream { ¬ IsRightOrder four two_streams
+        (record { stream = 3; line = Deletion 5 [] } ∷ []) }
+{}
+
+/// One addition is less than two, and nothing is less than one deletion, an empty clause, or one within the cube. What is cut off in the
+/// third line isn't cut off in the first two.
+fn reports_tell_less()
+    ensures added { ¬ TellsAtLeast one_added (record one_added { added = 2 }) }
+    ensures deleted { ¬ TellsAtLeast one_added (record one_added { deleted = 1 }) }
+    ensures empty { ¬ TellsAtLeast one_added (record one_added { empty = true }) }
+    ensures within { ¬ TellsAtLeast one_added (record one_added { within = true }) }
+    ensures memory { ¬ IsCutOffIn 2 (record one_added { ending = endings.Memory 3 }) }
+    ensures read { ¬ IsCutOffIn 2 (record one_added { ending = endings.ReadFailed 3 }) }
 {}
 
 /// By the law of right streams, every run tells so of the worked stream.
@@ -107,6 +133,13 @@ fn the_refutation_is_counted()
     ensures { RefutationCounted }
 {
     right_reported();
+}
+
+/// By the law of right beginnings, so it does whatever comes behind the refutation.
+fn the_beginning_is_counted()
+    ensures { BeginningCounted }
+{
+    right_begins();
 }
 
 /// By the law of right orders, every run tells so of the second stream.
