@@ -957,26 +957,25 @@ The three theorems above say what holds of the reports that came. These laws say
 know no events. Each is the contract of a function without a body, and holds of every formula, layout, stream and run."""
 
 RIGHT_PHRASES = [
-    ("if its bytes are lines of which", """[[IsRightStream: text : bytes ≡ flat_map line_text lines]], each within the limits,
-     [[IsRightStream: fits : AllByRecursion IsWithinLimits lines]]."""),
-    ("each is right by those before it", """[[AreRight: IsRightLine p s base line × AreRight p s (after_line base line) lines]]: by
+    ("A line is right by those before it", """[[AreRight: IsRightLine p s base line × AreRight p s (after_line base line) lines]]: by
      the [[Database]] that those before it left, from the formula's clauses on ([[first_database]])."""),
-    ("as LRAT has it", """whether the definitions are LRAT's, without RAT steps, is for a reader to judge: clauses are put into the
-     database and taken away by identity ([[after_line]]). Identities by turns, room and imports are this project's own."""),
-    ("the next identity of its own or a later one", """[[IsRightAddition: owns : Owns p s id]], and [[IsRightAddition: above :
+    ("as LRAT has it, without RAT and more strictly", """whether it is LRAT's replay is for a reader to judge: clauses are put into the
+     database and taken away by identity ([[after_line]])."""),
+    ("an identity of its own above those before it", """[[IsRightAddition: owns : Owns p s id]], and [[IsRightAddition: above :
      base.last < id]]."""),
     ("variables of the formula, room", """[[IsRightAddition: literals : AllByRecursion (λ l. nat_abs l ≤ p.vars) lits]], and
      [[IsRightAddition: room : length (distinct lits) ≤ base.free]]; what is deleted gives no room back."""),
-    ("hints whose clauses are there and show its clause", """[[IsRightAddition: named : AllZip (λ h d. base.clauses h ≡ Some d)
-     hints hinted]], and [[IsRightAddition: shown : Accepts (distinct lits) hinted]]: no tautology, and with its literals false the
-     clauses but the last become unit in turn, and the last a conflict ([[Accepts]])."""),
+    ("hints whose clauses are there, each unit in turn and only the last a conflict", """[[IsRightAddition: named : AllZip (λ h d.
+     base.clauses h ≡ Some d) hints hinted]], and [[IsRightAddition: shown : Accepts (distinct lits) hinted]] ([[Accepts]]), which asks
+     besides that the clause is no tautology."""),
     ("what a deletion or an import names is there", """[[IsRightDeletion: there : AllByRecursion (λ id. IsSome (base.clauses id))
      ids]], each once; [[IsRightImport: there : base.clauses id ≡ Some clause]], of another stream or the formula, with the same
      literals."""),
-    ("In every run a right stream ends, with its lines counted", """the law [[law right_reported]], [[RightReported: report ≡
-     right_report terms s lines]], of the reports of [[fn run]] and of [[fn run_serial]] ([[IsRun]]). Alone it has this
-     report, and no other, by the laws [[law right_accepted]] and [[law right_has_one_report]]; all that it deletes is counted, by
-     the law [[law right_counted]], and 'empty' is told exactly if a line adds the empty clause, by the law [[law right_empty]]."""),
+    ("In every run a stream of right lines ends, with its lines counted", """the law [[law right_reported]]: the bytes are the lines'
+     texts, [[IsRightStream: text : bytes ≡ flat_map line_text lines]], and [[RightReported: report ≡ right_report terms s lines]], of
+     the reports of [[fn run]] and of [[fn run_serial]] ([[IsRun]]). Alone it has this report, and no other, by the laws
+     [[law right_accepted]] and [[law right_has_one_report]]; all that it deletes is counted, by the law [[law right_counted]], and
+     'empty' is told exactly if a line adds the empty clause, by the law [[law right_empty]]."""),
     ("unless memory ran out or a read failed", "[[RightReported: ¬ IsOfMemory report → ¬ IsOfFailure report]]."),
     ("that cite, import and delete only their own clauses and the formula's", """[[EndedIsRight: CiteWithin terms.layout (one s)
      bytes → DeleteWithin terms.layout (one s) bytes]]. A right stream cites so by the law [[law right_cite_within]]. A checker takes
@@ -988,17 +987,23 @@ RIGHT_PHRASES = [
      ([[beside_line]])."""),
     ("each stream ends so, or a line of it cites a clause of another stream that wasn't there, or wasn't any more", """the law [[law
      right_together]], [[RightTogether: (report ≡ right_report terms s (lines_by s steps)) ⊎ LacksOfAnother (setting_of terms s)
-     report]]. No order is needed where some legal history judges them and all ended: the law [[law no_false_blame]]."""),
-    ("With a right refutation among its streams", """[[AskForRightRefutation: right : IsRightRefutation asks.formula (layout_at
-     asks.given asks.formula) s bytes]]: the words have no fault and a layout, the files tell a formula and assumptions without fault
-     ([[AskWell]]), and the file of one stream a right stream, of which some line adds the empty clause."""),
-    ("the program ends with status 0", """the law [[law right_refutation_says]], [[RightRefutationSays: (status ≡ 0) ⊎ IsExcused R files
-     words s IsCutOff out status]], of all that `command` may do by its clause `ends`. For streams whose lines have a right order
-     the law [[law right_order_says]]."""),
+     report]]. No order is needed where some legal history judges them and this stream ended: the law [[law no_false_blame]]. Where
+     more comes behind the lines, the report tells at least what they do: the law [[law together_begins]]."""),
+    ("with `--serial`, where that order is by turns, each ends", """the law [[law right_by_turns]], of runs whose order is by turns
+     ([[IsByTurns]]), as that of [[fn run_serial.ordered]] is. Any two such runs of the same bytes have the same order and
+     reports: the laws [[law turns_decide]] and [[law bytes_decide]]."""),
+    ("a stream that begins with right lines, one of which adds the empty clause", """[[IsRightRefutation: right : IsRightBeginning f p s
+     bytes lines]], and [[IsRightRefutation: empty : Any AddsEmpty lines]]. What comes behind them may be anything: the report tells
+     at least what they do, by the law [[law right_begins]], [[RightBegins: TellsAtLeast report (right_report terms s lines)]]."""),
+    ("With one among its streams", """[[AskForRightRefutation: right : IsRightRefutation asks.formula (layout_at asks.given
+     asks.formula) s bytes]]: the words have no fault and a layout, and the files tell a formula and assumptions without fault
+     ([[AskWell]])."""),
+    ("the program ends with status 0", """the law [[law right_refutation_says]], [[RightRefutationSays: (status ≡ 0)]], of all that
+     `command` may do by its clause `ends`. For streams whose lines have a right order the law [[law right_order_says]]."""),
     ("or with 7; or with 5 or 6, for a fault of the machine", """[[IsExcused: unwritten : (failed : out.failed ≡ true)]];
      [[IsExcused: machine : IsOfMachine fault]]."""),
-    ("with 3 or 8, and then memory ran out in that stream or a read of it failed", """[[IsExcused: (why : Lost report)]], with
-     [[IsCutOff: IsOfMemory report ⊎ IsOfFailure report]]."""),
+    ("with 3 or 8, and then memory ran out, or a read failed, in these lines", """[[IsExcused: (why : Lost report)]], with
+     [[RightRefutationSays: IsCutOffIn (length ask.right.lines)]]."""),
 ]
 
 RUNS_HOW = """## How to read it
@@ -1026,7 +1031,8 @@ it promises nothing."""
 STORE_LAWS = [f"lrup_model/src/laws.rt: {name}" for name in "entries_advance known_stays pass_tells".split()]
 GROUP_LAWS = [f"run_laws/src/groups.rt: {name}" for name in "others_empty same_reading_agrees same_bytes_agree".split()]
 RIGHT_LAWS = [f"run_laws/src/right.rt: {name}" for name in """right_reported right_accepted right_has_one_report right_counted
-    right_empty right_cite_within ended_is_right right_together no_false_blame""".split()]
+    right_empty right_begins right_cite_within ended_is_right right_together together_begins no_false_blame""".split()] + [
+    f"run_laws/src/turns.rt: {name}" for name in "right_by_turns turns_decide bytes_decide".split()]
 PROGRAM_LAWS = [f"outcome_laws/src/laws.rt: {name}" for name in "right_refutation_says right_order_says".split()]
 
 LAWS = """## The laws
