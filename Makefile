@@ -1,17 +1,17 @@
-# `make help` tells what there is, by the words behind ##. Building needs Rattle's toolchain, the command rt, and nothing else; make
-# demo and make test also need a C compiler and Python 3.
+# `make help` tells what there is, by the words behind ##. Building needs Rattle's toolchain, the command rt, and Python 3, as rt
+# itself; make demo and make test also need a C compiler.
 
 RT ?= rt
 PREFIX ?= /usr/local
+VERSION := $(shell cat VERSION)
 PROGRAM := crates/lrupd/out/lrupd
-LOG := crates/lrupd/out/build.log
 SOLVER := examples/solver/out/solver
 EXACT := tools/exact/out/exact
 FORMULA ?= examples/bmc.cnf
 STREAMS ?= $(addprefix examples/bmc-four.,1 2 3 4)
 OPTIONS ?= --tries 1000000
 
-.PHONY: help try run build install examples live demo solver exact solver-test filter-test neighbours sweep leaks instructions audit pages \
+.PHONY: help try run build install deb dist quick examples live demo solver exact solver-test filter-test neighbours sweep leaks instructions audit pages \
     test toolchain c-and-python
 
 help:
@@ -33,19 +33,30 @@ run: build ## try: the same, proved first; both take FORMULA=path STREAMS="path 
 	echo "status $$status"; \
 	case $$status in 0|3|8) ;; *) exit $$status ;; esac
 
-# A line a crate as it is proved.
-build: SHELL := /bin/bash
+# A line a crate as it is proved, and what is left.
 build: toolchain ## build: prove the program, 7 to 30 minutes the first time, and leave it at crates/lrupd/out/lrupd
-	@mkdir -p $(dir $(LOG))
-	@set -o pipefail; cd crates/lrupd && $(RT) run -- "$(abspath examples/four-clause.cnf)" "$(abspath examples/four-clause.lrup)" \
-	2>&1 | sh $(abspath gate/progress.sh) $(abspath $(LOG)) || { cat $(abspath $(LOG)); exit 1; }
+	@python3 gate/build.py $(RT)
 
-# The filter's name is lrup-exact.
+# The filter's name is lrup-exact. The manual pages tell the version at their feet.
 install: build exact ## use: install the program and the filter, with their manual pages, below PREFIX=/usr/local
 	install -d "$(DESTDIR)$(PREFIX)/bin" "$(DESTDIR)$(PREFIX)/share/man/man1"
 	install -m 755 $(PROGRAM) "$(DESTDIR)$(PREFIX)/bin/lrupd"
 	install -m 755 $(EXACT) "$(DESTDIR)$(PREFIX)/bin/lrup-exact"
-	install -m 644 docs/lrupd.1 docs/lrup-exact.1 "$(DESTDIR)$(PREFIX)/share/man/man1"
+	for page in lrupd.1 lrup-exact.1; do sed 's/^\.Os$$/.Os lrupd $(VERSION)/' docs/$$page | \
+	install -m 644 /dev/stdin "$(DESTDIR)$(PREFIX)/share/man/man1/$$page" || exit 1; done
+
+# With dpkg-deb and dpkg-dev.
+deb: ## use: a Debian package of what make install installs, with README, USING and the examples, in out/
+	@rm -rf out/deb && $(MAKE) --no-print-directory install DESTDIR="$(abspath out/deb)" PREFIX=/usr
+	@sh tools/deb.sh out/deb $(VERSION)
+
+# Of what is committed.
+dist: ## use: an archive of the sources, in out/
+	@mkdir -p out && git archive --prefix=lrupd-$(VERSION)/ -o out/lrupd-$(VERSION).tar.gz HEAD && echo out/lrupd-$(VERSION).tar.gz
+
+# tools/pre-push runs it before a push.
+quick: toolchain c-and-python ## check: after a change of CRATE=name: layout, proofs, its tests before they are proved, the pages
+	@sh gate/quick.sh $(RT) $(CRATE)
 
 # What the program writes on standard output and standard error, and its status, on the examples and on some hundred small runs;
 # two groups of streams, checked apart; and whether README, USING, the manual page and --help say the same.

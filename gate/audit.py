@@ -632,14 +632,14 @@ def phrase_by_phrase(said, rows):
 
 # Of these traits what the clauses rest on: the members, and the clauses of each.
 SHOWN = {
-    "Files": {"Input": [], "tells": [], "opens": [], "open": ["opens", "stays_opens"]},
+    "Files": {"Input": [], "tells": [], "opens": [], "open": ["opens"]},
     "Source": {"reads": [], "read": ["reads"]},
 }
 
 # What signatures name and no clause on the pages speaks of.
 UNSEEN = {"DimacsFault", "OpenFault", "ReadFault", "Sink"}
 
-MOST_WORDS = 4000       # of the page on status 0 and 8
+MOST_WORDS = 4100       # of the page on status 0 and 8
 
 MADE = "Made from the sources by `make audit`; the gate fails where this page isn't what they give."
 
@@ -663,9 +663,9 @@ where memory is from."""
 
 STATUS_0_PHRASES = [
     ("with status 0", "[[fn command.sound: result ≡ 0 →]], where `result` is the status."),
-    ("the bytes that were read", """they are the `bytes` of [[NameUnsatisfiable: Read formula bytes]], and `Read` is
-     [[fn command.sound: WasRead _ (F.opens files.old) F.Input.Source.reads (F.tells files.old)]]: the file was opened, and its
-     reads gave these bytes, up to one that gave none ([[WasRead]], [[GaveAll]])."""),
+    ("the bytes that were read", """they are the `bytes` of [[NameUnsatisfiable: Read first formula bytes after]], and `Read` is
+     [[fn command.sound: WasRead F.opens F.Input.Source.reads (F.tells files.old)]]: the first opening, of `files.old`, opened
+     the file, and its reads gave these bytes, up to one that gave none ([[WasRead]], [[GaveAll]])."""),
     ("of the formula's file", """[[NameUnsatisfiable: AskFor words formula assume]]: the words have no fault, and their FORMULA
      is the path `formula` that was read ([[AskFor]])."""),
     ("are a text of a formula", "[[NameUnsatisfiable: IsFormulaText bytes f]]: DIMACS CNF ([[IsFormulaText]]), and of one only ([[law one_formula]])."),
@@ -674,8 +674,11 @@ STATUS_0_PHRASES = [
 
 ACCOUNT = """**Which reads?** Whoever hands in the files chooses what `opens` and `reads` are; [[Files]] and [[Source]] promise
 of each call that it stands in them. The machine's files tell nothing and allow all, so of them alone the clause says only that
-the words have no fault. But take any run, and files that play its calls back, where `opens` and `reads` hold of these calls alone. `command` is proved for them too; and it knows files only by the calls of their traits, so it
-would do the same with them, and there only what was read can be meant. This last step is an argument, and no theorem."""
+the words have no fault. But `command` hands the bytes
+that it has read to [[fn check_formula]], of which this is proved: [[fn check_formula.sound: result ≡ 0 → (f : Cnf) × IsFormulaText
+asked.entry.formula.items f × IsUnsatisfiable f]]. So one loop, `read_all`, which fills their list, is left to an argument: take
+any run, and files that play its calls back, where `opens` and `reads` hold of these calls alone. `command` would do the same
+with them, since it knows files only by the calls of their traits, and there only what was read can be meant."""
 
 AUDIT_HOW = """## How to read it
 
@@ -711,8 +714,8 @@ By the [[fn command.sound_under]]:"""
 STATUS_8_PHRASES = [
     ("with status 8", "[[fn command.sound_under: result ≡ 8 →]]; formula and file as above."),
     ("none satisfies it and makes the assumed literals true", """[[NameUnsatisfiableUnder: IsUnsatisfiableUnder f cube]]. These
-     literals are the set `cube`: [[NameUnsatisfiableUnder: AreAssumed Read f.vars assume cube]], what was read of `--assume`'s
-     file is its text ([[IsCubeText]]); without `--assume` there are none."""),
+     literals are the set `cube`: [[NameUnsatisfiableUnder: AreAssumed Read f.vars next assume cube last]], what was read of
+     `--assume`'s file, by the next opening, is its text ([[IsCubeText]]); without `--assume` there are none."""),
 ]
 
 AUDIT_LIBRARIES = """## What the libraries define
@@ -728,7 +731,7 @@ TRUST = """## What one has to trust
   where no word begins with a hyphen it is the first of two or more ([[law plain_words]]).
 - **[`main`](../crates/lrupd/src/main.rt)**, which has no contract. It opens the machine's file at the path that it is given,
   hands files, arguments and outputs to `command_with_arguments`, and returns what that answers: [[fn command_with_arguments.sound: exit_status result ≡ 0 → IsOkAnd arguments (λ given. NameUnsatisfiable
-  read (words_after_name given))]]. `exit_status` is the status; `IsOkAnd`: they were given, and of them it holds;
+  _ read files.old (words_after_name given))]]. `exit_status` is the status; `IsOkAnd`: they were given, and of them it holds;
   `words_after_name`: those after the first.
 - **The machine's files**: that reads give what the file holds, and that it is the one you mean. No clause says so."""
 
@@ -954,26 +957,25 @@ The three theorems above say what holds of the reports that came. These laws say
 know no events. Each is the contract of a function without a body, and holds of every formula, layout, stream and run."""
 
 RIGHT_PHRASES = [
-    ("if its bytes are lines of which", """[[IsRightStream: text : bytes ≡ flat_map line_text lines]], each within the limits,
-     [[IsRightStream: fits : AllByRecursion IsWithinLimits lines]]."""),
-    ("each is right by those before it", """[[AreRight: IsRightLine p s base line × AreRight p s (after_line base line) lines]]: by
+    ("A line is right by those before it", """[[AreRight: IsRightLine p s base line × AreRight p s (after_line base line) lines]]: by
      the [[Database]] that those before it left, from the formula's clauses on ([[first_database]])."""),
-    ("as LRAT has it", """whether the definitions are LRAT's, without RAT steps, is for a reader to judge: clauses are put into the
-     database and taken away by identity ([[after_line]]). Identities by turns, room and imports are this project's own."""),
-    ("the next identity of its own or a later one", """[[IsRightAddition: owns : Owns p s id]], and [[IsRightAddition: above :
+    ("as LRAT has it, without RAT and more strictly", """whether it is LRAT's replay is for a reader to judge: clauses are put into the
+     database and taken away by identity ([[after_line]])."""),
+    ("an identity of its own above those before it", """[[IsRightAddition: owns : Owns p s id]], and [[IsRightAddition: above :
      base.last < id]]."""),
     ("variables of the formula, room", """[[IsRightAddition: literals : AllByRecursion (λ l. nat_abs l ≤ p.vars) lits]], and
      [[IsRightAddition: room : length (distinct lits) ≤ base.free]]; what is deleted gives no room back."""),
-    ("hints whose clauses are there and show its clause", """[[IsRightAddition: named : AllZip (λ h d. base.clauses h ≡ Some d)
-     hints hinted]], and [[IsRightAddition: shown : Accepts (distinct lits) hinted]]: no tautology, and with its literals false the
-     clauses but the last become unit in turn, and the last a conflict ([[Accepts]])."""),
+    ("hints whose clauses are there, each unit in turn and only the last a conflict", """[[IsRightAddition: named : AllZip (λ h d.
+     base.clauses h ≡ Some d) hints hinted]], and [[IsRightAddition: shown : Accepts (distinct lits) hinted]] ([[Accepts]]), which asks
+     besides that the clause is no tautology."""),
     ("what a deletion or an import names is there", """[[IsRightDeletion: there : AllByRecursion (λ id. IsSome (base.clauses id))
      ids]], each once; [[IsRightImport: there : base.clauses id ≡ Some clause]], of another stream or the formula, with the same
      literals."""),
-    ("In every run a right stream ends, with its lines counted", """the law [[law right_reported]], [[RightReported: report ≡
-     right_report terms s lines]], of the reports of [[fn run]] and of [[fn run_serial]] ([[IsRun]]). Alone it has this
-     report, and no other, by the laws [[law right_accepted]] and [[law right_has_one_report]]; all that it deletes is counted, by
-     the law [[law right_counted]], and 'empty' is told exactly if a line adds the empty clause, by the law [[law right_empty]]."""),
+    ("In every run a stream of right lines ends, with its lines counted", """the law [[law right_reported]]: the bytes are the lines'
+     texts, [[IsRightStream: text : bytes ≡ flat_map line_text lines]], and [[RightReported: report ≡ right_report terms s lines]], of
+     the reports of [[fn run]] and of [[fn run_serial]] ([[IsRun]]). Alone it has this report, and no other, by the laws
+     [[law right_accepted]] and [[law right_has_one_report]]; all that it deletes is counted, by the law [[law right_counted]], and
+     'empty' is told exactly if a line adds the empty clause, by the law [[law right_empty]]."""),
     ("unless memory ran out or a read failed", "[[RightReported: ¬ IsOfMemory report → ¬ IsOfFailure report]]."),
     ("that cite, import and delete only their own clauses and the formula's", """[[EndedIsRight: CiteWithin terms.layout (one s)
      bytes → DeleteWithin terms.layout (one s) bytes]]. A right stream cites so by the law [[law right_cite_within]]. A checker takes
@@ -985,17 +987,23 @@ RIGHT_PHRASES = [
      ([[beside_line]])."""),
     ("each stream ends so, or a line of it cites a clause of another stream that wasn't there, or wasn't any more", """the law [[law
      right_together]], [[RightTogether: (report ≡ right_report terms s (lines_by s steps)) ⊎ LacksOfAnother (setting_of terms s)
-     report]]. No order is needed where some legal history judges them and all ended: the law [[law no_false_blame]]."""),
-    ("With a right refutation among its streams", """[[AskForRightRefutation: right : IsRightRefutation asks.formula (layout_at
-     asks.given asks.formula) s bytes]]: the words have no fault and a layout, the files tell a formula and assumptions without fault
-     ([[AskWell]]), and the file of one stream a right stream, of which some line adds the empty clause."""),
-    ("the program ends with status 0", """the law [[law right_refutation_says]], [[RightRefutationSays: (status ≡ 0) ⊎ IsExcused R files
-     words s IsCutOff out status]], of all that `command` may do by its clause `ends`. For streams whose lines have a right order
-     the law [[law right_order_says]]."""),
+     report]]. No order is needed where some legal history judges them and this stream ended: the law [[law no_false_blame]]. Where
+     more comes behind the lines, the report tells at least what they do: the law [[law together_begins]]."""),
+    ("with `--serial`, where that order is by turns, each ends", """the law [[law right_by_turns]], of runs whose order is by turns
+     ([[IsByTurns]]), as that of [[fn run_serial.ordered]] is. Any two such runs of the same bytes have the same order and
+     reports: the laws [[law turns_decide]] and [[law bytes_decide]]."""),
+    ("a stream that begins with right lines, one of which adds the empty clause", """[[IsRightRefutation: right : IsRightBeginning f p s
+     bytes lines]], and [[IsRightRefutation: empty : Any AddsEmpty lines]]. What comes behind them may be anything: the report tells
+     at least what they do, by the law [[law right_begins]], [[RightBegins: TellsAtLeast report (right_report terms s lines)]]."""),
+    ("With one among its streams", """[[AskForRightRefutation: right : IsRightRefutation asks.formula (layout_at asks.given
+     asks.formula) s bytes]]: the words have no fault and a layout, and the files tell a formula and assumptions without fault
+     ([[AskWell]])."""),
+    ("the program ends with status 0", """the law [[law right_refutation_says]], [[RightRefutationSays: (status ≡ 0)]], of all that
+     `command` may do by its clause `ends`. For streams whose lines have a right order the law [[law right_order_says]]."""),
     ("or with 7; or with 5 or 6, for a fault of the machine", """[[IsExcused: unwritten : (failed : out.failed ≡ true)]];
      [[IsExcused: machine : IsOfMachine fault]]."""),
-    ("with 3 or 8, and then memory ran out in that stream or a read of it failed", """[[IsExcused: (why : Lost report)]], with
-     [[IsCutOff: IsOfMemory report ⊎ IsOfFailure report]]."""),
+    ("with 3 or 8, and then memory ran out, or a read failed, in these lines", """[[IsExcused: (why : Lost report)]], with
+     [[RightRefutationSays: IsCutOffIn (length ask.right.lines)]]."""),
 ]
 
 RUNS_HOW = """## How to read it
@@ -1023,7 +1031,8 @@ it promises nothing."""
 STORE_LAWS = [f"lrup_model/src/laws.rt: {name}" for name in "entries_advance known_stays pass_tells".split()]
 GROUP_LAWS = [f"run_laws/src/groups.rt: {name}" for name in "others_empty same_reading_agrees same_bytes_agree".split()]
 RIGHT_LAWS = [f"run_laws/src/right.rt: {name}" for name in """right_reported right_accepted right_has_one_report right_counted
-    right_empty right_cite_within ended_is_right right_together no_false_blame""".split()]
+    right_empty right_begins right_cite_within ended_is_right right_together together_begins no_false_blame""".split()] + [
+    f"run_laws/src/turns.rt: {name}" for name in "right_by_turns turns_decide bytes_decide".split()]
 PROGRAM_LAWS = [f"outcome_laws/src/laws.rt: {name}" for name in "right_refutation_says right_order_says".split()]
 
 LAWS = """## The laws
@@ -1052,6 +1061,7 @@ def audit_page():
     """The page on status 0 and 8, with the definitions that each clause takes."""
     command = Contract("command/src/program.rt: command", ["out", "err", "sound", "sound_under"], commented=False)
     arguments = Contract("command/src/arguments.rt: command_with_arguments", ["sound"])
+    check = Contract("command/src/program.rt: check_formula", ["sound"])
     guarantee = sentence("The guarantee:").split(". ")[0].split("; ")
     sound, under = phrase_by_phrase(guarantee[0], STATUS_0_PHRASES), phrase_by_phrase(guarantee[1], STATUS_8_PHRASES)
     placed = {}
@@ -1062,7 +1072,7 @@ def audit_page():
         AUDIT_TOP, sound[0], SIGNATURE, command, "Phrase by phrase:", sound[1], ACCOUNT,
         AUDIT_HOW.replace("{count}", str(len(definitions_of(first)))).replace("{twins}", twins(things)), *first,
         STATUS_8_TOP, *under, f"{len(definitions_of(more))} definitions more.", *more,
-        AUDIT_LIBRARIES, libraries(things, []), TRUST], cited=[arguments, Law("command_line/src/laws.rt: plain_words"),
+        AUDIT_LIBRARIES, libraries(things, []), TRUST], cited=[arguments, check, Law("command_line/src/laws.rt: plain_words"),
         Law("dimacs/src/laws.rt: one_formula")])
     page.sound = first
     return page

@@ -48,8 +48,9 @@ same_line s report other same =
 pub text_of : (told : Option (List ℕ)) (text bytes : List ℕ) → told ≡ Some text → ForSome told (λ all. all ≡ bytes) → text ≡ bytes
 text_of told text bytes is all = all text is
 
-pub is_text : (R : Type 0) (files : FilesView R) (path : Text) (f : Cnf) (text : List ℕ) → files.tells path ≡ Some text → IsFormulaAt R files path f → IsFormulaText text f
-is_text R files path f text told at =
+pub is_text : (R : Type 0) (files : FilesView R) (path : Text) (f : Cnf) (after : files.State) (text : List ℕ) → files.tells path ≡ Some text
+    → IsFormulaAt R files path f after → IsFormulaText text f
+is_text R files path f after text told at =
     subst (λ (x : List ℕ). IsFormulaText x f) (sym (text_of (files.tells path) text at.0 told at.1.told)) at.2
 
 -- what the readers of an outcome told
@@ -82,7 +83,7 @@ pub outcomes_agree : OneFormula → SerialRun → SameBytesSayTheSame → (R : T
 outcomes_agree one_formula serial same R files Q others words other_words reports other_reports verdict other_verdict a b s text whole report other
     options count told known cites on there =
     let formulas : b.formula ≡ a.formula =
-    one_formula text b.formula a.formula (is_text Q others b.given.formula.now b.formula text known b.is_formula) (is_text R files a.given.formula.now a.formula text told a.is_formula) in
+    one_formula text b.formula a.formula (is_text Q others b.given.formula.now b.formula b.next text known b.is_formula) (is_text R files a.given.formula.now a.formula a.next text told a.is_formula) in
     let layouts : layout_at b.given b.formula ≡ layout_at a.given a.formula =
     ap (λ (x : OptionsValue). layout_of x b.formula (length b.given.streams)) options
     ∙ ap (λ (x : Cnf). layout_of (options_of a.given) x (length b.given.streams)) formulas

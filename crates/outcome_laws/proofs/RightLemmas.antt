@@ -153,7 +153,7 @@ module _ (one_formula : OneFormula) (serial : SerialRun) (alike : SameWordsAskAl
       let same = alike words asks.given a.given asks.command_line a.command_line in
       let told : files.tells a.given.formula.now ≡ Some asks.text = ap files.tells same.2 ∙ asks.told in
       let formulas : a.formula ≡ asks.formula =
-      one_formula asks.text a.formula asks.formula (is_text R files a.given.formula.now a.formula asks.text told a.is_formula) asks.is_text in
+      one_formula asks.text a.formula asks.formula (is_text R files a.given.formula.now a.formula a.next asks.text told a.is_formula) asks.is_text in
       record {
         formulas = formulas;
         streams = same.1;
@@ -237,34 +237,34 @@ module _ (one_formula : OneFormula) (no_fault : NoFormulaFault) (alike : SameWor
   not_refused : (path : Text) (text : List ℕ) (f : Cnf) (fault : DimacsFault) → files.tells path ≡ Some text → IsFormulaText text f
       → ¬ IsReadCause R files path (faults.Refused fault)
   not_refused path text f fault told is cause =
-      let same = text_of (files.tells path) text cause.1.0 told cause.1.1.told in
-      no_fault cause.1.0 f fault (subst (λ (b : List ℕ). IsFormulaText b f) same is) cause.1.2
+      let same = text_of (files.tells path) text cause.1.0 told cause.1.2.told in
+      no_fault cause.1.0 f fault (subst (λ (b : List ℕ). IsFormulaText b f) same is) cause.1.3
 
-  not_assumed : (vars : ℕ) (path : Option Text) (fault : CubeFault) → AreRightAssumptions R files vars path
-      → ¬ IsAssumeCause R files vars path (faults.CubeRefused fault)
-  not_assumed vars None fault right cause = cause
-  not_assumed vars (Some path) fault right cause =
-      let same = text_of (files.tells path) right.0 cause.1.0 right.1 cause.1.1.told in
-      right.2 fault cause.0 (subst (λ (b : List ℕ). IsCubeFault vars b fault) (sym same) cause.1.2)
+  not_assumed : (vars : ℕ) (before : files.State) (path : Option Text) (fault : CubeFault) → AreRightAssumptions R files vars path
+      → ¬ IsAssumeCause R files vars before path (faults.CubeRefused fault)
+  not_assumed vars before None fault right cause = cause
+  not_assumed vars before (Some path) fault right cause =
+      let same = text_of (files.tells path) right.0 cause.1.0 right.1 cause.1.2.told in
+      right.2 fault cause.0 (subst (λ (b : List ℕ). IsCubeFault vars b fault) (sym same) cause.1.3)
 
-  no_usage : (path : Option Text) (vars : ℕ) (fault : DimacsFault) → ¬ IsAssumeCause R files vars path (faults.Refused fault)
-  no_usage None vars fault cause = cause
-  no_usage (Some path) vars fault cause = cause
+  no_usage : (before : files.State) (path : Option Text) (vars : ℕ) (fault : DimacsFault) → ¬ IsAssumeCause R files vars before path (faults.Refused fault)
+  no_usage before None vars fault cause = cause
+  no_usage before (Some path) vars fault cause = cause
 
-  no_layout : (path : Option Text) (vars : ℕ) (fault : LayoutFault) → ¬ IsAssumeCause R files vars path (faults.Layout fault)
-  no_layout None vars fault cause = cause
-  no_layout (Some path) vars fault cause = cause
+  no_layout : (before : files.State) (path : Option Text) (vars : ℕ) (fault : LayoutFault) → ¬ IsAssumeCause R files vars before path (faults.Layout fault)
+  no_layout before None vars fault cause = cause
+  no_layout before (Some path) vars fault cause = cause
 
-  never_unwritten : (path : Option Text) (vars : ℕ) → ¬ IsAssumeCause R files vars path faults.Unwritten
-  never_unwritten None vars cause = cause
-  never_unwritten (Some path) vars cause = cause
+  never_unwritten : (before : files.State) (path : Option Text) (vars : ℕ) → ¬ IsAssumeCause R files vars before path faults.Unwritten
+  never_unwritten before None vars cause = cause
+  never_unwritten before (Some path) vars cause = cause
 
   -- the formula that was read is the one that is told
-  formula_at : (words : List Text) (ask : AskWell R files words) (given : CommandLine) (f : Cnf)
-      → IsCommandLineOf words given → IsFormulaAt R files given.formula.now f → f ≡ ask.formula
-  formula_at words ask given f line at =
+  formula_at : (words : List Text) (ask : AskWell R files words) (given : CommandLine) (f : Cnf) (next : files.State)
+      → IsCommandLineOf words given → IsFormulaAt R files given.formula.now f next → f ≡ ask.formula
+  formula_at words ask given f next line at =
       let same = alike words ask.given given ask.command_line line in
-      one_formula ask.text f ask.formula (is_text R files given.formula.now f ask.text (ap files.tells same.2 ∙ ask.told) at) ask.is_text
+      one_formula ask.text f ask.formula (is_text R files given.formula.now f next ask.text (ap files.tells same.2 ∙ ask.told) at) ask.is_text
 
   of_machine : (words : List Text) (ask : AskWell R files words) (fault : CommandFault) → IsCause R files words fault → IsOfMachine fault
   of_machine words ask (faults.Usage text) cause = cause ask.command_line.good
@@ -278,34 +278,34 @@ module _ (one_formula : OneFormula) (no_fault : NoFormulaFault) (alike : SameWor
       let same = alike words ask.given cause.0 ask.command_line cause.1 in
       elim cause.2 [
         | inl read ↦ not_refused cause.0.formula.now ask.text ask.formula fault (ap files.tells same.2 ∙ ask.told) ask.is_text read
-        | inr later ↦ elim later.2 [
-          | inl assume ↦ no_usage (assumed_at cause.0) later.0.vars fault assume
-          | inr last ↦ elim last.2 [ inl opens ↦ opens | inr runs ↦ runs ]
+        | inr later ↦ elim later.3 [
+          | inl assume ↦ no_usage later.1 (assumed_at cause.0) later.0.vars fault assume
+          | inr last ↦ elim last.3 [ inl opens ↦ opens | inr runs ↦ runs ]
         ]
       ]
   of_machine words ask (faults.CubeRefused fault) cause =
       elim cause.2 [
         | inl read ↦ read
-        | inr later ↦ elim later.2 [
+        | inr later ↦ elim later.3 [
           | inl assume ↦
               let assumed : assumed_at cause.0 ≡ assumed_at ask.given = cause.1.said.assume ∙ sym ask.command_line.said.assume in
-              let formulas = formula_at words ask cause.0 later.0 cause.1 later.1 in
-              not_assumed ask.formula.vars (assumed_at ask.given) fault ask.assumptions
-              (subst (λ (p : Option Text). IsAssumeCause R files ask.formula.vars p (faults.CubeRefused fault)) assumed
-              (subst (λ (f : Cnf). IsAssumeCause R files f.vars (assumed_at cause.0) (faults.CubeRefused fault)) formulas assume))
-          | inr last ↦ elim last.2 [ inl opens ↦ opens | inr runs ↦ runs ]
+              let formulas = formula_at words ask cause.0 later.0 later.1 cause.1 later.2 in
+              not_assumed ask.formula.vars later.1 (assumed_at ask.given) fault ask.assumptions
+              (subst (λ (p : Option Text). IsAssumeCause R files ask.formula.vars later.1 p (faults.CubeRefused fault)) assumed
+              (subst (λ (f : Cnf). IsAssumeCause R files f.vars later.1 (assumed_at cause.0) (faults.CubeRefused fault)) formulas assume))
+          | inr last ↦ elim last.3 [ inl opens ↦ opens | inr runs ↦ runs ]
         ]
       ]
   of_machine words ask (faults.Layout fault) cause =
       elim cause.2 [
         | inl read ↦ read
-        | inr later ↦ elim later.2 [
-          | inl assume ↦ no_layout (assumed_at cause.0) later.0.vars fault assume
-          | inr last ↦ elim last.2 [
+        | inr later ↦ elim later.3 [
+          | inl assume ↦ no_layout later.1 (assumed_at cause.0) later.0.vars fault assume
+          | inr last ↦ elim last.3 [
             | inl opens ↦ opens
             | inr runs ↦
                 let same = alike words ask.given cause.0 ask.command_line cause.1 in
-                let formulas = formula_at words ask cause.0 later.0 cause.1 later.1 in
+                let formulas = formula_at words ask cause.0 later.0 later.1 cause.1 later.2 in
                 let layouts : layout_at cause.0 later.0 ≡ layout_at ask.given ask.formula =
                 ap (λ (x : OptionsValue). layout_of x later.0 (length cause.0.streams)) same.0
                 ∙ ap (λ (x : Cnf). layout_of (options_of ask.given) x (length cause.0.streams)) formulas
@@ -317,9 +317,9 @@ module _ (one_formula : OneFormula) (no_fault : NoFormulaFault) (alike : SameWor
   of_machine words ask faults.Unwritten cause =
       elim cause.2 [
         | inl read ↦ read
-        | inr later ↦ elim later.2 [
-          | inl assume ↦ never_unwritten (assumed_at cause.0) later.0.vars assume
-          | inr last ↦ elim last.2 [ inl opens ↦ opens | inr runs ↦ runs ]
+        | inr later ↦ elim later.3 [
+          | inl assume ↦ never_unwritten later.1 (assumed_at cause.0) later.0.vars assume
+          | inr last ↦ elim last.3 [ inl opens ↦ opens | inr runs ↦ runs ]
         ]
       ]
 

@@ -39,5 +39,5 @@ pub status_0 : (R : Type 0) (files : FilesView R) → Status0HasACommandLine R f
 status_0 R files words out err (inl report) =
     let o = report.outcome in
     let at = o.is_formula in
-    (o.given, at.0, o.formula, o.command_line, at.1, at.2, o.checked.sound (refuted out.failed report.verdict report.status_is))
+    (o.given, at.0, o.formula, o.next, o.command_line, at.1, at.2, o.checked.sound (refuted out.failed report.verdict report.status_is))
 status_0 R files words out err (inr fault) = absurd (no_fault fault.fault fault.status_is)

@@ -33,10 +33,10 @@ pub fn same_words_ask_alike()
 /// the options and the number of streams are the same, and the files of the formula and of the stream tell the same bytes. Unless a
 /// report of the stream is of memory or of a failed read.
 pub fn outcomes_agree<F: Files, G: Files>(files: &F, others: &G)
-    ensures { let view = files_view (F.tells files.now) (F.may_refuse files.now)
-        F.Input.Source.left F.Input.Source.has_failed (F.opens files.now) F.Input.Source.reads in
-        let other = files_view (G.tells others.now) (G.may_refuse others.now)
-        G.Input.Source.left G.Input.Source.has_failed (G.opens others.now) G.Input.Source.reads in
+    ensures { let view = files_view files.now (F.tells files.now) (F.may_refuse files.now)
+        F.Input.Source.left F.Input.Source.has_failed F.opens F.Input.Source.reads in
+        let other = files_view others.now (G.tells others.now) (G.may_refuse others.now)
+        G.Input.Source.left G.Input.Source.has_failed G.opens G.Input.Source.reads in
         OutcomesAgree _ view _ other }
 {
     one_formula();
@@ -47,8 +47,8 @@ pub fn outcomes_agree<F: Files, G: Files>(files: &F, others: &G)
 /// With status 0 the words have a whole command line, and what was read at its FORMULA is a text of a formula that no assignment
 /// satisfies: the clause `ends` of `command` says so.
 pub fn status_0_has_a_command_line<F: Files>(files: &F)
-    ensures { let view = files_view (F.tells files.now) (F.may_refuse files.now)
-        F.Input.Source.left F.Input.Source.has_failed (F.opens files.now) F.Input.Source.reads in
+    ensures { let view = files_view files.now (F.tells files.now) (F.may_refuse files.now)
+        F.Input.Source.left F.Input.Source.has_failed F.opens F.Input.Source.reads in
         Status0HasACommandLine _ view }
 {}
 
@@ -56,8 +56,8 @@ pub fn status_0_has_a_command_line<F: Files>(files: &F)
 /// 5 or 6, for a fault of the machine; or with 3 or 8, and then memory ran out, or a read failed, in the refutation's lines: the
 /// clause `ends` of `command` says so.
 pub fn right_refutation_says<F: Files>(files: &F)
-    ensures { let view = files_view (F.tells files.now) (F.may_refuse files.now)
-        F.Input.Source.left F.Input.Source.has_failed (F.opens files.now) F.Input.Source.reads in
+    ensures { let view = files_view files.now (F.tells files.now) (F.may_refuse files.now)
+        F.Input.Source.left F.Input.Source.has_failed F.opens F.Input.Source.reads in
         RightRefutationSays _ view }
 {
     one_formula();
@@ -71,8 +71,8 @@ pub fn right_refutation_says<F: Files>(files: &F)
 /// So it is where they ask for streams whose lines have a right order, and one of which adds the empty clause; or with 3 or 8 that
 /// stream has a line that cites a clause of another stream, which wasn't there, or wasn't any more.
 pub fn right_order_says<F: Files>(files: &F)
-    ensures { let view = files_view (F.tells files.now) (F.may_refuse files.now)
-        F.Input.Source.left F.Input.Source.has_failed (F.opens files.now) F.Input.Source.reads in
+    ensures { let view = files_view files.now (F.tells files.now) (F.may_refuse files.now)
+        F.Input.Source.left F.Input.Source.has_failed F.opens F.Input.Source.reads in
         RightOrderSays _ view }
 {
     one_formula();

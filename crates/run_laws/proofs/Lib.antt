@@ -15,6 +15,9 @@ mod BlameStreams
 mod BlameLemmas
 mod BeginLemmas
 mod TogetherLemmas
+mod OneOrder
+mod TurnsLemmas
+mod RightTurns
 pub mod BlockLemmas
 pub mod AheadLemmas
 pub mod WalkLemmas

@@ -1,6 +1,6 @@
 -- The worked example: four clauses over two variables, and room for one literal a stream. One stream with two identities, 5 and 6, or
 -- two streams, of which the first has 5 and 7.
-use Rattle.std.specs.Prelude.{◌≡◌, ◌⊎◌, ◌≤◌, ◌++◌, ℕ, true, pos, negsuc, [], ◌∷◌, List, Some, codes}
+use Rattle.std.specs.Prelude.{◌≡◌, ◌⊎◌, ◌≤◌, ◌++◌, ℕ, true, false, pos, negsuc, [], ◌∷◌, List, Some, codes}
 use Rattle.lrup_model.specs.Cube.{CubeValue}
 use Rattle.lrup_model.specs.Layout.{LayoutValue}
 use Rattle.lrup_text.specs.Lines.{StreamLine, Addition, Deletion, Import}
@@ -76,6 +76,16 @@ retired_first =
     ∷ []
 
 -- What the laws say of runs of these lines
+
+-- a report of one addition
+abbrev pub one_added : Report
+one_added = record {
+  added = 1;
+  deleted = 0;
+  empty = false;
+  within = false;
+  ending = endings.Ended;
+}
 
 -- any cube and number of tries, with this layout
 abbrev pub terms_at : LayoutValue → CubeValue → ℕ → TermsValue

@@ -1,9 +1,10 @@
 //! Lines of one stream, right and not, by the definitions alone.
-ghost use Rattle.std.specs.Prelude.{◌≡◌, ◌++◌, ℕ, List, [], ◌∷◌, pos, negsuc, Some, codes};
+ghost use Rattle.std.specs.Prelude.{◌≡◌, ◌++◌, ℕ, true, List, [], ◌∷◌, pos, negsuc, Some, codes};
 ghost use Rattle.lrup_text.specs.Lines.{Addition, Deletion, Import};
-ghost use Rattle.run_laws.specs.Right.{IsRightLine, IsRightRefutation, IsRightStream, first_database};
+ghost use Rattle.stream_check.specs.declared.report.Ending.TheVariants as endings;
+ghost use Rattle.run_laws.specs.Right.{IsCutOffIn, IsRightLine, IsRightRefutation, IsRightStream, TellsAtLeast, first_database};
 ghost use Rattle.run_laws.specs.Together.{IsRightOrder};
-ghost use Rattle.run_laws_tests.specs.Worked.{at_first, at_roomy, crossed, one_stream, retired_first, roomy, shared, two_streams, with_five, with_repeat, without_five, without_one, BeginningCounted, RefutationCounted, SharedCounted};
+ghost use Rattle.run_laws_tests.specs.Worked.{at_first, at_roomy, crossed, one_added, one_stream, retired_first, roomy, shared, two_streams, with_five, with_repeat, without_five, without_one, BeginningCounted, RefutationCounted, SharedCounted};
 ghost use Rattle.test_support.specs.Worked.{four, unit};
 
 use lrup_text::laws::{bytes_begin_with_one_line, no_bytes_may_become_a_line};
@@ -114,6 +115,17 @@ fn orders_are_not_right()
         (record { stream = 1; line = Deletion 0 [] } ∷ []) }
     ensures stream { ¬ IsRightOrder four two_streams
         (record { stream = 3; line = Deletion 5 [] } ∷ []) }
+{}
+
+/// One addition is less than two, and nothing is less than one deletion, an empty clause, or one within the cube. What is cut off in the
+/// third line isn't cut off in the first two.
+fn reports_tell_less()
+    ensures added { ¬ TellsAtLeast one_added (record one_added { added = 2 }) }
+    ensures deleted { ¬ TellsAtLeast one_added (record one_added { deleted = 1 }) }
+    ensures empty { ¬ TellsAtLeast one_added (record one_added { empty = true }) }
+    ensures within { ¬ TellsAtLeast one_added (record one_added { within = true }) }
+    ensures memory { ¬ IsCutOffIn 2 (record one_added { ending = endings.Memory 3 }) }
+    ensures read { ¬ IsCutOffIn 2 (record one_added { ending = endings.ReadFailed 3 }) }
 {}
 
 /// By the law of right streams, every run tells so of the worked stream.
