@@ -112,8 +112,8 @@ AddsEmpty (Addition id lits hints) = lits ≡ []
 AddsEmpty (Deletion lead ids) = ⊥
 AddsEmpty (Import id lits) = ⊥
 
--- The bytes are a right refutation of the formula, as stream s: they begin with right lines, of which some line adds the empty
--- clause. What comes behind that line may be anything.
+-- The bytes are a right refutation of the formula, as stream s: they begin with right lines, one of which adds the empty clause. What
+-- comes behind these lines may be anything.
 pub record IsRightRefutation (f : Cnf) (p : LayoutValue) (s : ℕ) (bytes : List ℕ) : Type 0 where
   pub lines : List StreamLine
   pub right : IsRightBeginning f p s bytes lines

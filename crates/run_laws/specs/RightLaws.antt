@@ -56,7 +56,7 @@ RightBegins = (f : Cnf) (terms : TermsValue) (s : ℕ) (bytes : List ℕ) (lines
     → IsOfStream reports s report
     → TellsAtLeast report (right_report terms s lines) ⊎ IsCutOffIn (length lines) report
 
--- The count of deletions of a right stream is that of all identities in them: 64 bits suffice for it
+-- A right stream's count of deletions is that of all identities that its lines delete: 64 bits suffice for it
 abbrev pub RightCounted : Type 0
 RightCounted = (f : Cnf) (terms : TermsValue) (s : ℕ) (bytes : List ℕ) (lines : List StreamLine)
     → IsCnf f → IsLayout terms.layout → Fits terms.layout f → IsStream terms.layout s
