@@ -1,6 +1,7 @@
 //! Lines of one stream, right and not, by the definitions alone.
 ghost use Rattle.std.specs.Prelude.{[], ◌∷◌, pos, negsuc, codes};
 ghost use Rattle.lrup_text.specs.Lines.{Addition, Deletion, Import};
+ghost use Rattle.runs.specs.Turns.{IsByTurns};
 ghost use Rattle.run_laws.specs.Right.{IsRightLine, IsRightRefutation, first_database};
 ghost use Rattle.run_laws.specs.Together.{IsRightOrder};
 ghost use Rattle.run_laws_tests.specs.Worked.{at_first, one_stream, two_streams, with_five, without_one, shared};
@@ -60,4 +61,13 @@ fn other_lines_are_not_right()
 /// Two streams are right together: the first derives the unit clause, and the second imports it, cites it and drops it.
 fn streams_are_right_together()
     ensures { IsRightOrder four two_streams shared }
+{}
+
+/// Stream 1 comes first, then stream 2, and so on round; a stream that has no line left drops out. Stream 1 doesn't come later, or take
+/// two lines at once, or be left out, where there is another.
+fn lines_go_round()
+    ensures round { IsByTurns (1 ∷ 2 ∷ 1 ∷ []) }
+    ensures late { ¬ IsByTurns (2 ∷ 1 ∷ []) }
+    ensures twice { ¬ IsByTurns (1 ∷ 1 ∷ 2 ∷ []) }
+    ensures left_out { ¬ IsByTurns (1 ∷ 2 ∷ 2 ∷ 1 ∷ []) }
 {}
