@@ -24,7 +24,8 @@ use Rattle.runs.specs.Headline.{AreJudgedIn}
 use Rattle.portfolio.specs.Outcomes.{OptionsValue, layout_of, terms_of, verdict_of}
 use Rattle.portfolio.specs.ReportText.{report_text}
 use Rattle.runs.specs.Readings.{AreRead}
-use Rattle.runs.specs.Streams.{IsOrdered, StandsOnStreams, Stream, TermsValue, tellings}
+use Rattle.runs.specs.Streams.{StandsOnStreams, Stream, TermsValue, tellings}
+use Rattle.runs.specs.Turns.{IsOrderedByTurns}
 use Rattle.portfolio.specs.declared.outcome.Verdict.{Verdict}
 use Rattle.portfolio.specs.declared.outcome.Verdict.TheVariants.{Unsatisfiable, UnsatisfiableUnder, Unknown}
 use Rattle.command_line.specs.CommandLine.{AskFor, HaveFault, IsCommandLineOf}
@@ -87,10 +88,10 @@ layout_at given f = layout_of (options_of given) f (length given.streams)
 abbrev pub terms_given : CommandLine → CubeValue → Cnf → TermsValue
 terms_given given cube f = terms_of (options_of given) cube f (length given.streams)
 
--- what the reports say of the streams: on one thread they have an order of lines; with two threads for each, each was read to its
+-- what the reports say of the streams: on one thread they have an order of lines, by turns; with two threads for each, each was read to its
 -- end or to a read that failed, and they are judged by their events of one legal history
 abbrev pub AreReported : Bool → Cnf → TermsValue → List Report → List Stream → Type 0
-AreReported true f terms reports streams = IsOrdered f terms (λ s. true) streams reports
+AreReported true f terms reports streams = IsOrderedByTurns f terms streams reports
 AreReported false f terms reports streams =
     AllByRecursion (λ stream. IsSome stream.end) streams
     × ((h : History) × IsLegal f terms.layout h

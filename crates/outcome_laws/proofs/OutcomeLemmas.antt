@@ -13,6 +13,7 @@ use Rattle.stream_check.specs.declared.report.Report.{Report}
 use Rattle.runs.specs.Closed.{IsOfStream}
 use Rattle.runs.specs.Streams.{Telling, TermsValue, StandsOnStreams, tellings}
 use Rattle.runs.specs.StreamLemmas.{told_as_many, told_count, telling_at}
+use Rattle.runs.specs.Turns.{IsOrderedByTurns}
 use Rattle.run_laws.specs.Groups.{IsRun}
 use Rattle.run_laws.specs.GroupLaws.{SerialRun}
 use Rattle.portfolio.specs.Outcomes.{OptionsValue, layout_of}
@@ -28,7 +29,7 @@ OneFormula = (bytes : List ℕ) (one other : Cnf) → IsFormulaText bytes one �
 
 is_run : SerialRun → (serial : Bool) (f : Cnf) (terms : TermsValue) (told : List Telling) (reports : List Report)
     → length told ≡ terms.layout.streams → StandsOnStreams told (AreReported serial f terms reports) → IsRun f terms told reports
-is_run law true f terms told reports count stands = law f terms told reports count stands
+is_run law true f terms told reports count stands = law f terms told reports count (record { streams = stands.streams; are_told = stands.are_told; judged = stands.judged.order })
 is_run law false f terms told reports count stands = record {
   streams = stands.streams;
   are_told = stands.are_told;
@@ -57,15 +58,28 @@ is_text R files path f after text told at =
 pub told_in : (R : Type 0) (files : FilesView R) (words : List Text) (reports : List Report) (verdict : Verdict) → IsOutcome R files words reports verdict → List Telling
 told_in R files words reports verdict a = tellings files.reading a.readers a.checked.lasts
 
+-- an outcome on one thread has an order by turns
+pub turns_of : (R : Type 0) (files : FilesView R) (words : List Text) (reports : List Report) (verdict : Verdict) (a : IsOutcome R files words reports verdict) → a.given.serial ≡ true
+    → StandsOnStreams (told_in R files words reports verdict a) (λ streams. IsOrderedByTurns a.formula (terms_given a.given a.cube a.formula) streams reports)
+unfolding told_in
+turns_of R files words reports verdict a serial =
+    subst (λ (b : Bool). StandsOnStreams (told_in R files words reports verdict a) (AreReported b a.formula (terms_given a.given a.cube a.formula) reports)) serial a.checked.reported
+
+-- each stream's reader told something
+pub told_length : (R : Type 0) (files : FilesView R) (words : List Text) (reports : List Report) (verdict : Verdict) (a : IsOutcome R files words reports verdict)
+    → length (told_in R files words reports verdict a) ≡ length a.given.streams
+unfolding told_in
+told_length R files words reports verdict a =
+    told_as_many files.reading a.readers a.checked.lasts a.checked.reported.streams a.checked.read
+    ∙ sym (length-map a.readers files.reading.left) ∙ ap length a.left ∙ length-map a.given.streams files.tells
+
 -- an outcome's reports are those of a run
 pub run_of : SerialRun → (R : Type 0) (files : FilesView R) (words : List Text) (reports : List Report) (verdict : Verdict) (a : IsOutcome R files words reports verdict)
     → IsRun a.formula (terms_given a.given a.cube a.formula) (told_in R files words reports verdict a) reports
 unfolding told_in
 run_of serial R files words reports verdict a =
-    let readers : length a.readers ≡ length a.given.streams =
-    sym (length-map a.readers files.reading.left) ∙ ap length a.left ∙ length-map a.given.streams files.tells in
     is_run serial a.given.serial a.formula (terms_given a.given a.cube a.formula) (tellings files.reading a.readers a.checked.lasts) reports
-    (told_as_many files.reading a.readers a.checked.lasts a.checked.reported.streams a.checked.read ∙ readers) a.checked.reported
+    (told_length R files words reports verdict a) a.checked.reported
 
 -- what a file tells its reader had left at first
 pub telling_of_file : (R : Type 0) (files : FilesView R) (words : List Text) (reports : List Report) (verdict : Verdict) (a : IsOutcome R files words reports verdict)

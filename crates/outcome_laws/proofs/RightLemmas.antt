@@ -68,7 +68,7 @@ one_says (r ∷ rs) (suc k) report at is = or_right r.empty (list_any (λ y. y.e
 -- What streams have
 
 -- what holds of the stream of each step holds of one that has a line
-of_some : (s : ℕ) (P : ℕ → Type 0) (steps : List Step) → AllByRecursion (λ step. P step.stream) steps → 0 < length (lines_by s steps) → P s
+pub of_some : (s : ℕ) (P : ℕ → Type 0) (steps : List Step) → AllByRecursion (λ step. P step.stream) steps → 0 < length (lines_by s steps) → P s
 of_some s P [] all some = absurd (omega (arith, some))
 of_some s P (step ∷ steps) all some = elim (cases_eq step.stream s) [
   | inl same ↦ subst P same all.0
@@ -77,7 +77,7 @@ of_some s P (step ∷ steps) all some = elim (cases_eq step.stream s) [
 ]
 
 -- a stream of a run has a report
-has_report : (f : Cnf) (terms : TermsValue) (told : List Telling) (reports : List Report) (r : IsRun f terms told reports) (s : ℕ) → IsStream terms.layout s
+pub has_report : (f : Cnf) (terms : TermsValue) (told : List Telling) (reports : List Report) (r : IsRun f terms told reports) (s : ℕ) → IsStream terms.layout s
     → (report : Report) × IsOfStream reports s report
 has_report f terms told reports r s is =
     elim (slice_get_cases reports (s - 1)).1 [
@@ -86,12 +86,12 @@ has_report f terms told reports r s is =
     ]
 
 module _ (R : Type 0) (files : FilesView R) (Lost : Report → Type 0) where
-  when_said : (words : List Text) (s : ℕ) (out : SinkChange) (status : ℕ) (verdict : Verdict) → verdict ≡ Unsatisfiable
+  pub when_said : (words : List Text) (s : ℕ) (out : SinkChange) (status : ℕ) (verdict : Verdict) → verdict ≡ Unsatisfiable
       → (failed : Bool) → out.failed ≡ failed → status ≡ report_status failed verdict → (status ≡ 0) ⊎ IsExcused R files words s Lost out status
   when_said words s out status verdict is true failed status_is = inr (unwritten failed status_is)
   when_said words s out status verdict is false failed status_is = inl (status_is ∙ ap (report_status false) is)
 
-  when_lost : (words : List Text) (s : ℕ) (out : SinkChange) (status : ℕ) (reports : List Report) (verdict : Verdict) → IsOutcome R files words reports verdict
+  pub when_lost : (words : List Text) (s : ℕ) (out : SinkChange) (status : ℕ) (reports : List Report) (verdict : Verdict) → IsOutcome R files words reports verdict
       → (report : Report) → IsOfStream reports s report → Lost report
       → (other : Verdict) → verdict ≡ other → (failed : Bool) → out.failed ≡ failed → status ≡ report_status failed other
       → (status ≡ 0) ⊎ IsExcused R files words s Lost out status
@@ -101,7 +101,7 @@ module _ (R : Type 0) (files : FilesView R) (Lost : Report → Type 0) where
   when_lost words s out status reports verdict a report says why Unknown same false failed is = inr (lost reports verdict a report says why (inl is))
 
 -- no text of a formula has a fault: the law of `dimacs`
-abbrev NoFormulaFault : Type 0
+abbrev pub NoFormulaFault : Type 0
 NoFormulaFault = (bytes : List ℕ) (f : Cnf) (fault : DimacsFault) → IsFormulaText bytes f → ¬ IsFormulaFault bytes fault
 
 machine_status : (fault : CommandFault) → IsOfMachine fault → (status_of fault ≡ 5) ⊎ (status_of fault ≡ 6)
@@ -122,7 +122,7 @@ abbrev IsAnothers : LayoutValue → ℕ → ℕ → Type 0
 IsAnothers p s id = side_of (setting_of (record { layout = p; cube = []; tries = 0 }) s) id ≡ sides.Foreign
 
 -- A report of 'empty' comes to 'unsatisfiable'
-comes_to : (reports : List Report) (verdict : Verdict) (s : ℕ) (report : Report) → verdict ≡ verdict_of reports → IsOfStream reports s report → report.empty ≡ true
+pub comes_to : (reports : List Report) (verdict : Verdict) (s : ℕ) (report : Report) → verdict ≡ verdict_of reports → IsOfStream reports s report → report.empty ≡ true
     → verdict ≡ Unsatisfiable
 comes_to reports verdict s report is at says =
     is ∙ cond-true (list_any (λ r. r.empty) reports) Unsatisfiable
@@ -141,14 +141,14 @@ module _ (R : Type 0) (files : FilesView R) (Lost : Report → Type 0) where
 
 module _ (one_formula : OneFormula) (serial : SerialRun) (alike : SameWordsAskAlike) (empty : RightEmpty) (R : Type 0) (files : FilesView R) where
   -- what was asked for is what the outcome is of
-  record IsOf (words : List Text) (asks : AskWell R files words) (reports : List Report) (verdict : Verdict) (a : IsOutcome R files words reports verdict) : Type 0 where
-    formulas : a.formula ≡ asks.formula
-    streams : a.given.streams ≡ asks.given.streams
-    layouts : layout_at asks.given asks.formula ≡ layout_at a.given a.formula
-    cnf : IsCnf a.formula
-    run : IsRun a.formula (terms_given a.given a.cube a.formula) (told_in R files words reports verdict a) reports
+  pub record IsOf (words : List Text) (asks : AskWell R files words) (reports : List Report) (verdict : Verdict) (a : IsOutcome R files words reports verdict) : Type 0 where
+    pub formulas : a.formula ≡ asks.formula
+    pub streams : a.given.streams ≡ asks.given.streams
+    pub layouts : layout_at asks.given asks.formula ≡ layout_at a.given a.formula
+    pub cnf : IsCnf a.formula
+    pub run : IsRun a.formula (terms_given a.given a.cube a.formula) (told_in R files words reports verdict a) reports
 
-  is_of : (words : List Text) (asks : AskWell R files words) (reports : List Report) (verdict : Verdict) (a : IsOutcome R files words reports verdict) → IsOf words asks reports verdict a
+  pub is_of : (words : List Text) (asks : AskWell R files words) (reports : List Report) (verdict : Verdict) (a : IsOutcome R files words reports verdict) → IsOf words asks reports verdict a
   is_of words asks reports verdict a =
       let same = alike words asks.given a.given asks.command_line a.command_line in
       let told : files.tells a.given.formula.now ≡ Some asks.text = ap files.tells same.2 ∙ asks.told in
@@ -323,7 +323,7 @@ module _ (one_formula : OneFormula) (no_fault : NoFormulaFault) (alike : SameWor
         ]
       ]
 
-  without_report : (Lost : Report → Type 0) (words : List Text) (s : ℕ) (out err : SinkChange) (status : ℕ) → AskWell R files words
+  pub without_report : (Lost : Report → Type 0) (words : List Text) (s : ℕ) (out err : SinkChange) (status : ℕ) → AskWell R files words
       → EndsWithFault R files words out err status → IsExcused R files words s Lost out status
   without_report Lost words s out err status ask ends =
       let machine = of_machine words ask ends.fault ends.cause in

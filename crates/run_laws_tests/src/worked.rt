@@ -2,6 +2,7 @@
 ghost use Rattle.std.specs.Prelude.{◌≡◌, ◌++◌, ℕ, true, List, [], ◌∷◌, pos, negsuc, Some, codes};
 ghost use Rattle.lrup_text.specs.Lines.{Addition, Deletion, Import};
 ghost use Rattle.stream_check.specs.declared.report.Ending.TheVariants as endings;
+ghost use Rattle.runs.specs.Turns.{IsByTurns};
 ghost use Rattle.run_laws.specs.Right.{IsCutOffIn, IsRightLine, IsRightRefutation, IsRightStream, TellsAtLeast, first_database};
 ghost use Rattle.run_laws.specs.Together.{IsRightOrder};
 ghost use Rattle.run_laws_tests.specs.Worked.{at_first, at_roomy, crossed, one_added, one_stream, retired_first, roomy, shared, two_streams, with_five, with_repeat, without_five, without_one, BeginningCounted, RefutationCounted, SharedCounted};
@@ -148,3 +149,12 @@ fn shared_lines_are_counted()
 {
     right_together();
 }
+
+/// Stream 1 comes first, then stream 2, and so on round; a stream that has no line left drops out. Stream 1 doesn't come later, or take
+/// two lines at once, or be left out, where there is another.
+fn lines_go_round()
+    ensures round { IsByTurns (1 ∷ 2 ∷ 1 ∷ []) }
+    ensures late { ¬ IsByTurns (2 ∷ 1 ∷ []) }
+    ensures twice { ¬ IsByTurns (1 ∷ 1 ∷ 2 ∷ []) }
+    ensures left_out { ¬ IsByTurns (1 ∷ 2 ∷ 2 ∷ 1 ∷ []) }
+{}
