@@ -54,9 +54,10 @@ deb: ## use: a Debian package of what make install installs, with README, USING 
 dist: ## use: an archive of the sources, in out/
 	@mkdir -p out && git archive --prefix=lrupd-$(VERSION)/ -o out/lrupd-$(VERSION).tar.gz HEAD && echo out/lrupd-$(VERSION).tar.gz
 
-# tools/pre-push runs it before a push.
+# As many tests are run as there is time for in LIMIT seconds. tools/pre-push runs it before a push.
+LIMIT ?= 90
 quick: toolchain c-and-python ## check: after a change of CRATE=name: layout, proofs, its tests before they are proved, the pages
-	@sh gate/quick.sh $(RT) $(CRATE)
+	@sh gate/quick.sh $(RT) $(CRATE) $(LIMIT)
 
 # What the program writes on standard output and standard error, and its status, on the examples and on some hundred small runs;
 # two groups of streams, checked apart; and whether README, USING, the manual page and --help say the same.
