@@ -883,6 +883,10 @@ HEADLINE_PHRASES = [
      PassMoves jobs.pass.view found.pass.view (joined blocks)]]. That a pass can't be made or copied otherwise is by its fields,
      which are private."""),
     ("the rest is one of the run", "[[fn run.history+reports+sound+sound_under]]."),
+    ("sequentially consistent", """Lamport's condition, which two phrases above have: [[HaveOneHistory: legal : IsLegal f p h]],
+     and for each stream [[HaveOneHistory: v.mine ≡ own h s]]."""),
+    ("no contract speaks of real time", """an [[Event]] has a stream, an identity, the clause of a publish and a reply, but no
+     moment. The calls of two streams are ordered by legality, and by what a pass had seen."""),
 ]
 
 ISOLATION_TOP = """## Groups of streams are isolated
