@@ -11,8 +11,9 @@ FORMULA ?= examples/bmc.cnf
 STREAMS ?= $(addprefix examples/bmc-four.,1 2 3 4)
 OPTIONS ?= --tries 1000000
 
-.PHONY: help try run build install deb dist quick examples live demo solver exact solver-test filter-test neighbours sweep leaks instructions audit pages \
+.PHONY: run build install examples live demo solver exact solver-test filter-test neighbours sweep leaks instructions audit pages \
     test toolchain c-and-python
+.PHONY: help try deb dist quick
 
 help:
 	@awk -f gate/help.awk $(firstword $(MAKEFILE_LIST))
@@ -42,21 +43,8 @@ install: build exact ## use: install the program and the filter, with their manu
 	install -d "$(DESTDIR)$(PREFIX)/bin" "$(DESTDIR)$(PREFIX)/share/man/man1"
 	install -m 755 $(PROGRAM) "$(DESTDIR)$(PREFIX)/bin/lrupd"
 	install -m 755 $(EXACT) "$(DESTDIR)$(PREFIX)/bin/lrup-exact"
-	for page in lrupd.1 lrup-exact.1; do sed 's/^\.Os$$/.Os lrupd $(VERSION)/' docs/$$page | \
-	install -m 644 /dev/stdin "$(DESTDIR)$(PREFIX)/share/man/man1/$$page" || exit 1; done
-
-# With dpkg-deb and dpkg-dev.
-deb: ## use: a Debian package of what make install installs, with README, USING and the examples, in out/
-	@rm -rf out/deb && $(MAKE) --no-print-directory install DESTDIR="$(abspath out/deb)" PREFIX=/usr
-	@sh tools/deb.sh out/deb $(VERSION)
-
-# Of what is committed.
-dist: ## use: an archive of the sources, in out/
-	@mkdir -p out && git archive --prefix=lrupd-$(VERSION)/ -o out/lrupd-$(VERSION).tar.gz HEAD && echo out/lrupd-$(VERSION).tar.gz
-
-# tools/pre-push runs it before a push.
-quick: toolchain c-and-python ## check: after a change of CRATE=name: layout, proofs, its tests before they are proved, the pages
-	@sh gate/quick.sh $(RT) $(CRATE)
+	install -m 644 docs/lrupd.1 docs/lrup-exact.1 "$(DESTDIR)$(PREFIX)/share/man/man1"
+	sed -i 's/^\.Os$$/.Os lrupd $(VERSION)/' "$(DESTDIR)$(PREFIX)"/share/man/man1/lrup*.1
 
 # What the program writes on standard output and standard error, and its status, on the examples and on some hundred small runs;
 # two groups of streams, checked apart; and whether README, USING, the manual page and --help say the same.
@@ -109,6 +97,20 @@ audit: ## check: write docs/AUDIT.md and docs/AUDIT-RUNS.md anew from the source
 pages: c-and-python ## check: the documents, against the sources and each other; needs no prover
 	@python3 gate/audit.py --check
 	@python3 gate/style.py
+
+# With dpkg-deb and dpkg-dev.
+deb: ## use: a Debian package of what make install installs, with README, USING and the examples, in out/
+	@rm -rf out/deb && $(MAKE) --no-print-directory install DESTDIR="$(abspath out/deb)" PREFIX=/usr
+	@sh tools/deb.sh out/deb $(VERSION)
+
+# Of what is committed.
+dist: ## use: an archive of the sources, in out/
+	@mkdir -p out && git archive --prefix=lrupd-$(VERSION)/ -o out/lrupd-$(VERSION).tar.gz HEAD && echo out/lrupd-$(VERSION).tar.gz
+
+# As many tests are run as there is time for in LIMIT seconds. tools/pre-push runs it before a push.
+LIMIT ?= 90
+quick: toolchain c-and-python ## check: after a change of CRATE=name: layout, proofs, its tests before they are proved, the pages
+	@sh gate/quick.sh $(RT) $(CRATE) $(LIMIT)
 
 # The whole gate: the pages; every proof from nothing, each edit that must be refused, each test, and the program as two compilers
 # build it; then, with the program that was built there, the examples, the live run, the solver's streams and the filter's, mutated

@@ -3,11 +3,11 @@
 
     python3 gate/build.py RT
 
-rt lets one run at a time into a crate and those below it, and nearly all stand on lrup_model. So each library is proved in a lane: a
-folder with copies of its sources and of the libraries below, into which its out/ is moved for that time. Those with the longest way
-to the program come first, by the seconds of the table in CONTRIBUTING. Where a build is broken off, the next one goes on with what
-was proved. At the end `rt run` proves and runs the program. It knows by sums which libraries are proved, and proves any other again:
-nothing rests on what stands here.
+rt lets one run at a time into a crate and those below it, and nearly all stand on lrup_model. So each library is proved in a lane:
+a folder with copies of its sources and of the libraries below, into which its out/ is moved for that time. Those with the longest
+way to the program come first, by the seconds of the table in CONTRIBUTING. Where a build is broken off, the next one goes on with
+what was proved. At the end `rt run` proves and runs the program. It knows by sums which libraries are proved, and proves any other
+again: nothing rests on what stands here.
 """
 import fcntl
 import os

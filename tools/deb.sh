@@ -31,7 +31,7 @@ gzip -9nf "$root"/usr/share/man/man1/*.1
 mkdir -p "$root/usr/share/bash-completion/completions"
 for program in "$root"/usr/bin/*; do
     name=${program##*/}
-    options=$({ "$program" --help 2>&1 || :; } | grep -oE -- '(^|[ [,|])--[a-z][a-z-]*' | grep -oE -- '--.*' | LC_ALL=C sort -u | tr '\n' ' ')
+    options=$({ "$program" --help 2>&1 || :; } | grep -oE -- '(^|[ [,|])--[a-z][a-z-]*' | sed 's/^[^-]//' | LC_ALL=C sort -u | tr '\n' ' ')
     [ -n "$options" ] || { echo "$name --help names no option" >&2; exit 1; }
     function=_$(echo "$name" | tr - _)
     cat > "$root/usr/share/bash-completion/completions/$name" << END
