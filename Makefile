@@ -7,12 +7,16 @@ VERSION := $(shell cat VERSION)
 PROGRAM := crates/lrupd/out/lrupd
 SOLVER := examples/solver/out/solver
 EXACT := tools/exact/out/exact
+SOLVE := tools/solve/out/lrup-solve
+SOLVE_FLAGS ?= -O2
+# What of the filter is part of lrup-solve.
+FILTER := $(addprefix tools/exact/,binary.c clauses.c filter.c formula.c hints.c input.c others.c propagation.c words.c write.c)
 FORMULA ?= examples/bmc.cnf
 STREAMS ?= $(addprefix examples/bmc-four.,1 2 3 4)
 OPTIONS ?= --tries 1000000
 
-.PHONY: run build install examples live demo solver exact solver-test filter-test neighbours sweep leaks instructions audit pages \
-    test toolchain c-and-python
+.PHONY: run build install examples live demo solver exact solve solver-test filter-test solve-test neighbours sweep leaks \
+    instructions audit pages test toolchain c-and-python libcadical
 .PHONY: help try deb dist quick
 
 help:
@@ -38,12 +42,16 @@ run: build ## try: the same, proved first; both take FORMULA=path STREAMS="path 
 build: toolchain ## build: prove the program, 7 to 30 minutes the first time, and leave it at crates/lrupd/out/lrupd
 	@python3 gate/build.py $(RT)
 
-# The filter's name is lrup-exact. The manual pages tell the version at their feet.
-install: build exact ## use: install the program and the filter, with their manual pages, below PREFIX=/usr/local
+# The filter's name is lrup-exact; lrup-solve is installed where CaDiCaL's library is there. The manual pages tell the version at their
+# feet.
+install: build exact ## use: install the program, the filter and lrup-solve, with their manual pages, below PREFIX=/usr/local
 	install -d "$(DESTDIR)$(PREFIX)/bin" "$(DESTDIR)$(PREFIX)/share/man/man1"
 	install -m 755 $(PROGRAM) "$(DESTDIR)$(PREFIX)/bin/lrupd"
 	install -m 755 $(EXACT) "$(DESTDIR)$(PREFIX)/bin/lrup-exact"
 	install -m 644 docs/lrupd.1 docs/lrup-exact.1 "$(DESTDIR)$(PREFIX)/share/man/man1"
+	@if $(MAKE) -s solve; then \
+	install -m 755 $(SOLVE) "$(DESTDIR)$(PREFIX)/bin/lrup-solve" && \
+	install -m 644 docs/lrup-solve.1 "$(DESTDIR)$(PREFIX)/share/man/man1"; else echo "lrup-solve isn't installed"; fi
 	sed -i 's/^\.Os$$/.Os lrupd $(VERSION)/' "$(DESTDIR)$(PREFIX)"/share/man/man1/lrup*.1
 
 # What the program writes on standard output and standard error, and its status, on the examples and on some hundred small runs;
@@ -69,11 +77,22 @@ exact: c-and-python ## build: the filter that makes streams of other solvers' pr
 	@mkdir -p $(dir $(EXACT))
 	@$(CC) -std=c11 -O2 -Wall -Wextra -o $(EXACT) tools/exact/*.c
 
+# Neither verified nor trusted. lrupd is looked for beside it.
+solve: c-and-python libcadical ## build: lrup-solve, from a formula to a proved verdict, at tools/solve/out/lrup-solve
+	@mkdir -p $(SOLVE).objects
+	@cd $(SOLVE).objects && $(CC) -std=c11 -D_GNU_SOURCE $(SOLVE_FLAGS) -Wall -Wextra -c $(abspath tools/solve/filtering.c $(FILTER))
+	@$(CXX) -std=c++17 $(SOLVE_FLAGS) -Wall -Wextra -o $(SOLVE) tools/solve/*.cpp $(SOLVE).objects/*.o -lcadical
+	@ln -sf $(abspath $(PROGRAM)) $(dir $(SOLVE))lrupd
+
 solver-test: build solver ## check: the example solver's streams, of one to eight solvers, and of some that are killed
 	@python3 examples/solver/test.py $(PROGRAM) $(SOLVER)
 
 filter-test: build exact ## check: the filter, with the solvers that are on the PATH, and 10,000 mutated proofs
 	@python3 tools/test.py $(PROGRAM) && python3 tools/mutate.py $(PROGRAM)
+
+# Without CaDiCaL's library nothing is run.
+solve-test: build c-and-python ## check: lrup-solve, with all that may happen to it
+	@python3 tools/solve_test.py $(PROGRAM)
 
 neighbours: build c-and-python ## check: what is said of a good proof beside hostile streams, which never changes
 	@python3 examples/neighbours.py $(PROGRAM)
@@ -114,15 +133,16 @@ quick: toolchain c-and-python ## check: after a change of CRATE=name: layout, pr
 
 # The whole gate: the pages; every proof from nothing, each edit that must be refused, each test, and the program as two compilers
 # build it; then, with the program that was built there, the examples, the live run, the solver's streams and the filter's, mutated
-# proofs, a proof beside hostile streams, each call of the system refused in turn, of the program and of tests, memory given back,
-# and the instructions that lines take. The last line is rt's own, 'N passed, M failed'.
+# proofs, lrup-solve, a proof beside hostile streams, each call of the system refused in turn, of the program and of tests, memory
+# given back, and the instructions that lines take. The last line is rt's own, 'N passed, M failed'.
 test: SHELL := /bin/bash
 test: toolchain pages solver exact ## check: the gate, 25 to 100 minutes: every proof, edit and test; has to pass before a push
 	@set -o pipefail; log=$$(mktemp); trap 'rm -f "$$log"' EXIT; \
 	$(RT) ci | tee "$$log" && sh examples/compare.sh $(PROGRAM) && sh examples/groups.sh $(PROGRAM) && \
 	sh examples/words.sh $(PROGRAM) && sh examples/live.sh $(PROGRAM) && python3 examples/solver/test.py $(PROGRAM) $(SOLVER) && \
-	python3 tools/test.py $(PROGRAM) && python3 tools/mutate.py $(PROGRAM) && python3 examples/neighbours.py $(PROGRAM) && \
-	python3 gate/sweep.py $(PROGRAM) $(RT) && sh gate/leaks.sh $(PROGRAM) && python3 gate/instructions.py $(PROGRAM) && \
+	python3 tools/test.py $(PROGRAM) && python3 tools/mutate.py $(PROGRAM) && python3 tools/solve_test.py $(PROGRAM) && \
+	python3 examples/neighbours.py $(PROGRAM) && python3 gate/sweep.py $(PROGRAM) $(RT) && sh gate/leaks.sh $(PROGRAM) && \
+	python3 gate/instructions.py $(PROGRAM) && \
 	tail -n 1 "$$log"
 
 toolchain:
@@ -131,3 +151,9 @@ toolchain:
 c-and-python:
 	@for command in $(firstword $(CC)) python3; do command -v $$command > /dev/null || \
 	{ echo "make demo and make test need a C compiler and Python 3: no command '$$command' is on the PATH"; exit 1; }; done
+
+libcadical:
+	@command -v $(firstword $(CXX)) > /dev/null || \
+	{ echo "make solve needs a C++ compiler: no command '$(firstword $(CXX))' is on the PATH"; exit 1; }
+	@$(CXX) -E -x c++ -include cadical.hpp /dev/null > /dev/null 2>&1 || \
+	{ echo "make solve needs CaDiCaL as a library: in Debian the package libcadical-dev"; exit 1; }

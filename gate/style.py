@@ -198,7 +198,7 @@ def wrong_arrows():
 
 # What CONTRIBUTING says of the Makefile.
 
-UNTOLD = {"help", "toolchain", "c-and-python"}
+UNTOLD = {"help", "toolchain", "c-and-python", "libcadical"}
 
 
 def untold_targets():

@@ -17,37 +17,16 @@ import shutil
 import signal
 import subprocess
 import sys
-import tempfile
 
 sys.dont_write_bytecode = True
 from forms import FORMS, Step, code, codes, read_formula, read_steps, varint
+from harness import HERE, ROOT, Failure, Skipped, example, generated, run_all, want, written
 
-HERE = os.path.dirname(os.path.abspath(__file__))
-ROOT = os.path.dirname(HERE)
 FILTER = os.path.join(HERE, "exact", "out", "exact")
-EXAMPLES = os.path.join(ROOT, "examples")
-GENERATOR = os.path.join(EXAMPLES, "solver", "generate.py")
 USING = os.path.join(ROOT, "docs", "USING.md")
 FOUR = "p cnf 2 4\n1 2 0\n-1 2 0\n1 -2 0\n-1 -2 0\n"
 UNITS = "p cnf 3 4\n1 0\n-1 2 0\n-2 3 0\n-3 -2 0\n"
 FIRST = "5 2 0 1 2 0\n"
-
-
-class Failure(Exception):
-    pass
-
-
-class Skipped(Exception):
-    pass
-
-
-def want(found, wanted, what):
-    if found != wanted:
-        raise Failure(f"{what}: wanted\n{str(wanted)[:2000]}\nand not\n{str(found)[:2000]}")
-
-
-def example(name):
-    return os.path.join(EXAMPLES, name)
 
 
 def exact(words, given=b""):
@@ -55,13 +34,6 @@ def exact(words, given=b""):
     given = given if isinstance(given, bytes) else given.encode()
     done = subprocess.run([FILTER] + words, input=given, capture_output=True, timeout=300)
     return done.stdout.decode(), done.stderr.decode(), done.returncode
-
-
-def written(text, work, name="formula.cnf"):
-    path = os.path.join(work, name)
-    with open(path, "w") as file:
-        file.write(text)
-    return path
 
 
 def check(program, formula, streams, options=()):
@@ -640,13 +612,9 @@ def wanted_on_path(commands):
 
 
 def make_formula(words, work):
-    path = os.path.join(work, "formula.cnf")
     if words.endswith(".cnf"):
-        shutil.copy(example(words), path)
-        return path
-    with open(path, "w") as out:
-        subprocess.run([sys.executable, GENERATOR] + words.split(), stdout=out, check=True)
-    return path
+        return shutil.copy(example(words), os.path.join(work, "formula.cnf"))
+    return generated(words, work)
 
 
 def in_bash(program, commands, work):
@@ -735,20 +703,7 @@ def main():
         sys.exit(__doc__)
     program = os.path.abspath(sys.argv[1])
     refused = [(name, stops, *rest) for name, *rest in refusals() + refusals_of_frat() + refusals_in_binary()]
-    failed = skipped = 0
-    runs = recorded(program) + refused + what_comes_out(program) + limits(program) + pipes_and_files() + solvers(program)
-    for name, function, *arguments in runs:
-        with tempfile.TemporaryDirectory() as work:
-            try:
-                function(*arguments, work)
-            except Skipped as cause:
-                skipped += 1
-                print(f"{name}: skipped, {cause}")
-            except (Failure, OSError, ValueError, subprocess.SubprocessError) as failure:
-                failed += 1
-                print(f"{name}: {failure}")
-    print(f"{len(runs) - failed - skipped} passed, {failed} failed" + f", {skipped} skipped" * (skipped > 0))
-    return 1 if failed else 0
+    return run_all(recorded(program) + refused + what_comes_out(program) + limits(program) + pipes_and_files() + solvers(program))
 
 
 sys.exit(main())

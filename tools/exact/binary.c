@@ -3,6 +3,11 @@
 //
 //     a literals                 an addition of DRAT          a id literals hints     of LRAT
 //     d literals                 a deletion of DRAT           d ids                   of LRAT
+//
+// An engine that shares clauses writes DRAT with two steps more:
+//
+//     i id literals              it took over this clause of another stream
+//     x                          a mark before the addition of a clause that may be given away
 #include "exact.h"
 
 enum { MOST_SHIFT = 56 };
@@ -43,6 +48,14 @@ static void drat_step(Filter *filter, Input *input, int letter, Numbers *list) {
     decode(list, 0, list->length, DOUBLED);
     if (letter == 'd') filter_delete_literals(filter, list->items, list->length);
     else filter_add(filter, &(Addition){ .literals = list->items, .length = list->length });
+}
+
+static void import_step(Filter *filter, Input *input, Numbers *list) {
+    uint64_t identity = number(input);
+    numbers(input, list);
+    decode(list, 0, list->length, DOUBLED);
+    if (identity > LAST_IDENTITY) stop("a number that is too large");
+    filter_import(filter, (int64_t)identity, list->items, list->length);
 }
 
 static bool has_odd(const Numbers *list, size_t start) {
@@ -87,11 +100,13 @@ void binary_run(Filter *filter, Input *input, Form form) {
     for (;;) {
         position_set("byte", input_position(input) + 1);
         int letter = input_byte(input);
-        if (letter < 0) break;
-        if (letter != 'a' && letter != 'd') stop("no step of a binary proof, which begins with a or d");
+        if (letter < 0 || (filter->hooks && filter->hooks->ends())) break;
         list.length = 0;
-        if (form == BINARY_DRAT) drat_step(filter, input, letter, &list);
-        else lrat_step(filter, input, letter, &list, &coding);
+        if (form == SHARING_DRAT && letter == 'x') filter->marked = true;
+        else if (form == SHARING_DRAT && letter == 'i') import_step(filter, input, &list);
+        else if (letter != 'a' && letter != 'd') stop("no step of a binary proof, which begins with a or d");
+        else if (form == BINARY_LRAT) lrat_step(filter, input, letter, &list, &coding);
+        else drat_step(filter, input, letter, &list);
     }
     grow(list.items, 0);
 }

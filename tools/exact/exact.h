@@ -45,7 +45,9 @@ static inline int input_byte(Input *input) {
 }
 static inline uint64_t input_position(const Input *input) { return input->passed + input->at; }
 
-// write.c: the stream, on standard output.
+// write.c: the stream, on standard output where no other place is said. Whole lines alone go out.
+bool write_whole(int file, const char *bytes, size_t length);  // false where it fails, with errno
+void write_to(void (*out)(const char *bytes, size_t length));
 void write_flush(void);
 void write_number(uint64_t number, char after);
 void write_numbers(const uint64_t *numbers, size_t length);     // with "0" and LF
@@ -73,7 +75,7 @@ bool line_is_text(Line line);
 // clauses.c: clauses in one row, by places in it, the names that the proof has for them, and deletion by literals.
 typedef uint32_t Place;                 // 0: none
 
-enum { DEAD = 1, TAUTOLOGY = 2 };
+enum { DEAD = 1, TAUTOLOGY = 2, AGE = 4, RECENT = 3 * AGE };     // a clause is recent while one of these bits is set
 
 typedef struct {
     uint64_t identity;                  // in the stream
@@ -110,6 +112,7 @@ void clauses_keep_sets(Clauses *clauses);       // of those that are there, too
 void clauses_keep_set(Clauses *clauses, Place place);
 Place clauses_take_set(Clauses *clauses, const Literal *literals, size_t length, const unsigned char *marks);
 void clauses_delete(Clauses *clauses, Place place);
+void clauses_age(Clauses *clauses);
 uint64_t *clauses_begin_move(Clauses *clauses);         // to a new row, without the dead; the old one is returned
 Place clauses_moved(const uint64_t *old, Place place);  // 0 for a dead one
 void clauses_end_move(Clauses *clauses, uint64_t *old);
@@ -126,9 +129,10 @@ typedef struct {
     Place *reasons;             // by variable
     uint32_t *positions;        // by variable, on the trail
     unsigned char *seen;        // by variable, while a conflict is traced
-    Watches *watches;           // by literal
+    Watches *watches[2];        // by literal: those of clauses that were needed of late, and of the others
     Literals trail;             // the true ones, in order; at first those that are true for good
-    size_t propagated, root;
+    size_t propagated[2], root;     // how far each of the two has come on the trail
+    size_t chains;                  // since clauses aged
     Places waiting;             // clauses that nobody has looked for yet
     bool used;
     Place conflict;             // one without an assumption
@@ -179,13 +183,25 @@ Other *others_find(const Others *others, uint64_t number);
 Place other_clause(Other *other, Clauses *clauses, uint64_t identity);
 
 // filter.c: from steps of the proof to lines of the stream.
+typedef struct Filter Filter;
+
+// Of a program that has the filter as a part of its own: what it is told, and what it says.
 typedef struct {
+    bool (*ends)(void);                     // before each step: whether no more of the proof is read
+    void (*derives)(const Filter *filter);  // before a line is written: the clause's literals and its chain
+    void (*derived)(const Filter *filter);  // and once it is, but not yet out: its identity is the last one
+} Hooks;
+
+struct Filter {
     Formula formula;
     uint64_t stream, streams;
     uint64_t last;                  // the identity of the last line written
     bool keeps_identities;          // those of LRAT
     bool renumbered;                // some clause has another identity in the stream than in the proof
     bool frat;                      // names aren't identities, not even the formula's
+    bool keeps_clauses;             // deletions aren't written, so what others were given stays
+    bool marked;                    // the proof has marked the addition that comes next
+    const Hooks *hooks;             // NULL: nobody asks
     Others others;
     Clauses clauses;
     Propagation propagation;
@@ -194,7 +210,7 @@ typedef struct {
     Literals literals;              // of the step, each once
     Places given;
     Identities chain;
-} Filter;
+};
 
 typedef struct {
     bool named;
@@ -212,8 +228,8 @@ void filter_delete_literals(Filter *filter, const int64_t *literals, size_t leng
 void filter_original(Filter *filter, int64_t name, const int64_t *literals, size_t length);
 void filter_rename(Filter *filter, const int64_t *pairs, size_t length);
 
-// The forms of a proof.
-typedef enum { UNKNOWN, TEXT, LRAT, DRAT, FRAT, BINARY_LRAT, BINARY_DRAT } Form;
+// The forms of a proof. The last one is that of an engine that shares clauses within one program, and isn't offered by name.
+typedef enum { UNKNOWN, TEXT, LRAT, DRAT, FRAT, BINARY_LRAT, BINARY_DRAT, SHARING_DRAT } Form;
 
 Form form_of(Input *input, const Formula *formula);         // detect.c
 

@@ -126,12 +126,14 @@ static void derive(Filter *filter, const Addition *addition) {
     size_t hints = found == SAME_CHAIN ? addition->hinted : filter->chain.length;
     if (hints > IDENTITIES_OF_A_LINE || filter->literals.length > LITERALS_OF_A_LINE)
         stop("longer than a line may be");
+    if (filter->hooks) filter->hooks->derives(filter);
     filter->last = new_identity(filter, addition);
     filter->renumbered |= addition->named && addition->name != (int64_t)filter->last;
     Place place = clauses_add(&filter->clauses, filter->last, filter->literals.items, filter->literals.length, false);
     if (addition->named) clauses_name(&filter->clauses, (uint64_t)addition->name, place);
     make_known(filter, place);
     write_addition(filter, addition, found);
+    if (filter->hooks) filter->hooks->derived(filter);
 }
 
 // A tautology is of no use, and refused by lrupd.
@@ -143,6 +145,7 @@ void filter_add(Filter *filter, const Addition *addition) {
     if (addition->named && clauses_named(&filter->clauses, (uint64_t)addition->name) != 0)
         stop("the identity %lld a second time", (long long)addition->name);
     if (!tautology) derive(filter, addition);
+    filter->marked = false;
     release(filter);
 }
 
@@ -200,6 +203,7 @@ static void give_back(Filter *filter) {
 static void delete(Filter *filter, Place place) {
     uint64_t identity = clause_at(&filter->clauses, place)->identity;
     clauses_delete(&filter->clauses, place);
+    if (filter->keeps_clauses) return;
     PUSH(&filter->chain, identity);
     if (identity <= filter->formula.clauses || owner(filter, identity) == filter->stream) return;
     if (clauses_named(&filter->dropped, identity) == 0) clauses_name(&filter->dropped, identity, 1);

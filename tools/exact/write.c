@@ -11,16 +11,29 @@ enum { LONGEST = 24, PIECE = 1 << 16 };     // of a number, with what stands bes
 static char *buffer;
 static size_t used, whole, capacity;        // whole: up to the end of the last line
 
+bool write_whole(int file, const char *bytes, size_t length) {
+    for (size_t written = 0; written < length;) {
+        ssize_t count = write(file, bytes + written, length - written);
+        if (count > 0) written += (size_t)count;
+        else if (count < 0 && errno == EAGAIN) poll(&(struct pollfd){ .fd = file, .events = POLLOUT }, 1, -1);
+        else if (count < 0 && errno != EINTR) return false;
+    }
+    return true;
+}
+
+static void to_standard_output(const char *bytes, size_t length) {
+    if (!write_whole(STDOUT_FILENO, bytes, length)) fail("cannot write the stream:", strerror(errno));
+}
+
+static void (*out)(const char *bytes, size_t length) = to_standard_output;
+
+void write_to(void (*place)(const char *bytes, size_t length)) { out = place; }
+
 // The lines that are whole go out; of one that isn't the beginning stays.
 void write_flush(void) {
-    size_t written = 0, length = whole;
+    size_t length = whole;
     whole = 0;              // also where this is the end
-    while (written < length) {
-        ssize_t count = write(STDOUT_FILENO, buffer + written, length - written);
-        if (count > 0) written += (size_t)count;
-        else if (count < 0 && errno == EAGAIN) poll(&(struct pollfd){ .fd = STDOUT_FILENO, .events = POLLOUT }, 1, -1);
-        else if (count < 0 && errno != EINTR) fail("cannot write the stream:", strerror(errno));
-    }
+    if (length > 0) out(buffer, length);
     used -= length;
     if (length > 0 && used > 0) memmove(buffer, buffer + length, used);
 }
@@ -33,11 +46,15 @@ static void make_room(size_t bytes) {
     }
 }
 
-// The digits are copied with some bytes after them: a length that is known takes fewer steps.
+#define TENS(ten) ten "0" ten "1" ten "2" ten "3" ten "4" ten "5" ten "6" ten "7" ten "8" ten "9"
+static const char pairs[] = TENS("0") TENS("1") TENS("2") TENS("3") TENS("4") TENS("5") TENS("6") TENS("7") TENS("8") TENS("9");
+
+// Two digits at a time. They are copied with some bytes after them: a length that is known takes fewer steps.
 static inline void put_number(uint64_t number, bool negative, char after) {
     char digits[2 * LONGEST], *end = digits + LONGEST, *at = end;
     *--at = after;
-    do *--at = (char)('0' + number % 10); while ((number /= 10) > 0);
+    for (; number > 9; number /= 100) memcpy(at -= 2, pairs + 2 * (number % 100), 2);
+    if (number > 0 || at == end - 1) *--at = (char)('0' + number);
     if (negative) *--at = '-';
     if (capacity - used < LONGEST) make_room(LONGEST);
     memcpy(buffer + used, at, LONGEST);

@@ -1,0 +1,176 @@
+// Unverified, as all of this solver. lrupd: where it is, its words, what it reads and says, and the sizes of its row.
+#include <algorithm>
+#include <cerrno>
+#include <csignal>
+#include <cstdio>
+#include <cstdlib>
+
+#include <fcntl.h>
+#include <sys/ioctl.h>
+#include <unistd.h>
+
+#include "solve.h"
+
+namespace {
+
+const uint64_t USUAL_MEMORY = UINT64_C(1) << 30, LEAST_MEMORY = UINT64_C(1) << 26;
+const int STREAM_PIPE = 1 << 20, PIECE = 1 << 16;
+const uint64_t DROPPED = UINT64_C(1) << 22, PAGE = 4096;    // bytes that are given back at once
+const char TRIES[] = "1000000";     // a stream waits for another one's line up to a minute
+
+bool is_program(const std::string &path) { return access(path.c_str(), X_OK) == 0; }
+
+std::string folder_of_this() {
+    std::vector<char> path(4096);
+    ssize_t length = readlink("/proc/self/exe", path.data(), path.size());
+    std::string whole(path.data(), length > 0 ? size_t(length) : 0);
+    return whole.substr(0, whole.rfind('/') + 1);
+}
+
+std::string on_the_path(const std::string &name) {
+    const char *list = getenv("PATH");
+    std::string rest = list ? list : "";
+    while (!rest.empty()) {
+        size_t end = rest.find(':');
+        std::string folder = rest.substr(0, end), path = (folder.empty() ? "." : folder) + "/" + name;
+        if (is_program(path)) return path;
+        rest = end == std::string::npos ? "" : rest.substr(end + 1);
+    }
+    return "";
+}
+
+void append(int file, std::string &text) {
+    char bytes[4096];
+    for (ssize_t count; (count = read(file, bytes, sizeof bytes)) > 0;) text.append(bytes, size_t(count));
+}
+
+[[noreturn]] void run_program(const std::string &program, const std::vector<std::string> &words, int out, int err) {
+    dup2(open("/dev/null", O_RDONLY), STDIN_FILENO);
+    dup2(out, STDOUT_FILENO);
+    dup2(err, STDERR_FILENO);
+    std::vector<char *> list = { const_cast<char *>(program.c_str()) };
+    for (const std::string &word : words) list.push_back(const_cast<char *>(word.c_str()));
+    list.push_back(nullptr);
+    execv(program.c_str(), list.data());
+    fprintf(stderr, "lrup-solve: cannot start %s: %s\n", program.c_str(), error_text().c_str());
+    _exit(127);
+}
+
+}
+
+std::string find_checker(const char *given) {
+    if (given) {
+        std::string found = std::string(given).find('/') != std::string::npos ? given : on_the_path(given);
+        if (!is_program(found)) refuse(std::string("no program that can be run: ") + given);
+        return found;
+    }
+    std::string beside = folder_of_this() + "lrupd";
+    if (is_program(beside)) return beside;
+    std::string found = on_the_path("lrupd");
+    if (found.empty()) refuse("no lrupd, neither beside this program nor on the PATH: --lrupd says where");
+    return found;
+}
+
+std::vector<std::string> row_words(const Row &row) {
+    const char *tries = test_word("LRUP_SOLVE_TRIES");
+    return { "--tries", tries ? tries : TRIES, "--lines", std::to_string(row.lines), "--room", std::to_string(row.room) };
+}
+
+// An eighth of the machine's, up to a gigabyte: at its start lrupd takes twice the row.
+uint64_t default_memory() {
+    long pages = sysconf(_SC_PHYS_PAGES), bytes = sysconf(_SC_PAGESIZE);
+    uint64_t all = pages > 0 && bytes > 0 ? uint64_t(pages) * uint64_t(bytes) : 0;
+    return std::min(USUAL_MEMORY, std::max(all / 8, LEAST_MEMORY));
+}
+
+// A clause takes a word, and each of its literals one. Clauses are cheap, so there is room for many that are only half as long.
+Row split(uint64_t words, double literals_of_a_clause) {
+    uint64_t lines = uint64_t(double(words) / (1 + literals_of_a_clause / 2));
+    return { lines, words - lines };
+}
+
+void Checker::start(const std::string &program, std::vector<std::string> words, std::vector<int> kept, const std::vector<int> &files) {
+    stop();
+    for (int file : files) {
+        Pipe pipe = make_pipe(STREAM_PIPE);
+        fcntl(pipe.write, F_SETFL, O_NONBLOCK);
+        streams.push_back({ file, pipe, 0, 0 });
+        words.push_back("/dev/fd/" + std::to_string(pipe.read));
+        kept.push_back(pipe.read);
+    }
+    out = make_pipe(0);
+    err = make_pipe(0);
+    std::vector<int> all = kept;
+    all.insert(all.end(), { out.write, err.write });
+    if (begin(child, "lrupd", all)) {
+        for (int file : kept) fcntl(file, F_SETFD, 0);      // lrupd opens them by their numbers
+        run_program(program, words, out.write, err.write);
+    }
+    for (Stream &stream : streams) close_file(stream.pipe.read);
+    close_file(out.write);
+    close_file(err.write);
+    for (int file : { out.read, err.read }) fcntl(file, F_SETFL, O_NONBLOCK);
+}
+
+void Checker::stop() {
+    if (child.pid == 0) return;
+    child.signal(SIGKILL);
+    wait_for(child);
+    double seconds = earlier + child.seconds;
+    for (Stream &stream : streams) close_file(stream.pipe.read), close_file(stream.pipe.write);
+    close_file(out.read);
+    close_file(err.read);
+    *this = Checker();
+    earlier = seconds;
+}
+
+// What the pipe takes. Memory of what was fed is given back where no larger row follows, which would have it all once more.
+bool Checker::feed(size_t number, uint64_t bytes, bool drop) {
+    Stream &stream = streams[number];
+    static std::vector<char> piece(PIECE);
+    while (stream.pipe.write >= 0 && stream.fed < bytes) {
+        size_t wanted = size_t(std::min<uint64_t>(piece.size(), bytes - stream.fed));
+        ssize_t got = pread(stream.file, piece.data(), wanted, off_t(stream.fed));
+        if (got <= 0) refuse("cannot read a stream again: " + (got < 0 ? error_text() : "it is cut"));
+        ssize_t count = write(stream.pipe.write, piece.data(), size_t(got));
+        if (count < 0 && errno == EAGAIN) break;
+        if (count < 0 && errno != EINTR) close_file(stream.pipe.write);     // lrupd has ended
+        if (count > 0) stream.fed += uint64_t(count);
+    }
+    if (drop && stream.fed - stream.dropped > DROPPED) {
+        fallocate(stream.file, FALLOC_FL_PUNCH_HOLE | FALLOC_FL_KEEP_SIZE, 0, off_t(stream.fed / PAGE * PAGE));
+        stream.dropped = stream.fed;
+    }
+    return stream.pipe.write < 0 || stream.fed == bytes;
+}
+
+uint64_t Checker::read_of(size_t number) const {
+    const Stream &stream = streams[number];
+    int waiting = 0;
+    if (stream.pipe.write < 0 || ioctl(stream.pipe.write, FIONREAD, &waiting) != 0) return stream.fed;
+    return stream.fed - std::min<uint64_t>(stream.fed, uint64_t(waiting));
+}
+
+std::vector<pollfd> Checker::files() const {
+    std::vector<pollfd> list;
+    for (int file : { out.read, err.read })
+        if (file >= 0) list.push_back({ file, POLLIN, 0 });
+    return list;
+}
+
+void Checker::read_on(bool tell) {
+    if (out.read < 0) return;
+    append(out.read, report);
+    append(err.read, said);
+    for (size_t end; tell && (end = said.find('\n', told)) != std::string::npos; told = end + 1)
+        printf("c %s\n", said.substr(told, end - told).c_str());
+    if (tell) fflush(stdout);
+    if (!child.ended()) return;
+    close_file(out.read);
+    close_file(err.read);
+}
+
+std::string Checker::last_line() const {
+    std::string text = said.substr(0, said.find_last_not_of('\n') + 1);
+    return text.substr(text.rfind('\n') + 1);
+}

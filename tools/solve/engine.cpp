@@ -1,0 +1,241 @@
+// Unverified, as all of this solver. An engine's process: CaDiCaL, what it gives away, and what it takes over.
+//
+// What holds sharing together, and breaks proofs silently where it is missing:
+// - A clause over a variable that this engine eliminated or substituted isn't taken over: CaDiCaL would restore clauses that the
+//   proof has deleted, without a line. Whenever the number of active variables changed, the witnesses are asked anew.
+// - The line of an import comes before the clause is added: CaDiCaL may shorten it by what it knows at the root, and then traces
+//   the shorter clause, which follows only from the one that was taken over.
+// - The filter publishes a clause only once its line went out, and never deletes one (filtering.c).
+#include <cadical.hpp>
+
+#include <algorithm>
+#include <cstdio>
+#include <cstdlib>
+#include <exception>
+#include <new>
+#include <sstream>
+#include <unordered_set>
+
+#include <unistd.h>
+
+#include "solve.h"
+
+namespace {
+
+const double SLICE = 0.5;               // seconds after which an engine looks for what others gave away
+const int FIRST_CONFLICTS = 1000, LEAST_CONFLICTS = 200, MOST_CONFLICTS = 1000000;
+const int MOST_TAKEN = 5000;            // clauses of more than two literals, at once
+const int PROOF_BUFFER = 1 << 15;
+
+enum { OUT_OF_MEMORY = 3, NO_PROOF = 4 };       // statuses of the process
+
+class Worker : CaDiCaL::Learner, CaDiCaL::WitnessIterator {
+public:
+    explicit Worker(const Engine &engine) : engine(engine), part(engine.shared->parts[engine.number - 1]) {}
+
+    int run() {
+        open();
+        int status = solve();
+        if (status == 10) write_model();
+        if (status == 20) write_end();
+        if (fflush(proof) != 0 || ferror(proof)) return NO_PROOF;
+        STORE(part.answer, status);
+        return status;
+    }
+
+private:
+    const Engine &engine;
+    Part &part;
+    CaDiCaL::Solver solver;
+    FILE *proof = nullptr;
+    std::vector<uint64_t> read;             // by engine: words of its outbox
+    std::vector<unsigned char> gone;        // by variable, from 1: eliminated or substituted here
+    int active = -1;
+    std::unordered_set<uint64_t> known;     // sums of what was given away or taken over
+    std::vector<int> clause;
+
+    bool shares() const { return engine.options->share && engine.options->engines > 1; }
+
+    // CaDiCaL asks right before it traces a clause that conflict analysis learned. No literals are wanted: a mark in the proof says
+    // that the next line may be given away, and the filter, which names that line, does so.
+    bool learning(int size) override {
+        STORE(part.conflicts, part.conflicts + 1);
+        if (shares() && size >= 2 && size <= engine.options->share_size) putc_unlocked('x', proof);
+        return false;
+    }
+    void learn(int) override {}
+
+    // Those of one literal are units of the root, and not gone.
+    bool witness(const std::vector<int> &satisfied, const std::vector<int> &cube) override {
+        if (satisfied.size() == 1 && cube.size() == 1) return true;
+        for (int literal : cube) gone[size_t(std::abs(literal))] = 1;
+        return true;
+    }
+
+    void look_for_witnesses() {
+        if (solver.active() == active) return;
+        active = solver.active();
+        std::fill(gone.begin(), gone.end(), 0);
+        solver.traverse_witnesses_forward(*this);
+    }
+
+    // Engines differ by their options; the first has CaDiCaL's own.
+    void configure() {
+        solver.set("quiet", 1);
+        solver.set("seed", engine.options->seed + engine.number - 1);
+        if (shares()) solver.set("lucky", 0);       // each call of `solve` would look for luck anew
+        switch ((engine.number - 1) % 8) {
+            case 1: solver.configure("unsat"); break;
+            case 2: solver.set("reverse", 1), solver.set("shuffle", 1), solver.set("shufflerandom", 1); break;
+            case 3: solver.configure("sat"); break;
+            case 4: solver.set("phase", 0); break;
+            case 5: solver.set("chrono", 0), solver.set("restartint", 20); break;
+            case 6: solver.set("elim", 0); break;
+            case 7: solver.set("bumpreason", 0), solver.set("shrink", 0); break;
+            default: break;
+        }
+        if (const char *words = test_word("LRUP_SOLVE_SET")) {
+            std::istringstream list(words);
+            for (std::string word; list >> word;)
+                if (!solver.set_long_option(("--" + word).c_str())) abort();
+        }
+    }
+
+    // Assumed variables are never eliminated: CaDiCaL would restore their clauses without a line.
+    void open() {
+        configure();
+        proof = fdopen(engine.proof, "w");
+        if (!proof) throw std::bad_alloc();
+        setvbuf(proof, nullptr, _IOFBF, PROOF_BUFFER);
+        solver.trace_proof(proof, "the proof");
+        solver.connect_learner(this);
+        read.assign(size_t(engine.options->engines), 0);
+        gone.assign(size_t(engine.formula->variables) + 1, 0);
+        solver.reserve(engine.formula->variables);
+        const Formula &formula = *engine.formula;
+        for (size_t k = 0; k < formula.clauses; k++) {
+            for (size_t at = formula.starts.items[k]; at < formula.starts.items[k + 1]; at++)
+                solver.add(as_written(formula.literals.items[at]));
+            solver.add(0);
+        }
+        for (Literal literal : *engine.assumed) solver.freeze(as_written(literal));
+    }
+
+    int solve() {
+        const char *slice = test_word("LRUP_SOLVE_SLICE");
+        double conflicts = slice ? atof(slice) : FIRST_CONFLICTS;
+        for (;;) {
+            for (Literal literal : *engine.assumed) solver.assume(as_written(literal));
+            if (shares()) solver.limit("conflicts", int(conflicts));
+            double begin = now();
+            int status = solver.solve();
+            if (status != 0 || !shares()) return status;
+            double factor = SLICE / std::max(now() - begin, 1e-6);
+            if (!slice) conflicts = conflicts * std::min(2.0, std::max(0.5, factor));
+            if (!slice) conflicts = std::min<double>(MOST_CONFLICTS, std::max<double>(LEAST_CONFLICTS, conflicts));
+            STORE(part.slices, part.slices + 1);
+            take_over();
+            if (fflush(proof) != 0) return 0;
+        }
+    }
+
+    // Taking over.
+
+    static uint64_t sum_of(const Literal *literals, size_t length) {
+        uint64_t sum = length;
+        for (size_t k = 0; k < length; k++) {
+            uint64_t number = uint64_t(literals[k]) + 1;
+            number = (number ^ number >> 31) * 0x9E3779B97F4A7C15u;
+            number = (number ^ number >> 29) * 0xBF58476D1CE4E5B9u;
+            sum += number ^ number >> 32;
+        }
+        return sum;
+    }
+
+    void put_number(uint64_t number) {
+        for (; number > 127; number >>= 7) putc_unlocked(int(number & 127) | 128, proof);
+        putc_unlocked(int(number), proof);
+    }
+
+    // The literals, and the end of the step.
+    void put_clause() {
+        for (int literal : clause) put_number(2 * uint64_t(std::abs(literal)) + (literal < 0));
+        put_number(0);
+    }
+
+    void add_clause() {
+        for (int literal : clause) solver.add(literal);
+        solver.add(0);
+    }
+
+    void take(uint64_t identity, const Literal *literals, size_t length) {
+        if (!known.insert(sum_of(literals, length)).second) return;
+        clause.clear();
+        for (size_t k = 0; k < length; k++) {
+            int literal = as_written(literals[k]);
+            if (gone[size_t(std::abs(literal))] && !without("guard")) {
+                STORE(part.refused, part.refused + 1);
+                return;
+            }
+            if (solver.fixed(literal) > 0) {
+                STORE(part.satisfied, part.satisfied + 1);
+                return;
+            }
+            clause.push_back(literal);
+        }
+        STORE(part.taken, part.taken + 1);
+        if (without("order")) add_clause();
+        putc_unlocked('i', proof);
+        put_number(identity);
+        put_clause();
+        if (!without("order")) add_clause();
+    }
+
+    // Units and binary clauses all; of longer ones at most so many at once, and those beyond never.
+    void take_over() {
+        look_for_witnesses();
+        int left = MOST_TAKEN;
+        for (int other = 0; other < engine.options->engines; other++) {
+            uint64_t end = LOAD(engine.shared->parts[other].outbox_used), at = read[size_t(other)];
+            while (at < end) {
+                const uint32_t *words = engine.outboxes[other] + at;
+                size_t length = words[0];
+                const Literal *literals = reinterpret_cast<const Literal *>(words + HEAD_OF_A_GIFT);
+                if (other + 1 == engine.number) known.insert(sum_of(literals, length));
+                else if (length <= 2 || left-- > 0) take(words[1] | uint64_t(words[2]) << 32, literals, length);
+                at += HEAD_OF_A_GIFT + length;
+            }
+            read[size_t(other)] = at;
+        }
+    }
+
+    // Ends.
+
+    void write_model() {
+        for (int variable = 1; variable <= engine.formula->variables; variable++)
+            engine.model[variable - 1] = solver.val(variable) > 0 ? 1 : -1;
+    }
+
+    // The clause that the filter waits for. CaDiCaL may have traced it; not where the formula has it, or with assumptions.
+    void write_end() {
+        clause.clear();
+        for (Literal literal : *engine.assumed)
+            if (solver.failed(as_written(literal))) clause.push_back(-as_written(literal));
+        putc_unlocked('a', proof);
+        put_clause();
+    }
+};
+
+}
+
+const char *engine_version() { return CaDiCaL::Solver::version(); }
+
+void engine_process(const Engine &engine) {
+    int status = OUT_OF_MEMORY;
+    try {
+        Worker *worker = new Worker(engine);        // the system takes it back
+        status = worker->run();
+    } catch (const std::bad_alloc &) {
+    }
+    _exit(status);
+}

@@ -1,0 +1,654 @@
+// Unverified, and trusted for nothing: where this says 's UNSATISFIABLE', lrupd ended with status 0 on that formula.
+//
+//     engine process --pipe: its proof--> filter process --file: LRUP--> first process --pipe--> lrupd
+//           ^                                   |
+//           +------ outbox, shared memory <-----+    each filter writes its own, each engine reads all
+//
+// The first process reads the formula, starts the others, feeds lrupd, and watches them all. Whatever happens to one of them is an
+// event of its loop; whatever ends it ends them all. Since streams are files, in memory where they aren't kept, lrupd may start late,
+// and again: its row is made before it reads a line, and doesn't grow. A short run gets a small row, one that goes on a larger one.
+#include <algorithm>
+#include <cerrno>
+#include <cmath>
+#include <csignal>
+#include <cstdarg>
+#include <cstdio>
+#include <cstdlib>
+
+#include <fcntl.h>
+#include <poll.h>
+#include <sched.h>
+#include <sys/mman.h>
+#include <sys/signalfd.h>
+#include <sys/stat.h>
+#include <unistd.h>
+
+#include "solve.h"
+
+namespace {
+
+const int PROOF_PIPE = 1 << 16;
+const uint64_t MOST_WORDS = UINT64_C(1) << 28;      // of a row
+const uint64_t FIRST_WORDS = UINT64_C(1) << 24;     // of the first row's streams
+const double FILLED = 0.6;                          // of that row, and a larger one is made
+const double SHORT_RUN = 0.3;                       // seconds, before the first one is
+const double ENDING = 10;                           // seconds that a filter has for the line that it is at
+const uint64_t LONGEST_LINE = 65535;                // literals
+const double USUAL_LENGTH = 16;
+const size_t COLUMNS = 78;
+
+enum Answer { UNKNOWN_ANSWER = 0, SATISFIABLE = 10, UNSATISFIABLE = 20 };
+enum Phase { SOLVING, ENDING_STREAMS, CHECKING, DONE };
+
+struct Team {
+    Child engine, filter;
+    Pipe proof;
+    int stream = -1;
+    uint32_t *outbox = nullptr;
+    signed char *model = nullptr;
+    bool told = false, wrong = false, paused = false;
+};
+
+std::string format(const char *text, ...) {
+    char line[512];
+    va_list rest;
+    va_start(rest, text);
+    vsnprintf(line, sizeof line, text, rest);
+    va_end(rest);
+    return line;
+}
+
+// 1,234,567
+std::string grouped(uint64_t number) {
+    std::string digits = std::to_string(number);
+    for (size_t at = digits.size(); at > 3; at -= 3) digits.insert(at - 3, ",");
+    return digits;
+}
+
+// For a shell.
+std::string quoted(const std::string &word) {
+    if (word.find_first_not_of("abcdefghijklmnopqrstuvwxyzABCDEFGHIJKLMNOPQRSTUVWXYZ0123456789-_./+=,:@%") == std::string::npos) return word;
+    std::string text = "'";
+    for (char letter : word) text += letter == '\'' ? std::string("'\\''") : std::string(1, letter);
+    return text + "'";
+}
+
+template <typename Item> Item *shared_memory(size_t count) {
+    size_t bytes = std::max<size_t>(count, 1) * sizeof(Item);
+    void *memory = mmap(nullptr, bytes, PROT_READ | PROT_WRITE, MAP_SHARED | MAP_ANONYMOUS | MAP_NORESERVE, -1, 0);
+    if (memory == MAP_FAILED) refuse("cannot share memory: " + error_text());
+    return static_cast<Item *>(memory);
+}
+
+class Run {
+public:
+    explicit Run(const Options &given) : options(given) {}
+    int run();
+    [[noreturn]] void formula_refused(const std::string &cause);
+
+private:
+    Options options;
+    Formula formula = {};
+    std::vector<Literal> assumed;
+    std::string formula_path, assume_path, checker_program;
+    std::vector<int> copies;
+    Shared *shared = nullptr;
+    std::vector<Team> teams;
+    Checker probe, checker;
+    Row row = { 0, 0 };
+    Phase phase = SOLVING;
+    Answer answer = UNKNOWN_ANSWER;
+    std::string cause;
+    std::vector<signed char> model;
+    bool shows_progress = false, is_last_row = false;
+    int signals = -1, ended_by = 0;
+    double started = now(), answered = 0, ending = 0, shown = 0;
+    std::string command;
+
+    // Before anything is solved.
+    std::string again(const std::string &path, const char *kept_as);
+    void read_assumptions();
+    void take_signals();
+    void open_teams();
+    void start_team(size_t k);
+    void first_row();
+    uint64_t words_of_a_stream() const;
+
+    // Events.
+    void wait();
+    void take_signal();
+    void look();
+    void look_at_teams();
+    void look_at_team(size_t k);
+    void look_at_model(size_t k);
+    bool is_lost(size_t k) const;
+    bool is_model(const signed char *values) const;
+    void pause_others();
+    void end_streams();
+    void finish(Answer found, const std::string &why);
+    void verdict();
+
+    // lrupd.
+    std::string stream_path(size_t k) const;
+    Row needed_row() const;
+    Row fitted_row(uint64_t words) const;
+    void look_at_row();
+    void start_checker(Row wanted);
+    void feed();
+
+    // What is told.
+    void tell(const std::string &line) const;
+    void tell_lost(size_t k, const std::string &why);
+    void show_progress();
+    void hide_progress();
+    void keep_report() const;
+    void summary() const;
+    void details() const;
+    int print_answer();
+    double processor_seconds(bool engines) const;
+    double checker_seconds() const;
+    uint64_t all(uint64_t Part::*field) const;
+    std::vector<Child *> children();
+};
+
+Run *the_run;
+
+// Before anything is solved.
+
+// A path that can be read more than once: what is no file on a disk is copied to memory, or to where the record is kept.
+std::string Run::again(const std::string &path, const char *kept_as) {
+    struct stat found;
+    bool standard_input = path == "-";
+    if (!standard_input && (stat(path.c_str(), &found) != 0 || S_ISREG(found.st_mode) || S_ISDIR(found.st_mode))) return path;
+    int file = standard_input ? STDIN_FILENO : open(path.c_str(), O_RDONLY | O_CLOEXEC);
+    std::string copied = options.proofs ? std::string(options.proofs) + "/" + kept_as : "";
+    int copy = options.proofs ? create_file(copied) : file_in_memory();
+    copy_file(file, standard_input ? "standard input" : path, copy);
+    if (!standard_input) close(file);
+    if (options.proofs) {
+        close_file(copy);
+        return copied;
+    }
+    copies.push_back(copy);
+    return "/dev/fd/" + std::to_string(copy);
+}
+
+// Their spelling is lrupd's to judge.
+void Run::read_assumptions() {
+    FILE *file = fopen(assume_path.c_str(), "r");
+    if (!file) formula_refused("cannot read " + assume_path);
+    long literal = 0;
+    int found;
+    while ((found = fscanf(file, "%ld", &literal)) == 1 && literal != 0) {
+        if (std::labs(literal) > formula.variables) formula_refused("a variable that the formula doesn't have: " + assume_path);
+        assumed.push_back(literal > 0 ? 2 * (int(literal) - 1) : 2 * (int(-literal) - 1) + 1);
+    }
+    fclose(file);
+    if (found != 1 || literal != 0) formula_refused("no assumptions: " + assume_path);
+    if (assumed.empty()) return;
+    assumed.resize(literals_sort(assumed.data(), assumed.size()));
+}
+
+// lrupd reads the formula, too: where it refuses it, its words are told.
+void Run::formula_refused(const std::string &why) {
+    double limit = now() + 600;
+    while (probe.child.running && now() < limit) {
+        reap(children());
+        probe.read_on(false);
+        usleep(2000);
+    }
+    probe.read_on(false);
+    if (probe.child.ended() && !probe.child.ended_with(3) && !probe.last_line().empty()) {
+        end_children();
+        fprintf(stderr, "%s\n", probe.last_line().c_str());
+        _exit(1);
+    }
+    refuse(why);
+}
+
+void Run::take_signals() {
+    sigset_t taken;
+    sigemptyset(&taken);
+    for (int number : { SIGCHLD, SIGINT, SIGTERM, SIGHUP }) sigaddset(&taken, number);
+    sigprocmask(SIG_BLOCK, &taken, nullptr);
+    signals = signalfd(-1, &taken, SFD_CLOEXEC | SFD_NONBLOCK);
+    if (signals < 0) refuse("cannot wait for signals: " + error_text());
+    signal(SIGPIPE, SIG_IGN);
+}
+
+int half_of_the_cores() {
+    cpu_set_t cores;
+    CPU_ZERO(&cores);
+    int count = sched_getaffinity(0, sizeof cores, &cores) == 0 ? CPU_COUNT(&cores) : int(sysconf(_SC_NPROCESSORS_ONLN));
+    return std::min(int(MOST_ENGINES), std::max(1, count / 2));
+}
+
+uint64_t Run::words_of_a_stream() const {
+    uint64_t words = std::min((options.memory ? options.memory : default_memory()) / 8, MOST_WORDS);
+    uint64_t taken = 1 + formula.clauses + formula.literals.length;
+    return words > taken ? (words - taken) / uint64_t(options.engines) : 0;
+}
+
+// Until the largest row is made, the filters keep within what one for clauses of the usual length would have.
+void Run::first_row() {
+    if (words_of_a_stream() < 64)
+        refuse("the formula leaves no room in a row of " + grouped(options.memory ? options.memory : default_memory()) +
+               " bytes: --memory says how large it is");
+    Row largest = split(words_of_a_stream(), USUAL_LENGTH);
+    STORE(shared->most_lines, largest.lines);
+    STORE(shared->most_literals, largest.room);
+}
+
+void Run::open_teams() {
+    shared = shared_memory<Shared>(1);
+    teams.resize(size_t(options.engines));
+    for (size_t k = 0; k < teams.size(); k++) {
+        Team &team = teams[k];
+        team.outbox = shared_memory<uint32_t>(options.share && teams.size() > 1 ? OUTBOX_WORDS : 1);
+        team.model = shared_memory<signed char>(size_t(formula.variables));
+        team.stream = options.proofs ? create_file(stream_path(k)) : file_in_memory();
+    }
+}
+
+// No other child gets these pipes: one that is stopped as it starts would hold their ends.
+void Run::start_team(size_t k) {
+    Team &team = teams[k];
+    team.proof = make_pipe(PROOF_PIPE);
+    int number = int(k) + 1;
+    std::string title = std::to_string(number);
+    if (begin(team.filter, "filter " + title, { team.proof.read, team.stream })) {
+        Filtering filtering = { shared, team.outbox, number, options.engines, team.proof.read, team.stream,
+                                options.share && teams.size() > 1, assumed.data(), assumed.size() };
+        filter_process(&filtering, &formula);
+    }
+    if (begin(team.engine, "engine " + title, { team.proof.write })) {
+        std::vector<const uint32_t *> outboxes;
+        for (const Team &other : teams) outboxes.push_back(other.outbox);
+        engine_process({ &options, &formula, &assumed, shared, outboxes.data(), team.model, number, team.proof.write });
+    }
+    close_file(team.proof.read);
+    close_file(team.proof.write);
+}
+
+// Events.
+
+std::vector<Child *> Run::children() {
+    std::vector<Child *> list = { &probe.child, &checker.child };
+    for (Team &team : teams) list.push_back(&team.engine), list.push_back(&team.filter);
+    return list;
+}
+
+void Run::wait() {
+    std::vector<pollfd> list = { { signals, POLLIN, 0 } };
+    for (const Checker *one : { &probe, &checker })
+        for (const pollfd &file : one->files()) list.push_back(file);
+    double tick = phase == SOLVING ? 0.02 : 0.002;
+    if (options.time > 0) tick = std::min(tick, std::max(0.0, started + options.time - now()));
+    poll(list.data(), list.size(), int(std::ceil(1000 * tick)));
+    take_signal();
+    while (reap(children())) {}
+    bool tells = options.verbose && !options.quiet;
+    if (tells && !checker.files().empty()) hide_progress();
+    probe.read_on(false);
+    checker.read_on(tells);
+}
+
+void Run::take_signal() {
+    signalfd_siginfo found;
+    while (read(signals, &found, sizeof found) == sizeof found)
+        if (found.ssi_signo != SIGCHLD) ended_by = int(found.ssi_signo);
+}
+
+void Run::finish(Answer found, const std::string &why) {
+    if (phase == DONE) return;
+    answer = found;
+    cause = why;
+    phase = DONE;
+}
+
+// What the end of one of the others means.
+void Run::look() {
+    if (ended_by) return finish(UNKNOWN_ANSWER, std::string("ended by a signal: ") + strsignal(ended_by));
+    if (options.time > 0 && now() - started >= options.time) return finish(UNKNOWN_ANSWER, "time is up");
+    if (probe.child.ended() && !probe.child.ended_with(3)) formula_refused("lrupd, which reads the formula, " + probe.child.end());
+    if (phase == SOLVING) look_at_teams();
+    if (phase == SOLVING) pause_others();
+    if (phase == SOLVING) look_at_row();
+    if (phase == SOLVING && checker.child.ended()) return finish(UNKNOWN_ANSWER, "lrupd " + checker.child.end());
+    if (phase == ENDING_STREAMS) end_streams();
+    feed();
+    if (phase == CHECKING && checker.child.ended()) verdict();
+}
+
+// It has no assignment, and nobody reads its proof.
+bool Run::is_lost(size_t k) const {
+    return teams[k].wrong || (teams[k].filter.ended() && LOAD(shared->parts[k].answer) != SATISFIABLE);
+}
+
+void Run::look_at_teams() {
+    bool any_left = false;
+    for (size_t k = 0; k < teams.size() && phase == SOLVING; k++) {
+        look_at_team(k);
+        any_left |= !is_lost(k);
+    }
+    if (phase == SOLVING && !any_left) finish(UNKNOWN_ANSWER, "no engine is left");
+}
+
+// The proof is written once the filter has written its last line; what the engine says counts for nothing.
+void Run::look_at_team(size_t k) {
+    Team &team = teams[k];
+    const Part &facts = shared->parts[k];
+    if (LOAD(facts.unwritten) && team.filter.ended()) refuse("cannot write " + stream_path(k) + ": " + facts.cause);
+    if (LOAD(facts.refuted)) {
+        if (!answered) answered = now();
+        ending = now() + ENDING;
+        phase = ENDING_STREAMS;
+        if (options.verbose) tell(format("engine %zu has the proof", k + 1));
+        return;
+    }
+    int said = LOAD(facts.answer);
+    if (said == SATISFIABLE && !team.wrong) look_at_model(k);
+    if (phase != SOLVING || team.told || said == SATISFIABLE) return;
+    if (team.filter.ended()) {
+        tell_lost(k, std::string("its filter ") + (facts.cause[0] ? std::string("stopped: ") + facts.cause : team.filter.end()));
+        team.engine.signal(SIGKILL);
+    } else if (team.engine.ended() && said == 0) {
+        tell_lost(k, "the engine " + team.engine.end());
+    }
+}
+
+// The answer waits for lrupd's reading of the formula: it may refuse it.
+void Run::look_at_model(size_t k) {
+    if (!probe.child.ended()) return;
+    if (is_model(teams[k].model)) {
+        model.assign(teams[k].model, teams[k].model + formula.variables);
+        if (options.verbose) tell(format("engine %zu has an assignment", k + 1));
+        return finish(SATISFIABLE, "");
+    }
+    teams[k].wrong = true;
+    tell_lost(k, "its assignment doesn't satisfy the formula");
+}
+
+bool Run::is_model(const signed char *values) const {
+    auto is_true = [&](Literal literal) { return values[variable_of(literal)] == (literal & 1 ? -1 : 1); };
+    if (!std::all_of(assumed.begin(), assumed.end(), is_true)) return false;
+    const Literal *all = formula.literals.items;
+    for (size_t k = 0; k < formula.clauses; k++)
+        if (!std::any_of(all + formula.starts.items[k], all + formula.starts.items[k + 1], is_true)) return false;
+    return true;
+}
+
+// While the filter of an engine that has refuted the formula catches up, the others leave the cores to it. They go on where it stops.
+void Run::pause_others() {
+    auto has_refuted = [this](size_t k) { return LOAD(shared->parts[k].answer) == UNSATISFIABLE && teams[k].filter.running; };
+    bool wanted = false;
+    for (size_t k = 0; k < teams.size(); k++) wanted |= has_refuted(k);
+    if (wanted && !answered) answered = now();
+    if (!wanted) answered = 0;
+    for (size_t k = 0; k < teams.size(); k++) {
+        bool stops = wanted && !has_refuted(k);
+        if (stops == teams[k].paused) continue;
+        teams[k].paused = stops;
+        for (Child *child : { &teams[k].engine, &teams[k].filter }) child->signal(stops ? SIGSTOP : SIGCONT);
+    }
+}
+
+// The streams end after a whole line. Engines have nothing to leave behind.
+void Run::end_streams() {
+    STORE(shared->over, 1);
+    bool all_ended = true;
+    for (Team &team : teams) {
+        team.engine.signal(SIGKILL);
+        team.filter.signal(SIGCONT);
+        if (now() > ending) team.filter.signal(SIGKILL);
+        all_ended &= team.filter.ended();
+    }
+    if (!all_ended) return;
+    Row needed = needed_row();
+    if (!checker.child.pid || needed.lines > row.lines || needed.room > row.room) start_checker(needed);
+    phase = CHECKING;
+}
+
+// lrupd.
+
+std::string Run::stream_path(size_t k) const {
+    return (options.proofs ? std::string(options.proofs) + "/" : std::string()) + "stream" + std::to_string(k + 1);
+}
+
+// For what there is.
+Row Run::needed_row() const {
+    Row needed = { 0, 0 };
+    for (size_t k = 0; k < teams.size(); k++) {
+        needed.lines = std::max(needed.lines, LOAD(shared->parts[k].lines));
+        needed.room = std::max(needed.room, LOAD(shared->parts[k].literals));
+    }
+    return needed;
+}
+
+// A row of so many words for each stream, by the length of its clauses so far.
+Row Run::fitted_row(uint64_t words) const {
+    uint64_t lines = all(&Part::lines), literals = all(&Part::literals);
+    double average = lines > 0 ? double(literals) / double(lines) : USUAL_LENGTH;
+    return split(words, std::min(200.0, std::max(2.0, average)));
+}
+
+void Run::look_at_row() {
+    if (is_last_row || now() - started < SHORT_RUN) return;
+    Row needed = needed_row();
+    const char *given = test_word("LRUP_SOLVE_FIRST_WORDS");
+    uint64_t most = words_of_a_stream(), first = (given ? strtoull(given, nullptr, 10) : FIRST_WORDS) / teams.size();
+    if (!checker.child.pid && first < most) return start_checker(fitted_row(first));
+    bool filled = double(needed.lines) > FILLED * double(row.lines) || double(needed.room) > FILLED * double(row.room);
+    if (checker.child.pid && !filled) return;
+    // A filter may be at a line for which it has asked the old sizes.
+    Row largest = fitted_row(most);
+    if (largest.lines > needed.lines + 1 && largest.room > needed.room + LONGEST_LINE) {
+        STORE(shared->most_lines, largest.lines);
+        STORE(shared->most_literals, largest.room);
+    }
+    is_last_row = true;
+    start_checker({ LOAD(shared->most_lines), LOAD(shared->most_literals) });
+}
+
+void Run::start_checker(Row wanted) {
+    row = wanted;
+    std::vector<std::string> words = row_words(row);
+    if (options.assume) words.insert(words.end(), { "--assume", assume_path });
+    command = "lrupd";
+    for (const std::string &word : words) command += " " + quoted(word);
+    command += " " + quoted(formula_path);
+    if (options.verbose) words.push_back("--watch");
+    words.push_back(formula_path);
+    std::vector<int> files;
+    for (size_t k = 0; k < teams.size(); k++) files.push_back(teams[k].stream), command += " " + quoted(stream_path(k));
+    checker.start(checker_program, words, copies, files);
+    if (options.verbose) tell(command);
+}
+
+void Run::feed() {
+    if (!checker.child.pid) return;
+    for (size_t k = 0; k < teams.size(); k++) {
+        bool fed = checker.feed(k, LOAD(shared->parts[k].bytes), is_last_row && !options.proofs);
+        if (fed && phase == CHECKING) checker.end_stream(k);
+    }
+}
+
+// By lrupd's status alone.
+void Run::verdict() {
+    checker.read_on(options.verbose && !options.quiet);
+    keep_report();
+    if (checker.child.ended_with(0) || checker.child.ended_with(8)) return finish(UNSATISFIABLE, "");
+    finish(UNKNOWN_ANSWER, checker.child.ended_with(3) ? "lrupd hasn't taken the proof" : "lrupd " + checker.child.end());
+}
+
+// What is told.
+
+void Run::tell(const std::string &line) const {
+    if (options.quiet) return;
+    if (shows_progress) fputs("\r\33[K", stderr);
+    printf("c %s\n", line.c_str());
+    fflush(stdout);
+}
+
+void Run::tell_lost(size_t k, const std::string &why) {
+    teams[k].told = true;
+    if (options.verbose) tell(format("engine %zu is lost: %s", k + 1, why.c_str()));
+}
+
+uint64_t Run::all(uint64_t Part::*field) const {
+    uint64_t sum = 0;
+    for (size_t k = 0; k < teams.size(); k++) sum += LOAD(shared->parts[k].*field);
+    return sum;
+}
+
+void Run::show_progress() {
+    double time = now();
+    if (!shows_progress || time - shown < 0.2 || phase == DONE) return;
+    shown = time;
+    uint64_t bytes = all(&Part::bytes), lines = all(&Part::lines), read = 0;
+    for (size_t k = 0; k < teams.size() && checker.child.pid; k++) read += checker.read_of(k);
+    double share = bytes > 0 ? double(read) / double(bytes) : 0, fullest = 0;
+    for (size_t k = 0; k < teams.size(); k++) {
+        const Part &part = shared->parts[k];
+        fullest = std::max(fullest, double(LOAD(part.lines)) / double(std::max<uint64_t>(1, LOAD(shared->most_lines))));
+        fullest = std::max(fullest, double(LOAD(part.literals)) / double(std::max<uint64_t>(1, LOAD(shared->most_literals))));
+    }
+    std::string line = format("%.1f s, %s conflicts a second, %s clauses checked, filters %s kB behind, the fullest stream has %.0f %%",
+                              time - started, grouped(uint64_t(double(all(&Part::conflicts)) / (time - started))).c_str(),
+                              grouped(uint64_t(share * double(lines))).c_str(), grouped(all(&Part::behind) / 1000).c_str(),
+                              100 * fullest);
+    fprintf(stderr, "\r%s\33[K", line.c_str());
+}
+
+void Run::hide_progress() {
+    if (shows_progress) fputs("\r\33[K", stderr);
+}
+
+// What one needs to have the streams checked again.
+void Run::keep_report() const {
+    if (!options.proofs) return;
+    std::string folder = std::string(options.proofs) + "/";
+    write_file(folder + "report", checker.report);
+    write_file(folder + "command", command + "\n");
+}
+
+double Run::checker_seconds() const { return probe.child.seconds + checker.child.seconds + checker.earlier; }
+
+double Run::processor_seconds(bool engines) const {
+    double sum = 0;
+    for (const Team &team : teams) sum += engines ? team.engine.seconds : team.filter.seconds;
+    return sum;
+}
+
+void Run::details() const {
+    for (size_t k = 0; k < teams.size(); k++) {
+        const Part &part = shared->parts[k];
+        uint64_t lines = LOAD(part.lines);
+        tell(format("engine %zu: %.2f s, its filter %.2f s; %s conflicts; %s clauses taken over, %s of gone variables, %s given away; "
+                    "%s lines, %.0f %% of them cite another stream", k + 1, teams[k].engine.seconds, teams[k].filter.seconds,
+                    grouped(LOAD(part.conflicts)).c_str(), grouped(LOAD(part.taken)).c_str(), grouped(LOAD(part.refused)).c_str(),
+                    grouped(LOAD(part.given)).c_str(), grouped(lines).c_str(),
+                    lines ? 100.0 * double(LOAD(part.citing_others)) / double(lines) : 0));
+    }
+    if (answered > 0) tell(format("the verdict came %.2f s after an engine's answer", now() - answered));
+}
+
+void Run::summary() const {
+    if (options.verbose) details();
+    if (answer == UNKNOWN_ANSWER) {
+        for (size_t k = 0; k < teams.size() && !options.verbose; k++)
+            if (teams[k].told && shared->parts[k].cause[0]) tell(format("the filter of engine %zu stopped: %s", k + 1, shared->parts[k].cause));
+        if (!checker.last_line().empty() && !options.verbose) tell(checker.last_line());
+        if (phase == DONE && checker.child.ended() && !checker.report.empty()) {
+            size_t begin = 0;
+            for (size_t end; (end = checker.report.find('\n', begin)) != std::string::npos; begin = end + 1)
+                if (checker.report.compare(begin, 2, "c ") == 0) tell("lrupd: " + checker.report.substr(begin + 2, end - begin - 2));
+        }
+        tell(cause);
+    }
+    tell(format("%.2f s, %d engine%s, %s clauses checked; %.2f s of processor time: engines %.2f, filters %.2f, lrupd %.2f",
+                now() - started, options.engines, options.engines > 1 ? "s" : "", grouped(all(&Part::lines)).c_str(),
+                processor_seconds(true) + processor_seconds(false) + checker_seconds(),
+                processor_seconds(true), processor_seconds(false), checker_seconds()));
+}
+
+void print_model(const std::vector<signed char> &model) {
+    std::string line = "v";
+    for (size_t k = 0; k <= model.size(); k++) {
+        std::string word = k == model.size() ? " 0" : " " + std::to_string(model[k] > 0 ? long(k) + 1 : -long(k) - 1);
+        if (line.size() + word.size() > COLUMNS) {
+            puts(line.c_str());
+            line = "v";
+        }
+        line += word;
+    }
+    puts(line.c_str());
+}
+
+int Run::print_answer() {
+    hide_progress();
+    summary();
+    if (answer == SATISFIABLE) puts("s SATISFIABLE"), print_model(model);
+    else if (answer == UNKNOWN_ANSWER) puts("s UNKNOWN");
+    else puts(checker.child.ended_with(0) ? "s UNSATISFIABLE" : "s UNSATISFIABLE UNDER ASSUMPTIONS");
+    errno = 0;
+    if (fflush(stdout) != 0 || ferror(stdout)) refuse("cannot write the answer: " + (errno ? error_text() : "standard output failed"));
+    return answer;
+}
+
+int Run::run() {
+    checker_program = find_checker(options.lrupd);
+    if (options.engines == 0) options.engines = half_of_the_cores();
+    if (options.proofs && mkdir(options.proofs, 0777) != 0 && errno != EEXIST)
+        refuse(std::string("cannot make ") + options.proofs + ": " + error_text());
+    formula_path = again(options.formula ? options.formula : "-", "formula.cnf");
+    if (options.assume) assume_path = again(options.assume, "assumptions");
+    take_signals();
+    std::vector<std::string> words = row_words({ 0, 0 });
+    if (options.assume) words.insert(words.end(), { "--assume", assume_path });
+    words.insert(words.end(), { formula_path, "/dev/null" });
+    probe.start(checker_program, words, copies, {});
+    formula_read(&formula, formula_path.c_str());
+    if (options.assume) read_assumptions();
+    open_teams();
+    first_row();
+    for (size_t k = 0; k < teams.size(); k++) start_team(k);
+    shows_progress = !options.quiet && isatty(STDERR_FILENO);
+    while (phase != DONE) {
+        wait();
+        look();
+        show_progress();
+    }
+    for (Child *child : children()) child->signal(SIGKILL);
+    while (std::any_of(teams.begin(), teams.end(), [](const Team &team) { return team.engine.running || team.filter.running; }) ||
+           checker.child.running || probe.child.running)
+        if (!reap(children())) usleep(1000);
+    checker.read_on(false);
+    int status = print_answer();
+    if (ended_by) {
+        signal(ended_by, SIG_DFL);
+        sigset_t none;
+        sigemptyset(&none);
+        raise(ended_by);
+        sigprocmask(SIG_SETMASK, &none, nullptr);
+    }
+    return status;
+}
+
+// Where the caller has closed one of the first three files, no pipe of ours takes its place.
+void hold_first_files() {
+    for (int file = 0; file <= 2; file++)
+        if (fcntl(file, F_GETFD) < 0 && open("/dev/null", O_RDONLY) != file) _exit(1);
+}
+
+}
+
+void formula_refused(const char *cause) { the_run->formula_refused(cause); }
+
+int main(int count, char **words) {
+    hold_first_files();
+    Run run(read_words(count, words));
+    the_run = &run;
+    int status = run.run();
+    _exit(status);
+}

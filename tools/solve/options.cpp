@@ -1,0 +1,140 @@
+// Unverified, as all of this solver. The command line.
+#include <cerrno>
+#include <cmath>
+#include <cstdio>
+#include <cstdlib>
+#include <cstring>
+
+#include "solve.h"
+
+namespace {
+
+const char summary[] =
+    "usage: lrup-solve [OPTIONS] [FORMULA]\n"
+    "\n"
+    "Solves a formula in DIMACS CNF, standard input where none is named, with several engines of CaDiCaL that share clauses, and\n"
+    "has lrupd check their proofs while they are written. 's UNSATISFIABLE' is proved by lrupd; 's SATISFIABLE' comes with an\n"
+    "assignment that was evaluated.\n"
+    "\n"
+    "  -j N               engines, 1 to 64; each has a filter that works as hard. Half of the cores if not said\n"
+    "  --time SECONDS     then the answer is 's UNKNOWN'\n"
+    "  --memory BYTES     of lrupd's row of clauses, as 2000000000, 2000M or 2G; at its start it takes twice that\n"
+    "  --share-size N     learned clauses of at most N literals are given away, 0 to 1000; 4 if not said. Units always are\n"
+    "  --no-share         engines that share nothing\n"
+    "  --seed N           other runs of the engines\n"
+    "  --proofs DIR       keep the streams and the report there\n"
+    "  --assume FILE      literals that are assumed, in one line that ends with 0, as for lrupd\n"
+    "  --lrupd PATH       the checker; if not said it is looked for beside this program, and then on the PATH\n"
+    "  -v                 say what goes on, in lines that begin with c\n"
+    "  -q                 no lines but the answer, and no progress\n"
+    "  -h, --help         show this\n"
+    "  --version          show the version\n"
+    "\n"
+    "Statuses: 10 satisfiable, 20 unsatisfiable (or so under the assumptions), 0 unknown, 1 a mistake or a file that can't be used.\n";
+
+class Words {
+public:
+    Words(int count, char **words) : next(words + 1), end(words + count) {}
+
+    bool more() const { return next < end; }
+    const char *take() { return *next++; }
+
+    // Whether the word is this option; then its value is the rest of the word, or the next one.
+    bool option(const char *word, const char *name, const char *&value) {
+        size_t length = strlen(name);
+        if (strncmp(word, name, length) != 0) return false;
+        bool is_long = name[1] == '-';
+        if (word[length] == 0) {
+            if (!more()) refuse(std::string("no value after ") + name);
+            value = take();
+            return true;
+        }
+        if (is_long && word[length] != '=') return false;
+        value = word + length + is_long;
+        return true;
+    }
+
+private:
+    char **next, **end;
+};
+
+[[noreturn]] void bad_value(const char *name, const char *value) { refuse(std::string("not for ") + name + ": " + value); }
+
+uint64_t number(const char *name, const char *value, uint64_t least, uint64_t most) {
+    uint64_t found = 0;
+    const char *at = value;
+    for (; *at >= '0' && *at <= '9'; at++) {
+        found = 10 * found + uint64_t(*at - '0');
+        if (found > most) bad_value(name, value);
+    }
+    if (at == value || *at != 0 || found < least) bad_value(name, value);
+    return found;
+}
+
+double seconds(const char *name, const char *value) {
+    char *end;
+    errno = 0;
+    double found = strtod(value, &end);
+    bool digits = strspn(value, "0123456789.") == strlen(value);
+    if (!digits || end == value || *end != 0 || errno != 0 || !(found > 0) || !std::isfinite(found)) bad_value(name, value);
+    return found;
+}
+
+// With K, M, G or T, for powers of 1,000.
+uint64_t bytes(const char *name, const char *value) {
+    std::string digits = value;
+    uint64_t unit = 1;
+    const std::string units = "KMGT";
+    size_t place = digits.empty() ? std::string::npos : units.find(digits.back());
+    if (place != std::string::npos) {
+        digits.pop_back();
+        for (size_t k = 0; k <= place; k++) unit *= 1000;
+    }
+    uint64_t most = UINT64_C(1000000000000000);
+    for (char digit : digits)
+        if (digit < '0' || digit > '9') bad_value(name, value);
+    if (digits.empty() || digits.size() > 15) bad_value(name, value);
+    uint64_t found = strtoull(digits.c_str(), nullptr, 10);
+    if (found == 0 || found > most / unit) bad_value(name, value);
+    return found * unit;
+}
+
+[[noreturn]] void show(const char *text) {
+    fputs(text, stdout);
+    if (fflush(stdout) != 0) refuse("cannot write to standard output: " + error_text());
+    exit(0);
+}
+
+bool read_valued(Options &options, Words &words, const char *word) {
+    const char *value;
+    if (words.option(word, "-j", value)) options.engines = int(number("-j", value, 1, MOST_ENGINES));
+    else if (words.option(word, "--time", value)) options.time = seconds("--time", value);
+    else if (words.option(word, "--memory", value)) options.memory = bytes("--memory", value);
+    else if (words.option(word, "--share-size", value)) options.share_size = int(number("--share-size", value, 0, 1000));
+    else if (words.option(word, "--seed", value)) options.seed = int(number("--seed", value, 0, 1000000000));
+    else if (words.option(word, "--proofs", value)) options.proofs = value;
+    else if (words.option(word, "--assume", value)) options.assume = value;
+    else if (words.option(word, "--lrupd", value)) options.lrupd = value;
+    else return false;
+    return true;
+}
+
+}
+
+Options read_words(int count, char **list) {
+    Options options;
+    Words words(count, list);
+    while (words.more()) {
+        const char *word = words.take();
+        if (strcmp(word, "--help") == 0 || strcmp(word, "-h") == 0) show(summary);
+        if (strcmp(word, "--version") == 0) show((std::string("lrup-solve, with CaDiCaL ") + engine_version() + "\n").c_str());
+        if (strcmp(word, "--no-share") == 0) options.share = false;
+        else if (strcmp(word, "-v") == 0) options.verbose = true;
+        else if (strcmp(word, "-q") == 0) options.quiet = true;
+        else if (read_valued(options, words, word)) continue;
+        else if (word[0] == '-' && word[1] != 0) refuse(std::string("no such option: ") + word + " (--help lists them)");
+        else if (options.formula) refuse(std::string("one word too many: ") + word);
+        else options.formula = word;
+    }
+    return options;
+}

@@ -1,0 +1,164 @@
+// Unverified, as all of this solver. Children, pipes and files.
+#include <algorithm>
+#include <cerrno>
+#include <csignal>
+#include <cstdio>
+#include <cstdlib>
+#include <cstring>
+
+#include <fcntl.h>
+#include <sys/mman.h>
+#include <sys/prctl.h>
+#include <sys/resource.h>
+#include <sys/wait.h>
+#include <time.h>
+#include <unistd.h>
+
+#include "solve.h"
+
+namespace {
+
+std::vector<pid_t> alive;       // children that weren't waited for
+std::vector<int> opened;        // files of ours
+
+void write_all(int file, const char *bytes, size_t length, const std::string &name) {
+    for (size_t written = 0; written < length;) {
+        ssize_t count = write(file, bytes + written, length - written);
+        if (count < 0 && errno != EINTR) refuse("cannot write " + name + ": " + error_text());
+        if (count > 0) written += size_t(count);
+    }
+}
+
+int kept_open(int file) {
+    opened.push_back(file);
+    return file;
+}
+
+}
+
+void refuse(const std::string &cause) {
+    end_children();
+    fprintf(stderr, "lrup-solve: %s\n", cause.c_str());
+    _exit(1);
+}
+
+std::string error_text() { return strerror(errno); }
+
+double now() {
+    timespec time;
+    clock_gettime(CLOCK_MONOTONIC, &time);
+    return double(time.tv_sec) + 1e-9 * double(time.tv_nsec);
+}
+
+// Files.
+
+Pipe make_pipe(int bytes) {
+    int ends[2];
+    if (pipe2(ends, O_CLOEXEC) != 0) refuse("cannot make a pipe: " + error_text());
+    if (bytes > 0) fcntl(ends[1], F_SETPIPE_SZ, bytes);
+    return { kept_open(ends[0]), kept_open(ends[1]) };
+}
+
+void close_file(int &file) {
+    if (file < 0) return;
+    opened.erase(std::remove(opened.begin(), opened.end(), file), opened.end());
+    close(file);
+    file = -1;
+}
+
+int create_file(const std::string &path) {
+    int file = open(path.c_str(), O_RDWR | O_CREAT | O_TRUNC | O_CLOEXEC, 0666);
+    if (file < 0) refuse("cannot write " + path + ": " + error_text());
+    return kept_open(file);
+}
+
+void write_file(const std::string &path, const std::string &text) {
+    int file = create_file(path);
+    write_all(file, text.data(), text.size(), path);
+    close_file(file);
+}
+
+int file_in_memory() {
+    int file = memfd_create("lrup-solve", MFD_CLOEXEC);
+    if (file < 0) refuse("cannot make a file in memory: " + error_text());
+    return kept_open(file);
+}
+
+void copy_file(int file, const std::string &name, int copy) {
+    std::vector<char> bytes(1 << 16);
+    for (;;) {
+        ssize_t count = read(file, bytes.data(), bytes.size());
+        if (count < 0 && errno == EINTR) continue;
+        if (count < 0) refuse("cannot read " + name + ": " + error_text());
+        if (count == 0) return;
+        write_all(copy, bytes.data(), size_t(count), "a copy of " + name);
+    }
+}
+
+// Children. One ends with its parent, whatever ends that; what a terminal sends to all is the parent's to handle.
+
+bool Child::ended_with(int code) const { return ended() && WIFEXITED(status) && WEXITSTATUS(status) == code; }
+
+std::string Child::end() const {
+    if (WIFSIGNALED(status)) return std::string("ended by a signal: ") + strsignal(WTERMSIG(status));
+    return "ended with status " + std::to_string(WEXITSTATUS(status));
+}
+
+void Child::signal(int number) const {
+    if (running) kill(pid, number);
+}
+
+bool begin(Child &child, const std::string &name, const std::vector<int> &kept) {
+    fflush(nullptr);
+    pid_t parent = getpid(), pid = fork();
+    if (pid < 0) refuse("cannot start a process: " + error_text());
+    if (pid > 0) {
+        alive.push_back(pid);
+        child.pid = pid;
+        child.running = true;
+        return false;
+    }
+    prctl(PR_SET_PDEATHSIG, SIGKILL);
+    prctl(PR_SET_NAME, name.c_str());
+    if (getppid() != parent) _exit(1);
+    sigset_t none;
+    sigemptyset(&none);
+    sigprocmask(SIG_SETMASK, &none, nullptr);
+    signal(SIGINT, SIG_IGN);
+    signal(SIGPIPE, SIG_DFL);
+    for (int file : opened)
+        if (std::find(kept.begin(), kept.end(), file) == kept.end()) close(file);
+    return true;
+}
+
+static void take_end(Child &child, int status, const rusage &used) {
+    child.running = false;
+    child.status = status;
+    child.seconds = double(used.ru_utime.tv_sec + used.ru_stime.tv_sec) +
+                    1e-6 * double(used.ru_utime.tv_usec + used.ru_stime.tv_usec);
+    alive.erase(std::remove(alive.begin(), alive.end(), child.pid), alive.end());
+}
+
+bool reap(const std::vector<Child *> &children) {
+    int status;
+    rusage used;
+    pid_t pid = wait4(-1, &status, WNOHANG, &used);
+    if (pid <= 0) return false;
+    for (Child *child : children)
+        if (child->pid == pid && child->running) take_end(*child, status, used);
+    return true;
+}
+
+void wait_for(Child &child) {
+    int status;
+    rusage used;
+    while (child.running && wait4(child.pid, &status, 0, &used) < 0 && errno == EINTR) {}
+    if (child.running) take_end(child, status, used);
+}
+
+void end_children() {
+    for (pid_t pid : alive) kill(pid, SIGKILL);
+    for (pid_t pid : alive)
+        while (waitpid(pid, nullptr, 0) < 0 && errno == EINTR) {}
+    alive.clear();
+}

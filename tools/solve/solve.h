@@ -1,0 +1,107 @@
+// Unverified, as all of this solver. What its C++ files have in common.
+#ifndef SOLVE_H
+#define SOLVE_H
+
+#include <cstdint>
+#include <string>
+#include <vector>
+
+#include <poll.h>
+#include <sys/types.h>
+
+#include "../exact/formula.h"
+#include "shared.h"
+
+// options.cpp: the command line.
+struct Options {
+    int engines = 0;            // 0: half of the cores
+    double time = 0;            // seconds; 0: as long as it takes
+    uint64_t memory = 0;        // bytes of lrupd's row; 0: by the machine's
+    int share_size = 4;         // literals of a clause that is given away; units always are
+    bool share = true;
+    int seed = 0;
+    const char *proofs = nullptr, *assume = nullptr, *lrupd = nullptr, *formula = nullptr;
+    bool verbose = false, quiet = false;
+};
+
+Options read_words(int count, char **words);
+
+// processes.cpp: children, pipes and files.
+[[noreturn]] void refuse(const std::string &cause);     // one line on standard error, and status 1; all children are ended
+std::string error_text();                               // of errno
+double now();                                           // seconds
+
+struct Pipe { int read = -1, write = -1; };
+
+Pipe make_pipe(int bytes);                              // so many, if the system gives them
+void close_file(int &file);
+int create_file(const std::string &path);
+void write_file(const std::string &path, const std::string &text);
+int file_in_memory();
+void copy_file(int file, const std::string &name, int copy);
+
+struct Child {
+    pid_t pid = 0;
+    bool running = false;
+    int status = 0;             // as wait gives it
+    double seconds = 0;         // of processor time
+
+    bool ended() const { return pid != 0 && !running; }
+    bool ended_with(int code) const;
+    std::string end() const;    // in words
+    void signal(int number) const;
+};
+
+bool begin(Child &child, const std::string &name, const std::vector<int> &kept);    // true in the child, with these files of ours
+bool reap(const std::vector<Child *> &children);         // one that has ended, if there is one
+void wait_for(Child &child);
+void end_children();
+
+// engine.cpp: an engine's process. Doesn't return.
+struct Engine {
+    const Options *options;
+    const Formula *formula;
+    const std::vector<Literal> *assumed;
+    Shared *shared;
+    const uint32_t *const *outboxes;    // by engine, from 0
+    signed char *model;                 // by variable, from 0: 1 true, -1 false
+    int number, proof;                  // from 1; the file
+};
+
+[[noreturn]] void engine_process(const Engine &engine);
+const char *engine_version();
+
+// checker.cpp: lrupd, its words, and the sizes of its row.
+struct Row { uint64_t lines, room; };       // of each stream
+
+class Checker {
+public:
+    Child child;
+    std::string report, said;           // standard output, and standard error
+    double earlier = 0;                 // processor seconds of those that this one took the place of
+
+    // The words end with the streams, which are fed from these files. Ends the one that was started before.
+    void start(const std::string &program, std::vector<std::string> words, std::vector<int> kept, const std::vector<int> &files);
+    bool feed(size_t stream, uint64_t bytes, bool drop);    // from the file, which has so many by now; true where all are fed
+    void end_stream(size_t stream) { close_file(streams[stream].pipe.write); }
+    uint64_t read_of(size_t stream) const;                  // bytes that it has read
+    void read_on(bool tell);                                // what it says; lines of standard error are told
+    std::vector<pollfd> files() const;                      // to be waited for
+    std::string last_line() const;                          // of standard error
+
+private:
+    struct Stream { int file; Pipe pipe; uint64_t fed, dropped; };
+
+    std::vector<Stream> streams;
+    Pipe out, err;
+    size_t told = 0;
+
+    void stop();
+};
+
+std::string find_checker(const char *given);                    // refuses where there is none
+std::vector<std::string> row_words(const Row &row);
+uint64_t default_memory();
+Row split(uint64_t words, double literals_of_a_clause);         // of one stream
+
+#endif

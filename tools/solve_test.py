@@ -1,0 +1,533 @@
+#!/usr/bin/env python3
+"""Runs lrup-solve with the program, and breaks what may break.
+
+    solve_test.py PROGRAM [FLAGS]
+
+Known formulas with each status, 300 random ones with early inprocessing, one to eight engines; what is refused; each child killed in
+turn, signals, a full disk, outputs that are closed. What holds sharing together is left out, one thing at a time, in a build for
+tests: each has to be found out. It builds both with `make`, and the compilers' flags where they are said, as '-O1 -g
+-fsanitize=thread'; where `make` doesn't find CaDiCaL's library everything is skipped, and that is told. It shows what is off; the
+last line is 'N passed, M failed', and ', K skipped' where something isn't there. The status is 1 where a run failed.
+"""
+import fcntl
+import os
+import pty
+import random
+import re
+import shlex
+import shutil
+import signal
+import stat
+import subprocess
+import sys
+import time
+
+sys.dont_write_bytecode = True
+from forms import read_formula
+from harness import HERE, ROOT, Failure, Skipped, dimacs, example, generated, random_clauses, run_all, want, written
+
+FLAGS = sys.argv[2] if len(sys.argv) > 2 else "-O2"
+OUT = os.path.join(HERE, "solve", "out", *["flags"] * (len(sys.argv) > 2))
+SOLVE, TESTED = os.path.join(OUT, "lrup-solve"), os.path.join(OUT, "lrup-solve-tested")
+SECONDS = 120
+EARLY = "elimint=10 probeint=10 subsumeint=10 compactint=10 reduceint=20 rephaseint=20"
+ELIMINATING = "elimint=1 compact=0"
+FOUR = "p cnf 2 4\n1 2 0\n-1 2 0\n1 -2 0\n-1 -2 0\n"
+ANSWERS = {0: "s UNKNOWN", 10: "s SATISFIABLE", 20: "s UNSATISFIABLE"}
+
+
+class Answer:
+    """What a run wrote, and its status."""
+
+    def __init__(self, out, said, status):
+        self.out, self.said, self.status = out, said, status
+        lines = out.splitlines()
+        self.answers = [line for line in lines if line.startswith("s ")]
+        self.comments = [line[2:] for line in lines if line.startswith("c ")]
+        self.values = [int(word) for line in lines if line.startswith("v ") for word in line.split()[1:]]
+
+    def lost(self):
+        return [line for line in self.comments if " is lost: " in line]
+
+
+def solve(words, given=None, tested=None, **options):
+    """With `tested`, a build for tests, and words in its environment."""
+    environment = {**os.environ, **{f"LRUP_SOLVE_{name}": str(word) for name, word in (tested or {}).items()}}
+    done = subprocess.run([TESTED if tested is not None else SOLVE, "--lrupd", PROGRAM, *words], input=given, env=environment,
+                          stdin=subprocess.DEVNULL if given is None else None, capture_output=True, text=True, timeout=SECONDS, **options)
+    return Answer(done.stdout, done.stderr, done.returncode)
+
+
+def want_answer(answer, status, formula=None, verdict=None):
+    """The status and its line; of a satisfiable formula's, an assignment that makes each clause true."""
+    wanted = ([verdict or ANSWERS[status]], status, "")
+    want((answer.answers, answer.status, answer.said), wanted, f"the answer of\n{answer.out[-2000:]}")
+    if status != 10:
+        return want(answer.values, [], "the assignment")
+    with open(formula) as file:
+        variables = int(re.search(r"^p cnf +(\d+)", file.read(), re.M)[1])
+    want([abs(value) for value in answer.values], [*range(1, variables + 1), 0], "the variables of the assignment")
+    true = set(answer.values)
+    for clause in read_formula(formula):
+        if not true & set(clause):
+            raise Failure(f"the assignment makes the clause {clause} false")
+
+
+# Answers.
+
+
+def answers(text, status, words, work):
+    formula = written(text, work)
+    want_answer(solve([*words, formula]), status, formula)
+
+
+def answers_of(words_or_name, status, options, work):
+    formula = example(words_or_name) if words_or_name.endswith(".cnf") else generated(words_or_name, work)
+    want_answer(solve([*options, formula]), status, formula)
+
+
+def without_a_clause(work):
+    """A formula that is refuted, and its clauses but one, which aren't."""
+    clauses = read_formula(example("pigeonhole.cnf"))
+    formula = written(dimacs(30, clauses[1:]), work)
+    want_answer(solve([formula]), 10, formula)
+
+
+def random_formula(seed):
+    numbers = random.Random(seed)
+    variables = numbers.randrange(20, 130)
+    lengths = numbers.choice(((3,), (3,), (2, 3, 3, 3, 4, 5), (1, 2, 3, 4, 5, 6)))
+    ratio = numbers.uniform(3.9, 5) if lengths == (3,) else numbers.uniform(2, 6)
+    return dimacs(variables, random_clauses(numbers, variables, round(ratio * variables), lengths))
+
+
+def randomly(seed, work):
+    """Any answer but 'unknown': an assignment is evaluated here, and of the others the kept proof is checked once more."""
+    numbers = random.Random(f"{seed} engines")
+    formula = written(random_formula(seed), work)
+    words = ["-v", "--memory", "64M", "--seed", str(seed), "-j", str(numbers.randint(2, 4)), formula]
+    kept = os.path.join(work, "proofs")
+    keeps = seed % 10 == 0
+    early = {"SET": EARLY, "SLICE": numbers.choice((20, 50, 200)), "FIRST_WORDS": numbers.choice((1000, 1 << 20))}
+    answer = solve(["--proofs", kept] * keeps + words, tested=early)
+    want(answer.lost(), [], "engines that are lost")
+    want_answer(answer, answer.status if answer.status in (10, 20) else 20, formula)
+    if keeps and answer.status == 20:
+        check_again(kept)
+
+
+def check_again(kept):
+    """The record is enough to have the streams checked: the command, with its files; the report is the same, but for waiting."""
+    with open(os.path.join(kept, "command")) as file:
+        words = shlex.split(file.read())
+    want(words[0], "lrupd", "the command")
+    done = subprocess.run([PROGRAM, *words[1:]], capture_output=True, text=True, timeout=SECONDS)
+    with open(os.path.join(kept, "report")) as file:
+        want((done.stdout, done.returncode), (file.read(), 0), "the streams, checked again")
+
+
+def keeps(words, work):
+    kept, formula = os.path.join(work, "what's kept"), shutil.copy(example("bmc.cnf"), os.path.join(work, "a formula"))
+    want_answer(solve([*words, "--proofs", kept, formula]), 20)
+    check_again(kept)
+
+
+def keeps_standard_input(work):
+    """The record has a copy of what came by a pipe."""
+    kept = os.path.join(work, "kept")
+    with open(example("bmc.cnf")) as file:
+        want_answer(solve(["--proofs", kept], given=file.read()), 20)
+    check_again(kept)
+
+
+def standard_input(words, work):
+    with open(example("bmc.cnf")) as file:
+        want_answer(solve(words, given=file.read()), 20)
+    with open(example("bmc.cnf")) as file:
+        done = subprocess.run([SOLVE, "--lrupd", PROGRAM, *words], stdin=file, capture_output=True, text=True, timeout=SECONDS)
+    want_answer(Answer(done.stdout, done.stderr, done.returncode), 20)
+
+
+def from_fifo(work):
+    fifo = os.path.join(work, "fifo")
+    os.mkfifo(fifo)
+    with subprocess.Popen(["cp", example("bmc.cnf"), fifo]):
+        want_answer(solve([fifo]), 20)
+
+
+def beside(work):
+    """lrupd is found beside the program, then on the PATH."""
+    for folder in ("one", "two"):
+        os.mkdir(os.path.join(work, folder))
+    program = shutil.copy(SOLVE, os.path.join(work, "one"))
+    where = {**os.environ, "PATH": os.path.join(work, "two")}
+    run = lambda: subprocess.run([program, example("four-clause.cnf")], env=where, capture_output=True, text=True, timeout=SECONDS)
+    done = run()
+    want((done.stdout, done.stderr.count("\n"), "no lrupd" in done.stderr, done.returncode), ("", 1, True, 1), "without lrupd")
+    for folder in ("two", "one"):
+        os.symlink(PROGRAM, os.path.join(work, folder, "lrupd"))
+        done = run()
+        want((done.stdout.splitlines()[-1], done.returncode), ("s UNSATISFIABLE", 20), f"with lrupd in {folder}")
+        os.remove(os.path.join(work, folder, "lrupd"))
+
+
+def assuming(formula, cube, status, verdict, work):
+    formula, cube = written(formula, work), written(cube, work, "cube")
+    for engines in ("1", "3"):
+        answer = solve(["-j", engines, "--assume", cube, formula])
+        want_answer(answer, status, formula, verdict)
+        with open(cube) as file:
+            if status == 10 and not set(map(int, file.read().split())) <= set(answer.values):
+                raise Failure("the assignment isn't one under the assumptions")
+
+
+def quiet(work):
+    want(solve(["-q", example("bmc.cnf")]).out, "s UNSATISFIABLE\n", "what -q leaves")
+
+
+# Refusals.
+
+
+def refused(words, cause, work):
+    """One line on standard error, and status 1."""
+    formula = written(FOUR, work)
+    answer = solve([word.format(work=work, formula=formula) for word in words])
+    want((answer.out, answer.status, answer.said.count("\n"), answer.said.startswith("lrup-solve: ")), ("", 1, 1, True),
+         f"what is said of {words}: {answer.said}")
+    if cause not in answer.said:
+        raise Failure(f"wanted a word on '{cause}', and not\n{answer.said}")
+
+
+def refused_by_lrupd(text, words, work):
+    """In lrupd's words."""
+    formula = written(text, work)
+    words = [word.format(work=work) for word in words]
+    written("-2 x 0\n", work, "bad")
+    written("-7 0\n", work, "beyond")
+    done = subprocess.run([PROGRAM, *words, formula, "/dev/null"], capture_output=True, text=True, timeout=SECONDS)
+    want((done.stderr[:7], done.stderr.count("\n")), ("lrupd: ", 1), "lrupd's refusal")
+    answer = solve([*words, formula])
+    want((answer.out, answer.said, answer.status), ("", done.stderr, 1), "what is said")
+
+
+def impostor(body, cause, work):
+    """Another program in lrupd's place, which takes the formula and doesn't prove anything."""
+    path = written(f"#!/bin/sh\ncase \"$*\" in *' /dev/null') exit 3;; esac\n{body}\n", work, "lrupd")
+    os.chmod(path, os.stat(path).st_mode | stat.S_IXUSR)
+    answer = solve(["--lrupd", path, example("bmc.cnf")])
+    want_answer(answer, 0)
+    if not any(cause in line for line in answer.comments):
+        raise Failure(f"wanted a word on '{cause}', and not\n{answer.out}")
+
+
+# What happens while it runs.
+
+
+def children_of(pid):
+    """Their names, with the ids. Of two lrupd the one counts that reads streams."""
+    found = {}
+    try:
+        with open(f"/proc/{pid}/task/{pid}/children") as file:
+            pids = list(map(int, file.read().split()))
+    except OSError:
+        return found
+    for child in pids:
+        try:
+            with open(f"/proc/{child}/comm") as name, open(f"/proc/{child}/cmdline") as words:
+                title = name.read().strip()
+                if title != "lrupd" or "/dev/fd/" in words.read():
+                    found[title] = child
+        except OSError:
+            pass
+    return found
+
+
+def is_alive(pid):
+    try:
+        with open(f"/proc/{pid}/stat") as file:
+            return file.read().rsplit(")", 1)[1].split()[0] not in "ZX"
+    except OSError:
+        return False
+
+
+def until(what, condition, seconds=20):
+    end = time.monotonic() + seconds
+    while not condition():
+        if time.monotonic() > end:
+            raise Failure(f"not within {seconds} seconds: {what}")
+        time.sleep(0.01)
+
+
+class Running:
+    """One that is at work: both engines, their filters and lrupd are there."""
+
+    def __init__(self, formula, work, *words):
+        self.folder = os.path.join(work, "folder")
+        os.mkdir(self.folder)
+        self.process = subprocess.Popen([SOLVE, "--lrupd", PROGRAM, "-v", "-j", "2", *words, formula], cwd=self.folder,
+                                        stdout=subprocess.PIPE, stderr=subprocess.PIPE, text=True,
+                                        env={**os.environ, "TMPDIR": self.folder})
+        self.children = {}
+        until("five children", self.has_all)
+
+    def has_all(self):
+        self.children = children_of(self.process.pid)
+        return {"engine 1", "engine 2", "filter 1", "filter 2", "lrupd"} <= set(self.children)
+
+    def end(self):
+        """What it said; no child of it is left, and no file."""
+        try:
+            out, said = self.process.communicate(timeout=SECONDS)
+        finally:
+            self.process.kill()
+        until("its children end", lambda: not any(map(is_alive, self.children.values())))
+        want(os.listdir(self.folder), [], "files that are left")
+        return Answer(out, said, self.process.returncode)
+
+
+def killed(names, number, status, cause, work):
+    """Children are killed: the others go on, or the answer is 'unknown'."""
+    formula = generated("random 220 5", work) if status else generated("pigeons 11", work)
+    running = Running(formula, work)
+    for name in names:
+        os.kill(running.children[name], number)
+    answer = running.end()
+    want_answer(answer, status, formula)
+    if not any(cause in line for line in answer.comments):
+        raise Failure(f"wanted a word on '{cause}', and not\n{answer.out}")
+
+
+def ended_by(number, work):
+    running = Running(generated("pigeons 11", work), work)
+    begin = time.monotonic()
+    running.process.send_signal(number)
+    answer = running.end()
+    want((answer.answers, answer.status), (["s UNKNOWN"], -number), "the end")
+    if time.monotonic() - begin > 5:
+        raise Failure("it took more than five seconds")
+
+
+def left_alone(work):
+    """Where the first process is killed the others end, too."""
+    running = Running(generated("pigeons 11", work), work)
+    running.process.kill()
+    running.end()
+
+
+def time_is_up(work):
+    begin = time.monotonic()
+    answer = solve(["--time", "0.7", generated("pigeons 11", work)])
+    want_answer(answer, 0)
+    want((answer.comments[0], time.monotonic() - begin < 10), ("time is up", True), "what is said")
+
+
+def row_is_full(work):
+    answer = solve(["-j", "2", "--memory", "300K", generated("pigeons 9", work)])
+    want_answer(answer, 0)
+    if not any("row is full" in line for line in answer.comments):
+        raise Failure(f"wanted a word on the row, and not\n{answer.out}")
+
+
+def rows_grow(work):
+    """A first row that is far too small."""
+    answer = solve(["-v", "-j", "2", generated("random 200 3", work)], tested={"FIRST_WORDS": 2000})
+    want_answer(answer, 20)
+    commands = [line for line in answer.comments if line.startswith("lrupd --tries")]
+    if len(commands) < 2:
+        raise Failure(f"wanted a second row, and not\n{answer.out}")
+
+
+def full(words, out, cause, work):
+    """A disk that is full, for the streams or the answer."""
+    if not os.path.exists("/dev/full"):
+        raise Skipped("there is no /dev/full")
+    os.symlink("/dev/full", os.path.join(work, "stream1"))
+    with open(out, "w") as file:
+        done = subprocess.run([SOLVE, "--lrupd", PROGRAM, *[word.format(work=work) for word in words], example("bmc.cnf")], stdout=file,
+                              stderr=subprocess.PIPE, stdin=subprocess.DEVNULL, text=True, timeout=SECONDS)
+    want((done.returncode, done.stderr.count("\n"), cause in done.stderr), (1, 1, True), f"what is said: {done.stderr}")
+
+
+def closed(formula, redirection, work):
+    done = subprocess.run(["sh", "-c", f'exec "$0" --lrupd "$1" "$2" {redirection}', SOLVE, PROGRAM, example(formula)],
+                          stderr=subprocess.PIPE, stdin=subprocess.DEVNULL, text=True, timeout=SECONDS)
+    want((done.returncode, done.stderr.count("\n")), (1, 1), f"what is said: {done.stderr}")
+
+
+def reader_left(work):
+    reader, writer = os.pipe()
+    os.close(reader)
+    done = subprocess.run([SOLVE, "--lrupd", PROGRAM, example("bmc.cnf")], stdout=writer, stderr=subprocess.PIPE, text=True,
+                          timeout=SECONDS)
+    os.close(writer)
+    want((done.returncode, done.stderr.count("\n")), (1, 1), f"what is said: {done.stderr}")
+
+
+def progress(words, wanted, work):
+    """One line that is written over and over, and taken away, on a terminal alone."""
+    leader, terminal = pty.openpty()
+    with subprocess.Popen([SOLVE, "--lrupd", PROGRAM, "-j", "2", "--time", "1.5", *words, generated("pigeons 11", work)],
+                          stdout=subprocess.PIPE, stderr=terminal, text=True) as running:
+        os.close(terminal)
+        out = running.communicate(timeout=SECONDS)[0]
+    fcntl.fcntl(leader, fcntl.F_SETFL, os.O_NONBLOCK)
+    seen = b""
+    try:
+        while chunk := os.read(leader, 65536):
+            seen += chunk
+    except OSError:
+        pass
+    os.close(leader)
+    want(out.splitlines()[-1], "s UNKNOWN", "the answer")
+    shown = re.findall(rb"\r([^\r\n]*clauses checked[^\r\n]*)\x1b\[K", seen)
+    want((len(shown) > 2, b"\n" in seen, seen.endswith(b"\r\x1b[K") if shown else True), (wanted, False, True), f"on the terminal: {seen[:300]}")
+
+
+# What sharing rests on: left out, it is found out; and with it nothing of the kind happens.
+
+
+def rests_on(what, count, found, variables, early, work):
+    """So many formulas, with it and without. Streams of others wait for a second, and not a minute, for a clause that doesn't come."""
+    seen = {True: 0, False: 0}
+    for seed in range(count):
+        numbers = random.Random(seed)
+        size = numbers.randrange(*variables)
+        formula = written(dimacs(size, random_clauses(numbers, size, round(numbers.uniform(4, 4.9) * size))), work)
+        for left_out in (True, False):
+            tested = {"SET": early, "SLICE": 30, "TRIES": 20000, **({"WITHOUT": what} if left_out else {})}
+            answer = solve(["-v", "--memory", "64M", "--time", "20", "-j", "3", formula], tested=tested)
+            seen[left_out] += any(re.search(found, line) for line in answer.comments)
+            if not left_out and "time is up" not in answer.comments:       # short slices hardly come to an end
+                want_answer(answer, answer.status if answer.status in (10, 20) else 20, formula)
+        if seen[True] and seed > 10:
+            break
+    want((seen[True] > 0, seen[False]), (True, 0), f"runs that broke without it, and with it: {seen}")
+
+
+def published_late(work):
+    """The filter of engine 1 dies with a clause in its buffer that it has given away: nobody may have heard of it."""
+    broke = 0
+    for seed in range(12):
+        formula = generated(f"random 150 {seed}", work)
+        for left_out in (True, False):
+            tested = {"SLICE": 30, "TRIES": 20000, "LAST_GIFT": 40 + 7 * seed, **({"WITHOUT": "flush"} if left_out else {})}
+            answer = solve(["-v", "--memory", "64M", "--time", "20", "-j", "3", formula], tested=tested)
+            if left_out:
+                broke += any("missing" in line for line in answer.comments)
+            elif "time is up" not in answer.comments:
+                want_answer(answer, answer.status if answer.status in (10, 20) else 20, formula)
+    if not broke:
+        raise Failure("clauses that never went out weren't missed")
+
+
+# The tests.
+
+
+def known():
+    many = [["-j", str(engines)] for engines in (1, 2, 3, 5, 8)] + [["-j", "3", "--no-share"], ["-v"], ["--share-size", "0"], []]
+    runs = []
+    for words in many:
+        title = " ".join(["", *words])
+        runs += [("four clauses" + title, answers, FOUR, 20, words),
+                 ("bmc" + title, answers_of, "bmc.cnf", 20, words),
+                 ("satisfiable" + title, answers_of, "random 120 7 3.6", 10, words),
+                 ("empty clause" + title, answers, "p cnf 2 2\n1 2 0\n0\n", 20, words),
+                 ("no clauses" + title, answers, "p cnf 3 0\n", 10, words),
+                 ("nothing" + title, answers, "p cnf 0 0\n", 10, words),
+                 ("the empty clause alone" + title, answers, "p cnf 0 1\n0\n", 20, words),
+                 ("units" + title, answers, "p cnf 2 3\n1 0\n-1 2 0\n-2 0\n", 20, words),
+                 ("tautologies" + title, answers, "p cnf 3 4\n1 -1 0\n2 2 3 0\n-2 3 3 0\n-3 -3 0\n", 20, words)]
+    runs += [("without a clause", without_a_clause), ("four engines", answers_of, "random 200 2", 20, ["-j", "4"]),
+             ("pigeonholes", answers_of, "pigeons 7", 20, ["-j", "3"]), ("an order", answers_of, "order 20", 20, ["-j", "2"]),
+             ("comments", answers, "c a comment\n" + FOUR.replace("-1 2 0\n", "c another\n-1 2 0\n"), 20, [])]
+    return runs
+
+
+def words_and_files():
+    cube = "p cnf 3 3\n1 2 0\n-1 2 0\n3 -3 0\n"
+    under = "s UNSATISFIABLE UNDER ASSUMPTIONS"
+    runs = [("standard input" + word, standard_input, [word] * bool(word)) for word in ("", "-")]
+    runs += [("a FIFO", from_fifo), ("where lrupd is", beside), ("-q", quiet), ("keeps", keeps, []), ("keeps four", keeps, ["-j", "4"]),
+             ("keeps standard input", keeps_standard_input),
+             ("assumptions that contradict", assuming, cube, "-2 0\n", 20, under),
+             ("assumptions of which one does", assuming, cube, "3 1 -2 0\n", 20, under),
+             ("assumptions that fit", assuming, cube, "2 -1 0\n", 10, None),
+             ("no assumptions", assuming, cube, "0\n", 10, None),
+             ("assumptions, and no need of them", assuming, FOUR.replace("cnf 2", "cnf 3"), "3 0\n", 20, None),
+             ("assumptions against each other", assuming, cube, "1 -1 0\n", 0, None),
+             ("a unit against the assumption", assuming, "p cnf 1 1\n1 0\n", "-1 0\n", 20, under)]
+    for words, cause in ((["--nothing", "{formula}"], "--nothing"), (["{formula}", "{formula}"], "one word too many"),
+                         (["-j"], "no value after -j"), (["-j", "0", "{formula}"], "-j: 0"), (["-j", "65", "{formula}"], "-j: 65"),
+                         (["-j", "x", "{formula}"], "-j: x"), (["--time", "-1", "{formula}"], "--time"),
+                         (["--time", "nan", "{formula}"], "--time"), (["--memory", "", "{formula}"], "--memory"),
+                         (["--memory", "1X", "{formula}"], "--memory"), (["--memory", "99999999999999999999", "{formula}"], "--memory"),
+                         (["--memory", "100", "{formula}"], "no room"), (["--share-size", "-1", "{formula}"], "--share-size"),
+                         (["--seed", "1.5", "{formula}"], "--seed"), (["--lrupd", "{work}/none", "{formula}"], "none"),
+                         (["--lrupd", "{work}", "{formula}"], ""), (["--proofs", "{work}/none/none", "{formula}"], "none/none"),
+                         (["--proofs", "{formula}", "{formula}"], "stream1")):
+        runs.append((" ".join(["lrup-solve", *words]), refused, words, cause))
+    for text, words in (("", []), ("p cnf 2\n", []), ("p cnf 2 1\n1 x 0\n", []), ("p cnf 2 2\n1 0\n", []), ("p cnf 2 1\n1 0\n2 0\n", []),
+                        ("p cnf 2 1\n1 3 0\n", []), ("p cnf 2 1\n1 2\n", []), ("1 2 0\n", []), ("p cnf 99999999 1\n1 0\n", []),
+                        (FOUR, ["--assume", "{work}/bad"]), (FOUR, ["--assume", "{work}/beyond"]), (FOUR, ["--assume", "{work}/none"]),
+                        (FOUR, ["--assume", "{work}"])):
+        runs.append((" ".join(["refused", repr(text[:20]), *words]), refused_by_lrupd, text, words))
+    return runs
+
+
+def what_happens():
+    kill, term = signal.SIGKILL, signal.SIGTERM
+    runs = [("lrupd killed", killed, ["lrupd"], kill, 0, "lrupd ended by a signal"),
+            ("engine 1 killed", killed, ["engine 1"], kill, 20, "engine 1 is lost"),
+            ("engine 2 killed", killed, ["engine 2"], term, 20, "engine 2 is lost"),
+            ("filter 1 killed", killed, ["filter 1"], kill, 20, "engine 1 is lost"),
+            ("filter 2 killed", killed, ["filter 2"], term, 20, "engine 2 is lost"),
+            ("an engine and a filter killed", killed, ["engine 1", "filter 2"], kill, 0, "no engine is left"),
+            ("the first process killed", left_alone), ("time", time_is_up), ("a full row", row_is_full), ("rows", rows_grow),
+            ("a full disk for streams", full, ["--proofs", "{work}"], os.devnull, "No space left"),
+            ("a full disk for the answer", full, [], "/dev/full", "cannot write the answer"),
+            ("a closed output", closed, "bmc.cnf", ">&-"), ("a closed output, satisfiable", closed, "assumed.cnf", ">&-"),
+            ("a reader that left", reader_left), ("progress", progress, [], True), ("no progress", progress, ["-q"], False)]
+    runs += [(f"signal {number}", ended_by, number) for number in (signal.SIGINT, signal.SIGTERM, signal.SIGHUP)]
+    for body, cause in (("exit 3", "lrupd hasn't taken the proof"), ("exit 6", "ended with status 6"), ("exit 10", "ended with status 10"),
+                        ("echo s UNSATISFIABLE; exit 3", "lrupd hasn't taken the proof"), ("kill -9 $$", "ended by a signal"),
+                        ("echo 'c stream 1: 0 added, 0 deleted, bad line 1 (missing 555)'; echo s UNKNOWN; exit 3", "missing 555")):
+        runs.append((f"another lrupd: {body}", impostor, body, cause))
+    return runs
+
+
+def sharing():
+    lost = r"is lost: .*no conflict by unit propagation"
+    return [("witnesses", rests_on, "guard", 60, lost, (140, 200), ELIMINATING),
+            ("imports first", rests_on, "order", 60, r"is lost: its filter stopped: ", (60, 140), EARLY),
+            ("kept clauses", rests_on, "keeping", 60, r"bad line \d+ \(retired ", (60, 140), EARLY),
+            ("published late", published_late)]
+
+
+def build():
+    """None, or why there is nothing to be tested."""
+    made = [subprocess.run(["make", "-s", "-C", ROOT, "solve", f"SOLVE={os.path.relpath(path, ROOT)}", f"SOLVE_FLAGS={flags}"],
+                           capture_output=True, text=True) for path, flags in ((SOLVE, FLAGS), (TESTED, FLAGS + " -DSOLVE_TESTS"))]
+    failed = [done for done in made if done.returncode]
+    if not failed:
+        return None
+    said = failed[0].stdout + failed[0].stderr
+    if "libcadical-dev" in said:
+        return said.splitlines()[0]
+    sys.exit(said)
+
+
+def main():
+    global PROGRAM
+    if len(sys.argv) not in (2, 3):
+        sys.exit(__doc__)
+    PROGRAM = os.path.abspath(sys.argv[1])
+    runs = known() + words_and_files() + what_happens() + sharing() + [(f"random {seed}", randomly, seed) for seed in range(300)]
+    cause = build()
+    if cause:
+        print(f"lrup-solve: skipped, {cause}")
+        print(f"0 passed, 0 failed, {len(runs)} skipped")
+        return 0
+    return run_all(runs)
+
+
+sys.exit(main())
