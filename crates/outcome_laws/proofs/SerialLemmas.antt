@@ -1,7 +1,6 @@
 -- Outcomes of the program on one thread.
-use Rattle.std.proofs.Common.{◌≡◌, ◌⊎◌, ◌-◌, ◌+◌, ℕ, zero, suc, Bool, true, List, [], ◌∷◌, length, map, Some, inl, inr, refl, sym, ap, subst, ◌∙◌, arith}
+use Rattle.std.proofs.Common.{◌≡◌, ◌⊎◌, ◌-◌, ◌+◌, ℕ, zero, suc, true, List, [], ◌∷◌, length, map, Some, inl, inr, refl, sym, ap, subst, ◌∙◌, arith}
 use Rattle.std.specs.Prelude.{IsTrue, slice_get}
-use Rattle.std.proofs.lemmas.List.{length-map}
 use Rattle.std.proofs.lemmas.Option.{slice_get_within, slice_get_cases}
 use Rattle.lrup_model.specs.Cube.{CubeValue}
 use Rattle.lrup_model.specs.Formula.{Cnf}
@@ -10,7 +9,7 @@ use Rattle.stream_check.specs.declared.report.Report.{Report}
 use Rattle.stream_check.specs.Laws.{IsOfMemory, IsOfFailure}
 use Rattle.runs.specs.Closed.{IsOfStream}
 use Rattle.runs.specs.Streams.{Telling, StandsOnStreams, TermsValue}
-use Rattle.runs.specs.StreamLemmas.{same_at, told_as_many}
+use Rattle.runs.specs.StreamLemmas.{same_at}
 use Rattle.runs.specs.Turns.{IsByTurns, IsOrderedByTurns}
 use Rattle.run_laws.specs.GroupLaws.{SerialRun}
 use Rattle.run_laws.specs.Right.{right_report}
@@ -20,11 +19,10 @@ use Rattle.run_laws.specs.TurnsLaws.{BytesDecide, HaveSameBytes, NoneCutShort, R
 use Rattle.portfolio.specs.Outcomes.{OptionsValue, layout_of, verdict_of}
 use Rattle.portfolio.specs.declared.outcome.Verdict.{Verdict}
 use Rattle.portfolio.specs.declared.outcome.Verdict.TheVariants.{Unsatisfiable}
-use Rattle.command_line.specs.declared.words.CommandLine.{CommandLine}
-use Rattle.command.specs.Commands.{AreReported, EndsWithReport, FilesView, IsOutcome, SinkChange, Text, layout_at, options_of, terms_given}
+use Rattle.command.specs.Commands.{EndsWithReport, FilesView, IsOutcome, SinkChange, Text, layout_at, options_of, terms_given}
 use Rattle.outcome_laws.specs.Laws.{SameWordsAskAlike}
 use Rattle.outcome_laws.specs.Right.{AskForRightOrder, IsCutOff, IsExcused}
-use Rattle.outcome_laws.specs.Serial.{AskForSameTurns, RightTurnsSay, SerialOutcomesAgree}
+use Rattle.outcome_laws.specs.Serial.{RightTurnsSay, SerialOutcomesAgree}
 use Rattle.outcome_laws.proofs.OutcomeLemmas.{OneFormula, is_text, told_in, telling_of_file, told_length, turns_of}
 use Rattle.outcome_laws.proofs.RightLemmas.{NoFormulaFault, IsOf, is_of, comes_to, has_report, have_texts, said_of, when_said, when_lost, without_report}
 
