@@ -761,6 +761,7 @@ buffer isn't empty; if it is `Err`, what is known is as it was
 `Text` the bytes of a word
 `codes "p"` the bytes of the text p
 `concat xss` the lists, one after the other
+`count_by f xs` how many elements pass the test
 `decimal n` n in decimal, without leading zeros
 `fault_of app words` the errors that the command finds in the words, asking for help among them: `[]` if there is none
 `filter f xs` the elements that pass the test
@@ -940,7 +941,8 @@ SERIALIZABLE_PHRASES = [
      are one after the other a legal history, [[IsOrdered: legal : IsLegal f terms.layout (events_in blocks)]]."""),
     ("one thread that takes whole lines", """a block is one stream's, [[IsBlockWithin: AllByRecursion (λ e. stream_of e ≡
      block.stream) block.events]], and has all events of one line, [[AreGood: JudgesLine c (standing_of c before) line block
-     Good]], or of the bad one that ends the stream, [[EndsAfter: (one_block : blocks ≡ block ∷ [])]]. That is what [[fn run_serial]] promises: [[fn run_serial.ordered: IsOrdered formula.now terms (λ s. true) streams
+     Good]], or of the bad one that ends the stream, [[EndsAfter: (one_block : blocks ≡ block ∷ [])]]. That is what [[fn run_serial]]
+     promises, where the lines come by turns: [[fn run_serial.ordered: IsOrderedByTurns formula.now terms streams
      outcome.reports.items]]."""),
     ("gives the same reports", """[[IsOrdered: judged : AreJudged terms set]], with the run's `reports`: each stream is
      judged by its own blocks in their order, [[IsOrdered: own_blocks ≡ blocks_of t blocks]]."""),

@@ -1,5 +1,5 @@
 -- The blocks of a run by turns: those of one turn more, and the rounds.
-use Rattle.std.proofs.Common.{◌≡◌, ◌≢◌, ◌↔◌, IsSome, IfSome, IsTrue, ℕ, zero, suc, ◌+◌, ◌-◌, ◌<◌, ◌≤◌, Bool, true, false, List, [], ◌∷◌, ◌++◌, length, get_or, set, slice_get, Option, Some, None, refl, sym, ap, subst, ◌∙◌, inl, inr, arith, length-append, append-nil, eqb, eq-eqb, ne_eqb}
+use Rattle.std.proofs.Common.{◌≡◌, ◌≢◌, IsSome, ℕ, zero, suc, ◌+◌, ◌-◌, ◌<◌, ◌≤◌, true, false, List, [], ◌∷◌, ◌++◌, length, set, slice_get, Option, Some, None, refl, sym, ap, subst, ◌∙◌, inl, inr, arith, append-nil, eqb, eq-eqb, ne_eqb}
 use Rattle.std.specs.List.{AllByRecursion}
 use Rattle.std.proofs.lemmas.Bool.{cases_eq, cases_lt, cond-true, cond-false}
 use Rattle.std.proofs.lemmas.Grind.{flat_map-append}
@@ -13,7 +13,7 @@ use Rattle.runs.specs.Closed.{IsOfStream}
 use Rattle.runs.specs.Streams.{Block, blocks_of, events_in, IsBlockWithin}
 use Rattle.runs.specs.StreamLemmas.{same_at}
 use Rattle.runs.specs.TurnLemmas.{blocks_of-append, lines_beside, lines_pushed, streams_of-push, turns-pushed}
-use Rattle.runs.specs.Turns.{IsByTurns, IsTurnOf, lines_of, streams_of}
+use Rattle.runs.specs.Turns.{IsByTurns, IsTurnOf, line_count, streams_of}
 use Rattle.portfolio.specs.Turns.{IsInRound}
 use Rattle.portfolio.specs.Working.{AreBlocksOfTurn, WorkerValue}
 
@@ -79,20 +79,20 @@ just_one None bs going are = are
 just_one (Some ending) bs going are = cc
 
 -- at most one line more of stream s
-own_lines : (s : ℕ) (blocks : List Block) (bs : List History) → length bs ≤ 1 → lines_of s (streams_of (blocks ++ tagged s bs)) ≡ lines_of s (streams_of blocks) + length bs
+own_lines : (s : ℕ) (blocks : List Block) (bs : List History) → length bs ≤ 1 → line_count s (streams_of (blocks ++ tagged s bs)) ≡ line_count s (streams_of blocks) + length bs
 unfolding tagged
-own_lines s blocks [] few = omega (arith, ap (λ (xs : List Block). lines_of s (streams_of xs)) (append-nil blocks))
+own_lines s blocks [] few = omega (arith, ap (λ (xs : List Block). line_count s (streams_of xs)) (append-nil blocks))
 own_lines s blocks (b ∷ []) few =
     let block : Block = record { stream = s; events = b } in
-    ap (lines_of s) (streams_of-push blocks block) ∙ lines_pushed (streams_of blocks) s
+    ap (line_count s) (streams_of-push blocks block) ∙ lines_pushed (streams_of blocks) s
 own_lines s blocks (b ∷ c ∷ bs) few = absurd (omega (arith, few))
 
-other_lines : (s t : ℕ) (blocks : List Block) (bs : List History) → length bs ≤ 1 → s ≢ t → lines_of t (streams_of (blocks ++ tagged s bs)) ≡ lines_of t (streams_of blocks)
+other_lines : (s t : ℕ) (blocks : List Block) (bs : List History) → length bs ≤ 1 → s ≢ t → line_count t (streams_of (blocks ++ tagged s bs)) ≡ line_count t (streams_of blocks)
 unfolding tagged
-other_lines s t blocks [] few other = ap (λ (xs : List Block). lines_of t (streams_of xs)) (append-nil blocks)
+other_lines s t blocks [] few other = ap (λ (xs : List Block). line_count t (streams_of xs)) (append-nil blocks)
 other_lines s t blocks (b ∷ []) few other =
     let block : Block = record { stream = s; events = b } in
-    ap (lines_of t) (streams_of-push blocks block) ∙ lines_beside (streams_of blocks) s t other
+    ap (line_count t) (streams_of-push blocks block) ∙ lines_beside (streams_of blocks) s t other
 other_lines s t blocks (b ∷ c ∷ bs) few other = absurd (omega (arith, few))
 
 turn_taken : (s : ℕ) (blocks : List Block) (bs : List History) → length bs ≤ 1 → IsByTurns (streams_of blocks) → IsTurnOf s (streams_of blocks) → IsByTurns (streams_of (blocks ++ tagged s bs))
@@ -144,13 +144,13 @@ module _ {S : Type 0} where
     -- after the turn of stream i + 1, which isn't over before
     pub round_turned : (v : WorkerValue S) (bs : List History) → w.checker.ending ≡ None → AreBlocksOfTurn v.checker.ending bs → IsInRound rounds (i + 1) (streams_of (blocks ++ tagged (i + 1) bs)) (set ws i v)
     round_turned v bs going are =
-        let own : lines_of (i + 1) (streams_of blocks) ≡ rounds = now.going_behind (i + 1) w (stream_at ws i w at) going (omega arith) in
+        let own : line_count (i + 1) (streams_of blocks) ≡ rounds = now.going_behind (i + 1) w (stream_at ws i w at) going (omega arith) in
         let few : length bs ≤ 1 = at_most_one v.checker.ending bs are in
         let all = streams_of (blocks ++ tagged (i + 1) bs) in
         let set_at : IsOfStream (set ws i v) (i + 1) v = stream_at (set ws i v) i v (at_set ws i v (slice_get_within ws i w at)) in
         record {
           before = λ s most. elim (cases_eq (i + 1) s) [
-            | inl is ↦ subst (λ t. lines_of t all ≤ rounds + 1) is (omega (arith, own_lines (i + 1) blocks bs few, own, few))
+            | inl is ↦ subst (λ t. line_count t all ≤ rounds + 1) is (omega (arith, own_lines (i + 1) blocks bs few, own, few))
             | inr other ↦ omega (arith, other_lines (i + 1) s blocks bs few other, now.before s (omega (arith, most, other)))
           ];
           behind = λ s more. omega (arith, other_lines (i + 1) s blocks bs few (λ is. omega (arith, is, more)), now.behind s (omega (arith, more)));
@@ -158,7 +158,7 @@ module _ {S : Type 0} where
             | inl is ↦
                 let same : v ≡ u = same_at (set ws i v) s v u (subst (λ t. IsOfStream (set ws i v) t v) is set_at) here in
                 let one : length bs ≡ 1 = just_one v.checker.ending bs (ap (λ (x : WorkerValue S). x.checker.ending) same ∙ still) are in
-                subst (λ t. lines_of t all ≡ rounds + 1) is (omega (arith, own_lines (i + 1) blocks bs few, own, one))
+                subst (λ t. line_count t all ≡ rounds + 1) is (omega (arith, own_lines (i + 1) blocks bs few, own, one))
             | inr other ↦ omega (arith, other_lines (i + 1) s blocks bs few other, now.going_before s u (stream_beside ws i s v u other here) still (omega (arith, most, other)))
           ];
           going_behind = λ s u here still more.

@@ -1,5 +1,5 @@
 -- The streams of a run on one thread, between two turns (this project's own).
-use Rattle.std.specs.Prelude.{◌≡◌, ◌+◌, ◌≤◌, ◌<◌, ℕ, true, List, [], ◌∷◌, length, Option, None, Some, IsSome, IfSome, slice_get}
+use Rattle.std.specs.Prelude.{◌≡◌, ◌+◌, ◌≤◌, ◌<◌, ℕ, true, List, [], ◌∷◌, length, None, Some, IsSome, IfSome, slice_get}
 use Rattle.std.specs.List.{AllByRecursion}
 use Rattle.lrup_model.specs.Formula.{Cnf}
 use Rattle.lrup_model.specs.Layout.{LayoutValue, IsStream}
@@ -13,7 +13,7 @@ use Rattle.stream_check.specs.CheckerValue.{report_of_tally}
 use Rattle.stream_check.specs.Checker.{IsReadyAt}
 use Rattle.runs.specs.Closed.{IsOfStream}
 use Rattle.runs.specs.Streams.{Block, blocks_of, events_in, IsBlockWithin, TermsValue, setting_of}
-use Rattle.runs.specs.Turns.{IsByTurns, lines_of, streams_of}
+use Rattle.runs.specs.Turns.{IsByTurns, line_count, streams_of}
 use Rattle.lrup_text.specs.ReadOut.{SourceView}
 use Rattle.portfolio.specs.Working.{WorkerValue, Works, IsStarted}
 
@@ -45,12 +45,12 @@ AreWorking view terms blocks map s _ _ = ⊥
 -- one that isn't over has as many, and the order is by turns.
 pub record IsInRound {S : Type 0} (rounds taken : ℕ) (order : List ℕ)
     (workers : List (WorkerValue S)) : Type 0 where
-  pub before : (s : ℕ) → s ≤ taken → lines_of s order ≤ rounds + 1
-  pub behind : (s : ℕ) → taken < s → lines_of s order ≤ rounds
+  pub before : (s : ℕ) → s ≤ taken → line_count s order ≤ rounds + 1
+  pub behind : (s : ℕ) → taken < s → line_count s order ≤ rounds
   pub going_before : (s : ℕ) (w : WorkerValue S) → IsOfStream workers s w
-      → w.checker.ending ≡ None → s ≤ taken → lines_of s order ≡ rounds + 1
+      → w.checker.ending ≡ None → s ≤ taken → line_count s order ≡ rounds + 1
   pub going_behind : (s : ℕ) (w : WorkerValue S) → IsOfStream workers s w
-      → w.checker.ending ≡ None → taken < s → lines_of s order ≡ rounds
+      → w.checker.ending ≡ None → taken < s → line_count s order ≡ rounds
   pub turns : IsByTurns order
 
 -- A run between two turns, where so many streams have had theirs in this round: its map is that of the blocks so far, and each

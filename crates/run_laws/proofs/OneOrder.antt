@@ -7,33 +7,32 @@ use Rattle.lrup_model.specs.Event.{History}
 use Rattle.lrup_model.specs.Formula.{Cnf}
 use Rattle.lrup_model.specs.History.{LegalFrom}
 use Rattle.lrup_model.specs.HistoryLemmas.{legal-back}
-use Rattle.lrup_model.specs.Layout.{LayoutValue, IsStream}
+use Rattle.lrup_model.specs.Layout.{IsStream}
 use Rattle.lrup_model.specs.State.{State, opening, run}
 use Rattle.lrup_text.specs.declared.device.StreamEnd.{StreamEnd}
 use Rattle.stream_check.specs.declared.report.Report.{Report}
-use Rattle.stream_check.specs.Forks.{NeverFork}
-use Rattle.stream_check.specs.Judging.{joined, JudgesBlocks}
-use Rattle.stream_check.specs.Laws.{BlocksGoAlike, GoAlike, IsOfMemory, LegalNeverFork, OneReport}
+use Rattle.stream_check.specs.Judging.{JudgesBlocks}
+use Rattle.stream_check.specs.Laws.{BlocksGoAlike, GoAlike, IsOfMemory, LegalNeverFork}
 use Rattle.stream_check.specs.Setting.{Setting}
 use Rattle.runs.specs.Streams.{Block, blocks_of, events_in, IsBlockWithin, TermsValue, setting_of}
 use Rattle.runs.specs.StreamLemmas.{blocks-same, blocks-other}
 use Rattle.runs.specs.TurnLemmas.{blocks_of-append, lines_before, lines_beside, lines_pushed, streams_of-push}
-use Rattle.runs.specs.Turns.{AreTurns, IsByTurns, IsTurnOf, lines_of, streams_of}
+use Rattle.runs.specs.Turns.{AreTurns, IsByTurns, IsTurnOf, line_count, streams_of}
 
 -- Turns
 
-lines_own : (s : ℕ) (order : List ℕ) → lines_of s (s ∷ order) ≡ 1 + lines_of s order
+lines_own : (s : ℕ) (order : List ℕ) → line_count s (s ∷ order) ≡ 1 + line_count s order
 lines_own s order =
     let one : ◌≡◌ {A = ℕ} (cond (eqb s s) 1 0) 1 = ap (λ (b : Bool). cond {A = ℕ} b 1 0) (eq-eqb s s refl) in
     omega (arith, sum_by-cons (λ t. cond (eqb t s) 1 0) s order, one)
 
-lines_other : (t s : ℕ) (order : List ℕ) → t ≢ s → lines_of s (t ∷ order) ≡ lines_of s order
+lines_other : (t s : ℕ) (order : List ℕ) → t ≢ s → line_count s (t ∷ order) ≡ line_count s order
 lines_other t s order other =
     let none : ◌≡◌ {A = ℕ} (cond (eqb t s) 1 0) 0 = ap (λ (b : Bool). cond {A = ℕ} b 1 0) (ne_eqb t s other) in
     omega (arith, sum_by-cons (λ u. cond (eqb u s) 1 0) t order, none)
 
 -- where a stream has a line left no other is ahead of it
-waits : (before order : List ℕ) (t : ℕ) → AreTurns before order → 0 < lines_of t order → IsTurnOf t before
+waits : (before order : List ℕ) (t : ℕ) → AreTurns before order → 0 < line_count t order → IsTurnOf t before
 waits before [] t turns some = absurd (omega (arith, some))
 waits before (s ∷ order) t turns some = elim (cases_eq s t) [
   | inl same ↦ subst (λ u. IsTurnOf u before) same turns.0
@@ -47,8 +46,8 @@ waits before (s ∷ order) t turns some = elim (cases_eq s t) [
 ]
 
 -- so it is where the next line is another stream's, which then is ahead
-waits_for : (before order : List ℕ) (s t : ℕ) → AreTurns before (s ∷ order) → s ≢ t → 0 < lines_of t (s ∷ order)
-    → (t ≤ s → lines_of s before + 1 ≤ lines_of t before) × (s < t → lines_of s before ≤ lines_of t before)
+waits_for : (before order : List ℕ) (s t : ℕ) → AreTurns before (s ∷ order) → s ≢ t → 0 < line_count t (s ∷ order)
+    → (t ≤ s → line_count s before + 1 ≤ line_count t before) × (s < t → line_count s before ≤ line_count t before)
 waits_for before order s t turns other some =
     let later = waits (before ++ s ∷ []) order t turns.1 (omega (arith, some, lines_other s t order other)) s in
     let mine = lines_pushed before s in
@@ -59,7 +58,7 @@ waits_for before order s t turns other some =
 
 -- two orders go on with the same stream, where each of the two has a line left in both
 same_turn : (before xs ys : List ℕ) (s t : ℕ) → AreTurns before (s ∷ xs) → AreTurns before (t ∷ ys)
-    → 0 < lines_of t (s ∷ xs) → 0 < lines_of s (t ∷ ys) → s ≡ t
+    → 0 < line_count t (s ∷ xs) → 0 < line_count s (t ∷ ys) → s ≡ t
 same_turn before xs ys s t turns others left too = elim (cases_eq s t) [
   | inl same ↦ same
   | inr other ↦
@@ -72,12 +71,12 @@ same_turn before xs ys s t turns others left too = elim (cases_eq s t) [
 ]
 
 -- a stream's lines are its blocks
-lines_are : (s : ℕ) (blocks : List Block) → lines_of s (streams_of blocks) ≡ length (blocks_of s blocks)
+lines_are : (s : ℕ) (blocks : List Block) → line_count s (streams_of blocks) ≡ length (blocks_of s blocks)
 lines_are s [] = refl
 lines_are s (x ∷ blocks) = elim (cases_eq x.stream s) [
   | inl same ↦
-      let own : lines_of s (x.stream ∷ streams_of blocks) ≡ 1 + lines_of s (streams_of blocks) =
-      subst (λ t. lines_of s (t ∷ streams_of blocks) ≡ 1 + lines_of s (streams_of blocks)) (sym same) (lines_own s (streams_of blocks)) in
+      let own : line_count s (x.stream ∷ streams_of blocks) ≡ 1 + line_count s (streams_of blocks) =
+      subst (λ t. line_count s (t ∷ streams_of blocks) ≡ 1 + line_count s (streams_of blocks)) (sym same) (lines_own s (streams_of blocks)) in
       omega (arith, own, lines_are s blocks, ap (λ (bs : List History). length bs) (blocks-same x blocks s same))
   | inr other ↦
       omega (arith, lines_other x.stream s (streams_of blocks) other, lines_are s blocks, ap (λ (bs : List History). length bs) (blocks-other x blocks s other))
@@ -130,7 +129,7 @@ module _ (alike : BlocksGoAlike) (forks : LegalNeverFork) (f : Cnf) (terms : Ter
 
   -- where the stream of a line of one order has a line left, it has one in the other
   left_in_both : (before xs ys : List Block) (s : ℕ) → IsStream terms.layout s → ps ≡ before ++ xs → qs ≡ before ++ ys
-      → (0 < lines_of s (streams_of xs) → 0 < lines_of s (streams_of ys)) × (0 < lines_of s (streams_of ys) → 0 < lines_of s (streams_of xs))
+      → (0 < line_count s (streams_of xs) → 0 < line_count s (streams_of ys)) × (0 < line_count s (streams_of ys) → 0 < line_count s (streams_of xs))
   left_in_both before xs ys s stream is also =
       let go = alike_at before xs ys s stream is also in (
         λ some. omega (arith, lines_are s ys, alike_some (blocks_of s xs) (blocks_of s ys) go (omega (arith, some, lines_are s xs))),

@@ -1,21 +1,19 @@
 -- Streams that are right together, by turns, on one thread.
-use Rattle.std.proofs.Common.{◌≡◌, ℕ, ◌+◌, ◌-◌, true, List, [], ◌++◌, length, map, Option, Some, refl, sym, ap, subst, ◌∙◌, arith}
+use Rattle.std.proofs.Common.{◌≡◌, ℕ, ◌-◌, List, [], ◌++◌, length, map, Option, refl, sym, ap, subst, ◌∙◌, arith}
 use Rattle.std.specs.List.{flat_map}
 use Rattle.std.specs.Io.KnownBytes.{Consumes}
 use Rattle.std.proofs.lemmas.Option.{slice_get_within}
-use Rattle.lrup_model.specs.Event.{History}
 use Rattle.lrup_model.specs.Formula.{Cnf}
 use Rattle.lrup_model.specs.Laws.{PropagationSound}
 use Rattle.lrup_text.specs.Laws.{EmptyCut, OneCut}
 use Rattle.lrup_text.specs.Lines.{line_text}
 use Rattle.lrup_text.specs.declared.device.StreamEnd.TheVariants as stream_ends
-use Rattle.stream_check.specs.declared.report.Ending.{Ending}
 use Rattle.stream_check.specs.declared.report.Ending.TheVariants as endings
 use Rattle.stream_check.specs.declared.report.Report.{Report}
 use Rattle.stream_check.specs.Judging.{JudgesBlocks}
 use Rattle.stream_check.specs.Laws.{BlocksGoAlike, DecidedBeforeFailure, EndJudged, FreshLeft, GoodExactlyIf, GoodLineTaken, IsOfMemory, LegalNeverFork, OneReport}
 use Rattle.runs.specs.Closed.{IsOfStream}
-use Rattle.runs.specs.Streams.{Stream, Block, blocks_of, TermsValue, setting_of}
+use Rattle.runs.specs.Streams.{Block, blocks_of, TermsValue, setting_of}
 use Rattle.runs.specs.StreamLemmas.{judged_out, told_count}
 use Rattle.runs.specs.Turns.{IsByTurns, IsOrderedByTurns}
 use Rattle.run_laws.specs.Right.{right_report}

@@ -1,22 +1,18 @@
 -- Two runs on one thread over the same bytes.
-use Rattle.std.proofs.Common.{◌≡◌, ◌<◌, ◌≤◌, ◌+◌, ◌-◌, ℕ, zero, suc, true, List, [], ◌∷◌, ◌++◌, length, Option, Some, refl, sym, ap, ap₂, subst, ◌∙◌, arith}
-use Rattle.std.specs.Prelude.{IsTrue, slice_get}
-use Rattle.std.specs.List.{AllZip}
+use Rattle.std.proofs.Common.{◌≡◌, ◌+◌, ◌-◌, ℕ, zero, suc, true, List, [], ◌∷◌, ◌++◌, length, Option, Some, refl, sym, ap, ap₂, subst, ◌∙◌, arith}
+use Rattle.std.specs.Prelude.{slice_get}
 use Rattle.std.specs.Io.KnownBytes.{Consumes}
 use Rattle.std.proofs.lemmas.Option.{slice_get_within}
 use Rattle.lrup_model.specs.Event.{History}
 use Rattle.lrup_model.specs.Formula.{Cnf}
-use Rattle.lrup_model.specs.Layout.{IsStream}
-use Rattle.lrup_text.specs.declared.device.StreamEnd.{StreamEnd}
 use Rattle.lrup_text.specs.declared.device.StreamEnd.TheVariants as stream_ends
 use Rattle.stream_check.specs.declared.report.Report.{Report}
-use Rattle.stream_check.specs.Judging.{joined, JudgesBlocks}
-use Rattle.stream_check.specs.Laws.{BlocksGoAlike, DecidedBeforeFailure, IsOfMemory, LegalNeverFork, OneReport, OverStays}
+use Rattle.stream_check.specs.Judging.{joined}
+use Rattle.stream_check.specs.Laws.{BlocksGoAlike, DecidedBeforeFailure, LegalNeverFork, OneReport, OverStays}
 use Rattle.runs.specs.Closed.{IsOfStream}
-use Rattle.runs.specs.Streams.{Stream, Telling, IsTold, JudgesStream, blocks_of, AreJudged, TermsValue, setting_of}
+use Rattle.runs.specs.Streams.{Stream, JudgesStream, blocks_of, AreJudged, TermsValue, setting_of}
 use Rattle.runs.specs.StreamLemmas.{told_count}
 use Rattle.runs.specs.Turns.{IsOrderedByTurns}
-use Rattle.run_laws.specs.Groups.{IsReadingOf}
 use Rattle.run_laws.specs.TurnsLaws.{BytesDecide, TurnsDecide}
 use Rattle.run_laws.proofs.AloneLemmas.{judged_whole}
 use Rattle.run_laws.proofs.OneOrder.{JudgedTwice, same_order}

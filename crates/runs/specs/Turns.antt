@@ -1,17 +1,17 @@
 -- Which order of lines a run on one thread has: by turns (this project's own).
-use Rattle.std.specs.Prelude.{◌≡◌, ◌==◌, ◌+◌, ◌++◌, ◌<◌, ◌≤◌, ℕ, true, List, [], ◌∷◌, map, count_by}
+use Rattle.std.specs.Prelude.{◌==◌, ◌+◌, ◌++◌, ◌<◌, ◌≤◌, ℕ, true, List, [], ◌∷◌, map, count_by}
 use Rattle.lrup_model.specs.Formula.{Cnf}
 use Rattle.stream_check.specs.declared.report.Report.{Report}
 use Rattle.runs.specs.Streams.{Stream, Block, IsOrdered, TermsValue}
 
 -- An order of lines is given here by their streams, from 1 on. So many of them are stream s's.
-abbrev pub lines_of : ℕ → List ℕ → ℕ
-lines_of s order = count_by (λ t. t == s) order
+abbrev pub line_count : ℕ → List ℕ → ℕ
+line_count s order = count_by (λ t. t == s) order
 
 -- After these lines stream s may have a turn: no stream has had more lines, but those counted before s may have had one more.
 abbrev pub IsTurnOf : ℕ → List ℕ → Type 0
-IsTurnOf s before = (t : ℕ) → (s ≤ t → lines_of t before ≤ lines_of s before)
-    × (t < s → lines_of t before ≤ lines_of s before + 1)
+IsTurnOf s before = (t : ℕ) → (s ≤ t → line_count t before ≤ line_count s before)
+    × (t < s → line_count t before ≤ line_count s before + 1)
 
 -- after the lines before them, each was taken when its stream might have a turn
 abbrev pub AreTurns : List ℕ → List ℕ → Type 0

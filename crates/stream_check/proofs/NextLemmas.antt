@@ -1,5 +1,5 @@
 -- A stream that is judged twice, whose blocks begin alike.
-use Rattle.std.proofs.Common.{◌≡◌, ◌⊎◌, ℕ, List, [], ◌∷◌, ◌++◌, length, inl, inr, refl, sym, ap, subst, ◌∙◌, append_assoc, append-nil}
+use Rattle.std.proofs.Common.{◌≡◌, ◌⊎◌, ℕ, List, [], ◌∷◌, ◌++◌, length, inl, inr, refl, sym, subst, ◌∙◌, append-nil}
 use Rattle.std.specs.List.{AllByRecursion, flat_map}
 use Rattle.lrup_model.specs.Event.{History}
 use Rattle.lrup_text.specs.Lines.{StreamLine, IsWithinLimits, line_text, HasNoLine}

@@ -1,19 +1,19 @@
 use Rattle.std.proofs.Common.{◌≡◌, ◌≤◌, ◌+◌, ◌++◌, ℕ, List, [], ◌∷◌, inl, inr, subst, arith}
 use Rattle.std.proofs.lemmas.Bool.{cases_eq}
 use Rattle.runs.specs.TurnLemmas.{lines_beside, lines_pushed}
-use Rattle.runs.specs.Turns.{lines_of}
+use Rattle.runs.specs.Turns.{line_count}
 use Rattle.run_laws_tests.proofs.worked.lines_go_round.Goals as goal
 
 -- one line is one more of its stream's
-one_more : (order : List ℕ) (s t : ℕ) → lines_of t (order ++ s ∷ []) ≤ lines_of t order + 1
+one_more : (order : List ℕ) (s t : ℕ) → line_count t (order ++ s ∷ []) ≤ line_count t order + 1
 one_more order s t = elim (cases_eq s t) [
-  | inl same ↦ subst (λ u. lines_of u (order ++ s ∷ []) ≤ lines_of u order + 1) same (omega (arith, lines_pushed order s))
+  | inl same ↦ subst (λ u. line_count u (order ++ s ∷ []) ≤ line_count u order + 1) same (omega (arith, lines_pushed order s))
   | inr other ↦ omega (arith, lines_beside order s t other)
 ]
 
-after_both : (t : ℕ) → lines_of t (1 ∷ 2 ∷ []) ≤ 1
+after_both : (t : ℕ) → line_count t (1 ∷ 2 ∷ []) ≤ 1
 after_both t = elim (cases_eq 2 t) [
-  | inl same ↦ subst (λ u. lines_of u (1 ∷ 2 ∷ []) ≤ 1) same (omega arith)
+  | inl same ↦ subst (λ u. line_count u (1 ∷ 2 ∷ []) ≤ 1) same (omega arith)
   | inr other ↦ omega (arith, lines_beside (1 ∷ []) 2 t other, one_more [] 1 t)
 ]
 
