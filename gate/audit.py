@@ -990,7 +990,8 @@ RIGHT_PHRASES = [
     ("each stream ends so, or a line of it cites a clause of another stream that wasn't there, or wasn't any more", """the law [[law
      right_together]], [[RightTogether: (report ≡ right_report terms s (lines_by s steps)) ⊎ LacksOfAnother (setting_of terms s)
      report]]. No order is needed where some legal history judges them and this stream ended: the law [[law no_false_blame]]. Where
-     more comes behind the lines, the report tells at least what they do: the law [[law together_begins]]."""),
+     more comes behind the lines, the report tells at least what they do, or is of such an ending in these lines: the law
+     [[law together_begins]], [[TogetherBegins: LacksOfAnotherIn (setting_of terms s) (length (lines_by s steps)) report]]."""),
     ("with `--serial`, where that order is by turns, each ends", """the law [[law right_by_turns]], of runs whose order is by turns
      ([[IsByTurns]]), as that of [[fn run_serial.ordered]] is. Any two such runs of the same bytes have the same order and
      reports: the laws [[law turns_decide]] and [[law bytes_decide]]."""),
