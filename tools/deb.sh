@@ -60,6 +60,7 @@ Description: proved checker of the proofs of SAT solvers that share clauses
  lrupd checks streams of LRAT lines of one or more SAT solvers while they are
  written, and answers 's UNSATISFIABLE' only if no assignment satisfies the
  formula, which is proved of it. lrup-exact, a filter that nobody has to trust,
- makes such streams of DRUP, DRAT, LRAT and FRAT proofs.
+ makes such streams of DRUP, DRAT, LRAT and FRAT proofs. lrup-solve, where it
+ was built, solves a formula and has the answer checked.
 END
 dpkg-deb --root-owner-group --build "$root" "$root/../lrupd_${version}_$(dpkg --print-architecture).deb"
