@@ -77,8 +77,8 @@ exact: c-and-python ## build: the filter that makes streams of other solvers' pr
 	@mkdir -p $(dir $(EXACT))
 	@$(CC) -std=c11 -O2 -Wall -Wextra -o $(EXACT) tools/exact/*.c
 
-# Neither verified nor trusted. lrupd is looked for beside it.
-solve: c-and-python libcadical ## build: lrup-solve, from a formula to a proved verdict, at tools/solve/out/lrup-solve
+# Neither verified nor trusted. It looks for lrupd beside it.
+solve: c-and-python libcadical ## build: lrup-solve, from a formula to a proved verdict, at tools/solve/out; wants CaDiCaL's library
 	@mkdir -p $(SOLVE).objects
 	@cd $(SOLVE).objects && $(CC) -std=c11 -D_GNU_SOURCE $(SOLVE_FLAGS) -Wall -Wextra -c $(abspath tools/solve/filtering.c $(FILTER))
 	@$(CXX) -std=c++17 $(SOLVE_FLAGS) -Wall -Wextra -o $(SOLVE) tools/solve/*.cpp $(SOLVE).objects/*.o -lcadical
@@ -91,7 +91,7 @@ filter-test: build exact ## check: the filter, with the solvers that are on the 
 	@python3 tools/test.py $(PROGRAM) && python3 tools/mutate.py $(PROGRAM)
 
 # Without CaDiCaL's library nothing is run.
-solve-test: build c-and-python ## check: lrup-solve, with all that may happen to it
+solve-test: build c-and-python ## check: lrup-solve, and what may happen to it, with 300 random formulas
 	@python3 tools/solve_test.py $(PROGRAM)
 
 neighbours: build c-and-python ## check: what is said of a good proof beside hostile streams, which never changes

@@ -25,7 +25,7 @@ COLUMNS = 100
 # What stands in backticks and isn't of this repository: the toolchain's, the system's, other programs', and what a text makes up.
 FOREIGN = set("""
 ANTT.md CONTRACTS.md SHORTER_PROOFS.md BUILD.bazel start_lib start_io proves untested --only
-cadical --plain --no-binary pv socat ssh madvise
+cadical libcadical-dev yosys -j -v -q --plain --no-binary pv socat ssh madvise
 group1 group2 my_lemma run_ serial_ worker_ XValue OPTIONS=--serial LIMIT=900
 """.split())
 
@@ -252,7 +252,7 @@ class Sources:
             if path.suffix in (".rt", ".antt"):
                 code = re.sub(r"(?<!:)//.*" if path.suffix == ".rt" else r"--.*", "", path.read_text())
                 (self.read_rattle if path.suffix == ".rt" else self.read_antt)(path, code)
-            elif path.suffix in (".c", ".h", ".py", ".sh", ".in", ".toml", ".txt", "") and path.name != "HANDLES":
+            elif path.suffix in (".c", ".cpp", ".h", ".py", ".sh", ".in", ".toml", ".txt", ".v", "") and path.name != "HANDLES":
                 code = path.read_text()
             else:
                 continue

@@ -33,6 +33,7 @@ SECONDS = 120
 EARLY = "elimint=10 probeint=10 subsumeint=10 compactint=10 reduceint=20 rephaseint=20"
 ELIMINATING = "elimint=1 compact=0"
 FOUR = "p cnf 2 4\n1 2 0\n-1 2 0\n1 -2 0\n-1 -2 0\n"
+MITERS = os.path.join(ROOT, "examples", "miter")
 ANSWERS = {0: "s UNKNOWN", 10: "s SATISFIABLE", 20: "s UNSATISFIABLE"}
 
 
@@ -383,6 +384,38 @@ def progress(words, wanted, work):
     want((len(shown) > 2, b"\n" in seen, seen.endswith(b"\r\x1b[K") if shown else True), (wanted, False, True), f"on the terminal: {seen[:300]}")
 
 
+# Formulas that nobody here wrote, of yosys.
+
+
+def miter(name, change, status, work):
+    """Two circuits, and two of which one is wrong."""
+    if not shutil.which("yosys"):
+        raise Skipped("there is no yosys on the PATH")
+    with open(os.path.join(MITERS, f"{name}.v")) as file:
+        text = file.read()
+    if change:
+        want(text.count(change[0]), 1, f"places of {change[0]}")
+        text = text.replace(*change)
+    formula = os.path.join(work, "formula.cnf")
+    subprocess.run(["sh", os.path.join(MITERS, "miter.sh"), written(text, work, "circuits.v"), formula], check=True, timeout=SECONDS,
+                   capture_output=True)
+    want_answer(solve([formula]), status, formula)
+
+
+# The documents.
+
+
+def options_told(work):
+    """--help and the manual page have the same options."""
+    summary = solve(["--help"])
+    want((summary.said, summary.status), ("", 0), "what --help says")
+    listed = re.findall(r"^  (?:(-\w), )?(--?[a-z-]+)", summary.out, re.M)
+    with open(os.path.join(ROOT, "docs", "lrup-solve.1")) as file:
+        tagged = re.findall(r"^\.It (Fl .*)$", file.read(), re.M)
+    in_manual = {"-" + word for line in tagged for word in re.findall(r"Fl ([\w-]+)", line)}
+    want(in_manual, {word for pair in listed for word in pair if word}, "options of the manual page")
+
+
 # What sharing rests on: left out, it is found out; and with it nothing of the kind happens.
 
 
@@ -495,6 +528,15 @@ def what_happens():
     return runs
 
 
+def others_formulas():
+    return [("miter of adders", miter, "adders", None, 20), ("of multipliers", miter, "multipliers", None, 20),
+            ("of sorters", miter, "sorters", None, 20),
+            ("of adders, one wrong", miter, "adders", ("(a[k] & b[k]) |", "(a[k] | b[k]) &"), 10),
+            ("of multipliers, one wrong", miter, "multipliers", (" + row5", ""), 10),
+            ("of sorters, one wrong", miter, "sorters", ("exchange second(b,", "exchange second(a,"), 10),
+            ("options told", options_told)]
+
+
 def sharing():
     lost = r"is lost: .*no conflict by unit propagation"
     return [("witnesses", rests_on, "guard", 60, lost, (140, 200), ELIMINATING),
@@ -521,7 +563,7 @@ def main():
     if len(sys.argv) not in (2, 3):
         sys.exit(__doc__)
     PROGRAM = os.path.abspath(sys.argv[1])
-    runs = known() + words_and_files() + what_happens() + sharing() + [(f"random {seed}", randomly, seed) for seed in range(300)]
+    runs = known() + words_and_files() + what_happens() + others_formulas() + sharing() + [(f"random {seed}", randomly, seed) for seed in range(300)]
     cause = build()
     if cause:
         print(f"lrup-solve: skipped, {cause}")

@@ -89,7 +89,8 @@ Row split(uint64_t words, double literals_of_a_clause) {
     return { lines, words - lines };
 }
 
-void Checker::start(const std::string &program, std::vector<std::string> words, std::vector<int> kept, const std::vector<int> &files) {
+void Checker::start(const std::string &program, std::vector<std::string> words, std::vector<int> kept,
+                    const std::vector<int> &files) {
     stop();
     for (int file : files) {
         Pipe pipe = make_pipe(STREAM_PIPE);

@@ -1,10 +1,10 @@
 // Unverified, as all of this solver. An engine's process: CaDiCaL, what it gives away, and what it takes over.
 //
 // What holds sharing together, and breaks proofs silently where it is missing:
-// - A clause over a variable that this engine eliminated or substituted isn't taken over: CaDiCaL would restore clauses that the
-//   proof has deleted, without a line. Whenever the number of active variables changed, the witnesses are asked anew.
-// - The line of an import comes before the clause is added: CaDiCaL may shorten it by what it knows at the root, and then traces
-//   the shorter clause, which follows only from the one that was taken over.
+// - A clause over a variable that this engine eliminated or substituted isn't taken over: CaDiCaL would restore clauses that
+//   the proof has deleted, without a line. Whenever the number of active variables changed, the witnesses are asked anew.
+// - The line of an import comes before the clause is added: CaDiCaL may shorten it by what it knows at the root, and then
+//   traces the shorter clause, which follows only from the one that was taken over.
 // - The filter publishes a clause only once its line went out, and never deletes one (filtering.c).
 #include <cadical.hpp>
 
@@ -56,8 +56,8 @@ private:
 
     bool shares() const { return engine.options->share && engine.options->engines > 1; }
 
-    // CaDiCaL asks right before it traces a clause that conflict analysis learned. No literals are wanted: a mark in the proof says
-    // that the next line may be given away, and the filter, which names that line, does so.
+    // CaDiCaL asks right before it traces a clause that conflict analysis learned. No literals are wanted: a mark in the proof
+    // says that the next line may be given away, and the filter, which names that line, does so.
     bool learning(int size) override {
         STORE(part.conflicts, part.conflicts + 1);
         if (shares() && size >= 2 && size <= engine.options->share_size) putc_unlocked('x', proof);

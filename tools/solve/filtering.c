@@ -1,4 +1,5 @@
-// Unverified, as all of this solver. A filter's process: tools/exact from an engine's proof to its stream, and what it gives away.
+// Unverified, as all of this solver. A filter's process: tools/exact from an engine's proof to its stream, and what it gives
+// away.
 #include <errno.h>
 #include <stdarg.h>
 #include <stdio.h>
@@ -71,9 +72,9 @@ static uint64_t waiting(int file) {
     return ioctl(file, FIONREAD, &bytes) == 0 ? (uint64_t)bytes : 0;
 }
 
-// Whole lines go to the stream's file, which outlives this process, and only then the others hear of the clauses that they derive: a
-// filter that dies with lines in its buffer would leave clauses that others cite and lrupd never gets. They were missing, after a
-// minute of waiting.
+// Whole lines go to the stream's file, which outlives this process, and only then the others hear of the clauses that they
+// derive: a filter that dies with lines in its buffer would leave clauses that others cite and lrupd never gets. They were
+// missing, after a minute of waiting.
 static void out(const char *bytes, size_t length) {
     if (!write_whole(own->stream, bytes, length)) {
         int error = errno;
@@ -139,8 +140,8 @@ static void derived(const Filter *filter) {
     refuted |= is_wanted(filter);
 }
 
-// Doesn't return. The formula was read before the fork; what the filter does with it stays in this process. Of the stream no clause
-// is ever deleted: others may cite what was given away at any time, and lrupd gives no memory back for a deletion.
+// Doesn't return. The formula was read before the fork; what the filter does with it stays in this process. Of the stream no
+// clause is ever deleted: others may cite what was given away at any time, and lrupd gives no memory back for a deletion.
 void filter_process(const Filtering *filtering, const void *formula) {
     static Filter filter;
     static const Hooks hooks = { .ends = ends, .derives = derives, .derived = derived };

@@ -4,16 +4,19 @@
 //           ^                                   |
 //           +------ outbox, shared memory <-----+    each filter writes its own, each engine reads all
 //
-// The first process reads the formula, starts the others, feeds lrupd, and watches them all. Whatever happens to one of them is an
-// event of its loop; whatever ends it ends them all. Since streams are files, in memory where they aren't kept, lrupd may start late,
-// and again: its row is made before it reads a line, and doesn't grow. A short run gets a small row, one that goes on a larger one.
+// The first process reads the formula, starts the others, feeds lrupd, and watches them all. Whatever happens to one of them is
+// an event of its loop; whatever ends it ends them all. Since streams are files, in memory where they aren't kept, lrupd may
+// start late, and again: its row is made before it reads a line, and doesn't grow. A short run gets a small row, a longer one a
+// larger one.
 #include <algorithm>
+#include <cctype>
 #include <cerrno>
 #include <cmath>
 #include <csignal>
 #include <cstdarg>
 #include <cstdio>
 #include <cstdlib>
+#include <cstring>
 
 #include <fcntl.h>
 #include <poll.h>
@@ -30,11 +33,13 @@ namespace {
 const int PROOF_PIPE = 1 << 16;
 const uint64_t MOST_WORDS = UINT64_C(1) << 28;      // of a row
 const uint64_t FIRST_WORDS = UINT64_C(1) << 24;     // of the first row's streams
-const double FILLED = 0.6;                          // of that row, and a larger one is made
+const uint64_t GROWTH = 8;                          // from row to row
+const double FILLED = 0.6;                          // of a row, and a larger one is made
 const double SHORT_RUN = 0.3;                       // seconds, before the first one is
 const double ENDING = 10;                           // seconds that a filter has for the line that it is at
 const uint64_t LONGEST_LINE = 65535;                // literals
 const double USUAL_LENGTH = 16;
+const int UNKNOWN_STATUS = 3;                       // of lrupd
 const size_t COLUMNS = 78;
 
 enum Answer { UNKNOWN_ANSWER = 0, SATISFIABLE = 10, UNSATISFIABLE = 20 };
@@ -67,10 +72,15 @@ std::string grouped(uint64_t number) {
 
 // For a shell.
 std::string quoted(const std::string &word) {
-    if (word.find_first_not_of("abcdefghijklmnopqrstuvwxyzABCDEFGHIJKLMNOPQRSTUVWXYZ0123456789-_./+=,:@%") == std::string::npos) return word;
+    auto is_plain = [](unsigned char letter) { return isalnum(letter) || strchr("-_./+=,:@%", letter); };
+    if (std::all_of(word.begin(), word.end(), is_plain)) return word;
     std::string text = "'";
     for (char letter : word) text += letter == '\'' ? std::string("'\\''") : std::string(1, letter);
     return text + "'";
+}
+
+bool is_filled(const Row &row, const Row &needed) {
+    return double(needed.lines) > FILLED * double(row.lines) || double(needed.room) > FILLED * double(row.room);
 }
 
 template <typename Item> Item *shared_memory(size_t count) {
@@ -96,6 +106,7 @@ private:
     std::vector<Team> teams;
     Checker probe, checker;
     Row row = { 0, 0 };
+    uint64_t words_of_row = 0;          // for each stream
     Phase phase = SOLVING;
     Answer answer = UNKNOWN_ANSWER;
     std::string cause;
@@ -106,6 +117,7 @@ private:
     std::string command;
 
     // Before anything is solved.
+    void prepare();
     std::string again(const std::string &path, const char *kept_as);
     void read_assumptions();
     void take_signals();
@@ -144,6 +156,7 @@ private:
     void keep_report() const;
     void summary() const;
     void details() const;
+    void tell_causes() const;
     int print_answer();
     double processor_seconds(bool engines) const;
     double checker_seconds() const;
@@ -198,7 +211,7 @@ void Run::formula_refused(const std::string &why) {
         usleep(2000);
     }
     probe.read_on(false);
-    if (probe.child.ended() && !probe.child.ended_with(3) && !probe.last_line().empty()) {
+    if (probe.child.ended() && !probe.child.ended_with(UNKNOWN_STATUS) && !probe.last_line().empty()) {
         end_children();
         fprintf(stderr, "%s\n", probe.last_line().c_str());
         _exit(1);
@@ -310,7 +323,8 @@ void Run::finish(Answer found, const std::string &why) {
 void Run::look() {
     if (ended_by) return finish(UNKNOWN_ANSWER, std::string("ended by a signal: ") + strsignal(ended_by));
     if (options.time > 0 && now() - started >= options.time) return finish(UNKNOWN_ANSWER, "time is up");
-    if (probe.child.ended() && !probe.child.ended_with(3)) formula_refused("lrupd, which reads the formula, " + probe.child.end());
+    if (probe.child.ended() && !probe.child.ended_with(UNKNOWN_STATUS))
+        formula_refused("lrupd, which reads the formula, " + probe.child.end());
     if (phase == SOLVING) look_at_teams();
     if (phase == SOLVING) pause_others();
     if (phase == SOLVING) look_at_row();
@@ -350,7 +364,7 @@ void Run::look_at_team(size_t k) {
     if (said == SATISFIABLE && !team.wrong) look_at_model(k);
     if (phase != SOLVING || team.told || said == SATISFIABLE) return;
     if (team.filter.ended()) {
-        tell_lost(k, std::string("its filter ") + (facts.cause[0] ? std::string("stopped: ") + facts.cause : team.filter.end()));
+        tell_lost(k, "its filter " + (facts.cause[0] ? std::string("stopped: ") + facts.cause : team.filter.end()));
         team.engine.signal(SIGKILL);
     } else if (team.engine.ended() && said == 0) {
         tell_lost(k, "the engine " + team.engine.end());
@@ -378,7 +392,8 @@ bool Run::is_model(const signed char *values) const {
     return true;
 }
 
-// While the filter of an engine that has refuted the formula catches up, the others leave the cores to it. They go on where it stops.
+// While the filter of an engine that has refuted the formula catches up, the others leave the cores to it. They go on where it
+// stops.
 void Run::pause_others() {
     auto has_refuted = [this](size_t k) { return LOAD(shared->parts[k].answer) == UNSATISFIABLE && teams[k].filter.running; };
     bool wanted = false;
@@ -432,14 +447,16 @@ Row Run::fitted_row(uint64_t words) const {
     return split(words, std::min(200.0, std::max(2.0, average)));
 }
 
+// The first row, or a larger one where that fills up. What a stream has so far is checked again.
 void Run::look_at_row() {
     if (is_last_row || now() - started < SHORT_RUN) return;
     Row needed = needed_row();
+    if (checker.child.pid && !is_filled(row, needed)) return;
     const char *given = test_word("LRUP_SOLVE_FIRST_WORDS");
     uint64_t most = words_of_a_stream(), first = (given ? strtoull(given, nullptr, 10) : FIRST_WORDS) / teams.size();
-    if (!checker.child.pid && first < most) return start_checker(fitted_row(first));
-    bool filled = double(needed.lines) > FILLED * double(row.lines) || double(needed.room) > FILLED * double(row.room);
-    if (checker.child.pid && !filled) return;
+    do words_of_row = words_of_row > 0 ? GROWTH * words_of_row : first + 1;
+    while (words_of_row < most && is_filled(fitted_row(words_of_row), needed));
+    if (words_of_row < most) return start_checker(fitted_row(words_of_row));
     // A filter may be at a line for which it has asked the old sizes.
     Row largest = fitted_row(most);
     if (largest.lines > needed.lines + 1 && largest.room > needed.room + LONGEST_LINE) {
@@ -478,7 +495,8 @@ void Run::verdict() {
     checker.read_on(options.verbose && !options.quiet);
     keep_report();
     if (checker.child.ended_with(0) || checker.child.ended_with(8)) return finish(UNSATISFIABLE, "");
-    finish(UNKNOWN_ANSWER, checker.child.ended_with(3) ? "lrupd hasn't taken the proof" : "lrupd " + checker.child.end());
+    bool is_unknown = checker.child.ended_with(UNKNOWN_STATUS);
+    finish(UNKNOWN_ANSWER, is_unknown ? "lrupd hasn't taken the proof" : "lrupd " + checker.child.end());
 }
 
 // What is told.
@@ -513,11 +531,10 @@ void Run::show_progress() {
         fullest = std::max(fullest, double(LOAD(part.lines)) / double(std::max<uint64_t>(1, LOAD(shared->most_lines))));
         fullest = std::max(fullest, double(LOAD(part.literals)) / double(std::max<uint64_t>(1, LOAD(shared->most_literals))));
     }
-    std::string line = format("%.1f s, %s conflicts a second, %s clauses checked, filters %s kB behind, the fullest stream has %.0f %%",
-                              time - started, grouped(uint64_t(double(all(&Part::conflicts)) / (time - started))).c_str(),
-                              grouped(uint64_t(share * double(lines))).c_str(), grouped(all(&Part::behind) / 1000).c_str(),
-                              100 * fullest);
-    fprintf(stderr, "\r%s\33[K", line.c_str());
+    double rate = double(all(&Part::conflicts)) / (time - started);
+    fprintf(stderr, "\r%.1f s, %s conflicts a second, %s clauses checked, filters %s kB behind, the fullest stream at %.0f %%\33[K",
+            time - started, grouped(uint64_t(rate)).c_str(), grouped(uint64_t(share * double(lines))).c_str(),
+            grouped(all(&Part::behind) / 1000).c_str(), 100 * fullest);
 }
 
 void Run::hide_progress() {
@@ -544,32 +561,34 @@ void Run::details() const {
     for (size_t k = 0; k < teams.size(); k++) {
         const Part &part = shared->parts[k];
         uint64_t lines = LOAD(part.lines);
-        tell(format("engine %zu: %.2f s, its filter %.2f s; %s conflicts; %s clauses taken over, %s of gone variables, %s given away; "
-                    "%s lines, %.0f %% of them cite another stream", k + 1, teams[k].engine.seconds, teams[k].filter.seconds,
-                    grouped(LOAD(part.conflicts)).c_str(), grouped(LOAD(part.taken)).c_str(), grouped(LOAD(part.refused)).c_str(),
-                    grouped(LOAD(part.given)).c_str(), grouped(lines).c_str(),
-                    lines ? 100.0 * double(LOAD(part.citing_others)) / double(lines) : 0));
+        tell(format("engine %zu: %.2f s, its filter %.2f s; %s conflicts; clauses: %s taken over, %s refused, %s given away; "
+                    "%s lines, %.0f %% of them cite another stream",
+                    k + 1, teams[k].engine.seconds, teams[k].filter.seconds, grouped(LOAD(part.conflicts)).c_str(),
+                    grouped(LOAD(part.taken)).c_str(), grouped(LOAD(part.refused)).c_str(), grouped(LOAD(part.given)).c_str(),
+                    grouped(lines).c_str(), lines ? 100.0 * double(LOAD(part.citing_others)) / double(lines) : 0));
     }
     if (answered > 0) tell(format("the verdict came %.2f s after an engine's answer", now() - answered));
 }
 
+// Why there is no verdict: of each part that was lost, and of lrupd.
+void Run::tell_causes() const {
+    for (size_t k = 0; k < teams.size() && !options.verbose; k++)
+        if (teams[k].told && shared->parts[k].cause[0])
+            tell(format("the filter of engine %zu stopped: %s", k + 1, shared->parts[k].cause));
+    if (!checker.last_line().empty() && !options.verbose) tell(checker.last_line());
+    size_t begin = 0;
+    for (size_t end; (end = checker.report.find('\n', begin)) != std::string::npos; begin = end + 1)
+        if (checker.report.compare(begin, 2, "c ") == 0) tell("lrupd: " + checker.report.substr(begin + 2, end - begin - 2));
+    tell(cause);
+}
+
 void Run::summary() const {
     if (options.verbose) details();
-    if (answer == UNKNOWN_ANSWER) {
-        for (size_t k = 0; k < teams.size() && !options.verbose; k++)
-            if (teams[k].told && shared->parts[k].cause[0]) tell(format("the filter of engine %zu stopped: %s", k + 1, shared->parts[k].cause));
-        if (!checker.last_line().empty() && !options.verbose) tell(checker.last_line());
-        if (phase == DONE && checker.child.ended() && !checker.report.empty()) {
-            size_t begin = 0;
-            for (size_t end; (end = checker.report.find('\n', begin)) != std::string::npos; begin = end + 1)
-                if (checker.report.compare(begin, 2, "c ") == 0) tell("lrupd: " + checker.report.substr(begin + 2, end - begin - 2));
-        }
-        tell(cause);
-    }
+    if (answer == UNKNOWN_ANSWER) tell_causes();
+    double engines = processor_seconds(true), filters = processor_seconds(false), lrupd = checker_seconds();
     tell(format("%.2f s, %d engine%s, %s clauses checked; %.2f s of processor time: engines %.2f, filters %.2f, lrupd %.2f",
                 now() - started, options.engines, options.engines > 1 ? "s" : "", grouped(all(&Part::lines)).c_str(),
-                processor_seconds(true) + processor_seconds(false) + checker_seconds(),
-                processor_seconds(true), processor_seconds(false), checker_seconds()));
+                engines + filters + lrupd, engines, filters, lrupd));
 }
 
 void print_model(const std::vector<signed char> &model) {
@@ -592,18 +611,19 @@ int Run::print_answer() {
     else if (answer == UNKNOWN_ANSWER) puts("s UNKNOWN");
     else puts(checker.child.ended_with(0) ? "s UNSATISFIABLE" : "s UNSATISFIABLE UNDER ASSUMPTIONS");
     errno = 0;
-    if (fflush(stdout) != 0 || ferror(stdout)) refuse("cannot write the answer: " + (errno ? error_text() : "standard output failed"));
+    if (fflush(stdout) != 0 || ferror(stdout))
+        refuse("cannot write the answer: " + (errno ? error_text() : "standard output failed"));
     return answer;
 }
 
-int Run::run() {
+// Signals are taken from when there is something to end: until then one ends this process, and with it the first lrupd.
+void Run::prepare() {
     checker_program = find_checker(options.lrupd);
     if (options.engines == 0) options.engines = half_of_the_cores();
     if (options.proofs && mkdir(options.proofs, 0777) != 0 && errno != EEXIST)
         refuse(std::string("cannot make ") + options.proofs + ": " + error_text());
     formula_path = again(options.formula ? options.formula : "-", "formula.cnf");
     if (options.assume) assume_path = again(options.assume, "assumptions");
-    take_signals();
     std::vector<std::string> words = row_words({ 0, 0 });
     if (options.assume) words.insert(words.end(), { "--assume", assume_path });
     words.insert(words.end(), { formula_path, "/dev/null" });
@@ -612,26 +632,30 @@ int Run::run() {
     if (options.assume) read_assumptions();
     open_teams();
     first_row();
+    take_signals();
     for (size_t k = 0; k < teams.size(); k++) start_team(k);
     shows_progress = !options.quiet && isatty(STDERR_FILENO);
+}
+
+int Run::run() {
+    prepare();
     while (phase != DONE) {
         wait();
         look();
         show_progress();
     }
-    for (Child *child : children()) child->signal(SIGKILL);
-    while (std::any_of(teams.begin(), teams.end(), [](const Team &team) { return team.engine.running || team.filter.running; }) ||
-           checker.child.running || probe.child.running)
-        if (!reap(children())) usleep(1000);
+    for (Child *child : children()) {
+        child->signal(SIGKILL);
+        wait_for(*child);
+    }
     checker.read_on(false);
     int status = print_answer();
-    if (ended_by) {
-        signal(ended_by, SIG_DFL);
-        sigset_t none;
-        sigemptyset(&none);
-        raise(ended_by);
-        sigprocmask(SIG_SETMASK, &none, nullptr);
-    }
+    if (!ended_by) return status;
+    signal(ended_by, SIG_DFL);
+    raise(ended_by);
+    sigset_t none;
+    sigemptyset(&none);
+    sigprocmask(SIG_SETMASK, &none, nullptr);
     return status;
 }
 

@@ -12,9 +12,9 @@ namespace {
 const char summary[] =
     "usage: lrup-solve [OPTIONS] [FORMULA]\n"
     "\n"
-    "Solves a formula in DIMACS CNF, standard input where none is named, with several engines of CaDiCaL that share clauses, and\n"
-    "has lrupd check their proofs while they are written. 's UNSATISFIABLE' is proved by lrupd; 's SATISFIABLE' comes with an\n"
-    "assignment that was evaluated.\n"
+    "Solves a formula in DIMACS CNF, standard input where none is named, with several engines of CaDiCaL that share\n"
+    "clauses, and has lrupd check their proofs while they are written. 's UNSATISFIABLE' is proved by lrupd;\n"
+    "'s SATISFIABLE' comes with an assignment that was evaluated.\n"
     "\n"
     "  -j N               engines, 1 to 64; each has a filter that works as hard. Half of the cores if not said\n"
     "  --time SECONDS     then the answer is 's UNKNOWN'\n"
@@ -30,7 +30,8 @@ const char summary[] =
     "  -h, --help         show this\n"
     "  --version          show the version\n"
     "\n"
-    "Statuses: 10 satisfiable, 20 unsatisfiable (or so under the assumptions), 0 unknown, 1 a mistake or a file that can't be used.\n";
+    "Statuses: 10 satisfiable, 20 unsatisfiable (or so under the assumptions), 0 unknown, 1 a mistake, or a file that\n"
+    "can't be used.\n";
 
 class Words {
 public:

@@ -52,7 +52,7 @@ struct Child {
     void signal(int number) const;
 };
 
-bool begin(Child &child, const std::string &name, const std::vector<int> &kept);    // true in the child, with these files of ours
+bool begin(Child &child, const std::string &name, const std::vector<int> &kept);    // true in the child, with these files
 bool reap(const std::vector<Child *> &children);         // one that has ended, if there is one
 void wait_for(Child &child);
 void end_children();
@@ -81,7 +81,8 @@ public:
     double earlier = 0;                 // processor seconds of those that this one took the place of
 
     // The words end with the streams, which are fed from these files. Ends the one that was started before.
-    void start(const std::string &program, std::vector<std::string> words, std::vector<int> kept, const std::vector<int> &files);
+    void start(const std::string &program, std::vector<std::string> words, std::vector<int> kept,
+               const std::vector<int> &files);
     bool feed(size_t stream, uint64_t bytes, bool drop);    // from the file, which has so many by now; true where all are fed
     void end_stream(size_t stream) { close_file(streams[stream].pipe.write); }
     uint64_t read_of(size_t stream) const;                  // bytes that it has read
