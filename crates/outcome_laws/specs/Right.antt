@@ -82,7 +82,7 @@ IsOfMachine faults.Memory = Unit {0}
 IsOfMachine faults.Unwritten = ⊥
 
 -- memory ran out, or a read failed, in the first lines of stream s, so many; or one of them cites a clause of another stream that
--- wasn't there, or wasn't any more
+-- wasn't there, or wasn't any more; here the cube makes no difference
 abbrev pub IsHeldUp : (R : Type 0) (files : FilesView R) (words : List Text) → AskWell R files words
     → ℕ → ℕ → Report → Type 0
 IsHeldUp R files words asks s count report =

@@ -21,13 +21,14 @@ HaveBytesOf set streams told =
     (t : ℕ) (stream : Stream) (telling : Telling) → IsTrue (set t) → IsOfStream streams t stream
     → IsOfStream told t telling → (more : List ℕ) × (telling.entry ≡ Some (stream.bytes ++ more))
 
--- the report tells of one of the first lines, so many, that cites a clause of another stream, which wasn't there, or wasn't any more
+-- the report tells of one of the first lines, so many, that cites or imports a clause of another stream, which wasn't there, or wasn't
+-- any more
 abbrev pub LacksOfAnotherIn : Setting → ℕ → Report → Type 0
 LacksOfAnotherIn c count report = (line id : ℕ) × (line ≤ count) × (side_of c id ≡ sides.Foreign)
     × ((report.ending ≡ endings.Bad line (faults.Missing id))
     ⊎ (report.ending ≡ endings.Bad line (faults.Retired id)))
 
--- or of any line
+-- the report tells of some line that cites or imports a clause of another stream, which wasn't there, or wasn't any more
 abbrev pub LacksOfAnother : Setting → Report → Type 0
 LacksOfAnother c report = (count : ℕ) × LacksOfAnotherIn c count report
 

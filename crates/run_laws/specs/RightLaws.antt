@@ -26,7 +26,7 @@ RightAccepted = (f : Cnf) (terms : TermsValue) (s : ℕ) (bytes : List ℕ) (lin
     → IsRightStream f terms.layout s bytes lines
     → IsReportAlone f terms s bytes stream_ends.Ended (right_report terms s lines)
 
--- and no other
+-- Alone, a right stream has no other report.
 abbrev pub RightHasOneReport : Type 0
 RightHasOneReport = (f : Cnf) (terms : TermsValue) (s : ℕ) (bytes : List ℕ)
     (lines : List StreamLine) (report : Report)
@@ -34,8 +34,8 @@ RightHasOneReport = (f : Cnf) (terms : TermsValue) (s : ℕ) (bytes : List ℕ)
     → IsRightStream f terms.layout s bytes lines
     → IsReportAlone f terms s bytes stream_ends.Ended report → report ≡ right_report terms s lines
 
--- So it has this report in every run in which its reader has these bytes, unless memory ran out or a read failed: whatever the other
--- streams are, and however the threads ran.
+-- A right stream has this report in every run in which its reader has these bytes, unless memory ran out or a read failed: whatever
+-- the other streams are, and however the threads ran.
 abbrev pub RightReported : Type 0
 RightReported = (f : Cnf) (terms : TermsValue) (s : ℕ) (bytes : List ℕ) (lines : List StreamLine)
     (told : List Telling) (telling : Telling) (reports : List Report) (report : Report)

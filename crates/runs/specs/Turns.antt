@@ -8,7 +8,7 @@ use Rattle.runs.specs.Streams.{Stream, Block, IsOrdered, TermsValue}
 abbrev pub line_count : ℕ → List ℕ → ℕ
 line_count s order = count_by (λ t. t == s) order
 
--- After these lines stream s may have a turn: no stream has had more lines, but those counted before s may have had one more.
+-- After these lines stream s may have a turn: no stream has had more lines than s, but one with a lower number may be one ahead.
 abbrev pub IsTurnOf : ℕ → List ℕ → Type 0
 IsTurnOf s before = (t : ℕ) → (s ≤ t → line_count t before ≤ line_count s before)
     × (t < s → line_count t before ≤ line_count s before + 1)
