@@ -42,7 +42,7 @@ pub record AskWell (R : Type 0) (files : FilesView R) (words : List Text) : Type
   pub layout : (fault : LayoutFault) → ¬ IsFault (layout_at given formula) fault
   pub assumptions : AreRightAssumptions R files formula.vars (assumed_at given)
 
--- And the file of stream s tells a right refutation of the formula. Nothing is asked of the other streams.
+-- The words ask well, and the file of stream s tells a right refutation of the formula. Nothing is asked of the other streams.
 pub record AskForRightRefutation (R : Type 0) (files : FilesView R) (words : List Text)
     (s : ℕ) : Type 0 where
   pub asks : AskWell R files words
@@ -52,8 +52,8 @@ pub record AskForRightRefutation (R : Type 0) (files : FilesView R) (words : Lis
   pub tells : files.tells path ≡ Some bytes
   pub right : IsRightRefutation asks.formula (layout_at asks.given asks.formula) s bytes
 
--- Or lines of a set of streams have a right order, the files of these streams begin with the texts of their lines, and some line of
--- stream s adds the empty clause. Nothing is asked of the streams outside the set, nor of what comes behind the lines.
+-- The words ask well, lines of a set of streams have a right order, the files of these streams begin with the texts of their lines, and
+-- some line of stream s adds the empty clause. Nothing is asked of the streams outside the set, nor of what comes behind the lines.
 pub record AskForRightOrder (R : Type 0) (files : FilesView R) (words : List Text)
     (s : ℕ) : Type 0 where
   pub asks : AskWell R files words
@@ -93,7 +93,7 @@ IsHeldUp R files words asks s count report =
 -- is wrong.
 pub data IsExcused (R : Type 0) (files : FilesView R) (words : List Text) (s : ℕ)
     (Lost : Report → Type 0) (out : SinkChange) (status : ℕ) : Type 0 where
-  -- it said so, and the writing failed
+  -- the report wasn't written
   unwritten : (failed : out.failed ≡ true) (is : status ≡ 7)
       → IsExcused R files words s Lost out status
   -- there is no report, for a fault of the machine
@@ -101,7 +101,7 @@ pub data IsExcused (R : Type 0) (files : FilesView R) (words : List Text) (s : �
       (fault : CommandFault) (cause : IsCause R files words fault) (machine : IsOfMachine fault)
       (status_is : status ≡ status_of fault) (is : (status ≡ 5) ⊎ (status ≡ 6))
       → IsExcused R files words s Lost out status
-  -- stream s wasn't checked to the end of its right lines, and no stream added the empty clause
+  -- there is a report, and stream s was stopped before the end of its right lines, for such a reason
   lost :
       (reports : List Report) (verdict : Verdict)
       (outcome : IsOutcome R files words reports verdict) (report : Report)
@@ -117,8 +117,8 @@ RightRefutationSays R files = (words : List Text) (s : ℕ) (out err : SinkChang
     → (status ≡ 0)
     ⊎ IsExcused R files words s (IsCutOffIn (length ask.right.lines)) out status
 
--- So it is where they ask for streams whose lines have a right order, with one more reason for 3 or 8: one of that stream's lines
--- cites a clause of another stream that wasn't there, or wasn't any more.
+-- Where the words ask for streams whose lines have a right order, the program ends so too, with one more reason for 3 or 8: one of that
+-- stream's lines cites a clause of another stream that wasn't there, or wasn't any more.
 abbrev pub RightOrderSays : (R : Type 0) → FilesView R → Type 0
 RightOrderSays R files = (words : List Text) (s : ℕ) (out err : SinkChange) (status : ℕ)
     → (ask : AskForRightOrder R files words s)

@@ -70,8 +70,8 @@ pub fn right_refutation_says<F: Files>(files: &F)
     right_empty();
 }
 
-/// So it is where they ask for streams whose lines have a right order, and one of which adds the empty clause; or with 3 or 8 that
-/// stream has a line that cites a clause of another stream, which wasn't there, or wasn't any more.
+/// Where the words ask for streams whose lines have a right order, one of which adds the empty clause, the program ends so too; or with
+/// 3 or 8, and then a line of that stream cites a clause of another stream, which wasn't there, or wasn't any more.
 pub fn right_order_says<F: Files>(files: &F)
     ensures { let view = files_view files.now (F.tells files.now) (F.may_refuse files.now)
         F.Input.Source.left F.Input.Source.has_failed F.opens F.Input.Source.reads in
