@@ -852,7 +852,7 @@ HEADLINE_PHRASES = [
      [[fn Store::fetch.calls: reply = reply_of (pass_place pass.new.view) result]];
      [[fn Store::publish.calls: events.publish stream id clause.now result]];
      [[fn Store::retire.calls: events.retire stream id result]]."""),
-    ("Each published clause has its stream's identity", """[[IsAllowed: IsAllowed f p (publish s id c r) = Owns p s id ×
+    ("Each published clause has an identity that its stream owns", """[[IsAllowed: IsAllowed f p (publish s id c r) = Owns p s id ×
      IsPublishable f c]], of each event of a legal history."""),
     ("never changes", """in a legal history an entry goes from absent to live to retired, with one clause: the law
      [[law entries_advance]], [[Advances: Advances (live c) (retired d) = d ≡ c]]. What the store gives to read is that clause: a
@@ -955,58 +955,65 @@ outcome.reports.items]]."""
 
 RIGHT_TOP = """## Right proofs are accepted
 
-The three theorems above say what holds of the reports that came. These laws say which reports come: they begin at the bytes, and
-know no events. Each is the contract of a function without a body, and holds of every formula, layout, stream and run."""
+The three theorems above say what holds of the reports that came. These laws say which reports come: but for
+[[law no_false_blame]] they begin at the bytes, and know no events. Each is the contract of a function with an empty body, proved like any
+other."""
 
 RIGHT_PHRASES = [
-    ("A line is right by those before it", """[[AreRight: IsRightLine p s base line × AreRight p s (after_line base line) lines]]: by
-     the [[Database]] that those before it left, from the formula's clauses on ([[first_database]])."""),
-    ("as LRAT has it, without RAT and more strictly", """whether it is LRAT's replay is for a reader to judge: clauses are put into the
-     database and taken away by identity ([[after_line]])."""),
-    ("an identity of its own above those before it", """[[IsRightAddition: owns : Owns p s id]], and [[IsRightAddition: above :
-     base.last < id]]."""),
-    ("variables of the formula, room", """[[IsRightAddition: literals : AllByRecursion (λ l. nat_abs l ≤ p.vars) lits]], and
-     [[IsRightAddition: room : length (distinct lits) ≤ base.free]]; what is deleted gives no room back."""),
-    ("hints whose clauses are there, each unit in turn and only the last a conflict", """[[IsRightAddition: named : AllZip (λ h d.
-     base.clauses h ≡ Some d) hints hinted]], and [[IsRightAddition: shown : Accepts (distinct lits) hinted]] ([[Accepts]]), which asks
-     besides that the clause is no tautology."""),
-    ("what a deletion or an import names is there", """[[IsRightDeletion: there : AllByRecursion (λ id. IsSome (base.clauses id))
-     ids]], each once; [[IsRightImport: there : base.clauses id ≡ Some clause]], of another stream or the formula, with the same
-     literals."""),
-    ("In every run a stream of right lines ends, with its lines counted", """the law [[law right_reported]]: the bytes are the lines'
-     texts, [[IsRightStream: text : bytes ≡ flat_map line_text lines]], and [[RightReported: report ≡ right_report terms s lines]], of
-     the reports of [[fn run]] and of [[fn run_serial]] ([[IsRun]]). Alone it has this report, and no other, by the laws
-     [[law right_accepted]] and [[law right_has_one_report]]; all that it deletes is counted, by the law [[law right_counted]], and
-     'empty' is told exactly if a line adds the empty clause, by the law [[law right_empty]]."""),
-    ("unless memory ran out or a read failed", "[[RightReported: ¬ IsOfMemory report → ¬ IsOfFailure report]]."),
+    ("Which lines are right is said under [Streams](#streams)", """[[IsRightLine]], by the [[Database]] that the lines before it left,
+     from the formula's clauses on: [[AreRight: IsRightLine p s base line × AreRight p s (after_line base line) lines]],
+     [[first_database]]. An addition: [[IsRightAddition: owns : Owns p s id]], [[IsRightAddition: above : base.last < id]],
+     [[IsRightAddition: literals : AllByRecursion (λ l. nat_abs l ≤ p.vars) lits]], [[IsRightAddition: room : length (distinct lits)
+     ≤ base.free]], where what is deleted gives no room back; its hints have clauses there, [[IsRightAddition: named : AllZip (λ h d.
+     base.clauses h ≡ Some d) hints hinted]], which show it, [[IsRightAddition: shown : Accepts (distinct lits) hinted]], and it is no
+     tautology ([[Accepts]]). A deletion: [[IsRightDeletion: there : AllByRecursion (λ id. IsSome (base.clauses id)) ids]], each once.
+     An import: [[IsRightImport: there : base.clauses id ≡ Some clause]], not the stream's own, with the same literals. The limits are
+     [[IsWithinLimits]]. Whether this is LRAT's replay without RAT is for a reader to judge. It is stricter than usual checkers: a
+     hint that isn't unit (a satisfied one too), a hint behind the conflict, a literal beside its complement, a variable that the
+     formula hasn't, an identity that isn't the stream's or isn't above its last one, and a deletion of what isn't there, or twice,
+     aren't right. And it has more: imports; and a deletion of an own clause is for all streams, of another for this one alone."""),
+    ("Unless memory ran out or a read failed", "[[RightReported: ¬ IsOfMemory report → ¬ IsOfFailure report]]."),
+    ("a stream of right lines is always reported `ended`, with its lines counted", """the law [[law right_reported]]: the bytes are
+     the lines' texts, [[IsRightStream: text : bytes ≡ flat_map line_text lines]], and its reader has them left at first,
+     [[RightReported: telling.entry ≡ Some bytes]]; then [[RightReported: report ≡ right_report terms s lines]], of the reports of
+     [[fn run]] and of [[fn run_serial]] ([[IsRun]]). Alone it has this report, and no other, by the laws [[law right_accepted]] and
+     [[law right_has_one_report]]; so where a reader tells nothing the same follows of the bytes that its reads gave, up to its first
+     end, by the [[fn run.alone]]. All that it deletes is counted, by the law [[law right_counted]], and 'empty' is told exactly if a
+     line adds the empty clause, by the law [[law right_empty]]."""),
     ("that cite, import and delete only their own clauses and the formula's", """[[EndedIsRight: CiteWithin terms.layout (one s)
      bytes → DeleteWithin terms.layout (one s) bytes]]. A right stream cites so by the law [[law right_cite_within]]. A checker takes
      a deletion of what another stream never had, which is no right line."""),
-    ("alone no other ends", """the law [[law ended_is_right]], [[EndedIsRight: (lines : List StreamLine) × IsRightStream f terms.layout s
-     bytes lines]]."""),
-    ("the lines of several streams have an order in which each is right", """[[IsRightOrder: right : AreRightTogether p (λ t.
+    ("no other is", """the law [[law ended_is_right]], [[EndedIsRight: (lines : List StreamLine) × IsRightStream f terms.layout s
+     bytes lines]], of a report that the stream may have alone, as that of a run is by its `isolated`."""),
+    ("Streams whose lines have an order in which each is right", """[[IsRightOrder: right : AreRightTogether p (λ t.
      first_database f p) steps]]: each stream has a database of its own, and another's addition puts its clause there too
-     ([[beside_line]])."""),
-    ("each stream ends so, or a line of it cites a clause of another stream that wasn't there, or wasn't any more", """the law [[law
+     ([[beside_line]]). Not all streams that ended have such an order."""),
+    ("are reported so too, or stop at a clause of another stream that isn't there yet, or was retired", """the law [[law
      right_together]], [[RightTogether: (report ≡ right_report terms s (lines_by s steps)) ⊎ LacksOfAnother (setting_of terms s)
-     report]]. No order is needed where some legal history judges them and this stream ended: the law [[law no_false_blame]]. Where
-     more comes behind the lines, the report tells at least what they do, or is of such an ending in these lines: the law
-     [[law together_begins]], [[TogetherBegins: LacksOfAnotherIn (setting_of terms s) (length (lines_by s steps)) report]]."""),
-    ("with `--serial`, where that order is by turns, each ends", """the law [[law right_by_turns]], of runs whose order is by turns
-     ([[IsByTurns]]), as that of [[fn run_serial.ordered]] is. Any two such runs of the same bytes have the same order and
-     reports: the laws [[law turns_decide]] and [[law bytes_decide]]."""),
-    ("a stream that begins with right lines, one of which adds the empty clause", """[[IsRightRefutation: right : IsRightBeginning f p s
+     report]], with the same exceptions. No order is needed where some legal history judges them and this stream ended: the law
+     [[law no_false_blame]]. Where more comes behind the lines, the report tells at least what they do; or memory ran out, a read
+     failed, or such a clause lacked, in these lines: the law [[law together_begins]],
+     [[TogetherBegins: LacksOfAnotherIn (setting_of terms s) (length (lines_by s steps)) report]]."""),
+    ("with `--serial`, if that is the order by turns of all lines, none stops", """the law [[law right_by_turns]], of runs whose order
+     is by turns ([[IsByTurns]]), as that of [[fn run_serial.ordered]] is. Here nothing comes behind the lines of any stream,
+     [[RightByTurns: HaveJustTexts steps told]], and no report of any is of memory or a failed read, [[RightByTurns: NoneCutShort
+     reports]]. Any two such runs of the same bytes have the same order and reports: the laws [[law turns_decide]] and
+     [[law bytes_decide]]."""),
+    ("where words, formula and assumptions are accepted", """[[AskWell]]: the words have no fault and a layout, and the files tell a
+     formula and assumptions without fault."""),
+    ("a stream begins with right lines, one of which adds the empty clause", """[[IsRightRefutation: right : IsRightBeginning f p s
      bytes lines]], and [[IsRightRefutation: empty : Any AddsEmpty lines]]. What comes behind them may be anything: the report tells
-     at least what they do, by the law [[law right_begins]], [[RightBegins: TellsAtLeast report (right_report terms s lines)]]."""),
-    ("With one among its streams", """[[AskForRightRefutation: right : IsRightRefutation asks.formula (layout_at asks.given
-     asks.formula) s bytes]]: the words have no fault and a layout, and the files tell a formula and assumptions without fault
-     ([[AskWell]])."""),
-    ("the program ends with status 0", """the law [[law right_refutation_says]], [[RightRefutationSays: (status ≡ 0)]], of all that
-     `command` may do by its clause `ends`. For streams whose lines have a right order the law [[law right_order_says]]."""),
-    ("or with 7; or with 5 or 6, for a fault of the machine", """[[IsExcused: unwritten : (failed : out.failed ≡ true)]];
-     [[IsExcused: machine : IsOfMachine fault]]."""),
-    ("with 3 or 8, and then memory ran out, or a read failed, in these lines", """[[IsExcused: (why : Lost report)]], with
-     [[RightRefutationSays: IsCutOffIn (length ask.right.lines)]]."""),
+     at least what they do, by the law [[law right_begins]], [[RightBegins: TellsAtLeast report (right_report terms s lines)]]. Or
+     streams have lines with a right order, and one of them adds it ([[AskForRightOrder]])."""),
+    ("the status is 0", """the laws [[law right_refutation_says]], [[RightRefutationSays: (status ≡ 0)]], and
+     [[law right_order_says]], of all that `command` may do by its clause `ends`; with `--serial` [[law right_turns_say]], and
+     [[law serial_outcomes_agree]]."""),
+    ("or 7; or 5 or 6, by a fault of the machine", """[[IsExcused: unwritten : (failed : out.failed ≡ true)]];
+     [[IsExcused: machine : IsOfMachine fault]], which a stream's file that isn't opened is too."""),
+    ("or 3 or 8, and then it stopped so in these lines", """[[IsExcused: (why : Lost report)]], with
+     [[RightRefutationSays: IsCutOffIn (length ask.right.lines)]], or [[IsHeldUp]] where the streams cite each other."""),
+    ("proved over files that tell their bytes", """[[AskForRightRefutation: tells : files.tells path ≡ Some bytes]]. The argument is that
+     [of AUDIT](AUDIT.md#status-0), under 'Which reads?'."""),
 ]
 
 RUNS_HOW = """## How to read it
@@ -1036,7 +1043,8 @@ GROUP_LAWS = [f"run_laws/src/groups.rt: {name}" for name in "others_empty same_r
 RIGHT_LAWS = [f"run_laws/src/right.rt: {name}" for name in """right_reported right_accepted right_has_one_report right_counted
     right_empty right_begins right_cite_within ended_is_right right_together together_begins no_false_blame""".split()] + [
     f"run_laws/src/turns.rt: {name}" for name in "right_by_turns turns_decide bytes_decide".split()]
-PROGRAM_LAWS = [f"outcome_laws/src/laws.rt: {name}" for name in "right_refutation_says right_order_says".split()]
+PROGRAM_LAWS = [f"outcome_laws/src/laws.rt: {name}" for name in """right_refutation_says right_order_says right_turns_say
+    serial_outcomes_agree""".split()]
 
 LAWS = """## The laws
 

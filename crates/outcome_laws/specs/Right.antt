@@ -101,7 +101,7 @@ pub data IsExcused (R : Type 0) (files : FilesView R) (words : List Text) (s : �
       (fault : CommandFault) (cause : IsCause R files words fault) (machine : IsOfMachine fault)
       (status_is : status ≡ status_of fault) (is : (status ≡ 5) ⊎ (status ≡ 6))
       → IsExcused R files words s Lost out status
-  -- there is a report, and stream s was stopped before the end of its right lines, for such a reason
+  -- there is a report, and stream s was stopped in its right lines, for such a reason
   lost :
       (reports : List Report) (verdict : Verdict)
       (outcome : IsOutcome R files words reports verdict) (report : Report)
