@@ -217,7 +217,7 @@ def impostor(body, cause, work):
     os.chmod(path, os.stat(path).st_mode | stat.S_IXUSR)
     answer = solve(["--lrupd", path, example("bmc.cnf")])
     want_answer(answer, 0)
-    if not any(cause in line for line in answer.comments):
+    if not any(re.search(cause, line) for line in answer.comments):
         raise Failure(f"wanted a word on '{cause}', and not\n{answer.out}")
 
 
@@ -336,6 +336,17 @@ def rows_grow(work):
     commands = [line for line in answer.comments if line.startswith("lrupd --tries")]
     if len(commands) < 2:
         raise Failure(f"wanted a second row, and not\n{answer.out}")
+
+
+def rows_that_fail(work):
+    """There is no memory for a larger row: the run goes on with the one that it has."""
+    started = os.path.join(work, "started")
+    path = written(f"#!/bin/sh\ncase \"$*\" in *' /dev/null') ;; *) [ -e {started} ] && exit 6; touch {started};; esac\n"
+                   f"exec {shlex.quote(PROGRAM)} \"$@\"\n", work, "lrupd")
+    os.chmod(path, os.stat(path).st_mode | stat.S_IXUSR)
+    answer = solve(["-v", "-j", "2", "--lrupd", path, generated("random 200 3", work)], tested={"FIRST_WORDS": 400000})
+    want(sum("no larger row" in line for line in answer.comments), 1, f"rows that fail in\n{answer.out}")
+    want_answer(answer, answer.status)
 
 
 def full(words, out, cause, work):
@@ -516,13 +527,15 @@ def what_happens():
             ("filter 2 killed", killed, ["filter 2"], term, 20, "engine 2 is lost"),
             ("an engine and a filter killed", killed, ["engine 1", "filter 2"], kill, 0, "no engine is left"),
             ("the first process killed", left_alone), ("time", time_is_up), ("a full row", row_is_full), ("rows", rows_grow),
-            ("a full disk for streams", full, ["--proofs", "{work}"], os.devnull, "No space left"),
+            ("rows that fail", rows_that_fail),
+            ("a full disk for streams", full, ["-j", "1", "--proofs", "{work}"], os.devnull, "No space left"),
             ("a full disk for the answer", full, [], "/dev/full", "cannot write the answer"),
             ("a closed output", closed, "bmc.cnf", ">&-"), ("a closed output, satisfiable", closed, "assumed.cnf", ">&-"),
             ("a reader that left", reader_left), ("progress", progress, [], True), ("no progress", progress, ["-q"], False)]
     runs += [(f"signal {number}", ended_by, number) for number in (signal.SIGINT, signal.SIGTERM, signal.SIGHUP)]
-    for body, cause in (("exit 3", "lrupd hasn't taken the proof"), ("exit 6", "ended with status 6"), ("exit 10", "ended with status 10"),
-                        ("echo s UNSATISFIABLE; exit 3", "lrupd hasn't taken the proof"), ("kill -9 $$", "ended by a signal"),
+    untaken = "lrupd (hasn't taken the proof|ended with status 3)"
+    for body, cause in (("exit 3", untaken), ("exit 6", "ended with status 6"), ("exit 10", "ended with status 10"),
+                        ("echo s UNSATISFIABLE; exit 3", untaken), ("kill -9 $$", "ended by a signal"),
                         ("echo 'c stream 1: 0 added, 0 deleted, bad line 1 (missing 555)'; echo s UNKNOWN; exit 3", "missing 555")):
         runs.append((f"another lrupd: {body}", impostor, body, cause))
     return runs

@@ -91,7 +91,6 @@ Row split(uint64_t words, double literals_of_a_clause) {
 
 void Checker::start(const std::string &program, std::vector<std::string> words, std::vector<int> kept,
                     const std::vector<int> &files) {
-    stop();
     for (int file : files) {
         Pipe pipe = make_pipe(STREAM_PIPE);
         fcntl(pipe.write, F_SETFL, O_NONBLOCK);
@@ -113,16 +112,15 @@ void Checker::start(const std::string &program, std::vector<std::string> words, 
     for (int file : { out.read, err.read }) fcntl(file, F_SETFL, O_NONBLOCK);
 }
 
-void Checker::stop() {
-    if (child.pid == 0) return;
+double Checker::stop() {
     child.signal(SIGKILL);
     wait_for(child);
-    double seconds = earlier + child.seconds;
+    double seconds = child.seconds;
     for (Stream &stream : streams) close_file(stream.pipe.read), close_file(stream.pipe.write);
     close_file(out.read);
     close_file(err.read);
     *this = Checker();
-    earlier = seconds;
+    return seconds;
 }
 
 // What the pipe takes. Memory of what was fed is given back where no larger row follows, which would have it all once more.

@@ -79,6 +79,8 @@ std::string quoted(const std::string &word) {
     return text + "'";
 }
 
+bool fits(const Row &needed, const Row &row) { return needed.lines <= row.lines && needed.room <= row.room; }
+
 bool is_filled(const Row &row, const Row &needed) {
     return double(needed.lines) > FILLED * double(row.lines) || double(needed.room) > FILLED * double(row.room);
 }
@@ -104,9 +106,9 @@ private:
     std::vector<int> copies;
     Shared *shared = nullptr;
     std::vector<Team> teams;
-    Checker probe, checker;
-    Row row = { 0, 0 };
+    Checker probe, checker, next;       // the next one has a larger row, and takes over once it has read as much
     uint64_t words_of_row = 0;          // for each stream
+    double spent = 0;                   // processor seconds of the one before
     Phase phase = SOLVING;
     Answer answer = UNKNOWN_ANSWER;
     std::string cause;
@@ -114,7 +116,6 @@ private:
     bool shows_progress = false, is_last_row = false;
     int signals = -1, ended_by = 0;
     double started = now(), answered = 0, ending = 0, shown = 0;
-    std::string command;
 
     // Before anything is solved.
     void prepare();
@@ -145,7 +146,9 @@ private:
     Row needed_row() const;
     Row fitted_row(uint64_t words) const;
     void look_at_row();
-    void start_checker(Row wanted);
+    void start_checker(Checker &one, Row wanted);
+    void take_next();
+    void keep_to_row();
     void feed();
 
     // What is told.
@@ -286,14 +289,14 @@ void Run::start_team(size_t k) {
 // Events.
 
 std::vector<Child *> Run::children() {
-    std::vector<Child *> list = { &probe.child, &checker.child };
+    std::vector<Child *> list = { &probe.child, &checker.child, &next.child };
     for (Team &team : teams) list.push_back(&team.engine), list.push_back(&team.filter);
     return list;
 }
 
 void Run::wait() {
     std::vector<pollfd> list = { { signals, POLLIN, 0 } };
-    for (const Checker *one : { &probe, &checker })
+    for (const Checker *one : { &probe, &checker, &next })
         for (const pollfd &file : one->files()) list.push_back(file);
     double tick = phase == SOLVING ? 0.02 : 0.002;
     if (options.time > 0) tick = std::min(tick, std::max(0.0, started + options.time - now()));
@@ -304,6 +307,7 @@ void Run::wait() {
     if (tells && !checker.files().empty()) hide_progress();
     probe.read_on(false);
     checker.read_on(tells);
+    next.read_on(false);
 }
 
 void Run::take_signal() {
@@ -420,7 +424,10 @@ void Run::end_streams() {
     }
     if (!all_ended) return;
     Row needed = needed_row();
-    if (!checker.child.pid || needed.lines > row.lines || needed.room > row.room) start_checker(needed);
+    if (next.child.pid && !fits(needed, checker.row)) take_next();
+    if (checker.child.pid && !fits(needed, checker.row)) spent += checker.stop();
+    if (!checker.child.pid) start_checker(checker, needed);
+    if (next.child.pid) spent += next.stop();
     phase = CHECKING;
 }
 
@@ -447,16 +454,24 @@ Row Run::fitted_row(uint64_t words) const {
     return split(words, std::min(200.0, std::max(2.0, average)));
 }
 
-// The first row, or a larger one where that fills up. What a stream has so far is checked again.
+// The first row, or a larger one where that fills up: another lrupd makes it, and checks once more what the streams have so far.
 void Run::look_at_row() {
-    if (is_last_row || now() - started < SHORT_RUN) return;
     Row needed = needed_row();
-    if (checker.child.pid && !is_filled(row, needed)) return;
+    if (next.child.ended()) return keep_to_row();
+    if (next.child.pid) {
+        bool has_read_all = true;
+        for (size_t k = 0; k < teams.size(); k++) has_read_all &= next.fed(k) == LOAD(shared->parts[k].bytes);
+        if (has_read_all || !fits(needed, checker.row)) take_next();
+        return;
+    }
     const char *given = test_word("LRUP_SOLVE_FIRST_WORDS");
+    if (is_last_row || now() - started < (given ? 0 : SHORT_RUN)) return;
+    if (checker.child.pid && !is_filled(checker.row, needed)) return;
     uint64_t most = words_of_a_stream(), first = (given ? strtoull(given, nullptr, 10) : FIRST_WORDS) / teams.size();
     do words_of_row = words_of_row > 0 ? GROWTH * words_of_row : first + 1;
     while (words_of_row < most && is_filled(fitted_row(words_of_row), needed));
-    if (words_of_row < most) return start_checker(fitted_row(words_of_row));
+    Checker &one = checker.child.pid ? next : checker;
+    if (words_of_row < most) return start_checker(one, fitted_row(words_of_row));
     // A filter may be at a line for which it has asked the old sizes.
     Row largest = fitted_row(most);
     if (largest.lines > needed.lines + 1 && largest.room > needed.room + LONGEST_LINE) {
@@ -464,29 +479,44 @@ void Run::look_at_row() {
         STORE(shared->most_literals, largest.room);
     }
     is_last_row = true;
-    start_checker({ LOAD(shared->most_lines), LOAD(shared->most_literals) });
+    start_checker(one, { LOAD(shared->most_lines), LOAD(shared->most_literals) });
 }
 
-void Run::start_checker(Row wanted) {
-    row = wanted;
-    std::vector<std::string> words = row_words(row);
+// The larger row isn't to be had: the streams end where this one does.
+void Run::keep_to_row() {
+    if (options.verbose) tell("no larger row: lrupd " + next.child.end());
+    spent += next.stop();
+    STORE(shared->most_lines, checker.row.lines);
+    STORE(shared->most_literals, checker.row.room);
+    is_last_row = true;
+}
+
+void Run::take_next() {
+    spent += checker.stop();
+    std::swap(checker, next);
+}
+
+void Run::start_checker(Checker &one, Row wanted) {
+    one.row = wanted;
+    std::vector<std::string> words = row_words(wanted);
     if (options.assume) words.insert(words.end(), { "--assume", assume_path });
-    command = "lrupd";
+    std::string &command = one.command = "lrupd";
     for (const std::string &word : words) command += " " + quoted(word);
     command += " " + quoted(formula_path);
     if (options.verbose) words.push_back("--watch");
     words.push_back(formula_path);
     std::vector<int> files;
     for (size_t k = 0; k < teams.size(); k++) files.push_back(teams[k].stream), command += " " + quoted(stream_path(k));
-    checker.start(checker_program, words, copies, files);
+    one.start(checker_program, words, copies, files);
     if (options.verbose) tell(command);
 }
 
 void Run::feed() {
-    if (!checker.child.pid) return;
-    for (size_t k = 0; k < teams.size(); k++) {
-        bool fed = checker.feed(k, LOAD(shared->parts[k].bytes), is_last_row && !options.proofs);
-        if (fed && phase == CHECKING) checker.end_stream(k);
+    bool drop = is_last_row && !next.child.pid && !options.proofs;
+    for (size_t k = 0; k < teams.size() && checker.child.pid; k++) {
+        uint64_t bytes = LOAD(shared->parts[k].bytes);
+        if (next.child.pid) next.feed(k, bytes, false);
+        if (checker.feed(k, bytes, drop) && phase == CHECKING) checker.end_stream(k);
     }
 }
 
@@ -546,10 +576,10 @@ void Run::keep_report() const {
     if (!options.proofs) return;
     std::string folder = std::string(options.proofs) + "/";
     write_file(folder + "report", checker.report);
-    write_file(folder + "command", command + "\n");
+    write_file(folder + "command", checker.command + "\n");
 }
 
-double Run::checker_seconds() const { return probe.child.seconds + checker.child.seconds + checker.earlier; }
+double Run::checker_seconds() const { return probe.child.seconds + checker.child.seconds + next.child.seconds + spent; }
 
 double Run::processor_seconds(bool engines) const {
     double sum = 0;

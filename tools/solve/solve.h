@@ -77,15 +77,18 @@ struct Row { uint64_t lines, room; };       // of each stream
 class Checker {
 public:
     Child child;
+    Row row = { 0, 0 };
+    std::string command;                // for the record
     std::string report, said;           // standard output, and standard error
-    double earlier = 0;                 // processor seconds of those that this one took the place of
 
-    // The words end with the streams, which are fed from these files. Ends the one that was started before.
+    // The words end with the streams, which are fed from these files.
     void start(const std::string &program, std::vector<std::string> words, std::vector<int> kept,
                const std::vector<int> &files);
     bool feed(size_t stream, uint64_t bytes, bool drop);    // from the file, which has so many by now; true where all are fed
     void end_stream(size_t stream) { close_file(streams[stream].pipe.write); }
+    uint64_t fed(size_t stream) const { return streams[stream].fed; }
     uint64_t read_of(size_t stream) const;                  // bytes that it has read
+    double stop();                                          // its processor seconds
     void read_on(bool tell);                                // what it says; lines of standard error are told
     std::vector<pollfd> files() const;                      // to be waited for
     std::string last_line() const;                          // of standard error
@@ -96,8 +99,6 @@ private:
     std::vector<Stream> streams;
     Pipe out, err;
     size_t told = 0;
-
-    void stop();
 };
 
 std::string find_checker(const char *given);                    // refuses where there is none
