@@ -1,10 +1,10 @@
-# `make help` tells what there is, by the words behind ##. Building needs Rattle's toolchain, the command rt, and nothing else; make
-# demo and make test also need a C compiler and Python 3.
+# `make help` tells what there is, by the words behind ##. Building needs Rattle's toolchain, the command rt, and Python 3, as rt
+# itself; make demo and make test also need a C compiler.
 
 RT ?= rt
 PREFIX ?= /usr/local
+VERSION := $(shell cat VERSION)
 PROGRAM := crates/lrupd/out/lrupd
-LOG := crates/lrupd/out/build.log
 SOLVER := examples/solver/out/solver
 EXACT := tools/exact/out/exact
 SOLVE := tools/solve/out/lrup-solve
@@ -15,8 +15,9 @@ FORMULA ?= examples/bmc.cnf
 STREAMS ?= $(addprefix examples/bmc-four.,1 2 3 4)
 OPTIONS ?= --tries 1000000
 
-.PHONY: help try run build install examples live demo solver exact solve solver-test filter-test solve-test neighbours sweep leaks \
+.PHONY: run build install examples live demo solver exact solve solver-test filter-test solve-test neighbours sweep leaks \
     instructions audit pages test toolchain c-and-python libcadical
+.PHONY: help try deb dist quick
 
 help:
 	@awk -f gate/help.awk $(firstword $(MAKEFILE_LIST))
@@ -37,14 +38,12 @@ run: build ## try: the same, proved first; both take FORMULA=path STREAMS="path 
 	echo "status $$status"; \
 	case $$status in 0|3|8) ;; *) exit $$status ;; esac
 
-# A line a crate as it is proved.
-build: SHELL := /bin/bash
+# A line a crate as it is proved, and what is left.
 build: toolchain ## build: prove the program, 7 to 30 minutes the first time, and leave it at crates/lrupd/out/lrupd
-	@mkdir -p $(dir $(LOG))
-	@set -o pipefail; cd crates/lrupd && $(RT) run -- "$(abspath examples/four-clause.cnf)" "$(abspath examples/four-clause.lrup)" \
-	2>&1 | sh $(abspath gate/progress.sh) $(abspath $(LOG)) || { cat $(abspath $(LOG)); exit 1; }
+	@python3 gate/build.py $(RT)
 
-# The filter's name is lrup-exact. lrup-solve is left out where CaDiCaL's library isn't there.
+# The filter's name is lrup-exact; lrup-solve is installed where CaDiCaL's library is there. The manual pages tell the version at their
+# feet.
 install: build exact ## use: install the program, the filter and lrup-solve, with their manual pages, below PREFIX=/usr/local
 	install -d "$(DESTDIR)$(PREFIX)/bin" "$(DESTDIR)$(PREFIX)/share/man/man1"
 	install -m 755 $(PROGRAM) "$(DESTDIR)$(PREFIX)/bin/lrupd"
@@ -53,6 +52,7 @@ install: build exact ## use: install the program, the filter and lrup-solve, wit
 	@if $(MAKE) -s solve; then \
 	install -m 755 $(SOLVE) "$(DESTDIR)$(PREFIX)/bin/lrup-solve" && \
 	install -m 644 docs/lrup-solve.1 "$(DESTDIR)$(PREFIX)/share/man/man1"; else echo "lrup-solve isn't installed"; fi
+	sed -i 's/^\.Os$$/.Os lrupd $(VERSION)/' "$(DESTDIR)$(PREFIX)"/share/man/man1/lrup*.1
 
 # What the program writes on standard output and standard error, and its status, on the examples and on some hundred small runs;
 # two groups of streams, checked apart; and whether README, USING, the manual page and --help say the same.
@@ -81,7 +81,7 @@ exact: c-and-python ## build: the filter that makes streams of other solvers' pr
 solve: c-and-python libcadical ## build: lrup-solve, from a formula to a proved verdict, at tools/solve/out; wants CaDiCaL's library
 	@mkdir -p $(SOLVE).objects
 	@cd $(SOLVE).objects && $(CC) -std=c11 -D_GNU_SOURCE $(SOLVE_FLAGS) -Wall -Wextra -c $(abspath tools/solve/filtering.c $(FILTER))
-	@$(CXX) -std=c++17 $(SOLVE_FLAGS) -Wall -Wextra -o $(SOLVE) tools/solve/*.cpp $(SOLVE).objects/*.o -lcadical
+	@$(CXX) -std=c++17 $(SOLVE_FLAGS) -Wall -Wextra -DVERSION='"$(VERSION)"' -o $(SOLVE) tools/solve/*.cpp $(SOLVE).objects/*.o -lcadical
 	@ln -sf $(abspath $(PROGRAM)) $(dir $(SOLVE))lrupd
 
 solver-test: build solver ## check: the example solver's streams, of one to eight solvers, and of some that are killed
@@ -117,10 +117,24 @@ pages: c-and-python ## check: the documents, against the sources and each other;
 	@python3 gate/audit.py --check
 	@python3 gate/style.py
 
+# With dpkg-deb and dpkg-dev.
+deb: ## use: a Debian package of what make install installs, with README, USING and the examples, in out/
+	@rm -rf out/deb && $(MAKE) --no-print-directory install DESTDIR="$(abspath out/deb)" PREFIX=/usr
+	@sh tools/deb.sh out/deb $(VERSION)
+
+# Of what is committed.
+dist: ## use: an archive of the sources, in out/
+	@mkdir -p out && git archive --prefix=lrupd-$(VERSION)/ -o out/lrupd-$(VERSION).tar.gz HEAD && echo out/lrupd-$(VERSION).tar.gz
+
+# As many tests are run as there is time for in LIMIT seconds. tools/pre-push runs it before a push.
+LIMIT ?= 90
+quick: toolchain c-and-python ## check: after a change of CRATE=name: layout, proofs, its tests before they are proved, the pages
+	@sh gate/quick.sh $(RT) $(CRATE) $(LIMIT)
+
 # The whole gate: the pages; every proof from nothing, each edit that must be refused, each test, and the program as two compilers
 # build it; then, with the program that was built there, the examples, the live run, the solver's streams and the filter's, mutated
-# proofs, lrup-solve, a proof beside hostile streams, each call of the system refused in turn, of the program and of tests, memory given back,
-# and the instructions that lines take. The last line is rt's own, 'N passed, M failed'.
+# proofs, lrup-solve, a proof beside hostile streams, each call of the system refused in turn, of the program and of tests, memory
+# given back, and the instructions that lines take. The last line is rt's own, 'N passed, M failed'.
 test: SHELL := /bin/bash
 test: toolchain pages solver exact ## check: the gate, 25 to 100 minutes: every proof, edit and test; has to pass before a push
 	@set -o pipefail; log=$$(mktemp); trap 'rm -f "$$log"' EXIT; \

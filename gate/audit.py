@@ -632,14 +632,14 @@ def phrase_by_phrase(said, rows):
 
 # Of these traits what the clauses rest on: the members, and the clauses of each.
 SHOWN = {
-    "Files": {"Input": [], "tells": [], "opens": [], "open": ["opens", "stays_opens"]},
+    "Files": {"Input": [], "tells": [], "opens": [], "open": ["opens"]},
     "Source": {"reads": [], "read": ["reads"]},
 }
 
 # What signatures name and no clause on the pages speaks of.
 UNSEEN = {"DimacsFault", "OpenFault", "ReadFault", "Sink"}
 
-MOST_WORDS = 4000       # of the page on status 0 and 8
+MOST_WORDS = 4100       # of the page on status 0 and 8
 
 MADE = "Made from the sources by `make audit`; the gate fails where this page isn't what they give."
 
@@ -663,9 +663,9 @@ where memory is from."""
 
 STATUS_0_PHRASES = [
     ("with status 0", "[[fn command.sound: result ≡ 0 →]], where `result` is the status."),
-    ("the bytes that were read", """they are the `bytes` of [[NameUnsatisfiable: Read formula bytes]], and `Read` is
-     [[fn command.sound: WasRead _ (F.opens files.old) F.Input.Source.reads (F.tells files.old)]]: the file was opened, and its
-     reads gave these bytes, up to one that gave none ([[WasRead]], [[GaveAll]])."""),
+    ("the bytes that were read", """they are the `bytes` of [[NameUnsatisfiable: Read first formula bytes after]], and `Read` is
+     [[fn command.sound: WasRead F.opens F.Input.Source.reads (F.tells files.old)]]: the first opening, of `files.old`, opened
+     the file, and its reads gave these bytes, up to one that gave none ([[WasRead]], [[GaveAll]])."""),
     ("of the formula's file", """[[NameUnsatisfiable: AskFor words formula assume]]: the words have no fault, and their FORMULA
      is the path `formula` that was read ([[AskFor]])."""),
     ("are a text of a formula", "[[NameUnsatisfiable: IsFormulaText bytes f]]: DIMACS CNF ([[IsFormulaText]]), and of one only ([[law one_formula]])."),
@@ -674,8 +674,11 @@ STATUS_0_PHRASES = [
 
 ACCOUNT = """**Which reads?** Whoever hands in the files chooses what `opens` and `reads` are; [[Files]] and [[Source]] promise
 of each call that it stands in them. The machine's files tell nothing and allow all, so of them alone the clause says only that
-the words have no fault. But take any run, and files that play its calls back, where `opens` and `reads` hold of these calls alone. `command` is proved for them too; and it knows files only by the calls of their traits, so it
-would do the same with them, and there only what was read can be meant. This last step is an argument, and no theorem."""
+the words have no fault. But `command` hands the bytes
+that it has read to [[fn check_formula]], of which this is proved: [[fn check_formula.sound: result ≡ 0 → (f : Cnf) × IsFormulaText
+asked.entry.formula.items f × IsUnsatisfiable f]]. So one loop, `read_all`, which fills their list, is left to an argument: take
+any run, and files that play its calls back, where `opens` and `reads` hold of these calls alone. `command` would do the same
+with them, since it knows files only by the calls of their traits, and there only what was read can be meant."""
 
 AUDIT_HOW = """## How to read it
 
@@ -711,8 +714,8 @@ By the [[fn command.sound_under]]:"""
 STATUS_8_PHRASES = [
     ("with status 8", "[[fn command.sound_under: result ≡ 8 →]]; formula and file as above."),
     ("none satisfies it and makes the assumed literals true", """[[NameUnsatisfiableUnder: IsUnsatisfiableUnder f cube]]. These
-     literals are the set `cube`: [[NameUnsatisfiableUnder: AreAssumed Read f.vars assume cube]], what was read of `--assume`'s
-     file is its text ([[IsCubeText]]); without `--assume` there are none."""),
+     literals are the set `cube`: [[NameUnsatisfiableUnder: AreAssumed Read f.vars next assume cube last]], what was read of
+     `--assume`'s file, by the next opening, is its text ([[IsCubeText]]); without `--assume` there are none."""),
 ]
 
 AUDIT_LIBRARIES = """## What the libraries define
@@ -728,7 +731,7 @@ TRUST = """## What one has to trust
   where no word begins with a hyphen it is the first of two or more ([[law plain_words]]).
 - **[`main`](../crates/lrupd/src/main.rt)**, which has no contract. It opens the machine's file at the path that it is given,
   hands files, arguments and outputs to `command_with_arguments`, and returns what that answers: [[fn command_with_arguments.sound: exit_status result ≡ 0 → IsOkAnd arguments (λ given. NameUnsatisfiable
-  read (words_after_name given))]]. `exit_status` is the status; `IsOkAnd`: they were given, and of them it holds;
+  _ read files.old (words_after_name given))]]. `exit_status` is the status; `IsOkAnd`: they were given, and of them it holds;
   `words_after_name`: those after the first.
 - **The machine's files**: that reads give what the file holds, and that it is the one you mean. No clause says so."""
 
@@ -758,6 +761,7 @@ buffer isn't empty; if it is `Err`, what is known is as it was
 `Text` the bytes of a word
 `codes "p"` the bytes of the text p
 `concat xss` the lists, one after the other
+`count_by f xs` how many elements pass the test
 `decimal n` n in decimal, without leading zeros
 `fault_of app words` the errors that the command finds in the words, asking for help among them: `[]` if there is none
 `filter f xs` the elements that pass the test
@@ -848,7 +852,7 @@ HEADLINE_PHRASES = [
      [[fn Store::fetch.calls: reply = reply_of (pass_place pass.new.view) result]];
      [[fn Store::publish.calls: events.publish stream id clause.now result]];
      [[fn Store::retire.calls: events.retire stream id result]]."""),
-    ("Each published clause has its stream's identity", """[[IsAllowed: IsAllowed f p (publish s id c r) = Owns p s id ×
+    ("Each published clause has an identity that its stream owns", """[[IsAllowed: IsAllowed f p (publish s id c r) = Owns p s id ×
      IsPublishable f c]], of each event of a legal history."""),
     ("never changes", """in a legal history an entry goes from absent to live to retired, with one clause: the law
      [[law entries_advance]], [[Advances: Advances (live c) (retired d) = d ≡ c]]. What the store gives to read is that clause: a
@@ -937,7 +941,8 @@ SERIALIZABLE_PHRASES = [
      are one after the other a legal history, [[IsOrdered: legal : IsLegal f terms.layout (events_in blocks)]]."""),
     ("one thread that takes whole lines", """a block is one stream's, [[IsBlockWithin: AllByRecursion (λ e. stream_of e ≡
      block.stream) block.events]], and has all events of one line, [[AreGood: JudgesLine c (standing_of c before) line block
-     Good]], or of the bad one that ends the stream, [[EndsAfter: (one_block : blocks ≡ block ∷ [])]]. That is what [[fn run_serial]] promises: [[fn run_serial.ordered: IsOrdered formula.now terms (λ s. true) streams
+     Good]], or of the bad one that ends the stream, [[EndsAfter: (one_block : blocks ≡ block ∷ [])]]. That is what [[fn run_serial]]
+     promises, where the lines come by turns: [[fn run_serial.ordered: IsOrderedByTurns formula.now terms streams
      outcome.reports.items]]."""),
     ("gives the same reports", """[[IsOrdered: judged : AreJudged terms set]], with the run's `reports`: each stream is
      judged by its own blocks in their order, [[IsOrdered: own_blocks ≡ blocks_of t blocks]]."""),
@@ -950,52 +955,65 @@ outcome.reports.items]]."""
 
 RIGHT_TOP = """## Right proofs are accepted
 
-The three theorems above say what holds of the reports that came. These laws say which reports come: they begin at the bytes, and
-know no events. Each is the contract of a function without a body, and holds of every formula, layout, stream and run."""
+The three theorems above say what holds of the reports that came. These laws say which reports come: but for
+[[law no_false_blame]] they begin at the bytes, and know no events. Each is the contract of a function with an empty body, proved like any
+other."""
 
 RIGHT_PHRASES = [
-    ("if its bytes are lines of which", """[[IsRightStream: text : bytes ≡ flat_map line_text lines]], each within the limits,
-     [[IsRightStream: fits : AllByRecursion IsWithinLimits lines]]."""),
-    ("each is right by those before it", """[[AreRight: IsRightLine p s base line × AreRight p s (after_line base line) lines]]: by
-     the [[Database]] that those before it left, from the formula's clauses on ([[first_database]])."""),
-    ("as LRAT has it", """whether the definitions are LRAT's, without RAT steps, is for a reader to judge: clauses are put into the
-     database and taken away by identity ([[after_line]]). Identities by turns, room and imports are this project's own."""),
-    ("the next identity of its own or a later one", """[[IsRightAddition: owns : Owns p s id]], and [[IsRightAddition: above :
-     base.last < id]]."""),
-    ("variables of the formula, room", """[[IsRightAddition: literals : AllByRecursion (λ l. nat_abs l ≤ p.vars) lits]], and
-     [[IsRightAddition: room : length (distinct lits) ≤ base.free]]; what is deleted gives no room back."""),
-    ("hints whose clauses are there and show its clause", """[[IsRightAddition: named : AllZip (λ h d. base.clauses h ≡ Some d)
-     hints hinted]], and [[IsRightAddition: shown : Accepts (distinct lits) hinted]]: no tautology, and with its literals false the
-     clauses but the last become unit in turn, and the last a conflict ([[Accepts]])."""),
-    ("what a deletion or an import names is there", """[[IsRightDeletion: there : AllByRecursion (λ id. IsSome (base.clauses id))
-     ids]], each once; [[IsRightImport: there : base.clauses id ≡ Some clause]], of another stream or the formula, with the same
-     literals."""),
-    ("In every run a right stream ends, with its lines counted", """the law [[law right_reported]], [[RightReported: report ≡
-     right_report terms s lines]], of the reports of [[fn run]] and of [[fn run_serial]] ([[IsRun]]). Alone it has this
-     report, and no other, by the laws [[law right_accepted]] and [[law right_has_one_report]]; all that it deletes is counted, by
-     the law [[law right_counted]], and 'empty' is told exactly if a line adds the empty clause, by the law [[law right_empty]]."""),
-    ("unless memory ran out or a read failed", "[[RightReported: ¬ IsOfMemory report → ¬ IsOfFailure report]]."),
+    ("Which lines are right is said under [Streams](#streams)", """[[IsRightLine]], by the [[Database]] that the lines before it left,
+     from the formula's clauses on: [[AreRight: IsRightLine p s base line × AreRight p s (after_line base line) lines]],
+     [[first_database]]. An addition: [[IsRightAddition: owns : Owns p s id]], [[IsRightAddition: above : base.last < id]],
+     [[IsRightAddition: literals : AllByRecursion (λ l. nat_abs l ≤ p.vars) lits]], [[IsRightAddition: room : length (distinct lits)
+     ≤ base.free]], where what is deleted gives no room back; its hints have clauses there, [[IsRightAddition: named : AllZip (λ h d.
+     base.clauses h ≡ Some d) hints hinted]], which show it, [[IsRightAddition: shown : Accepts (distinct lits) hinted]], and it is no
+     tautology ([[Accepts]]). A deletion: [[IsRightDeletion: there : AllByRecursion (λ id. IsSome (base.clauses id)) ids]], each once.
+     An import: [[IsRightImport: there : base.clauses id ≡ Some clause]], not the stream's own, with the same literals. The limits are
+     [[IsWithinLimits]]. Whether this is LRAT's replay without RAT is for a reader to judge. It is stricter than usual checkers: a
+     hint that isn't unit (a satisfied one too), a hint behind the conflict, a literal beside its complement, a variable that the
+     formula hasn't, an identity that isn't the stream's or isn't above its last one, and a deletion of what isn't there, or twice,
+     aren't right. And it has more: imports; and a deletion of an own clause is for all streams, of another for this one alone."""),
+    ("Unless memory ran out or a read failed", "[[RightReported: ¬ IsOfMemory report → ¬ IsOfFailure report]]."),
+    ("a stream of right lines is always reported `ended`, with its lines counted", """the law [[law right_reported]]: the bytes are
+     the lines' texts, [[IsRightStream: text : bytes ≡ flat_map line_text lines]], and its reader has them left at first,
+     [[RightReported: telling.entry ≡ Some bytes]]; then [[RightReported: report ≡ right_report terms s lines]], of the reports of
+     [[fn run]] and of [[fn run_serial]] ([[IsRun]]). Alone it has this report, and no other, by the laws [[law right_accepted]] and
+     [[law right_has_one_report]]; so where a reader tells nothing the same follows of the bytes that its reads gave, up to its first
+     end, by the [[fn run.alone]]. All that it deletes is counted, by the law [[law right_counted]], and 'empty' is told exactly if a
+     line adds the empty clause, by the law [[law right_empty]]."""),
     ("that cite, import and delete only their own clauses and the formula's", """[[EndedIsRight: CiteWithin terms.layout (one s)
      bytes → DeleteWithin terms.layout (one s) bytes]]. A right stream cites so by the law [[law right_cite_within]]. A checker takes
      a deletion of what another stream never had, which is no right line."""),
-    ("alone no other ends", """the law [[law ended_is_right]], [[EndedIsRight: (lines : List StreamLine) × IsRightStream f terms.layout s
-     bytes lines]]."""),
-    ("the lines of several streams have an order in which each is right", """[[IsRightOrder: right : AreRightTogether p (λ t.
+    ("no other is", """the law [[law ended_is_right]], [[EndedIsRight: (lines : List StreamLine) × IsRightStream f terms.layout s
+     bytes lines]], of a report that the stream may have alone, as that of a run is by its `isolated`."""),
+    ("Streams whose lines have an order in which each is right", """[[IsRightOrder: right : AreRightTogether p (λ t.
      first_database f p) steps]]: each stream has a database of its own, and another's addition puts its clause there too
-     ([[beside_line]])."""),
-    ("each stream ends so, or a line of it cites a clause of another stream that wasn't there, or wasn't any more", """the law [[law
+     ([[beside_line]]). Not all streams that ended have such an order."""),
+    ("are reported so too, or stop at a clause of another stream that isn't there yet, or was retired", """the law [[law
      right_together]], [[RightTogether: (report ≡ right_report terms s (lines_by s steps)) ⊎ LacksOfAnother (setting_of terms s)
-     report]]. No order is needed where some legal history judges them and all ended: the law [[law no_false_blame]]."""),
-    ("With a right refutation among its streams", """[[AskForRightRefutation: right : IsRightRefutation asks.formula (layout_at
-     asks.given asks.formula) s bytes]]: the words have no fault and a layout, the files tell a formula and assumptions without fault
-     ([[AskWell]]), and the file of one stream a right stream, of which some line adds the empty clause."""),
-    ("the program ends with status 0", """the law [[law right_refutation_says]], [[RightRefutationSays: (status ≡ 0) ⊎ IsExcused R files
-     words s IsCutOff out status]], of all that `command` may do by its clause `ends`. For streams whose lines have a right order
-     the law [[law right_order_says]]."""),
-    ("or with 7; or with 5 or 6, for a fault of the machine", """[[IsExcused: unwritten : (failed : out.failed ≡ true)]];
-     [[IsExcused: machine : IsOfMachine fault]]."""),
-    ("with 3 or 8, and then memory ran out in that stream or a read of it failed", """[[IsExcused: (why : Lost report)]], with
-     [[IsCutOff: IsOfMemory report ⊎ IsOfFailure report]]."""),
+     report]], with the same exceptions. No order is needed where some legal history judges them and this stream ended: the law
+     [[law no_false_blame]]. Where more comes behind the lines, the report tells at least what they do; or memory ran out, a read
+     failed, or such a clause lacked, in these lines: the law [[law together_begins]],
+     [[TogetherBegins: LacksOfAnotherIn (setting_of terms s) (length (lines_by s steps)) report]]."""),
+    ("with `--serial`, if that is the order by turns of all lines, none stops", """the law [[law right_by_turns]], of runs whose order
+     is by turns ([[IsByTurns]]), as that of [[fn run_serial.ordered]] is. Here nothing comes behind the lines of any stream,
+     [[RightByTurns: HaveJustTexts steps told]], and no report of any is of memory or a failed read, [[RightByTurns: NoneCutShort
+     reports]]. Any two such runs of the same bytes have the same order and reports: the laws [[law turns_decide]] and
+     [[law bytes_decide]]."""),
+    ("where words, formula and assumptions are accepted", """[[AskWell]]: the words have no fault and a layout, and the files tell a
+     formula and assumptions without fault."""),
+    ("a stream begins with right lines, one of which adds the empty clause", """[[IsRightRefutation: right : IsRightBeginning f p s
+     bytes lines]], and [[IsRightRefutation: empty : Any AddsEmpty lines]]. What comes behind them may be anything: the report tells
+     at least what they do, by the law [[law right_begins]], [[RightBegins: TellsAtLeast report (right_report terms s lines)]]. Or
+     streams have lines with a right order, and one of them adds it ([[AskForRightOrder]])."""),
+    ("the status is 0", """the laws [[law right_refutation_says]], [[RightRefutationSays: (status ≡ 0)]], and
+     [[law right_order_says]], of all that `command` may do by its clause `ends`; with `--serial` [[law right_turns_say]], and
+     [[law serial_outcomes_agree]]."""),
+    ("or 7; or 5 or 6, by a fault of the machine", """[[IsExcused: unwritten : (failed : out.failed ≡ true)]];
+     [[IsExcused: machine : IsOfMachine fault]], which a stream's file that isn't opened is too."""),
+    ("or 3 or 8, and then it stopped so in these lines", """[[IsExcused: (why : Lost report)]], with
+     [[RightRefutationSays: IsCutOffIn (length ask.right.lines)]], or [[IsHeldUp]] where the streams cite each other."""),
+    ("proved over files that tell their bytes", """[[AskForRightRefutation: tells : files.tells path ≡ Some bytes]]. The argument is that
+     [of AUDIT](AUDIT.md#status-0), under 'Which reads?'."""),
 ]
 
 RUNS_HOW = """## How to read it
@@ -1023,8 +1041,10 @@ it promises nothing."""
 STORE_LAWS = [f"lrup_model/src/laws.rt: {name}" for name in "entries_advance known_stays pass_tells".split()]
 GROUP_LAWS = [f"run_laws/src/groups.rt: {name}" for name in "others_empty same_reading_agrees same_bytes_agree".split()]
 RIGHT_LAWS = [f"run_laws/src/right.rt: {name}" for name in """right_reported right_accepted right_has_one_report right_counted
-    right_empty right_cite_within ended_is_right right_together no_false_blame""".split()]
-PROGRAM_LAWS = [f"outcome_laws/src/laws.rt: {name}" for name in "right_refutation_says right_order_says".split()]
+    right_empty right_begins right_cite_within ended_is_right right_together together_begins no_false_blame""".split()] + [
+    f"run_laws/src/turns.rt: {name}" for name in "right_by_turns turns_decide bytes_decide".split()]
+PROGRAM_LAWS = [f"outcome_laws/src/laws.rt: {name}" for name in """right_refutation_says right_order_says right_turns_say
+    serial_outcomes_agree""".split()]
 
 LAWS = """## The laws
 
@@ -1052,6 +1072,7 @@ def audit_page():
     """The page on status 0 and 8, with the definitions that each clause takes."""
     command = Contract("command/src/program.rt: command", ["out", "err", "sound", "sound_under"], commented=False)
     arguments = Contract("command/src/arguments.rt: command_with_arguments", ["sound"])
+    check = Contract("command/src/program.rt: check_formula", ["sound"])
     guarantee = sentence("The guarantee:").split(". ")[0].split("; ")
     sound, under = phrase_by_phrase(guarantee[0], STATUS_0_PHRASES), phrase_by_phrase(guarantee[1], STATUS_8_PHRASES)
     placed = {}
@@ -1062,7 +1083,7 @@ def audit_page():
         AUDIT_TOP, sound[0], SIGNATURE, command, "Phrase by phrase:", sound[1], ACCOUNT,
         AUDIT_HOW.replace("{count}", str(len(definitions_of(first)))).replace("{twins}", twins(things)), *first,
         STATUS_8_TOP, *under, f"{len(definitions_of(more))} definitions more.", *more,
-        AUDIT_LIBRARIES, libraries(things, []), TRUST], cited=[arguments, Law("command_line/src/laws.rt: plain_words"),
+        AUDIT_LIBRARIES, libraries(things, []), TRUST], cited=[arguments, check, Law("command_line/src/laws.rt: plain_words"),
         Law("dimacs/src/laws.rt: one_formula")])
     page.sound = first
     return page

@@ -1,7 +1,9 @@
 /* Refuses one call of the program that the loader puts it before (LD_PRELOAD), and leaves the file MARK where it did.
    REFUSE is KIND:N or KIND:N:HOW, with N from 1: the N-th call of that kind.
      allocate:N     malloc, calloc, realloc and their like give nothing
-     thread:N       pthread_create says EAGAIN
+     thread:N       pthread_create says EAGAIN. Each thread that was started begins LATE milliseconds later, so whoever doesn't wait
+                    for its end goes on before it has begun; and where something is written the next time, MARK gets three
+                    numbers: how many threads were started, how many of them had begun, and how many ended, ten seconds later at most
      read:N:HOW     read; HOW is EIO, EINTR, or short or half: one byte, or half of those asked for
      write:N:HOW    write; HOW is EIO, ENOSPC, EPIPE, or short or half
    A test's tool, and no part of the program. */
@@ -11,8 +13,10 @@
 #include <fcntl.h>
 #include <pthread.h>
 #include <stdatomic.h>
+#include <stdio.h>
 #include <stdlib.h>
 #include <string.h>
+#include <time.h>
 #include <unistd.h>
 
 extern void *__libc_malloc(size_t), *__libc_calloc(size_t, size_t), *__libc_realloc(void *, size_t), *__libc_memalign(size_t, size_t);
@@ -20,15 +24,17 @@ extern ssize_t __read(int, void *, size_t), __write(int, const void *, size_t);
 
 enum kind { NONE, ALLOCATE, THREAD, READ, WRITE };
 static enum kind refused = NONE;
-static long number;
+static long number, late;
 static const char *how = "", *mark = "";
-static atomic_long calls;
+static atomic_long calls, started, begun, ended;
+static atomic_int to_be_told;
 
 __attribute__((constructor)) static void begin(void) {
     static const char *const names[] = {"", "allocate", "thread", "read", "write"};
     const char *refuse = getenv("REFUSE");
     mark = getenv("MARK");
     if (refuse == NULL || mark == NULL) return;
+    if (getenv("LATE") != NULL) late = strtol(getenv("LATE"), NULL, 10);
     for (int kind = ALLOCATE; kind <= WRITE; kind++) {
         size_t length = strlen(names[kind]);
         if (strncmp(refuse, names[kind], length) == 0 && refuse[length] == ':') {
@@ -65,11 +71,51 @@ int posix_memalign(void **block, size_t align, size_t size) {
     return 0;
 }
 
+static void sleep_for(long milliseconds) {
+    nanosleep(&(struct timespec){milliseconds / 1000, milliseconds % 1000 * 1000000}, NULL);
+}
+
+static struct thread {
+    void *(*run)(void *);
+    void *argument;
+} threads[1000];
+static atomic_long given;
+
+static void *run_late(void *place) {
+    struct thread *thread = place;
+    sleep_for(late);
+    atomic_fetch_add(&begun, 1);
+    void *result = thread->run(thread->argument);
+    atomic_fetch_add(&ended, 1);
+    return result;
+}
+
 int pthread_create(pthread_t *thread, const pthread_attr_t *attributes, void *(*run)(void *), void *argument) {
     static int (*create)(pthread_t *, const pthread_attr_t *, void *(*)(void *), void *);
-    if (is_refused(THREAD)) return EAGAIN;
+    if (is_refused(THREAD)) {
+        atomic_store(&to_be_told, 1);
+        return EAGAIN;
+    }
     if (create == NULL) *(void **)&create = dlsym(RTLD_NEXT, "pthread_create");
-    return create(thread, attributes, run, argument);
+    long place = atomic_fetch_add(&given, 1);
+    if (place >= (long)(sizeof threads / sizeof threads[0])) abort();
+    threads[place] = (struct thread){run, argument};
+    int error = create(thread, attributes, run_late, &threads[place]);
+    if (error == 0) atomic_fetch_add(&started, 1);
+    return error;
+}
+
+/* Says once, behind a start that was refused, what has become of the threads that were started. Whoever waits for a thread may go on
+   a moment before the system has ended it. */
+static void tell_threads(void) {
+    if (!atomic_exchange(&to_be_told, 0)) return;
+    long had_begun = atomic_load(&begun);
+    for (int i = 0; i < 1000 && atomic_load(&ended) < atomic_load(&started); i++) sleep_for(10);
+    char text[64];
+    int length = snprintf(text, sizeof text, "%ld %ld %ld\n", atomic_load(&started), had_begun, atomic_load(&ended));
+    int file = open(mark, O_WRONLY | O_CLOEXEC);
+    if (file < 0 || __write(file, text, length) != length) abort();
+    close(file);
 }
 
 /* How many bytes the call may move, or -1 with errno. */
@@ -91,6 +137,7 @@ ssize_t read(int file, void *bytes, size_t size) {
 }
 
 ssize_t write(int file, const void *bytes, size_t size) {
+    tell_threads();
     ssize_t most = is_refused(WRITE) ? allowed(size) : (ssize_t)size;
     return most < 0 ? -1 : __write(file, bytes, most);
 }

@@ -26,7 +26,7 @@ COLUMNS = 100
 FOREIGN = set("""
 ANTT.md CONTRACTS.md SHORTER_PROOFS.md BUILD.bazel start_lib start_io proves untested --only
 cadical libcadical-dev yosys -j -v -q --plain --no-binary pv socat ssh madvise
-group1 group2 my_lemma run_ serial_ worker_ XValue OPTIONS=--serial
+group1 group2 my_lemma run_ serial_ worker_ XValue OPTIONS=--serial LIMIT=900
 """.split())
 
 

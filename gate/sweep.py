@@ -6,8 +6,9 @@
 It builds refuse.c, which the loader puts before the C library, and runs PROGRAM with the first call of a kind refused, then
 with the second, and so on until a run meets no refusal; that run has to give the ample answer. Then it does so with a few
 tests: runs without the program around them, calls that can be made again, and calls that take no memory. They are as `rt ci`
-built them; where there are none, RT, Rattle's command, makes them. Where a thread isn't started, pipes that stay open are left
-alone, and hold nothing up. Last, what a store took has to be given back.
+built them; where there are none, RT, Rattle's command, makes them. Where a thread isn't started, those that were have ended before
+that is said, and pipes that stay open are left alone, and hold nothing up; a program that waits for no thread has to be found
+wrong. Last, what a store took has to be given back.
 """
 import fcntl
 import functools
@@ -47,6 +48,7 @@ GROWTHS = 100  # how many allocations more the many clauses may take, whose list
 MOST = 1_000  # calls of a kind are refused of a run; none makes as many
 SECONDS = 20  # within which a run ends whose thread isn't started, and not a minute later, when the others' tries are over
 LIMIT = 100  # seconds, after which a run hangs
+LATE = 50  # milliseconds that a thread takes to begin, where one isn't started
 HELD = 30  # the same of one that waits for a pipe
 
 
@@ -72,7 +74,8 @@ class Machine:
         """The answer, whether a call was refused, and the seconds that it took. What `--watch` tells is compared with the report, and
         isn't in the answer where it is right."""
         self.mark.unlink(missing_ok=True)
-        surroundings = {"LD_PRELOAD": str(self.shim), "REFUSE": refuse, "MARK": str(self.mark), "PATH": os.environ["PATH"]}
+        surroundings = {"LD_PRELOAD": str(self.shim), "REFUSE": refuse, "MARK": str(self.mark), "PATH": os.environ["PATH"],
+                        "LATE": str(LATE if refuse.startswith("thread") else 0)}
         began = time.monotonic()
         with open(out or os.devnull, "wb") as full:
             try:
@@ -84,6 +87,15 @@ class Machine:
         if "--watch" in words:
             answer = without_told_ends(answer, refuse)
         return answer, self.mark.exists(), time.monotonic() - began
+
+    def threads(self):
+        """What became of the threads that were started before the one that was refused, in words."""
+        told = self.mark.read_text().split() if self.mark.exists() else []
+        return "; of {} threads {} had begun, and {} ended".format(*told) if told else ""
+
+    def has_waited_for(self, count):
+        """Were as many threads started before the one that was refused, and had they all begun, and ended, when that was said?"""
+        return self.mark.read_text().split() == [str(count)] * 3
 
     @functools.cache
     def answer_without(self, given, number, line):
@@ -164,7 +176,8 @@ def are_due(kind, ample, given):
 
 def is_right(kind, how, number, answer, ample, given, seconds, machine):
     if kind == "thread":
-        return answer == not_started((number - 1) % given.streams + 1) and seconds < SECONDS
+        return (answer == not_started((number - 1) % given.streams + 1) and seconds < SECONDS
+                and machine.has_waited_for(number - 1))
     if answer == ample and may_be_ample(kind, how, ample, given):
         return True
     if kind == "allocate":
@@ -194,7 +207,7 @@ def sweep(machine, given, kind, how):
         causes.append(answer.err)
         answers.append(answer)
         if not is_right(kind, how, number, answer, ample, given, seconds, machine):
-            wrong.append(f"{given.name}, {refuse}, {seconds:.1f} s: {answer}")
+            wrong.append(f"{given.name}, {refuse}, {seconds:.1f} s: {answer}{machine.threads()}")
         if number == MOST:
             return number, [*wrong, f"{given.name}, more calls than may be: {refuse}"]
     if answer != ample or answer.status is None:
@@ -337,11 +350,12 @@ def sweep_test(machine, test, kind):
             break
         causes.add(cause)
         if kind == "thread":
-            right = test.streams > 0 and cause == f"Spawn({(number - 1) % test.streams + 1})"
+            right = (test.streams > 0 and cause == f"Spawn({(number - 1) % test.streams + 1})"
+                     and machine.has_waited_for(number - 1))
         else:
             right = cause in test.told or not (cause or test.always)
         if not right or "Spawn" in cause and seconds > SECONDS:
-            wrong.append(f"{test.name}, {kind}:{number}, {seconds:.1f} s: {cause}")
+            wrong.append(f"{test.name}, {kind}:{number}, {seconds:.1f} s: {cause}{machine.threads()}")
     if cause:
         wrong.append(f"{test.name}, nothing refused: {cause}")
     if kind == "allocate":
@@ -349,6 +363,18 @@ def sweep_test(machine, test, kind):
     if number - 1 != 2 * test.streams if kind == "thread" else number == 1:
         wrong.append(f"{test.name}, {number - 1} calls refused: {kind}")
     return number - 1, wrong
+
+
+def unjoined(folder):
+    """What is wrong where a program that waits for none of its threads isn't found wrong, wherever some were started."""
+    program = folder / "unjoined"
+    subprocess.run([os.environ.get("CC", "cc"), "-std=gnu11", "-pthread", "-o", program, ROOT / "gate" / "unjoined.c"], check=True)
+    machine, found = Machine(program, folder), []
+    for number in range(1, 7):
+        answer, _, _ = machine.run([], f"thread:{number}")
+        if answer == not_started((number - 1) % 3 + 1) and not machine.has_waited_for(number - 1):
+            found.append(number)
+    return [] if found == [2, 3, 4, 5, 6] else [f"a program that waits for no thread is found wrong at {found}"]
 
 
 def waiting(pipe):
@@ -371,8 +397,9 @@ def leave(machine, folder, count):
     for number in range(1, 2 * count + 1):
         answer, _, seconds = machine.run([str(FOUR_CLAUSE), *map(str, paths)], f"thread:{number}", limit=HELD)
         left = [waiting(pipe) for pipe in pipes]
-        if answer != not_started((number - 1) % count + 1) or left != [len(line)] * count:
-            wrong.append(f"{name}, thread:{number}, {seconds:.1f} s: {answer}; bytes left: {left}")
+        right = answer == not_started((number - 1) % count + 1) and machine.has_waited_for(number - 1)
+        if not right or left != [len(line)] * count:
+            wrong.append(f"{name}, thread:{number}, {seconds:.1f} s: {answer}; bytes left: {left}{machine.threads()}")
             break
     for pipe in pipes:
         os.close(pipe)
@@ -397,6 +424,7 @@ def main():
     began, refused, wrong, allocations = time.monotonic(), {}, [], {}
     with tempfile.TemporaryDirectory() as name:
         folder = Path(name)
+        wrong += unjoined(folder)
         machine = Machine(os.path.abspath(sys.argv[1]), folder)
         for given in inputs(folder):
             for kind, how in kinds(given):

@@ -27,7 +27,7 @@ from forms import read_formula
 from harness import HERE, ROOT, Failure, Skipped, dimacs, example, generated, random_clauses, run_all, want, written
 
 FLAGS = sys.argv[2] if len(sys.argv) > 2 else "-O2"
-OUT = os.path.join(HERE, "solve", "out", *["flags"] * (len(sys.argv) > 2))
+OUT = os.path.join(HERE, "solve", "out", *[re.sub(r"\W+", "", FLAGS)] * (len(sys.argv) > 2))
 SOLVE, TESTED = os.path.join(OUT, "lrup-solve"), os.path.join(OUT, "lrup-solve-tested")
 SECONDS = 120
 EARLY = "elimint=10 probeint=10 subsumeint=10 compactint=10 reduceint=20 rephaseint=20"

@@ -33,6 +33,8 @@ const char summary[] =
     "Statuses: 10 satisfiable, 20 unsatisfiable (or so under the assumptions), 0 unknown, 1 a mistake, or a file that\n"
     "can't be used.\n";
 
+std::string version() { return std::string("lrup-solve ") + VERSION + ", with CaDiCaL " + engine_version() + "\n"; }
+
 class Words {
 public:
     Words(int count, char **words) : next(words + 1), end(words + count) {}
@@ -128,7 +130,7 @@ Options read_words(int count, char **list) {
     while (words.more()) {
         const char *word = words.take();
         if (strcmp(word, "--help") == 0 || strcmp(word, "-h") == 0) show(summary);
-        if (strcmp(word, "--version") == 0) show((std::string("lrup-solve, with CaDiCaL ") + engine_version() + "\n").c_str());
+        if (strcmp(word, "--version") == 0) show(version().c_str());
         if (strcmp(word, "--no-share") == 0) options.share = false;
         else if (strcmp(word, "-v") == 0) options.verbose = true;
         else if (strcmp(word, "-q") == 0) options.quiet = true;

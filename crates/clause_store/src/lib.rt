@@ -3,6 +3,7 @@
 #![tactic(auto)]
 
 mod desk;
+pub mod laws;
 mod meeting;
 mod pass;
 mod store;

@@ -23,6 +23,7 @@ use std::thread::{Threads, for_each_mut, join, yield_now};
 use test_support::{four_clauses, lit};
 
 mod interleavings;
+mod meeting;
 mod memory;
 
 /// Stops the test where two values differ: an assertion that is proved once for all tests.

@@ -2,6 +2,7 @@
 use Rattle.std.proofs.Common.{◌≡◌, ◌∙◌, ℕ, Bool, false, List, map, length, Option, None, Some, IfSome, Result, Ok, Err, IfOk, IfErr, inl, inr, sym, ap, subst, rules}
 use Rattle.std.proofs.lemmas.List.{length-map}
 use Rattle.std.specs.Prelude.{◌↔◌, IsErrAnd}
+use Rattle.dimacs.specs.FormulaText.{IsFormulaText}
 use Rattle.lrup_model.specs.Cube.{CubeValue, IsUnsatisfiableUnder}
 use Rattle.lrup_model.specs.Entailment.{IsUnsatisfiable}
 use Rattle.lrup_model.specs.Formula.{Cnf}
@@ -16,7 +17,7 @@ use Rattle.command_line.specs.CommandLine.{AskFor, IsCommandLineOf}
 use Rattle.command_line.specs.declared.words.CommandLine.{CommandLine}
 use Rattle.command.specs.Commands.{AreAssumed, IsAssumeCause, NameUnsatisfiableUnder, assumed_at}
 use Rattle.command.specs.Commands.{AreChecked, AreOpened, IsCause, IsFormulaAt, IsOpenCause, IsOutcome, IsReadCause}
-use Rattle.command.specs.Commands.{FilesView, IsRunCause, NameUnsatisfiable, Text, WasReadIn, layout_at, terms_given, options_of}
+use Rattle.command.specs.Commands.{FilesView, IsRunCause, NameUnsatisfiable, Text, WasRead, WasReadIn, layout_at, options_of}
 use Rattle.command.specs.Faults.{of_run}
 use Rattle.command.specs.declared.fault.CommandFault.{CommandFault}
 use Rattle.command.specs.declared.fault.CommandFault.TheVariants as faults
@@ -81,29 +82,48 @@ ask_for : (words : List Text) (given : CommandLine) → IsCommandLineOf words gi
 ask_for words given line = record { good = line.good; formula_is = line.said.formula; assume_is = sym line.said.assume }
 
 -- what was read is a text of a formula that no assignment satisfies
-pub names_unsatisfiable : (R : Type 0) (files : FilesView R) (words : List Text) (given : CommandLine) (f : Cnf) → IsCommandLineOf words given
-    → IsFormulaAt R files given.formula.now f → IsUnsatisfiable f → NameUnsatisfiable (WasReadIn R files) words
-names_unsatisfiable R files words given f line at refuted =
-    (given.formula.now, assumed_at given, at.0, f, ask_for words given line, at.1, at.2, refuted)
+pub names_unsatisfiable : (R : Type 0) (files : FilesView R) (words : List Text) (given : CommandLine) (bytes : List ℕ) (next : files.State) → IsCommandLineOf words given
+    → WasReadIn R files files.first given.formula.now bytes next → (f : Cnf) × IsFormulaText bytes f × IsUnsatisfiable f
+    → NameUnsatisfiable files.State (WasReadIn R files) files.first words
+names_unsatisfiable R files words given bytes next line read refuted =
+    (given.formula.now, assumed_at given, bytes, refuted.0, next, ask_for words given line, read, refuted.1, refuted.2)
 
--- so with the assumed literals
-pub names_unsatisfiable_under : (R : Type 0) (files : FilesView R) (words : List Text) (given : CommandLine) (f : Cnf) (cube : CubeValue) → IsCommandLineOf words given
-    → IsFormulaAt R files given.formula.now f → AreAssumed (WasReadIn R files) f.vars (assumed_at given) cube → IsUnsatisfiableUnder f cube → NameUnsatisfiableUnder (WasReadIn R files) words
-names_unsatisfiable_under R files words given f cube line at assumed refuted =
-    (given.formula.now, assumed_at given, at.0, f, cube, ask_for words given line, at.1, at.2, assumed, refuted)
+-- so with the assumed literals, of files that tell the same as before
+pub names_unsatisfiable_under : (R : Type 0) (files : FilesView R) (words : List Text) (given : CommandLine) (bytes : List ℕ) (next : files.State) (tells : Text → Option (List ℕ))
+    → tells ≡ files.tells → IsCommandLineOf words given → WasReadIn R files files.first given.formula.now bytes next
+    → (f : Cnf) × (cube : CubeValue) × (after : files.State) × IsFormulaText bytes f
+    × AreAssumed (WasRead files.opens files.reading.reads tells) f.vars next (assumed_at given) cube after × IsUnsatisfiableUnder f cube
+    → NameUnsatisfiableUnder files.State (WasReadIn R files) files.first words
+names_unsatisfiable_under R files words given bytes next tells told line read (f, cube, after, text, assumed, refuted) =
+    let same = subst (λ (t : Text → Option (List ℕ)). AreAssumed (WasRead files.opens files.reading.reads t) f.vars next (assumed_at given) cube after) told assumed in
+    (given.formula.now, assumed_at given, bytes, f, cube, next, after, ask_for words given line, read, text, same, refuted)
 
 -- what is checked is the outcome of the words and the files
-pub is_outcome : (R : Type 0) (files : FilesView R) (words : List Text) (given : CommandLine) (f : Cnf) (cube : CubeValue) (options : OptionsValue) (readers : List R)
-    → IsCommandLineOf words given → IsFormulaAt R files given.formula.now f → AreAssumed (WasReadIn R files) f.vars (assumed_at given) cube
-    → options ≡ options_of given → AreOpened files.opens given.streams readers → map files.reading.left readers ≡ map files.tells given.streams
+pub is_outcome : (R : Type 0) (files : FilesView R) (words : List Text) (given : CommandLine) (f : Cnf) (cube : CubeValue) (options : OptionsValue) (readers : List R) (next later last : files.State)
+    → IsCommandLineOf words given → IsFormulaAt R files given.formula.now f next → AreAssumed (WasReadIn R files) f.vars next (assumed_at given) cube later
+    → options ≡ options_of given → AreOpened files.opens later given.streams readers last → map files.reading.left readers ≡ map files.tells given.streams
     → (reports : List Report) (verdict : Verdict)
     → AreChecked files.reading given.serial f (terms_of options cube f (length readers)) readers reports verdict
     → IsOutcome R files words reports verdict
-is_outcome R files words given f cube options readers line at assumed options_are opened entries_are reports verdict checked =
+is_outcome R files words given f cube options readers next later last line at assumed options_are opened entries_are reports verdict checked =
     let one = subst (λ (o : OptionsValue). AreChecked files.reading given.serial f (terms_of o cube f (length readers)) readers reports verdict) options_are checked in
     let two = subst (λ (n : ℕ). AreChecked files.reading given.serial f (terms_of (options_of given) cube f n) readers reports verdict)
     (same_count _ _ readers given.streams entries_are) one in
-    record { given = given; command_line = line; formula = f; is_formula = at; cube = cube; assumed = assumed; readers = readers; opened = opened; left = entries_are; checked = two }
+    record {
+      given = given;
+      command_line = line;
+      formula = f;
+      next = next;
+      is_formula = at;
+      cube = cube;
+      later = later;
+      assumed = assumed;
+      readers = readers;
+      last = last;
+      opened = opened;
+      left = entries_are;
+      checked = two;
+    }
 
 -- The causes are those of the words and the files.
 pub read_cause : (R : Type 0) (files : FilesView R) (words : List Text) (given : CommandLine) → IsCommandLineOf words given
@@ -120,66 +140,66 @@ read_cause R files words given line (faults.Ring stream) cause = absurd cause
 read_cause R files words given line faults.Memory cause = tt
 read_cause R files words given line faults.Unwritten cause = absurd cause
 
-assume_cause : (R : Type 0) (files : FilesView R) (words : List Text) (given : CommandLine) (f : Cnf) → IsCommandLineOf words given
-    → IsFormulaAt R files given.formula.now f → (path : Text) → assumed_at given ≡ Some path → (fault : CommandFault) → IsAssumeCause R files f.vars (Some path) fault → IsCause R files words fault
-assume_cause R files words given f line at path same (faults.Usage text) cause = absurd cause
-assume_cause R files words given f line at path same faults.Unread cause = absurd cause
-assume_cause R files words given f line at path same (faults.Refused fault) cause = absurd cause
-assume_cause R files words given f line at path same faults.CubeUnread cause = (given, line, inr (f, at, inl (subst (λ (o : Option Text). IsAssumeCause R files f.vars o faults.CubeUnread) (sym same) cause)))
-assume_cause R files words given f line at path same (faults.CubeRefused fault) cause = (given, line, inr (f, at, inl (subst (λ (o : Option Text). IsAssumeCause R files f.vars o (faults.CubeRefused fault)) (sym same) cause)))
-assume_cause R files words given f line at path same (faults.NotOpened stream) cause = absurd cause
-assume_cause R files words given f line at path same (faults.Layout fault) cause = absurd cause
-assume_cause R files words given f line at path same (faults.NotStarted stream) cause = absurd cause
-assume_cause R files words given f line at path same (faults.Ring stream) cause = absurd cause
-assume_cause R files words given f line at path same faults.Memory cause = tt
-assume_cause R files words given f line at path same faults.Unwritten cause = absurd cause
+assume_cause : (R : Type 0) (files : FilesView R) (words : List Text) (given : CommandLine) (f : Cnf) (next : files.State) → IsCommandLineOf words given
+    → IsFormulaAt R files given.formula.now f next → (path : Text) → assumed_at given ≡ Some path → (fault : CommandFault) → IsAssumeCause R files f.vars next (Some path) fault → IsCause R files words fault
+assume_cause R files words given f next line at path same (faults.Usage text) cause = absurd cause
+assume_cause R files words given f next line at path same faults.Unread cause = absurd cause
+assume_cause R files words given f next line at path same (faults.Refused fault) cause = absurd cause
+assume_cause R files words given f next line at path same faults.CubeUnread cause = (given, line, inr (f, next, at, inl (subst (λ (o : Option Text). IsAssumeCause R files f.vars next o faults.CubeUnread) (sym same) cause)))
+assume_cause R files words given f next line at path same (faults.CubeRefused fault) cause = (given, line, inr (f, next, at, inl (subst (λ (o : Option Text). IsAssumeCause R files f.vars next o (faults.CubeRefused fault)) (sym same) cause)))
+assume_cause R files words given f next line at path same (faults.NotOpened stream) cause = absurd cause
+assume_cause R files words given f next line at path same (faults.Layout fault) cause = absurd cause
+assume_cause R files words given f next line at path same (faults.NotStarted stream) cause = absurd cause
+assume_cause R files words given f next line at path same (faults.Ring stream) cause = absurd cause
+assume_cause R files words given f next line at path same faults.Memory cause = tt
+assume_cause R files words given f next line at path same faults.Unwritten cause = absurd cause
 
-pub assumed_cause : (R : Type 0) (files : FilesView R) (words : List Text) (given : CommandLine) (f : Cnf) → IsCommandLineOf words given
-    → IsFormulaAt R files given.formula.now f → (path : Option Text) → assumed_at given ≡ path → (fault : CommandFault) → IsAssumeCause R files f.vars path fault → IsCause R files words fault
-assumed_cause R files words given f line at None same fault cause = absurd cause
-assumed_cause R files words given f line at (Some path) same fault cause = assume_cause R files words given f line at path same fault cause
+pub assumed_cause : (R : Type 0) (files : FilesView R) (words : List Text) (given : CommandLine) (f : Cnf) (next : files.State) → IsCommandLineOf words given
+    → IsFormulaAt R files given.formula.now f next → (path : Option Text) → assumed_at given ≡ path → (fault : CommandFault) → IsAssumeCause R files f.vars next path fault → IsCause R files words fault
+assumed_cause R files words given f next line at None same fault cause = absurd cause
+assumed_cause R files words given f next line at (Some path) same fault cause = assume_cause R files words given f next line at path same fault cause
 
-pub open_cause : (R : Type 0) (files : FilesView R) (words : List Text) (given : CommandLine) (f : Cnf) (cube : CubeValue) → IsCommandLineOf words given
-    → IsFormulaAt R files given.formula.now f → AreAssumed (WasReadIn R files) f.vars (assumed_at given) cube → (fault : CommandFault) → IsOpenCause files.may_refuse given.streams fault → IsCause R files words fault
-open_cause R files words given f cube line at assumed (faults.Usage text) cause = absurd cause
-open_cause R files words given f cube line at assumed faults.Unread cause = absurd cause
-open_cause R files words given f cube line at assumed (faults.Refused fault) cause = absurd cause
-open_cause R files words given f cube line at assumed faults.CubeUnread cause = absurd cause
-open_cause R files words given f cube line at assumed (faults.CubeRefused fault) cause = absurd cause
-open_cause R files words given f cube line at assumed (faults.NotOpened stream) cause = (given, line, inr (f, at, inr (cube, assumed, inl cause)))
-open_cause R files words given f cube line at assumed (faults.Layout fault) cause = absurd cause
-open_cause R files words given f cube line at assumed (faults.NotStarted stream) cause = absurd cause
-open_cause R files words given f cube line at assumed (faults.Ring stream) cause = absurd cause
-open_cause R files words given f cube line at assumed faults.Memory cause = tt
-open_cause R files words given f cube line at assumed faults.Unwritten cause = absurd cause
+pub open_cause : (R : Type 0) (files : FilesView R) (words : List Text) (given : CommandLine) (f : Cnf) (cube : CubeValue) (next later : files.State) → IsCommandLineOf words given
+    → IsFormulaAt R files given.formula.now f next → AreAssumed (WasReadIn R files) f.vars next (assumed_at given) cube later → (fault : CommandFault) → IsOpenCause files.opens files.may_refuse later given.streams fault → IsCause R files words fault
+open_cause R files words given f cube next later line at assumed (faults.Usage text) cause = absurd cause
+open_cause R files words given f cube next later line at assumed faults.Unread cause = absurd cause
+open_cause R files words given f cube next later line at assumed (faults.Refused fault) cause = absurd cause
+open_cause R files words given f cube next later line at assumed faults.CubeUnread cause = absurd cause
+open_cause R files words given f cube next later line at assumed (faults.CubeRefused fault) cause = absurd cause
+open_cause R files words given f cube next later line at assumed (faults.NotOpened stream) cause = (given, line, inr (f, next, at, inr (cube, later, assumed, inl cause)))
+open_cause R files words given f cube next later line at assumed (faults.Layout fault) cause = absurd cause
+open_cause R files words given f cube next later line at assumed (faults.NotStarted stream) cause = absurd cause
+open_cause R files words given f cube next later line at assumed (faults.Ring stream) cause = absurd cause
+open_cause R files words given f cube next later line at assumed faults.Memory cause = tt
+open_cause R files words given f cube next later line at assumed faults.Unwritten cause = absurd cause
 
-line_cause : (R : Type 0) (files : FilesView R) (words : List Text) (given : CommandLine) (f : Cnf) (cube : CubeValue) → IsCommandLineOf words given
-    → IsFormulaAt R files given.formula.now f → AreAssumed (WasReadIn R files) f.vars (assumed_at given) cube → (fault : CommandFault) → IsRunCause given.serial (layout_at given f) fault → IsCause R files words fault
-line_cause R files words given f cube line at assumed (faults.Usage text) cause = absurd cause
-line_cause R files words given f cube line at assumed faults.Unread cause = absurd cause
-line_cause R files words given f cube line at assumed (faults.Refused fault) cause = absurd cause
-line_cause R files words given f cube line at assumed faults.CubeUnread cause = absurd cause
-line_cause R files words given f cube line at assumed (faults.CubeRefused fault) cause = absurd cause
-line_cause R files words given f cube line at assumed (faults.NotOpened stream) cause = absurd cause
-line_cause R files words given f cube line at assumed (faults.Layout fault) cause = (given, line, inr (f, at, inr (cube, assumed, inr cause)))
-line_cause R files words given f cube line at assumed (faults.NotStarted stream) cause = (given, line, inr (f, at, inr (cube, assumed, inr cause)))
-line_cause R files words given f cube line at assumed (faults.Ring stream) cause = (given, line, inr (f, at, inr (cube, assumed, inr cause)))
-line_cause R files words given f cube line at assumed faults.Memory cause = tt
-line_cause R files words given f cube line at assumed faults.Unwritten cause = absurd cause
+line_cause : (R : Type 0) (files : FilesView R) (words : List Text) (given : CommandLine) (f : Cnf) (cube : CubeValue) (next later : files.State) → IsCommandLineOf words given
+    → IsFormulaAt R files given.formula.now f next → AreAssumed (WasReadIn R files) f.vars next (assumed_at given) cube later → (fault : CommandFault) → IsRunCause given.serial (layout_at given f) fault → IsCause R files words fault
+line_cause R files words given f cube next later line at assumed (faults.Usage text) cause = absurd cause
+line_cause R files words given f cube next later line at assumed faults.Unread cause = absurd cause
+line_cause R files words given f cube next later line at assumed (faults.Refused fault) cause = absurd cause
+line_cause R files words given f cube next later line at assumed faults.CubeUnread cause = absurd cause
+line_cause R files words given f cube next later line at assumed (faults.CubeRefused fault) cause = absurd cause
+line_cause R files words given f cube next later line at assumed (faults.NotOpened stream) cause = absurd cause
+line_cause R files words given f cube next later line at assumed (faults.Layout fault) cause = (given, line, inr (f, next, at, inr (cube, later, assumed, inr cause)))
+line_cause R files words given f cube next later line at assumed (faults.NotStarted stream) cause = (given, line, inr (f, next, at, inr (cube, later, assumed, inr cause)))
+line_cause R files words given f cube next later line at assumed (faults.Ring stream) cause = (given, line, inr (f, next, at, inr (cube, later, assumed, inr cause)))
+line_cause R files words given f cube next later line at assumed faults.Memory cause = tt
+line_cause R files words given f cube next later line at assumed faults.Unwritten cause = absurd cause
 
 -- so a run's cause, by the layout that the run has
-pub run_cause_of : (R : Type 0) (files : FilesView R) (words : List Text) (given : CommandLine) (f : Cnf) (cube : CubeValue) (options : OptionsValue) (readers : List R)
-    → IsCommandLineOf words given → IsFormulaAt R files given.formula.now f → AreAssumed (WasReadIn R files) f.vars (assumed_at given) cube
+pub run_cause_of : (R : Type 0) (files : FilesView R) (words : List Text) (given : CommandLine) (f : Cnf) (cube : CubeValue) (options : OptionsValue) (readers : List R) (next later : files.State)
+    → IsCommandLineOf words given → IsFormulaAt R files given.formula.now f next → AreAssumed (WasReadIn R files) f.vars next (assumed_at given) cube later
     → options ≡ options_of given → map files.reading.left readers ≡ map files.tells given.streams
     → (fault : CommandFault) → IsRunCause given.serial (layout_of options f (length readers)) fault → IsCause R files words fault
-run_cause_of R files words given f cube options readers line at assumed options_are entries_are fault cause =
+run_cause_of R files words given f cube options readers next later line at assumed options_are entries_are fault cause =
     let count = same_count _ _ readers given.streams entries_are in
     let moved = subst (λ (p : LayoutValue). IsRunCause given.serial p fault) (same_layout options f given (length readers) options_are count) cause in
-    line_cause R files words given f cube line at assumed fault moved
+    line_cause R files words given f cube next later line at assumed fault moved
 
 -- the files refuse the same before and after the formula was read
-pub open_moved : (may later_may : Text → Bool) (paths later_paths : List Text) → later_may ≡ may → later_paths ≡ paths → (fault : CommandFault)
-    → IsOpenCause later_may later_paths fault → IsOpenCause may paths fault
-open_moved may later_may paths later_paths may_stays paths_are fault cause =
-    let one = subst (λ (m : Text → Bool). IsOpenCause m later_paths fault) may_stays cause in
-    subst (λ (ps : List Text). IsOpenCause may ps fault) paths_are one
+pub open_moved : {F R : Type 0} (opens : F → Text → R → F → Type 0) (may later_may : Text → Bool) (first : F) (paths later_paths : List Text) → later_may ≡ may → later_paths ≡ paths
+    → (fault : CommandFault) → IsOpenCause opens later_may first later_paths fault → IsOpenCause opens may first paths fault
+open_moved opens may later_may first paths later_paths may_stays paths_are fault cause =
+    let one = subst (λ (m : Text → Bool). IsOpenCause opens m first later_paths fault) may_stays cause in
+    subst (λ (ps : List Text). IsOpenCause opens may first ps fault) paths_are one

@@ -5,3 +5,4 @@ mod ReadingLemmas
 mod WordLemmas
 mod ArgumentLemmas
 mod FileLemmas
+mod StatusLemmas

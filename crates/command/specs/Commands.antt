@@ -1,5 +1,5 @@
 -- What a whole run of the program comes to (this project's own).
-use Rattle.std.specs.Prelude.{◌≡◌, ◌≢◌, ◌+◌, ◌++◌, ◌⊎◌, ℕ, Bool, true, false, IsTrue, List, [], ◌∷◌, map, length, slice_get, Option, None, Some, option_map, IsSome}
+use Rattle.std.specs.Prelude.{◌≡◌, ◌≢◌, ◌+◌, ◌++◌, ◌⊎◌, ℕ, Bool, true, false, IsTrue, List, [], ◌∷◌, map, length, slice_get, take, Option, None, Some, option_map, IsSome}
 use Rattle.std.specs.Io.KnownBytes.{Appends, Keeps}
 use Rattle.std.specs.Borrow.{Bor}
 use Rattle.std.specs.List.{AllByRecursion}
@@ -24,7 +24,8 @@ use Rattle.runs.specs.Headline.{AreJudgedIn}
 use Rattle.portfolio.specs.Outcomes.{OptionsValue, layout_of, terms_of, verdict_of}
 use Rattle.portfolio.specs.ReportText.{report_text}
 use Rattle.runs.specs.Readings.{AreRead}
-use Rattle.runs.specs.Streams.{IsOrdered, StandsOnStreams, Stream, TermsValue, tellings}
+use Rattle.runs.specs.Streams.{StandsOnStreams, Stream, TermsValue, tellings}
+use Rattle.runs.specs.Turns.{IsOrderedByTurns}
 use Rattle.portfolio.specs.declared.outcome.Verdict.{Verdict}
 use Rattle.portfolio.specs.declared.outcome.Verdict.TheVariants.{Unsatisfiable, UnsatisfiableUnder, Unknown}
 use Rattle.command_line.specs.CommandLine.{AskFor, HaveFault, IsCommandLineOf}
@@ -37,35 +38,43 @@ use Rattle.command.specs.declared.fault.CommandFault.TheVariants as faults
 abbrev pub Text : Type 0
 Text = List ℕ
 
--- The file at the path was opened, and its reads gave these bytes, up to its first end. Where the
--- device tells the file's bytes, they are these.
-pub record WasRead (R : Type 0) (opens : Text → R → Type 0) (reads : ReadsOf R)
-    (tells : Text → Option (List ℕ)) (path : Text) (bytes : List ℕ) : Type 0 where
+-- The opening of the path led from the files before to those after, and reads of its file gave these
+-- bytes, up to its first end. Where the device tells the file's bytes, they are these.
+pub record WasRead {F R : Type 0} (opens : F → Text → R → F → Type 0) (reads : ReadsOf R)
+    (tells : Text → Option (List ℕ)) (before : F) (path : Text) (bytes : List ℕ)
+    (after : F) : Type 0 where
   pub reader : R
-  pub opened : opens path reader
+  pub opened : opens before path reader after
   pub gave : GaveAll R reads reader bytes
   pub told : ForSome (tells path) (λ all. all ≡ bytes)
 
--- The words ask for a formula, and what was read of the file at its path is a text of one that no
--- assignment satisfies.
-abbrev pub NameUnsatisfiable : (Text → List ℕ → Type 0) → List Text → Type 0
-NameUnsatisfiable Read words =
-    (formula : Text) × (assume : Option Text) × (bytes : List ℕ) × (f : Cnf)
-    × AskFor words formula assume × Read formula bytes × IsFormulaText bytes f × IsUnsatisfiable f
+-- The words ask for a formula, and what was read of the file at its path, the first to be opened, is
+-- a text of one that no assignment satisfies.
+abbrev pub NameUnsatisfiable : (F : Type 0) → (F → Text → List ℕ → F → Type 0) → F → List Text
+    → Type 0
+NameUnsatisfiable F Read first words =
+    (formula : Text) × (assume : Option Text) × (bytes : List ℕ) × (f : Cnf) × (after : F)
+    × AskFor words formula assume × Read first formula bytes after × IsFormulaText bytes f
+    × IsUnsatisfiable f
 
--- what was read of the files of the assumed literals, over the variables 1 to vars; without a path there are none
-abbrev pub AreAssumed : (Text → List ℕ → Type 0) → ℕ → Option Text → CubeValue → Type 0
-AreAssumed Read vars None cube = cube ≡ []
-AreAssumed Read vars (Some path) cube =
-    (bytes : List ℕ) × Read path bytes × IsCubeText vars bytes cube
+-- what was read of the file of the assumed literals, over the variables 1 to vars; without a path
+-- there are none, and nothing is opened
+abbrev pub AreAssumed : {F : Type 0} → (F → Text → List ℕ → F → Type 0) → ℕ → F → Option Text
+    → CubeValue → F → Type 0
+AreAssumed Read vars before None cube after = (cube ≡ []) × (after ≡ before)
+AreAssumed Read vars before (Some path) cube after =
+    (bytes : List ℕ) × Read before path bytes after × IsCubeText vars bytes cube
 
--- The words ask for a formula and for assumed literals, and what was read of their files is a text
--- of the one and of the others, under which no assignment satisfies the formula.
-abbrev pub NameUnsatisfiableUnder : (Text → List ℕ → Type 0) → List Text → Type 0
-NameUnsatisfiableUnder Read words =
+-- The words ask for a formula and for assumed literals, and what was read of their files, the first
+-- two to be opened, is a text of the one and of the others, under which no assignment satisfies the
+-- formula.
+abbrev pub NameUnsatisfiableUnder : (F : Type 0) → (F → Text → List ℕ → F → Type 0) → F
+    → List Text → Type 0
+NameUnsatisfiableUnder F Read first words =
     (formula : Text) × (assume : Option Text) × (bytes : List ℕ) × (f : Cnf) × (cube : CubeValue)
-    × AskFor words formula assume × Read formula bytes × IsFormulaText bytes f
-    × AreAssumed Read f.vars assume cube × IsUnsatisfiableUnder f cube
+    × (next last : F) × AskFor words formula assume × Read first formula bytes next
+    × IsFormulaText bytes f × AreAssumed Read f.vars next assume cube last
+    × IsUnsatisfiableUnder f cube
 
 -- the options of a command line
 abbrev pub options_of : CommandLine → OptionsValue
@@ -79,10 +88,10 @@ layout_at given f = layout_of (options_of given) f (length given.streams)
 abbrev pub terms_given : CommandLine → CubeValue → Cnf → TermsValue
 terms_given given cube f = terms_of (options_of given) cube f (length given.streams)
 
--- what the reports say of the streams: on one thread they have an order of lines; with two threads for each, each was read to its
+-- what the reports say of the streams: on one thread they have an order of lines, by turns; with two threads for each, each was read to its
 -- end or to a read that failed, and they are judged by their events of one legal history
 abbrev pub AreReported : Bool → Cnf → TermsValue → List Report → List Stream → Type 0
-AreReported true f terms reports streams = IsOrdered f terms (λ s. true) streams reports
+AreReported true f terms reports streams = IsOrderedByTurns f terms streams reports
 AreReported false f terms reports streams =
     AllByRecursion (λ stream. IsSome stream.end) streams
     × ((h : History) × IsLegal f terms.layout h
@@ -102,18 +111,23 @@ pub record AreChecked {R : Type 0} (reading : SourceView R) (serial : Bool) (f :
   pub sound : verdict ≡ Unsatisfiable → IsUnsatisfiable f
   pub sound_under : verdict ≡ UnsatisfiableUnder → IsUnsatisfiableUnder f terms.cube
 
--- What is known of files: what the file at each path tells, where the device tells it, whether a path may be refused, what an opening
--- does, and what is known of the readers that they are opened as.
+-- What is known of files: as what they pass from one opening to the next, and which of these they are at first; what the file at
+-- each path tells, where the device tells it, and whether a path may be refused, of which both stay; what an opening does; and what
+-- is known of the readers that files are opened as.
 pub record FilesView (R : Type 0) : Type 1 where
+  pub State : Type 0
+  pub first : State
   pub tells : Text → Option (List ℕ)
   pub may_refuse : Text → Bool
-  pub opens : Text → R → Type 0
+  pub opens : State → Text → R → State → Type 0
   pub reading : SourceView R
 
 -- the record of these
-abbrev pub files_view : {R : Type 0} → (Text → Option (List ℕ)) → (Text → Bool)
-    → (R → Option (List ℕ)) → (R → Bool) → (Text → R → Type 0) → ReadsOf R → FilesView R
-files_view tells may_refuse left has_failed opens reads = record {
+abbrev pub files_view : {F R : Type 0} → F → (Text → Option (List ℕ)) → (Text → Bool)
+    → (R → Option (List ℕ)) → (R → Bool) → (F → Text → R → F → Type 0) → ReadsOf R → FilesView R
+files_view {F = F} first tells may_refuse left has_failed opens reads = record {
+  State = F;
+  first = first;
   tells = tells;
   may_refuse = may_refuse;
   opens = opens;
@@ -121,12 +135,14 @@ files_view tells may_refuse left has_failed opens reads = record {
 }
 
 -- what was read of the file at a path, by what is known of files
-abbrev pub WasReadIn : (R : Type 0) → FilesView R → Text → List ℕ → Type 0
-WasReadIn R files = WasRead R files.opens files.reading.reads files.tells
+abbrev pub WasReadIn : (R : Type 0) (files : FilesView R) → files.State → Text → List ℕ
+    → files.State → Type 0
+WasReadIn R files = WasRead files.opens files.reading.reads files.tells
 
--- the formula whose text was read of the file at a path
-abbrev pub IsFormulaAt : (R : Type 0) → FilesView R → Text → Cnf → Type 0
-IsFormulaAt R files path f = (bytes : List ℕ) × WasReadIn R files path bytes × IsFormulaText bytes f
+-- the formula whose text was read of the file at a path, the first to be opened, and the files after that
+abbrev pub IsFormulaAt : (R : Type 0) (files : FilesView R) → Text → Cnf → files.State → Type 0
+IsFormulaAt R files path f after =
+    (bytes : List ℕ) × WasReadIn R files files.first path bytes after × IsFormulaText bytes f
 
 -- the path that is lent, if any
 abbrev pub path_of : Option (Bor Text) → Option Text
@@ -136,24 +152,30 @@ path_of path = option_map (λ p. p.now) path
 abbrev pub assumed_at : CommandLine → Option Text
 assumed_at given = path_of given.assume
 
--- The files at the paths were opened, in order, as these readers.
-abbrev pub AreOpened : {R : Type 0} → (Text → R → Type 0) → List Text → List R → Type 0
-AreOpened opens [] [] = Unit {0}
-AreOpened opens (path ∷ paths) (reader ∷ readers) =
-    opens path reader × AreOpened opens paths readers
-AreOpened opens _ _ = ⊥
+-- The files at the paths were opened as these readers, each by the opening next after the one before it: the first from the files
+-- before, the last to those after.
+abbrev pub AreOpened : {F R : Type 0} → (F → Text → R → F → Type 0) → F → List Text → List R → F
+    → Type 0
+AreOpened opens before [] [] after = after ≡ before
+AreOpened {F = F} opens before (path ∷ paths) (reader ∷ readers) after =
+    (next : F) × opens before path reader next × AreOpened opens next paths readers after
+AreOpened opens before _ _ after = ⊥
 
--- The reports and the verdict that the words and the files come to. `readers` are the streams' files as they were opened.
+-- The reports and the verdict that the words and the files come to. The first opening is the formula's, the next is that of the
+-- assumed literals, if any, and then come those of the streams, in order. `readers` are their files as they were opened.
 pub record IsOutcome (R : Type 0) (files : FilesView R) (words : List Text) (reports : List Report)
     (verdict : Verdict) : Type 0 where
   pub given : CommandLine
   pub command_line : IsCommandLineOf words given
   pub formula : Cnf
-  pub is_formula : IsFormulaAt R files given.formula.now formula
+  pub next : files.State
+  pub is_formula : IsFormulaAt R files given.formula.now formula next
   pub cube : CubeValue
-  pub assumed : AreAssumed (WasReadIn R files) formula.vars (assumed_at given) cube
+  pub later : files.State
+  pub assumed : AreAssumed (WasReadIn R files) formula.vars next (assumed_at given) cube later
   pub readers : List R
-  pub opened : AreOpened files.opens given.streams readers
+  pub last : files.State
+  pub opened : AreOpened files.opens later given.streams readers last
   pub left : map files.reading.left readers ≡ map files.tells given.streams
   pub checked : AreChecked files.reading given.serial formula (terms_given given cube formula)
       readers reports verdict
@@ -175,47 +197,58 @@ IsFailedRead reading first faults.Unread = HasBrokenOff reading first
 IsFailedRead reading first faults.Memory = Unit {0}
 IsFailedRead reading first fault = ⊥
 
--- The file at the path was opened, and its reading failed.
-pub record WasUnread (R : Type 0) (files : FilesView R) (path : Text) : Type 0 where
+-- The file at the path was opened, from the files before, and its reading failed.
+pub record WasUnread (R : Type 0) (files : FilesView R) (before : files.State)
+    (path : Text) : Type 0 where
   pub reader : R
-  pub opened : files.opens path reader
+  pub after : files.State
+  pub opened : files.opens before path reader after
   pub left : files.reading.left reader ≡ files.tells path
   pub broken : HasBrokenOff files.reading reader
 
 -- why the file at a path wasn't read: it was refused, or its reading failed
-abbrev pub IsFileCause : (R : Type 0) → FilesView R → Text → CommandFault → Type 0
-IsFileCause R files path faults.Unread = IsTrue (files.may_refuse path) ⊎ WasUnread R files path
-IsFileCause R files path faults.Memory = Unit {0}
-IsFileCause R files path fault = ⊥
+abbrev pub IsFileCause : (R : Type 0) (files : FilesView R) → files.State → Text → CommandFault
+    → Type 0
+IsFileCause R files before path faults.Unread =
+    IsTrue (files.may_refuse path) ⊎ WasUnread R files before path
+IsFileCause R files before path faults.Memory = Unit {0}
+IsFileCause R files before path fault = ⊥
 
--- why the formula at a path wasn't read: its file was refused, or its reading failed, or it holds no formula
+-- why the formula at a path wasn't read: its file, the first to be opened, was refused, or its reading failed, or it holds no formula
 abbrev pub IsReadCause : (R : Type 0) → FilesView R → Text → CommandFault → Type 0
-IsReadCause R files path faults.Unread = IsTrue (files.may_refuse path) ⊎ WasUnread R files path
+IsReadCause R files path faults.Unread =
+    IsTrue (files.may_refuse path) ⊎ WasUnread R files files.first path
 IsReadCause R files path (faults.Refused fault) =
     (fault ≢ formulas.Memory)
-    × ((bytes : List ℕ) × WasReadIn R files path bytes × IsFormulaFault bytes fault)
+    × ((bytes : List ℕ) × (after : files.State) × WasReadIn R files files.first path bytes after
+    × IsFormulaFault bytes fault)
 IsReadCause R files path faults.Memory = Unit {0}
 IsReadCause R files path fault = ⊥
 
--- why the assumed literals at a path, over the variables 1 to vars, weren't read: their file was refused, or its reading failed, or
--- it holds no text of them; without a path there is no cause
-abbrev pub IsAssumeCause : (R : Type 0) → FilesView R → ℕ → Option Text → CommandFault → Type 0
-IsAssumeCause R files vars None fault = ⊥
-IsAssumeCause R files vars (Some path) faults.CubeUnread =
-    IsTrue (files.may_refuse path) ⊎ WasUnread R files path
-IsAssumeCause R files vars (Some path) (faults.CubeRefused fault) =
+-- why the assumed literals at a path, over the variables 1 to vars, weren't read: their file, the next to be opened, was refused, or
+-- its reading failed, or it holds no text of them; without a path there is no cause
+abbrev pub IsAssumeCause : (R : Type 0) (files : FilesView R) → ℕ → files.State → Option Text
+    → CommandFault → Type 0
+IsAssumeCause R files vars before None fault = ⊥
+IsAssumeCause R files vars before (Some path) faults.CubeUnread =
+    IsTrue (files.may_refuse path) ⊎ WasUnread R files before path
+IsAssumeCause R files vars before (Some path) (faults.CubeRefused fault) =
     (fault ≢ cubes.Memory)
-    × ((bytes : List ℕ) × WasReadIn R files path bytes × IsCubeFault vars bytes fault)
-IsAssumeCause R files vars (Some path) faults.Memory = Unit {0}
-IsAssumeCause R files vars (Some path) fault = ⊥
+    × ((bytes : List ℕ) × (after : files.State) × WasReadIn R files before path bytes after
+    × IsCubeFault vars bytes fault)
+IsAssumeCause R files vars before (Some path) faults.Memory = Unit {0}
+IsAssumeCause R files vars before (Some path) fault = ⊥
 
--- why not all of the streams at these paths were opened: the file of one was refused, counted from 1
-abbrev pub IsOpenCause : (Text → Bool) → List Text → CommandFault → Type 0
-IsOpenCause may_refuse paths (faults.NotOpened stream) =
-    (place : ℕ) × (path : Text) × (stream ≡ place + 1) × (slice_get paths place ≡ Some path)
+-- why not all of the streams at these paths were opened: those before one were, in order, and the file of that one, counted from 1,
+-- was refused
+abbrev pub IsOpenCause : {F R : Type 0} → (F → Text → R → F → Type 0) → (Text → Bool) → F
+    → List Text → CommandFault → Type 0
+IsOpenCause {F = F} {R = R} opens may_refuse before paths (faults.NotOpened stream) =
+    (place : ℕ) × (path : Text) × (readers : List R) × (after : F) × (stream ≡ place + 1)
+    × (slice_get paths place ≡ Some path) × AreOpened opens before (take place paths) readers after
     × IsTrue (may_refuse path)
-IsOpenCause may_refuse paths faults.Memory = Unit {0}
-IsOpenCause may_refuse paths fault = ⊥
+IsOpenCause opens may_refuse before paths faults.Memory = Unit {0}
+IsOpenCause opens may_refuse before paths fault = ⊥
 
 -- why streams weren't checked: there is no layout; or there is one, and a thread wasn't started, or what it sent had no end
 abbrev pub IsRunCause : Bool → LayoutValue → CommandFault → Type 0
@@ -232,10 +265,11 @@ IsRunCause serial p fault = ⊥
 abbrev pub IsCauseAt : (R : Type 0) → FilesView R → CommandLine → CommandFault → Type 0
 IsCauseAt R files given fault =
     IsReadCause R files given.formula.now fault
-    ⊎ ((f : Cnf) × IsFormulaAt R files given.formula.now f
-    × (IsAssumeCause R files f.vars (assumed_at given) fault
-    ⊎ ((cube : CubeValue) × AreAssumed (WasReadIn R files) f.vars (assumed_at given) cube
-    × (IsOpenCause files.may_refuse given.streams fault
+    ⊎ ((f : Cnf) × (next : files.State) × IsFormulaAt R files given.formula.now f next
+    × (IsAssumeCause R files f.vars next (assumed_at given) fault
+    ⊎ ((cube : CubeValue) × (later : files.State)
+    × AreAssumed (WasReadIn R files) f.vars next (assumed_at given) cube later
+    × (IsOpenCause files.opens files.may_refuse later given.streams fault
     ⊎ IsRunCause given.serial (layout_at given f) fault))))
 
 -- Why there is no outcome, by the words and the files.

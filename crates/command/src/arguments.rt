@@ -45,18 +45,18 @@ pub fn command_with_arguments<
     requires out { O.has_failed out.old ≡ false }
     requires err { E.has_failed err.old ≡ false }
     // What a user relies on: with status 0 the bytes that were read of FORMULA are a text of a formula that no assignment satisfies.
-    ensures sound { let read = WasRead _ (F.opens files.old)
-        F.Input.Source.reads (F.tells files.old) in
+    ensures sound { let read = WasRead F.opens F.Input.Source.reads (F.tells files.old) in
         exit_status result ≡ 0
-        → IsOkAnd arguments (λ given. NameUnsatisfiable read (words_after_name given)) }
+        → IsOkAnd arguments (λ given.
+        NameUnsatisfiable _ read files.old (words_after_name given)) }
     // With status 8 no assignment makes it and every literal of the assumed ones' file true.
-    ensures sound_under { let read = WasRead _ (F.opens files.old)
-        F.Input.Source.reads (F.tells files.old) in
+    ensures sound_under { let read = WasRead F.opens F.Input.Source.reads (F.tells files.old) in
         exit_status result ≡ 8
-        → IsOkAnd arguments (λ given. NameUnsatisfiableUnder read (words_after_name given)) }
+        → IsOkAnd arguments (λ given.
+        NameUnsatisfiableUnder _ read files.old (words_after_name given)) }
     // A report of what the words and the files come to, or none and the cause; what goes out; and the status.
-    ensures ends { let view = files_view (F.tells files.old) (F.may_refuse files.old)
-        F.Input.Source.left F.Input.Source.has_failed (F.opens files.old) F.Input.Source.reads in
+    ensures ends { let view = files_view files.old (F.tells files.old) (F.may_refuse files.old)
+        F.Input.Source.left F.Input.Source.has_failed F.opens F.Input.Source.reads in
         let output = change (O.written out.old) (O.written out.new) (O.has_failed out.new) in
         let errors = change (E.written err.old) (E.written err.new) (E.has_failed err.new) in
         IfOk arguments (λ given.
@@ -95,14 +95,12 @@ fn with_words<T: Threads + Wait + Sync, C: Clock + Sync, F: Files, M: WatchSinks
 ) -> u8
     requires out { O.has_failed out.old ≡ false }
     requires err { E.has_failed err.old ≡ false }
-    ensures sound { let read = WasRead _ (F.opens files.old)
-        F.Input.Source.reads (F.tells files.old) in
-        result ≡ 0 → NameUnsatisfiable read (words_after_name arguments) }
-    ensures sound_under { let read = WasRead _ (F.opens files.old)
-        F.Input.Source.reads (F.tells files.old) in
-        result ≡ 8 → NameUnsatisfiableUnder read (words_after_name arguments) }
-    ensures ends { let view = files_view (F.tells files.old) (F.may_refuse files.old)
-        F.Input.Source.left F.Input.Source.has_failed (F.opens files.old) F.Input.Source.reads in
+    ensures sound { let read = WasRead F.opens F.Input.Source.reads (F.tells files.old) in
+        result ≡ 0 → NameUnsatisfiable _ read files.old (words_after_name arguments) }
+    ensures sound_under { let read = WasRead F.opens F.Input.Source.reads (F.tells files.old) in
+        result ≡ 8 → NameUnsatisfiableUnder _ read files.old (words_after_name arguments) }
+    ensures ends { let view = files_view files.old (F.tells files.old) (F.may_refuse files.old)
+        F.Input.Source.left F.Input.Source.has_failed F.opens F.Input.Source.reads in
         let output = change (O.written out.old) (O.written out.new) (O.has_failed out.new) in
         let errors = change (E.written err.old) (E.written err.new) (E.has_failed err.new) in
         EndsWithReport _ view (words_after_name arguments) output errors result

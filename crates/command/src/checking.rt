@@ -1,21 +1,28 @@
 //! From the words to the reports.
-ghost use Rattle.std.specs.Prelude.{◌≡◌, ◌<◌, ℕ, List, true, false, IfErr, IfOk, Some, length, map, vec_len};
+ghost use Rattle.std.specs.Prelude.{◌≡◌, ◌≢◌, ◌<◌, ◌≤◌, List, true, false, IfErr, IfOk, Some, length, map, vec_len};
 ghost use Rattle.std.specs.List.{AllByRecursion};
 ghost use Rattle.std.specs.Option.{ForSome};
 ghost use Rattle.clap.specs.Walk.{texts};
+ghost use Rattle.command_line.specs.CommandLine.{IsCommandLineOf};
+ghost use Rattle.dimacs.specs.FormulaFault.{IsFormulaFault};
+ghost use Rattle.dimacs.specs.FormulaText.{IsFormulaText};
+ghost use Rattle.lrup_model.specs.Cube.{CubeValue, IsUnsatisfiableUnder};
+ghost use Rattle.lrup_model.specs.Entailment.{IsUnsatisfiable};
+ghost use Rattle.lrup_model.specs.Formula.{Cnf};
 ghost use Rattle.portfolio.specs.Outcomes.{layout_of, terms_of};
 ghost use Rattle.lrup_text.specs.ReadOut.{source_view};
 ghost use Rattle.lrup_text.specs.Reads.{GaveAll};
-ghost use Rattle.command.specs.Commands.{AreChecked, AreOpened, IsCause, IsFailedRead, IsFormulaAt};
-ghost use Rattle.command.specs.Commands.{IsOpenCause, IsOutcome, IsReadCause, IsRunCause};
-ghost use Rattle.command.specs.Commands.{AreAssumed, IsAssumeCause, IsFileCause, NameUnsatisfiable};
-ghost use Rattle.command.specs.Commands.{NameUnsatisfiableUnder, WasRead, WasReadIn, files_view, path_of};
+ghost use Rattle.command.specs.Commands.{AreAssumed, AreChecked, AreOpened, IsAssumeCause, IsCause, IsFailedRead};
+ghost use Rattle.command.specs.Commands.{IsFileCause, IsOpenCause, IsOutcome, IsRunCause, Text, WasRead, WasReadIn};
+ghost use Rattle.command.specs.Commands.{assumed_at, files_view, path_of};
 ghost use Rattle.command.specs.Faults.{of_cube_file};
+ghost use Rattle.stream_check.specs.Setting.{max_tries};
 
 use crate::fault::CommandFault;
 use crate::files::{Files, OpenFault};
 use crate::watching::WatchSinks;
-use command_line::read_words;
+use command_line::{CommandLine, read_words};
+use dimacs::DimacsFault;
 use lrup_model::{Cube, Formula};
 use lrup_text::{Source, read_cube};
 use portfolio::{
@@ -39,36 +46,75 @@ pub struct RunResult {
     pub verdict: Verdict,
 }
 
-/// Reads the words, the formula, the assumed literals and the streams that they name, and checks the streams. It blocks while a file
-/// does.
-pub fn check_words<T: Threads + Wait + Sync, C: Clock + Sync, F: Files, M: WatchSinks>(
+/// A command line, and what was read of the formula's file.
+#[derive(Drop)]
+pub struct Asked<'a> {
+    /// What the words ask for.
+    pub line: CommandLine<'a>,
+    /// The bytes of the file.
+    pub formula: Vec<u8>,
+}
+
+/// Reads the words, and the file of the formula that they ask for. It blocks while the file does.
+pub fn read_asked<'a, W: Wait, F: Files>(
+    wait: &W,
+    alloc: Global,
+    words: &'a [&'a str],
+    files: &mut F,
+) -> Result<Asked<'a>, CommandFault>
+    ensures line { IfOk result (λ asked. IsCommandLineOf (texts words.now) asked.line) }
+    ensures bytes { let view = files_view files.old (F.tells files.old) (F.may_refuse files.old)
+        F.Input.Source.left F.Input.Source.has_failed F.opens F.Input.Source.reads in
+        IfOk result (λ asked. WasReadIn _ view files.old
+        asked.line.formula.now asked.formula.items files.new) }
+    ensures cause { let view = files_view files.old (F.tells files.old) (F.may_refuse files.old)
+        F.Input.Source.left F.Input.Source.has_failed F.opens F.Input.Source.reads in
+        IfErr result (IsCause _ view (texts words.now)) }
+    ensures stays { F.tells files.new ≡ F.tells files.old }
+    ensures stays_refused { F.may_refuse files.new ≡ F.may_refuse files.old }
+{
+    let line = read_words(alloc, words)?;
+    let formula = read_file(wait, alloc, files, line.formula)?;
+    Ok(Asked { line, formula })
+}
+
+/// Parses the formula, reads the assumed literals, and opens and checks the streams. It blocks while a file does.
+pub fn check_asked<T: Threads + Wait + Sync, C: Clock + Sync, F: Files, M: WatchSinks>(
     threads: &T,
     clock: &C,
     alloc: Global,
-    words: &[&str],
+    asked: Asked<'_>,
     files: &mut F,
     watchers: &M,
 ) -> Result<RunResult, CommandFault>
-    ensures outcome { let view = files_view (F.tells files.old) (F.may_refuse files.old)
-        F.Input.Source.left F.Input.Source.has_failed (F.opens files.old) F.Input.Source.reads in
-        IfOk result (λ found.
-        IsOutcome _ view (texts words.now) found.reports.items found.verdict) }
-    ensures sound { let read = WasRead _ (F.opens files.old)
-        F.Input.Source.reads (F.tells files.old) in
-        IfOk result (λ found. found.verdict ≡ Verdict.Unsatisfiable
-        → NameUnsatisfiable read (texts words.now)) }
-    ensures sound_under { let read = WasRead _ (F.opens files.old)
-        F.Input.Source.reads (F.tells files.old) in
+    requires tries { asked.line.tries ≤ max_tries }
+    ensures outcome { (words : List Text) (first : F) →
+        let view = files_view first (F.tells files.old) (F.may_refuse files.old)
+        F.Input.Source.left F.Input.Source.has_failed F.opens F.Input.Source.reads in
+        IsCommandLineOf words asked.entry.line
+        → WasReadIn _ view first asked.entry.line.formula.now asked.entry.formula.items files.old
+        → IfOk result (λ found. IsOutcome _ view words found.reports.items found.verdict) }
+    ensures sound { IfOk result (λ found. found.verdict ≡ Verdict.Unsatisfiable
+        → (f : Cnf) × IsFormulaText asked.entry.formula.items f × IsUnsatisfiable f) }
+    ensures sound_under { let read = WasRead F.opens F.Input.Source.reads (F.tells files.old) in
         IfOk result (λ found. found.verdict ≡ Verdict.UnsatisfiableUnder
-        → NameUnsatisfiableUnder read (texts words.now)) }
-    ensures cause { let view = files_view (F.tells files.old) (F.may_refuse files.old)
-        F.Input.Source.left F.Input.Source.has_failed (F.opens files.old) F.Input.Source.reads in
-        IfErr result (IsCause _ view (texts words.now)) }
+        → (f : Cnf) × (cube : CubeValue) × (after : F)
+        × IsFormulaText asked.entry.formula.items f
+        × AreAssumed read f.vars files.old (assumed_at asked.entry.line) cube after
+        × IsUnsatisfiableUnder f cube) }
+    ensures cause { (words : List Text) (first : F) →
+        let view = files_view first (F.tells files.old) (F.may_refuse files.old)
+        F.Input.Source.left F.Input.Source.has_failed F.opens F.Input.Source.reads in
+        IsCommandLineOf words asked.entry.line
+        → WasReadIn _ view first asked.entry.line.formula.now asked.entry.formula.items files.old
+        → IfErr result (IsCause _ view words) }
 {
-    let line = read_words(alloc, words)?;
-    let formula = read_formula(threads, alloc, files, line.formula)?;
+    let Asked {
+        line,
+        formula: bytes,
+    } = asked;
+    let formula = parse_text(alloc, bytes)?;
     let cube = read_assumed(threads, alloc, files, line.assume, &formula)?;
-    // The words allow no number beyond what `Options::new` takes.
     let options = Options::new(line.tries, line.lines, line.room).unwrap();
     let readers = open_streams(alloc, files, line.streams.as_slice())?;
     check_streams(
@@ -84,26 +130,13 @@ pub fn check_words<T: Threads + Wait + Sync, C: Clock + Sync, F: Files, M: Watch
     )
 }
 
-/// Opens, reads and parses a formula's file.
-fn read_formula<W: Wait, F: Files>(
-    wait: &W,
-    alloc: Global,
-    files: &mut F,
-    path: &str,
-) -> Result<Formula, CommandFault>
-    ensures formula { let view = files_view (F.tells files.old) (F.may_refuse files.old)
-        F.Input.Source.left F.Input.Source.has_failed (F.opens files.old) F.Input.Source.reads in
-        IfOk result (IsFormulaAt _ view path.now) }
-    ensures cause { let view = files_view (F.tells files.old) (F.may_refuse files.old)
-        F.Input.Source.left F.Input.Source.has_failed (F.opens files.old) F.Input.Source.reads in
-        IfErr result (IsReadCause _ view path.now) }
-    ensures stays { F.tells files.new ≡ F.tells files.old }
-    ensures stays_refused { F.may_refuse files.new ≡ F.may_refuse files.old }
-    ensures stays_opens { (path : List ℕ) (input : F.Input) → F.opens files.new path input
-        → F.opens files.old path input }
+/// Parses a formula, and gives the memory of its text back.
+fn parse_text(alloc: Global, bytes: Vec<u8>) -> Result<Formula, DimacsFault>
+    ensures formula { IfOk result (λ formula. IsFormulaText bytes.items formula) }
+    ensures fault { IfErr result
+        (λ fault. fault ≢ DimacsFault.Memory → IsFormulaFault bytes.items fault) }
 {
-    let bytes = read_file(wait, alloc, files, path)?;
-    Ok(dimacs::parse(alloc, &bytes)?)
+    dimacs::parse(alloc, &bytes)
 }
 
 /// Opens, reads and parses the file of the assumed literals, over the formula's variables. Without a path there are none.
@@ -114,16 +147,15 @@ fn read_assumed<W: Wait, F: Files>(
     path: Option<&str>,
     formula: &Formula,
 ) -> Result<Cube, CommandFault>
-    ensures cube { let view = files_view (F.tells files.old) (F.may_refuse files.old)
-        F.Input.Source.left F.Input.Source.has_failed (F.opens files.old) F.Input.Source.reads in
-        IfOk result (AreAssumed (WasReadIn _ view) formula.now.vars (path_of path.entry)) }
-    ensures cause { let view = files_view (F.tells files.old) (F.may_refuse files.old)
-        F.Input.Source.left F.Input.Source.has_failed (F.opens files.old) F.Input.Source.reads in
-        IfErr result (IsAssumeCause _ view formula.now.vars (path_of path.entry)) }
+    ensures cube { let view = files_view files.old (F.tells files.old) (F.may_refuse files.old)
+        F.Input.Source.left F.Input.Source.has_failed F.opens F.Input.Source.reads in
+        IfOk result (λ cube. AreAssumed (WasReadIn _ view) formula.now.vars files.old
+        (path_of path.entry) cube files.new) }
+    ensures cause { let view = files_view files.old (F.tells files.old) (F.may_refuse files.old)
+        F.Input.Source.left F.Input.Source.has_failed F.opens F.Input.Source.reads in
+        IfErr result (IsAssumeCause _ view formula.now.vars files.old (path_of path.entry)) }
     ensures stays { F.tells files.new ≡ F.tells files.old }
     ensures stays_refused { F.may_refuse files.new ≡ F.may_refuse files.old }
-    ensures stays_opens { (path : List ℕ) (input : F.Input) → F.opens files.new path input
-        → F.opens files.old path input }
 {
     match path {
         None => Ok(Cube::empty(alloc)),
@@ -139,16 +171,15 @@ fn read_cube_at<W: Wait, F: Files>(
     path: &str,
     formula: &Formula,
 ) -> Result<Cube, CommandFault>
-    ensures cube { let view = files_view (F.tells files.old) (F.may_refuse files.old)
-        F.Input.Source.left F.Input.Source.has_failed (F.opens files.old) F.Input.Source.reads in
-        IfOk result (AreAssumed (WasReadIn _ view) formula.now.vars (Some path.now)) }
-    ensures cause { let view = files_view (F.tells files.old) (F.may_refuse files.old)
-        F.Input.Source.left F.Input.Source.has_failed (F.opens files.old) F.Input.Source.reads in
-        IfErr result (IsAssumeCause _ view formula.now.vars (Some path.now)) }
+    ensures cube { let view = files_view files.old (F.tells files.old) (F.may_refuse files.old)
+        F.Input.Source.left F.Input.Source.has_failed F.opens F.Input.Source.reads in
+        IfOk result (λ cube. AreAssumed (WasReadIn _ view) formula.now.vars files.old
+        (Some path.now) cube files.new) }
+    ensures cause { let view = files_view files.old (F.tells files.old) (F.may_refuse files.old)
+        F.Input.Source.left F.Input.Source.has_failed F.opens F.Input.Source.reads in
+        IfErr result (IsAssumeCause _ view formula.now.vars files.old (Some path.now)) }
     ensures stays { F.tells files.new ≡ F.tells files.old }
     ensures stays_refused { F.may_refuse files.new ≡ F.may_refuse files.old }
-    ensures stays_opens { (path : List ℕ) (input : F.Input) → F.opens files.new path input
-        → F.opens files.old path input }
 {
     match read_file(wait, alloc, files, path) {
         Ok(bytes) => Ok(read_cube(alloc, &bytes, formula.vars())?),
@@ -173,16 +204,15 @@ fn read_file<W: Wait, F: Files>(
     files: &mut F,
     path: &str,
 ) -> Result<Vec<u8>, CommandFault>
-    ensures bytes { let view = files_view (F.tells files.old) (F.may_refuse files.old)
-        F.Input.Source.left F.Input.Source.has_failed (F.opens files.old) F.Input.Source.reads in
-        IfOk result (λ bytes. WasReadIn _ view path.now bytes.items) }
-    ensures cause { let view = files_view (F.tells files.old) (F.may_refuse files.old)
-        F.Input.Source.left F.Input.Source.has_failed (F.opens files.old) F.Input.Source.reads in
-        IfErr result (IsFileCause _ view path.now) }
+    ensures bytes { let view = files_view files.old (F.tells files.old) (F.may_refuse files.old)
+        F.Input.Source.left F.Input.Source.has_failed F.opens F.Input.Source.reads in
+        IfOk result (λ bytes.
+        WasReadIn _ view files.old path.now bytes.items files.new) }
+    ensures cause { let view = files_view files.old (F.tells files.old) (F.may_refuse files.old)
+        F.Input.Source.left F.Input.Source.has_failed F.opens F.Input.Source.reads in
+        IfErr result (IsFileCause _ view files.old path.now) }
     ensures stays { F.tells files.new ≡ F.tells files.old }
     ensures stays_refused { F.may_refuse files.new ≡ F.may_refuse files.old }
-    ensures stays_opens { (path : List ℕ) (input : F.Input) → F.opens files.new path input
-        → F.opens files.old path input }
 {
     let mut source = files.open(path)?;
     read_all(wait, alloc, &mut source, PIECE)
@@ -224,10 +254,11 @@ fn open_streams<F: Files>(
     ensures left { IfOk result (λ readers.
         map F.Input.Source.left readers.items ≡ map (F.tells files.old) (texts paths.now)) }
     ensures opened { IfOk result (λ readers.
-        AreOpened (F.opens files.old) (texts paths.now) readers.items) }
+        AreOpened F.opens files.old (texts paths.now) readers.items files.new) }
     ensures running { IfOk result (λ readers.
         AllByRecursion (λ r. F.Input.Source.has_failed r ≡ false) readers.items) }
-    ensures cause { IfErr result (IsOpenCause (F.may_refuse files.old) (texts paths.now)) }
+    ensures cause { IfErr result
+        (IsOpenCause F.opens (F.may_refuse files.old) files.old (texts paths.now)) }
 {
     let mut readers = Vec::with_capacity(alloc, paths.len())?;
     for path in paths {

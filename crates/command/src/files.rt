@@ -43,19 +43,16 @@ pub trait Files {
     /// Whether the opening of a path may fail for another cause than memory.
     ghost may_refuse: { Self → List ℕ → Bool };
 
-    /// What an opening does: the files before it, the path, and the file that is open then. What a later opening does, one before it
-    /// could do.
-    ghost opens: { Self → List ℕ → Self.Input → Type 0 } = { λ _ _ _. Unit {0} };
+    /// What an opening does: the files before it, the path, the file that is open then, and the files after it.
+    ghost opens: { Self → List ℕ → Self.Input → Self → Type 0 } = { λ _ _ _ _. Unit {0} };
 
     /// Opens the file at a path, which is read from its beginning.
     fn open(&mut self, path: &str) -> Result<Self::Input, OpenFault>
         ensures left { IfOk result (λ input.
             Self.Input.Source.left input ≡ tells self.old path.now) }
         ensures running { IfOk result (λ input. Self.Input.Source.has_failed input ≡ false) }
-        ensures opens { IfOk result (opens self.old path.now) }
+        ensures opens { IfOk result (λ input. opens self.old path.now input self.new) }
         ensures refused { result ≡ Err OpenFault.NotOpened → IsTrue (may_refuse self.old path.now) }
         ensures stays { tells self.new ≡ tells self.old }
-        ensures stays_refused { may_refuse self.new ≡ may_refuse self.old }
-        ensures stays_opens { (path : List ℕ) (input : Self.Input) → opens self.new path input
-            → opens self.old path input };
+        ensures stays_refused { may_refuse self.new ≡ may_refuse self.old };
 }

@@ -9,6 +9,7 @@ mod program;
 mod watching;
 
 pub use arguments::command_with_arguments;
+pub use checking::Asked;
 pub use files::{Files, OpenFault};
-pub use program::{command, command_watched};
+pub use program::{check_formula, command, command_watched};
 pub use watching::WatchSinks;

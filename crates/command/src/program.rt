@@ -1,13 +1,19 @@
 //! The program, but for the machine that it runs on.
-ghost use Rattle.std.specs.Prelude.{◌≡◌, ◌↔◌, ◌⊎◌, IsTrue, false};
+ghost use Rattle.std.specs.Prelude.{◌≡◌, ◌↔◌, ◌⊎◌, ◌≤◌, IsTrue, List, false};
 ghost use Rattle.clap.specs.Walk.{texts};
+ghost use Rattle.dimacs.specs.FormulaText.{IsFormulaText};
+ghost use Rattle.lrup_model.specs.Cube.{CubeValue, IsUnsatisfiableUnder};
+ghost use Rattle.lrup_model.specs.Entailment.{IsUnsatisfiable};
+ghost use Rattle.lrup_model.specs.Formula.{Cnf};
 ghost use Rattle.portfolio.specs.ReportText.{report_text};
-ghost use Rattle.command_line.specs.CommandLine.{HaveFault};
-ghost use Rattle.command.specs.Commands.{EndsWithFault, EndsWithReport, NameUnsatisfiable, NameUnsatisfiableUnder, SaysOfReport, files_view};
-ghost use Rattle.command.specs.Commands.{SinkTook, WasRead, change, report_status};
+ghost use Rattle.command_line.specs.CommandLine.{HaveFault, IsCommandLineOf};
+ghost use Rattle.command.specs.Commands.{AreAssumed, EndsWithFault, EndsWithReport, NameUnsatisfiable};
+ghost use Rattle.command.specs.Commands.{NameUnsatisfiableUnder, SaysOfReport, SinkTook, Text, WasRead, WasReadIn};
+ghost use Rattle.command.specs.Commands.{assumed_at, change, files_view, report_status};
 ghost use Rattle.command.specs.Faults.{status_of, error_text};
+ghost use Rattle.stream_check.specs.Setting.{max_tries};
 
-use crate::checking::{RunResult, check_words};
+use crate::checking::{Asked, RunResult, check_asked, read_asked};
 use crate::fault::CommandFault;
 use crate::files::Files;
 use crate::watching::{Unwatched, WatchSinks};
@@ -46,16 +52,14 @@ pub fn command<T: Threads + Wait + Sync, C: Clock + Sync, F: Files, O: Sink, E: 
     requires out { O.has_failed out.old ≡ false }
     requires err { E.has_failed err.old ≡ false }
     // What a user relies on: with status 0 the bytes that were read of FORMULA are a text of a formula that no assignment satisfies.
-    ensures sound { let read = WasRead _ (F.opens files.old)
-        F.Input.Source.reads (F.tells files.old) in
-        result ≡ 0 → NameUnsatisfiable read (texts words.now) }
+    ensures sound { let read = WasRead F.opens F.Input.Source.reads (F.tells files.old) in
+        result ≡ 0 → NameUnsatisfiable _ read files.old (texts words.now) }
     // With status 8 no assignment makes it and every literal of the assumed ones' file true.
-    ensures sound_under { let read = WasRead _ (F.opens files.old)
-        F.Input.Source.reads (F.tells files.old) in
-        result ≡ 8 → NameUnsatisfiableUnder read (texts words.now) }
+    ensures sound_under { let read = WasRead F.opens F.Input.Source.reads (F.tells files.old) in
+        result ≡ 8 → NameUnsatisfiableUnder _ read files.old (texts words.now) }
     // A report of what the words and the files come to, or none and the cause; what goes out; and the status.
-    ensures ends { let view = files_view (F.tells files.old) (F.may_refuse files.old)
-        F.Input.Source.left F.Input.Source.has_failed (F.opens files.old) F.Input.Source.reads in
+    ensures ends { let view = files_view files.old (F.tells files.old) (F.may_refuse files.old)
+        F.Input.Source.left F.Input.Source.has_failed F.opens F.Input.Source.reads in
         let output = change (O.written out.old) (O.written out.new) (O.has_failed out.new) in
         let errors = change (E.written err.old) (E.written err.new) (E.has_failed err.new) in
         EndsWithReport _ view (texts words.now) output errors result
@@ -90,16 +94,14 @@ pub fn command_watched<
     requires out { O.has_failed out.old ≡ false }
     requires err { E.has_failed err.old ≡ false }
     // What a user relies on: with status 0 the bytes that were read of FORMULA are a text of a formula that no assignment satisfies.
-    ensures sound { let read = WasRead _ (F.opens files.old)
-        F.Input.Source.reads (F.tells files.old) in
-        result ≡ 0 → NameUnsatisfiable read (texts words.now) }
+    ensures sound { let read = WasRead F.opens F.Input.Source.reads (F.tells files.old) in
+        result ≡ 0 → NameUnsatisfiable _ read files.old (texts words.now) }
     // With status 8 no assignment makes it and every literal of the assumed ones' file true.
-    ensures sound_under { let read = WasRead _ (F.opens files.old)
-        F.Input.Source.reads (F.tells files.old) in
-        result ≡ 8 → NameUnsatisfiableUnder read (texts words.now) }
+    ensures sound_under { let read = WasRead F.opens F.Input.Source.reads (F.tells files.old) in
+        result ≡ 8 → NameUnsatisfiableUnder _ read files.old (texts words.now) }
     // A report of what the words and the files come to, or none and the cause; what goes out; and the status.
-    ensures ends { let view = files_view (F.tells files.old) (F.may_refuse files.old)
-        F.Input.Source.left F.Input.Source.has_failed (F.opens files.old) F.Input.Source.reads in
+    ensures ends { let view = files_view files.old (F.tells files.old) (F.may_refuse files.old)
+        F.Input.Source.left F.Input.Source.has_failed F.opens F.Input.Source.reads in
         let output = change (O.written out.old) (O.written out.new) (O.has_failed out.new) in
         let errors = change (E.written err.old) (E.written err.new) (E.has_failed err.new) in
         EndsWithReport _ view (texts words.now) output errors result
@@ -109,7 +111,58 @@ pub fn command_watched<
     // So does a report that wasn't written.
     ensures unwritten { IsTrue (O.has_failed out.new) ↔ (result ≡ 7) }
 {
-    match check_words(threads, clock, alloc, words, files, watchers) {
+    match read_asked(threads, alloc, words, files) {
+        Ok(asked) => check_formula(threads, clock, alloc, asked, files, watchers, out, err),
+        Err(fault) => say(&fault, err),
+    }
+}
+
+/// Checks the streams against a formula's text, as `command_watched` does with what it has read. In this order: the text is parsed,
+/// and its memory given back, the file of the assumed literals is read and parsed, the streams are opened and checked, and the report
+/// goes to `out`. The bytes are those of any source, so the clause `sound` knows of no file.
+pub fn check_formula<
+    T: Threads + Wait + Sync,
+    C: Clock + Sync,
+    F: Files,
+    M: WatchSinks,
+    O: Sink,
+    E: Sink,
+>(
+    threads: &T,
+    clock: &C,
+    alloc: Global,
+    asked: Asked<'_>,
+    files: &mut F,
+    watchers: &M,
+    out: &mut O,
+    err: &mut E,
+) -> u8
+    requires out { O.has_failed out.old ≡ false }
+    requires err { E.has_failed err.old ≡ false }
+    // The words allow no greater number.
+    requires tries { asked.line.tries ≤ max_tries }
+    // With status 0 the bytes are a text of a formula that no assignment satisfies.
+    ensures sound { result ≡ 0
+        → (f : Cnf) × IsFormulaText asked.entry.formula.items f × IsUnsatisfiable f }
+    // With status 8 no assignment makes it and every literal of the assumed ones' file true, which is the next to be opened.
+    ensures sound_under { let read = WasRead F.opens F.Input.Source.reads (F.tells files.old) in
+        result ≡ 8 → (f : Cnf) × (cube : CubeValue) × (after : F)
+        × IsFormulaText asked.entry.formula.items f
+        × AreAssumed read f.vars files.old (assumed_at asked.entry.line) cube after
+        × IsUnsatisfiableUnder f cube }
+    // Where words give this command line, and the bytes are what was read of FORMULA by the first opening of files that were `first`
+    // before it: a report of what these words and files come to, or none and the cause; what goes out; and the status.
+    ensures ends { (words : List Text) (first : F) →
+        let view = files_view first (F.tells files.old) (F.may_refuse files.old)
+        F.Input.Source.left F.Input.Source.has_failed F.opens F.Input.Source.reads in
+        let output = change (O.written out.old) (O.written out.new) (O.has_failed out.new) in
+        let errors = change (E.written err.old) (E.written err.new) (E.has_failed err.new) in
+        IsCommandLineOf words asked.entry.line
+        → WasReadIn _ view first asked.entry.line.formula.now asked.entry.formula.items files.old
+        → EndsWithReport _ view words output errors result
+        ⊎ EndsWithFault _ view words output errors result }
+{
+    match check_asked(threads, clock, alloc, asked, files, watchers) {
         Ok(found) => report(&found, out, err),
         Err(fault) => say(&fault, err),
     }

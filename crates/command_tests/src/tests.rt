@@ -14,6 +14,7 @@ use test_support::{Paper, Pieces};
 
 mod arguments;
 mod assumptions;
+mod changing;
 mod devices;
 mod faults;
 mod readings;

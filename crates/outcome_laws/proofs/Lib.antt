@@ -4,3 +4,4 @@ mod WordLemmas
 mod OutcomeLemmas
 mod StatusLemmas
 mod RightLemmas
+mod SerialLemmas

@@ -13,6 +13,7 @@ use Rattle.stream_check.specs.declared.report.Report.{Report}
 use Rattle.runs.specs.Closed.{IsOfStream}
 use Rattle.runs.specs.Streams.{Telling, TermsValue, StandsOnStreams, tellings}
 use Rattle.runs.specs.StreamLemmas.{told_as_many, told_count, telling_at}
+use Rattle.runs.specs.Turns.{IsOrderedByTurns}
 use Rattle.run_laws.specs.Groups.{IsRun}
 use Rattle.run_laws.specs.GroupLaws.{SerialRun}
 use Rattle.portfolio.specs.Outcomes.{OptionsValue, layout_of}
@@ -28,7 +29,7 @@ OneFormula = (bytes : List ℕ) (one other : Cnf) → IsFormulaText bytes one �
 
 is_run : SerialRun → (serial : Bool) (f : Cnf) (terms : TermsValue) (told : List Telling) (reports : List Report)
     → length told ≡ terms.layout.streams → StandsOnStreams told (AreReported serial f terms reports) → IsRun f terms told reports
-is_run law true f terms told reports count stands = law f terms told reports count stands
+is_run law true f terms told reports count stands = law f terms told reports count (record { streams = stands.streams; are_told = stands.are_told; judged = stands.judged.order })
 is_run law false f terms told reports count stands = record {
   streams = stands.streams;
   are_told = stands.are_told;
@@ -48,23 +49,37 @@ same_line s report other same =
 pub text_of : (told : Option (List ℕ)) (text bytes : List ℕ) → told ≡ Some text → ForSome told (λ all. all ≡ bytes) → text ≡ bytes
 text_of told text bytes is all = all text is
 
-pub is_text : (R : Type 0) (files : FilesView R) (path : Text) (f : Cnf) (text : List ℕ) → files.tells path ≡ Some text → IsFormulaAt R files path f → IsFormulaText text f
-is_text R files path f text told at =
+pub is_text : (R : Type 0) (files : FilesView R) (path : Text) (f : Cnf) (after : files.State) (text : List ℕ) → files.tells path ≡ Some text
+    → IsFormulaAt R files path f after → IsFormulaText text f
+is_text R files path f after text told at =
     subst (λ (x : List ℕ). IsFormulaText x f) (sym (text_of (files.tells path) text at.0 told at.1.told)) at.2
 
 -- what the readers of an outcome told
 pub told_in : (R : Type 0) (files : FilesView R) (words : List Text) (reports : List Report) (verdict : Verdict) → IsOutcome R files words reports verdict → List Telling
 told_in R files words reports verdict a = tellings files.reading a.readers a.checked.lasts
 
+-- an outcome on one thread has an order by turns
+pub turns_of : (R : Type 0) (files : FilesView R) (words : List Text) (reports : List Report) (verdict : Verdict) (a : IsOutcome R files words reports verdict) → a.given.serial ≡ true
+    → StandsOnStreams (told_in R files words reports verdict a) (λ streams. IsOrderedByTurns a.formula (terms_given a.given a.cube a.formula) streams reports)
+unfolding told_in
+turns_of R files words reports verdict a serial =
+    subst (λ (b : Bool). StandsOnStreams (told_in R files words reports verdict a) (AreReported b a.formula (terms_given a.given a.cube a.formula) reports)) serial a.checked.reported
+
+-- each stream's reader told something
+pub told_length : (R : Type 0) (files : FilesView R) (words : List Text) (reports : List Report) (verdict : Verdict) (a : IsOutcome R files words reports verdict)
+    → length (told_in R files words reports verdict a) ≡ length a.given.streams
+unfolding told_in
+told_length R files words reports verdict a =
+    told_as_many files.reading a.readers a.checked.lasts a.checked.reported.streams a.checked.read
+    ∙ sym (length-map a.readers files.reading.left) ∙ ap length a.left ∙ length-map a.given.streams files.tells
+
 -- an outcome's reports are those of a run
 pub run_of : SerialRun → (R : Type 0) (files : FilesView R) (words : List Text) (reports : List Report) (verdict : Verdict) (a : IsOutcome R files words reports verdict)
     → IsRun a.formula (terms_given a.given a.cube a.formula) (told_in R files words reports verdict a) reports
 unfolding told_in
 run_of serial R files words reports verdict a =
-    let readers : length a.readers ≡ length a.given.streams =
-    sym (length-map a.readers files.reading.left) ∙ ap length a.left ∙ length-map a.given.streams files.tells in
     is_run serial a.given.serial a.formula (terms_given a.given a.cube a.formula) (tellings files.reading a.readers a.checked.lasts) reports
-    (told_as_many files.reading a.readers a.checked.lasts a.checked.reported.streams a.checked.read ∙ readers) a.checked.reported
+    (told_length R files words reports verdict a) a.checked.reported
 
 -- what a file tells its reader had left at first
 pub telling_of_file : (R : Type 0) (files : FilesView R) (words : List Text) (reports : List Report) (verdict : Verdict) (a : IsOutcome R files words reports verdict)
@@ -82,7 +97,7 @@ pub outcomes_agree : OneFormula → SerialRun → SameBytesSayTheSame → (R : T
 outcomes_agree one_formula serial same R files Q others words other_words reports other_reports verdict other_verdict a b s text whole report other
     options count told known cites on there =
     let formulas : b.formula ≡ a.formula =
-    one_formula text b.formula a.formula (is_text Q others b.given.formula.now b.formula text known b.is_formula) (is_text R files a.given.formula.now a.formula text told a.is_formula) in
+    one_formula text b.formula a.formula (is_text Q others b.given.formula.now b.formula b.next text known b.is_formula) (is_text R files a.given.formula.now a.formula a.next text told a.is_formula) in
     let layouts : layout_at b.given b.formula ≡ layout_at a.given a.formula =
     ap (λ (x : OptionsValue). layout_of x b.formula (length b.given.streams)) options
     ∙ ap (λ (x : Cnf). layout_of (options_of a.given) x (length b.given.streams)) formulas

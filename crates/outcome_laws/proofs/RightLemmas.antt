@@ -1,8 +1,8 @@
 -- What the program says of a right refutation.
-use Rattle.std.proofs.Common.{◌≡◌, ◌⊎◌, ◌≤◌, ◌-◌, ℕ, zero, suc, ℤ, Bool, true, false, List, [], ◌∷◌, length, map, Option, None, Some, inl, inr, refl, sym, ap, subst, ◌∙◌, arith}
-use Rattle.std.specs.Prelude.{slice_get, ◌||◌, if◌then◌else◌}
+use Rattle.std.proofs.Common.{◌≡◌, ◌⊎◌, ◌<◌, ◌≤◌, ◌-◌, ◌++◌, ℕ, eqb, ne_eqb, zero, suc, ℤ, Bool, true, false, List, [], ◌∷◌, length, map, Option, None, Some, inl, inr, refl, sym, ap, subst, ◌∙◌, arith}
+use Rattle.std.specs.Prelude.{IsTrue, slice_get, ◌||◌, if◌then◌else◌}
 use Rattle.std.specs.List.{AllByRecursion, flat_map, list_any}
-use Rattle.std.proofs.lemmas.Bool.{cond-true, or_right}
+use Rattle.std.proofs.lemmas.Bool.{cases_eq, cond-true, cond-false, or_right}
 use Rattle.std.proofs.lemmas.Option.{slice_get_within, slice_get_cases}
 use Rattle.lrup_model.specs.Distinct.{distinct}
 use Rattle.lrup_model.specs.DistinctLemmas.{IsClause-distinct, length-distinct}
@@ -10,26 +10,23 @@ use Rattle.lrup_model.specs.Formula.{Cnf, IsCnf, IsFormulaClause, max_clause_lit
 use Rattle.lrup_model.specs.Layout.{LayoutValue, IsFault, IsStream}
 use Rattle.lrup_model.specs.Literal.{IsLiteral}
 use Rattle.lrup_model.specs.declared.layout.LayoutFault.{LayoutFault}
-use Rattle.lrup_text.specs.Lines.{line_text}
+use Rattle.lrup_text.specs.Lines.{StreamLine, line_text}
 use Rattle.lrup_text.specs.Cubes.{IsCubeFault}
 use Rattle.lrup_text.specs.declared.cube.CubeFault.{CubeFault}
 use Rattle.dimacs.specs.FormulaText.{IsFormulaText}
 use Rattle.dimacs.specs.FormulaFault.{IsFormulaFault}
 use Rattle.dimacs.specs.declared.fault.DimacsFault.{DimacsFault}
-use Rattle.stream_check.specs.declared.report.Ending.{Ending}
-use Rattle.stream_check.specs.declared.report.Ending.TheVariants as endings
 use Rattle.stream_check.specs.declared.report.Report.{Report}
 use Rattle.stream_check.specs.Setting.{side_of}
 use Rattle.stream_check.specs.declared.setting.Side.TheVariants as sides
-use Rattle.stream_check.specs.Laws.{IsOfMemory, IsOfFailure}
 use Rattle.runs.specs.Closed.{IsOfStream}
 use Rattle.runs.specs.Streams.{Telling, TermsValue, setting_of}
 use Rattle.runs.specs.StreamLemmas.{judged_count, same_at, told_count}
 use Rattle.run_laws.specs.Groups.{IsRun}
 use Rattle.run_laws.specs.GroupLaws.{SerialRun}
-use Rattle.run_laws.specs.Together.{IsRightOrder, HaveTexts, lines_by, RightTogether}
-use Rattle.run_laws.specs.Right.{IsRightRefutation, right_report}
-use Rattle.run_laws.specs.RightLaws.{RightReported, RightEmpty}
+use Rattle.run_laws.specs.Together.{Step, IsRightOrder, HaveTexts, lines_by, TogetherBegins}
+use Rattle.run_laws.specs.Right.{IsCutOffIn, IsRightBeginning}
+use Rattle.run_laws.specs.RightLaws.{RightBegins, RightEmpty}
 use Rattle.portfolio.specs.Outcomes.{OptionsValue, layout_of, verdict_of}
 use Rattle.portfolio.specs.declared.outcome.Verdict.{Verdict}
 use Rattle.portfolio.specs.declared.outcome.Verdict.TheVariants.{Unsatisfiable, UnsatisfiableUnder, Unknown}
@@ -39,7 +36,7 @@ use Rattle.command.specs.Commands.{EndsWithFault, EndsWithReport, FilesView, IsA
 use Rattle.command.specs.Faults.{status_of}
 use Rattle.command.specs.declared.fault.CommandFault.{CommandFault}
 use Rattle.command.specs.declared.fault.CommandFault.TheVariants as faults
-use Rattle.outcome_laws.specs.Right.{AreRightAssumptions, AskWell, AskForRightRefutation, AskForRightOrder, IsOfMachine, IsCutOff, IsHeldUp, IsExcused, unwritten, no_report, lost, RightRefutationSays, RightOrderSays}
+use Rattle.outcome_laws.specs.Right.{AreRightAssumptions, AskWell, AskForRightRefutation, AskForRightOrder, IsOfMachine, IsHeldUp, IsExcused, unwritten, no_report, lost, RightRefutationSays, RightOrderSays}
 use Rattle.outcome_laws.specs.Laws.{SameWordsAskAlike}
 use Rattle.outcome_laws.proofs.OutcomeLemmas.{OneFormula, text_of, is_text, told_in, run_of, telling_of_file}
 
@@ -68,24 +65,19 @@ one_says [] k report at is = absurd (cc)
 one_says (r ∷ rs) zero report at is = let same : r ≡ report = cc in ap (λ (x : Report). x.empty || list_any (λ y. y.empty) rs) same ∙ ap (λ (b : Bool). b || list_any (λ y. y.empty) rs) is
 one_says (r ∷ rs) (suc k) report at is = or_right r.empty (list_any (λ y. y.empty) rs) (one_says rs k report at is)
 
-by_ending : (ending : Ending) (report : Report) → report.ending ≡ ending → (IsOfMemory report ⊎ IsOfFailure report) ⊎ ((¬ IsOfMemory report) × ¬ IsOfFailure report)
-by_ending endings.Ended report is = inr (
-  λ memory. let no : endings.Ended ≡ endings.Memory memory.0 = sym is ∙ memory.1 in cc,
-  λ failed. let no : endings.Ended ≡ endings.ReadFailed failed.0 = sym is ∙ failed.1 in cc,
-)
-by_ending (endings.Bad line fault) report is = inr (
-  λ memory. let no : endings.Bad line fault ≡ endings.Memory memory.0 = sym is ∙ memory.1 in cc,
-  λ failed. let no : endings.Bad line fault ≡ endings.ReadFailed failed.0 = sym is ∙ failed.1 in cc,
-)
-by_ending (endings.ReadFailed line) report is = inl (inr (line, is))
-by_ending (endings.Memory line) report is = inl (inl (line, is))
+-- What streams have
 
--- what became of one stream
-said_of : (report : Report) → (IsOfMemory report ⊎ IsOfFailure report) ⊎ ((¬ IsOfMemory report) × ¬ IsOfFailure report)
-said_of report = by_ending report.ending report refl
+-- what holds of the stream of each step holds of one that has a line
+pub of_some : (s : ℕ) (P : ℕ → Type 0) (steps : List Step) → AllByRecursion (λ step. P step.stream) steps → 0 < length (lines_by s steps) → P s
+of_some s P [] all some = absurd (omega (arith, some))
+of_some s P (step ∷ steps) all some = elim (cases_eq step.stream s) [
+  | inl same ↦ subst P same all.0
+  | inr other ↦ of_some s P steps all.1 (subst (λ (ls : List StreamLine). 0 < length ls)
+      (cond-false (eqb step.stream s) (step.line ∷ lines_by s steps) (lines_by s steps) (ne_eqb step.stream s other)) some)
+]
 
 -- a stream of a run has a report
-has_report : (f : Cnf) (terms : TermsValue) (told : List Telling) (reports : List Report) (r : IsRun f terms told reports) (s : ℕ) → IsStream terms.layout s
+pub has_report : (f : Cnf) (terms : TermsValue) (told : List Telling) (reports : List Report) (r : IsRun f terms told reports) (s : ℕ) → IsStream terms.layout s
     → (report : Report) × IsOfStream reports s report
 has_report f terms told reports r s is =
     elim (slice_get_cases reports (s - 1)).1 [
@@ -94,12 +86,12 @@ has_report f terms told reports r s is =
     ]
 
 module _ (R : Type 0) (files : FilesView R) (Lost : Report → Type 0) where
-  when_said : (words : List Text) (s : ℕ) (out : SinkChange) (status : ℕ) (verdict : Verdict) → verdict ≡ Unsatisfiable
+  pub when_said : (words : List Text) (s : ℕ) (out : SinkChange) (status : ℕ) (verdict : Verdict) → verdict ≡ Unsatisfiable
       → (failed : Bool) → out.failed ≡ failed → status ≡ report_status failed verdict → (status ≡ 0) ⊎ IsExcused R files words s Lost out status
   when_said words s out status verdict is true failed status_is = inr (unwritten failed status_is)
   when_said words s out status verdict is false failed status_is = inl (status_is ∙ ap (report_status false) is)
 
-  when_lost : (words : List Text) (s : ℕ) (out : SinkChange) (status : ℕ) (reports : List Report) (verdict : Verdict) → IsOutcome R files words reports verdict
+  pub when_lost : (words : List Text) (s : ℕ) (out : SinkChange) (status : ℕ) (reports : List Report) (verdict : Verdict) → IsOutcome R files words reports verdict
       → (report : Report) → IsOfStream reports s report → Lost report
       → (other : Verdict) → verdict ≡ other → (failed : Bool) → out.failed ≡ failed → status ≡ report_status failed other
       → (status ≡ 0) ⊎ IsExcused R files words s Lost out status
@@ -109,7 +101,7 @@ module _ (R : Type 0) (files : FilesView R) (Lost : Report → Type 0) where
   when_lost words s out status reports verdict a report says why Unknown same false failed is = inr (lost reports verdict a report says why (inl is))
 
 -- no text of a formula has a fault: the law of `dimacs`
-abbrev NoFormulaFault : Type 0
+abbrev pub NoFormulaFault : Type 0
 NoFormulaFault = (bytes : List ℕ) (f : Cnf) (fault : DimacsFault) → IsFormulaText bytes f → ¬ IsFormulaFault bytes fault
 
 machine_status : (fault : CommandFault) → IsOfMachine fault → (status_of fault ≡ 5) ⊎ (status_of fault ≡ 6)
@@ -125,12 +117,12 @@ machine_status (faults.Ring stream) is = inr refl
 machine_status faults.Memory is = inr refl
 machine_status faults.Unwritten is = absurd is
 
--- the identity is another stream's than s
-abbrev owner_is_foreign : LayoutValue → ℕ → ℕ → Type 0
-owner_is_foreign p s id = side_of (setting_of (record { layout = p; cube = []; tries = 0 }) s) id ≡ sides.Foreign
+-- another stream than s owns the identity
+abbrev IsAnothers : LayoutValue → ℕ → ℕ → Type 0
+IsAnothers p s id = side_of (setting_of (record { layout = p; cube = []; tries = 0 }) s) id ≡ sides.Foreign
 
 -- A report of 'empty' comes to 'unsatisfiable'
-comes_to : (reports : List Report) (verdict : Verdict) (s : ℕ) (report : Report) → verdict ≡ verdict_of reports → IsOfStream reports s report → report.empty ≡ true
+pub comes_to : (reports : List Report) (verdict : Verdict) (s : ℕ) (report : Report) → verdict ≡ verdict_of reports → IsOfStream reports s report → report.empty ≡ true
     → verdict ≡ Unsatisfiable
 comes_to reports verdict s report is at says =
     is ∙ cond-true (list_any (λ r. r.empty) reports) Unsatisfiable
@@ -149,19 +141,19 @@ module _ (R : Type 0) (files : FilesView R) (Lost : Report → Type 0) where
 
 module _ (one_formula : OneFormula) (serial : SerialRun) (alike : SameWordsAskAlike) (empty : RightEmpty) (R : Type 0) (files : FilesView R) where
   -- what was asked for is what the outcome is of
-  record IsOf (words : List Text) (asks : AskWell R files words) (reports : List Report) (verdict : Verdict) (a : IsOutcome R files words reports verdict) : Type 0 where
-    formulas : a.formula ≡ asks.formula
-    streams : a.given.streams ≡ asks.given.streams
-    layouts : layout_at asks.given asks.formula ≡ layout_at a.given a.formula
-    cnf : IsCnf a.formula
-    run : IsRun a.formula (terms_given a.given a.cube a.formula) (told_in R files words reports verdict a) reports
+  pub record IsOf (words : List Text) (asks : AskWell R files words) (reports : List Report) (verdict : Verdict) (a : IsOutcome R files words reports verdict) : Type 0 where
+    pub formulas : a.formula ≡ asks.formula
+    pub streams : a.given.streams ≡ asks.given.streams
+    pub layouts : layout_at asks.given asks.formula ≡ layout_at a.given a.formula
+    pub cnf : IsCnf a.formula
+    pub run : IsRun a.formula (terms_given a.given a.cube a.formula) (told_in R files words reports verdict a) reports
 
-  is_of : (words : List Text) (asks : AskWell R files words) (reports : List Report) (verdict : Verdict) (a : IsOutcome R files words reports verdict) → IsOf words asks reports verdict a
+  pub is_of : (words : List Text) (asks : AskWell R files words) (reports : List Report) (verdict : Verdict) (a : IsOutcome R files words reports verdict) → IsOf words asks reports verdict a
   is_of words asks reports verdict a =
       let same = alike words asks.given a.given asks.command_line a.command_line in
       let told : files.tells a.given.formula.now ≡ Some asks.text = ap files.tells same.2 ∙ asks.told in
       let formulas : a.formula ≡ asks.formula =
-      one_formula asks.text a.formula asks.formula (is_text R files a.given.formula.now a.formula asks.text told a.is_formula) asks.is_text in
+      one_formula asks.text a.formula asks.formula (is_text R files a.given.formula.now a.formula a.next asks.text told a.is_formula) asks.is_text in
       record {
         formulas = formulas;
         streams = same.1;
@@ -172,31 +164,29 @@ module _ (one_formula : OneFormula) (serial : SerialRun) (alike : SameWordsAskAl
         run = run_of serial R files words reports verdict a;
       }
 
-  refutation_says : RightReported → (words : List Text) (s : ℕ) (ask : AskForRightRefutation R files words s) (reports : List Report) (verdict : Verdict)
+  refutation_says : RightBegins → (words : List Text) (s : ℕ) (ask : AskForRightRefutation R files words s) (reports : List Report) (verdict : Verdict)
       (a : IsOutcome R files words reports verdict)
-      → (verdict ≡ Unsatisfiable) ⊎ ((report : Report) × IsOfStream reports s report × IsCutOff report)
-  refutation_says reported words s ask reports verdict a =
+      → (verdict ≡ Unsatisfiable) ⊎ ((report : Report) × IsOfStream reports s report × IsCutOffIn (length ask.right.lines) report)
+  refutation_says begins words s ask reports verdict a =
       let asks = ask.asks in
+      let lines = ask.right.lines in
       let is : IsOf words asks reports verdict a = is_of words asks reports verdict a in
-      let right : IsRightRefutation a.formula (layout_at a.given a.formula) s ask.bytes =
-      subst (λ (x : Cnf). IsRightRefutation x (layout_at a.given a.formula) s ask.bytes) (sym is.formulas)
-      (subst (λ (p : LayoutValue). IsRightRefutation asks.formula p s ask.bytes) is.layouts ask.right) in
+      let right : IsRightBeginning a.formula (layout_at a.given a.formula) s ask.bytes lines =
+      subst (λ (x : Cnf). IsRightBeginning x (layout_at a.given a.formula) s ask.bytes lines) (sym is.formulas)
+      (subst (λ (p : LayoutValue). IsRightBeginning asks.formula p s ask.bytes lines) is.layouts ask.right.right) in
       let names : IsOfStream a.given.streams s ask.path = subst (λ (x : List Text). IsOfStream x s ask.path) (sym is.streams) ask.names in
       let terms = terms_given a.given a.cube a.formula in
       let here = telling_of_file R files words reports verdict a s ask.path ask.bytes names ask.tells in
       let within = slice_get_within a.given.streams (s - 1) ask.path names.1 in
       let stream : IsStream terms.layout s = (names.0, omega (arith, within, names.0)) in
       let report = has_report a.formula terms (told_in R files words reports verdict a) reports is.run s stream in
-      elim (said_of report.0) [
-        | inl why ↦ inr (report.0, report.1, why)
-        | inr fine ↦
-            let same : report.0 ≡ right_report terms s right.lines =
-            reported a.formula terms s ask.bytes right.lines (told_in R files words reports verdict a) here.0 reports report.0
-            is.cnf (record { vars = refl; clauses = refl; literals = refl }) stream right.right is.run here.1 here.2 report.1 fine.0 fine.1 in
-            inl (comes_to reports verdict s report.0 a.checked.is_verdict report.1 (ap (λ (r : Report). r.empty) same ∙ (empty terms s right.lines).1 right.empty))
+      elim (begins a.formula terms s ask.bytes lines (told_in R files words reports verdict a) here.0 reports report.0
+      is.cnf (record { vars = refl; clauses = refl; literals = refl }) stream right is.run here.1 here.2 report.1) [
+        | inl tells ↦ inl (comes_to reports verdict s report.0 a.checked.is_verdict report.1 (tells.empty ((empty terms s lines).1 ask.right.empty)))
+        | inr cut ↦ inr (report.0, report.1, cut)
       ]
 
-  -- each stream of the set has the texts of its lines left at first
+  -- the file of each stream of the set begins with the texts of its lines
   have_texts : (words : List Text) (s : ℕ) (ask : AskForRightOrder R files words s) (reports : List Report) (verdict : Verdict)
       (a : IsOutcome R files words reports verdict) → IsOf words ask.asks reports verdict a
       → HaveTexts ask.set ask.steps (told_in R files words reports verdict a)
@@ -208,15 +198,15 @@ module _ (one_formula : OneFormula) (serial : SerialRun) (alike : SameWordsAskAl
         | inr past ↦ absurd (omega (arith, past.0, within, told_count told is.run.streams is.run.are_told, is.run.count))
         | inl has ↦
             let names : IsOfStream a.given.streams t has.0 = (first, has.2) in
-            let whole = flat_map line_text (lines_by t ask.steps) in
-            let tells : files.tells has.0 ≡ Some whole = ask.tells t has.0 member (subst (λ (x : List Text). IsOfStream x t has.0) is.streams names) in
-            let here = telling_of_file R files words reports verdict a t has.0 whole names tells in
-            ap (λ (x : Telling). x.entry) (same_at told t telling here.0 at here.1) ∙ here.2
+            let tells = ask.tells t has.0 member (subst (λ (x : List Text). IsOfStream x t has.0) is.streams names) in
+            let here = telling_of_file R files words reports verdict a t has.0 (flat_map line_text (lines_by t ask.steps) ++ tells.0) names tells.1 in
+            (tells.0, ap (λ (x : Telling). x.entry) (same_at told t telling here.0 at here.1) ∙ here.2)
       ]
 
-  order_says : RightTogether → (words : List Text) (s : ℕ) (ask : AskForRightOrder R files words s) (reports : List Report) (verdict : Verdict)
+  order_says : TogetherBegins → (words : List Text) (s : ℕ) (ask : AskForRightOrder R files words s) (reports : List Report) (verdict : Verdict)
       (a : IsOutcome R files words reports verdict)
-      → (verdict ≡ Unsatisfiable) ⊎ ((report : Report) × IsOfStream reports s report × IsHeldUp R files words ask.asks s report)
+      → (verdict ≡ Unsatisfiable)
+      ⊎ ((report : Report) × IsOfStream reports s report × IsHeldUp R files words ask.asks s (length (lines_by s ask.steps)) report)
   order_says together words s ask reports verdict a =
       let asks = ask.asks in
       let is : IsOf words asks reports verdict a = is_of words asks reports verdict a in
@@ -224,21 +214,20 @@ module _ (one_formula : OneFormula) (serial : SerialRun) (alike : SameWordsAskAl
       let order : IsRightOrder a.formula terms.layout ask.steps =
       subst (λ (x : Cnf). IsRightOrder x (layout_at a.given a.formula) ask.steps) (sym is.formulas)
       (subst (λ (p : LayoutValue). IsRightOrder asks.formula p ask.steps) is.layouts ask.order) in
-      let stream : IsStream terms.layout s = subst (λ (p : LayoutValue). IsStream p s) is.layouts ask.among in
+      let some : 0 < length (lines_by s ask.steps) = omega (arith, ask.empty.2) in
+      let stream : IsStream terms.layout s = of_some s (IsStream terms.layout) ask.steps order.streams some in
+      let member : IsTrue (ask.set s) = of_some s (λ t. IsTrue (ask.set t)) ask.steps ask.members some in
       let report = has_report a.formula terms (told_in R files words reports verdict a) reports is.run s stream in
-      elim (said_of report.0) [
-        | inl why ↦ inr (report.0, report.1, inl why)
-        | inr fine ↦ elim (together a.formula terms ask.set ask.steps (told_in R files words reports verdict a) reports s report.0 is.cnf
-            (record { vars = refl; clauses = refl; literals = refl }) order ask.members is.run (have_texts words s ask reports verdict a is)
-            ask.member report.1 fine.0 fine.1) [
-              | inl same ↦ inl (comes_to reports verdict s report.0 a.checked.is_verdict report.1
-                  (ap (λ (r : Report). r.empty) same ∙ (empty terms s (lines_by s ask.steps)).1 ask.empty))
-              | inr lacks ↦ inr (
-                report.0,
-                report.1,
-                inr (lacks.0, lacks.1, subst (λ (p : LayoutValue). owner_is_foreign p s lacks.1) (sym is.layouts) lacks.2, lacks.3),
-              )
-            ]
+      elim (together a.formula terms ask.set ask.steps (told_in R files words reports verdict a) reports s report.0 is.cnf
+      (record { vars = refl; clauses = refl; literals = refl }) order ask.members is.run (have_texts words s ask reports verdict a is)
+      member report.1) [
+        | inl tells ↦ inl (comes_to reports verdict s report.0 a.checked.is_verdict report.1 (tells.empty ((empty terms s (lines_by s ask.steps)).1 ask.empty)))
+        | inr (inl cut) ↦ inr (report.0, report.1, inl cut)
+        | inr (inr lacks) ↦ inr (
+          report.0,
+          report.1,
+          inr (lacks.0, lacks.1, lacks.2, subst (λ (p : LayoutValue). IsAnothers p s lacks.1) (sym is.layouts) lacks.3, lacks.4),
+        )
       ]
 
 -- Without one
@@ -248,34 +237,34 @@ module _ (one_formula : OneFormula) (no_fault : NoFormulaFault) (alike : SameWor
   not_refused : (path : Text) (text : List ℕ) (f : Cnf) (fault : DimacsFault) → files.tells path ≡ Some text → IsFormulaText text f
       → ¬ IsReadCause R files path (faults.Refused fault)
   not_refused path text f fault told is cause =
-      let same = text_of (files.tells path) text cause.1.0 told cause.1.1.told in
-      no_fault cause.1.0 f fault (subst (λ (b : List ℕ). IsFormulaText b f) same is) cause.1.2
+      let same = text_of (files.tells path) text cause.1.0 told cause.1.2.told in
+      no_fault cause.1.0 f fault (subst (λ (b : List ℕ). IsFormulaText b f) same is) cause.1.3
 
-  not_assumed : (vars : ℕ) (path : Option Text) (fault : CubeFault) → AreRightAssumptions R files vars path
-      → ¬ IsAssumeCause R files vars path (faults.CubeRefused fault)
-  not_assumed vars None fault right cause = cause
-  not_assumed vars (Some path) fault right cause =
-      let same = text_of (files.tells path) right.0 cause.1.0 right.1 cause.1.1.told in
-      right.2 fault cause.0 (subst (λ (b : List ℕ). IsCubeFault vars b fault) (sym same) cause.1.2)
+  not_assumed : (vars : ℕ) (before : files.State) (path : Option Text) (fault : CubeFault) → AreRightAssumptions R files vars path
+      → ¬ IsAssumeCause R files vars before path (faults.CubeRefused fault)
+  not_assumed vars before None fault right cause = cause
+  not_assumed vars before (Some path) fault right cause =
+      let same = text_of (files.tells path) right.0 cause.1.0 right.1 cause.1.2.told in
+      right.2 fault cause.0 (subst (λ (b : List ℕ). IsCubeFault vars b fault) (sym same) cause.1.3)
 
-  no_usage : (path : Option Text) (vars : ℕ) (fault : DimacsFault) → ¬ IsAssumeCause R files vars path (faults.Refused fault)
-  no_usage None vars fault cause = cause
-  no_usage (Some path) vars fault cause = cause
+  no_usage : (before : files.State) (path : Option Text) (vars : ℕ) (fault : DimacsFault) → ¬ IsAssumeCause R files vars before path (faults.Refused fault)
+  no_usage before None vars fault cause = cause
+  no_usage before (Some path) vars fault cause = cause
 
-  no_layout : (path : Option Text) (vars : ℕ) (fault : LayoutFault) → ¬ IsAssumeCause R files vars path (faults.Layout fault)
-  no_layout None vars fault cause = cause
-  no_layout (Some path) vars fault cause = cause
+  no_layout : (before : files.State) (path : Option Text) (vars : ℕ) (fault : LayoutFault) → ¬ IsAssumeCause R files vars before path (faults.Layout fault)
+  no_layout before None vars fault cause = cause
+  no_layout before (Some path) vars fault cause = cause
 
-  never_unwritten : (path : Option Text) (vars : ℕ) → ¬ IsAssumeCause R files vars path faults.Unwritten
-  never_unwritten None vars cause = cause
-  never_unwritten (Some path) vars cause = cause
+  never_unwritten : (before : files.State) (path : Option Text) (vars : ℕ) → ¬ IsAssumeCause R files vars before path faults.Unwritten
+  never_unwritten before None vars cause = cause
+  never_unwritten before (Some path) vars cause = cause
 
   -- the formula that was read is the one that is told
-  formula_at : (words : List Text) (ask : AskWell R files words) (given : CommandLine) (f : Cnf)
-      → IsCommandLineOf words given → IsFormulaAt R files given.formula.now f → f ≡ ask.formula
-  formula_at words ask given f line at =
+  formula_at : (words : List Text) (ask : AskWell R files words) (given : CommandLine) (f : Cnf) (next : files.State)
+      → IsCommandLineOf words given → IsFormulaAt R files given.formula.now f next → f ≡ ask.formula
+  formula_at words ask given f next line at =
       let same = alike words ask.given given ask.command_line line in
-      one_formula ask.text f ask.formula (is_text R files given.formula.now f ask.text (ap files.tells same.2 ∙ ask.told) at) ask.is_text
+      one_formula ask.text f ask.formula (is_text R files given.formula.now f next ask.text (ap files.tells same.2 ∙ ask.told) at) ask.is_text
 
   of_machine : (words : List Text) (ask : AskWell R files words) (fault : CommandFault) → IsCause R files words fault → IsOfMachine fault
   of_machine words ask (faults.Usage text) cause = cause ask.command_line.good
@@ -289,34 +278,34 @@ module _ (one_formula : OneFormula) (no_fault : NoFormulaFault) (alike : SameWor
       let same = alike words ask.given cause.0 ask.command_line cause.1 in
       elim cause.2 [
         | inl read ↦ not_refused cause.0.formula.now ask.text ask.formula fault (ap files.tells same.2 ∙ ask.told) ask.is_text read
-        | inr later ↦ elim later.2 [
-          | inl assume ↦ no_usage (assumed_at cause.0) later.0.vars fault assume
-          | inr last ↦ elim last.2 [ inl opens ↦ opens | inr runs ↦ runs ]
+        | inr later ↦ elim later.3 [
+          | inl assume ↦ no_usage later.1 (assumed_at cause.0) later.0.vars fault assume
+          | inr last ↦ elim last.3 [ inl opens ↦ opens | inr runs ↦ runs ]
         ]
       ]
   of_machine words ask (faults.CubeRefused fault) cause =
       elim cause.2 [
         | inl read ↦ read
-        | inr later ↦ elim later.2 [
+        | inr later ↦ elim later.3 [
           | inl assume ↦
               let assumed : assumed_at cause.0 ≡ assumed_at ask.given = cause.1.said.assume ∙ sym ask.command_line.said.assume in
-              let formulas = formula_at words ask cause.0 later.0 cause.1 later.1 in
-              not_assumed ask.formula.vars (assumed_at ask.given) fault ask.assumptions
-              (subst (λ (p : Option Text). IsAssumeCause R files ask.formula.vars p (faults.CubeRefused fault)) assumed
-              (subst (λ (f : Cnf). IsAssumeCause R files f.vars (assumed_at cause.0) (faults.CubeRefused fault)) formulas assume))
-          | inr last ↦ elim last.2 [ inl opens ↦ opens | inr runs ↦ runs ]
+              let formulas = formula_at words ask cause.0 later.0 later.1 cause.1 later.2 in
+              not_assumed ask.formula.vars later.1 (assumed_at ask.given) fault ask.assumptions
+              (subst (λ (p : Option Text). IsAssumeCause R files ask.formula.vars later.1 p (faults.CubeRefused fault)) assumed
+              (subst (λ (f : Cnf). IsAssumeCause R files f.vars later.1 (assumed_at cause.0) (faults.CubeRefused fault)) formulas assume))
+          | inr last ↦ elim last.3 [ inl opens ↦ opens | inr runs ↦ runs ]
         ]
       ]
   of_machine words ask (faults.Layout fault) cause =
       elim cause.2 [
         | inl read ↦ read
-        | inr later ↦ elim later.2 [
-          | inl assume ↦ no_layout (assumed_at cause.0) later.0.vars fault assume
-          | inr last ↦ elim last.2 [
+        | inr later ↦ elim later.3 [
+          | inl assume ↦ no_layout later.1 (assumed_at cause.0) later.0.vars fault assume
+          | inr last ↦ elim last.3 [
             | inl opens ↦ opens
             | inr runs ↦
                 let same = alike words ask.given cause.0 ask.command_line cause.1 in
-                let formulas = formula_at words ask cause.0 later.0 cause.1 later.1 in
+                let formulas = formula_at words ask cause.0 later.0 later.1 cause.1 later.2 in
                 let layouts : layout_at cause.0 later.0 ≡ layout_at ask.given ask.formula =
                 ap (λ (x : OptionsValue). layout_of x later.0 (length cause.0.streams)) same.0
                 ∙ ap (λ (x : Cnf). layout_of (options_of ask.given) x (length cause.0.streams)) formulas
@@ -328,29 +317,31 @@ module _ (one_formula : OneFormula) (no_fault : NoFormulaFault) (alike : SameWor
   of_machine words ask faults.Unwritten cause =
       elim cause.2 [
         | inl read ↦ read
-        | inr later ↦ elim later.2 [
-          | inl assume ↦ never_unwritten (assumed_at cause.0) later.0.vars assume
-          | inr last ↦ elim last.2 [ inl opens ↦ opens | inr runs ↦ runs ]
+        | inr later ↦ elim later.3 [
+          | inl assume ↦ never_unwritten later.1 (assumed_at cause.0) later.0.vars assume
+          | inr last ↦ elim last.3 [ inl opens ↦ opens | inr runs ↦ runs ]
         ]
       ]
 
-  without_report : (Lost : Report → Type 0) (words : List Text) (s : ℕ) (out err : SinkChange) (status : ℕ) → AskWell R files words
+  pub without_report : (Lost : Report → Type 0) (words : List Text) (s : ℕ) (out err : SinkChange) (status : ℕ) → AskWell R files words
       → EndsWithFault R files words out err status → IsExcused R files words s Lost out status
   without_report Lost words s out err status ask ends =
       let machine = of_machine words ask ends.fault ends.cause in
       no_report ends.fault ends.cause machine ends.status_is
       (subst (λ (n : ℕ). (n ≡ 5) ⊎ (n ≡ 6)) (sym ends.status_is) (machine_status ends.fault machine))
 
-pub right_refutation_says : OneFormula → NoFormulaFault → SerialRun → SameWordsAskAlike → RightReported → RightEmpty
+pub right_refutation_says : OneFormula → NoFormulaFault → SerialRun → SameWordsAskAlike → RightBegins → RightEmpty
     → (R : Type 0) (files : FilesView R) → RightRefutationSays R files
-right_refutation_says one_formula no_fault serial alike reported empty R files words s out err status ask (inl report) =
-    with_report R files IsCutOff words s out err status (refutation_says one_formula serial alike empty R files reported words s ask) report
-right_refutation_says one_formula no_fault serial alike reported empty R files words s out err status ask (inr fault) =
-    inr (without_report one_formula no_fault alike R files IsCutOff words s out err status ask.asks fault)
+right_refutation_says one_formula no_fault serial alike begins empty R files words s out err status ask (inl report) =
+    with_report R files (IsCutOffIn (length ask.right.lines)) words s out err status
+    (refutation_says one_formula serial alike empty R files begins words s ask) report
+right_refutation_says one_formula no_fault serial alike begins empty R files words s out err status ask (inr fault) =
+    inr (without_report one_formula no_fault alike R files (IsCutOffIn (length ask.right.lines)) words s out err status ask.asks fault)
 
-pub right_order_says : OneFormula → NoFormulaFault → SerialRun → SameWordsAskAlike → RightTogether → RightEmpty
+pub right_order_says : OneFormula → NoFormulaFault → SerialRun → SameWordsAskAlike → TogetherBegins → RightEmpty
     → (R : Type 0) (files : FilesView R) → RightOrderSays R files
 right_order_says one_formula no_fault serial alike together empty R files words s out err status ask (inl report) =
-    with_report R files (IsHeldUp R files words ask.asks s) words s out err status (order_says one_formula serial alike empty R files together words s ask) report
+    with_report R files (IsHeldUp R files words ask.asks s (length (lines_by s ask.steps))) words s out err status
+    (order_says one_formula serial alike empty R files together words s ask) report
 right_order_says one_formula no_fault serial alike together empty R files words s out err status ask (inr fault) =
-    inr (without_report one_formula no_fault alike R files (IsHeldUp R files words ask.asks s) words s out err status ask.asks fault)
+    inr (without_report one_formula no_fault alike R files (IsHeldUp R files words ask.asks s (length (lines_by s ask.steps))) words s out err status ask.asks fault)

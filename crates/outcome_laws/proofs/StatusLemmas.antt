@@ -1,10 +1,10 @@
 -- What the clause `ends` says of status 0.
-use Rattle.std.proofs.Common.{◌≡◌, ◌⊎◌, ℕ, Bool, true, false, List, inl, inr, refl}
+use Rattle.std.proofs.Common.{◌≡◌, Bool, true, false, inl, inr, refl}
 use Rattle.lrup_model.specs.declared.layout.LayoutFault.{LayoutFault}
 use Rattle.lrup_model.specs.declared.layout.LayoutFault.TheVariants as layouts
 use Rattle.portfolio.specs.declared.outcome.Verdict.{Verdict}
 use Rattle.portfolio.specs.declared.outcome.Verdict.TheVariants.{Unsatisfiable, UnsatisfiableUnder, Unknown}
-use Rattle.command.specs.Commands.{EndsWithFault, EndsWithReport, FilesView, SinkChange, Text, report_status}
+use Rattle.command.specs.Commands.{FilesView, report_status}
 use Rattle.command.specs.Faults.{layout_status, status_of}
 use Rattle.command.specs.declared.fault.CommandFault.{CommandFault}
 use Rattle.command.specs.declared.fault.CommandFault.TheVariants as faults
@@ -39,5 +39,5 @@ pub status_0 : (R : Type 0) (files : FilesView R) → Status0HasACommandLine R f
 status_0 R files words out err (inl report) =
     let o = report.outcome in
     let at = o.is_formula in
-    (o.given, at.0, o.formula, o.command_line, at.1, at.2, o.checked.sound (refuted out.failed report.verdict report.status_is))
+    (o.given, at.0, o.formula, o.next, o.command_line, at.1, at.2, o.checked.sound (refuted out.failed report.verdict report.status_is))
 status_0 R files words out err (inr fault) = absurd (no_fault fault.fault fault.status_is)

@@ -74,5 +74,7 @@ OutcomesAgree R files Q others =
 abbrev pub Status0HasACommandLine : (R : Type 0) → FilesView R → Type 0
 Status0HasACommandLine R files = (words : List Text) (out err : SinkChange)
     → EndsWithReport R files words out err 0 ⊎ EndsWithFault R files words out err 0
-    → (given : CommandLine) × (bytes : List ℕ) × (f : Cnf) × IsCommandLineOf words given
-    × WasReadIn R files given.formula.now bytes × IsFormulaText bytes f × IsUnsatisfiable f
+    → (given : CommandLine) × (bytes : List ℕ) × (f : Cnf) × (after : files.State)
+    × IsCommandLineOf words given
+    × WasReadIn R files files.first given.formula.now bytes after
+    × IsFormulaText bytes f × IsUnsatisfiable f

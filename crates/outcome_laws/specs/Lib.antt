@@ -1,3 +1,4 @@
 pub mod Outcomes
 pub mod Laws
 pub mod Right
+pub mod Serial

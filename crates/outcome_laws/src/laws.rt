@@ -1,12 +1,14 @@
 //! Laws of outcomes. Each function does nothing; its contract is the law.
 ghost use Rattle.command.specs.Commands.{files_view};
 ghost use Rattle.outcome_laws.specs.Right.{RightOrderSays, RightRefutationSays};
+ghost use Rattle.outcome_laws.specs.Serial.{RightTurnsSay, SerialOutcomesAgree};
 ghost use Rattle.outcome_laws.specs.Laws.{NoCubeJudgesAlike, SameBytesSayTheSame, SameWordsAskAlike, OutcomesAgree, Status0HasACommandLine};
 
 use command::Files;
 use dimacs::laws::{formula_or_fault, one_formula};
 use run_laws::groups::{same_bytes_agree, serial_run};
-use run_laws::right::{right_empty, right_reported, right_together};
+use run_laws::right::{right_begins, right_empty, together_begins};
+use run_laws::turns::{bytes_decide, right_by_turns};
 
 /// What a stream is judged by under a cube, it is judged by without one, and its report says the same, but of clauses within the
 /// cube.
@@ -33,10 +35,10 @@ pub fn same_words_ask_alike()
 /// the options and the number of streams are the same, and the files of the formula and of the stream tell the same bytes. Unless a
 /// report of the stream is of memory or of a failed read.
 pub fn outcomes_agree<F: Files, G: Files>(files: &F, others: &G)
-    ensures { let view = files_view (F.tells files.now) (F.may_refuse files.now)
-        F.Input.Source.left F.Input.Source.has_failed (F.opens files.now) F.Input.Source.reads in
-        let other = files_view (G.tells others.now) (G.may_refuse others.now)
-        G.Input.Source.left G.Input.Source.has_failed (G.opens others.now) G.Input.Source.reads in
+    ensures { let view = files_view files.now (F.tells files.now) (F.may_refuse files.now)
+        F.Input.Source.left F.Input.Source.has_failed F.opens F.Input.Source.reads in
+        let other = files_view others.now (G.tells others.now) (G.may_refuse others.now)
+        G.Input.Source.left G.Input.Source.has_failed G.opens G.Input.Source.reads in
         OutcomesAgree _ view _ other }
 {
     one_formula();
@@ -47,38 +49,68 @@ pub fn outcomes_agree<F: Files, G: Files>(files: &F, others: &G)
 /// With status 0 the words have a whole command line, and what was read at its FORMULA is a text of a formula that no assignment
 /// satisfies: the clause `ends` of `command` says so.
 pub fn status_0_has_a_command_line<F: Files>(files: &F)
-    ensures { let view = files_view (F.tells files.now) (F.may_refuse files.now)
-        F.Input.Source.left F.Input.Source.has_failed (F.opens files.now) F.Input.Source.reads in
+    ensures { let view = files_view files.now (F.tells files.now) (F.may_refuse files.now)
+        F.Input.Source.left F.Input.Source.has_failed F.opens F.Input.Source.reads in
         Status0HasACommandLine _ view }
 {}
 
 /// Where the words ask for a right refutation, the program ends with status 0; or with 7, for a report that wasn't written; or with
-/// 5 or 6, for a fault of the machine; or with 3 or 8, and then memory ran out in that stream, or a read of it failed: the clause
-/// `ends` of `command` says so.
+/// 5 or 6, for a fault of the machine; or with 3 or 8, and then memory ran out, or a read failed, in the refutation's lines: the
+/// clause `ends` of `command` says so.
 pub fn right_refutation_says<F: Files>(files: &F)
-    ensures { let view = files_view (F.tells files.now) (F.may_refuse files.now)
-        F.Input.Source.left F.Input.Source.has_failed (F.opens files.now) F.Input.Source.reads in
+    ensures { let view = files_view files.now (F.tells files.now) (F.may_refuse files.now)
+        F.Input.Source.left F.Input.Source.has_failed F.opens F.Input.Source.reads in
         RightRefutationSays _ view }
 {
     one_formula();
     formula_or_fault();
     serial_run();
     same_words_ask_alike();
-    right_reported();
+    right_begins();
     right_empty();
 }
 
-/// So it is where they ask for streams whose lines have a right order, and one of which adds the empty clause; or with 3 or 8 that
-/// stream has a line that cites a clause of another stream, which wasn't there, or wasn't any more.
+/// Where the words ask for streams whose lines have a right order, one of which adds the empty clause, the program ends so too; or with
+/// 3 or 8, and then a line of that stream cites a clause of another stream, which wasn't there, or wasn't any more.
 pub fn right_order_says<F: Files>(files: &F)
-    ensures { let view = files_view (F.tells files.now) (F.may_refuse files.now)
-        F.Input.Source.left F.Input.Source.has_failed (F.opens files.now) F.Input.Source.reads in
+    ensures { let view = files_view files.now (F.tells files.now) (F.may_refuse files.now)
+        F.Input.Source.left F.Input.Source.has_failed F.opens F.Input.Source.reads in
         RightOrderSays _ view }
 {
     one_formula();
     formula_or_fault();
     serial_run();
     same_words_ask_alike();
-    right_together();
+    together_begins();
+    right_empty();
+}
+
+/// In two outcomes of the program on one thread, over files that stand before the runs, the reports are the same: where the options
+/// and the assumed literals are the same, and the files of the formula and of each stream tell the same bytes. Unless some report is
+/// of memory or of a failed read.
+pub fn serial_outcomes_agree<F: Files, G: Files>(files: &F, others: &G)
+    ensures { let view = files_view files.now (F.tells files.now) (F.may_refuse files.now)
+        F.Input.Source.left F.Input.Source.has_failed F.opens F.Input.Source.reads in
+        let other = files_view others.now (G.tells others.now) (G.may_refuse others.now)
+        G.Input.Source.left G.Input.Source.has_failed G.opens G.Input.Source.reads in
+        SerialOutcomesAgree _ view _ other }
+{
+    one_formula();
+    bytes_decide();
+}
+
+/// Where the words ask for a run on one thread over streams whose lines have a right order by turns, and one of which adds the empty
+/// clause, the program ends with status 0; or with 7, for a report that wasn't written; or with 5 or 6, for a fault of the machine;
+/// or with 3 or 8, and then memory ran out in some stream, or a read of it failed: the clause `ends` of `command` says so.
+pub fn right_turns_say<F: Files>(files: &F)
+    ensures { let view = files_view files.now (F.tells files.now) (F.may_refuse files.now)
+        F.Input.Source.left F.Input.Source.has_failed F.opens F.Input.Source.reads in
+        RightTurnsSay _ view }
+{
+    one_formula();
+    formula_or_fault();
+    serial_run();
+    same_words_ask_alike();
+    right_by_turns();
     right_empty();
 }

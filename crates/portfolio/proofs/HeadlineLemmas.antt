@@ -1,5 +1,5 @@
 -- The one history of a run with threads, and what the reports say of it.
-use Rattle.std.proofs.Common.{◌≡◌, inl, inr, ℕ, zero, suc, ◌+◌, ◌-◌, ◌<◌, ◌≤◌, Bool, true, false, List, [], ◌∷◌, ◌++◌, length, map, take, Option, Some, refl, sym, ap, ap₂, subst, ◌∙◌, arith, append-nil}
+use Rattle.std.proofs.Common.{◌≡◌, inl, inr, ℕ, zero, suc, ◌+◌, ◌-◌, ◌<◌, ◌≤◌, Bool, true, false, List, [], ◌∷◌, ◌++◌, length, map, take, Some, refl, sym, ap, ap₂, subst, ◌∙◌, arith, append-nil}
 use Rattle.std.specs.Result.{IsErrAnd}
 use Rattle.std.specs.Prelude.{IsSome, Result, Ok, Err, slice_get, if◌then◌else◌}
 use Rattle.std.specs.List.{AllByRecursion, list_any, AllZip}
@@ -27,7 +27,6 @@ use Rattle.portfolio.specs.declared.outcome.RunFault.TheVariants.{Layout, Memory
 use Rattle.portfolio.specs.declared.outcome.Verdict.{Verdict}
 use Rattle.portfolio.specs.declared.outcome.Verdict.TheVariants.{Unsatisfiable, UnsatisfiableUnder, Unknown}
 use Rattle.portfolio.specs.Outcomes.{verdict_of}
-use Rattle.runs.specs.Closed.{IsOfStream}
 use Rattle.runs.specs.StreamLemmas.{IsJudgedBy}
 use Rattle.runs.specs.Headline.{HaveOneHistory, AreJudgedIn, WereJudged, seen_by}
 use Rattle.stream_threads.specs.Jobs.{JobsValue, FoundValue, CanBegin, Finishes, AllFinish, AreJobs}
@@ -194,6 +193,16 @@ module _ {S : Type 0} (view : SourceView S) where
   ready_count store f terms s (e ∷ es) [] ready = absurd ready
   ready_count store f terms s (e ∷ es) (j ∷ js) ready = omega (arith, ready_count store f terms (s + 1) es js ready.1)
 
+  -- the jobs of the first streams
+  pub ready_take : (store : StoreValue) (f : Cnf) (terms : TermsValue) (s n : ℕ) (firsts : List S) (js : List (JobsValue S))
+      → AreReady store f terms s firsts js → AreReady store f terms s (take n firsts) (take n js)
+  ready_take store f terms s zero [] [] ready = tt
+  ready_take store f terms s (suc n) [] [] ready = tt
+  ready_take store f terms s n [] (j ∷ js) ready = absurd ready
+  ready_take store f terms s n (e ∷ es) [] ready = absurd ready
+  ready_take store f terms s zero (e ∷ es) (j ∷ js) ready = tt
+  ready_take store f terms s (suc n) (e ∷ es) (j ∷ js) ready = (ready.0, ready_take store f terms (s + 1) n es js ready.1)
+
   -- ---- what was found, and the passes when all have met
 
   pub finish_of : (store : StoreValue) (f : Cnf) (terms : TermsValue) (s : ℕ) (firsts : List S) (js : List (JobsValue S)) (fs : List (FoundValue S))
@@ -317,23 +326,34 @@ module _ {S : Type 0} (view : SourceView S) where
         read = (of.1, more.read);
       }
 
-  -- so of the streams before one, where those before it alone were found
+  -- Of the first streams alone, whose passes have met: one legal history has the events by which each is judged.
   pub were_judged : (f : Cnf) (terms : TermsValue) (store : StoreValue) → store.layout ≡ terms.layout
-      → (s : ℕ) (firsts : List S) (js : List (JobsValue S)) (n : ℕ) (fs : List (FoundValue S))
-      → AreReady store f terms s firsts js → AllFinish view (take n js) fs → WereJudged view terms s (take n firsts)
-  were_judged f terms store same s [] [] zero fs ready all = tt
-  were_judged f terms store same s [] [] (suc n) fs ready all = tt
-  were_judged f terms store same s [] (j ∷ js) n fs ready all = absurd ready
-  were_judged f terms store same s (e ∷ es) [] n fs ready all = absurd ready
-  were_judged f terms store same s (e ∷ es) (j ∷ js) zero fs ready all = tt
-  were_judged f terms store same s (e ∷ es) (j ∷ js) (suc n) [] ready all = absurd all
-  were_judged f terms store same s (e ∷ es) (j ∷ js) (suc n) (x ∷ fs) ready all =
-      let here = ready.0 in
-      let fresh = subst (λ (n : ℕ). Leaves j.checker.setting [] [] (checker_state j.checker n)) (opened_room f terms.layout store s j.pass same here.opened) here.checker.left in
-      let one = all.0.judged fresh in
-      let of = subst (λ (r : S). IsStreamOf view r x.reader one.0) here.reader_is one.2 in
-      let judged = subst (λ (c : Setting). JudgesStream c one.0 all.0.blocks x.report) here.checker.setting one.3 in
-      ((x.reader, one.0, all.0.blocks, x.report, one.1, of, judged), were_judged f terms store same (s + 1) es js n fs ready.1 all.1)
+      → (firsts : List S) (js : List (JobsValue S)) (fs : List (FoundValue S)) (vs : List View)
+      → AreReady store f terms 1 firsts js → AllFinish view js fs → AreMet (views (map (λ x. x.pass) fs)) vs → HaveMet vs → WereJudged view f terms firsts
+  were_judged f terms store same [] [] [] vs ready all met one = record {
+    history = [];
+    legal = record { events = tt; room = λ s. omega arith };
+    lasts = [];
+    reports = [];
+    judged = record { streams = []; are_told = tt; judged = (tt, tt, tt) };
+  }
+  were_judged f terms store same [] [] (x ∷ fs) vs ready all met one = absurd all
+  were_judged f terms store same [] (j ∷ js) fs vs ready all met one = absurd ready
+  were_judged f terms store same (e ∷ es) [] fs vs ready all met one = absurd ready
+  were_judged f terms store same (e ∷ es) (j ∷ js) fs vs ready all met one =
+      let so = judged_by f terms store same 1 (e ∷ es) (j ∷ js) fs vs ready all met in
+      let calls = have_calls f terms store one.0 same 1 (e ∷ es) (j ∷ js) fs vs ready all met one.1 in
+      record {
+        history = one.0;
+        legal = have_legal f terms store one.0 same 1 (e ∷ es) (j ∷ js) fs vs ready all met one.1 (omega arith);
+        lasts = map (λ x. x.reader) fs;
+        reports = map (λ x. x.report) fs;
+        judged = record {
+          streams = so.streams;
+          are_told = so.told;
+          judged = (so.out, judged_in terms one.0 1 so.streams vs (map (λ x. x.report) fs) so.judged (λ k v at. (calls k v at).2), so.read);
+        };
+      }
 
   -- the same in the words of the lists that are given back, and of the one history
   pub judged_so : (f : Cnf) (terms wanted : TermsValue) (firsts lasts : List S) (reports : List Report) (fs : List (FoundValue S)) (vs : List View)

@@ -3,5 +3,6 @@ pub mod CubeLemmas
 pub mod HeadlineLemmas
 pub mod JoiningLemmas
 pub mod ReportLines
+pub mod RoundLemmas
 pub mod TurnsLemmas
 pub mod WorkingLemmas

@@ -1,12 +1,11 @@
 -- A run on one thread: before the first turn, after one more, and when all streams are over.
-use Rattle.std.proofs.Common.{◌≡◌, ◌≢◌, IsSome, IfSome, ℕ, zero, suc, ◌+◌, ◌-◌, ◌<◌, ◌≤◌, Bool, true, false, cond, eqb, List, [], ◌∷◌, ◌++◌, length, get_or, set, take, replicate, map, Option, Some, None, refl, sym, ap, ap₂, subst, ◌∙◌, inl, inr, arith, length-set, eq-eqb, ne_eqb}
+use Rattle.std.proofs.Common.{◌≡◌, ◌≢◌, IsSome, IfSome, ℕ, zero, suc, ◌+◌, ◌-◌, ◌<◌, ◌≤◌, Bool, true, false, eqb, List, [], ◌∷◌, ◌++◌, length, get_or, set, take, replicate, map, Option, Some, None, refl, sym, ap, subst, ◌∙◌, inl, inr, arith, length-set, ne_eqb}
 use borrow.Author.Count.{below_more}
 use Rattle.std.specs.Prelude.{◌||◌, ◌↔◌, IsTrue}
 use Rattle.std.specs.List.{AllByRecursion, list_any, sum_by, AllZip}
-use Rattle.std.proofs.lemmas.Bool.{cases_Bool, cases_eq, cases_lt, cond-true, cond-false}
-use Rattle.std.proofs.lemmas.List.{append-nil, map-append, get_or_default, get_or-replicate, take-append-le, take_all}
-use Rattle.std.proofs.lemmas.Grind.{flat_map-append}
-use Rattle.lrup_model.specs.Cube.{CubeValue}
+use Rattle.std.proofs.lemmas.Option.{slice_get-get_or}
+use Rattle.std.proofs.lemmas.Bool.{cases_Bool, cases_eq, cases_lt, cond-false}
+use Rattle.std.proofs.lemmas.List.{map-append, get_or_default, get_or-replicate, take-append-le, take_all}
 use Rattle.lrup_model.specs.Entailment.{IsUnsatisfiable}
 use Rattle.lrup_model.specs.Formula.{Cnf}
 use Rattle.lrup_model.specs.Layout.{LayoutValue, Fits, Owns, IsStream}
@@ -16,7 +15,7 @@ use Rattle.lrup_model.specs.History.{LegalFrom, IsLegal}
 use Rattle.lrup_model.specs.HistoryLemmas.{opening-owned}
 use Rattle.lrup_model.specs.Running.{run-append, legal-append, spent-append}
 use Rattle.lrup_model.specs.Plain.{Plain, formula_of, plain_state, free_at, plain_place, PlainMoves}
-use Rattle.lrup_model.specs.ListLemmas.{All-append, All-front}
+use Rattle.lrup_model.specs.ListLemmas.{All-append}
 use Rattle.stream_check.specs.declared.report.Ending.{Ending}
 use Rattle.stream_check.specs.declared.report.Report.{Report}
 use Rattle.stream_check.specs.Setting.{Setting}
@@ -25,72 +24,15 @@ use Rattle.stream_check.specs.CheckerValue.{Tally, report_of_tally}
 use Rattle.stream_check.specs.Checker.{IsReadyAt}
 use Rattle.stream_check.specs.Laws.{ReadyBeside}
 use Rattle.portfolio.proofs.EmptyLemmas.{sound_in_order}
+use Rattle.portfolio.proofs.RoundLemmas.{tagged, within-tagged, events_more, blocks_more, blocks_beside, round_opened, round_turned, round_passed, round_over}
 use Rattle.portfolio.proofs.WorkingLemmas.{not_over}
 use Rattle.portfolio.specs.Outcomes.{OptionsValue, layout_of}
 use Rattle.lrup_text.specs.ReadOut.{SourceView}
 use Rattle.runs.specs.Readings.{AreRead, IsStreamOf}
 use Rattle.runs.specs.Streams.{Stream, tellings, IsTold, JudgesStream, Block, blocks_of, events_in, IsBlockWithin, setting_of, AreJudged, IsOrdered, StandsOnStreams, TermsValue}
-use Rattle.portfolio.specs.Working.{WorkerValue, WorksBy, Works, WorksOn, IsStarted}
+use Rattle.runs.specs.Turns.{IsOrderedByTurns, streams_of}
+use Rattle.portfolio.specs.Working.{AreBlocksOfTurn, WorkerValue, WorksBy, Works, WorksOn, IsStarted}
 use Rattle.portfolio.specs.Turns.{HasRun, IsWorking, AreWorking, Runs, IsRunning, GoesOn, IsOver, AreOver, IsOverAt, AreStarted, HaveReports}
-
--- ---- blocks
-
-all-back : {X : Type 0} (P : X → Type 0) (xs ys : List X) → AllByRecursion P (xs ++ ys) → AllByRecursion P ys
-all-back P [] ys all = all
-all-back P (x ∷ xs) ys all = all-back P xs ys all.1
-
--- the blocks of one stream's lines
-pub tagged : ℕ → List History → List Block
-tagged s [] = []
-tagged s (events ∷ blocks) = record { stream = s; events = events } ∷ tagged s blocks
-
-events_in-append : (xs ys : List Block) → events_in (xs ++ ys) ≡ events_in xs ++ events_in ys
-events_in-append xs ys = flat_map-append (λ (block : Block). block.events) xs ys
-
-events_in-tagged : (s : ℕ) (bs : List History) → events_in (tagged s bs) ≡ joined bs
-unfolding tagged
-events_in-tagged s [] = refl
-events_in-tagged s (b ∷ bs) = ap (λ (es : History). b ++ es) (events_in-tagged s bs)
-
--- the events of the blocks so far, and of a stream's further ones
-events_more : (s : ℕ) (blocks : List Block) (bs : List History) → events_in (blocks ++ tagged s bs) ≡ events_in blocks ++ joined bs
-events_more s blocks bs = events_in-append blocks (tagged s bs) ∙ ap (λ (es : History). events_in blocks ++ es) (events_in-tagged s bs)
-
-blocks_of-append : (s : ℕ) (xs ys : List Block) → blocks_of s (xs ++ ys) ≡ blocks_of s xs ++ blocks_of s ys
-blocks_of-append s [] ys = refl
-blocks_of-append s (x ∷ xs) ys =
-    let rest = blocks_of-append s xs ys in
-    elim (eqb x.stream s) as (λ b. cond b (x.events ∷ blocks_of s (xs ++ ys)) (blocks_of s (xs ++ ys)) ≡ cond b (x.events ∷ blocks_of s xs) (blocks_of s xs) ++ blocks_of s ys) [
-      | true ↦ ap (λ (bs : List History). x.events ∷ bs) rest
-      | false ↦ rest
-    ]
-
-blocks_of-own : (s : ℕ) (bs : List History) → blocks_of s (tagged s bs) ≡ bs
-unfolding tagged
-blocks_of-own s [] = refl
-blocks_of-own s (b ∷ bs) =
-    let here = blocks_of s (tagged s bs) in
-    cond-true (eqb s s) (b ∷ here) here (eq-eqb s s refl) ∙ ap (λ (xs : List History). b ∷ xs) (blocks_of-own s bs)
-
-blocks_of-other : (s t : ℕ) (bs : List History) → s ≢ t → blocks_of t (tagged s bs) ≡ []
-unfolding tagged
-blocks_of-other s t [] other = refl
-blocks_of-other s t (b ∷ bs) other =
-    let here = blocks_of t (tagged s bs) in
-    cond-false (eqb s t) (b ∷ here) here (ne_eqb s t other) ∙ blocks_of-other s t bs other
-
-blocks_more : (s : ℕ) (blocks : List Block) (bs : List History) → blocks_of s (blocks ++ tagged s bs) ≡ blocks_of s blocks ++ bs
-blocks_more s blocks bs = blocks_of-append s blocks (tagged s bs) ∙ ap (λ (xs : List History). blocks_of s blocks ++ xs) (blocks_of-own s bs)
-
-blocks_beside : (s t : ℕ) (blocks : List Block) (bs : List History) → s ≢ t → blocks_of t (blocks ++ tagged s bs) ≡ blocks_of t blocks
-blocks_beside s t blocks bs other =
-    blocks_of-append t blocks (tagged s bs) ∙ ap (λ (xs : List History). blocks_of t blocks ++ xs) (blocks_of-other s t bs other) ∙ append-nil (blocks_of t blocks)
-
-within-tagged : (p : LayoutValue) (s : ℕ) (bs : List History) → IsStream p s → AllByRecursion (λ e. stream_of e ≡ s) (joined bs) → AllByRecursion (IsBlockWithin p (λ t. true)) (tagged s bs)
-unfolding tagged
-within-tagged p s [] stream calls = tt
-within-tagged p s (b ∷ bs) stream calls =
-    ((stream, refl, All-front (λ e. stream_of e ≡ s) b (joined bs) calls), within-tagged p s bs stream (all-back (λ e. stream_of e ≡ s) b (joined bs) calls))
 
 -- ---- room
 
@@ -227,8 +169,8 @@ module _ {S : Type 0} (view : SourceView S) where
       ap (λ (w : WorkerValue S). w.checker.ending) (get_or_default ws i e d within) ∙ not_over over (get_or ws i d).checker.ending is going
 
   -- the worker of stream i + 1 of a run, whatever run it is
-  pub ready_at : (m : Plain) (ws : List (WorkerValue S)) (i : ℕ) (d : WorkerValue S) → IsRunning view m ws → i < length ws → IsReadyAt (get_or ws i d).checker (plain_place m (i + 1))
-  ready_at m ws i d running within =
+  pub ready_at : (taken : ℕ) (m : Plain) (ws : List (WorkerValue S)) (i : ℕ) (d : WorkerValue S) → IsRunning view taken m ws → i < length ws → IsReadyAt (get_or ws i d).checker (plain_place m (i + 1))
+  ready_at taken m ws i d running within =
       let runs = running.3 in
       let here = working_at running.1 runs.blocks m 1 i running.2 ws d (get_or ws i d) within refl runs.workers_are in
       let place : 1 + i ≡ i + 1 = omega arith in
@@ -236,25 +178,50 @@ module _ {S : Type 0} (view : SourceView S) where
 
   -- a run goes on by a turn of the worker at place i
   pub runs_more : (law : ReadyBeside) (f : Cnf) (terms : TermsValue) (firsts : List S) (m n : Plain) (ws : List (WorkerValue S)) (i : ℕ) (d v : WorkerValue S) (bs : List History)
-      → i < length ws → PlainMoves m n (i + 1) (joined bs)
+      → i < length ws → (get_or ws i d).checker.ending ≡ None → PlainMoves m n (i + 1) (joined bs) → AreBlocksOfTurn v.checker.ending bs
       → WorksOn view (get_or ws i d) (free_at m (i + 1)) bs v (free_at n (i + 1)) → IsReadyAt v.checker (plain_place n (i + 1)) → v.checker.setting ≡ (get_or ws i d).checker.setting
-      → Runs view f terms firsts m ws → Runs view f terms firsts n (set ws i v)
-  runs_more law f terms firsts m n ws i d v bs within moves on ready setting runs =
+      → Runs view f terms firsts i m ws → Runs view f terms firsts (i + 1) n (set ws i v)
+  runs_more law f terms firsts m n ws i d v bs within going moves are on ready setting runs =
       let count : length (set ws i v) ≡ terms.layout.streams = omega (arith, length-set {A = WorkerValue S}, runs.count) in
       record {
         count = count;
         blocks = runs.blocks ++ tagged (i + 1) bs;
         map_is = run_more f terms.layout runs.blocks m n (i + 1) bs runs.map_is (omega arith, omega (arith, within, runs.count)) moves;
         workers_are = turn_at law terms runs.blocks m n (i + 1) bs moves 1 i firsts ws d (get_or ws i d) v (omega arith) (omega arith) within refl on ready setting runs.workers_are;
+        rounds = runs.rounds;
+        in_round = round_turned runs.rounds i runs.blocks ws (get_or ws i d) (slice_get-get_or ws i d within) runs.in_round v bs going are;
       }
 
+  -- a stream that is over has no turn
+  pub runs_past : (f : Cnf) (terms : TermsValue) (firsts : List S) (m : Plain) (ws : List (WorkerValue S)) (i : ℕ) (d : WorkerValue S) → i < length ws → IsSome (get_or ws i d).checker.ending
+      → Runs view f terms firsts i m ws → Runs view f terms firsts (i + 1) m ws
+  runs_past f terms firsts m ws i d within over runs = record {
+    count = runs.count;
+    blocks = runs.blocks;
+    map_is = runs.map_is;
+    workers_are = runs.workers_are;
+    rounds = runs.rounds;
+    in_round = round_passed runs.rounds i runs.blocks ws (get_or ws i d) (slice_get-get_or ws i d within) runs.in_round over;
+  }
+
+  -- after the last stream's turn the next round begins
+  pub runs_round : (f : Cnf) (terms : TermsValue) (firsts : List S) (m : Plain) (ws : List (WorkerValue S)) → Runs view f terms firsts (length ws) m ws → Runs view f terms firsts 0 m ws
+  runs_round f terms firsts m ws runs = record {
+    count = runs.count;
+    blocks = runs.blocks;
+    map_is = runs.map_is;
+    workers_are = runs.workers_are;
+    rounds = runs.rounds + 1;
+    in_round = round_over runs.rounds (streams_of runs.blocks) ws runs.in_round;
+  }
+
   -- whatever run stood at the start stands after two stretches
-  pub goes_twice : (a b c : Plain) (us vs ws : List (WorkerValue S)) → GoesOn view a us b vs → GoesOn view b vs c ws → GoesOn view a us c ws
-  goes_twice a b c us vs ws front back f terms firsts runs = back f terms firsts (front f terms firsts runs)
+  pub goes_twice : (i j k : ℕ) (a b c : Plain) (us vs ws : List (WorkerValue S)) → GoesOn view i a us j b vs → GoesOn view j b vs k c ws → GoesOn view i a us k c ws
+  goes_twice i j k a b c us vs ws front back f terms firsts runs = back f terms firsts (front f terms firsts runs)
 
   -- so some run stands
-  pub running_on : (a b : Plain) (us vs : List (WorkerValue S)) → IsRunning view a us → GoesOn view a us b vs → IsRunning view b vs
-  running_on a b us vs running on = (running.0, running.1, running.2, on running.0 running.1 running.2 running.3)
+  pub running_on : (i j : ℕ) (a b : Plain) (us vs : List (WorkerValue S)) → IsRunning view i a us → GoesOn view i a us j b vs → IsRunning view j b vs
+  running_on i j a b us vs running on = (running.0, running.1, running.2, on running.0 running.1 running.2 running.3)
 
   -- one more stream was over, where all were
   pub over_more : (i : ℕ) (going turned : Bool) (first old new : List (WorkerValue S)) → (going || turned) ≡ false
@@ -349,7 +316,7 @@ module _ {S : Type 0} (view : SourceView S) where
     }
 
     -- a run before its first turn
-    pub runs_opened : (firsts : List S) (ws : List (WorkerValue S)) → length firsts ≡ terms.layout.streams → AreStarted view terms 1 firsts ws → Runs view f terms firsts m ws
+    pub runs_opened : (firsts : List S) (ws : List (WorkerValue S)) → length firsts ≡ terms.layout.streams → AreStarted view terms 1 firsts ws → Runs view f terms firsts 0 m ws
     runs_opened firsts ws count started =
         let same : length ws ≡ terms.layout.streams = omega (arith, count_started terms 1 firsts ws started, count) in
         record {
@@ -357,6 +324,8 @@ module _ {S : Type 0} (view : SourceView S) where
           blocks = [];
           map_is = run_opened;
           workers_are = working_started 1 firsts ws (omega arith) (omega (arith, same)) started;
+          rounds = 0;
+          in_round = round_opened ws;
         }
 
   -- ---- when all streams are over
@@ -383,19 +352,22 @@ module _ {S : Type 0} (view : SourceView S) where
       (subst (λ (x : Report). JudgesStream w.checker.setting told.0 (blocks_of k blocks) x) (sym have.0.2) told.2) in
       (told.0 ∷ others.0, (told.1.0, others.1), (told.1.1, others.2), (λ all. (blocks_of k blocks, refl, judged), others.3))
 
-  -- the reports have an order of lines
-  pub ordered_over : (f : Cnf) (terms : TermsValue) (firsts : List S) (m : Plain) (ws : List (WorkerValue S)) (reports : List Report) → Runs view f terms firsts m ws → HaveReports ws reports
-      → (streams : List Stream) × AllZip IsTold (tellings view firsts (map (λ w. w.reader) ws)) streams × AreRead S view.reads firsts (map (λ w. w.reader) ws) streams × IsOrdered f terms (λ s. true) streams reports
+  -- the reports have an order of lines, by turns
+  pub ordered_over : (f : Cnf) (terms : TermsValue) (firsts : List S) (m : Plain) (ws : List (WorkerValue S)) (reports : List Report) → Runs view f terms firsts 0 m ws → HaveReports ws reports
+      → (streams : List Stream) × AllZip IsTold (tellings view firsts (map (λ w. w.reader) ws)) streams × AreRead S view.reads firsts (map (λ w. w.reader) ws) streams × IsOrderedByTurns f terms streams reports
   ordered_over f terms firsts m ws reports runs have =
       let streams = streams_over terms runs.blocks m 1 firsts ws reports runs.workers_are have in (
         streams.0,
         streams.1,
         streams.2,
         record {
-          blocks = runs.blocks;
-          within = runs.map_is.within;
-          legal = record { events = runs.map_is.legal; room = within_room f terms.layout runs.blocks m runs.map_is };
-          judged = streams.3;
+          order = record {
+            blocks = runs.blocks;
+            within = runs.map_is.within;
+            legal = record { events = runs.map_is.legal; room = within_room f terms.layout runs.blocks m runs.map_is };
+            judged = streams.3;
+          };
+          turns = runs.in_round.turns;
         },
       )
 
@@ -418,18 +390,18 @@ sound_over f terms streams reports ordered some = sound_among f terms ordered.bl
 -- the whole run: opened, gone on with, and over
 pub run_ordered : {S : Type 0} (view : SourceView S) (f : Cnf) (terms wanted : TermsValue) (firsts lasts : List S) (m n : Plain) (us vs ws xs : List (WorkerValue S)) (reports : List Report)
     → IsOpened f terms.layout m → terms ≡ wanted → length firsts ≡ terms.layout.streams → AreStarted view terms 1 firsts us
-    → vs ≡ us → GoesOn view m vs n ws → xs ≡ ws → HaveReports xs reports → lasts ≡ map (λ w. w.reader) xs
+    → vs ≡ us → GoesOn view 0 m vs 0 n ws → xs ≡ ws → HaveReports xs reports → lasts ≡ map (λ w. w.reader) xs
     → StandsOnStreams (tellings view firsts lasts)
-    (λ streams. IsOrdered f wanted (λ s. true) streams reports × AreRead S view.reads firsts lasts streams)
+    (λ streams. IsOrderedByTurns f wanted streams reports × AreRead S view.reads firsts lasts streams)
 run_ordered {S} view f terms wanted firsts lasts m n us vs ws xs reports opened same count started same_start goes same_end have readers =
-    let begun : Runs view f terms firsts m vs = subst (Runs view f terms firsts m) (sym same_start) (runs_opened view f terms m opened firsts us count started) in
-    let ended : Runs view f terms firsts n xs = subst (Runs view f terms firsts n) (sym same_end) (goes f terms firsts begun) in
+    let begun : Runs view f terms firsts 0 m vs = subst (Runs view f terms firsts 0 m) (sym same_start) (runs_opened view f terms m opened firsts us count started) in
+    let ended : Runs view f terms firsts 0 n xs = subst (Runs view f terms firsts 0 n) (sym same_end) (goes f terms firsts begun) in
     let ordered = ordered_over view f terms firsts n xs reports ended have in
     record {
       streams = ordered.0;
       are_told = subst (λ (ls : List S). AllZip IsTold (tellings view firsts ls) ordered.0) (sym readers) ordered.1;
       judged = (
-        subst (λ (t : TermsValue). IsOrdered f t (λ s. true) ordered.0 reports) same ordered.3,
+        subst (λ (t : TermsValue). IsOrderedByTurns f t ordered.0 reports) same ordered.3,
         subst (λ (ls : List S). AreRead S view.reads firsts ls ordered.0) (sym readers) ordered.2,
       );
     }

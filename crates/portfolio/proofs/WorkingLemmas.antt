@@ -1,5 +1,5 @@
 -- What a worker's steps leave: a read, what the checker takes of a piece, and the end.
-use Rattle.std.proofs.Common.{◌≡◌, ℕ, ◌+◌, ◌-◌, ◌<◌, ◌≤◌, Bool, true, false, List, [], ◌∷◌, ◌++◌, length, take, drop, arith, length-take, Option, None, Some, refl, sym, ap, subst, ◌∙◌, append_assoc, append-nil}
+use Rattle.std.proofs.Common.{◌≡◌, ℕ, ◌+◌, ◌-◌, ◌<◌, ◌≤◌, Bool, true, false, List, [], ◌++◌, length, take, drop, arith, length-take, Option, None, Some, refl, sym, ap, subst, ◌∙◌, append_assoc, append-nil}
 use Rattle.std.specs.Prelude.{◌↔◌, IsSome, IsTrue}
 use Rattle.std.specs.Io.KnownBytes.{Consumes}
 use Rattle.std.proofs.KnownBytes.{Consumes-trans}
@@ -12,14 +12,16 @@ use Rattle.stream_check.specs.declared.report.Ending.{Ending}
 use Rattle.stream_check.specs.declared.report.Report.{Report}
 use Rattle.stream_check.specs.Setting.{Setting}
 use Rattle.stream_check.specs.Judging.{JudgesBlocks}
+use Rattle.stream_check.specs.declared.progress.CheckTurn.{CheckTurn}
+use Rattle.stream_check.specs.declared.progress.CheckTurn.TheVariants as turns
 use Rattle.stream_check.specs.Leaving.{Leaves}
 use Rattle.stream_check.specs.CheckerValue.{report_of_tally, CheckerValue}
-use Rattle.stream_check.specs.Checker.{state_by, checker_state, LeavesOn, EndsBy, Ends, ReportsEnd}
+use Rattle.stream_check.specs.Checker.{AreBlocksOf, state_by, checker_state, LeavesOn, EndsBy, Ends, ReportsEnd}
 use Rattle.lrup_text.specs.ReadLemmas.{gave_more}
 use Rattle.lrup_text.specs.ReadOut.{EndsSo, IsLastRead, SourceView}
 use Rattle.lrup_text.specs.Reads.{Gave}
 use Rattle.runs.specs.StreamLemmas.{judged_out}
-use Rattle.portfolio.specs.Working.{WorkerValue, WorksBy, Works, WorksOn}
+use Rattle.portfolio.specs.Working.{AreBlocksOfTurn, WorkerValue, WorksBy, Works, WorksOn}
 
 -- ---- going on
 
@@ -37,6 +39,20 @@ either_end : (c : Setting) (bytes : List ℕ) (blocks : List History) (report : 
     → JudgesBlocks c bytes stream_ends.Ended blocks report → JudgesBlocks c bytes stream_ends.Failed blocks report → JudgesBlocks c bytes end blocks report
 either_end c bytes blocks report stream_ends.Ended at_end at_failure = at_end
 either_end c bytes blocks report stream_ends.Failed at_end at_failure = at_failure
+
+-- ---- the blocks of a turn
+
+pub turn_blocks : (turn : CheckTurn) (ending : Option Ending) (blocks : List History) → (turn ≡ turns.More → ⊥) → (turn ≡ turns.Over → IsSome ending) → AreBlocksOf turn blocks → AreBlocksOfTurn ending blocks
+turn_blocks turns.Line None blocks ends over are = are
+turn_blocks turns.Line (Some ending) blocks ends over are = omega (arith, are)
+turn_blocks turns.More ending blocks ends over are = absurd (ends refl)
+turn_blocks turns.Over None blocks ends over are = absurd (let none : false ≡ true = over refl in cc)
+turn_blocks turns.Over (Some ending) blocks ends over are = are
+
+-- the end of a stream has none
+pub over_without : (ending : Option Ending) → IsSome ending → AreBlocksOfTurn ending []
+over_without None over = absurd (let none : false ≡ true = over in cc)
+over_without (Some ending) over = omega arith
 
 -- ---- a worker's steps
 

@@ -1,5 +1,5 @@
 -- The streams of a run on one thread, between two turns (this project's own).
-use Rattle.std.specs.Prelude.{◌≡◌, ◌+◌, ℕ, true, List, [], ◌∷◌, length, Option, Some, IsSome, IfSome, slice_get}
+use Rattle.std.specs.Prelude.{◌≡◌, ◌+◌, ◌≤◌, ◌<◌, ℕ, true, List, [], ◌∷◌, length, None, Some, IsSome, IfSome, slice_get}
 use Rattle.std.specs.List.{AllByRecursion}
 use Rattle.lrup_model.specs.Formula.{Cnf}
 use Rattle.lrup_model.specs.Layout.{LayoutValue, IsStream}
@@ -11,7 +11,9 @@ use Rattle.stream_check.specs.declared.report.Ending.{Ending}
 use Rattle.stream_check.specs.declared.report.Report.{Report}
 use Rattle.stream_check.specs.CheckerValue.{report_of_tally}
 use Rattle.stream_check.specs.Checker.{IsReadyAt}
+use Rattle.runs.specs.Closed.{IsOfStream}
 use Rattle.runs.specs.Streams.{Block, blocks_of, events_in, IsBlockWithin, TermsValue, setting_of}
+use Rattle.runs.specs.Turns.{IsByTurns, line_count, streams_of}
 use Rattle.lrup_text.specs.ReadOut.{SourceView}
 use Rattle.portfolio.specs.Working.{WorkerValue, Works, IsStarted}
 
@@ -39,25 +41,41 @@ AreWorking view terms blocks map s (first ∷ firsts) (w ∷ ws) =
     IsWorking view terms blocks map s first w × AreWorking view terms blocks map (s + 1) firsts ws
 AreWorking view terms blocks map s _ _ = ⊥
 
--- A run between two turns: its map is that of the blocks so far, and each worker has come to what its own blocks say.
+-- An order of lines after so many whole rounds and the turns of so many streams more. No stream has more lines than it has had turns,
+-- one that isn't over has as many, and the order is by turns.
+pub record IsInRound {S : Type 0} (rounds taken : ℕ) (order : List ℕ)
+    (workers : List (WorkerValue S)) : Type 0 where
+  pub before : (s : ℕ) → s ≤ taken → line_count s order ≤ rounds + 1
+  pub behind : (s : ℕ) → taken < s → line_count s order ≤ rounds
+  pub going_before : (s : ℕ) (w : WorkerValue S) → IsOfStream workers s w
+      → w.checker.ending ≡ None → s ≤ taken → line_count s order ≡ rounds + 1
+  pub going_behind : (s : ℕ) (w : WorkerValue S) → IsOfStream workers s w
+      → w.checker.ending ≡ None → taken < s → line_count s order ≡ rounds
+  pub turns : IsByTurns order
+
+-- A run between two turns, where so many streams have had theirs in this round: its map is that of the blocks so far, and each
+-- worker has come to what its own blocks say.
 pub record Runs {S : Type 0} (view : SourceView S) (f : Cnf) (terms : TermsValue) (firsts : List S)
-    (map : Plain) (workers : List (WorkerValue S)) : Type 0 where
+    (taken : ℕ) (map : Plain) (workers : List (WorkerValue S)) : Type 0 where
   pub count : length workers ≡ terms.layout.streams
   pub blocks : List Block
   pub map_is : HasRun f terms.layout blocks map
   pub workers_are : AreWorking view terms blocks map 1 firsts workers
+  pub rounds : ℕ
+  pub in_round : IsInRound rounds taken (streams_of blocks) workers
 
 -- the run of some formula, layout and readers stands here
-abbrev pub IsRunning : {S : Type 0} → SourceView S → Plain → List (WorkerValue S) → Type 0
-IsRunning {S} view map workers =
-    (f : Cnf) × (terms : TermsValue) × (firsts : List S) × Runs view f terms firsts map workers
+abbrev pub IsRunning : {S : Type 0} → SourceView S → ℕ → Plain → List (WorkerValue S) → Type 0
+IsRunning {S} view taken map workers =
+    (f : Cnf) × (terms : TermsValue) × (firsts : List S)
+    × Runs view f terms firsts taken map workers
 
 -- whatever run stood at the one moment stands at the other
-abbrev pub GoesOn : {S : Type 0} → SourceView S → Plain → List (WorkerValue S) → Plain
+abbrev pub GoesOn : {S : Type 0} → SourceView S → ℕ → Plain → List (WorkerValue S) → ℕ → Plain
     → List (WorkerValue S) → Type 0
-GoesOn {S} view map workers later after =
+GoesOn {S} view taken map workers next later after =
     (f : Cnf) (terms : TermsValue) (firsts : List S)
-    → Runs view f terms firsts map workers → Runs view f terms firsts later after
+    → Runs view f terms firsts taken map workers → Runs view f terms firsts next later after
 
 abbrev pub IsOver : {S : Type 0} → WorkerValue S → Type 0
 IsOver w = IsSome w.checker.ending

@@ -1,5 +1,5 @@
 -- One stream at work: its reader, its checker, and what was read and isn't checked yet (this project's own).
-use Rattle.std.specs.Prelude.{◌≡◌, ◌≤◌, ◌<◌, ◌++◌, ℕ, Bool, false, List, [], Option, None, Some}
+use Rattle.std.specs.Prelude.{◌≡◌, ◌≤◌, ◌<◌, ◌++◌, ℕ, Bool, false, List, [], length, Option, None, Some}
 use Rattle.std.specs.Io.KnownBytes.{Consumes}
 use Rattle.lrup_model.specs.Event.{History}
 use Rattle.stream_check.specs.declared.report.Ending.{Ending}
@@ -38,6 +38,11 @@ abbrev pub WorksOn : {S : Type 0} → SourceView S → WorkerValue S → ℕ →
 WorksOn {S} view old room blocks new left =
     (first : S) (before : List History) → Works view first old room before
     → Works view first new left (before ++ blocks)
+
+-- the blocks of a turn: that of one line, or where the worker is over that of the last line, if there is one
+abbrev pub AreBlocksOfTurn : Option Ending → List History → Type 0
+AreBlocksOfTurn None blocks = length blocks ≡ 1
+AreBlocksOfTurn (Some ending) blocks = length blocks ≤ 1
 
 -- a worker has a buffer, whose unread bytes lie between two places, and reads only where its reader hasn't failed
 pub record IsWorker (has_failed : Bool) (size from to : ℕ) (ending : Option Ending) : Type 0 where

@@ -14,8 +14,9 @@ ghost use Rattle.portfolio.specs.Outcomes.{layout_of, terms_of, verdict_of};
 ghost use Rattle.lrup_text.specs.ReadOut.{source_view};
 ghost use Rattle.runs.specs.Readings.{AreRead};
 ghost use Rattle.runs.specs.Streams.{IsOrdered, StandsOnStreams, tellings};
+ghost use Rattle.runs.specs.Turns.{IsOrderedByTurns};
 ghost use Rattle.portfolio.specs.Turns.{AreOver, AreStarted, GoesOn, HaveReports, IsOverAt, IsRunning};
-ghost use Rattle.portfolio.specs.Working.{WorksOn};
+ghost use Rattle.portfolio.specs.Working.{AreBlocksOfTurn, WorksOn};
 
 use crate::options::Options;
 use crate::outcome::{RunFault, SerialOutcome, Verdict};
@@ -50,11 +51,11 @@ pub fn run_serial<W: Wait, R: Source + Drop, G: Gate + Drop>(
     ensures no_spawn { (stream : ℕ) → result ≢ Err (RunFault.Spawn stream) }
     ensures no_ring { (stream : ℕ) → result ≢ Err (RunFault.Ring stream) }
     // Each stream is what its reader told, and what the reader's reads gave, and the reports have an
-    // order of lines.
+    // order of lines, which is by turns.
     ensures ordered { let terms = terms_of options cube.now formula.now (length readers.items) in
         IfOk result (λ outcome. StandsOnStreams
         (tellings (source_view R.left R.has_failed R.reads) readers.items outcome.readers.items)
-        (λ streams. IsOrdered formula.now terms (λ s. true) streams outcome.reports.items
+        (λ streams. IsOrderedByTurns formula.now terms streams outcome.reports.items
         × AreRead _ R.reads readers.items outcome.readers.items streams)) }
     // Groups of streams are isolated: the reports of a closed set of streams, where none tells that
     // memory ran out, are such as the set alone may have.
@@ -116,9 +117,10 @@ fn take_turns<W: Wait, R: Source + Drop, G: Gate + Drop>(
     map: &mut PlainMap,
     workers: &mut [Worker<R, G>],
 )
-    requires running { IsRunning (source_view R.left R.has_failed R.reads) map.old workers.old }
-    ensures runs { GoesOn (source_view R.left R.has_failed R.reads) map.old workers.old map.new
-        workers.new }
+    requires running { IsRunning (source_view R.left R.has_failed R.reads) 0 map.old
+        workers.old }
+    ensures runs { GoesOn (source_view R.left R.has_failed R.reads) 0 map.old workers.old 0
+        map.new workers.new }
     ensures over { AreOver workers.new }
 {
     for _ in wait.forever() {
@@ -134,9 +136,10 @@ fn take_round<W: Wait, R: Source + Drop, G: Gate + Drop>(
     map: &mut PlainMap,
     workers: &mut [Worker<R, G>],
 ) -> bool
-    requires running { IsRunning (source_view R.left R.has_failed R.reads) map.old workers.old }
-    ensures runs { GoesOn (source_view R.left R.has_failed R.reads) map.old workers.old map.new
-        workers.new }
+    requires running { IsRunning (source_view R.left R.has_failed R.reads) 0 map.old
+        workers.old }
+    ensures runs { GoesOn (source_view R.left R.has_failed R.reads) 0 map.old workers.old 0
+        map.new workers.new }
     ensures over { result ≡ false → AreOver workers.new }
 {
     let mut going = false;
@@ -153,10 +156,11 @@ fn take_turn<W: Wait, R: Source + Drop, G: Gate + Drop>(
     workers: &mut [Worker<R, G>],
     i: usize,
 ) -> bool
-    requires running { IsRunning (source_view R.left R.has_failed R.reads) map.old workers.old }
+    requires running { IsRunning (source_view R.left R.has_failed R.reads) i map.old
+        workers.old }
     requires within { i < length workers.old }
-    ensures runs { GoesOn (source_view R.left R.has_failed R.reads) map.old workers.old map.new
-        workers.new }
+    ensures runs { GoesOn (source_view R.left R.has_failed R.reads) i map.old workers.old (i + 1)
+        map.new workers.new }
     ensures over { result ≡ false → IsOverAt workers.old i × (workers.new ≡ workers.old) }
 {
     ready_beside();
@@ -178,6 +182,7 @@ fn turn_at_desk<W: Wait, R: Source + Drop, G: Gate + Drop>(
     requires ready { IsReadyAt worker.old.checker (plain_place map.old s) }
     requires going { worker.old.checker.ending ≡ None }
     ensures works { (blocks : List History) × PlainMoves map.old map.new s (joined blocks)
+        × AreBlocksOfTurn worker.new.checker.ending blocks
         × WorksOn (source_view R.left R.has_failed R.reads) worker.old (free_at map.old s) blocks
         worker.new (free_at map.new s) }
     ensures ready { IsReadyAt worker.new.checker (plain_place map.new s) }

@@ -33,7 +33,7 @@ use stream_threads::{Room, StreamResult, ThreadFault, check_all, jobs_of};
 /// was read, against one store of clauses, and says whether one derived a clause that contradicts the cube. As many gates are
 /// wanted as readers. All memory is taken before the first thread starts, but for the identities that streams drop. No reader is
 /// read before all threads have been started. It returns when all threads have ended, so it blocks while a reader does. A fault of a
-/// ring names the first stream that wasn't judged.
+/// ring names the first stream that wasn't judged; those before it were, by events of one legal history.
 pub fn run<T: Threads + Wait + Sync, R: Source + Send + Drop, G: Gate + Send + Drop>(
     threads: &T,
     alloc: Global,
@@ -52,9 +52,10 @@ pub fn run<T: Threads + Wait + Sync, R: Source + Send + Drop, G: Gate + Send + D
         → IsStream (layout_of options formula.now (length readers.items)) stream }
     ensures ring { (stream : ℕ) → result ≡ Err (RunFault.Ring stream)
         → IsStream (layout_of options formula.now (length readers.items)) stream }
+    // Each stream before it was judged, as a run with an outcome has it, by its events of a legal history.
     ensures first { let terms = terms_of options cube.now formula.now (length readers.items) in
         (stream : ℕ) → result ≡ Err (RunFault.Ring stream)
-        → WereJudged (source_view R.left R.has_failed R.reads) terms 1
+        → WereJudged (source_view R.left R.has_failed R.reads) formula.now terms
         (take (stream - 1) readers.items) }
     // One legal history has each stream's calls once, in its order, with the replies that it got.
     ensures history { IfOk result (λ outcome. let passes = views outcome.passes.items in
@@ -113,7 +114,11 @@ pub fn run<T: Threads + Wait + Sync, R: Source + Send + Drop, G: Gate + Send + D
     match check_all(threads, &store, jobs, room) {
         Ok(found) => Ok(outcome_of(&store, found, reports, met, readers)),
         Err(ThreadFault::Spawn(stream)) => Err(RunFault::Spawn(stream)),
-        Err(ThreadFault::Ring(stream)) => Err(RunFault::Ring(stream)),
+        Err(ThreadFault::Ring(found)) => {
+            let stream = found.len() as u64 + 1;
+            let _before = outcome_of(&store, found, reports, met, readers);
+            Err(RunFault::Ring(stream))
+        }
     }
 }
 

@@ -5,9 +5,9 @@ ghost use Rattle.lrup_model.specs.Event.{History};
 ghost use Rattle.lrup_model.specs.Layout.{IsStream};
 ghost use Rattle.lrup_text.specs.ReadOut.{source_view};
 ghost use Rattle.stream_check.specs.CheckerValue.{report_of_tally};
-ghost use Rattle.stream_check.specs.Checker.{Ends, IsReadyAt, ReportsEnd};
+ghost use Rattle.stream_check.specs.Checker.{AreBlocksOf, Ends, IsReadyAt, ReportsEnd};
 ghost use Rattle.stream_check.specs.Judging.{joined};
-ghost use Rattle.portfolio.specs.Working.{IsStarted, WorksOn};
+ghost use Rattle.portfolio.specs.Working.{AreBlocksOfTurn, IsStarted, WorksOn};
 
 use lrup_model::ClauseMap;
 use lrup_text::{Source, StreamEnd};
@@ -84,6 +84,7 @@ impl<R: Source + Drop, G: Gate + Drop> Worker<R, G> {
         requires ready { IsReadyAt self.old.checker (M.place map.old) }
         requires going { self.old.checker.ending ≡ None }
         ensures works { (blocks : List History) × M.moves map.old map.new (joined blocks)
+            × AreBlocksOfTurn self.new.checker.ending blocks
             × WorksOn (source_view R.left R.has_failed R.reads) self.old (M.place map.old).room
             blocks self.new (M.place map.new).room }
         ensures ready { IsReadyAt self.new.checker (M.place map.new) }
@@ -137,9 +138,11 @@ impl<R: Source + Drop, G: Gate + Drop> Worker<R, G> {
         requires ready { IsReadyAt self.old.checker (M.place map.old) }
         requires going { self.old.checker.ending ≡ None }
         ensures works { (blocks : List History) × M.moves map.old map.new (joined blocks)
+            × AreBlocksOf result blocks
             × WorksOn (source_view R.left R.has_failed R.reads) self.old (M.place map.old).room
             blocks self.new (M.place map.new).room }
         ensures going { result ≡ CheckTurn.More → self.new.checker.ending ≡ None }
+        ensures over { result ≡ CheckTurn.Over → IsSome self.new.checker.ending }
         ensures ready { IsReadyAt self.new.checker (M.place map.new) }
         ensures setting { self.new.checker.setting ≡ self.old.checker.setting }
     {

@@ -24,7 +24,7 @@ abbrev pub ReadsTo : Option StreamEnd → List ℕ → List ℕ → StreamEnd �
 ReadsTo its bytes whole end = MatchOption its ((more : List ℕ) × (whole ≡ bytes ++ more)) (λ e. (whole ≡ bytes) × (e ≡ end))
 
 -- however much of a stream was read, all of it is judged so
-judged_whole : OverStays → (c : Setting) (its : Option StreamEnd) (bytes whole : List ℕ) (end : StreamEnd) (blocks : List History) (report : Report)
+pub judged_whole : OverStays → (c : Setting) (its : Option StreamEnd) (bytes whole : List ℕ) (end : StreamEnd) (blocks : List History) (report : Report)
     → ReadsTo its bytes whole end → ((other : StreamEnd) → IfSome its (λ e. e ≡ other) → JudgesBlocks c bytes other blocks report) → JudgesBlocks c whole end blocks report
 judged_whole law c (Some its) bytes whole end blocks report is j = subst (λ b. JudgesBlocks c b end blocks report) (sym is.0) (j end is.1)
 judged_whole law c None bytes whole stream_ends.Ended blocks report is j =

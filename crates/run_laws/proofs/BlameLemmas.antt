@@ -1,6 +1,6 @@
 -- A closed set of streams in two histories.
-use Rattle.std.proofs.Common.{◌≡◌, ◌⊎◌, ◌-◌, ◌++◌, ℕ, Bool, true, Option, Some, List, [], ◌∷◌, length, inl, inr, refl, sym, ap, subst, ◌∙◌, append_assoc, append-nil, arith}
-use Rattle.std.specs.Prelude.{IsTrue}
+use Rattle.std.proofs.Common.{◌≡◌, ◌⊎◌, ◌-◌, ◌++◌, ℕ, Bool, true, Option, Some, None, List, [], ◌∷◌, length, inl, inr, refl, sym, ap, subst, ◌∙◌, append_assoc, append-nil, arith}
+use Rattle.std.specs.Prelude.{IsTrue, IfSome, IsSome}
 use Rattle.std.specs.List.{AllByRecursion, flat_map}
 use Rattle.std.specs.Io.KnownBytes.{Consumes}
 use Rattle.std.proofs.lemmas.Option.{slice_get_within}
@@ -13,89 +13,148 @@ use Rattle.lrup_model.specs.History.{IsLegal}
 use Rattle.lrup_model.specs.HistoryLemmas.{opening-owned, run-own}
 use Rattle.lrup_model.specs.Laws.{HasClause, FindsWithin}
 use Rattle.lrup_model.specs.Layout.{LayoutValue, Fits, Owns, owner}
-use Rattle.lrup_model.specs.ListLemmas.{All-map}
-use Rattle.lrup_model.specs.State.{State, Slot, opening, run, state}
+use Rattle.lrup_model.specs.State.{Slot, opening, run, state}
 use Rattle.lrup_model.specs.declared.layout.Owner.{Owner}
 use Rattle.lrup_model.specs.declared.layout.Owner.TheVariants as owners
 use Rattle.lrup_text.specs.Laws.{EmptyPending, OneFault, OneFirstLine, RefusedStays}
-use Rattle.lrup_text.specs.Lines.{line_text}
+use Rattle.lrup_text.specs.Lines.{StreamLine, IsWithinLimits, line_text}
 use Rattle.lrup_text.specs.declared.device.StreamEnd.{StreamEnd}
 use Rattle.lrup_text.specs.declared.device.StreamEnd.TheVariants as stream_ends
 use Rattle.stream_check.specs.declared.report.Ending.TheVariants as endings
 use Rattle.stream_check.specs.declared.report.Report.{Report}
 use Rattle.stream_check.specs.declared.setting.Side.TheVariants as sides
-use Rattle.stream_check.specs.Judging.{joined, report_of, JudgesBlocks}
-use Rattle.stream_check.specs.Laws.{CitedFetched, DecidedBeforeFailure, GoodExactlyIf, IsOfMemory, IsOfFailure}
-use Rattle.stream_check.specs.ReportLemmas.{additions-append, joined-append}
+use Rattle.stream_check.specs.Judging.{EndsAfter, joined, JudgesBlocks}
+use Rattle.stream_check.specs.Laws.{CitedFetched, GoodExactlyIf, IsOfMemory, IsOfFailure}
+use Rattle.stream_check.specs.ReportLemmas.{additions-append, joined-append, split_first}
 use Rattle.stream_check.specs.Setting.{Setting}
 use Rattle.stream_check.specs.Standing.{additions_of}
 use Rattle.runs.specs.Closed.{IsOfStream, IsClosed}
 use Rattle.runs.specs.Headline.{AreJudgedIn}
-use Rattle.runs.specs.Streams.{Stream, Telling, IsTold, TermsValue, setting_of}
-use Rattle.runs.specs.StreamLemmas.{same_at, some_end, told_begins, told_count}
-use Rattle.run_laws.specs.Blame.{AllEnded, HaveBytesOf, LacksOfAnother, NoFalseBlame}
-use Rattle.run_laws.specs.GroupLaws.{ReadersClosed}
+use Rattle.runs.specs.Streams.{Stream, Telling, TermsValue, setting_of}
+use Rattle.runs.specs.StreamLemmas.{judged_count, same_at, some_end, told_count}
+use Rattle.run_laws.specs.Blame.{HaveBytesOf, LacksOfAnother, LacksOfAnotherIn, NoFalseBlame}
+use Rattle.run_laws.specs.Right.{IsCutOffIn, TellsAtLeast}
 use Rattle.run_laws.specs.Groups.{IsRun}
-use Rattle.run_laws.proofs.BlameLines.{IsFoundIn, AreFair}
-use Rattle.run_laws.proofs.BlameStreams.{near_fair, IsStillThere, all_still_there, still_found, own_all, IsIn, in_left, in_all, own_published, left_published, stream_publishes, has_ended, fair_front, stream_agrees}
+use Rattle.run_laws.proofs.BlameLines.{IsFoundIn, AreFair, FindAlike, same_clause}
+use Rattle.run_laws.proofs.BlameStreams.{near_fair, IsStillThere, all_still_there, own_all, IsIn, in_left, in_all, own_published, left_published, stream_publishes, has_ended, fair_front, IsBlameless, GoesOn, lines_go_on, goes_on_tells, whole_told}
 use Rattle.run_laws.proofs.GroupLemmas.{inside, is_inside, inside_is, closed_finds}
-use Rattle.run_laws.proofs.JudgedLemmas.{lines_first}
-use Rattle.run_laws.proofs.Places.{has_place, judged_at, judged_fewer}
-use Rattle.runs.specs.StreamLemmas.{judged_count}
+use Rattle.run_laws.proofs.Places.{has_place, judged_at}
 use Rattle.run_laws.proofs.RightLines.{side_by}
 use Rattle.run_laws.proofs.WalkLemmas.{own-calls}
-use Rattle.run_laws.proofs.RunLemmas.{told_at, judged_to}
+use Rattle.run_laws.proofs.RunLemmas.{EndsWith, told_at}
 
 -- an identity of another stream has an owner
-foreign_by : (c : Setting) (id : ℕ) (o : Owner) → owner c.layout id ≡ o → side_by c o ≡ sides.Foreign → (t : ℕ) × Owns c.layout t id
+pub foreign_by : (c : Setting) (id : ℕ) (o : Owner) → owner c.layout id ≡ o → side_by c o ≡ sides.Foreign → (t : ℕ) × Owns c.layout t id
 foreign_by c id owners.Formula is foreign = absurd (let no : sides.Formula ≡ sides.Foreign = foreign in cc)
 foreign_by c id (owners.Stream t) is foreign = (t, is)
 foreign_by c id owners.Outside is foreign = absurd (let no : sides.Outside ≡ sides.Foreign = foreign in cc)
 
--- what every stream of the set left in the one history at an identity of its own, it left in the other
-abbrev Transfers : LayoutValue → (ℕ → Bool) → State → State → Type 0
-Transfers p set k l = (t id : ℕ) (d : Clause) → IsTrue (inside p set t) → Owns p t id → HasClause (l id) d → HasClause (k id) d
+-- What a stream publishes
 
--- so what a stream of the set found of another one is the other history's clause
-found_in : (c : Setting) (set : ℕ → Bool) (k l : State) (e : Event) → Transfers c.layout set k l → IsTrue (inside c.layout set c.stream)
-    → stream_of e ≡ c.stream → FindsWithin c.layout (inside c.layout set) e → IsStillThere l e → IsFoundIn c k e
-found_in c set k l (events.fetch s id events.vacant) transfers member mine within there = tt
-found_in c set k l (events.fetch s id (events.live d)) transfers member mine within there = λ foreign.
-    let its = foreign_by c id (owner c.layout id) refl foreign in
-    transfers its.0 id d (within (subst (λ (t : ℕ). IsTrue (inside c.layout set t)) (sym mine) member) tt its.0 its.1) its.1 there
-found_in c set k l (events.fetch s id events.retired) transfers member mine within there = tt
-found_in c set k l (events.publish s id d r) transfers member mine within there = tt
-found_in c set k l (events.retire s id r) transfers member mine within there = tt
-
-all_found_in : (c : Setting) (set : ℕ → Bool) (k l : State) (es : History) → Transfers c.layout set k l → IsTrue (inside c.layout set c.stream)
-    → AllByRecursion (λ e. stream_of e ≡ c.stream) es → AllByRecursion (FindsWithin c.layout (inside c.layout set)) es
-    → AllByRecursion (IsStillThere l) es → AllByRecursion (IsFoundIn c k) es
-all_found_in c set k l [] transfers member mine within there = tt
-all_found_in c set k l (e ∷ es) transfers member mine within there =
-    (found_in c set k l e transfers member mine.0 within.0 there.0, all_found_in c set k l es transfers member mine.1 within.1 there.1)
-
--- what a stream published in the one history, it published in the other, where that has all of its lines
-transfers : (f : Cnf) (p : LayoutValue) (set : ℕ → Bool) (g h : History) → Fits p f → IsLegal f p g → IsLegal f p h
-    → ((t : ℕ) (x : ℕ × Clause) → IsTrue (inside p set t) → IsIn x (published (own h t)) → IsIn x (published (own g t)))
-    → Transfers p set (state f g) (state f h)
-transfers f p set g h fits legal also more t id d member owns has =
+-- what a stream left at an identity of its own, it published
+own_has : (f : Cnf) (p : LayoutValue) (h : History) (t id : ℕ) (d : Clause) → Fits p f → IsLegal f p h → Owns p t id → HasClause (state f h id) d
+    → IsIn (id, d) (published (own h t))
+own_has f p h t id d fits legal owns has =
     let its : HasClause (run (opening f) (own h t) id) d =
-    subst (λ (slot : Slot). HasClause slot d) (run-own f p (opening f) (opening f) h t id also.events owns refl) has in
+    subst (λ (slot : Slot). HasClause slot d) (run-own f p (opening f) (opening f) h t id legal.events owns refl) has in
     elim (left_published (opening f) (own h t) id d its) [
       | inl before ↦ absurd (subst (λ (slot : Slot). HasClause slot d) (opening-owned f p t id fits owns) before)
-      | inr later ↦ in_all (λ x. HasClause (state f g x.0) x.1) (id, d) (published g) (published_stay f p (opening f) g legal.events)
-          (own_published g t (id, d) (more t (id, d) member later))
+      | inr later ↦ later
     ]
 
-module _ (law : GoodExactlyIf) (first : OneFirstLine) (refused : RefusedStays) (one_fault : OneFault) (empty : EmptyPending) (cited : CitedFetched)
-    (decided : DecidedBeforeFailure) (closes : ReadersClosed) where
-  -- the one history judges a set of streams, which ended; the other run has readers with the same bytes
+-- and what it published stays
+own_stays : (f : Cnf) (p : LayoutValue) (h : History) (t id : ℕ) (d : Clause) → IsLegal f p h → IsIn (id, d) (published (own h t)) → HasClause (state f h id) d
+own_stays f p h t id d legal is =
+    in_all (λ x. HasClause (state f h x.0) x.1) (id, d) (published h) (published_stay f p (opening f) h legal.events) (own_published h t (id, d) is)
+
+-- of two lists of lines that the same bytes begin with one begins with the other
+one_begins : OneFirstLine → (a b : List StreamLine) (x y : List ℕ) → AllByRecursion IsWithinLimits a → AllByRecursion IsWithinLimits b
+    → flat_map line_text a ++ x ≡ flat_map line_text b ++ y → GoesOn a b ⊎ GoesOn b a
+one_begins first [] b x y fit fits is = inl (b, refl)
+one_begins first (line ∷ a) [] x y fit fits is = inr (line ∷ a, refl)
+one_begins first (line ∷ a) (other ∷ b) x y fit fits is =
+    let same = first line other (flat_map line_text a ++ x) (flat_map line_text b ++ y) fit.0 fits.0
+    (sym (split_first line a x) ∙ is ∙ split_first other b y) in
+    elim (one_begins first a b x y fit.1 fits.1 same.1) [
+      | inl on ↦ inl (on.0, ap (λ (l : StreamLine). l ∷ b) (sym same.0) ∙ ap (λ (ls : List StreamLine). line ∷ ls) on.1)
+      | inr on ↦ inr (on.0, ap (λ (l : StreamLine). l ∷ a) same.0 ∙ ap (λ (ls : List StreamLine). other ∷ ls) on.1)
+    ]
+
+in_more : (x : ℕ × Clause) (a b : List StreamLine) → GoesOn a b → IsIn x (additions_of a) → IsIn x (additions_of b)
+in_more x a b on is =
+    subst (IsIn x) (sym (ap additions_of on.1 ∙ additions-append a on.0)) (in_left x (additions_of a) (additions_of on.0) is)
+
+-- A stream in a run
+
+-- an end that a stream had, and what its reader had left behind the bytes by which it is judged: nothing, at the end
+pub record ReadSo (c : Setting) (bytes whole : List ℕ) (blocks : List History) (report : Report) : Type 0 where
+  pub end : StreamEnd
+  pub judges : JudgesBlocks c bytes end blocks report
+  pub left : List ℕ
+  pub text : whole ≡ bytes ++ left
+  pub ended : end ≡ stream_ends.Ended → left ≡ []
+
+read_so : (c : Setting) (its : Option StreamEnd) (bytes unneeded whole : List ℕ) (left : Option (List ℕ)) (has_failed : Bool) (blocks : List History) (report : Report)
+    → Consumes (Some whole) left (bytes ++ unneeded) → EndsWith its left has_failed → (IsSome its → unneeded ≡ [])
+    → ((end : StreamEnd) → IfSome its (λ e. e ≡ end) → JudgesBlocks c bytes end blocks report) → ReadSo c bytes whole blocks report
+read_so c its bytes unneeded whole None has_failed blocks report took ends needed j = absurd took
+read_so c (Some stream_ends.Ended) bytes unneeded whole (Some left) has_failed blocks report took ends needed j = record {
+  end = stream_ends.Ended;
+  judges = j stream_ends.Ended refl;
+  left = unneeded ++ left;
+  text = took ∙ append_assoc bytes unneeded left;
+  ended = λ is. ap (λ (b : List ℕ). b ++ left) (needed refl) ∙ ends.0;
+}
+read_so c (Some stream_ends.Failed) bytes unneeded whole (Some left) has_failed blocks report took ends needed j = record {
+  end = stream_ends.Failed;
+  judges = j stream_ends.Failed refl;
+  left = unneeded ++ left;
+  text = took ∙ append_assoc bytes unneeded left;
+  ended = λ is. absurd (let no : stream_ends.Failed ≡ stream_ends.Ended = is in cc);
+}
+read_so c None bytes unneeded whole (Some left) has_failed blocks report took ends needed j = record {
+  end = stream_ends.Failed;
+  judges = j stream_ends.Failed tt;
+  left = unneeded ++ left;
+  text = took ∙ append_assoc bytes unneeded left;
+  ended = λ is. absurd (let no : stream_ends.Failed ≡ stream_ends.Ended = is in cc);
+}
+
+-- what a run says of the stream whose reader has these bytes left at first
+pub record IsReadIn (f : Cnf) (terms : TermsValue) (told : List Telling) (reports : List Report) (r : IsRun f terms told reports)
+    (s : ℕ) (whole : List ℕ) (report : Report) : Type 0 where
+  pub bytes : List ℕ
+  pub blocks : List History
+  pub events : own r.history s ≡ joined blocks
+  pub reads : ReadSo (setting_of terms s) bytes whole blocks report
+
+pub read_in : (f : Cnf) (terms : TermsValue) (told : List Telling) (reports : List Report) (r : IsRun f terms told reports)
+    (s : ℕ) (whole : List ℕ) (telling : Telling) (report : Report)
+    → IsOfStream told s telling → telling.entry ≡ Some whole → IsOfStream reports s report → IsReadIn f terms told reports r s whole report
+read_in f terms told reports r s whole telling report here entry says =
+    let first = says.0 in
+    let within = slice_get_within reports (s - 1) report says.1 in
+    let many = judged_count terms (λ t. true) r.history 1 r.streams reports r.judged in
+    let stream = has_place r.streams s first (omega (arith, within, many, first)) in
+    let is = told_at told r.streams s telling stream.0 r.are_told here stream.1 in
+    let j = judged_at terms (λ t. true) r.history r.streams reports r.judged s stream.0 report refl stream.1 says in
+    record {
+      bytes = stream.0.bytes;
+      blocks = j.0;
+      events = j.1;
+      reads = read_so (setting_of terms s) stream.0.end stream.0.bytes stream.0.unneeded whole telling.left telling.has_failed j.0 report
+          (subst (λ (e : Option (List ℕ)). Consumes e telling.left (stream.0.bytes ++ stream.0.unneeded)) entry is.consumes)
+          is.ends is.needed j.2;
+    }
+
+module _ (law : GoodExactlyIf) (first : OneFirstLine) (refused : RefusedStays) (cited : CitedFetched) where
+  -- the one history judges a closed set of streams; the readers of the other run begin with their bytes
   module _ (f : Cnf) (terms : TermsValue) (set : ℕ → Bool) (g : History) (streams : List Stream) (reports : List Report) (told : List Telling)
       (others : List Report) (fits : Fits terms.layout f) (count : length streams ≡ terms.layout.streams)
       (legal : IsLegal f terms.layout g) (judged : AreJudgedIn terms set g 1 streams reports)
-      (ended : AllEnded set reports) (closed : IsClosed terms.layout set streams) (r : IsRun f terms told others) (bytes : HaveBytesOf set streams told) where
-    -- a stream of the set in the first history: its lines are all that its bytes have
-    record Whole (s : ℕ) : Type 0 where
+      (closed : IsClosed terms.layout set streams) (r : IsRun f terms told others) (bytes : HaveBytesOf set streams told) where
+    -- a stream of the set in the first history
+    record Part (s : ℕ) : Type 0 where
       stream : Stream
       at : IsOfStream streams s stream
       report : Report
@@ -104,17 +163,14 @@ module _ (law : GoodExactlyIf) (first : OneFirstLine) (refused : RefusedStays) (
       events : own g s ≡ joined blocks
       end : StreamEnd
       judges : JudgesBlocks (setting_of terms s) stream.bytes end blocks report
-      text : stream.bytes ≡ flat_map line_text judges.lines
-      is : report ≡ report_of (setting_of terms s) judges.lines 0 endings.Ended
 
-    whole_of : (s : ℕ) → IsTrue (inside terms.layout set s) → Whole s
-    whole_of s member =
+    part_of : (s : ℕ) → IsTrue (inside terms.layout set s) → Part s
+    part_of s member =
         let is = inside_is terms.layout set s member in
         let stream = has_place streams s is.1.0 (omega (arith, is.1.1, count)) in
         let report = has_place reports s is.1.0 (omega (arith, is.1.1, count, judged_count terms set g 1 streams reports judged)) in
         let j = judged_at terms set g streams reports judged s stream.0 report.0 is.0 stream.1 report.1 in
         let way = some_end (setting_of terms s) stream.0 j.0 report.0 j.2 in
-        let over = has_ended (setting_of terms s) way.1.lines way.1.rest way.0 way.1.back report.0 way.1.ends (ended s report.0 is.0 report.1) in
         record {
           stream = stream.0;
           at = stream.1;
@@ -124,98 +180,197 @@ module _ (law : GoodExactlyIf) (first : OneFirstLine) (refused : RefusedStays) (
           events = j.1;
           end = way.0;
           judges = way.1;
-          text = way.1.text ∙ ap (λ (b : List ℕ). flat_map line_text way.1.lines ++ b) over.none ∙ append-nil (flat_map line_text way.1.lines);
-          is = over.says;
         }
 
-    -- the same stream in the run
-    record Other (s : ℕ) (w : Whole s) : Type 0 where
-      stream : Stream
-      at : IsOfStream r.streams s stream
-      telling : Telling
-      is_told : IsTold telling stream
-      entry : telling.entry ≡ Some w.stream.bytes
+    -- the same stream in the run, whose reader has this behind it
+    record Other (s : ℕ) (w : Part s) (more : List ℕ) : Type 0 where
+      report : Report
+      says : IsOfStream others s report
+      read : IsReadIn f terms told others r s (w.stream.bytes ++ more) report
+      texts : flat_map line_text read.reads.judges.lines ++ (read.reads.judges.rest ++ read.reads.left)
+          ≡ flat_map line_text w.judges.lines ++ (w.judges.rest ++ more)
 
-    other_of : (s : ℕ) (member : IsTrue (inside terms.layout set s)) (w : Whole s) → Other s w
-    other_of s member w =
-        let is = inside_is terms.layout set s member in
-        let stream = has_place r.streams s is.1.0 (omega (arith, is.1.1, r.count)) in
-        let telling = has_place told s is.1.0 (omega (arith, is.1.1, r.count, told_count told r.streams r.are_told)) in
-        record {
-          stream = stream.0;
-          at = stream.1;
-          telling = telling.0;
-          is_told = told_at told r.streams s telling.0 stream.0 r.are_told telling.1 stream.1;
-          entry = bytes s w.stream telling.0 is.0 w.at telling.1;
-        }
-
-    -- what it published there is among the additions of all its lines
-    published_too : (s : ℕ) (x : ℕ × Clause) → IsTrue (inside terms.layout set s) → IsIn x (published (own r.history s)) → IsIn x (published (own g s))
-    published_too s x member is =
-        let c = setting_of terms s in
-        let w : Whole s = whole_of s member in
-        let o : Other s w = other_of s member w in
+    other_of : (s : ℕ) (member : IsTrue (inside terms.layout set s)) (w : Part s) (telling : Telling) (more : List ℕ)
+        → IsOfStream told s telling → telling.entry ≡ Some (w.stream.bytes ++ more) → Other s w more
+    other_of s member w telling more here entry =
         let place = inside_is terms.layout set s member in
         let report = has_place others s place.1.0
         (omega (arith, place.1.1, r.count, judged_count terms (λ t. true) r.history 1 r.streams others r.judged)) in
-        let j = judged_at terms (λ t. true) r.history r.streams others r.judged s o.stream report.0 refl o.at report.1 in
-        let way = some_end c o.stream j.0 report.0 j.2 in
-        let rest = told_begins o.telling w.stream.bytes o.stream o.is_told o.entry in
-        let texts : flat_map line_text way.1.lines ++ (way.1.rest ++ rest.0) ≡ flat_map line_text w.judges.lines ++ [] =
-        sym (append_assoc (flat_map line_text way.1.lines) way.1.rest rest.0)
-        ∙ ap (λ (b : List ℕ). b ++ rest.0) (sym way.1.text) ∙ sym rest.1 ∙ w.text ∙ sym (append-nil (flat_map line_text w.judges.lines)) in
-        let front = lines_first first way.1.lines w.judges.lines (way.1.rest ++ rest.0) [] way.1.fits w.judges.fits empty.whole texts in
-        let theirs : published (own r.history s) ≡ additions_of way.1.lines =
-        ap published j.1 ∙ stream_publishes law c o.stream.bytes way.0 j.0 report.0 way.1 in
-        let mine : published (own g s) ≡ additions_of way.1.lines ++ additions_of front.more =
-        ap published w.events ∙ stream_publishes law c w.stream.bytes w.end w.blocks w.report w.judges
-        ∙ ap additions_of front.is ∙ additions-append way.1.lines front.more in
-        subst (IsIn x) (sym mine) (in_left x (additions_of way.1.lines) (additions_of front.more) (subst (IsIn x) theirs is))
+        let read : IsReadIn f terms told others r s (w.stream.bytes ++ more) report.0 =
+        read_in f terms told others r s (w.stream.bytes ++ more) telling report.0 here entry report.1 in
+        let j = read.reads.judges in
+        record {
+          report = report.0;
+          says = report.1;
+          read = read;
+          texts = sym (append_assoc (flat_map line_text j.lines) j.rest read.reads.left)
+              ∙ ap (λ (b : List ℕ). b ++ read.reads.left) (sym j.text) ∙ sym read.reads.text
+              ∙ ap (λ (b : List ℕ). b ++ more) w.judges.text
+              ∙ append_assoc (flat_map line_text w.judges.lines) w.judges.rest more;
+        }
 
-    run_closed : IsClosed terms.layout set r.streams
-    run_closed = closes terms.layout set told r.streams r.are_told
-        (λ s telling member here.
-        let last = slice_get_within told (s - 1) telling here.1 in
-        let stream = has_place streams s here.0 (omega (arith, here.0, last, r.count, count, told_count told r.streams r.are_told)) in
-        (stream.0.bytes, bytes s stream.0 telling member stream.1 here, closed s stream.0 member stream.1))
+    its_other : (s : ℕ) (member : IsTrue (inside terms.layout set s)) (w : Part s) → (more : List ℕ) × Other s w more
+    its_other s member w =
+        let is = inside_is terms.layout set s member in
+        let telling = has_place told s is.1.0 (omega (arith, is.1.1, r.count, told_count told r.streams r.are_told)) in
+        let entry = bytes s w.stream telling.0 is.0 w.at telling.1 in
+        (entry.0, other_of s member w telling.0 entry.0 telling.1 entry.1)
 
-    blameless : (s : ℕ) (report other : Report) → IsTrue (set s) → IsOfStream reports s report → IsOfStream others s other
-        → ¬ IsOfMemory other → ¬ IsOfFailure other → (other ≡ report) ⊎ LacksOfAnother (setting_of terms s) other
-    blameless s report other member says too memory failure =
-        let c = setting_of terms s in
+    -- at an identity of the set both have one clause
+    one_clause : (t id : ℕ) (x d : Clause) → IsTrue (inside terms.layout set t) → Owns terms.layout t id
+        → HasClause (state f g id) x → HasClause (state f r.history id) d → x ≡ d
+    one_clause t id x d member owns mine theirs =
+        let c = setting_of terms t in
         let p = terms.layout in
-        let within = slice_get_within reports (s - 1) report says.1 in
-        let many = judged_count terms set g 1 streams reports judged in
-        let here : IsTrue (inside p set s) = is_inside p set s member (says.0, omega (arith, says.0, within, many, count)) in
-        let w : Whole s = whole_of s here in
-        let o : Other s w = other_of s here w in
-        let j = judged_at terms (λ t. true) r.history r.streams others r.judged s o.stream other refl o.at too in
-        let judges : JudgesBlocks c w.stream.bytes stream_ends.Ended j.0 other =
-        judged_to decided c o.stream.end o.stream.bytes o.stream.unneeded w.stream.bytes o.telling.left o.telling.has_failed j.0 other
-        (subst (λ (e : Option (List ℕ)). Consumes e o.telling.left (o.stream.bytes ++ o.stream.unneeded)) o.entry o.is_told.consumes)
-        o.is_told.ends o.is_told.needed failure j.2 in
-        let k = state f g in
-        let mine : AreFair c k (opening f) (own g s) =
-        near_fair f c k (opening f) (opening f) g legal.events (λ id near. refl)
-        (own_all (IsFoundIn c k) g s (All-map (IsStillThere k) (IsFoundIn c k) (still_found c k) g (all_still_there f p (opening f) g legal.events))) in
-        let finds = closed_finds cited terms set r.history r.streams others r.count
-        (judged_fewer terms (λ t. true) set r.history (λ t m. refl) 1 r.streams others r.judged) run_closed in
-        let theirs : AreFair c k (opening f) (own r.history s) =
-        near_fair f c k (opening f) (opening f) r.history r.legal.events (λ id near. refl)
-        (all_found_in c set k (state f r.history) (own r.history s) (transfers f p set g r.history fits legal r.legal published_too) here
-        (own-calls r.history s) (own_all (FindsWithin p (inside p set)) r.history s finds)
-        (own_all (IsStillThere (state f r.history)) r.history s (all_still_there f p (opening f) r.history r.legal.events))) in
-        let ours : AreFair c k (opening f) (joined w.judges.front) =
-        fair_front c k (opening f) (joined w.judges.front) (joined w.judges.back)
-        (subst (AreFair c k (opening f)) (w.events ∙ ap joined w.judges.split ∙ joined-append w.judges.front w.judges.back) mine) in
-        let also : AreFair c k (opening f) (joined (judges.front ++ judges.back)) =
-        subst (AreFair c k (opening f)) (j.1 ∙ ap joined judges.split) theirs in
-        elim (stream_agrees law first refused one_fault empty c k [] w.judges.lines judges.lines w.judges.front judges.front judges.back (opening f) judges.rest other
-        w.judges.good judges.good judges.ends w.judges.fits judges.fits (sym judges.text ∙ w.text) ours also) [
-          | inl same ↦ inl (same ∙ sym w.is ∙ same_at reports s w.report report w.says says)
-          | inr worse ↦ elim worse [ inl lost ↦ absurd (memory lost) | inr lacks ↦ inr lacks ]
+        let w : Part t = part_of t member in
+        let its : (more : List ℕ) × Other t w more = its_other t member w in
+        let read = its.1.read in
+        let lines = w.judges.lines in
+        let also = read.reads.judges.lines in
+        let published_here : published (own g t) ≡ additions_of lines =
+        ap published w.events ∙ stream_publishes law c w.stream.bytes w.end w.blocks w.report w.judges in
+        let published_there : published (own r.history t) ≡ additions_of also =
+        ap published read.events ∙ stream_publishes law c read.bytes read.reads.end read.blocks its.1.report read.reads.judges in
+        let here : IsIn (id, x) (additions_of lines) = subst (IsIn (id, x)) published_here (own_has f p g t id x fits legal owns mine) in
+        let there : IsIn (id, d) (additions_of also) = subst (IsIn (id, d)) published_there (own_has f p r.history t id d fits r.legal owns theirs) in
+        elim (one_begins first lines also (w.judges.rest ++ its.0) (read.reads.judges.rest ++ read.reads.left)
+        w.judges.fits read.reads.judges.fits (sym its.1.texts)) [
+          | inl on ↦ same_clause (state f r.history id) x d
+              (own_stays f p r.history t id x r.legal (subst (IsIn (id, x)) (sym published_there) (in_more (id, x) lines also on here))) theirs
+          | inr on ↦ same_clause (state f g id) x d mine
+              (own_stays f p g t id d legal (subst (IsIn (id, d)) (sym published_here) (in_more (id, d) also lines on there)))
         ]
 
-  pub no_false_blame : NoFalseBlame
-  no_false_blame f terms set h streams reports told others s report other fits count legal judged ended closed run bytes =
-      blameless f terms set h streams reports told others fits count legal judged ended closed run bytes s report other
+    -- what the one history finds of other streams, and what the run does
+    abbrev Mine : ℕ → Clause → Type 0
+    Mine id d = HasClause (state f g id) d × ((t : ℕ) → Owns terms.layout t id → IsTrue (inside terms.layout set t))
+
+    abbrev Theirs : ℕ → Clause → Type 0
+    Theirs id d = (t : ℕ) (x : Clause) → IsTrue (inside terms.layout set t) → Owns terms.layout t id → HasClause (state f g id) x → x ≡ d
+
+    find_alike : (s : ℕ) → FindAlike (setting_of terms s) Mine Theirs
+    find_alike s id d e foreign mine theirs =
+        let its = foreign_by (setting_of terms s) id (owner terms.layout id) refl foreign in
+        theirs its.0 d (mine.1 its.0 its.1) its.1 mine.0
+
+    found_mine : (s : ℕ) (es : History) → IsTrue (inside terms.layout set s) → AllByRecursion (λ e. stream_of e ≡ s) es
+        → AllByRecursion (FindsWithin terms.layout (inside terms.layout set)) es → AllByRecursion (IsStillThere (state f g)) es
+        → AllByRecursion (IsFoundIn (setting_of terms s) Mine) es
+    found_mine s [] member calls within there = tt
+    found_mine s (events.fetch u id events.vacant ∷ es) member calls within there = (tt, found_mine s es member calls.1 within.1 there.1)
+    found_mine s (events.fetch u id (events.live d) ∷ es) member calls within there = (
+      (λ foreign. (there.0, within.0 (subst (λ (t : ℕ). IsTrue (inside terms.layout set t)) (sym calls.0) member) tt)),
+      found_mine s es member calls.1 within.1 there.1,
+    )
+    found_mine s (events.fetch u id events.retired ∷ es) member calls within there = (tt, found_mine s es member calls.1 within.1 there.1)
+    found_mine s (events.publish u id d result ∷ es) member calls within there = (tt, found_mine s es member calls.1 within.1 there.1)
+    found_mine s (events.retire u id result ∷ es) member calls within there = (tt, found_mine s es member calls.1 within.1 there.1)
+
+    found_theirs : (s : ℕ) (es : History) → AllByRecursion (IsStillThere (state f r.history)) es → AllByRecursion (IsFoundIn (setting_of terms s) Theirs) es
+    found_theirs s [] there = tt
+    found_theirs s (events.fetch u id events.vacant ∷ es) there = (tt, found_theirs s es there.1)
+    found_theirs s (events.fetch u id (events.live d) ∷ es) there =
+        ((λ foreign t x member owns has. one_clause t id x d member owns has there.0), found_theirs s es there.1)
+    found_theirs s (events.fetch u id events.retired ∷ es) there = (tt, found_theirs s es there.1)
+    found_theirs s (events.publish u id d result ∷ es) there = (tt, found_theirs s es there.1)
+    found_theirs s (events.retire u id result ∷ es) there = (tt, found_theirs s es there.1)
+
+    -- the run's good lines go on from those of the stream, or it ended in them for which none of them is to blame
+    goes_on : (s : ℕ) (member : IsTrue (inside terms.layout set s)) (w : Part s) (more : List ℕ) (o : Other s w more) → w.judges.rest ≡ []
+        → GoesOn w.judges.lines o.read.reads.judges.lines ⊎ IsBlameless (setting_of terms s) Mine (length w.judges.lines) o.report
+    goes_on s member w more o none =
+        let c = setting_of terms s in
+        let p = terms.layout in
+        let j = o.read.reads.judges in
+        let mine : AreFair c Mine (opening f) (own g s) =
+        near_fair f c Mine (opening f) (opening f) g legal.events (λ id near. refl)
+        (found_mine s (own g s) member (own-calls g s)
+        (own_all (FindsWithin p (inside p set)) g s (closed_finds cited terms set g streams reports count judged closed))
+        (own_all (IsStillThere (state f g)) g s (all_still_there f p (opening f) g legal.events))) in
+        let theirs : AreFair c Theirs (opening f) (own r.history s) =
+        near_fair f c Theirs (opening f) (opening f) r.history r.legal.events (λ id near. refl)
+        (found_theirs s (own r.history s)
+        (own_all (IsStillThere (state f r.history)) r.history s (all_still_there f p (opening f) r.history r.legal.events))) in
+        let ours : AreFair c Mine (opening f) (joined w.judges.front) =
+        fair_front c Mine (opening f) (joined w.judges.front) (joined w.judges.back)
+        (subst (AreFair c Mine (opening f)) (w.events ∙ ap joined w.judges.split ∙ joined-append w.judges.front w.judges.back) mine) in
+        let also : AreFair c Theirs (opening f) (joined (j.front ++ j.back)) =
+        subst (AreFair c Theirs (opening f)) (o.read.events ∙ ap joined j.split) theirs in
+        lines_go_on law first refused c Mine Theirs (find_alike s) [] w.judges.lines j.lines w.judges.front j.front j.back (opening f) j.rest o.read.reads.left
+        (w.judges.rest ++ more) o.read.reads.end (length w.judges.lines) o.report (omega arith) w.judges.good j.good j.ends w.judges.fits j.fits
+        o.texts o.read.reads.ended ours also
+
+    -- it tells at least as much, or it ended in the stream's lines for which none of them is to blame
+    pub record TellsOn (s : ℕ) (report other : Report) : Type 0 where
+      pub stream : Stream
+      pub at : IsOfStream streams s stream
+      pub lines : List StreamLine
+      pub limits : AllByRecursion IsWithinLimits lines
+      pub text : stream.bytes ≡ flat_map line_text lines
+      pub tells : TellsAtLeast other report
+          ⊎ (IsCutOffIn (length lines) other ⊎ LacksOfAnotherIn (setting_of terms s) (length lines) other)
+
+    pub tells_on : (s : ℕ) (report other : Report) → IsTrue (set s) → IsOfStream reports s report → report.ending ≡ endings.Ended
+        → IsOfStream others s other → TellsOn s report other
+    tells_on s report other member says ended too =
+        let c = setting_of terms s in
+        let within = slice_get_within reports (s - 1) report says.1 in
+        let here : IsTrue (inside terms.layout set s) =
+        is_inside terms.layout set s member (says.0, omega (arith, says.0, within, judged_count terms set g 1 streams reports judged, count)) in
+        let w : Part s = part_of s here in
+        let its : (more : List ℕ) × Other s w more = its_other s here w in
+        let its_report : w.report ≡ report = same_at reports s w.report report w.says says in
+        let its_other_report : its.1.report ≡ other = same_at others s its.1.report other its.1.says too in
+        let over = has_ended c w.judges.lines w.judges.rest w.end w.judges.back w.report w.judges.ends (ap (λ (x : Report). x.ending) its_report ∙ ended) in
+        record {
+          stream = w.stream;
+          at = w.at;
+          lines = w.judges.lines;
+          limits = w.judges.fits;
+          text = w.judges.text ∙ ap (λ (b : List ℕ). flat_map line_text w.judges.lines ++ b) over.none ∙ append-nil (flat_map line_text w.judges.lines);
+          tells = subst (λ (x : Report). TellsAtLeast x report ⊎ (IsCutOffIn (length w.judges.lines) x ⊎ LacksOfAnotherIn c (length w.judges.lines) x)) its_other_report
+              (elim (goes_on s here w its.0 its.1 over.none) [
+                | inl on ↦ inl (subst (TellsAtLeast its.1.report) (sym over.says ∙ its_report)
+                    (goes_on_tells c w.judges.lines on.0 its.1.read.reads.judges.rest its.1.read.reads.end its.1.read.reads.judges.back its.1.report
+                    (subst (λ (ls : List StreamLine). EndsAfter c ls its.1.read.reads.judges.rest its.1.read.reads.end its.1.read.reads.judges.back its.1.report) on.1
+                    its.1.read.reads.judges.ends)))
+                | inr (inl cut) ↦ inr (inl cut)
+                | inr (inr lacks) ↦ inr (inr (lacks.1, lacks.2, lacks.4, lacks.5, lacks.6))
+              ]);
+        }
+
+    module _ (one_fault : OneFault) (empty : EmptyPending) where
+      -- where it has the stream's bytes and no more, it has its report
+      pub same_report : (s : ℕ) (stream : Stream) (telling : Telling) (report other : Report)
+          → IsTrue (set s) → IsOfStream streams s stream → IsOfStream reports s report → report.ending ≡ endings.Ended
+          → IsOfStream told s telling → telling.entry ≡ Some stream.bytes → IsOfStream others s other
+          → ¬ IsOfMemory other → ¬ IsOfFailure other → (other ≡ report) ⊎ LacksOfAnother (setting_of terms s) other
+      same_report s stream telling report other member at says ended here entry too memory failure =
+          let c = setting_of terms s in
+          let within = slice_get_within reports (s - 1) report says.1 in
+          let inner : IsTrue (inside terms.layout set s) =
+          is_inside terms.layout set s member (says.0, omega (arith, says.0, within, judged_count terms set g 1 streams reports judged, count)) in
+          let w : Part s = part_of s inner in
+          let whole : w.stream.bytes ≡ stream.bytes = ap (λ (x : Stream). x.bytes) (same_at streams s w.stream stream w.at at) in
+          let o : Other s w [] = other_of s inner w telling [] here (entry ∙ ap (λ (b : List ℕ). Some b) (sym whole ∙ sym (append-nil w.stream.bytes))) in
+          let its_report : w.report ≡ report = same_at reports s w.report report w.says says in
+          let its_other : o.report ≡ other = same_at others s o.report other o.says too in
+          let over = has_ended c w.judges.lines w.judges.rest w.end w.judges.back w.report w.judges.ends (ap (λ (x : Report). x.ending) its_report ∙ ended) in
+          let j = o.read.reads.judges in
+          let no_memory : ¬ IsOfMemory o.report = subst (λ (x : Report). ¬ IsOfMemory x) (sym its_other) memory in
+          let no_failure : ¬ IsOfFailure o.report = subst (λ (x : Report). ¬ IsOfFailure x) (sym its_other) failure in
+          elim (goes_on s inner w [] o over.none) [
+            | inl on ↦ inl (sym its_other ∙ whole_told one_fault empty c w.judges.lines j.lines j.rest o.read.reads.left o.read.reads.end j.back o.report on j.fits
+                (o.texts ∙ ap (λ (b : List ℕ). flat_map line_text w.judges.lines ++ b) (append-nil w.judges.rest ∙ over.none)
+                ∙ append-nil (flat_map line_text w.judges.lines))
+                no_memory no_failure j.ends ∙ sym over.says ∙ its_report)
+            | inr (inl (line, below, inl lost)) ↦ absurd (no_memory (line, lost))
+            | inr (inl (line, below, inr failed)) ↦ absurd (no_failure (line, failed))
+            | inr (inr lacks) ↦ inr (subst (LacksOfAnother c) its_other (length w.judges.lines, (lacks.1, lacks.2, lacks.4, lacks.5, lacks.6)))
+          ]
+
+pub no_false_blame : GoodExactlyIf → OneFirstLine → RefusedStays → OneFault → EmptyPending → CitedFetched → NoFalseBlame
+no_false_blame law first refused one_fault empty cited f terms set h streams reports told others s stream telling report other
+    fits count legal judged closed member at says ended run bytes here entry =
+    same_report law first refused cited f terms set h streams reports told others fits count legal judged closed run bytes one_fault empty
+    s stream telling report other member at says ended here entry

@@ -1,7 +1,12 @@
 -- One stream in two histories.
-use Rattle.std.proofs.Common.{◌≡◌, ◌⊎◌, ◌++◌, ◌+◌, ℕ, length, eqb, List, [], ◌∷◌, inl, inr, refl, sym, ap, subst, ◌∙◌, append_assoc, append-nil, ne_eqb}
-use Rattle.std.specs.List.{AllByRecursion, flat_map}
-use Rattle.std.proofs.lemmas.Bool.{cases_eq, cond-false}
+use Rattle.std.proofs.Common.{◌≡◌, ◌⊎◌, ◌<◌, ◌≤◌, ◌++◌, ◌+◌, ℕ, Bool, length, arith, eqb, List, [], ◌∷◌, inl, inr, refl, sym, ap, subst, ◌∙◌, append_assoc, append-nil, ne_eqb}
+use Rattle.std.specs.Prelude.{◌==◌}
+use Rattle.std.specs.List.{AllByRecursion, flat_map, list_any}
+use Rattle.std.proofs.lemmas.Bool.{cases_eq, cond-false, or_left}
+use Rattle.std.proofs.lemmas.Grind.{flat_map-append}
+use Rattle.std.proofs.lemmas.List.{append_cancel_left, length-append}
+use Rattle.std.proofs.lemmas.List.Folds.{list_any-append}
+use Rattle.std.proofs.lemmas.List.Sums.{sum_by-append}
 use Rattle.lrup_model.specs.Clause.{Clause}
 use Rattle.lrup_model.specs.EntryLemmas.{run-advances, has_stays}
 use Rattle.lrup_model.specs.Event as events
@@ -16,22 +21,24 @@ use Rattle.lrup_model.specs.declared.clause_map.Published.TheVariants as publish
 use Rattle.lrup_model.specs.declared.clause_map.Retired.TheVariants as retiring
 use Rattle.lrup_text.specs.Grammar.{Begins}
 use Rattle.lrup_text.specs.Laws.{EmptyPending, OneFault, OneFirstLine, RefusedStays}
-use Rattle.lrup_text.specs.Lines.{StreamLine, IsWithinLimits, line_text}
+use Rattle.lrup_text.specs.Lines.{StreamLine, IsPending, IsWithinLimits, line_text}
 use Rattle.lrup_text.specs.declared.device.StreamEnd.{StreamEnd}
 use Rattle.lrup_text.specs.declared.device.StreamEnd.TheVariants as stream_ends
 use Rattle.stream_check.specs.declared.fault.Fault.{Fault}
 use Rattle.stream_check.specs.declared.fault.Fault.TheVariants as faults
+use Rattle.stream_check.specs.declared.report.Ending.{Ending}
 use Rattle.stream_check.specs.declared.report.Ending.TheVariants as endings
 use Rattle.stream_check.specs.declared.report.Report.{Report}
 use Rattle.stream_check.specs.declared.setting.Side.TheVariants as sides
 use Rattle.stream_check.specs.Judging.{JudgesLine, AreGood, EndsAfter, at_bad_line, at_bad_text, at_memory, at_end, ending_at, joined, report_of, JudgesBlocks}
-use Rattle.stream_check.specs.Laws.{GoodExactlyIf, IsOfMemory}
+use Rattle.stream_check.specs.Laws.{GoodExactlyIf, IsOfMemory, IsOfFailure}
 use Rattle.stream_check.specs.ReportLemmas.{additions-append, joined-append, split_first}
 use Rattle.stream_check.specs.Setting.{Setting, side_of}
-use Rattle.stream_check.specs.Standing.{standing_of, additions_of, capped}
+use Rattle.stream_check.specs.Standing.{standing_of, additions_of, capped, deleted_by, is_within}
 use Rattle.stream_check.specs.Verdicts.{Good, Bad}
-use Rattle.run_laws.specs.Blame.{LacksOfAnother}
-use Rattle.run_laws.proofs.BlameLines.{IsNearSide, IsFoundIn, AreFair, IsGoodOrLacks, line_agrees, line_leaves, good_publishes, bad_publishes, deletes_publish}
+use Rattle.run_laws.specs.Right.{IsCutOffIn, TellsAtLeast}
+use Rattle.run_laws.proofs.BlameLines.{IsNearSide, IsFoundIn, AreFair, FindAlike, IsGoodOrLacks, line_agrees, line_leaves, good_publishes, bad_publishes, deletes_publish}
+use Rattle.run_laws.proofs.JudgedLemmas.{parts}
 use Rattle.run_laws.proofs.RightLines.{side_by}
 use Rattle.run_laws.proofs.SwapLemmas.{identity_of, answers-agree}
 
@@ -44,24 +51,24 @@ near_owner c id t near owns = elim (cases_eq t c.stream) [
 ]
 
 -- what a stream calls in a legal history is fair, where its finds are
-pub near_fair : (f : Cnf) (c : Setting) (k m n : State) (h : History) → LegalFrom f c.layout m h
-    → ((id : ℕ) → IsNearSide (side_of c id) → n id ≡ m id) → AllByRecursion (IsFoundIn c k) (own h c.stream) → AreFair c k n (own h c.stream)
-near_fair f c k m n [] legal agree found = tt
-near_fair f c k m n (e ∷ h) legal agree found = elim (cases_eq (stream_of e) c.stream) [
+pub near_fair : (f : Cnf) (c : Setting) (Found : ℕ → Clause → Type 0) (m n : State) (h : History) → LegalFrom f c.layout m h
+    → ((id : ℕ) → IsNearSide (side_of c id) → n id ≡ m id) → AllByRecursion (IsFoundIn c Found) (own h c.stream) → AreFair c Found n (own h c.stream)
+near_fair f c Found m n [] legal agree found = tt
+near_fair f c Found m n (e ∷ h) legal agree found = elim (cases_eq (stream_of e) c.stream) [
   | inl mine ↦
       let is = own-mine e h c.stream mine in
-      let finds = subst (AllByRecursion (IsFoundIn c k)) is found in
-      subst (AreFair c k n) (sym is) (
+      let finds = subst (AllByRecursion (IsFoundIn c Found)) is found in
+      subst (AreFair c Found n) (sym is) (
         λ near. answers-agree m n e (sym (agree (identity_of e) near)) legal.0,
         finds.0,
-        near_fair f c k (after m e) (after n e) h legal.2 (λ id near. after-agrees n m e id (agree id near)) finds.1,
+        near_fair f c Found (after m e) (after n e) h legal.2 (λ id near. after-agrees n m e id (agree id near)) finds.1,
       )
   | inr other ↦
       let is = own-other e h c.stream other in
-      subst (AreFair c k n) (sym is)
-      (near_fair f c k (after m e) n h legal.2
+      subst (AreFair c Found n) (sym is)
+      (near_fair f c Found (after m e) n h legal.2
       (λ id near. agree id near ∙ sym (after-foreign f c.layout m e id legal.1 (λ theirs. other (near_owner c id (stream_of e) near theirs))))
-      (subst (AllByRecursion (IsFoundIn c k)) is found))
+      (subst (AllByRecursion (IsFoundIn c Found)) is found))
 ]
 
 -- a clause that was found is at its identity in this state, live or retired
@@ -84,12 +91,17 @@ pub all_still_there : (f : Cnf) (p : LayoutValue) (m : State) (h : History) → 
 all_still_there f p m [] legal = tt
 all_still_there f p m (e ∷ h) legal = (still_there f p m e h legal, all_still_there f p (after m e) h legal.2)
 
-pub still_found : (c : Setting) (k : State) (e : Event) → IsStillThere k e → IsFoundIn c k e
-still_found c k (events.fetch s id events.vacant) there = tt
-still_found c k (events.fetch s id (events.live d)) there = λ foreign. there
-still_found c k (events.fetch s id events.retired) there = tt
-still_found c k (events.publish s id d r) there = tt
-still_found c k (events.retire s id r) there = tt
+-- nothing is asked of what is found
+abbrev pub Anything : ℕ → Clause → Type 0
+Anything id d = Unit {0}
+
+pub all_anything : (c : Setting) (es : History) → AllByRecursion (IsFoundIn c Anything) es
+all_anything c [] = tt
+all_anything c (events.fetch s id events.vacant ∷ es) = (tt, all_anything c es)
+all_anything c (events.fetch s id (events.live d) ∷ es) = ((λ foreign. tt), all_anything c es)
+all_anything c (events.fetch s id events.retired ∷ es) = (tt, all_anything c es)
+all_anything c (events.publish s id d r ∷ es) = (tt, all_anything c es)
+all_anything c (events.retire s id r ∷ es) = (tt, all_anything c es)
 
 pub own_all : (P : Event → Type 0) (h : History) (s : ℕ) → AllByRecursion P h → AllByRecursion P (own h s)
 own_all P [] s all = tt
@@ -222,83 +234,171 @@ has_ended c lines rest end back report (at_end _ _ says) is = ended_at c lines e
 
 -- Line by line
 
-pub fair_front : (c : Setting) (k m : State) (a b : History) → AreFair c k m (a ++ b) → AreFair c k m a
-fair_front c k m [] b fair = tt
-fair_front c k m (e ∷ a) b fair = (fair.0, fair.1, fair_front c k (after m e) a b fair.2)
+pub fair_front : (c : Setting) (Found : ℕ → Clause → Type 0) (m : State) (a b : History) → AreFair c Found m (a ++ b) → AreFair c Found m a
+fair_front c Found m [] b fair = tt
+fair_front c Found m (e ∷ a) b fair = (fair.0, fair.1, fair_front c Found (after m e) a b fair.2)
 
-pub fair_back : (c : Setting) (k m : State) (a b : History) → AreFair c k m (a ++ b) → AreFair c k (run m a) b
-fair_back c k m [] b fair = fair
-fair_back c k m (e ∷ a) b fair = fair_back c k (after m e) a b fair.2
+pub fair_back : (c : Setting) (Found : ℕ → Clause → Type 0) (m : State) (a b : History) → AreFair c Found m (a ++ b) → AreFair c Found (run m a) b
+fair_back c Found m [] b fair = fair
+fair_back c Found m (e ∷ a) b fair = fair_back c Found (after m e) a b fair.2
 
--- the report of these lines; or memory ran out; or a line lacks a clause of another stream
-abbrev pub IsBlameless : Setting → List StreamLine → Report → Type 0
-IsBlameless c lines report = (report ≡ report_of c lines 0 endings.Ended) ⊎ (IsOfMemory report ⊎ LacksOfAnother c report)
+-- one of the first lines, so many, lacks a clause of another stream, which was found
+abbrev pub LacksFound : Setting → (ℕ → Clause → Type 0) → ℕ → Report → Type 0
+LacksFound c Mine count report = (d : Clause) × (line h : ℕ) × Mine h d × (line ≤ count) × (side_of c h ≡ sides.Foreign)
+    × ((report.ending ≡ endings.Bad line (faults.Missing h)) ⊎ (report.ending ≡ endings.Bad line (faults.Retired h)))
 
-module _ (law : GoodExactlyIf) (first : OneFirstLine) (refused : RefusedStays) (one_fault : OneFault) (empty : EmptyPending) (c : Setting) (k : State) where
-  at_nothing : (lines : List StreamLine) (rest : List ℕ) (back : List History) (report : Report) → rest ≡ []
-      → EndsAfter c lines rest stream_ends.Ended back report → IsBlameless c lines report
-  at_nothing lines rest back report none (at_bad_line line more text fits block is_one deleted fault bad says) =
-      absurd (empty.whole line more fits (sym none ∙ text))
-  at_nothing lines rest back report none (at_bad_text fault text no_block says) =
-      absurd ((one_fault rest fault fault text).1 (subst Begins (sym none) empty.begins))
-  at_nothing lines rest back report none (at_memory lead ids more text fits block is_one earlier stops says) =
-      inr (inl (capped (length lines + 1), ap (λ (r : Report). r.ending) says))
-  at_nothing lines rest back report none (at_end pending no_block says) =
-      inl (says ∙ ap (λ (b : List ℕ). report_of c lines 0 (ending_at stream_ends.Ended b (capped (length lines + 1)))) none)
+-- the report is of an ending in the first lines, so many, for which none of them is to blame
+abbrev pub IsBlameless : Setting → (ℕ → Clause → Type 0) → ℕ → Report → Type 0
+IsBlameless c Mine count report = IsCutOffIn count report ⊎ LacksFound c Mine count report
 
-  lacks : (deleted n : ℕ) (fault : Fault) (report : Report) → report.ending ≡ endings.Bad n fault
-      → IsGoodOrLacks c (Bad deleted fault) → LacksOfAnother c report
-  lacks deleted n fault report says (inl good) = absurd (let no : Bad deleted fault ≡ Good = good in cc)
-  lacks deleted n fault report says (inr (h, foreign, inl missing)) =
+-- the good lines go on from these
+abbrev pub GoesOn : List StreamLine → List StreamLine → Type 0
+GoesOn lines all = (later : List StreamLine) × (all ≡ lines ++ later)
+
+module _ (law : GoodExactlyIf) (first : OneFirstLine) (refused : RefusedStays) (c : Setting) (Mine Theirs : ℕ → Clause → Type 0)
+    (alike : FindAlike c Mine Theirs) where
+  lacks : (deleted n count : ℕ) (fault : Fault) (report : Report) → n ≤ count → report.ending ≡ endings.Bad n fault
+      → IsGoodOrLacks c Mine (Bad deleted fault) → LacksFound c Mine count report
+  lacks deleted n count fault report below says (inl good) = absurd (let no : Bad deleted fault ≡ Good = good in cc)
+  lacks deleted n count fault report below says (inr (h, d, foreign, was, inl missing)) =
       let is : fault ≡ faults.Missing h = let e : Bad deleted fault ≡ Bad 0 (faults.Missing h) = missing in cc in
-      (n, h, foreign, inl (says ∙ ap (λ (x : Fault). endings.Bad n x) is))
-  lacks deleted n fault report says (inr (h, foreign, inr gone)) =
+      (d, n, h, was, below, foreign, inl (says ∙ ap (λ (x : Fault). endings.Bad n x) is))
+  lacks deleted n count fault report below says (inr (h, d, foreign, was, inr gone)) =
       let is : fault ≡ faults.Retired h = let e : Bad deleted fault ≡ Bad 0 (faults.Retired h) = gone in cc in
-      (n, h, foreign, inr (says ∙ ap (λ (x : Fault). endings.Bad n x) is))
+      (d, n, h, was, below, foreign, inr (says ∙ ap (λ (x : Fault). endings.Bad n x) is))
 
-  at_line : (before : List StreamLine) (line : StreamLine) (later rest : List ℕ) (fs : History) (back : List History) (m : State) (report : Report)
-      → IsWithinLimits line → rest ≡ line_text line ++ later → JudgesLine c (standing_of c before) line fs Good
-      → AreFair c k m fs → AreFair c k m (joined back)
-      → EndsAfter c before rest stream_ends.Ended back report → IsOfMemory report ⊎ LacksOfAnother c report
-  at_line before line later rest fs back m report limits is good mine theirs (at_bad_line other more text fits block is_one deleted fault bad says) =
-      let same = first line other later more limits fits (sym is ∙ text) in
-      let here : AreFair c k m block = fair_front c k m block [] (subst (λ (x : List History). AreFair c k m (joined x)) is_one theirs) in
-      inr (lacks deleted (capped (length before + 1)) fault report (ap (λ (r : Report). r.ending) says)
-      (line_agrees law c k m (standing_of c before) line fs block (Bad deleted fault) mine here good
+  -- where a whole line is left, the stream didn't come to its end
+  at_its_end : (line : StreamLine) (later rest left : List ℕ) (end : StreamEnd) (before : List StreamLine) (n count : ℕ) (report : Report)
+      → n ≤ count → IsWithinLimits line → rest ++ left ≡ line_text line ++ later → (end ≡ stream_ends.Ended → left ≡ []) → IsPending rest
+      → report ≡ report_of c before 0 (ending_at end rest n) → IsCutOffIn count report
+  at_its_end line later rest left stream_ends.Ended before n count report below limits is none pending says =
+      absurd (pending.whole line later limits (sym (append-nil rest) ∙ ap (λ (b : List ℕ). rest ++ b) (sym (none refl)) ∙ is))
+  at_its_end line later rest left stream_ends.Failed before n count report below limits is none pending says =
+      (n, below, inr (ap (λ (r : Report). r.ending) says))
+
+  at_line : (before : List StreamLine) (line : StreamLine) (later rest left : List ℕ) (end : StreamEnd) (fs : History) (back : List History) (m : State)
+      (count : ℕ) (report : Report) → length before < count
+      → IsWithinLimits line → rest ++ left ≡ line_text line ++ later → (end ≡ stream_ends.Ended → left ≡ [])
+      → JudgesLine c (standing_of c before) line fs Good → AreFair c Mine m fs → AreFair c Theirs m (joined back)
+      → EndsAfter c before rest end back report → IsBlameless c Mine count report
+  at_line before line later rest left end fs back m count report below limits is none good mine theirs (at_bad_line other more text fits block is_one deleted fault bad says) =
+      let same = first line other later (more ++ left) limits fits (sym is ∙ ap (λ (b : List ℕ). b ++ left) text ∙ append_assoc (line_text other) more left) in
+      let here : AreFair c Theirs m block = fair_front c Theirs m block [] (subst (λ (x : List History). AreFair c Theirs m (joined x)) is_one theirs) in
+      inr (lacks deleted (capped (length before + 1)) count fault report (omega (arith, below)) (ap (λ (r : Report). r.ending) says)
+      (line_agrees law c Mine Theirs m (standing_of c before) line fs block (Bad deleted fault) alike mine here good
       (subst (λ (l : StreamLine). JudgesLine c (standing_of c before) l block (Bad deleted fault)) (sym same.0) bad)))
-  at_line before line later rest fs back m report limits is good mine theirs (at_bad_text fault text no_block says) =
-      absurd (refused text.0 text.1 fault text.3 line later limits (sym text.2 ∙ is))
-  at_line before line later rest fs back m report limits is good mine theirs (at_memory lead ids more text fits block is_one earlier stops says) =
-      inl (capped (length before + 1), ap (λ (r : Report). r.ending) says)
-  at_line before line later rest fs back m report limits is good mine theirs (at_end pending no_block says) =
-      absurd (pending.whole line later limits is)
+  at_line before line later rest left end fs back m count report below limits is none good mine theirs (at_bad_text fault text no_block says) =
+      absurd (refused text.0 (text.1 ++ left) fault text.3 line later limits
+      (sym (append_assoc text.0 text.1 left) ∙ sym (ap (λ (b : List ℕ). b ++ left) text.2) ∙ is))
+  at_line before line later rest left end fs back m count report below limits is none good mine theirs (at_memory lead ids more text fits block is_one earlier stops says) =
+      inl (capped (length before + 1), omega (arith, below), inl (ap (λ (r : Report). r.ending) says))
+  at_line before line later rest left end fs back m count report below limits is none good mine theirs (at_end pending no_block says) =
+      inl (at_its_end line later rest left end before (capped (length before + 1)) count report (omega (arith, below)) limits is none pending says)
 
-  pub stream_agrees : (before lines others : List StreamLine) (fs front back : List History) (m : State) (rest : List ℕ) (report : Report)
-      → AreGood c before lines fs → AreGood c before others front → EndsAfter c (before ++ others) rest stream_ends.Ended back report
+  -- a stream whose bytes begin with lines that are good in the one history goes on from them in the other, or ends in them blameless
+  pub lines_go_on : (before lines others : List StreamLine) (fs front back : List History) (m : State) (rest left more : List ℕ) (end : StreamEnd)
+      (count : ℕ) (report : Report) → length before + length lines ≤ count
+      → AreGood c before lines fs → AreGood c before others front → EndsAfter c (before ++ others) rest end back report
       → AllByRecursion IsWithinLimits lines → AllByRecursion IsWithinLimits others
-      → flat_map line_text others ++ rest ≡ flat_map line_text lines
-      → AreFair c k m (joined fs) → AreFair c k m (joined (front ++ back)) → IsBlameless c (before ++ lines) report
-  stream_agrees before [] [] fs [] back m rest report good also ends limits within is mine theirs = at_nothing (before ++ []) rest back report is ends
-  stream_agrees before [] [] fs (g ∷ front) back m rest report good also ends limits within is mine theirs = absurd also
-  stream_agrees before [] (other ∷ others) fs front back m rest report good also ends limits within is mine theirs =
-      absurd (empty.whole other (flat_map line_text others ++ rest) within.0 (sym is ∙ split_first other others rest))
-  stream_agrees before (line ∷ lines) [] [] front back m rest report good also ends limits within is mine theirs = absurd good
-  stream_agrees before (line ∷ lines) [] (f ∷ fs) (g ∷ front) back m rest report good also ends limits within is mine theirs = absurd also
-  stream_agrees before (line ∷ lines) [] (f ∷ fs) [] back m rest report good also ends limits within is mine theirs =
-      inr (at_line before line (flat_map line_text lines) rest f back m report limits.0 is good.0 (fair_front c k m f (joined fs) mine) theirs
-      (subst (λ (b : List StreamLine). EndsAfter c b rest stream_ends.Ended back report) (append-nil before) ends))
-  stream_agrees before (line ∷ lines) (other ∷ others) [] front back m rest report good also ends limits within is mine theirs = absurd good
-  stream_agrees before (line ∷ lines) (other ∷ others) (f ∷ fs) [] back m rest report good also ends limits within is mine theirs = absurd also
-  stream_agrees before (line ∷ lines) (other ∷ others) (f ∷ fs) (g ∷ front) back m rest report good also ends limits within is mine theirs =
-      let same = first line other (flat_map line_text lines) (flat_map line_text others ++ rest) limits.0 within.0 (sym is ∙ split_first other others rest) in
+      → flat_map line_text others ++ (rest ++ left) ≡ flat_map line_text lines ++ more → (end ≡ stream_ends.Ended → left ≡ [])
+      → AreFair c Mine m (joined fs) → AreFair c Theirs m (joined (front ++ back)) → GoesOn lines others ⊎ IsBlameless c Mine count report
+  lines_go_on before [] others fs front back m rest left more end count report below good also ends limits within is none mine theirs = inl (others, refl)
+  lines_go_on before (line ∷ lines) [] [] front back m rest left more end count report below good also ends limits within is none mine theirs = absurd good
+  lines_go_on before (line ∷ lines) [] (f ∷ fs) (g ∷ front) back m rest left more end count report below good also ends limits within is none mine theirs =
+      absurd also
+  lines_go_on before (line ∷ lines) [] (f ∷ fs) [] back m rest left more end count report below good also ends limits within is none mine theirs =
+      inr (at_line before line (flat_map line_text lines ++ more) rest left end f back m count report (omega (arith, below)) limits.0
+      (is ∙ split_first line lines more) none good.0 (fair_front c Mine m f (joined fs) mine) theirs
+      (subst (λ (b : List StreamLine). EndsAfter c b rest end back report) (append-nil before) ends))
+  lines_go_on before (line ∷ lines) (other ∷ others) [] front back m rest left more end count report below good also ends limits within is none mine theirs =
+      absurd good
+  lines_go_on before (line ∷ lines) (other ∷ others) (f ∷ fs) [] back m rest left more end count report below good also ends limits within is none mine theirs =
+      absurd also
+  lines_go_on before (line ∷ lines) (other ∷ others) (f ∷ fs) (g ∷ front) back m rest left more end count report below good also ends limits within is none mine theirs =
+      let same = first line other (flat_map line_text lines ++ more) (flat_map line_text others ++ (rest ++ left)) limits.0 within.0
+      (sym (split_first line lines more) ∙ sym is ∙ split_first other others (rest ++ left)) in
       let judged : JudgesLine c (standing_of c before) line g Good = subst (λ (l : StreamLine). JudgesLine c (standing_of c before) l g Good) (sym same.0) also.0 in
-      let both : joined ((g ∷ front) ++ back) ≡ g ++ joined (front ++ back) = refl in
       let leaves : run m f ≡ run m g =
-      line_leaves law c k m (standing_of c before) line f g (fair_front c k m f (joined fs) mine) (fair_front c k m g (joined (front ++ back)) theirs) good.0 judged in
-      subst (λ (b : List StreamLine). IsBlameless c b report) (append_assoc before (line ∷ []) lines)
-      (stream_agrees (before ++ line ∷ []) lines others fs front back (run m f) rest report good.1
+      line_leaves law c Mine Theirs m (standing_of c before) line f g (fair_front c Mine m f (joined fs) mine)
+      (fair_front c Theirs m g (joined (front ++ back)) theirs) good.0 judged in
+      elim (lines_go_on (before ++ line ∷ []) lines others fs front back (run m f) rest left more end count report
+      (omega (arith, below, length-append before (line ∷ []))) good.1
       (subst (λ (l : StreamLine). AreGood c (before ++ l ∷ []) others front) (sym same.0) also.1)
-      (subst (λ (l : StreamLine). EndsAfter c ((before ++ l ∷ []) ++ others) rest stream_ends.Ended back report) (sym same.0)
-      (subst (λ (b : List StreamLine). EndsAfter c b rest stream_ends.Ended back report) (sym (append_assoc before (other ∷ []) others)) ends))
-      limits.1 within.1 (sym same.1) (fair_back c k m f (joined fs) mine)
-      (subst (λ (n : State). AreFair c k n (joined (front ++ back))) (sym leaves) (fair_back c k m g (joined (front ++ back)) theirs)))
+      (subst (λ (l : StreamLine). EndsAfter c ((before ++ l ∷ []) ++ others) rest end back report) (sym same.0)
+      (subst (λ (b : List StreamLine). EndsAfter c b rest end back report) (sym (append_assoc before (other ∷ []) others)) ends))
+      limits.1 within.1 (sym same.1) none (fair_back c Mine m f (joined fs) mine)
+      (subst (λ (n : State). AreFair c Theirs n (joined (front ++ back))) (sym leaves) (fair_back c Theirs m g (joined (front ++ back)) theirs))) [
+        | inl on ↦ inl (on.0, ap (λ (l : StreamLine). l ∷ others) (sym same.0) ∙ ap (λ (ls : List StreamLine). line ∷ ls) on.1)
+        | inr worse ↦ inr worse
+      ]
+
+-- What a stream tells that goes on from some lines
+
+more_told : (c : Setting) (lines later : List StreamLine) (deleted : ℕ) (ending : Ending) (report : Report)
+    → report ≡ report_of c (lines ++ later) deleted ending → TellsAtLeast report (report_of c lines 0 endings.Ended)
+more_told c lines later deleted ending report says =
+    let both = additions-append lines later in
+    let is_empty : ℕ × Clause → Bool = λ addition. length addition.1 == 0 in
+    let is_cubes : ℕ × Clause → Bool = λ addition. is_within c.cube addition.1 in
+    subst (λ (r : Report). TellsAtLeast r (report_of c lines 0 endings.Ended)) (sym says) (record {
+      added = omega (arith, ap (λ (x : List (ℕ × Clause)). length x) both, length-append (additions_of lines) (additions_of later));
+      deleted = omega (arith, sum_by-append (λ line. length (deleted_by line)) lines later);
+      empty = λ test. ap (list_any is_empty) both ∙ list_any-append is_empty (additions_of lines) (additions_of later)
+          ∙ or_left (list_any is_empty (additions_of lines)) (list_any is_empty (additions_of later)) test;
+      within = λ test. ap (list_any is_cubes) both ∙ list_any-append is_cubes (additions_of lines) (additions_of later)
+          ∙ or_left (list_any is_cubes (additions_of lines)) (list_any is_cubes (additions_of later)) test;
+    })
+
+-- it tells at least what these lines do
+pub goes_on_tells : (c : Setting) (lines later : List StreamLine) (rest : List ℕ) (end : StreamEnd) (back : List History) (report : Report)
+    → EndsAfter c (lines ++ later) rest end back report → TellsAtLeast report (report_of c lines 0 endings.Ended)
+goes_on_tells c lines later rest end back report (at_bad_line line more text fits block is_one deleted fault bad says) =
+    more_told c lines later deleted (endings.Bad (capped (length (lines ++ later) + 1)) fault) report says
+goes_on_tells c lines later rest end back report (at_bad_text fault text no_block says) =
+    more_told c lines later 0 (endings.Bad (capped (length (lines ++ later) + 1)) (faults.Text fault)) report says
+goes_on_tells c lines later rest end back report (at_memory lead ids more text fits block is_one earlier stops says) =
+    more_told c lines later (length earlier) (endings.Memory (capped (length (lines ++ later) + 1))) report says
+goes_on_tells c lines later rest end back report (at_end pending no_block says) =
+    more_told c lines later 0 (ending_at end rest (capped (length (lines ++ later) + 1))) report says
+
+module _ (one_fault : OneFault) (empty : EmptyPending) (c : Setting) where
+  by_end : (lines : List StreamLine) (end : StreamEnd) (n : ℕ) (report : Report) → ¬ IsOfFailure report
+      → report ≡ report_of c lines 0 (ending_at end [] n) → report ≡ report_of c lines 0 endings.Ended
+  by_end lines stream_ends.Ended n report failure says = says
+  by_end lines stream_ends.Failed n report failure says = absurd (failure (n, ap (λ (r : Report). r.ending) says))
+
+  -- where nothing is left, the stream ended
+  at_nothing : (lines : List StreamLine) (rest : List ℕ) (end : StreamEnd) (back : List History) (report : Report) → rest ≡ []
+      → ¬ IsOfMemory report → ¬ IsOfFailure report → EndsAfter c lines rest end back report → report ≡ report_of c lines 0 endings.Ended
+  at_nothing lines rest end back report none memory failure (at_bad_line line more text fits block is_one deleted fault bad says) =
+      absurd (empty.whole line more fits (sym none ∙ text))
+  at_nothing lines rest end back report none memory failure (at_bad_text fault text no_block says) =
+      absurd ((one_fault rest fault fault text).1 (subst Begins (sym none) empty.begins))
+  at_nothing lines rest end back report none memory failure (at_memory lead ids more text fits block is_one earlier stops says) =
+      absurd (memory (capped (length lines + 1), ap (λ (r : Report). r.ending) says))
+  at_nothing lines rest end back report none memory failure (at_end pending no_block says) =
+      by_end lines end (capped (length lines + 1)) report failure
+      (says ∙ ap (λ (b : List ℕ). report_of c lines 0 (ending_at end b (capped (length lines + 1)))) none)
+
+  none_behind : (later : List StreamLine) (rest left : List ℕ) → AllByRecursion IsWithinLimits later
+      → flat_map line_text later ++ (rest ++ left) ≡ [] → (later ≡ []) × (rest ≡ [])
+  none_behind [] [] left limits is = (refl, refl)
+  none_behind [] (byte ∷ rest) left limits is = absurd (let no : byte ∷ (rest ++ left) ≡ [] = is in cc)
+  none_behind (line ∷ later) rest left limits is =
+      absurd (empty.whole line (flat_map line_text later ++ (rest ++ left)) limits.0 (sym is ∙ split_first line later (rest ++ left)))
+
+  -- so it does where these lines are all that its bytes have
+  pub whole_told : (lines all : List StreamLine) (rest left : List ℕ) (end : StreamEnd) (back : List History) (report : Report)
+      → GoesOn lines all → AllByRecursion IsWithinLimits all → flat_map line_text all ++ (rest ++ left) ≡ flat_map line_text lines
+      → ¬ IsOfMemory report → ¬ IsOfFailure report
+      → EndsAfter c all rest end back report → report ≡ report_of c lines 0 endings.Ended
+  whole_told lines all rest left end back report on fits is memory failure ends =
+      let texts = flat_map line_text lines in
+      let tail = flat_map line_text on.0 ++ (rest ++ left) in
+      let split : flat_map line_text all ≡ texts ++ flat_map line_text on.0 = ap (flat_map line_text) on.1 ∙ flat_map-append line_text lines on.0 in
+      let none : (on.0 ≡ []) × (rest ≡ []) =
+      none_behind on.0 rest left (parts IsWithinLimits lines on.0 (subst (AllByRecursion IsWithinLimits) on.1 fits)).1
+      (append_cancel_left texts tail [] (sym (append_assoc texts (flat_map line_text on.0) (rest ++ left))
+      ∙ ap (λ (b : List ℕ). b ++ (rest ++ left)) (sym split) ∙ is ∙ sym (append-nil texts))) in
+      at_nothing lines rest end back report none.1 memory failure
+      (subst (λ (ls : List StreamLine). EndsAfter c ls rest end back report) (on.1 ∙ ap (λ (ls : List StreamLine). lines ++ ls) none.0 ∙ append-nil lines) ends)

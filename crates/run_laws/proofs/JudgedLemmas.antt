@@ -117,7 +117,7 @@ line_first first line (other ∷ all) after left rest fit fits none begins is =
 
 -- What a stream retires
 
-parts : {X : Type 0} (P : X → Type 0) (a b : List X) → AllByRecursion P (a ++ b) → AllByRecursion P a × AllByRecursion P b
+pub parts : {X : Type 0} (P : X → Type 0) (a b : List X) → AllByRecursion P (a ++ b) → AllByRecursion P a × AllByRecursion P b
 parts P [] b all = (tt, all)
 parts P (x ∷ a) b all = let rest : AllByRecursion P a × AllByRecursion P b = parts P a b all.1 in ((all.0, rest.0), rest.1)
 

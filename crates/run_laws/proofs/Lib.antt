@@ -13,7 +13,11 @@ pub mod SwapLemmas
 mod BlameLines
 mod BlameStreams
 mod BlameLemmas
+mod BeginLemmas
 mod TogetherLemmas
+mod OneOrder
+mod TurnsLemmas
+mod RightTurns
 pub mod BlockLemmas
 pub mod AheadLemmas
 pub mod WalkLemmas

@@ -11,9 +11,8 @@ use Rattle.lrup_model.specs.Event as events
 use Rattle.lrup_model.specs.Event.{Event, History, own, stream_of}
 use Rattle.lrup_model.specs.Formula.{Cnf, clause_at}
 use Rattle.lrup_model.specs.Layout.{Fits, Owns, owner}
-use Rattle.lrup_model.specs.State.{State, Slot, absent, live, retired, IsLive, retire_slot, opening, run, state}
+use Rattle.lrup_model.specs.State.{State, Slot, absent, live, retired, IsLive, retire_slot, opening, run}
 use Rattle.lrup_model.specs.HistoryLemmas.{opening-formula, put, put-same, put-other}
-use Rattle.lrup_model.specs.ListLemmas.{All-map}
 use Rattle.lrup_model.specs.declared.clause_map.Retired.TheVariants as retiring
 use Rattle.lrup_model.specs.declared.layout.Owner.{Owner}
 use Rattle.lrup_model.specs.declared.layout.Owner.TheVariants as owners
@@ -44,9 +43,9 @@ use Rattle.run_laws.specs.Groups.{one}
 use Rattle.run_laws.specs.Right.{Database, first_database, after_line, AreRight, AreDistinct, IsRightAddition, IsRightDeletion, IsRightImport}
 use Rattle.run_laws.specs.RightLaws.{EndedIsRight}
 use Rattle.run_laws.proofs.AloneLemmas.{alone_judged, own-one}
-use Rattle.run_laws.proofs.BlameLines.{IsNearSide, AreFair, IsAsked, asked_fair, FindsImport, good_import, fails_not, good_runs, IsFoundIn}
+use Rattle.run_laws.proofs.BlameLines.{IsNearSide, AreFair, IsAsked, asked_fair, FindsImport, good_import, fails_not, good_runs}
 use Rattle.run_laws.proofs.KindLemmas.{import_all}
-use Rattle.run_laws.proofs.BlameStreams.{fair_front, fair_back, near_fair, own_all, IsStillThere, all_still_there, still_found, has_ended}
+use Rattle.run_laws.proofs.BlameStreams.{fair_front, fair_back, near_fair, Anything, all_anything, has_ended}
 use Rattle.run_laws.proofs.RightLines.{side_by, formulas_side, own_side, formulas_near, not_or, not_same, neither}
 use Rattle.run_laws.proofs.VerdictLemmas.{or_none}
 
@@ -83,11 +82,13 @@ pub record Mirrors (f : Cnf) (c : Setting) (base : Database) (st : Standing) (m 
   pub formulas : (id : ℕ) → owner c.layout id ≡ owners.Formula → m id ≡ live (clause_at f id)
   pub own : (id : ℕ) → Owns c.layout c.stream id → st.gone id ≡ false
 
-abbrev Cites : Setting → StreamLine → Type 0
-Cites c line = AllByRecursion (IsOwnedWithin c.layout (one c.stream)) (cited_by line)
+-- the line cites no clause of another stream
+abbrev CitesNear : Setting → StreamLine → Type 0
+CitesNear c line = AllByRecursion (IsOwnedWithin c.layout (one c.stream)) (cited_by line)
 
-abbrev Deletes : Setting → StreamLine → Type 0
-Deletes c line = AllByRecursion (IsOwnedWithin c.layout (one c.stream)) (deleted_by line)
+-- the line deletes no clause of another stream
+abbrev DeletesNear : Setting → StreamLine → Type 0
+DeletesNear c line = AllByRecursion (IsOwnedWithin c.layout (one c.stream)) (deleted_by line)
 
 -- Additions
 
@@ -96,33 +97,33 @@ not_outside c h asked d asks is =
     let at : AsksAt sides.Outside c h asked (events.live d) = subst (λ (side : Side). AsksAt side c h asked (events.live d)) is asks in
     let no : events.live d ≡ events.vacant = at.1 in cc
 
-found_named : (f : Cnf) (c : Setting) (k m : State) (base : Database) (st : Standing) (hints : List ℕ) (ds : List Clause) (fetches tail : History)
-    → Mirrors f c base st m → AllByRecursion (IsOwnedWithin c.layout (one c.stream)) hints → AreFound c st.gone hints ds fetches → AreFair c k m (fetches ++ tail)
+found_named : (f : Cnf) (c : Setting) (Found : ℕ → Clause → Type 0) (m : State) (base : Database) (st : Standing) (hints : List ℕ) (ds : List Clause) (fetches tail : History)
+    → Mirrors f c base st m → AllByRecursion (IsOwnedWithin c.layout (one c.stream)) hints → AreFound c st.gone hints ds fetches → AreFair c Found m (fetches ++ tail)
     → AllZip (λ h d. base.clauses h ≡ Some d) hints ds
-found_named f c k m base st [] [] fetches tail a within found fair = tt
-found_named f c k m base st [] (d ∷ ds) fetches tail a within found fair = absurd found
-found_named f c k m base st (h ∷ hints) [] fetches tail a within found fair = absurd found
-found_named f c k m base st (h ∷ hints) (d ∷ ds) fetches tail a within found fair =
+found_named f c Found m base st [] [] fetches tail a within found fair = tt
+found_named f c Found m base st [] (d ∷ ds) fetches tail a within found fair = absurd found
+found_named f c Found m base st (h ∷ hints) [] fetches tail a within found fair = absurd found
+found_named f c Found m base st (h ∷ hints) (d ∷ ds) fetches tail a within found fair =
     let asked = found.1.0 in
     let rest = found.1.1 in
     let cut : fetches ++ tail ≡ asked ++ (rest ++ tail) = ap (λ (x : History). x ++ tail) found.1.2 ∙ append_assoc asked rest tail in
-    let here : IsAsked c k m h (events.live d) (rest ++ tail) =
-    asked_fair (side_of c h) c k m h asked (rest ++ tail) (events.live d) refl found.1.3 (subst (AreFair c k m) cut fair) in
+    let here : IsAsked c Found m h (events.live d) (rest ++ tail) =
+    asked_fair (side_of c h) c Found m h asked (rest ++ tail) (events.live d) refl found.1.3 (subst (AreFair c Found m) cut fair) in
     let near = near_or_outside c h within.0 (not_outside c h asked d found.1.3) in (
       a.there h d near (here.near near) found.0,
-      found_named f c k m base st hints ds rest tail a within.1 found.1.4 here.later,
+      found_named f c Found m base st hints ds rest tail a within.1 found.1.4 here.later,
     )
 
-pub right_addition : (f : Cnf) (c : Setting) (k m : State) (base : Database) (st : Standing) (id : ℕ) (lits : List ℤ) (hints : List ℕ) (es : History)
-    → Mirrors f c base st m → AllByRecursion (IsOwnedWithin c.layout (one c.stream)) hints → IsGoodAddition c st id lits hints es → AreFair c k m es
+pub right_addition : (f : Cnf) (c : Setting) (Found : ℕ → Clause → Type 0) (m : State) (base : Database) (st : Standing) (id : ℕ) (lits : List ℤ) (hints : List ℕ) (es : History)
+    → Mirrors f c base st m → AllByRecursion (IsOwnedWithin c.layout (one c.stream)) hints → IsGoodAddition c st id lits hints es → AreFair c Found m es
     → IsRightAddition c.layout c.stream base id lits hints
-right_addition f c k m base st id lits hints es a within good fair = record {
+right_addition f c Found m base st id lits hints es a within good fair = record {
   owns = good.owns;
   above = omega (arith, a.last, good.above);
   literals = good.literals;
   room = omega (arith, a.free, good.room);
   hinted = good.clauses;
-  named = found_named f c k m base st hints good.clauses good.fetches (published_by c id lits ∷ []) a within good.found (subst (AreFair c k m) good.published fair);
+  named = found_named f c Found m base st hints good.clauses good.fetches (published_by c id lits ∷ []) a within good.found (subst (AreFair c Found m) good.published fair);
   shown = good.accepts;
 }
 
@@ -221,16 +222,16 @@ others_can c gone earlier (j ∷ ids) id m n none same can =
 sides_differ : (a b : Side) (c : Setting) (id : ℕ) → side_of c id ≡ a → side_of c id ≡ b → a ≡ b
 sides_differ a b c id is also = sym is ∙ also
 
-gone_at : (side : Side) (c : Setting) (k : State) (gone : ℕ → Bool) (earlier ids : List ℕ) (id : ℕ) (m : State) (es : History)
+gone_at : (side : Side) (c : Setting) (Found : ℕ → Clause → Type 0) (gone : ℕ → Bool) (earlier ids : List ℕ) (id : ℕ) (m : State) (es : History)
     → side_of c id ≡ side → IsNearSide side ⊎ (side ≡ sides.Outside)
-    → ((n : State) (rest : History) → AreFair c k n rest → JudgesDeletion c gone (earlier ++ id ∷ []) ids rest Good → HasGone c gone (earlier ++ id ∷ []) ids n (run n rest))
-    → AreFair c k m es → DeletesAt side c gone earlier id es Good (λ rest. JudgesDeletion c gone (earlier ++ id ∷ []) ids rest Good)
+    → ((n : State) (rest : History) → AreFair c Found n rest → JudgesDeletion c gone (earlier ++ id ∷ []) ids rest Good → HasGone c gone (earlier ++ id ∷ []) ids n (run n rest))
+    → AreFair c Found m es → DeletesAt side c gone earlier id es Good (λ rest. JudgesDeletion c gone (earlier ++ id ∷ []) ids rest Good)
     → HasGone c gone earlier (id ∷ ids) m (run m es)
-gone_at sides.Foreign c k gone earlier ids id m es is (inl near) next fair at = absurd near
-gone_at sides.Foreign c k gone earlier ids id m es is (inr out) next fair at = absurd (let no : sides.Foreign ≡ sides.Outside = out in cc)
-gone_at sides.Outside c k gone earlier ids id m es is near next fair at = absurd (fails_not (length earlier) (faults.NotLive id) es at)
-gone_at sides.Formula c k gone earlier ids id m es is near next fair (inl bad) = absurd (fails_not (length earlier) (faults.NotLive id) es bad.1)
-gone_at sides.Formula c k gone earlier ids id m es is near next fair (inr good) =
+gone_at sides.Foreign c Found gone earlier ids id m es is (inl near) next fair at = absurd near
+gone_at sides.Foreign c Found gone earlier ids id m es is (inr out) next fair at = absurd (let no : sides.Foreign ≡ sides.Outside = out in cc)
+gone_at sides.Outside c Found gone earlier ids id m es is near next fair at = absurd (fails_not (length earlier) (faults.NotLive id) es at)
+gone_at sides.Formula c Found gone earlier ids id m es is near next fair (inl bad) = absurd (fails_not (length earlier) (faults.NotLive id) es bad.1)
+gone_at sides.Formula c Found gone earlier ids id m es is near next fair (inr good) =
     let rest : HasGone c gone (earlier ++ id ∷ []) ids m (run m es) = next m es fair good.1 in
     let none : is_among ids id ≡ false = none_same c gone (earlier ++ id ∷ []) ids m id
     (λ can. elim can [
@@ -247,13 +248,13 @@ gone_at sides.Formula c k gone earlier ids id m es is near next fair (inr good) 
         | inr other ↦ rest.dead j own (sym (ap (λ (b : Bool). b || is_among ids j) (ne_eqb id j other)) ∙ among)
       ];
     }
-gone_at sides.Own c k gone earlier ids id m es is near next fair at =
+gone_at sides.Own c Found gone earlier ids id m es is near next fair at =
     let done = events.retire c.stream id retiring.Done in
     let n : State = put m id (retire_slot (m id)) in
     elim at.decided [
       | inr bad ↦ absurd (fails_not (length earlier) (faults.NotLive id) at.rest bad.1)
       | inl good ↦
-          let here : AreFair c k m (done ∷ at.rest) = subst (AreFair c k m) good.0 fair in
+          let here : AreFair c Found m (done ∷ at.rest) = subst (AreFair c Found m) good.0 fair in
           let alive : IsLive (m id) = here.0 (subst IsNearSide (sym is) tt) in
           let gone_then : n id ≡ retire_slot (m id) = put-same m id (retire_slot (m id)) id refl in
           let rest : HasGone c gone (earlier ++ id ∷ []) ids n (run n at.rest) = next n at.rest here.2 good.1 in
@@ -279,19 +280,19 @@ gone_at sides.Own c k gone earlier ids id m es is near next fair at =
           })
     ]
 
-has_gone : (c : Setting) (k : State) (gone : ℕ → Bool) (earlier ids : List ℕ) (m : State) (es : History)
-    → AllByRecursion (λ id. IsNearSide (side_of c id) ⊎ (side_of c id ≡ sides.Outside)) ids → AreFair c k m es → JudgesDeletion c gone earlier ids es Good
+has_gone : (c : Setting) (Found : ℕ → Clause → Type 0) (gone : ℕ → Bool) (earlier ids : List ℕ) (m : State) (es : History)
+    → AllByRecursion (λ id. IsNearSide (side_of c id) ⊎ (side_of c id ≡ sides.Outside)) ids → AreFair c Found m es → JudgesDeletion c gone earlier ids es Good
     → HasGone c gone earlier ids m (run m es)
-has_gone c k gone earlier [] m es near fair judged = subst (λ (x : History). HasGone c gone earlier [] m (run m x)) (sym judged.0) (record {
+has_gone c Found gone earlier [] m es near fair judged = subst (λ (x : History). HasGone c gone earlier [] m (run m x)) (sym judged.0) (record {
   can = tt;
   once = tt;
   apart = λ j out. refl;
   formulas = λ j is. refl;
   dead = λ j own among. absurd (true≢false (sym among));
 })
-has_gone c k gone earlier (id ∷ ids) m es near fair judged =
-    gone_at (side_of c id) c k gone earlier ids id m es refl near.0
-    (λ n rest also good. has_gone c k gone (earlier ++ id ∷ []) ids n rest near.1 also good) fair judged
+has_gone c Found gone earlier (id ∷ ids) m es near fair judged =
+    gone_at (side_of c id) c Found gone earlier ids id m es refl near.0
+    (λ n rest also good. has_gone c Found gone (earlier ++ id ∷ []) ids n rest near.1 also good) fair judged
 
 near_one : (c : Setting) (id : ℕ) (side : Side) → side_of c id ≡ side → IsOwnedWithin c.layout (one c.stream) id
     → IsNearSide (side_of c id) ⊎ (side_of c id ≡ sides.Outside)
@@ -338,27 +339,27 @@ all_have f c m base st (id ∷ ids) a can = (
   all_have f c m base st ids a can.1,
 )
 
-pub right_deletion : (f : Cnf) (c : Setting) (k m : State) (base : Database) (st : Standing) (ids : List ℕ) (es : History)
-    → Mirrors f c base st m → AllByRecursion (IsOwnedWithin c.layout (one c.stream)) ids → AreFair c k m es → JudgesDeletion c st.gone [] ids es Good
+pub right_deletion : (f : Cnf) (c : Setting) (Found : ℕ → Clause → Type 0) (m : State) (base : Database) (st : Standing) (ids : List ℕ) (es : History)
+    → Mirrors f c base st m → AllByRecursion (IsOwnedWithin c.layout (one c.stream)) ids → AreFair c Found m es → JudgesDeletion c st.gone [] ids es Good
     → IsRightDeletion base ids
-right_deletion f c k m base st ids es a within fair judged =
-    let gone = has_gone c k st.gone [] ids m es (near_all c ids within) fair judged in
+right_deletion f c Found m base st ids es a within fair judged =
+    let gone = has_gone c Found st.gone [] ids m es (near_all c ids within) fair judged in
     record { there = all_have f c m base st ids a gone.can; once = gone.once }
 
 -- what is shared and deleted is gone
 kept_apart : (side : Side) (among : Bool) → side ≡ sides.Formula → (is_shared side && among) ≡ false → among ≡ false
 kept_apart side among is kept = sym (ap (λ (x : Side). is_shared x && among) is) ∙ kept
 
-pub deletion_mirrors : (f : Cnf) (c : Setting) (k m : State) (base : Database) (before : List StreamLine) (lead : ℕ) (ids : List ℕ) (es : History)
-    → Mirrors f c base (standing_of c before) m → AllByRecursion (IsOwnedWithin c.layout (one c.stream)) ids → AreFair c k m es
+pub deletion_mirrors : (f : Cnf) (c : Setting) (Found : ℕ → Clause → Type 0) (m : State) (base : Database) (before : List StreamLine) (lead : ℕ) (ids : List ℕ) (es : History)
+    → Mirrors f c base (standing_of c before) m → AllByRecursion (IsOwnedWithin c.layout (one c.stream)) ids → AreFair c Found m es
     → JudgesDeletion c (standing_of c before).gone [] ids es Good
     → Mirrors f c (after_line base (Deletion lead ids)) (standing_of c (before ++ Deletion lead ids ∷ [])) (run m es)
-deletion_mirrors f c k m base before lead ids es a within fair judged =
+deletion_mirrors f c Found m base before lead ids es a within fair judged =
     let line = Deletion lead ids in
     let st = standing_of c before in
     let next = standing_of c (before ++ line ∷ []) in
     let standing = standing_of-snoc c before line es judged in
-    let gone = has_gone c k (standing_of c before).gone [] ids m es (near_all c ids within) fair judged in
+    let gone = has_gone c Found (standing_of c before).gone [] ids m es (near_all c ids within) fair judged in
     record {
       last = sym standing.last ∙ a.last;
       free = omega (arith, standing.free, a.free);
@@ -385,14 +386,14 @@ import_formula c st id lits es (inr (a, inl bad)) = absurd (fails_not 0 faults.L
 import_formula c st id lits es (inr (a, inr (b, inl bad))) = absurd (fails_not 0 (faults.Dropped id) es bad.1)
 import_formula c st id lits es (inr (a, inr (b, inr (d, found)))) = (a, d)
 
-pub right_import : (f : Cnf) (c : Setting) (k m : State) (base : Database) (st : Standing) (id : ℕ) (lits : List ℤ) (es : History)
-    → Fits c.layout f → Mirrors f c base st m → IsOwnedWithin c.layout (one c.stream) id → AreFair c k m es → JudgesImport c st id lits es Good
+pub right_import : (f : Cnf) (c : Setting) (Found : ℕ → Clause → Type 0) (m : State) (base : Database) (st : Standing) (id : ℕ) (lits : List ℤ) (es : History)
+    → Fits c.layout f → Mirrors f c base st m → IsOwnedWithin c.layout (one c.stream) id → AreFair c Found m es → JudgesImport c st id lits es Good
     → IsRightImport c.layout c.stream base id lits
-right_import f c k m base st id lits es fits a within fair judged =
+right_import f c Found m base st id lits es fits a within fair judged =
     let tests = import_formula c st id lits es judged in
     let found : FindsImport c id lits es = good_import c st id lits es judged in
     let near = near_or_outside c id within (not_outside c id found.asked found.clause found.asks) in
-    let here = asked_fair (side_of c id) c k m id found.asked found.rest (events.live found.clause) refl found.asks (subst (AreFair c k m) found.is fair) in
+    let here = asked_fair (side_of c id) c Found m id found.asked found.rest (events.live found.clause) refl found.asks (subst (AreFair c Found m) found.is fair) in
     record {
       other = λ owns. true≢false (sym tests.0 ∙ ap is_shared (own_side c id owns));
       clause = found.clause;
@@ -418,35 +419,35 @@ import_mirrors f c m n base before id lits es judged same a =
 
 -- All lines
 
-lines_right : GoodExactlyIf → (f : Cnf) (c : Setting) (k : State) → Fits c.layout f
+lines_right : GoodExactlyIf → (f : Cnf) (c : Setting) (Found : ℕ → Clause → Type 0) → Fits c.layout f
     → (before lines : List StreamLine) (blocks : List History) (base : Database) (m : State)
-    → Mirrors f c base (standing_of c before) m → AreGood c before lines blocks → AreFair c k m (joined blocks)
-    → AllByRecursion (Cites c) lines → AllByRecursion (Deletes c) lines → AreRight c.layout c.stream base lines
-lines_right law f c k fits before [] blocks base m a good fair cites deletes = tt
-lines_right law f c k fits before (line ∷ lines) [] base m a good fair cites deletes = absurd good
-lines_right law f c k fits before (Addition id lits hints ∷ lines) (block ∷ blocks) base m a good fair cites deletes =
+    → Mirrors f c base (standing_of c before) m → AreGood c before lines blocks → AreFair c Found m (joined blocks)
+    → AllByRecursion (CitesNear c) lines → AllByRecursion (DeletesNear c) lines → AreRight c.layout c.stream base lines
+lines_right law f c Found fits before [] blocks base m a good fair cites deletes = tt
+lines_right law f c Found fits before (line ∷ lines) [] base m a good fair cites deletes = absurd good
+lines_right law f c Found fits before (Addition id lits hints ∷ lines) (block ∷ blocks) base m a good fair cites deletes =
     let line = Addition id lits hints in
-    let here : AreFair c k m block = fair_front c k m block (joined blocks) fair in
+    let here : AreFair c Found m block = fair_front c Found m block (joined blocks) fair in
     let is : IsGoodAddition c (standing_of c before) id lits hints block = (law c (standing_of c before) id lits hints block).0 good.0 in (
-      right_addition f c k m base (standing_of c before) id lits hints block a cites.0 is here,
-      lines_right law f c k fits (before ++ line ∷ []) lines blocks (after_line base line) (run m block)
-          (addition_mirrors f c m base before id lits hints block a good.0 is) good.1 (fair_back c k m block (joined blocks) fair) cites.1 deletes.1,
+      right_addition f c Found m base (standing_of c before) id lits hints block a cites.0 is here,
+      lines_right law f c Found fits (before ++ line ∷ []) lines blocks (after_line base line) (run m block)
+          (addition_mirrors f c m base before id lits hints block a good.0 is) good.1 (fair_back c Found m block (joined blocks) fair) cites.1 deletes.1,
     )
-lines_right law f c k fits before (Deletion lead ids ∷ lines) (block ∷ blocks) base m a good fair cites deletes =
+lines_right law f c Found fits before (Deletion lead ids ∷ lines) (block ∷ blocks) base m a good fair cites deletes =
     let line = Deletion lead ids in
-    let here : AreFair c k m block = fair_front c k m block (joined blocks) fair in (
-      right_deletion f c k m base (standing_of c before) ids block a deletes.0 here good.0,
-      lines_right law f c k fits (before ++ line ∷ []) lines blocks (after_line base line) (run m block)
-          (deletion_mirrors f c k m base before lead ids block a deletes.0 here good.0) good.1 (fair_back c k m block (joined blocks) fair) cites.1 deletes.1,
+    let here : AreFair c Found m block = fair_front c Found m block (joined blocks) fair in (
+      right_deletion f c Found m base (standing_of c before) ids block a deletes.0 here good.0,
+      lines_right law f c Found fits (before ++ line ∷ []) lines blocks (after_line base line) (run m block)
+          (deletion_mirrors f c Found m base before lead ids block a deletes.0 here good.0) good.1 (fair_back c Found m block (joined blocks) fair) cites.1 deletes.1,
     )
-lines_right law f c k fits before (Import id lits ∷ lines) (block ∷ blocks) base m a good fair cites deletes =
+lines_right law f c Found fits before (Import id lits ∷ lines) (block ∷ blocks) base m a good fair cites deletes =
     let line = Import id lits in
-    let here : AreFair c k m block = fair_front c k m block (joined blocks) fair in (
-      right_import f c k m base (standing_of c before) id lits block fits a cites.0.0 here good.0,
-      lines_right law f c k fits (before ++ line ∷ []) lines blocks (after_line base line) (run m block)
+    let here : AreFair c Found m block = fair_front c Found m block (joined blocks) fair in (
+      right_import f c Found m base (standing_of c before) id lits block fits a cites.0.0 here good.0,
+      lines_right law f c Found fits (before ++ line ∷ []) lines blocks (after_line base line) (run m block)
           (import_mirrors f c m (run m block) base before id lits block good.0
           (run-fetches m block (import_all c IsFetch (λ h r. tt) (standing_of c before) id lits block Good good.0)) a)
-          good.1 (fair_back c k m block (joined blocks) fair) cites.1 deletes.1,
+          good.1 (fair_back c Found m block (joined blocks) fair) cites.1 deletes.1,
     )
 
 opened : (b : Bool) (x d : Clause) → cond b (live x) absent ≡ live d → cond b (Some x) None ≡ Some d
@@ -472,22 +473,19 @@ ended_is_right law stays one_cut empty_cut f terms s bytes report fits cites del
     let text : bytes ≡ flat_map line_text its.lines =
     its.text ∙ ap (λ (b : List ℕ). flat_map line_text its.lines ++ b) over.none ∙ append-nil (flat_map line_text its.lines) in
     let cut : Cut bytes its.lines [] = record { bytes = text ∙ sym (append-nil (flat_map line_text its.lines)); each = its.fits; last = empty_cut.last } in
-    let cited : AllByRecursion (Cites c) its.lines =
-    subst (AllByRecursion (Cites c)) (one_cut bytes cites.lines its.lines cites.rest [] cites.cut cut).0 cites.within in
-    let deleted : AllByRecursion (Deletes c) its.lines =
-    subst (AllByRecursion (Deletes c)) (one_cut bytes deletes.lines its.lines deletes.rest [] deletes.cut cut).0 deletes.within in
-    let k = state f g.history in
-    let fair : AreFair c k (opening f) (own g.history s) =
-    near_fair f c k (opening f) (opening f) g.history g.legal.events (λ id near. refl)
-    (own_all (IsFoundIn c k) g.history s (All-map (IsStillThere k) (IsFoundIn c k) (still_found c k) g.history
-    (all_still_there f terms.layout (opening f) g.history g.legal.events))) in
+    let cited : AllByRecursion (CitesNear c) its.lines =
+    subst (AllByRecursion (CitesNear c)) (one_cut bytes cites.lines its.lines cites.rest [] cites.cut cut).0 cites.within in
+    let deleted : AllByRecursion (DeletesNear c) its.lines =
+    subst (AllByRecursion (DeletesNear c)) (one_cut bytes deletes.lines its.lines deletes.rest [] deletes.cut cut).0 deletes.within in
+    let fair : AreFair c Anything (opening f) (own g.history s) =
+    near_fair f c Anything (opening f) (opening f) g.history g.legal.events (λ id near. refl) (all_anything c (own g.history s)) in
     let all : own g.history s ≡ joined its.front ++ joined its.back = own-one s g.history g.members ∙ j.events ∙ ap joined its.split ∙ joined-append its.front its.back in
-    let front : AreFair c k (opening f) (joined its.front) =
-    fair_front c k (opening f) (joined its.front) (joined its.back) (subst (AreFair c k (opening f)) all fair) in (
+    let front : AreFair c Anything (opening f) (joined its.front) =
+    fair_front c Anything (opening f) (joined its.front) (joined its.back) (subst (AreFair c Anything (opening f)) all fair) in (
       its.lines,
       record {
         text = text;
         fits = its.fits;
-        right = lines_right law f c k fits [] its.lines its.front (first_database f terms.layout) (opening f) (first_mirrors f c fits) its.good front cited deleted;
+        right = lines_right law f c Anything fits [] its.lines its.front (first_database f terms.layout) (opening f) (first_mirrors f c fits) its.good front cited deleted;
       },
     )

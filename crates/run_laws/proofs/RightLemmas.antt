@@ -81,7 +81,7 @@ first_agrees f c cnf fits = record {
 -- The lines one after the other
 
 -- these blocks more are legal there, take no more than the room that is left, and leave a checker going
-record Goes_on (f : Cnf) (c : Setting) (base : Database) (m : State) (bytes : List ℕ) (blocks : List History) (lines : List StreamLine) : Type 0 where
+record LinesGo (f : Cnf) (c : Setting) (base : Database) (m : State) (bytes : List ℕ) (blocks : List History) (lines : List StreamLine) : Type 0 where
   more : List History
   legal : LegalFrom f c.layout m (joined more)
   callers : AllByRecursion (λ e. stream_of e ≡ c.stream) (joined more)
@@ -101,7 +101,7 @@ next_holding c old line = record {
 lines_go : GoodExactlyIf → PropagationSound → GoodLineTaken → (f : Cnf) (c : Setting) → Fits c.layout f → 0 < c.layout.streams
     → (lines : List StreamLine) (base : Database) (m : State) (bytes : List ℕ) (blocks : List History) (old : Holding)
     → old.pending ≡ [] → Agrees f c.layout c.stream base old.standing m → AllByRecursion IsWithinLimits lines → AreRight c.layout c.stream base lines
-    → Leaves c bytes blocks (Going old) → Goes_on f c base m bytes blocks lines
+    → Leaves c bytes blocks (Going old) → LinesGo f c base m bytes blocks lines
 lines_go good sound taken f c fits some [] base m bytes blocks old pending a limits right leaves = record {
   more = [];
   legal = tt;
@@ -119,7 +119,7 @@ lines_go good sound taken f c fits some (line ∷ lines) base m bytes blocks old
     taken c bytes (line_text line) blocks goes.block old new line leaves
     (limits.0, ap (λ (p : List ℕ). p ++ line_text line) pending) goes.judged
     (record { tally = refl; standing = record { last = refl; free = refl; gone = λ id. refl }; pending = refl; line = refl }) in
-    let rest : Goes_on f c (after_line base line) (run m goes.block) (bytes ++ line_text line) (blocks ++ goes.block ∷ []) lines =
+    let rest : LinesGo f c (after_line base line) (run m goes.block) (bytes ++ line_text line) (blocks ++ goes.block ∷ []) lines =
     lines_go good sound taken f c fits some lines (after_line base line) (run m goes.block) (bytes ++ line_text line) (blocks ++ goes.block ∷ []) new
     refl goes.next limits.1 right.1 left in
     record {
@@ -135,7 +135,7 @@ lines_go good sound taken f c fits some (line ∷ lines) base m bytes blocks old
 
 -- The whole stream
 
-all_others : (s t : ℕ) (h : History) → s ≢ t → AllByRecursion (λ e. stream_of e ≡ s) h → AllByRecursion (λ e. stream_of e ≡ t → ⊥) h
+pub all_others : (s t : ℕ) (h : History) → s ≢ t → AllByRecursion (λ e. stream_of e ≡ s) h → AllByRecursion (λ e. stream_of e ≡ t → ⊥) h
 all_others s t [] other all = tt
 all_others s t (e ∷ h) other all = (λ same. other (sym all.0 ∙ same), all_others s t h other all.1)
 
@@ -205,7 +205,7 @@ module _ (good : GoodExactlyIf) (sound : PropagationSound) (taken : GoodLineTake
       let c = setting_of terms s in
       let first : Holding = record { tally = record { added = 0; deleted = 0; empty = false; within = false }; standing = standing_of c []; pending = []; line = 1 } in
       let left : Leaves c [] [] (Going first) = fresh c first (record { tally = refl; standing = record { last = refl; free = refl; gone = λ id. refl }; pending = refl; line = refl }) in
-      let on : Goes_on f c (first_database f terms.layout) (opening f) [] [] lines =
+      let on : LinesGo f c (first_database f terms.layout) (opening f) [] [] lines =
       lines_go good sound taken f c fits (omega (arith, stream.0, stream.1)) lines (first_database f terms.layout) (opening f) [] [] first refl
       (first_agrees f c cnf fits) right.fits right.right left in
       let texts = flat_map line_text lines in

@@ -49,6 +49,7 @@ use Rattle.run_laws.specs.Right.{Database, after_line, IsRightAddition, AreDisti
 abbrev pub IsOneOf : LayoutValue → ℕ → Type 0
 IsOneOf p id = (owner p id ≡ owners.Formula) ⊎ ((t : ℕ) × Owns p t id)
 
+-- whose the identity of this owner is, as the setting's stream sees it
 abbrev pub side_by : Setting → Owner → Side
 side_by c o = elim o [
   | owners.Formula ↦ sides.Formula
@@ -274,7 +275,8 @@ record CanDelete (c : Setting) (gone : ℕ → Bool) (earlier : List ℕ) (m : S
   new : is_among earlier id ≡ false
   alive : IsLive (m id)
 
-record Deletes (f : Cnf) (c : Setting) (gone : ℕ → Bool) (earlier ids : List ℕ) (m : State) : Type 0 where
+-- the deletion of these identities is judged good by this block, which is legal there, takes no room, and leaves all others as they are
+record DeletionGoes (f : Cnf) (c : Setting) (gone : ℕ → Bool) (earlier ids : List ℕ) (m : State) : Type 0 where
   block : History
   judged : JudgesDeletion c gone earlier ids block Good
   legal : LegalFrom f c.layout m block
@@ -316,11 +318,11 @@ still c gone earlier (j ∷ ids) id m n same once all =
 -- one of the formula's or another stream's is dropped, without an event
 dropped : (f : Cnf) (c : Setting) (gone : ℕ → Bool) (earlier ids : List ℕ) (id : ℕ) (m : State)
     → CanDelete c gone earlier m id → AllByRecursion (CanDelete c gone earlier m) ids → is_among ids id ≡ false
-    → ((n : State) → AllByRecursion (CanDelete c gone (earlier ++ id ∷ []) n) ids → Deletes f c gone (earlier ++ id ∷ []) ids n)
+    → ((n : State) → AllByRecursion (CanDelete c gone (earlier ++ id ∷ []) n) ids → DeletionGoes f c gone (earlier ++ id ∷ []) ids n)
     → (side : Side) → side_of c id ≡ side
     → ((es : History) → DropsThen gone earlier id es Good (λ rest. JudgesDeletion c gone (earlier ++ id ∷ []) ids rest Good)
     → DeletesAt side c gone earlier id es Good (λ rest. JudgesDeletion c gone (earlier ++ id ∷ []) ids rest Good))
-    → Deletes f c gone earlier (id ∷ ids) m
+    → DeletionGoes f c gone earlier (id ∷ ids) m
 dropped f c gone earlier ids id m can all once go side is at =
     let rest = go m (still c gone earlier ids id m m (λ j other. refl) once all) in
     record {
@@ -336,8 +338,8 @@ dropped f c gone earlier ids id m can all once go side is at =
 
 deletes_one : (f : Cnf) (c : Setting) (gone : ℕ → Bool) (earlier ids : List ℕ) (id : ℕ) (m : State)
     → CanDelete c gone earlier m id → AllByRecursion (CanDelete c gone earlier m) ids → is_among ids id ≡ false
-    → ((n : State) → AllByRecursion (CanDelete c gone (earlier ++ id ∷ []) n) ids → Deletes f c gone (earlier ++ id ∷ []) ids n)
-    → IsOneOf c.layout id → Deletes f c gone earlier (id ∷ ids) m
+    → ((n : State) → AllByRecursion (CanDelete c gone (earlier ++ id ∷ []) n) ids → DeletionGoes f c gone (earlier ++ id ∷ []) ids n)
+    → IsOneOf c.layout id → DeletionGoes f c gone earlier (id ∷ ids) m
 deletes_one f c gone earlier ids id m can all once go (inl is) =
     dropped f c gone earlier ids id m can all once go sides.Formula (formulas_side c id is) (λ es at. at)
 deletes_one f c gone earlier ids id m can all once go (inr its) = elim (cases_eq its.0 c.stream) [
@@ -363,7 +365,7 @@ deletes_one f c gone earlier ids id m can all once go (inr its) = elim (cases_eq
 ]
 
 deletes : (f : Cnf) (c : Setting) (gone : ℕ → Bool) (earlier ids : List ℕ) (m : State)
-    → AllByRecursion (CanDelete c gone earlier m) ids → AreDistinct ids → Deletes f c gone earlier ids m
+    → AllByRecursion (CanDelete c gone earlier m) ids → AreDistinct ids → DeletionGoes f c gone earlier ids m
 deletes f c gone earlier [] m all once = record { block = []; judged = (refl, refl); legal = tt; callers = tt; size = refl; apart = λ j out. refl; others = λ j not_mine. refl }
 deletes f c gone earlier (id ∷ ids) m all once =
     deletes_one f c gone earlier ids id m all.0 all.1 once.0 (λ n can. deletes f c gone (earlier ++ id ∷ []) ids n can once.1) all.0.known
@@ -428,7 +430,7 @@ not_both true b none is = absurd (true≢false (sym is ∙ none))
 not_both false b none is = refl
 
 -- what isn't the deleter's own, or isn't deleted, stays at the map
-untouched : (f : Cnf) (c : Setting) (gone : ℕ → Bool) (ids : List ℕ) (m : State) (d : Deletes f c gone [] ids m) (j : ℕ)
+untouched : (f : Cnf) (c : Setting) (gone : ℕ → Bool) (ids : List ℕ) (m : State) (d : DeletionGoes f c gone [] ids m) (j : ℕ)
     → (is_among ids j && is_own c.layout c.stream j) ≡ false → run m d.block j ≡ m j
 untouched f c gone ids m d j none = elim (mine_or_not c.layout c.stream j) [
   | inl owns ↦ d.apart j (not_both (is_among ids j) (is_own c.layout c.stream j) none (own_tested c.layout c.stream j owns))

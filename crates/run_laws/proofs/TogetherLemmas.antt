@@ -1,5 +1,5 @@
 -- Lines of several streams that are right together, and their streams in a run.
-use Rattle.std.proofs.Common.{◌≡◌, ◌≢◌, ◌<◌, ◌≤◌, ◌+◌, ◌-◌, ℕ, zero, suc, Bool, true, false, cond, List, [], ◌∷◌, ◌++◌, length, Some, inl, inr, refl, sym, ap, subst, ◌∙◌, arith, append_assoc, append-nil, eqb, eqb-true, eq-eqb, ne_eqb}
+use Rattle.std.proofs.Common.{◌≡◌, ◌≢◌, ◌⊎◌, ◌<◌, ◌≤◌, ◌+◌, ◌-◌, ℕ, zero, suc, Bool, true, false, cond, List, [], ◌∷◌, ◌++◌, length, map, Some, inl, inr, refl, sym, ap, subst, ◌∙◌, arith, append_assoc, append-nil, eqb, eqb-true, eq-eqb, ne_eqb}
 use Rattle.std.specs.Prelude.{IsTrue, slice_get, ◌&&◌}
 use Rattle.std.specs.List.{AllByRecursion, AllZip, flat_map, sum_by}
 use Rattle.std.proofs.lemmas.Bool.{cases_eq, cond-true, cond-false, true≢false}
@@ -7,7 +7,7 @@ use Rattle.std.proofs.lemmas.Option.{slice_get_within}
 use Rattle.lrup_model.specs.Clause.{Clause}
 use Rattle.lrup_model.specs.Distinct.{distinct}
 use Rattle.lrup_model.specs.Event.{History, own, spent}
-use Rattle.lrup_model.specs.Formula.{Cnf}
+use Rattle.lrup_model.specs.Formula.{Cnf, IsCnf}
 use Rattle.lrup_model.specs.History.{LegalFrom, IsLegal}
 use Rattle.lrup_model.specs.HistoryLemmas.{formula_owned, one_owner, own-all, own-none}
 use Rattle.lrup_model.specs.Laws.{PropagationSound}
@@ -15,21 +15,24 @@ use Rattle.lrup_model.specs.Layout.{LayoutValue, Fits, IsStream, Owns}
 use Rattle.lrup_model.specs.Running.{legal-append, own-append, size_of, spent-append, spent-sizes}
 use Rattle.lrup_model.specs.State.{State, opening, run}
 use Rattle.lrup_model.specs.declared.layout.Owner.TheVariants as owners
-use Rattle.lrup_text.specs.Laws.{EmptyCut, OneCut}
+use Rattle.lrup_text.specs.Laws.{EmptyCut, OneCut, OneFirstLine, RefusedStays}
 use Rattle.lrup_text.specs.Lines.{StreamLine, Addition, Deletion, Import, IsWithinLimits, line_text}
 use Rattle.lrup_text.specs.declared.device.StreamEnd.TheVariants as stream_ends
 use Rattle.stream_check.specs.declared.report.Report.{Report}
-use Rattle.stream_check.specs.Judging.{joined}
-use Rattle.stream_check.specs.Laws.{cited_by, EndJudged, FreshLeft, GoodExactlyIf, GoodLineTaken}
+use Rattle.stream_check.specs.Judging.{joined, JudgesBlocks}
+use Rattle.stream_check.specs.Laws.{cited_by, CitedFetched, EndJudged, FreshLeft, GoodExactlyIf, GoodLineTaken}
 use Rattle.stream_check.specs.Leaving.{Holding, Going, Leaves}
 use Rattle.stream_check.specs.Standing.{is_among, standing_of}
 use Rattle.runs.specs.Closed.{IsOfStream, IsOwnedWithin, CiteWithin, IsClosed}
 use Rattle.runs.specs.Headline.{AreJudgedIn}
-use Rattle.runs.specs.Streams.{Stream, TermsValue, setting_of}
-use Rattle.runs.specs.StreamLemmas.{IsJudgedBy, judged_count, judged_out}
-use Rattle.run_laws.specs.Blame.{AllEnded, HaveBytesOf, NoFalseBlame}
-use Rattle.run_laws.specs.Right.{Database, first_database, after_line, IsRightLine, right_report}
-use Rattle.run_laws.specs.Together.{Step, is_own, beside_line, after_step, AreRightTogether, lines_by, RightTogether}
+use Rattle.runs.specs.Streams.{Stream, Block, blocks_of, events_in, IsBlockWithin, JudgesStream, AreJudged, Telling, TermsValue, setting_of}
+use Rattle.runs.specs.StreamLemmas.{IsJudgedBy, blocks-same, blocks-other, judged_count, judged_out}
+use Rattle.runs.specs.Turns.{streams_of}
+use Rattle.run_laws.specs.Blame.{HaveBytesOf, LacksOfAnotherIn, NoFalseBlame}
+use Rattle.run_laws.specs.Groups.{IsRun}
+use Rattle.run_laws.specs.Right.{Database, first_database, after_line, IsRightLine, right_report, IsCutOffIn, TellsAtLeast}
+use Rattle.run_laws.specs.Together.{Step, is_own, beside_line, after_step, AreRightTogether, lines_by, IsRightOrder, HaveTexts, RightTogether, TogetherBegins}
+use Rattle.run_laws.proofs.BlameLemmas.{tells_on}
 use Rattle.run_laws.proofs.RightLemmas.{next_holding, first_agrees, is_first, ended_report}
 use Rattle.run_laws.proofs.RightLines.{Agrees, Goes, line_goes, left, not_callers}
 
@@ -46,11 +49,12 @@ record IsOn (f : Cnf) (terms : TermsValue) (t : ℕ) (base : Database) (m : Stat
   agrees : Agrees f terms.layout t base track.holding.standing m
   leaves : Leaves (setting_of terms t) track.bytes track.blocks (Going track.holding)
 
--- the stream goes on to the end of its lines, by its events of this history
-record GoesOn (terms : TermsValue) (t : ℕ) (base : Database) (track : Track) (steps : List Step) (h : History) : Type 0 where
+-- the stream goes on to the end of its lines, by its blocks of this order
+record GoesOn (terms : TermsValue) (t : ℕ) (base : Database) (track : Track) (steps : List Step) (order : List Block) : Type 0 where
   more : List History
-  events : own h t ≡ joined more
-  room : spent t h ≤ base.free
+  are_own : more ≡ blocks_of t order
+  events : own (events_in order) t ≡ joined more
+  room : spent t (events_in order) ≤ base.free
   holding : Holding
   pending : holding.pending ≡ []
   leaves : Leaves (setting_of terms t) (track.bytes ++ flat_map line_text (lines_by t steps)) (track.blocks ++ more) (Going holding)
@@ -106,18 +110,21 @@ module _ (good : GoodExactlyIf) (sound : PropagationSound) (taken : GoodLineTake
   }
 
   -- a stream that goes on after a line goes on from before it
-  goes_with : (step : Step) (base : Database) (m : State) (track : Track) (steps : List Step) (h : History)
+  goes_with : (step : Step) (base : Database) (m : State) (track : Track) (steps : List Step) (order : List Block)
       → (g : Goes f (setting_of terms step.stream) base track.holding.standing m step.line)
-      → GoesOn terms step.stream (after_line base step.line) (further terms step g.block step.stream track) steps h
-      → GoesOn terms step.stream base track (step ∷ steps) (g.block ++ h)
+      → GoesOn terms step.stream (after_line base step.line) (further terms step g.block step.stream track) steps order
+      → GoesOn terms step.stream base track (step ∷ steps) (record { stream = step.stream; events = g.block } ∷ order)
   unfolding further
-  goes_with step base m track steps h g on =
+  goes_with step base m track steps order g on =
       let s = step.stream in
+      let h = events_in order in
+      let block : Block = record { stream = s; events = g.block } in
       let lines : lines_by s (step ∷ steps) ≡ step.line ∷ lines_by s steps =
       cond-true (eqb s s) (step.line ∷ lines_by s steps) (lines_by s steps) (eq-eqb s s refl) in
       let mine : own g.block s ≡ g.block = own-all s g.block g.callers in
       record {
         more = g.block ∷ on.more;
+        are_own = ap (λ (bs : List History). g.block ∷ bs) on.are_own ∙ sym (blocks-same block order s refl);
         events = own-append g.block h s ∙ ap (λ (x : History). x ++ own h s) mine ∙ ap (λ (x : History). g.block ++ x) on.events;
         room = omega (arith, spent-append s g.block h, spent-sizes s g.block, ap (sum_by size_of) mine, g.room, on.room);
         holding = on.holding;
@@ -129,17 +136,20 @@ module _ (good : GoodExactlyIf) (sound : PropagationSound) (taken : GoodLineTake
             (append_assoc track.blocks (g.block ∷ []) on.more) on.leaves));
       }
 
-  goes_beside : (step : Step) (base its : Database) (m : State) (track other : Track) (steps : List Step) (h : History) (t : ℕ) → t ≢ step.stream
+  goes_beside : (step : Step) (base its : Database) (m : State) (track other : Track) (steps : List Step) (order : List Block) (t : ℕ) → t ≢ step.stream
       → (g : Goes f (setting_of terms step.stream) base track.holding.standing m step.line)
-      → GoesOn terms t (beside_line terms.layout step.stream its step.line) other steps h
-      → GoesOn terms t its other (step ∷ steps) (g.block ++ h)
-  goes_beside step base its m track other steps h t apart g on =
+      → GoesOn terms t (beside_line terms.layout step.stream its step.line) other steps order
+      → GoesOn terms t its other (step ∷ steps) (record { stream = step.stream; events = g.block } ∷ order)
+  goes_beside step base its m track other steps order t apart g on =
       let s = step.stream in
+      let h = events_in order in
+      let block : Block = record { stream = s; events = g.block } in
       let lines : lines_by t (step ∷ steps) ≡ lines_by t steps =
       cond-false (eqb s t) (step.line ∷ lines_by t steps) (lines_by t steps) (ne_eqb s t (λ same. apart (sym same))) in
       let none : own g.block t ≡ [] = own-none g.block t (not_callers s t g.block apart g.callers) in
       record {
         more = on.more;
+        are_own = on.are_own ∙ sym (blocks-other block order t (λ same. apart (sym same)));
         events = own-append g.block h t ∙ ap (λ (x : History). x ++ own h t) none ∙ on.events;
         room = omega (arith, spent-append t g.block h, spent-sizes t g.block, ap (sum_by size_of) none, on.room, beside_free terms.layout s its step.line);
         holding = on.holding;
@@ -147,21 +157,26 @@ module _ (good : GoodExactlyIf) (sound : PropagationSound) (taken : GoodLineTake
         leaves = subst (λ (ls : List StreamLine). Leaves (setting_of terms t) (other.bytes ++ flat_map line_text ls) (other.blocks ++ on.more) (Going on.holding)) (sym lines) on.leaves;
       }
 
-  -- a legal history of all lines
+  -- a legal order of all lines
   record AllGo (bases : ℕ → Database) (m : State) (tracks : ℕ → Track) (steps : List Step) : Type 0 where
-    history : History
-    legal : LegalFrom f terms.layout m history
-    each : (t : ℕ) → GoesOn terms t (bases t) (tracks t) steps history
+    order : List Block
+    streams : streams_of order ≡ map (λ step. step.stream) steps
+    within : AllByRecursion (IsBlockWithin terms.layout (λ t. true)) order
+    legal : LegalFrom f terms.layout m (events_in order)
+    each : (t : ℕ) → GoesOn terms t (bases t) (tracks t) steps order
 
   steps_go : (steps : List Step) (bases : ℕ → Database) (m : State) (tracks : ℕ → Track)
       → AllByRecursion (λ step. IsStream terms.layout step.stream) steps → AllByRecursion (λ step. IsWithinLimits step.line) steps
       → AreRightTogether terms.layout bases steps → ((t : ℕ) → IsOn f terms t (bases t) m (tracks t)) → AllGo bases m tracks steps
   unfolding tracks_after
   steps_go [] bases m tracks streams limits right on = record {
-    history = [];
+    order = [];
+    streams = refl;
+    within = tt;
     legal = tt;
     each = λ t. record {
       more = [];
+      are_own = refl;
       events = refl;
       room = omega arith;
       holding = (tracks t).holding;
@@ -184,24 +199,26 @@ module _ (good : GoodExactlyIf) (sound : PropagationSound) (taken : GoodLineTake
       (on_with step (bases s) m (tracks s) some limits.0 (on s) g))
       (λ test. on_beside step (bases s) (bases t) m (tracks s) (tracks t) t (not_eqb t s test) (on t) g)) in
       record {
-        history = g.block ++ later.history;
-        legal = legal-append f terms.layout m g.block later.history g.legal later.legal;
+        order = record { stream = s; events = g.block } ∷ later.order;
+        streams = ap (λ (ts : List ℕ). s ∷ ts) later.streams;
+        within = ((streams.0, refl, g.callers), later.within);
+        legal = legal-append f terms.layout m g.block (events_in later.order) g.legal later.legal;
         each = λ t. elim (cases_eq t s) [
           | inl same ↦
-              let here : GoesOn terms s (after_line (bases s) step.line) (further terms step g.block s (tracks s)) steps later.history =
-              subst (λ (track : Track). GoesOn terms s (after_line (bases s) step.line) track steps later.history)
+              let here : GoesOn terms s (after_line (bases s) step.line) (further terms step g.block s (tracks s)) steps later.order =
+              subst (λ (track : Track). GoesOn terms s (after_line (bases s) step.line) track steps later.order)
               (cond-true (eqb s s) (further terms step g.block s (tracks s)) (tracks s) (eq-eqb s s refl))
-              (subst (λ (base : Database). GoesOn terms s base (tracks_after terms step g.block tracks s) steps later.history)
+              (subst (λ (base : Database). GoesOn terms s base (tracks_after terms step g.block tracks s) steps later.order)
               (cond-true (eqb s s) (after_line (bases s) step.line) (beside_line terms.layout s (bases s) step.line) (eq-eqb s s refl)) (later.each s)) in
-              subst (λ (n : ℕ). GoesOn terms n (bases n) (tracks n) (step ∷ steps) (g.block ++ later.history)) (sym same)
-              (goes_with step (bases s) m (tracks s) steps later.history g here)
+              subst (λ (n : ℕ). GoesOn terms n (bases n) (tracks n) (step ∷ steps) (record { stream = s; events = g.block } ∷ later.order)) (sym same)
+              (goes_with step (bases s) m (tracks s) steps later.order g here)
           | inr apart ↦
-              let there : GoesOn terms t (beside_line terms.layout s (bases t) step.line) (tracks t) steps later.history =
-              subst (λ (track : Track). GoesOn terms t (beside_line terms.layout s (bases t) step.line) track steps later.history)
+              let there : GoesOn terms t (beside_line terms.layout s (bases t) step.line) (tracks t) steps later.order =
+              subst (λ (track : Track). GoesOn terms t (beside_line terms.layout s (bases t) step.line) track steps later.order)
               (cond-false (eqb t s) (further terms step g.block t (tracks t)) (tracks t) (ne_eqb t s apart))
-              (subst (λ (base : Database). GoesOn terms t base (tracks_after terms step g.block tracks t) steps later.history)
+              (subst (λ (base : Database). GoesOn terms t base (tracks_after terms step g.block tracks t) steps later.order)
               (cond-false (eqb t s) (after_line (bases t) step.line) (beside_line terms.layout s (bases t) step.line) (ne_eqb t s apart)) (later.each t)) in
-              goes_beside step (bases s) (bases t) m (tracks s) (tracks t) steps later.history t apart g there
+              goes_beside step (bases s) (bases t) m (tracks s) (tracks t) steps later.order t apart g there
         ];
       }
 
@@ -277,11 +294,11 @@ lines_limits (step ∷ steps) t all = elim (cases_eq step.stream t) [
 
 -- Lists that have a thing for each stream
 
-each_from : {X : Type 0} → ℕ → ℕ → (ℕ → X) → List X
+pub each_from : {X : Type 0} → ℕ → ℕ → (ℕ → X) → List X
 each_from zero k of = []
 each_from (suc n) k of = of k ∷ each_from n (k + 1) of
 
-each_count : {X : Type 0} (n k : ℕ) (of : ℕ → X) → length (each_from n k of) ≡ n
+pub each_count : {X : Type 0} (n k : ℕ) (of : ℕ → X) → length (each_from n k of) ≡ n
 unfolding each_from
 each_count zero k of = refl
 each_count (suc n) k of = ap suc (each_count n (k + 1) of)
@@ -305,7 +322,7 @@ each_get (suc n) k (suc i) of below =
     let place : k + 1 + i ≡ k + suc i = omega arith in
     each_get n (k + 1) i of (omega (arith, below)) ∙ ap (λ (j : ℕ). Some (of j)) place
 
-at_stream : {X : Type 0} (n s : ℕ) (of : ℕ → X) (x : X) → IsOfStream (each_from n 1 of) s x → of s ≡ x
+pub at_stream : {X : Type 0} (n s : ℕ) (of : ℕ → X) (x : X) → IsOfStream (each_from n 1 of) s x → of s ≡ x
 at_stream n s of x at =
     let first = at.0 in
     let place : s ≡ 1 + (s - 1) = omega (arith, first) in
@@ -318,11 +335,63 @@ unfolding each_from
 each_judged terms set h zero k streams reports judged = tt
 each_judged terms set h (suc n) k streams reports judged = ((λ member. judged k), each_judged terms set h n (k + 1) streams reports judged)
 
+-- each stream is judged by its own blocks
+pub each_own : (terms : TermsValue) (own : ℕ → List History) (n k : ℕ) (streams : ℕ → Stream) (reports : ℕ → Report)
+    → ((t : ℕ) → JudgesStream (setting_of terms t) (streams t) (own t) (reports t))
+    → AreJudged terms (λ t. true) (λ t blocks. blocks ≡ own t) k (each_from n k streams) (each_from n k reports)
+unfolding each_from
+each_own terms own zero k streams reports judged = tt
+each_own terms own (suc n) k streams reports judged = ((λ member. (own k, refl, judged k)), each_own terms own n (k + 1) streams reports judged)
+
 -- All together
 
+-- a stream that has the texts of its lines, and ends
+abbrev pub text_stream : List Step → ℕ → Stream
+text_stream steps t = record { bytes = flat_map line_text (lines_by t steps); unneeded = []; end = Some stream_ends.Ended }
+
+-- what is said of the stream of these lines
+its_report : TermsValue → List Step → ℕ → Report
+its_report terms steps t = right_report terms t (lines_by t steps)
+
+-- a legal history judges all of them so
+record AreJudgedTogether (f : Cnf) (terms : TermsValue) (set : ℕ → Bool) (steps : List Step) : Type 0 where
+  history : History
+  legal : IsLegal f terms.layout history
+  judged : AreJudgedIn terms set history 1 (each_from terms.layout.streams 1 (text_stream steps)) (each_from terms.layout.streams 1 (its_report terms steps))
+  closed : IsClosed terms.layout set (each_from terms.layout.streams 1 (text_stream steps))
+
+-- the readers begin with the streams' bytes
+have_bytes : (p : LayoutValue) (set : ℕ → Bool) (steps : List Step) (told : List Telling) → HaveTexts set steps told
+    → HaveBytesOf set (each_from p.streams 1 (text_stream steps)) told
+have_bytes p set steps told texts t x telling member at here =
+    let its = texts t telling member here in
+    (its.0, its.1 ∙ ap (λ (y : Stream). Some (y.bytes ++ its.0)) (at_stream p.streams t (text_stream steps) x at))
+
+-- a stream that has a report in a run is a stream of the layout
+report_place : (f : Cnf) (terms : TermsValue) (told : List Telling) (reports : List Report) (r : IsRun f terms told reports) (s : ℕ) (report : Report)
+    → IsOfStream reports s report → IsStream terms.layout s
+report_place f terms told reports r s report says =
+    let within = slice_get_within reports (s - 1) report says.1 in
+    let many = judged_count terms (λ t. true) r.history 1 r.streams reports r.judged in
+    (says.0, omega (arith, within, many, r.count, says.0))
+
+each_place : {X : Type 0} (n s : ℕ) (of : ℕ → X) → 0 < s → s ≤ n → IsOfStream (each_from n 1 of) s (of s)
+each_place n s of first last =
+    let place : 1 + (s - 1) ≡ s = omega (arith, first) in
+    (first, each_get n 1 (s - 1) of (omega (arith, first, last)) ∙ ap (λ (j : ℕ). Some (of j)) place)
+
+-- a legal order of right lines, by which each stream is judged so
+pub record IsOrderOf (f : Cnf) (terms : TermsValue) (steps : List Step) (order : List Block) : Type 0 where
+  pub streams : streams_of order ≡ map (λ step. step.stream) steps
+  pub within : AllByRecursion (IsBlockWithin terms.layout (λ t. true)) order
+  pub legal : IsLegal f terms.layout (events_in order)
+  pub events : (t : ℕ) → own (events_in order) t ≡ joined (blocks_of t order)
+  pub judged : (t : ℕ) → JudgesBlocks (setting_of terms t) (flat_map line_text (lines_by t steps)) stream_ends.Ended (blocks_of t order) (right_report terms t (lines_by t steps))
+
 module _ (good : GoodExactlyIf) (sound : PropagationSound) (taken : GoodLineTaken) (fresh : FreshLeft) (ends : EndJudged) (empty_cut : EmptyCut) (one_cut : OneCut) where
-  pub right_together : NoFalseBlame → RightTogether
-  right_together law f terms set steps told reports s report cnf fits order members r texts member says memory failure =
+  pub right_ordered : (f : Cnf) (terms : TermsValue) (steps : List Step) → IsCnf f → Fits terms.layout f → IsRightOrder f terms.layout steps
+      → (order : List Block) × IsOrderOf f terms steps order
+  right_ordered f terms steps cnf fits right =
       let p = terms.layout in
       let first : ℕ → Track = λ t. record {
         bytes = [];
@@ -335,43 +404,77 @@ module _ (good : GoodExactlyIf) (sound : PropagationSound) (taken : GoodLineTake
         };
       } in
       let all : AllGo good sound taken f terms fits (λ t. first_database f p) (opening f) first steps =
-      steps_go good sound taken f terms fits steps (λ t. first_database f p) (opening f) first order.streams order.fits order.right
+      steps_go good sound taken f terms fits steps (λ t. first_database f p) (opening f) first right.streams right.fits right.right
       (λ t. record {
         pending = refl;
         agrees = first_agrees f (setting_of terms t) cnf fits;
         leaves = fresh (setting_of terms t) (first t).holding
             (record { tally = refl; standing = record { last = refl; free = refl; gone = λ id. refl }; pending = refl; line = refl });
-      }) in
-      let streams : ℕ → Stream = λ t. record { bytes = flat_map line_text (lines_by t steps); unneeded = []; end = Some stream_ends.Ended } in
-      let said : ℕ → Report = λ t. right_report terms t (lines_by t steps) in
+      }) in (
+        all.order,
+        record {
+          streams = all.streams;
+          within = all.within;
+          legal = record { events = all.legal; room = λ t. (all.each t).room };
+          events = λ t. (all.each t).events ∙ ap joined (all.each t).are_own;
+          judged = λ t.
+              let its = all.each t in
+              subst (λ (bs : List History). JudgesBlocks (setting_of terms t) (flat_map line_text (lines_by t steps)) stream_ends.Ended bs (right_report terms t (lines_by t steps))) its.are_own
+              (ended_report ends empty_cut one_cut terms t (lines_by t steps) its.more its.holding its.pending (lines_limits steps t right.fits) its.leaves);
+        },
+      )
+
+  judged_together : (f : Cnf) (terms : TermsValue) (set : ℕ → Bool) (steps : List Step) → IsCnf f → Fits terms.layout f
+      → IsRightOrder f terms.layout steps → AllByRecursion (λ step. IsTrue (set step.stream)) steps → AreJudgedTogether f terms set steps
+  unfolding its_report
+  judged_together f terms set steps cnf fits order members =
+      let p = terms.layout in
+      let found = right_ordered f terms steps cnf fits order in
+      record {
+        history = events_in found.0;
+        legal = found.1.legal;
+        judged = each_judged terms set (events_in found.0) p.streams 1 (text_stream steps) (its_report terms steps) (λ t. (
+          blocks_of t found.0,
+          found.1.events t,
+          judged_out (setting_of terms t) (flat_map line_text (lines_by t steps)) [] stream_ends.Ended (blocks_of t found.0) (its_report terms steps t) (found.1.judged t),
+        ));
+        closed = λ t x m at.
+            subst (λ (y : Stream). CiteWithin p set y.bytes) (at_stream p.streams t (text_stream steps) x at) (record {
+              lines = lines_by t steps;
+              rest = [];
+              cut = record { bytes = sym (append-nil (flat_map line_text (lines_by t steps))); each = lines_limits steps t order.fits; last = empty_cut.last };
+              within = steps_cite p set steps (λ k. first_database f p) (λ k id d is.
+                  let found = is_first f p id d is in
+                  λ owner_of owns. absurd (let no : owners.Formula ≡ owners.Stream owner_of =
+                  sym (formula_owned p id found.positive (omega (arith, found.within, fits.clauses))) ∙ owns in cc)) members order.right t;
+            });
+      }
+
+  pub right_together : NoFalseBlame → RightTogether
+  unfolding its_report
+  right_together law f terms set steps told reports s telling report cnf fits order members r texts member here entry says memory failure =
       let n = terms.layout.streams in
-      let legal : IsLegal f p all.history = record { events = all.legal; room = λ t. (all.each t).room } in
-      let judged : AreJudgedIn terms set all.history 1 (each_from n 1 streams) (each_from n 1 said) =
-      each_judged terms set all.history n 1 streams said (λ t.
-      let its = all.each t in (
-        its.more,
-        its.events,
-        judged_out (setting_of terms t) (flat_map line_text (lines_by t steps)) [] stream_ends.Ended its.more (said t)
-            (ended_report ends empty_cut one_cut terms t (lines_by t steps) its.more its.holding its.pending (lines_limits steps t order.fits) its.leaves),
-      )) in
-      let ended : AllEnded set (each_from n 1 said) = λ t x m at. ap (λ (y : Report). y.ending) (sym (at_stream n t said x at)) in
-      let closed : IsClosed p set (each_from n 1 streams) = λ t x m at.
-      subst (λ (y : Stream). CiteWithin p set y.bytes) (at_stream n t streams x at) (record {
-        lines = lines_by t steps;
-        rest = [];
-        cut = record { bytes = sym (append-nil (flat_map line_text (lines_by t steps))); each = lines_limits steps t order.fits; last = empty_cut.last };
-        within = steps_cite p set steps (λ k. first_database f p) (λ k id d is.
-            let found = is_first f p id d is in
-            λ owner_of owns. absurd (let no : owners.Formula ≡ owners.Stream owner_of =
-            sym (formula_owned p id found.positive (omega (arith, found.within, fits.clauses))) ∙ owns in cc)) members order.right t;
-      }) in
-      let bytes : HaveBytesOf set (each_from n 1 streams) told = λ t x telling m at here.
-      texts t telling m here ∙ ap (λ (y : Stream). Some y.bytes) (at_stream n t streams x at) in
-      let within = slice_get_within reports (s - 1) report says.1 in
-      let many = judged_count terms (λ t. true) r.history 1 r.streams reports r.judged in
-      let first_place = says.0 in
-      let below : s - 1 < n = omega (arith, within, many, r.count, first_place) in
-      let place : 1 + (s - 1) ≡ s = omega (arith, first_place) in
-      let its_report : IsOfStream (each_from n 1 said) s (said s) = (first_place, each_get n 1 (s - 1) said below ∙ ap (λ (j : ℕ). Some (said j)) place) in
-      law f terms set all.history (each_from n 1 streams) (each_from n 1 said) told reports s (said s) report fits (each_count n 1 streams)
-      legal judged ended closed r bytes member its_report says memory failure
+      let j : AreJudgedTogether f terms set steps = judged_together f terms set steps cnf fits order members in
+      let place = report_place f terms told reports r s report says in
+      law f terms set j.history (each_from n 1 (text_stream steps)) (each_from n 1 (its_report terms steps)) told reports s
+      (text_stream steps s) telling (its_report terms steps s) report fits (each_count n 1 (text_stream steps))
+      j.legal j.judged j.closed member (each_place n s (text_stream steps) place.0 place.1) (each_place n s (its_report terms steps) place.0 place.1) refl
+      r (have_bytes terms.layout set steps told texts) here entry says memory failure
+
+  pub together_begins : OneFirstLine → RefusedStays → CitedFetched → TogetherBegins
+  unfolding its_report
+  together_begins first refused cited f terms set steps told reports s report cnf fits order members r texts member says =
+      let n = terms.layout.streams in
+      let c = setting_of terms s in
+      let j : AreJudgedTogether f terms set steps = judged_together f terms set steps cnf fits order members in
+      let place = report_place f terms told reports r s report says in
+      let on = tells_on good first refused cited f terms set j.history (each_from n 1 (text_stream steps)) (each_from n 1 (its_report terms steps)) told reports
+      fits (each_count n 1 (text_stream steps)) j.legal j.judged j.closed r (have_bytes terms.layout set steps told texts)
+      s (its_report terms steps s) report member (each_place n s (its_report terms steps) place.0 place.1) refl says in
+      let whole = flat_map line_text (lines_by s steps) in
+      let bytes : whole ≡ flat_map line_text on.lines = ap (λ (x : Stream). x.bytes) (at_stream n s (text_stream steps) on.stream on.at) ∙ on.text in
+      let same : on.lines ≡ lines_by s steps = (one_cut whole on.lines (lines_by s steps) [] []
+      (record { bytes = bytes ∙ sym (append-nil (flat_map line_text on.lines)); each = on.limits; last = empty_cut.last })
+      (record { bytes = sym (append-nil whole); each = lines_limits steps s order.fits; last = empty_cut.last })).0 in
+      subst (λ (ls : List StreamLine). TellsAtLeast report (right_report terms s (lines_by s steps)) ⊎ (IsCutOffIn (length ls) report ⊎ LacksOfAnotherIn c (length ls) report))
+      same on.tells

@@ -90,7 +90,7 @@ HaveReportsAlone f terms told Judged reports =
 abbrev pub empty_stream : Stream
 empty_stream = record { bytes = []; unneeded = []; end = Some stream_ends.Ended }
 
--- what is said of them
+-- the report of a stream without bytes
 abbrev pub empty_report : Report
 empty_report = record {
   added = 0;
@@ -107,8 +107,8 @@ with_others set x s (y ∷ ys) = (if set s then y else x) ∷ with_others set x 
 
 -- Two runs
 
--- What a run promises of its reports, by its clauses `history` and `reports`, or on one thread by `ordered`: the readers told streams, as many as the layout has, and one
--- legal history judges each by its own events, as its report says.
+-- What a run promises of its reports, by its clauses `history` and `reports`, or on one thread by `ordered` and the law `SerialRun`: the
+-- readers told streams, as many as the layout has, and one legal history judges each by its own events, as its report says.
 pub record IsRun (f : Cnf) (terms : TermsValue) (told : List Telling)
     (reports : List Report) : Type 0 where
   pub streams : List Stream

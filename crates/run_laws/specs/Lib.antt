@@ -10,3 +10,4 @@ pub mod Right
 pub mod RightLaws
 pub mod Blame
 pub mod Together
+pub mod TurnsLaws

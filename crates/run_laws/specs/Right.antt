@@ -1,7 +1,8 @@
--- Right streams: what a stream has to write that cites only its own clauses and the formula's. The lines are replayed over a
--- database of clauses, as LRAT proofs are (Cruz-Filipe et al., CADE 2017); identities by residue, room and imports are this
--- project's own. All is read off the lines: there is no map here, no event and no checker.
-use Rattle.std.specs.Prelude.{◌≡◌, ◌↔◌, ◌≤◌, ◌<◌, ◌-◌, ◌==◌, ◌&&◌, ℕ, ℤ, nat_abs, nat_lt, nat_le, false, List, [], ◌∷◌, length, Option, None, Some, IsSome, if◌then◌else◌}
+-- Right streams: what a stream that cites only its own clauses and the formula's has to write. The lines are replayed over a
+-- database of clauses, as LRAT proofs are (Cruz-Filipe et al., CADE 2017), without RAT. This project's own are identities by
+-- residue, each above those before it, room and imports; and that no hint comes after the conflict, and nothing is deleted that
+-- isn't there. All is read off the lines: there is no history here, and no checker.
+use Rattle.std.specs.Prelude.{◌≡◌, ◌⊎◌, ◌↔◌, ◌≤◌, ◌<◌, ◌-◌, ◌==◌, ◌&&◌, ◌++◌, ℕ, ℤ, nat_abs, nat_lt, nat_le, false, IsTrue, List, [], ◌∷◌, length, Option, None, Some, IsSome, if◌then◌else◌}
 use Rattle.std.specs.List.{AllByRecursion, AllZip, Any, flat_map}
 use Rattle.lrup_model.specs.Clause.{Clause, Has}
 use Rattle.lrup_model.specs.Distinct.{distinct}
@@ -15,8 +16,8 @@ use Rattle.stream_check.specs.Standing.{is_among}
 use Rattle.stream_check.specs.Judging.{report_of}
 use Rattle.runs.specs.Streams.{TermsValue, setting_of}
 
--- What the lines so far leave: the clauses that may be cited and deleted, by identity; the greatest identity that was added; and
--- the room that is left, in literals.
+-- What the lines so far leave: the clauses that may be cited, imported and deleted, by identity; the greatest identity that was
+-- added, or the formula's last one; and the room that is left, in literals.
 pub record Database : Type 0 where
   pub clauses : ℕ → Option Clause
   pub last : ℕ
@@ -96,18 +97,41 @@ pub record IsRightStream (f : Cnf) (p : LayoutValue) (s : ℕ) (bytes : List ℕ
   pub fits : AllByRecursion IsWithinLimits lines
   pub right : AreRight p s (first_database f p) lines
 
+-- The bytes begin with a right stream s, by these lines: with the lines' texts, and each line is right. Nothing is asked of what
+-- comes behind them.
+pub record IsRightBeginning (f : Cnf) (p : LayoutValue) (s : ℕ) (bytes : List ℕ)
+    (lines : List StreamLine) : Type 0 where
+  pub more : List ℕ
+  pub text : bytes ≡ flat_map line_text lines ++ more
+  pub fits : AllByRecursion IsWithinLimits lines
+  pub right : AreRight p s (first_database f p) lines
+
 -- the line adds the empty clause
 abbrev pub AddsEmpty : StreamLine → Type 0
 AddsEmpty (Addition id lits hints) = lits ≡ []
 AddsEmpty (Deletion lead ids) = ⊥
 AddsEmpty (Import id lits) = ⊥
 
--- The bytes are a right refutation of the formula, as stream s: a right stream, of which some line adds the empty clause.
+-- The bytes are a right refutation of the formula, as stream s: they begin with right lines, one of which adds the empty clause. What
+-- comes behind these lines may be anything.
 pub record IsRightRefutation (f : Cnf) (p : LayoutValue) (s : ℕ) (bytes : List ℕ) : Type 0 where
   pub lines : List StreamLine
-  pub right : IsRightStream f p s bytes lines
+  pub right : IsRightBeginning f p s bytes lines
   pub empty : Any AddsEmpty lines
 
--- The report of a right stream: that it ended, and what was added and deleted, as counted off the lines.
+-- The report of a right stream: that it ended; what was added and deleted, as counted off the lines; and whether a line adds the
+-- empty clause, or one within the cube.
 abbrev pub right_report : TermsValue → ℕ → List StreamLine → Report
 right_report terms s lines = report_of (setting_of terms s) lines 0 endings.Ended
+
+-- the report tells at least what the other does, whatever its ending is
+pub record TellsAtLeast (report least : Report) : Type 0 where
+  pub added : least.added ≤ report.added
+  pub deleted : least.deleted ≤ report.deleted
+  pub empty : IsTrue least.empty → IsTrue report.empty
+  pub within : IsTrue least.within → IsTrue report.within
+
+-- memory ran out, or a read failed, in one of the first lines, so many
+abbrev pub IsCutOffIn : ℕ → Report → Type 0
+IsCutOffIn count report = (line : ℕ) × (line ≤ count)
+    × ((report.ending ≡ endings.Memory line) ⊎ (report.ending ≡ endings.ReadFailed line))

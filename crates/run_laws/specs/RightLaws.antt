@@ -1,5 +1,5 @@
 -- Laws of right streams. Each is the contract of a function of laws.
-use Rattle.std.specs.Prelude.{◌≡◌, ◌↔◌, ℕ, Bool, IsTrue, List, length, Some}
+use Rattle.std.specs.Prelude.{◌≡◌, ◌⊎◌, ◌↔◌, ℕ, Bool, IsTrue, List, length, Some}
 use Rattle.std.specs.List.{AllByRecursion, Any, sum_by}
 use Rattle.lrup_model.specs.Formula.{Cnf, IsCnf}
 use Rattle.lrup_model.specs.Layout.{LayoutValue, IsLayout, Fits, IsStream}
@@ -12,9 +12,9 @@ use Rattle.stream_check.specs.Standing.{deleted_by}
 use Rattle.runs.specs.Closed.{IsOfStream, IsOwnedWithin, CiteWithin}
 use Rattle.runs.specs.Streams.{Telling, TermsValue}
 use Rattle.run_laws.specs.Groups.{one, IsReportAlone, IsRun}
-use Rattle.run_laws.specs.Right.{AddsEmpty, IsRightStream, right_report}
+use Rattle.run_laws.specs.Right.{AddsEmpty, IsCutOffIn, IsRightBeginning, IsRightStream, TellsAtLeast, right_report}
 
--- a right stream cites and imports only its own clauses and the formula's
+-- a right stream cites and imports no clause of another stream
 abbrev pub RightCiteWithin : Type 0
 RightCiteWithin = (f : Cnf) (p : LayoutValue) (s : ℕ) (bytes : List ℕ) (lines : List StreamLine)
     → Fits p f → IsRightStream f p s bytes lines → CiteWithin p (one s) bytes
@@ -26,7 +26,7 @@ RightAccepted = (f : Cnf) (terms : TermsValue) (s : ℕ) (bytes : List ℕ) (lin
     → IsRightStream f terms.layout s bytes lines
     → IsReportAlone f terms s bytes stream_ends.Ended (right_report terms s lines)
 
--- and no other
+-- Alone, a right stream has no other report.
 abbrev pub RightHasOneReport : Type 0
 RightHasOneReport = (f : Cnf) (terms : TermsValue) (s : ℕ) (bytes : List ℕ)
     (lines : List StreamLine) (report : Report)
@@ -34,8 +34,8 @@ RightHasOneReport = (f : Cnf) (terms : TermsValue) (s : ℕ) (bytes : List ℕ)
     → IsRightStream f terms.layout s bytes lines
     → IsReportAlone f terms s bytes stream_ends.Ended report → report ≡ right_report terms s lines
 
--- So in every run it has this report, unless memory ran out or a read failed: whatever the other streams are, and however the
--- threads ran.
+-- A right stream has this report in every run in which its reader has these bytes, unless memory ran out or a read failed: whatever
+-- the other streams are, and however the threads ran.
 abbrev pub RightReported : Type 0
 RightReported = (f : Cnf) (terms : TermsValue) (s : ℕ) (bytes : List ℕ) (lines : List StreamLine)
     (told : List Telling) (telling : Telling) (reports : List Report) (report : Report)
@@ -45,7 +45,18 @@ RightReported = (f : Cnf) (terms : TermsValue) (s : ℕ) (bytes : List ℕ) (lin
     → IsOfStream reports s report → ¬ IsOfMemory report → ¬ IsOfFailure report
     → report ≡ right_report terms s lines
 
--- of the deleted identities all are counted: 64 bits show them
+-- Where the bytes only begin with a right stream, the report tells at least what these lines do, whatever comes behind them; unless
+-- memory ran out, or a read failed, in these lines.
+abbrev pub RightBegins : Type 0
+RightBegins = (f : Cnf) (terms : TermsValue) (s : ℕ) (bytes : List ℕ) (lines : List StreamLine)
+    (told : List Telling) (telling : Telling) (reports : List Report) (report : Report)
+    → IsCnf f → Fits terms.layout f → IsStream terms.layout s
+    → IsRightBeginning f terms.layout s bytes lines
+    → IsRun f terms told reports → IsOfStream told s telling → telling.entry ≡ Some bytes
+    → IsOfStream reports s report
+    → TellsAtLeast report (right_report terms s lines) ⊎ IsCutOffIn (length lines) report
+
+-- A right stream's count of deletions is that of all identities that its lines delete: 64 bits suffice for it
 abbrev pub RightCounted : Type 0
 RightCounted = (f : Cnf) (terms : TermsValue) (s : ℕ) (bytes : List ℕ) (lines : List StreamLine)
     → IsCnf f → IsLayout terms.layout → Fits terms.layout f → IsStream terms.layout s
@@ -59,8 +70,8 @@ pub record DeleteWithin (p : LayoutValue) (set : ℕ → Bool) (bytes : List ℕ
   pub cut : Cut bytes lines rest
   pub within : AllByRecursion (λ line. AllByRecursion (IsOwnedWithin p set) (deleted_by line)) lines
 
--- And no other streams end so: one that cites, imports and deletes only its own clauses and the formula's is right if it may have,
--- alone, a report that it ended.
+-- Conversely, a stream that cites, imports and deletes only its own clauses and the formula's is right if it may have, alone, a
+-- report that it ended. (One that deletes what another stream never had may end too, and isn't right.)
 abbrev pub EndedIsRight : Type 0
 EndedIsRight = (f : Cnf) (terms : TermsValue) (s : ℕ) (bytes : List ℕ) (report : Report)
     → Fits terms.layout f

@@ -1,6 +1,7 @@
 -- Right streams that cite one another: lines of several streams, in some order, each of which is right by what the lines before it
--- leave to its stream; and the law that they aren't blamed (this project's own).
-use Rattle.std.specs.Prelude.{◌≡◌, ◌⊎◌, ◌==◌, ◌&&◌, ℕ, Bool, false, IsTrue, List, [], ◌∷◌, None, Some, if◌then◌else◌}
+-- leave to its stream; and the law that they aren't blamed (this project's own). Some good lines have no such order: a checker
+-- also takes the deletion of another stream's clause that its owner has deleted already (the law `NoFalseBlame` speaks of those).
+use Rattle.std.specs.Prelude.{◌≡◌, ◌⊎◌, ◌==◌, ◌&&◌, ◌++◌, ℕ, Bool, false, IsTrue, List, [], ◌∷◌, length, None, Some, if◌then◌else◌}
 use Rattle.std.specs.List.{AllByRecursion, flat_map}
 use Rattle.lrup_model.specs.Distinct.{distinct}
 use Rattle.lrup_model.specs.Formula.{Cnf, IsCnf}
@@ -12,9 +13,9 @@ use Rattle.stream_check.specs.Laws.{IsOfMemory, IsOfFailure}
 use Rattle.stream_check.specs.Standing.{is_among}
 use Rattle.runs.specs.Closed.{IsOfStream}
 use Rattle.runs.specs.Streams.{Telling, TermsValue, setting_of}
-use Rattle.run_laws.specs.Blame.{LacksOfAnother}
+use Rattle.run_laws.specs.Blame.{LacksOfAnother, LacksOfAnotherIn}
 use Rattle.run_laws.specs.Groups.{IsRun}
-use Rattle.run_laws.specs.Right.{Database, first_database, after_line, IsRightLine, right_report}
+use Rattle.run_laws.specs.Right.{Database, first_database, after_line, IsRightLine, right_report, IsCutOffIn, TellsAtLeast}
 
 -- a line, and the stream, from 1 on, whose line it is
 pub record Step : Type 0 where
@@ -70,22 +71,37 @@ pub record IsRightOrder (f : Cnf) (p : LayoutValue) (steps : List Step) : Type 0
   pub fits : AllByRecursion (λ step. IsWithinLimits step.line) steps
   pub right : AreRightTogether p (λ t. first_database f p) steps
 
--- the readers of the set have the texts of its streams' lines left at first, and nothing else
+-- the readers of the set have the texts of its streams' lines left at first, and maybe more behind them
 abbrev pub HaveTexts : (ℕ → Bool) → List Step → List Telling → Type 0
 HaveTexts set steps told =
     (t : ℕ) (telling : Telling) → IsTrue (set t) → IsOfStream told t telling
-    → telling.entry ≡ Some (flat_map line_text (lines_by t steps))
+    → (more : List ℕ)
+    × (telling.entry ≡ Some (flat_map line_text (lines_by t steps) ++ more))
 
--- Where lines of a set of streams have a right order, then in every run of these streams each ended, as its right report says; or
--- memory ran out, or a read failed; or a line of it cites a clause of another stream that wasn't there, or wasn't any more. Whatever
--- the streams outside the set are.
-abbrev pub RightTogether : Type 0
-RightTogether = (f : Cnf) (terms : TermsValue) (set : ℕ → Bool) (steps : List Step)
+-- Where lines of a set of streams have a right order, then in every run of these streams the report of each tells at least what its
+-- lines do; or memory ran out, or a read failed, in these lines; or one of them cites a clause of another stream that wasn't there,
+-- or wasn't any more. That is so whatever the streams outside the set are, and whatever comes behind the lines.
+abbrev pub TogetherBegins : Type 0
+TogetherBegins = (f : Cnf) (terms : TermsValue) (set : ℕ → Bool) (steps : List Step)
     (told : List Telling) (reports : List Report) (s : ℕ) (report : Report)
     → IsCnf f → Fits terms.layout f → IsRightOrder f terms.layout steps
     → AllByRecursion (λ step. IsTrue (set step.stream)) steps
     → IsRun f terms told reports → HaveTexts set steps told
     → IsTrue (set s) → IsOfStream reports s report
-    → ¬ IsOfMemory report → ¬ IsOfFailure report
+    → TellsAtLeast report (right_report terms s (lines_by s steps))
+    ⊎ (IsCutOffIn (length (lines_by s steps)) report
+    ⊎ LacksOfAnotherIn (setting_of terms s) (length (lines_by s steps)) report)
+
+-- Where nothing comes behind a stream's lines, it ended, as its right report says; or memory ran out, or a read failed; or a line of
+-- it cites a clause of another stream that wasn't there, or wasn't any more.
+abbrev pub RightTogether : Type 0
+RightTogether = (f : Cnf) (terms : TermsValue) (set : ℕ → Bool) (steps : List Step)
+    (told : List Telling) (reports : List Report) (s : ℕ) (telling : Telling) (report : Report)
+    → IsCnf f → Fits terms.layout f → IsRightOrder f terms.layout steps
+    → AllByRecursion (λ step. IsTrue (set step.stream)) steps
+    → IsRun f terms told reports → HaveTexts set steps told
+    → IsTrue (set s) → IsOfStream told s telling
+    → telling.entry ≡ Some (flat_map line_text (lines_by s steps))
+    → IsOfStream reports s report → ¬ IsOfMemory report → ¬ IsOfFailure report
     → (report ≡ right_report terms s (lines_by s steps))
     ⊎ LacksOfAnother (setting_of terms s) report

@@ -6,3 +6,4 @@
 pub mod groups;
 pub mod orders;
 pub mod right;
+pub mod turns;

@@ -1,9 +1,9 @@
 //! Laws of right streams. Each function does nothing; its contract is the law, which holds of every formula, layout, stream and run.
 ghost use Rattle.run_laws.specs.Blame.{NoFalseBlame};
-ghost use Rattle.run_laws.specs.Together.{RightTogether};
-ghost use Rattle.run_laws.specs.RightLaws.{RightCiteWithin, RightAccepted, RightHasOneReport, RightReported, RightCounted, EndedIsRight, RightEmpty};
+ghost use Rattle.run_laws.specs.Together.{RightTogether, TogetherBegins};
+ghost use Rattle.run_laws.specs.RightLaws.{RightCiteWithin, RightAccepted, RightHasOneReport, RightReported, RightBegins, RightCounted, EndedIsRight, RightEmpty};
 
-use crate::groups::{alone_has_one_report, beginnings_within, closed_is_group, readers_closed};
+use crate::groups::{alone_has_one_report, beginnings_within, closed_is_group};
 use lrup_model::laws::propagation_sound;
 use lrup_text::laws::{
     a_refused_text_holds_no_line, a_stream_is_cut_in_one_way, a_text_has_one_fault,
@@ -60,7 +60,23 @@ pub fn right_reported()
     decided_before_failure();
 }
 
-/// Of the identities that a right stream deletes all are counted.
+/// In every run the report of a stream that begins with right lines tells at least what these do, whatever comes behind them;
+/// unless memory ran out, or a read failed, in these lines.
+pub fn right_begins()
+    ensures { RightBegins }
+{
+    good_exactly_if();
+    propagation_sound();
+    good_line_taken();
+    fresh_left();
+    end_judged();
+    no_bytes_have_no_lines();
+    a_stream_is_cut_in_one_way();
+    bytes_begin_with_one_line();
+    a_refused_text_holds_no_line();
+}
+
+/// All identities that a right stream deletes are counted.
 pub fn right_counted()
     ensures { RightCounted }
 {
@@ -89,9 +105,9 @@ pub fn right_empty()
     ensures { RightEmpty }
 {}
 
-/// Where some legal history judges a closed set of streams, all of which ended, each has the same report in every run of the same
-/// bytes, unless memory ran out or a read failed; or a line of it cites a clause of another stream that wasn't there, or wasn't any
-/// more.
+/// Where some legal history judges a closed set of streams, and one of them ended there, it has the same report in every run in which
+/// its reader has the same bytes, and the set's other readers have at least theirs, unless memory ran out or a read failed; or a line
+/// of it cites a clause of another stream that wasn't there, or wasn't any more.
 pub fn no_false_blame()
     ensures { NoFalseBlame }
 {
@@ -101,12 +117,28 @@ pub fn no_false_blame()
     a_text_has_one_fault();
     no_bytes_may_become_a_line();
     cited_fetched();
-    decided_before_failure();
-    readers_closed();
 }
 
-/// Where lines of a set of streams have a right order, each stream of the set ended in every run, as its right report says, unless
-/// memory ran out or a read failed; or a line of it cites a clause of another stream that wasn't there, or wasn't any more.
+/// Where lines of a set of streams have a right order, the report of each tells at least what its lines do, in every run in which the
+/// readers begin with them, unless memory ran out, or a read failed, in these lines; or one of them cites a clause of another stream
+/// that wasn't there, or wasn't any more.
+pub fn together_begins()
+    ensures { TogetherBegins }
+{
+    good_exactly_if();
+    propagation_sound();
+    good_line_taken();
+    fresh_left();
+    end_judged();
+    no_bytes_have_no_lines();
+    a_stream_is_cut_in_one_way();
+    bytes_begin_with_one_line();
+    a_refused_text_holds_no_line();
+    cited_fetched();
+}
+
+/// Where nothing comes behind a stream's lines, it ended, as its right report says, unless memory ran out or a read failed; or a line
+/// of it cites a clause of another stream that wasn't there, or wasn't any more.
 pub fn right_together()
     ensures { RightTogether }
 {

@@ -1,13 +1,19 @@
 -- Lemmas for the worked example.
-use Rattle.std.proofs.Common.{◌≡◌, pos, negsuc, List, [], ◌∷◌, Some, refl, sym, subst, inl, inr}
-use Rattle.std.specs.List.{AllZip}
-use Rattle.lrup_model.specs.Clause.{Clause, Has}
+use Rattle.std.proofs.Common.{◌≡◌, ◌<◌, ℕ, zero, suc, pos, negsuc, List, [], ◌∷◌, ◌++◌, append_assoc, Some, refl, sym, ap, ◌∙◌, subst, inl, inr, arith}
+use Rattle.std.specs.Prelude.{neg_ℤ, codes, slice_index_or}
+use Rattle.std.specs.Fmt.{digits}
+use Rattle.std.specs.List.{AllByRecursion, AllZip, Any, flat_map}
+use Rattle.lrup_model.specs.Clause.{Clause, Has, IsTautology}
+use Rattle.lrup_model.specs.Formula.{IsCnf}
 use Rattle.lrup_model.specs.Propagation.{Accepts, IsConflict, IsUnit}
-use Rattle.run_laws.specs.Right.{IsRightImport}
+use Rattle.lrup_text.specs.Laws.{EmptyPending, OneFirstLine}
+use Rattle.lrup_text.specs.Lines.{StreamLine, Addition, IsWithinLimits, line_text}
+use Rattle.run_laws.specs.Right.{AddsEmpty, IsRightBeginning, IsRightImport, IsRightRefutation, IsRightStream}
+use Rattle.run_laws.specs.Together.{IsRightOrder}
 use Rattle.lrup_model.specs.Layout.{Owns}
 use Rattle.lrup_model.specs.declared.layout.Owner.TheVariants as owners
-use Rattle.run_laws_tests.specs.Worked.{at_first, one_stream}
-use Rattle.test_support.specs.Worked.{first, second, third, fourth, unit}
+use Rattle.run_laws_tests.specs.Worked.{at_first, one_stream, two_streams, refutation, shared}
+use Rattle.test_support.specs.Worked.{four, first, second, third, fourth, unit}
 use Rattle.test_support.specs.WorkedLemmas.{two_not_one, signs, unit_is_proper, first_is_unit, second_is_conflict, swapped}
 
 pub unit_is_shown : Accepts unit (first ∷ second ∷ [])
@@ -53,6 +59,17 @@ fourth_is_conflict = swapped (negsuc 0) (negsuc 1)
 pub empty_is_shown : Accepts [] (unit ∷ third ∷ fourth ∷ [])
 empty_is_shown = ((λ t. t.1), (pos 2, unit_is_unit, (pos 1, third_is_unit, fourth_is_conflict)))
 
+-- The negative unit clause
+
+pub negated_is_proper : IsTautology (negsuc 1 ∷ []) → ⊥
+negated_is_proper t = elim t.1 [
+  | inl here ↦ elim t.2 [ inl beside ↦ signs 2 1 (ap neg_ℤ here ∙ sym beside) | inr none ↦ none ]
+  | inr none ↦ none
+]
+
+pub negated_is_shown : Accepts (negsuc 1 ∷ []) (third ∷ fourth ∷ [])
+negated_is_shown = (negated_is_proper, (pos 1, third_is_unit, fourth_is_conflict))
+
 -- Lines that aren't right
 
 pub one_is_no_conflict : (ds : List Clause) → AllZip (λ h d. at_first.clauses h ≡ Some d) (1 ∷ []) ds → Accepts unit ds → ⊥
@@ -72,3 +89,150 @@ unit_differs right =
 -- 1 is the formula's, and no stream's own
 pub one_is_the_formulas : Owns one_stream 1 1 → ⊥
 one_is_the_formulas owns = let no : owners.Formula ≡ owners.Stream 1 = owns in cc
+
+pub no_minus_one : IsRightImport one_stream 1 at_first 1 (pos 1 ∷ pos 2 ∷ negsuc 0 ∷ []) → ⊥
+no_minus_one right =
+    let same : first ≡ right.clause = let is : Some first ≡ Some right.clause = right.there in cc in
+    let has : Has first (negsuc 0) = subst (λ (x : Clause). Has x (negsuc 0)) (sym same) ((right.same (negsuc 0)).1 (inr (inr (inl refl)))) in
+    elim has [ inl e ↦ signs 1 0 e | inr more ↦ elim more [ inl e ↦ signs 2 0 e | inr none ↦ none ] ]
+
+-- the first line of the refutation adds a literal
+pub adds_no_empty : (k : ℕ) (line : StreamLine) → k < 1 → slice_index_or (Addition 5 unit (1 ∷ 2 ∷ []) ∷ []) k line ≡ line → AddsEmpty line → ⊥
+adds_no_empty zero line within at empty = let none : unit ≡ [] = subst AddsEmpty (sym at) empty in cc
+adds_no_empty (suc k) line within at empty = omega (arith, within)
+
+-- Whole streams
+
+pub four_is_cnf : IsCnf four
+four_is_cnf = record {
+  vars = omega arith;
+  count = omega arith;
+  clauses = (
+    (record { literals = ((omega arith, omega arith), ((omega arith, omega arith), tt)); each_once = ((λ h. elim h [ inl e ↦ two_not_one e | inr none ↦ none ]), ((λ h. h), tt)) }, omega arith),
+    (
+      (record { literals = ((omega arith, omega arith), ((omega arith, omega arith), tt)); each_once = ((λ h. elim h [ inl e ↦ signs 2 0 e | inr none ↦ none ]), ((λ h. h), tt)) }, omega arith),
+      (
+        (record { literals = ((omega arith, omega arith), ((omega arith, omega arith), tt)); each_once = ((λ h. elim h [ inl e ↦ signs 1 1 (sym e) | inr none ↦ none ]), ((λ h. h), tt)) }, omega arith),
+        (
+          (record { literals = ((omega arith, omega arith), ((omega arith, omega arith), tt)); each_once = ((λ h. elim h [ inl e ↦ (let no : negsuc 1 ≡ negsuc 0 = e in cc) | inr none ↦ none ]), ((λ h. h), tt)) }, omega arith),
+          tt,
+        ),
+      ),
+    ),
+  );
+}
+
+pub refutation_is_right : IsRightStream four one_stream 1 (codes "5 2 0 1 2 0\n6 0 5 3 4 0\n") refutation
+unfolding digits
+refutation_is_right = record {
+  text = refl;
+  fits = (
+    ((omega arith, omega arith), record { count = omega arith; each = ((omega arith, omega arith), tt) }, record { count = omega arith; each = ((omega arith, omega arith), ((omega arith, omega arith), tt)) }),
+    (
+      ((omega arith, omega arith), record { count = omega arith; each = tt }, record { count = omega arith; each = ((omega arith, omega arith), ((omega arith, omega arith), ((omega arith, omega arith), tt))) }),
+      tt,
+    ),
+  );
+  right = (
+    record {
+      owns = refl;
+      above = omega arith;
+      literals = (omega arith, tt);
+      room = omega arith;
+      hinted = first ∷ second ∷ [];
+      named = (refl, (refl, tt));
+      shown = unit_is_shown;
+    },
+    (
+      record {
+        owns = refl;
+        above = omega arith;
+        literals = tt;
+        room = omega arith;
+        hinted = unit ∷ third ∷ fourth ∷ [];
+        named = (refl, (refl, (refl, tt)));
+        shown = empty_is_shown;
+      },
+      tt,
+    ),
+  );
+}
+
+-- whatever comes behind it
+pub refutation_begins : (more : List ℕ) → IsRightBeginning four one_stream 1 (codes "5 2 0 1 2 0\n6 0 5 3 4 0\n" ++ more) refutation
+refutation_begins more = record {
+  more = more;
+  text = ap (λ (bytes : List ℕ). bytes ++ more) refutation_is_right.text;
+  fits = refutation_is_right.fits;
+  right = refutation_is_right.right;
+}
+
+pub begins_and_refutes : (more : List ℕ) → IsRightRefutation four one_stream 1 (codes "5 2 0 1 2 0\n6 0 5 3 4 0\n" ++ more)
+begins_and_refutes more = record {
+  lines = refutation;
+  right = refutation_begins more;
+  empty = (1, Addition 6 [] (5 ∷ 3 ∷ 4 ∷ []), omega arith, refl, refl);
+}
+
+-- bytes that begin with the first line alone begin with no line that adds the empty clause
+pub no_empty_begins : OneFirstLine → EmptyPending → (lines : List StreamLine) (more : List ℕ) → AllByRecursion IsWithinLimits lines
+    → codes "5 2 0 1 2 0\n" ≡ flat_map line_text lines ++ more → Any AddsEmpty lines → ⊥
+unfolding digits
+no_empty_begins first empty [] more fits is some = omega (arith, some.2)
+no_empty_begins first empty (line ∷ []) more fits is some =
+    let known = Addition 5 unit (1 ∷ 2 ∷ []) in
+    let same = first known line [] (flat_map line_text [] ++ more)
+    ((omega arith, omega arith), record { count = omega arith; each = ((omega arith, omega arith), tt) }, record { count = omega arith; each = ((omega arith, omega arith), ((omega arith, omega arith), tt)) })
+    fits.0 (is ∙ append_assoc (line_text line) [] more) in
+    let only : Any AddsEmpty (known ∷ []) = subst (λ (l : StreamLine). Any AddsEmpty (l ∷ [])) (sym same.0) some in
+    adds_no_empty only.0 only.1 only.2 only.3 only.4
+no_empty_begins first empty (line ∷ other ∷ lines) more fits is some =
+    let known = Addition 5 unit (1 ∷ 2 ∷ []) in
+    let same = first known line [] (flat_map line_text (other ∷ lines) ++ more)
+    ((omega arith, omega arith), record { count = omega arith; each = ((omega arith, omega arith), tt) }, record { count = omega arith; each = ((omega arith, omega arith), ((omega arith, omega arith), tt)) })
+    fits.0 (is ∙ append_assoc (line_text line) (flat_map line_text (other ∷ lines)) more) in
+    empty.whole other (flat_map line_text lines ++ more) fits.1.0 (same.1 ∙ append_assoc (line_text other) (flat_map line_text lines) more)
+
+five_is_the_first_stream's : Owns two_streams 2 5 → ⊥
+five_is_the_first_stream's owns = let no : owners.Stream 1 ≡ owners.Stream 2 = owns in cc
+
+pub shared_is_right : IsRightOrder four two_streams shared
+shared_is_right = record {
+  streams = ((omega arith, omega arith), ((omega arith, omega arith), ((omega arith, omega arith), ((omega arith, omega arith), tt))));
+  fits = (
+    ((omega arith, omega arith), record { count = omega arith; each = ((omega arith, omega arith), tt) }, record { count = omega arith; each = ((omega arith, omega arith), ((omega arith, omega arith), tt)) }),
+    (
+      ((omega arith, omega arith), record { count = omega arith; each = ((omega arith, omega arith), tt) }),
+      (
+        ((omega arith, omega arith), record { count = omega arith; each = tt }, record { count = omega arith; each = ((omega arith, omega arith), ((omega arith, omega arith), ((omega arith, omega arith), tt))) }),
+        (((omega arith, omega arith), record { count = omega arith; each = ((omega arith, omega arith), tt) }), tt),
+      ),
+    ),
+  );
+  right = (
+    record {
+      owns = refl;
+      above = omega arith;
+      literals = (omega arith, tt);
+      room = omega arith;
+      hinted = first ∷ second ∷ [];
+      named = (refl, (refl, tt));
+      shown = unit_is_shown;
+    },
+    (
+      record { other = five_is_the_first_stream's; clause = unit; there = refl; same = λ l. ((λ h. h), (λ h. h)) },
+      (
+        record {
+          owns = refl;
+          above = omega arith;
+          literals = tt;
+          room = omega arith;
+          hinted = unit ∷ third ∷ fourth ∷ [];
+          named = (refl, (refl, (refl, tt)));
+          shown = empty_is_shown;
+        },
+        (record { there = (refl, tt); once = (refl, tt) }, tt),
+      ),
+    ),
+  );
+}

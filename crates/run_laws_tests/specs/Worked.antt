@@ -1,10 +1,18 @@
 -- The worked example: four clauses over two variables, and room for one literal a stream. One stream with two identities, 5 and 6, or
 -- two streams, of which the first has 5 and 7.
-use Rattle.std.specs.Prelude.{[], ◌∷◌, List}
+use Rattle.std.specs.Prelude.{◌≡◌, ◌⊎◌, ◌≤◌, ◌++◌, ℕ, true, false, pos, negsuc, [], ◌∷◌, List, Some, codes}
+use Rattle.lrup_model.specs.Cube.{CubeValue}
 use Rattle.lrup_model.specs.Layout.{LayoutValue}
 use Rattle.lrup_text.specs.Lines.{StreamLine, Addition, Deletion, Import}
-use Rattle.run_laws.specs.Right.{Database, first_database, after_line}
-use Rattle.run_laws.specs.Together.{Step}
+use Rattle.stream_check.specs.declared.report.Ending.TheVariants as endings
+use Rattle.stream_check.specs.declared.report.Report.{Report}
+use Rattle.stream_check.specs.Laws.{IsOfMemory, IsOfFailure}
+use Rattle.runs.specs.Closed.{IsOfStream}
+use Rattle.runs.specs.Streams.{Telling, TermsValue, setting_of}
+use Rattle.run_laws.specs.Blame.{LacksOfAnother}
+use Rattle.run_laws.specs.Groups.{IsRun}
+use Rattle.run_laws.specs.Right.{Database, IsCutOffIn, first_database, after_line}
+use Rattle.run_laws.specs.Together.{Step, HaveTexts}
 use Rattle.test_support.specs.Worked.{four, unit}
 
 abbrev pub one_stream : LayoutValue
@@ -13,19 +21,33 @@ one_stream = record { vars = 2; clauses = 4; literals = 8; streams = 1; lines = 
 abbrev pub two_streams : LayoutValue
 two_streams = record { vars = 2; clauses = 4; literals = 8; streams = 2; lines = 2; room = 1 }
 
+-- one stream, with room for two literals: lines that have room and are wrong in another way
+abbrev pub roomy : LayoutValue
+roomy = record { vars = 2; clauses = 4; literals = 8; streams = 1; lines = 2; room = 2 }
+
 -- 5 2 0 1 2 0 / 6 0 5 3 4 0
 abbrev pub refutation : List StreamLine
 refutation = Addition 5 unit (1 ∷ 2 ∷ []) ∷ Addition 6 [] (5 ∷ 3 ∷ 4 ∷ []) ∷ []
 
--- before the first line; after the line `5 2 0 1 2 0`; and after the line `5 d 1 0`
+-- before the first line; after the line `5 2 0 1 2 0`, and then `5 d 5 0`; and after the line `5 d 1 0`
 abbrev pub at_first : Database
 at_first = first_database four one_stream
 
 abbrev pub with_five : Database
 with_five = after_line at_first (Addition 5 unit (1 ∷ 2 ∷ []))
 
+abbrev pub without_five : Database
+without_five = after_line with_five (Deletion 5 (5 ∷ []))
+
 abbrev pub without_one : Database
 without_one = after_line at_first (Deletion 5 (1 ∷ []))
+
+-- the same where there is more room, before the first line and after `5 2 2 0 1 2 0`
+abbrev pub at_roomy : Database
+at_roomy = first_database four roomy
+
+abbrev pub with_repeat : Database
+with_repeat = after_line at_roomy (Addition 5 (pos 2 ∷ pos 2 ∷ []) (1 ∷ 2 ∷ []))
 
 -- stream 1: 5 2 0 1 2 0; and then stream 2: 5 i 2 0 / 6 0 5 3 4 0 / 6 d 5 0
 abbrev pub shared : List Step
@@ -35,3 +57,73 @@ shared =
     ∷ record { stream = 2; line = Addition 6 [] (5 ∷ 3 ∷ 4 ∷ []) }
     ∷ record { stream = 2; line = Deletion 6 (5 ∷ []) }
     ∷ []
+
+-- stream 2: 6 -2 0 3 4 0; then stream 1: 5 2 0 1 2 0; stream 2: 6 d 5 3 0; and stream 1: 7 0 5 3 4 0
+abbrev pub crossed : List Step
+crossed =
+    record { stream = 2; line = Addition 6 (negsuc 1 ∷ []) (3 ∷ 4 ∷ []) }
+    ∷ record { stream = 1; line = Addition 5 unit (1 ∷ 2 ∷ []) }
+    ∷ record { stream = 2; line = Deletion 6 (5 ∷ 3 ∷ []) }
+    ∷ record { stream = 1; line = Addition 7 [] (5 ∷ 3 ∷ 4 ∷ []) }
+    ∷ []
+
+-- stream 1: 5 2 0 1 2 0 / 5 d 5 0; and then stream 2: 5 i 2 0
+abbrev pub retired_first : List Step
+retired_first =
+    record { stream = 1; line = Addition 5 unit (1 ∷ 2 ∷ []) }
+    ∷ record { stream = 1; line = Deletion 5 (5 ∷ []) }
+    ∷ record { stream = 2; line = Import 5 unit }
+    ∷ []
+
+-- What the laws say of runs of these lines
+
+-- a report of one addition
+abbrev pub one_added : Report
+one_added = record {
+  added = 1;
+  deleted = 0;
+  empty = false;
+  within = false;
+  ending = endings.Ended;
+}
+
+-- any cube and number of tries, with this layout
+abbrev pub terms_at : LayoutValue → CubeValue → ℕ → TermsValue
+terms_at p cube tries = record { layout = p; cube = cube; tries = tries }
+
+-- the report tells that the stream ended, and counts these
+pub record Counts (report : Report) (additions deletions : ℕ) : Type 0 where
+  pub added : report.added ≡ additions
+  pub deleted : report.deleted ≡ deletions
+  pub empty : report.empty ≡ true
+  pub ending : report.ending ≡ endings.Ended
+
+-- A run in which the reader of stream 1 has the bytes of the refutation left at first tells two additions, unless memory ran out or
+-- a read failed.
+abbrev pub RefutationCounted : Type 0
+RefutationCounted = (cube : CubeValue) (tries : ℕ) (told : List Telling) (telling : Telling)
+    (reports : List Report) (report : Report)
+    → IsRun four (terms_at one_stream cube tries) told reports → IsOfStream told 1 telling
+    → telling.entry ≡ Some (codes "5 2 0 1 2 0\n6 0 5 3 4 0\n") → IsOfStream reports 1 report
+    → ¬ IsOfMemory report → ¬ IsOfFailure report → Counts report 2 0
+
+-- Whatever comes behind the refutation, such a run tells two additions at least, one of them the empty clause, unless memory ran out,
+-- or a read failed, in these two lines.
+abbrev pub BeginningCounted : Type 0
+BeginningCounted = (cube : CubeValue) (tries : ℕ) (told : List Telling) (telling : Telling)
+    (reports : List Report) (report : Report) (more : List ℕ)
+    → IsRun four (terms_at one_stream cube tries) told reports → IsOfStream told 1 telling
+    → telling.entry ≡ Some (codes "5 2 0 1 2 0\n6 0 5 3 4 0\n" ++ more)
+    → IsOfStream reports 1 report
+    → ((2 ≤ report.added) × (report.empty ≡ true)) ⊎ IsCutOffIn 2 report
+
+-- A run whose readers begin with the texts of the shared lines, and where nothing is behind those of stream 2, tells of that stream an
+-- addition and a deletion, or that the clause of stream 1 wasn't there.
+abbrev pub SharedCounted : Type 0
+SharedCounted = (cube : CubeValue) (tries : ℕ) (told : List Telling) (telling : Telling)
+    (reports : List Report) (report : Report)
+    → IsRun four (terms_at two_streams cube tries) told reports → HaveTexts (λ s. true) shared told
+    → IsOfStream told 2 telling
+    → telling.entry ≡ Some (codes "5 i 2 0\n6 0 5 3 4 0\n6 d 5 0\n")
+    → IsOfStream reports 2 report → ¬ IsOfMemory report → ¬ IsOfFailure report
+    → Counts report 1 1 ⊎ LacksOfAnother (setting_of (terms_at two_streams cube tries) 2) report

@@ -1,5 +1,6 @@
 -- What a run with two threads for each stream promises (this project's own).
-use Rattle.std.specs.Prelude.{◌≡◌, ◌+◌, ℕ, Bool, List, [], ◌∷◌, IsSome, length}
+use Rattle.std.specs.Prelude.{◌≡◌, ℕ, Bool, true, List, [], ◌∷◌, IsSome, length}
+use Rattle.std.specs.List.{AllByRecursion}
 use Rattle.lrup_model.specs.Formula.{Cnf}
 use Rattle.lrup_model.specs.Layout.{LayoutValue}
 use Rattle.lrup_model.specs.Event.{History, own}
@@ -9,8 +10,8 @@ use Rattle.stream_check.specs.declared.report.Report.{Report}
 use Rattle.stream_check.specs.Judging.{joined}
 use Rattle.lrup_text.specs.ReadOut.{SourceView}
 use Rattle.runs.specs.Closed.{IsOfStream}
-use Rattle.runs.specs.Readings.{IsStreamOf}
-use Rattle.runs.specs.Streams.{Stream, JudgesStream, AreJudged, TermsValue, setting_of}
+use Rattle.runs.specs.Readings.{AreRead}
+use Rattle.runs.specs.Streams.{Stream, AreJudged, StandsOnStreams, TermsValue, tellings}
 
 -- what the first of the passes has seen
 abbrev pub seen_by : List View → History
@@ -32,11 +33,15 @@ abbrev pub AreJudgedIn : TermsValue → (ℕ → Bool) → History → ℕ → L
 AreJudgedIn terms set h s streams reports =
     AreJudged terms set (λ t blocks. own h t ≡ joined blocks) s streams reports
 
--- Each stream of these readers, counted on from s, was read out, and judged by some blocks of events: where a run has no outcome.
-abbrev pub WereJudged : {S : Type 0} → SourceView S → TermsValue → ℕ → List S → Type 0
-WereJudged view terms s [] = Unit {0}
-WereJudged {S} view terms s (first ∷ firsts) =
-    ((last : S) × (stream : Stream) × (blocks : List History) × (report : Report)
-    × IsSome stream.end × IsStreamOf view first last stream
-    × JudgesStream (setting_of terms s) stream blocks report)
-    × WereJudged view terms (s + 1) firsts
+-- Where a run has no outcome: of these readers, which are those of the streams from 1 on, each was read to its end or to a read that
+-- failed, and one legal history has the events by which each stream is judged, as some report says.
+pub record WereJudged {S : Type 0} (view : SourceView S) (f : Cnf) (terms : TermsValue)
+    (firsts : List S) : Type 0 where
+  pub history : History
+  pub legal : IsLegal f terms.layout history
+  pub lasts : List S
+  pub reports : List Report
+  pub judged : StandsOnStreams (tellings view firsts lasts)
+      (λ streams. AllByRecursion (λ stream. IsSome stream.end) streams
+      × AreJudgedIn terms (λ s. true) history 1 streams reports
+      × AreRead S view.reads firsts lasts streams)

@@ -3,3 +3,5 @@ pub mod Headline
 pub mod Readings
 pub mod Streams
 pub mod StreamLemmas
+pub mod Turns
+pub mod TurnLemmas

@@ -11,6 +11,7 @@ pub mod FeedLemmas
 pub mod ForkLemmas
 pub mod AgreeLemmas
 pub mod StreamLemmas
+pub mod NextLemmas
 pub mod LegalLemmas
 pub mod ReducedLemmas
 pub mod EventLemmas

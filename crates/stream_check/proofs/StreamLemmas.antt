@@ -82,10 +82,10 @@ faulty_has_no_line laws rest fault text line more fits e =
 -- After the same good lines
 
 -- what ends a stream while there is memory
-abbrev EndsWithout : Setting → List StreamLine → List ℕ → StreamEnd → List History → Report → Type 0
+abbrev pub EndsWithout : Setting → List StreamLine → List ℕ → StreamEnd → List History → Report → Type 0
 EndsWithout c lines rest end back report = EndsAfter c lines rest end back report × ¬ IsOfMemory report
 
-out_of_memory : (c : Setting) (lines : List StreamLine) (deleted : ℕ) (report : Report)
+pub out_of_memory : (c : Setting) (lines : List StreamLine) (deleted : ℕ) (report : Report)
     → report ≡ report_of c lines deleted (endings.Memory (capped (length lines + 1))) → IsOfMemory report
 out_of_memory c lines deleted report says = (capped (length lines + 1), ap (λ (r : Report). r.ending) says)
 
@@ -122,7 +122,7 @@ ends_agree laws c lines rest end back aft report other (at_end pending no_block 
 ends_agree laws c lines rest end back aft report other (at_end pending no_block says, no_memory) (at_end waiting no_more told, none) never = (no_block ∙ sym no_more, says ∙ sym told)
 
 -- a stream doesn't end at a line that is good
-ends_not_good : TextLaws → (c : Setting) (lines : List StreamLine) (rest more : List ℕ) (end : StreamEnd) (back : List History) (report : Report) (line : StreamLine) (block r : History)
+pub ends_not_good : TextLaws → (c : Setting) (lines : List StreamLine) (rest more : List ℕ) (end : StreamEnd) (back : List History) (report : Report) (line : StreamLine) (block r : History)
     → EndsWithout c lines rest end back report → IsWithinLimits line → rest ≡ line_text line ++ more → JudgesLine c (standing_of c lines) line block Good
     → NeverFork (joined back) (block ++ r) → ⊥
 ends_not_good laws c lines rest more end back report line block r (at_memory _ _ _ _ _ _ _ earlier _ says, no_memory) fits text good never = no_memory (out_of_memory c lines (length earlier) report says)
@@ -136,7 +136,7 @@ ends_not_good laws c lines rest more end back report line block r (at_bad_line l
     let verdict = agree.verdict in cc
 
 -- one line moves from the lines to those before them
-behind_one : (before : List StreamLine) (line : StreamLine) (lines all : List StreamLine) → all ≡ before ++ (line ∷ lines) → all ≡ (before ++ line ∷ []) ++ lines
+pub behind_one : (before : List StreamLine) (line : StreamLine) (lines all : List StreamLine) → all ≡ before ++ (line ∷ lines) → all ≡ (before ++ line ∷ []) ++ lines
 behind_one before line lines all e = e ∙ sym (append_assoc before (line ∷ []) lines)
 
 -- the good lines, their blocks, what comes after, and the report are the same

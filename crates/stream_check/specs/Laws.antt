@@ -173,6 +173,25 @@ RepliesDecide = (c : Setting) (bytes : List ℕ) (end : StreamEnd) (blocks other
     → ¬ IsOfMemory report → ¬ IsOfMemory other
     → (blocks ≡ others) × (report ≡ other)
 
+-- neither list of blocks has ended where the other has a block, and their first blocks are one if they never fork, whatever events
+-- follow them
+abbrev pub GoAlike : List History → List History → Type 0
+GoAlike [] [] = Unit {0}
+GoAlike [] (other ∷ others) = ⊥
+GoAlike (block ∷ blocks) [] = ⊥
+GoAlike (block ∷ blocks) (other ∷ others) =
+    (later others_later : History) → NeverFork (block ++ later) (other ++ others_later)
+    → block ≡ other
+
+-- where a stream is judged twice, and its blocks begin alike, they go on alike
+abbrev pub BlocksGoAlike : Type 0
+BlocksGoAlike = (c : Setting) (bytes : List ℕ) (end : StreamEnd)
+    (before blocks others : List History) (report other : Report)
+    → JudgesBlocks c bytes end (before ++ blocks) report
+    → JudgesBlocks c bytes end (before ++ others) other
+    → ¬ IsOfMemory report → ¬ IsOfMemory other
+    → GoAlike blocks others
+
 -- legal histories never fork
 abbrev pub LegalNeverFork : Type 0
 LegalNeverFork = (f : Cnf) (p : LayoutValue) (m : State) (g h : History) → LegalFrom f p m g

@@ -1,5 +1,5 @@
 //! Laws of judging. Each function does nothing; its contract is the law, which holds of every stream, layout and history.
-ghost use Rattle.stream_check.specs.Laws.{FreshLeft, PendingGrows, GoodLineTaken, BadLineTaken, BadTextRead, MemoryWanted, EndJudged, OverStays, EitherEnd, DecidedBeforeFailure, ReadyNew, ReadyStays, ReadyBeside, OneReport, RepliesDecide, LegalNeverFork, AloneDecides, GoodExactlyIf, GoodFollows, LineCalls, EarlyEvents, VacantTriesAgain, ReducedLine, ReducedStream, JudgedLinesCut, CitedFetched, WithinReported, EmptyCubeReported, CountsWithin};
+ghost use Rattle.stream_check.specs.Laws.{FreshLeft, PendingGrows, GoodLineTaken, BadLineTaken, BadTextRead, MemoryWanted, EndJudged, OverStays, EitherEnd, DecidedBeforeFailure, ReadyNew, ReadyStays, ReadyBeside, OneReport, RepliesDecide, BlocksGoAlike, LegalNeverFork, AloneDecides, GoodExactlyIf, GoodFollows, LineCalls, EarlyEvents, VacantTriesAgain, ReducedLine, ReducedStream, JudgedLinesCut, CitedFetched, WithinReported, EmptyCubeReported, CountsWithin};
 
 use lrup_model::laws::{propagation_sound, vacant_above_stays};
 use lrup_text::laws::{
@@ -95,6 +95,16 @@ pub fn one_report()
 /// Where the same call, after the same events, never has another reply, a stream is judged alike.
 pub fn replies_decide()
     ensures { RepliesDecide }
+{
+    a_text_spells_one_line();
+    no_text_begins_another();
+    texts_are_lines();
+    a_text_has_one_fault();
+}
+
+/// Where a stream is judged twice, and its blocks begin alike, they go on alike, unless memory ran out.
+pub fn blocks_go_alike()
+    ensures { BlocksGoAlike }
 {
     a_text_spells_one_line();
     no_text_begins_another();

@@ -12,9 +12,10 @@ use Rattle.stream_check.specs.CheckerValue.{CheckerValue}
 use Rattle.stream_check.specs.Judging.{joined}
 use Rattle.stream_jobs.specs.Judged.{JudgesAtMark}
 use Rattle.lrup_text.specs.ReadOut.{SourceView}
-use Rattle.stream_threads.specs.Jobs.{AllEnd, AllFinish, AreJobs, Finishes, FoundValue, IsFaultWithin, IsFirstFault, IsJob, JobsValue, JudgesAtPass}
+use Rattle.stream_threads.specs.Faults.{IsFaultWithin, IsFirstFault, IsRingBehind}
+use Rattle.stream_threads.specs.Jobs.{AllEnd, AllFinish, AreJobs, Finishes, FoundValue, IsJob, JobsValue, JudgesAtPass}
 use Rattle.stream_threads.specs.declared.jobs.ThreadFault.{ThreadFault}
-use Rattle.stream_threads.specs.declared.jobs.ThreadFault.TheVariants.{Ring}
+use Rattle.stream_threads.specs.declared.jobs.ThreadFault.TheVariants.{Spawn, Ring}
 use Rattle.runs.specs.Streams.{TermsValue}
 
 -- what was judged at a desk was judged at its pass
@@ -56,7 +57,7 @@ all_finish {S} view (j ∷ jobs) (e ∷ ends) (f ∷ found) all is =
     let more : ends ≡ map (λ f. Some f) found = cc in
     (subst (λ (o : Option (FoundValue S)). IfSome o (Finishes view j)) here all.0, all_finish view jobs ends found all.1 more)
 
-pub finish_if_ok : {A : Type 0} {S : Type 0} (view : SourceView S) (found_in : A → List (FoundValue S)) (jobs : List (JobsValue S)) (ends : List (Option (FoundValue S))) (r : Result A ThreadFault) → AllEnd view jobs ends
+pub finish_if_ok : {A : Type 0} {S : Type 0} (view : SourceView S) (found_in : A → List (FoundValue S)) (jobs : List (JobsValue S)) (ends : List (Option (FoundValue S))) (r : Result A (ThreadFault S)) → AllEnd view jobs ends
     → IfOk r (λ a. ends ≡ map (λ f. Some f) (found_in a)) → IfOk r (λ a. AllFinish view jobs (found_in a))
 finish_if_ok view found_in jobs ends (Ok a) all is = all_finish view jobs ends (found_in a) all is
 finish_if_ok view found_in jobs ends (Err fault) all is = tt
@@ -67,17 +68,21 @@ ends_count view [] (e ∷ ends) all = absurd all
 ends_count view (j ∷ jobs) [] all = absurd all
 ends_count view (j ∷ jobs) (e ∷ ends) all = omega (arith, ends_count view jobs ends all.1)
 
--- the first stream of which nothing was found is one of them
-pub first_within : {A : Type 0} {S : Type 0} (view : SourceView S) (count : ℕ) (jobs : List (JobsValue S)) (ends : List (Option (FoundValue S))) (r : Result A ThreadFault) → AllEnd view jobs ends → count ≡ length jobs
-    → IfErr r (λ fault. (before : List (FoundValue S)) × (after : List (Option (FoundValue S))) × (ends ≡ map (λ f. Some f) before ++ None ∷ after) × (fault ≡ Ring (length before + 1)))
-    → IfErr r (IsFaultWithin count)
+-- what was found of each stream before the first of which nothing was
+abbrev EndsAtRing : {S : Type 0} → List (Option (FoundValue S)) → ThreadFault S → Type 0
+EndsAtRing {S} ends fault =
+    (before : List (FoundValue S)) × (after : List (Option (FoundValue S))) × (ends ≡ map (λ f. Some f) before ++ None ∷ after) × IsRingBehind before fault
+
+-- that one is one of the streams
+pub first_within : {A : Type 0} {S : Type 0} (view : SourceView S) (count : ℕ) (jobs : List (JobsValue S)) (ends : List (Option (FoundValue S))) (r : Result A (ThreadFault S)) → AllEnd view jobs ends → count ≡ length jobs
+    → IfErr r (EndsAtRing ends) → IfErr r (IsFaultWithin count)
 first_within view count jobs ends (Ok a) all same first = tt
-first_within view count jobs ends (Err fault) all same first =
+first_within view count jobs ends (Err (Spawn stream)) all same first = absurd first.3
+first_within view count jobs ends (Err (Ring found)) all same first =
     let whole : length ends ≡ length first.0 + length (None ∷ first.1) =
     ap length first.2 ∙ length-append (map (λ f. Some f) first.0) (None ∷ first.1) ∙ ap (λ k. k + length (None ∷ first.1)) (length-map first.0 (λ f. Some f)) in
-    let low : 0 < length first.0 + 1 = omega arith in
-    let high : length first.0 + 1 ≤ count = omega (arith, whole, ends_count view jobs ends all, same) in
-    subst (IsFaultWithin count) (sym first.3) (low, high)
+    let before : length found.items ≡ length first.0 = ap length first.3 in
+    (omega arith, omega (arith, whole, before, ends_count view jobs ends all, same))
 
 -- something was found of each stream before it
 finish_before : {S : Type 0} (view : SourceView S) (jobs : List (JobsValue S)) (before : List (FoundValue S)) (after : List (Option (FoundValue S)))
@@ -87,17 +92,14 @@ finish_before view [] (f ∷ before) after all = absurd all
 finish_before view (j ∷ jobs) [] after all = tt
 finish_before view (j ∷ jobs) (f ∷ before) after all = (all.0, finish_before view jobs before after all.1)
 
-pub first_fault : {A : Type 0} {S : Type 0} (view : SourceView S) (jobs : List (JobsValue S)) (ends : List (Option (FoundValue S))) (r : Result A ThreadFault) → AllEnd view jobs ends
-    → IfErr r (λ fault. (before : List (FoundValue S)) × (after : List (Option (FoundValue S))) × (ends ≡ map (λ f. Some f) before ++ None ∷ after) × (fault ≡ Ring (length before + 1)))
-    → IfErr r (IsFirstFault view jobs)
+pub first_fault : {A : Type 0} {S : Type 0} (view : SourceView S) (jobs : List (JobsValue S)) (ends : List (Option (FoundValue S))) (r : Result A (ThreadFault S)) → AllEnd view jobs ends
+    → IfErr r (EndsAtRing ends) → IfErr r (IsFirstFault view jobs)
 first_fault view jobs ends (Ok a) all first = tt
-first_fault {A} {S} view jobs ends (Err fault) all first =
-    let found : AllFinish view (take (length first.0) jobs) first.0 =
+first_fault view jobs ends (Err (Spawn stream)) all first = tt
+first_fault {A} {S} view jobs ends (Err (Ring found)) all first =
+    let before : AllFinish view (take (length first.0) jobs) first.0 =
     finish_before view jobs first.0 first.1 (subst (AllEnd view jobs) first.2 all) in
-    let same : length first.0 ≡ length first.0 + 1 - 1 = omega arith in
-    let there : AllFinish view (take (length first.0 + 1 - 1) jobs) first.0 =
-    subst (λ (n : ℕ). AllFinish view (take n jobs) first.0) same found in
-    subst (IsFirstFault view jobs) (sym first.3) (first.0, there)
+    subst (λ (fs : List (FoundValue S)). AllFinish view (take (length fs) jobs) fs) (sym first.3) before
 
 -- ---- the jobs of all streams
 

@@ -1,5 +1,5 @@
 -- The two jobs of a stream, and what comes of them (this project's own).
-use Rattle.std.specs.Prelude.{◌≡◌, ◌≤◌, ◌<◌, ◌+◌, ◌-◌, ℕ, List, [], ◌∷◌, take, Option, IfSome, IsSome}
+use Rattle.std.specs.Prelude.{◌≡◌, ◌+◌, ℕ, List, [], ◌∷◌, Option, IfSome, IsSome}
 use Rattle.lrup_model.specs.Event.{History}
 use Rattle.lrup_model.specs.Pass.{PassMoves, pass_place}
 use Rattle.clause_store.specs.Passes.{StoreValue, PassValue, store_of}
@@ -12,8 +12,6 @@ use Rattle.lrup_text.specs.ReadOut.{SourceView}
 use Rattle.runs.specs.Readings.{IsStreamOf}
 use Rattle.runs.specs.Streams.{Stream, JudgesStream, TermsValue}
 use Rattle.stream_jobs.specs.Judged.{JudgesAtMark}
-use Rattle.stream_threads.specs.declared.jobs.ThreadFault.{ThreadFault}
-use Rattle.stream_threads.specs.declared.jobs.ThreadFault.TheVariants.{Spawn, Ring}
 
 -- what a stream's threads start with: its reader, its checker, and its pass
 pub record JobsValue (S : Type 0) : Type 0 where
@@ -80,18 +78,3 @@ abbrev pub AllEnd : {S : Type 0} → SourceView S → List (JobsValue S) → Lis
 AllEnd view [] [] = Unit {0}
 AllEnd view (jobs ∷ all) (end ∷ more) = IfSome end (Finishes view jobs) × AllEnd view all more
 AllEnd view _ _ = ⊥
-
--- where the fault names a stream whose ring met no end, something was found of each stream before it
-abbrev pub IsFirstFault : {S : Type 0} → SourceView S → List (JobsValue S) → ThreadFault → Type 0
-IsFirstFault view all (Spawn stream) = Unit {0}
-IsFirstFault {S} view all (Ring stream) =
-    (found : List (FoundValue S)) × AllFinish view (take (stream - 1) all) found
-
--- the stream that a fault names
-abbrev pub fault_stream : ThreadFault → ℕ
-fault_stream (Spawn stream) = stream
-fault_stream (Ring stream) = stream
-
--- the fault names one of so many streams
-abbrev pub IsFaultWithin : ℕ → ThreadFault → Type 0
-IsFaultWithin count fault = (0 < fault_stream fault) × (fault_stream fault ≤ count)

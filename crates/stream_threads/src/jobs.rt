@@ -6,6 +6,7 @@ ghost use Rattle.stream_check.specs.Checker.{IsNew};
 ghost use Rattle.stream_threads.specs.Jobs.{AreJobs};
 
 use crate::ends::{CheckTask, CheckedPass, ReadTask};
+use crate::joining::StreamResult;
 use clause_store::Pass;
 use lrup_text::Source;
 use runs::Terms;
@@ -15,13 +16,14 @@ use std::thread::PromisedHandle;
 use stream_check::Gate;
 use stream_jobs::{CheckingJob, ReadingJob, Sent, jobs};
 
-/// Why threads found nothing.
-#[derive(Clone, Copy, Debug, PartialEq, Eq)]
-pub enum ThreadFault {
+/// Why threads didn't find something of each stream.
+#[derive(Drop)]
+pub enum ThreadFault<R: Source + Drop> {
     /// A thread of this stream, from 1 on, couldn't be started. No reader was read.
     Spawn(u64),
-    /// The threads were started, and this stream, from 1 on, is the first whose checking thread met no mark.
-    Ring(u64),
+    /// The threads were started, and the checking thread of the stream behind these was the first that met no mark. This is what
+    /// was found of the streams before it.
+    Ring(Vec<StreamResult<R>>),
 }
 
 /// The two jobs of a stream, whose ends are those of one ring, and the stream's pass.

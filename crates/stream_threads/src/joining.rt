@@ -4,8 +4,8 @@ ghost use Rattle.std.specs.List.{AllByRecursion};
 ghost use Rattle.lrup_text.specs.ReadOut.{source_view};
 ghost use Rattle.rtrb.specs.Ring.{received, IsPair};
 ghost use Rattle.stream_ring.specs.Items.{SendsAll};
-ghost use Rattle.stream_threads.specs.Jobs.{AllEnd, AllFinish, CanBegin, Finishes, FoundValue, IsFaultWithin, IsFirstFault, JobsValue, JudgesAtPass};
-ghost use Rattle.stream_threads.specs.declared.jobs.ThreadFault.TheVariants.{Ring};
+ghost use Rattle.stream_threads.specs.Faults.{IsFaultWithin, IsFirstFault, IsRingBehind};
+ghost use Rattle.stream_threads.specs.Jobs.{AllEnd, AllFinish, CanBegin, Finishes, FoundValue, JobsValue, JudgesAtPass};
 
 use crate::ends::CheckedPass;
 use crate::jobs::{HalfStarted, Started, StreamJobs, ThreadFault};
@@ -134,22 +134,22 @@ fn join_all<T: Threads, R: Source + Drop, G: Gate + Drop>(
     ends
 }
 
-/// What was found of all streams. The fault names the first stream, from 1 on, of which nothing was found.
+/// What was found of all streams; or, where of some nothing was, what was found of those before the first of them.
 fn all_found<R: Source + Drop>(
     ends: Vec<Option<StreamResult<R>>>,
     mut found: Vec<StreamResult<R>>,
-) -> Result<Vec<StreamResult<R>>, ThreadFault>
+) -> Result<Vec<StreamResult<R>>, ThreadFault<R>>
     requires none { found.items ≡ [] }
     requires room { vec_len ends ≤ vec_capacity found }
     ensures found { IfOk result (λ all. ends.items ≡ map (λ f. Some f) all.items) }
     ensures first { IfErr result (λ fault. (before : List (FoundValue R))
         × (after : List (Option (FoundValue R)))
         × (ends.items ≡ map (λ f. Some f) before ++ None ∷ after)
-        × (fault ≡ Ring (length before + 1))) }
+        × IsRingBehind before fault) }
 {
     for end in ends {
         let Some(one) = end else {
-            return Err(ThreadFault::Ring(found.len() as u64 + 1));
+            return Err(ThreadFault::Ring(found));
         };
         found.push_reserved(one);
     }
@@ -170,7 +170,7 @@ fn start_and_join<
     signal: &'s OnceLock<bool>,
     all: Vec<StreamJobs<R, G>>,
     room: Room<R, G>,
-) -> Result<Vec<StreamResult<R>>, ThreadFault>
+) -> Result<Vec<StreamResult<R>>, ThreadFault<R>>
     requires begin { AllByRecursion (CanBegin store.now) all.items }
     requires room { vec_len all ≤ room }
     ensures found { IfOk result (λ found.
@@ -199,14 +199,14 @@ fn start_and_join<
 }
 
 /// Reads and checks all streams, each in two threads of its own, until all have ended. No reader is read before all threads have
-/// been started; where one can't be, those that were leave at once. It blocks while a reader does. A fault of a ring names the
-/// first stream of which nothing was found.
+/// been started; where one can't be, those that were leave at once. It blocks while a reader does. A fault of a ring has what was
+/// found of the streams before the first of which nothing was.
 pub fn check_all<T: Threads + Wait + Sync, R: Source + Send + Drop, G: Gate + Send + Drop>(
     threads: &T,
     store: &Store,
     all: Vec<StreamJobs<R, G>>,
     room: Room<R, G>,
-) -> Result<Vec<StreamResult<R>>, ThreadFault>
+) -> Result<Vec<StreamResult<R>>, ThreadFault<R>>
     requires begin { AllByRecursion (CanBegin store.now) all.items }
     requires room { vec_len all ≤ room }
     ensures found { IfOk result (λ found.
@@ -220,7 +220,7 @@ pub fn check_all<T: Threads + Wait + Sync, R: Source + Send + Drop, G: Gate + Se
     thread::scope(
         thread::scope_env(),
         threads,
-        move |scope| -> Result<Vec<StreamResult<R>>, ThreadFault>
+        move |scope| -> Result<Vec<StreamResult<R>>, ThreadFault<R>>
             requires begin { AllByRecursion (CanBegin store.now) all.items }
             requires room { vec_len all ≤ room }
             ensures found { IfOk result (λ found.

@@ -1,4 +1,4 @@
-use Rattle.std.proofs.Common.{◌≡◌, ◌≤◌, ℕ, List, false, length, map, take, vec_capacity, vec_len}
+use Rattle.std.proofs.Common.{◌≡◌, ◌≤◌, false, length, map, take, vec_capacity, vec_len}
 use Rattle.std.specs.List.{AllByRecursion}
 use Rattle.clap.specs.Walk.{texts}
 use Rattle.command.specs.Commands.{AreOpened}
@@ -8,11 +8,10 @@ abbrev pub invariant-loop-path : goal.invariant-loop-path
 invariant-loop-path g l =
     record {
       left : map g.F.Input.Source.left l.readers.items ≡ map (g.F.Files.tells l.fn.files) (take l.path-index (texts l.fn.paths));
-      opened : AreOpened (g.F.Files.opens l.fn.files) (take l.path-index (texts l.fn.paths)) l.readers.items;
+      opened : AreOpened g.F.Files.opens l.fn.files (take l.path-index (texts l.fn.paths)) l.readers.items l.files;
       running : AllByRecursion (λ r. g.F.Input.Source.has_failed r ≡ false) l.readers.items;
       count : vec_len l.readers ≡ l.path-index;
       room : length l.fn.paths ≤ vec_capacity l.readers;
       stays : g.F.Files.tells l.files ≡ g.F.Files.tells l.fn.files;
       stays_refused : g.F.Files.may_refuse l.files ≡ g.F.Files.may_refuse l.fn.files;
-      stays_opens : (path : List ℕ) (input : g.row.F-Input.Denot) → g.F.Files.opens l.files path input → g.F.Files.opens l.fn.files path input;
     }

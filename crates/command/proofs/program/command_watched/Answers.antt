@@ -1,24 +1,40 @@
-use Rattle.std.proofs.Common.{◌≡◌, ◌∙◌, Bool, true, false, refl, sym}
-use Rattle.portfolio.specs.declared.outcome.Verdict.{Verdict}
-use Rattle.portfolio.specs.declared.outcome.Verdict.TheVariants.{Unsatisfiable, UnsatisfiableUnder, Unknown}
-use Rattle.command.specs.Commands.{report_status}
+use Rattle.std.proofs.Common.{◌⊎◌, ℕ, Bool, List, Option, subst}
+use Rattle.clap.specs.Walk.{texts}
+use Rattle.command.specs.Commands.{EndsWithFault, EndsWithReport, FilesView, Text, WasReadIn, change, files_view}
+use Rattle.command.proofs.CheckingLemmas.{names_unsatisfiable, names_unsatisfiable_under}
+use Rattle.command.proofs.StatusLemmas.{ends_unwritten}
 use Rattle.command.proofs.program.command_watched.Goals as goal
 
--- the verdict of a report with this status
-zero_is : (failed : Bool) (verdict : Verdict) → report_status failed verdict ≡ 0 → verdict ≡ Unsatisfiable
-zero_is true verdict is = absurd (let no : 7 ≡ 0 = is in cc)
-zero_is false Unsatisfiable is = refl
-zero_is false UnsatisfiableUnder is = absurd (let no : 8 ≡ 0 = is in cc)
-zero_is false Unknown is = absurd (let no : 3 ≡ 0 = is in cc)
-
-eight_is : (failed : Bool) (verdict : Verdict) → report_status failed verdict ≡ 8 → verdict ≡ UnsatisfiableUnder
-eight_is true verdict is = absurd (let no : 7 ≡ 8 = is in cc)
-eight_is false Unsatisfiable is = absurd (let no : 0 ≡ 8 = is in cc)
-eight_is false UnsatisfiableUnder is = refl
-eight_is false Unknown is = absurd (let no : 3 ≡ 8 = is in cc)
-
 pub returns-in-Ok-clause-sound : goal.returns-in-Ok-clause-sound
-returns-in-Ok-clause-sound g c zero = c.in-Ok.ensures.sound (zero_is _ _ (sym c.report.ensures.status ∙ zero))
+returns-in-Ok-clause-sound g c zero =
+    let asked = c.in-Ok.asked in
+    let files = files_view c.args.files.now (g.F.Files.tells c.args.files.now) (g.F.Files.may_refuse c.args.files.now) g.F.Input.Source.left g.F.Input.Source.has_failed g.F.Files.opens g.F.Input.Source.reads in
+    names_unsatisfiable g.row.F-Input.Denot files (texts c.args.words.now) asked.line asked.formula.items c.read_asked.new.files
+    c.in-Ok.ensures.line c.in-Ok.ensures.bytes (c.check_formula.ensures.sound zero)
 
 pub returns-in-Ok-clause-sound_under : goal.returns-in-Ok-clause-sound_under
-returns-in-Ok-clause-sound_under g c eight = c.in-Ok.ensures.sound_under (eight_is _ _ (sym c.report.ensures.status ∙ eight))
+returns-in-Ok-clause-sound_under g c eight =
+    let asked = c.in-Ok.asked in
+    let files = files_view c.args.files.now (g.F.Files.tells c.args.files.now) (g.F.Files.may_refuse c.args.files.now) g.F.Input.Source.left g.F.Input.Source.has_failed g.F.Files.opens g.F.Input.Source.reads in
+    let next = c.read_asked.new.files in
+    names_unsatisfiable_under g.row.F-Input.Denot files (texts c.args.words.now) asked.line asked.formula.items next (g.F.Files.tells next)
+    c.in-Ok.ensures.stays c.in-Ok.ensures.line c.in-Ok.ensures.bytes (c.check_formula.ensures.sound_under eight)
+
+pub returns-in-Ok-clause-ends : goal.returns-in-Ok-clause-ends
+returns-in-Ok-clause-ends g c =
+    let R = g.row.F-Input.Denot in
+    let asked = c.in-Ok.asked in
+    let words = texts c.args.words.now in
+    let first = c.args.files.now in
+    let next = c.read_asked.new.files in
+    let tells = g.F.Files.tells first in
+    let view : (Text → Option (List ℕ)) → (Text → Bool) → FilesView R = λ t m. files_view first t m g.F.Input.Source.left g.F.Input.Source.has_failed g.F.Files.opens g.F.Input.Source.reads in
+    let output = change (g.O.Sink.written c.args.out.now) (g.O.Sink.written c.check_formula.new.out) (g.O.Sink.has_failed c.check_formula.new.out) in
+    let errors = change (g.E.Sink.written c.args.err.now) (g.E.Sink.written c.check_formula.new.err) (g.E.Sink.has_failed c.check_formula.new.err) in
+    let Ends : (Text → Option (List ℕ)) → (Text → Bool) → Type 0 = λ t m. WasReadIn R (view t m) first asked.line.formula.now asked.formula.items next
+    → EndsWithReport R (view t m) words output errors c.check_formula.result ⊎ EndsWithFault R (view t m) words output errors c.check_formula.result in
+    let ends = c.check_formula.ensures.ends words first c.in-Ok.ensures.line in
+    subst (Ends tells) c.in-Ok.ensures.stays_refused (subst (λ t. Ends t (g.F.Files.may_refuse next)) c.in-Ok.ensures.stays ends) c.in-Ok.ensures.bytes
+
+pub returns-in-Ok-clause-unwritten : goal.returns-in-Ok-clause-unwritten
+returns-in-Ok-clause-unwritten g c = ends_unwritten _ _ _ _ _ _ (returns-in-Ok-clause-ends g c)

@@ -1,4 +1,4 @@
-use Rattle.std.proofs.Common.{◌≡◌, ℕ, ◌∙◌, length, map, drop, refl, sym, ap, ap₂, subst, arith}
+use Rattle.std.proofs.Common.{◌≡◌, ℕ, ◌∙◌, length, drop, refl, sym, ap, ap₂, subst, arith}
 use Rattle.lrup_model.specs.Layout.{LayoutValue, IsFault, Fits}
 use Rattle.lrup_text.specs.ReadOut.{source_view}
 use Rattle.run_laws.specs.ReportLemmas.{reports_alone}
@@ -34,7 +34,7 @@ take_turns-requires g c =
     let count : length firsts ≡ p.streams = omega (arith, same, c.len.ensures, c.args.readers.ok.0) in
     let terms : TermsValue = record { layout = p; cube = c.args.cube.now; tries = c.tries.result } in
     record {
-      running = (f, terms, firsts, subst (Runs view f terms firsts m) (sym c.deref_mut.ensures.value) (runs_opened view f terms m opened firsts c.in_ok-workers.workers.items count (subst (λ (t : TermsValue). AreStarted (source_view g.R.Source.left g.R.Source.has_failed g.R.Source.reads) t 1 c.args.readers.items c.in_ok-workers.workers.items) c.new-terms.ensures c.in_ok-workers.ensures)));
+      running = (f, terms, firsts, subst (Runs view f terms firsts 0 m) (sym c.deref_mut.ensures.value) (runs_opened view f terms m opened firsts c.in_ok-workers.workers.items count (subst (λ (t : TermsValue). AreStarted (source_view g.R.Source.left g.R.Source.has_failed g.R.Source.reads) t 1 c.args.readers.items c.in_ok-workers.workers.items) c.new-terms.ensures c.in_ok-workers.ensures)));
     }
 
 pub outcome_of-requires-clause-over : goal.outcome_of-requires-clause-over
@@ -101,11 +101,11 @@ returns-clause-alone g c = reports_alone c.alone_has_one_report.ensures _ _ _ _ 
 pub returns-clause-sound : goal.returns-clause-sound
 returns-clause-sound g c unsatisfiable =
     let ordered = returns-clause-ordered g c in
-    sound_over c.args.formula.now (terms_of c.args.options c.args.cube.now c.args.formula.now (length c.args.readers.items)) ordered.streams c.outcome_of.result.reports.items ordered.judged.0
+    sound_over c.args.formula.now (terms_of c.args.options c.args.cube.now c.args.formula.now (length c.args.readers.items)) ordered.streams c.outcome_of.result.reports.items ordered.judged.0.order
     (is_empty c.outcome_of.result.reports.items c.outcome_of.result.verdict c.outcome_of.ensures.verdict unsatisfiable)
 
 pub returns-clause-sound_under : goal.returns-clause-sound_under
 returns-clause-sound_under g c =
     let ordered = returns-clause-ordered g c in
     sound_under_order c.args.formula.now (terms_of c.args.options c.args.cube.now c.args.formula.now (length c.args.readers.items)) ordered.streams c.outcome_of.result.reports.items
-    c.outcome_of.result.verdict ordered.judged.0 c.outcome_of.ensures.verdict
+    c.outcome_of.result.verdict ordered.judged.0.order c.outcome_of.ensures.verdict

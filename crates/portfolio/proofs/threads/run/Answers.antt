@@ -1,14 +1,15 @@
-use Rattle.std.proofs.Common.{◌≡◌, ℕ, ◌-◌, length, map, take, refl, sym, ap, ap₂, subst, ◌∙◌, arith}
+use Rattle.std.proofs.Common.{◌≡◌, ℕ, ◌+◌, ◌-◌, length, map, take, refl, sym, ap, ap₂, subst, ◌∙◌, arith}
 use Rattle.lrup_model.specs.Layout.{LayoutValue, IsFault, Fits}
 use Rattle.runs.specs.Headline.{HaveOneHistory, WereJudged, seen_by}
 use Rattle.lrup_text.specs.ReadOut.{source_view}
 use Rattle.portfolio.specs.Outcomes.{layout_of, terms_of}
 use Rattle.runs.specs.StreamLemmas.{told_as_many}
 use Rattle.runs.specs.Streams.{TermsValue, tellings}
-use Rattle.stream_threads.specs.Jobs.{AreJobs, IsFirstFault, fault_stream}
+use Rattle.stream_threads.specs.Faults.{IsFaultWithin, IsFirstFault, fault_stream}
+use Rattle.stream_threads.specs.Jobs.{AreJobs}
 use Rattle.run_laws.specs.ReportLemmas.{reports_alone}
 use Rattle.portfolio.proofs.CubeLemmas.{sound_under_run}
-use Rattle.portfolio.proofs.HeadlineLemmas.{no_fault, not_layout, AreOpened, are_opened, are_ready, all_can_begin, ready_count, finish_of, finish_count, one_history, judged_by, judged_so, were_judged, sound_run}
+use Rattle.portfolio.proofs.HeadlineLemmas.{no_fault, not_layout, AreOpened, are_opened, are_ready, all_can_begin, ready_count, finish_of, finish_count, one_history, judged_by, judged_so, ready_take, were_judged, sound_run}
 use Rattle.portfolio.proofs.threads.run.Goals as goal
 
 -- the layout is the one of the formula, the options and the readers
@@ -207,9 +208,42 @@ returns-in-Err-Spawn-clause-spawn g c = λ stream e.
       omega (arith, within.1, here, is, jobs.ok.0, c.len-2.ensures, each),
     )
 
+-- of the streams before the one that a ring's fault names
+pub outcome_of-before-requires-clause-store : goal.outcome_of-before-requires-clause-store
+outcome_of-before-requires-clause-store g c =
+    let f = c.args.formula.now in
+    let p = c.in_ok-layout.layout in
+    let passes = c.in_ok-store.passes in
+    let opens = c.in_ok-store.ensures in
+    let jobs = c.in_ok-jobs.jobs in
+    let terms : TermsValue = record { layout = p; cube = c.args.cube.now; tries = c.tries.result } in
+    let view = source_view g.R.Source.left g.R.Source.has_failed g.R.Source.reads in
+    let firsts = c.args.readers.items in
+    let opened : AreOpened c.in_ok-store.store f 1 passes.items = are_opened c.in_ok-store.store f p passes.items (sym passes.ok.0 ∙ opens.count) opens.passes in
+    let ready = are_ready view c.in_ok-store.store f terms 1 firsts passes.items jobs.items (subst (λ (t : TermsValue). AreJobs t 1 c.args.readers.items c.in_ok-store.passes.items c.in_ok-jobs.jobs.items) c.new-terms.ensures c.in_ok-jobs.ensures) opened in
+    let found = c.in-Err-Ring.found.items in
+    let before = subst (IsFirstFault view jobs.items) c.in-Err-Ring.field-0-is c.in-Err-Ring.ensures.first in
+    finish_of view c.in_ok-store.store f terms 1 (take (length found) firsts) (take (length found) jobs.items) found
+    (ready_take view c.in_ok-store.store f terms 1 (length found) firsts jobs.items ready) before
+
+pub outcome_of-before-requires-clause-reports : goal.outcome_of-before-requires-clause-reports
+outcome_of-before-requires-clause-reports g c =
+    let within = subst (IsFaultWithin c.in_ok-jobs.jobs.len) c.in-Err-Ring.field-0-is c.in-Err-Ring.ensures.fault in
+    omega (arith, within.1, c.in-Err-Ring.found.ok.0, c.len-2.ensures, c.in_ok-room.ensures.reports.1)
+
+pub outcome_of-before-requires-clause-passes : goal.outcome_of-before-requires-clause-passes
+outcome_of-before-requires-clause-passes g c =
+    let within = subst (IsFaultWithin c.in_ok-jobs.jobs.len) c.in-Err-Ring.field-0-is c.in-Err-Ring.ensures.fault in
+    omega (arith, within.1, c.in-Err-Ring.found.ok.0, c.len-2.ensures, c.in_ok-room.ensures.met.1)
+
+pub outcome_of-before-requires-clause-readers : goal.outcome_of-before-requires-clause-readers
+outcome_of-before-requires-clause-readers g c =
+    let within = subst (IsFaultWithin c.in_ok-jobs.jobs.len) c.in-Err-Ring.field-0-is c.in-Err-Ring.ensures.fault in
+    omega (arith, within.1, c.in-Err-Ring.found.ok.0, c.len-2.ensures, c.in_ok-room.ensures.readers.1)
+
 pub returns-clause-ring : goal.returns-clause-ring
 returns-clause-ring g c = λ stream e.
-    let here : c.in-Err-Ring.stream ≡ stream = cc in
+    let here : c.len-in-Err-Ring.result + 1 ≡ stream = cc in
     let f = c.args.formula.now in
     let p = c.in_ok-layout.layout in
     let passes = c.in_ok-store.passes in
@@ -221,30 +255,35 @@ returns-clause-ring g c = λ stream e.
     let opened : AreOpened c.in_ok-store.store f 1 passes.items = are_opened c.in_ok-store.store f p passes.items (sym passes.ok.0 ∙ opens.count) opens.passes in
     let ready = are_ready view c.in_ok-store.store f terms 1 firsts passes.items jobs.items (subst (λ (t : TermsValue). AreJobs t 1 c.args.readers.items c.in_ok-store.passes.items c.in_ok-jobs.jobs.items) c.new-terms.ensures c.in_ok-jobs.ensures) opened in
     let each : length jobs.items ≡ length firsts = ready_count view c.in_ok-store.store f terms 1 firsts jobs.items ready in
-    let within = c.in-Err-Ring.ensures.fault in
-    let is : fault_stream c.in-Err-Ring.field-0 ≡ c.in-Err-Ring.stream = ap fault_stream c.in-Err-Ring.field-0-is in (
-      omega (arith, within.0, here, is),
-      omega (arith, within.1, here, is, jobs.ok.0, c.len-2.ensures, each),
+    let within = subst (IsFaultWithin jobs.len) c.in-Err-Ring.field-0-is c.in-Err-Ring.ensures.fault in (
+      omega (arith, here),
+      omega (arith, here, within.1, c.len-in-Err-Ring.ensures, c.in-Err-Ring.found.ok.0, jobs.ok.0, each),
     )
 
+-- the passes of the streams before it have met
 pub returns-clause-first : goal.returns-clause-first
 returns-clause-first g c = λ stream e.
-    let here : c.in-Err-Ring.stream ≡ stream = cc in
+    let here : c.len-in-Err-Ring.result + 1 ≡ stream = cc in
     let f = c.args.formula.now in
     let p = c.in_ok-layout.layout in
     let passes = c.in_ok-store.passes in
     let opens = c.in_ok-store.ensures in
     let jobs = c.in_ok-jobs.jobs in
     let terms : TermsValue = record { layout = p; cube = c.args.cube.now; tries = c.tries.result } in
-    let wanted = terms_of c.args.options c.args.cube.now f (length c.args.readers.items) in
     let view = source_view g.R.Source.left g.R.Source.has_failed g.R.Source.reads in
     let firsts = c.args.readers.items in
     let opened : AreOpened c.in_ok-store.store f 1 passes.items = are_opened c.in_ok-store.store f p passes.items (sym passes.ok.0 ∙ opens.count) opens.passes in
     let ready = are_ready view c.in_ok-store.store f terms 1 firsts passes.items jobs.items (subst (λ (t : TermsValue). AreJobs t 1 c.args.readers.items c.in_ok-store.passes.items c.in_ok-jobs.jobs.items) c.new-terms.ensures c.in_ok-jobs.ensures) opened in
+    let wanted = terms_of c.args.options c.args.cube.now f (length c.args.readers.items) in
     let same : p ≡ layout_of c.args.options f (length firsts) =
     c.in_ok-layout.ensures.layout.0 ∙ ap (λ (n : ℕ). layout_of c.args.options f n) (c.len.ensures ∙ c.args.readers.ok.0) in
     let are : terms ≡ wanted = ap₂ (λ (l : LayoutValue) (n : ℕ). record { layout = l; cube = c.args.cube.now; tries = n }) same c.tries.ensures.tries in
-    let before = subst (IsFirstFault view jobs.items) (c.in-Err-Ring.field-0-is) c.in-Err-Ring.ensures.first in
-    let judged = were_judged view f terms c.in_ok-store.store opens.layout 1 firsts jobs.items (c.in-Err-Ring.stream - 1) before.0 ready before.1 in
-    subst (λ (n : ℕ). WereJudged view wanted 1 (take (n - 1) firsts)) here
-    (subst (λ (t : TermsValue). WereJudged view t 1 (take (c.in-Err-Ring.stream - 1) firsts)) are judged)
+    let found = c.in-Err-Ring.found.items in
+    let before = subst (IsFirstFault view jobs.items) c.in-Err-Ring.field-0-is c.in-Err-Ring.ensures.first in
+    let out = c.outcome_of-before in
+    let vs = map (λ q. q.view) out.result.passes.items in
+    let judged = were_judged view f terms c.in_ok-store.store opens.layout (take (length found) firsts) (take (length found) jobs.items) found vs
+    (ready_take view c.in_ok-store.store f terms 1 (length found) firsts jobs.items ready) before out.ensures.met out.ensures.one in
+    let count : length found ≡ stream - 1 = omega (arith, here, c.len-in-Err-Ring.ensures, c.in-Err-Ring.found.ok.0) in
+    subst (λ (n : ℕ). WereJudged view f wanted (take n firsts)) count
+    (subst (λ (t : TermsValue). WereJudged view f t (take (length found) firsts)) are judged)

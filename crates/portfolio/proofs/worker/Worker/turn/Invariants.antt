@@ -1,7 +1,5 @@
-use Rattle.std.proofs.Common.{◌≡◌, List, None}
-use Rattle.lrup_model.specs.Event.{History}
+use Rattle.std.proofs.Common.{◌≡◌, [], None}
 use Rattle.stream_check.specs.Checker.{IsReadyAt}
-use Rattle.stream_check.specs.Judging.{joined}
 use Rattle.lrup_text.specs.ReadOut.{source_view}
 use Rattle.portfolio.specs.Working.{WorksOn}
 use Rattle.portfolio.proofs.worker.Worker.turn.Given as goal
@@ -14,5 +12,5 @@ invariant-loop g l =
       going : l.self.checker.ending ≡ None;
       ready : IsReadyAt l.self.checker q;
       setting : l.self.checker.setting ≡ l.fn.self.checker.setting;
-      works : (blocks : List History) × g.M.ClauseMap.moves l.fn.map l.map (joined blocks) × WorksOn (source_view g.R.Source.left g.R.Source.has_failed g.R.Source.reads) l.fn.self p.room blocks l.self q.room;
+      works : g.M.ClauseMap.moves l.fn.map l.map [] × WorksOn (source_view g.R.Source.left g.R.Source.has_failed g.R.Source.reads) l.fn.self p.room [] l.self q.room;
     }

@@ -16,6 +16,6 @@ returns g c =
     report_alone c.readers_closed.ensures c.told_is_reading.ensures view c.in_ok-readers.readers.items c.in_ok-outcome.outcome.readers.items c.args.first.now _ _ report stands.streams
     (two_isolated _ _ _ _ _ _ _ c.usual_options.ensures c.empty.ensures c.in_ok-formula.ensures c.in_ok-readers.ensures.two ran.isolated)
     (two_alone _ _ _ _ _ _ _ c.usual_options.ensures c.empty.ensures c.in_ok-formula.ensures c.in_ok-readers.ensures.two ran.alone)
-    stands.are_told stands.judged.1 stands.judged.0 c.requires c.in_ok-readers.ensures.first
+    stands.are_told stands.judged.1 stands.judged.0.order c.requires c.in_ok-readers.ensures.first
     (subst (λ (readers : List Pieces). IsOfStream (map (λ r. r.failed) readers) 1 false) c.deref-2.ensures.value fine)
     (subst (λ (reports : List Report). IsOfStream reports 1 report) c.deref.ensures.value says))

@@ -1,0 +1,5 @@
+use Rattle.lrup_model.specs.PassLemmas.{met_keep}
+use Rattle.clause_store.proofs.laws.meeting_keeps.Goals as goal
+
+pub returns : goal.returns
+returns c = met_keep

@@ -1,0 +1,5 @@
+use Rattle.lrup_model.specs.PassLemmas as passes
+use Rattle.clause_store.proofs.laws.meets_twice.Goals as goal
+
+pub returns : goal.returns
+returns c = passes.meets_twice

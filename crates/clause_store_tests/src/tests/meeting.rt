@@ -1,0 +1,64 @@
+//! A pass that meets all others in turn, and then all again, brings them to one history.
+ghost use Rattle.std.specs.Prelude.{◌≡◌, ◌∷◌, []};
+ghost use Rattle.std.specs.List.{AllByRecursion};
+ghost use Rattle.lrup_model.specs.Pass.{IsFair, MeetsInTurn};
+ghost use Rattle.clause_store.specs.Passes.{store_of, AreOf, HaveMet, views};
+ghost use Rattle.clause_store_tests.specs.Worked.{IsPassAt, raced};
+
+use super::{finds_raced, open_race, publish_raced, same};
+use clause_store::laws::{meeting_keeps, meets_twice};
+use clause_store::{Pass, Store};
+use lrup_model::Published;
+use std::process::Abort;
+use std::test::Fail;
+
+/// The first pass meets both others in turn.
+fn meet_both(store: &Store, first: &mut Pass, second: &mut Pass, third: &mut Pass)
+    requires { AreOf store.now (first.old ∷ second.old ∷ third.old ∷ []) }
+    ensures of { AreOf store.now (first.new ∷ second.new ∷ third.new ∷ []) }
+    ensures turns { MeetsInTurn first.old.view (views (second.old ∷ third.old ∷ []))
+        first.new.view (views (second.new ∷ third.new ∷ [])) }
+{
+    store.meet(first, second);
+    store.meet(first, third);
+}
+
+/// It does so twice. What `meet` promises of each call is what the laws ask for: all three have then seen one history, and the
+/// others are fair.
+fn meet_both_twice(store: &Store, first: &mut Pass, second: &mut Pass, third: &mut Pass)
+    requires { AreOf store.now (first.old ∷ second.old ∷ third.old ∷ []) }
+    ensures of { AreOf store.now (first.new ∷ second.new ∷ third.new ∷ []) }
+    ensures one { HaveMet (views (first.new ∷ second.new ∷ third.new ∷ [])) }
+    ensures fair { AllByRecursion IsFair (views (second.new ∷ third.new ∷ [])) }
+{
+    meets_twice();
+    meeting_keeps();
+    meet_both(store, first, second, third);
+    meet_both(store, first, second, third);
+}
+
+/// Does the pass find the clauses of the three streams?
+fn finds_three<R: Abort>(rt: &R, store: &Store, pass: &mut Pass)
+    requires { store_of pass.old ≡ store.now }
+{
+    same(rt, finds_raced(store, pass, 2), Some(true));
+    same(rt, finds_raced(store, pass, 3), Some(true));
+    same(rt, finds_raced(store, pass, 4), Some(true));
+}
+
+/// Each of three streams publishes a clause. Once the first has met both others twice, each finds all three.
+#[test]
+fn three_passes_meet_twice(rt: HostRuntime) -> Result<(), Fail> {
+    let (store, mut passes) = open_race(rt.alloc(), 3, 1, 2)?;
+    let (first, others) = passes.split_first_mut().ok_or("no pass")?;
+    let (second, others) = others.split_first_mut().ok_or("one pass")?;
+    let (third, _) = others.split_first_mut().ok_or("two passes")?;
+    same(&rt, publish_raced(&store, first, 2), Some(Published::Done));
+    same(&rt, publish_raced(&store, second, 3), Some(Published::Done));
+    same(&rt, publish_raced(&store, third, 4), Some(Published::Done));
+    meet_both_twice(&store, first, second, third);
+    finds_three(&rt, &store, first);
+    finds_three(&rt, &store, second);
+    finds_three(&rt, &store, third);
+    Ok(())
+}

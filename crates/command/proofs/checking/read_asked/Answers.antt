@@ -1,0 +1,17 @@
+use Rattle.std.proofs.Common.{sym, subst}
+use Rattle.clap.specs.Walk.{texts}
+use Rattle.command.specs.Commands.{IsCause, files_view}
+use Rattle.command.proofs.CheckingLemmas.{err_given, read_cause}
+use Rattle.command.proofs.FileLemmas.{formula_file_cause}
+use Rattle.command.proofs.checking.read_asked.Goals as goal
+
+pub returns-in_err-formula-clause-cause : goal.returns-in_err-formula-clause-cause
+returns-in_err-formula-clause-cause g c =
+    let R = g.row.F-Input.Denot in
+    let files = files_view c.args.files.now (g.F.Files.tells c.args.files.now) (g.F.Files.may_refuse c.args.files.now) g.F.Input.Source.left g.F.Input.Source.has_failed g.F.Files.opens g.F.Input.Source.reads in
+    let words = texts c.args.words.now in
+    let line = c.in_ok-line.line in
+    let fault = c.in_err-formula.field-0.0 in
+    let cause = read_cause R files words line c.in_ok-line.ensures.ok fault (formula_file_cause R files line.formula.now fault c.in_err-formula.ensures.cause) in
+    err_given c.from_residual-in_err-formula.result _ (IsCause R files words)
+    (λ other is. subst (IsCause R files words) (sym is) cause) c.from_residual-in_err-formula.ensures.1

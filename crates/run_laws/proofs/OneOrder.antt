@@ -1,0 +1,166 @@
+-- Two orders by turns of the same streams are one.
+use Rattle.std.proofs.Common.{◌≡◌, ◌≢◌, ◌<◌, ◌≤◌, ◌+◌, ℕ, true, List, [], ◌∷◌, ◌++◌, length, Bool, cond, eqb, eq-eqb, ne_eqb, inl, inr, refl, sym, ap, ap₂, subst, ◌∙◌, arith, append_assoc}
+use Rattle.std.specs.List.{AllByRecursion}
+use Rattle.std.proofs.lemmas.Bool.{cases_eq, cases_lt}
+use Rattle.std.proofs.lemmas.List.Sums.{sum_by-cons}
+use Rattle.lrup_model.specs.Event.{History}
+use Rattle.lrup_model.specs.Formula.{Cnf}
+use Rattle.lrup_model.specs.History.{LegalFrom}
+use Rattle.lrup_model.specs.HistoryLemmas.{legal-back}
+use Rattle.lrup_model.specs.Layout.{IsStream}
+use Rattle.lrup_model.specs.State.{State, opening, run}
+use Rattle.lrup_text.specs.declared.device.StreamEnd.{StreamEnd}
+use Rattle.stream_check.specs.declared.report.Report.{Report}
+use Rattle.stream_check.specs.Judging.{JudgesBlocks}
+use Rattle.stream_check.specs.Laws.{BlocksGoAlike, GoAlike, IsOfMemory, LegalNeverFork}
+use Rattle.stream_check.specs.Setting.{Setting}
+use Rattle.runs.specs.Streams.{Block, blocks_of, events_in, IsBlockWithin, TermsValue, setting_of}
+use Rattle.runs.specs.StreamLemmas.{blocks-same, blocks-other}
+use Rattle.runs.specs.TurnLemmas.{blocks_of-append, lines_before, lines_beside, lines_pushed, streams_of-push}
+use Rattle.runs.specs.Turns.{AreTurns, IsByTurns, IsTurnOf, line_count, streams_of}
+
+-- Turns
+
+lines_own : (s : ℕ) (order : List ℕ) → line_count s (s ∷ order) ≡ 1 + line_count s order
+lines_own s order =
+    let one : ◌≡◌ {A = ℕ} (cond (eqb s s) 1 0) 1 = ap (λ (b : Bool). cond {A = ℕ} b 1 0) (eq-eqb s s refl) in
+    omega (arith, sum_by-cons (λ t. cond (eqb t s) 1 0) s order, one)
+
+lines_other : (t s : ℕ) (order : List ℕ) → t ≢ s → line_count s (t ∷ order) ≡ line_count s order
+lines_other t s order other =
+    let none : ◌≡◌ {A = ℕ} (cond (eqb t s) 1 0) 0 = ap (λ (b : Bool). cond {A = ℕ} b 1 0) (ne_eqb t s other) in
+    omega (arith, sum_by-cons (λ u. cond (eqb u s) 1 0) t order, none)
+
+-- where a stream has a line left no other is ahead of it
+waits : (before order : List ℕ) (t : ℕ) → AreTurns before order → 0 < line_count t order → IsTurnOf t before
+waits before [] t turns some = absurd (omega (arith, some))
+waits before (s ∷ order) t turns some = elim (cases_eq s t) [
+  | inl same ↦ subst (λ u. IsTurnOf u before) same turns.0
+  | inr other ↦
+      let later = waits (before ++ s ∷ []) order t turns.1 (omega (arith, some, lines_other s t order other)) in
+      let own = lines_beside before s t other in
+      λ u. (
+        λ behind. omega (arith, (later u).0 behind, lines_before before (s ∷ []) u, own),
+        λ ahead. omega (arith, (later u).1 ahead, lines_before before (s ∷ []) u, own),
+      )
+]
+
+-- so it is where the next line is another stream's, which then is ahead
+waits_for : (before order : List ℕ) (s t : ℕ) → AreTurns before (s ∷ order) → s ≢ t → 0 < line_count t (s ∷ order)
+    → (t ≤ s → line_count s before + 1 ≤ line_count t before) × (s < t → line_count s before ≤ line_count t before)
+waits_for before order s t turns other some =
+    let later = waits (before ++ s ∷ []) order t turns.1 (omega (arith, some, lines_other s t order other)) s in
+    let mine = lines_pushed before s in
+    let own = lines_beside before s t other in (
+      λ behind. omega (arith, later.0 behind, mine, own),
+      λ ahead. omega (arith, later.1 ahead, mine, own),
+    )
+
+-- two orders go on with the same stream, where each of the two has a line left in both
+same_turn : (before xs ys : List ℕ) (s t : ℕ) → AreTurns before (s ∷ xs) → AreTurns before (t ∷ ys)
+    → 0 < line_count t (s ∷ xs) → 0 < line_count s (t ∷ ys) → s ≡ t
+same_turn before xs ys s t turns others left too = elim (cases_eq s t) [
+  | inl same ↦ same
+  | inr other ↦
+      let one = waits_for before xs s t turns other left in
+      let two = waits_for before ys t s others (λ is. other (sym is)) too in
+      elim (cases_lt s t) [
+        | inl less ↦ absurd (omega (arith, one.1 less, two.0 (omega (arith, less))))
+        | inr more ↦ absurd (omega (arith, one.0 more, two.1 (omega (arith, more, other))))
+      ]
+]
+
+-- a stream's lines are its blocks
+lines_are : (s : ℕ) (blocks : List Block) → line_count s (streams_of blocks) ≡ length (blocks_of s blocks)
+lines_are s [] = refl
+lines_are s (x ∷ blocks) = elim (cases_eq x.stream s) [
+  | inl same ↦
+      let own : line_count s (x.stream ∷ streams_of blocks) ≡ 1 + line_count s (streams_of blocks) =
+      subst (λ t. line_count s (t ∷ streams_of blocks) ≡ 1 + line_count s (streams_of blocks)) (sym same) (lines_own s (streams_of blocks)) in
+      omega (arith, own, lines_are s blocks, ap (λ (bs : List History). length bs) (blocks-same x blocks s same))
+  | inr other ↦
+      omega (arith, lines_other x.stream s (streams_of blocks) other, lines_are s blocks, ap (λ (bs : List History). length bs) (blocks-other x blocks s other))
+]
+
+-- Lists of blocks that go on alike
+
+some_alike : (xs ys : List History) → GoAlike xs ys → 0 < length ys → 0 < length xs
+some_alike [] [] alike some = some
+some_alike [] (y ∷ ys) alike some = absurd alike
+some_alike (x ∷ xs) ys alike some = omega arith
+
+alike_some : (xs ys : List History) → GoAlike xs ys → 0 < length xs → 0 < length ys
+alike_some [] [] alike some = some
+alike_some (x ∷ xs) [] alike some = absurd alike
+alike_some xs (y ∷ ys) alike some = omega arith
+
+-- a stream that is judged twice, by blocks of two orders, while there is memory
+pub record JudgedTwice (c : Setting) (xs ys : List History) : Type 0 where
+  pub bytes : List ℕ
+  pub end : StreamEnd
+  pub report : Report
+  pub other : Report
+  pub first : JudgesBlocks c bytes end xs report
+  pub second : JudgesBlocks c bytes end ys other
+  pub memory : ¬ IsOfMemory report
+  pub none : ¬ IsOfMemory other
+
+module _ (alike : BlocksGoAlike) (forks : LegalNeverFork) (f : Cnf) (terms : TermsValue) (ps qs : List Block)
+    (both : (s : ℕ) → IsStream terms.layout s → JudgedTwice (setting_of terms s) (blocks_of s ps) (blocks_of s qs)) where
+  -- behind the same lines each stream goes on alike
+  alike_at : (before xs ys : List Block) (s : ℕ) → IsStream terms.layout s → ps ≡ before ++ xs → qs ≡ before ++ ys → GoAlike (blocks_of s xs) (blocks_of s ys)
+  alike_at before xs ys s stream is also =
+      let j = both s stream in
+      alike (setting_of terms s) j.bytes j.end (blocks_of s before) (blocks_of s xs) (blocks_of s ys) j.report j.other
+      (subst (λ (hs : List History). JudgesBlocks (setting_of terms s) j.bytes j.end hs j.report) (ap (blocks_of s) is ∙ blocks_of-append s before xs) j.first)
+      (subst (λ (hs : List History). JudgesBlocks (setting_of terms s) j.bytes j.end hs j.other) (ap (blocks_of s) also ∙ blocks_of-append s before ys) j.second)
+      j.memory j.none
+
+  -- the next line of both orders is one
+  same_line : (before xs ys : List Block) (x y : Block) (m : State) → IsStream terms.layout x.stream → x.stream ≡ y.stream
+      → ps ≡ before ++ x ∷ xs → qs ≡ before ++ y ∷ ys
+      → LegalFrom f terms.layout m (events_in (x ∷ xs)) → LegalFrom f terms.layout m (events_in (y ∷ ys)) → x ≡ y
+  same_line before xs ys x y m stream same is also legal lawful =
+      let s = x.stream in
+      let go = subst (λ (hs : List History). GoAlike (x.events ∷ blocks_of s xs) hs) (blocks-same y ys s (sym same))
+      (subst (λ (hs : List History). GoAlike hs (blocks_of s (y ∷ ys))) (blocks-same x xs s refl) (alike_at before (x ∷ xs) (y ∷ ys) s stream is also)) in
+      let events : x.events ≡ y.events = go (events_in xs) (events_in ys) (forks f terms.layout m (x.events ++ events_in xs) (y.events ++ events_in ys) legal lawful) in
+      ap₂ (λ (t : ℕ) (es : History). record { stream = t; events = es }) same events
+
+  -- where the stream of a line of one order has a line left, it has one in the other
+  left_in_both : (before xs ys : List Block) (s : ℕ) → IsStream terms.layout s → ps ≡ before ++ xs → qs ≡ before ++ ys
+      → (0 < line_count s (streams_of xs) → 0 < line_count s (streams_of ys)) × (0 < line_count s (streams_of ys) → 0 < line_count s (streams_of xs))
+  left_in_both before xs ys s stream is also =
+      let go = alike_at before xs ys s stream is also in (
+        λ some. omega (arith, lines_are s ys, alike_some (blocks_of s xs) (blocks_of s ys) go (omega (arith, some, lines_are s xs))),
+        λ some. omega (arith, lines_are s xs, some_alike (blocks_of s xs) (blocks_of s ys) go (omega (arith, some, lines_are s ys))),
+      )
+
+  one_order : (before xs ys : List Block) (m : State) → ps ≡ before ++ xs → qs ≡ before ++ ys
+      → AllByRecursion (IsBlockWithin terms.layout (λ s. true)) xs → AllByRecursion (IsBlockWithin terms.layout (λ s. true)) ys
+      → LegalFrom f terms.layout m (events_in xs) → LegalFrom f terms.layout m (events_in ys)
+      → AreTurns (streams_of before) (streams_of xs) → AreTurns (streams_of before) (streams_of ys) → xs ≡ ys
+  one_order before [] [] m is also within too legal lawful turns others = refl
+  one_order before [] (y ∷ ys) m is also within too legal lawful turns others =
+      let none = (left_in_both before [] (y ∷ ys) y.stream too.0.0 is also).1 (omega (arith, lines_own y.stream (streams_of ys))) in absurd (omega (arith, none))
+  one_order before (x ∷ xs) [] m is also within too legal lawful turns others =
+      let none = (left_in_both before (x ∷ xs) [] x.stream within.0.0 is also).0 (omega (arith, lines_own x.stream (streams_of xs))) in absurd (omega (arith, none))
+  one_order before (x ∷ xs) (y ∷ ys) m is also within too legal lawful turns others =
+      let left = (left_in_both before (x ∷ xs) (y ∷ ys) y.stream too.0.0 is also).1 (omega (arith, lines_own y.stream (streams_of ys))) in
+      let right = (left_in_both before (x ∷ xs) (y ∷ ys) x.stream within.0.0 is also).0 (omega (arith, lines_own x.stream (streams_of xs))) in
+      let stream = same_turn (streams_of before) (streams_of xs) (streams_of ys) x.stream y.stream turns others left right in
+      let same = same_line before xs ys x y m within.0.0 stream is also legal lawful in
+      let rest = one_order (before ++ x ∷ []) xs ys (run m x.events)
+      (is ∙ sym (append_assoc before (x ∷ []) xs)) (also ∙ ap (λ (b : Block). before ++ b ∷ ys) (sym same) ∙ sym (append_assoc before (x ∷ []) ys))
+      within.1 too.1
+      (legal-back f terms.layout m x.events (events_in xs) legal)
+      (legal-back f terms.layout m x.events (events_in ys) (subst (λ (b : Block). LegalFrom f terms.layout m (b.events ++ events_in ys)) (sym same) lawful))
+      (subst (λ (order : List ℕ). AreTurns order (streams_of xs)) (sym (streams_of-push before x)) turns.1)
+      (subst (λ (order : List ℕ). AreTurns order (streams_of ys)) (sym (streams_of-push before x))
+      (subst (λ t. AreTurns (streams_of before ++ t ∷ []) (streams_of ys)) (sym stream) others.1)) in
+      ap₂ (λ (b : Block) (zs : List Block). b ∷ zs) same rest
+
+  pub same_order : AllByRecursion (IsBlockWithin terms.layout (λ s. true)) ps → AllByRecursion (IsBlockWithin terms.layout (λ s. true)) qs
+      → LegalFrom f terms.layout (opening f) (events_in ps) → LegalFrom f terms.layout (opening f) (events_in qs)
+      → IsByTurns (streams_of ps) → IsByTurns (streams_of qs) → ps ≡ qs
+  same_order within too legal lawful turns others = one_order [] ps qs (opening f) refl refl within too legal lawful turns others

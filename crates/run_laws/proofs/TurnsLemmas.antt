@@ -1,0 +1,178 @@
+-- Two runs on one thread over the same bytes.
+use Rattle.std.proofs.Common.{◌≡◌, ◌+◌, ◌-◌, ℕ, zero, suc, true, List, [], ◌∷◌, ◌++◌, length, Option, Some, refl, sym, ap, ap₂, subst, ◌∙◌, arith}
+use Rattle.std.specs.Prelude.{slice_get}
+use Rattle.std.specs.Io.KnownBytes.{Consumes}
+use Rattle.std.proofs.lemmas.Option.{slice_get_within}
+use Rattle.lrup_model.specs.Event.{History}
+use Rattle.lrup_model.specs.Formula.{Cnf}
+use Rattle.lrup_text.specs.declared.device.StreamEnd.TheVariants as stream_ends
+use Rattle.stream_check.specs.declared.report.Report.{Report}
+use Rattle.stream_check.specs.Judging.{joined}
+use Rattle.stream_check.specs.Laws.{BlocksGoAlike, DecidedBeforeFailure, LegalNeverFork, OneReport, OverStays}
+use Rattle.runs.specs.Closed.{IsOfStream}
+use Rattle.runs.specs.Streams.{Stream, JudgesStream, blocks_of, AreJudged, TermsValue, setting_of}
+use Rattle.runs.specs.StreamLemmas.{told_count}
+use Rattle.runs.specs.Turns.{IsOrderedByTurns}
+use Rattle.run_laws.specs.TurnsLaws.{BytesDecide, TurnsDecide}
+use Rattle.run_laws.proofs.AloneLemmas.{judged_whole}
+use Rattle.run_laws.proofs.OneOrder.{JudgedTwice, same_order}
+use Rattle.run_laws.proofs.Places.{has_place}
+use Rattle.run_laws.proofs.RunLemmas.{judged_to, told_at}
+
+-- Lists
+
+same_at_each : {X : Type 0} (xs ys : List X) → length xs ≡ length ys
+    → ((k : ℕ) (x y : X) → slice_get xs k ≡ Some x → slice_get ys k ≡ Some y → x ≡ y) → xs ≡ ys
+same_at_each [] [] count same = refl
+same_at_each [] (y ∷ ys) count same = absurd (omega (arith, count))
+same_at_each (x ∷ xs) [] count same = absurd (omega (arith, count))
+same_at_each {X} (x ∷ xs) (y ∷ ys) count same =
+    ap₂ (λ (z : X) (zs : List X). z ∷ zs) (same 0 x y refl refl) (same_at_each xs ys (omega (arith, count)) (λ k u v at there. same (suc k) u v at there))
+
+-- lists that have the same thing for each stream are one
+same_for_each : {X : Type 0} (xs ys : List X) → length xs ≡ length ys
+    → ((s : ℕ) (x y : X) → IsOfStream xs s x → IsOfStream ys s y → x ≡ y) → xs ≡ ys
+same_for_each {X} xs ys count same = same_at_each xs ys count (λ k x y at there.
+    let place : k ≡ k + 1 - 1 = omega arith in
+    same (k + 1) x y (omega arith, subst (λ (i : ℕ). slice_get xs i ≡ Some x) place at) (omega arith, subst (λ (i : ℕ). slice_get ys i ≡ Some y) place there))
+
+-- Streams judged by their own blocks of an order
+
+module _ (terms : TermsValue) (own : ℕ → List History) where
+  abbrev AreOwn : ℕ → List Stream → List Report → Type 0
+  AreOwn s streams reports = AreJudged terms (λ t. true) (λ t blocks. blocks ≡ own t) s streams reports
+
+  own_count : (s : ℕ) (streams : List Stream) (reports : List Report) → AreOwn s streams reports → length reports ≡ length streams
+  own_count s [] [] judged = refl
+  own_count s [] (r ∷ rs) judged = absurd judged
+  own_count s (t ∷ ts) [] judged = absurd judged
+  own_count s (t ∷ ts) (r ∷ rs) judged = ap suc (own_count (s + 1) ts rs judged.1)
+
+  own_from : (s k : ℕ) (streams : List Stream) (reports : List Report) (stream : Stream) (report : Report) → AreOwn s streams reports
+      → slice_get streams k ≡ Some stream → slice_get reports k ≡ Some report → JudgesStream (setting_of terms (s + k)) stream (own (s + k)) report
+  own_from s k [] [] stream report judged at says = absurd (cc)
+  own_from s k [] (r ∷ rs) stream report judged at says = absurd judged
+  own_from s k (t ∷ ts) [] stream report judged at says = absurd judged
+  own_from s zero (t ∷ ts) (r ∷ rs) stream report judged at says =
+      let same_stream : t ≡ stream = cc in
+      let same_report : r ≡ report = cc in
+      let here : s ≡ s + 0 = omega arith in
+      let j = judged.0 refl in
+      subst (λ n. JudgesStream (setting_of terms n) stream (own n) report) here
+      (subst (λ x. JudgesStream (setting_of terms s) x (own s) report) same_stream
+      (subst (λ x. JudgesStream (setting_of terms s) t (own s) x) same_report
+      (subst (λ (bs : List History). JudgesStream (setting_of terms s) t bs r) j.1 j.2)))
+  own_from s (suc k) (t ∷ ts) (r ∷ rs) stream report judged at says =
+      let next : s + 1 + k ≡ s + suc k = omega arith in
+      subst (λ n. JudgesStream (setting_of terms n) stream (own n) report) next (own_from (s + 1) k ts rs stream report judged.1 at says)
+
+  pub own_at : (s : ℕ) (streams : List Stream) (reports : List Report) (stream : Stream) (report : Report) → AreOwn 1 streams reports
+      → IsOfStream streams s stream → IsOfStream reports s report → JudgesStream (setting_of terms s) stream (own s) report
+  own_at s streams reports stream report judged at says =
+      let first = at.0 in
+      let place : 1 + (s - 1) ≡ s = omega (arith, first) in
+      subst (λ n. JudgesStream (setting_of terms n) stream (own n) report) place (own_from 1 (s - 1) streams reports stream report judged at.1 says.1)
+
+-- Two runs
+
+-- whatever is said twice of each stream, by its own blocks of two orders, the orders and the reports are the same
+module _ (alike : BlocksGoAlike) (forks : LegalNeverFork) (one : OneReport) (f : Cnf) (terms : TermsValue)
+    (streams others : List Stream) (reports other_reports : List Report)
+    (a : IsOrderedByTurns f terms streams reports) (b : IsOrderedByTurns f terms others other_reports)
+    (count : length streams ≡ terms.layout.streams) (other_count : length others ≡ terms.layout.streams)
+    (both : (s : ℕ) (stream other : Stream) (report other_report : Report)
+    → IsOfStream streams s stream → IsOfStream others s other → IsOfStream reports s report → IsOfStream other_reports s other_report
+    → (j : JudgedTwice (setting_of terms s) (blocks_of s a.order.blocks) (blocks_of s b.order.blocks)) × (j.report ≡ report) × (j.other ≡ other_report)) where
+  many : length reports ≡ length streams
+  many = own_count terms (λ t. blocks_of t a.order.blocks) 1 streams reports a.order.judged
+
+  other_many : length other_reports ≡ length others
+  other_many = own_count terms (λ t. blocks_of t b.order.blocks) 1 others other_reports b.order.judged
+
+  orders_same : a.order.blocks ≡ b.order.blocks
+  orders_same = same_order alike forks f terms a.order.blocks b.order.blocks
+      (λ s stream.
+      let at = has_place streams s stream.0 (omega (arith, stream.1, count)) in
+      let there = has_place others s stream.0 (omega (arith, stream.1, other_count)) in
+      let says = has_place reports s stream.0 (omega (arith, stream.1, count, many)) in
+      let also = has_place other_reports s stream.0 (omega (arith, stream.1, other_count, other_many)) in
+      (both s at.0 there.0 says.0 also.0 at.1 there.1 says.1 also.1).0)
+      a.order.within b.order.within a.order.legal.events b.order.legal.events a.turns b.turns
+
+  pub reports_same : reports ≡ other_reports
+  reports_same = same_for_each reports other_reports (many ∙ count ∙ sym other_count ∙ sym other_many)
+      (λ s report other_report says also.
+      let first = says.0 in
+      let within = slice_get_within reports (s - 1) report says.1 in
+      let at = has_place streams s first (omega (arith, within, many, first)) in
+      let there = has_place others s first (omega (arith, within, many, count, other_count, first)) in
+      let twice = both s at.0 there.0 report other_report at.1 there.1 says also in
+      let j = twice.0 in
+      let same = one (setting_of terms s) j.bytes j.end (blocks_of s a.order.blocks) (blocks_of s b.order.blocks) j.report j.other
+      (ap (λ bs. joined (blocks_of s bs)) orders_same) j.first j.second j.memory j.none in
+      sym twice.1 ∙ same.1 ∙ twice.2)
+
+pub turns_decide : OverStays → OneReport → LegalNeverFork → BlocksGoAlike → TurnsDecide
+turns_decide stays one forks alike f terms streams others reports other_reports count other_count readings a b memory none =
+    let both : (s : ℕ) (stream other : Stream) (report other_report : Report)
+    → IsOfStream streams s stream → IsOfStream others s other → IsOfStream reports s report → IsOfStream other_reports s other_report
+    → (j : JudgedTwice (setting_of terms s) (blocks_of s a.order.blocks) (blocks_of s b.order.blocks)) × (j.report ≡ report) × (j.other ≡ other_report) =
+    λ s stream other report other_report at there says also.
+    let c = setting_of terms s in
+    let reading = readings s stream other at there in (
+      record {
+        bytes = reading.0;
+        end = reading.1;
+        report = report;
+        other = other_report;
+        first = judged_whole stays c stream.end stream.bytes reading.0 reading.1 (blocks_of s a.order.blocks) report reading.2
+            (own_at terms (λ t. blocks_of t a.order.blocks) s streams reports stream report a.order.judged at says);
+        second = judged_whole stays c other.end other.bytes reading.0 reading.1 (blocks_of s b.order.blocks) other_report reading.3
+            (own_at terms (λ t. blocks_of t b.order.blocks) s others other_reports other other_report b.order.judged there also);
+        memory = memory s report refl says;
+        none = none s other_report refl also;
+      },
+      refl,
+      refl,
+    ) in (
+      orders_same alike forks one f terms streams others reports other_reports a b count other_count both,
+      reports_same alike forks one f terms streams others reports other_reports a b count other_count both,
+    )
+
+pub bytes_decide : DecidedBeforeFailure → OneReport → LegalNeverFork → BlocksGoAlike → BytesDecide
+bytes_decide decided one forks alike f terms told other_told reports other_reports count other_count same x y fine good =
+    let streams = x.streams in
+    let others = y.streams in
+    let a = x.judged in
+    let b = y.judged in
+    let many : length streams ≡ terms.layout.streams = told_count told streams x.are_told ∙ count in
+    let other_many : length others ≡ terms.layout.streams = told_count other_told others y.are_told ∙ other_count in
+    reports_same alike forks one f terms streams others reports other_reports a b many other_many
+    (λ s stream other report other_report at there says also.
+    let first = at.0 in
+    let c = setting_of terms s in
+    let within = slice_get_within streams (s - 1) stream at.1 in
+    let here = has_place told s first (omega (arith, within, many, count, first)) in
+    let near = has_place other_told s first (omega (arith, within, many, other_count, first)) in
+    let bytes = same s here.0 near.0 here.1 near.1 in
+    let is = told_at told streams s here.0 stream x.are_told here.1 at in
+    let was = told_at other_told others s near.0 other y.are_told near.1 there in
+    let mine = fine s report says in
+    let theirs = good s other_report also in (
+      record {
+        bytes = bytes.0;
+        end = stream_ends.Ended;
+        report = report;
+        other = other_report;
+        first = judged_to decided c stream.end stream.bytes stream.unneeded bytes.0 here.0.left here.0.has_failed (blocks_of s a.order.blocks) report
+            (subst (λ (e : Option (List ℕ)). Consumes e here.0.left (stream.bytes ++ stream.unneeded)) bytes.1 is.consumes) is.ends is.needed mine.1
+            (own_at terms (λ t. blocks_of t a.order.blocks) s streams reports stream report a.order.judged at says);
+        second = judged_to decided c other.end other.bytes other.unneeded bytes.0 near.0.left near.0.has_failed (blocks_of s b.order.blocks) other_report
+            (subst (λ (e : Option (List ℕ)). Consumes e near.0.left (other.bytes ++ other.unneeded)) bytes.2 was.consumes) was.ends was.needed theirs.1
+            (own_at terms (λ t. blocks_of t b.order.blocks) s others other_reports other other_report b.order.judged there also);
+        memory = mine.0;
+        none = theirs.0;
+      },
+      refl,
+      refl,
+    ))

@@ -1,0 +1,74 @@
+-- Laws of runs on one thread, whose order of lines is by turns. Each is the contract of a function of laws.
+use Rattle.std.specs.Prelude.{◌≡◌, ℕ, true, List, length, map, Some}
+use Rattle.std.specs.List.{flat_map}
+use Rattle.lrup_model.specs.Formula.{Cnf, IsCnf}
+use Rattle.lrup_model.specs.Layout.{Fits}
+use Rattle.lrup_text.specs.Lines.{line_text}
+use Rattle.lrup_text.specs.declared.device.StreamEnd.{StreamEnd}
+use Rattle.stream_check.specs.declared.report.Report.{Report}
+use Rattle.stream_check.specs.Laws.{IsOfMemory, IsOfFailure}
+use Rattle.runs.specs.Closed.{IsOfStream}
+use Rattle.runs.specs.Streams.{Stream, Telling, TermsValue, StandsOnStreams}
+use Rattle.runs.specs.Turns.{IsByTurns, IsOrderedByTurns}
+use Rattle.run_laws.specs.Groups.{IsReadingOf, NoneOutOfMemory}
+use Rattle.run_laws.specs.Right.{right_report}
+use Rattle.run_laws.specs.Together.{Step, IsRightOrder, lines_by}
+
+-- each stream and the other of its number are readings of the same bytes and end
+abbrev pub HaveSameReadings : List Stream → List Stream → Type 0
+HaveSameReadings streams others = (s : ℕ) (stream other : Stream)
+    → IsOfStream streams s stream → IsOfStream others s other
+    → (whole : List ℕ) × (end : StreamEnd) × IsReadingOf whole end stream
+    × IsReadingOf whole end other
+
+-- The order by turns of streams that are readings of the same bytes and ends is one, and so are their reports, unless memory ran
+-- out.
+abbrev pub TurnsDecide : Type 0
+TurnsDecide = (f : Cnf) (terms : TermsValue) (streams others : List Stream)
+    (reports other_reports : List Report)
+    → length streams ≡ terms.layout.streams → length others ≡ terms.layout.streams
+    → HaveSameReadings streams others
+    → (a : IsOrderedByTurns f terms streams reports)
+    → (b : IsOrderedByTurns f terms others other_reports)
+    → NoneOutOfMemory (λ s. true) reports → NoneOutOfMemory (λ s. true) other_reports
+    → (a.order.blocks ≡ b.order.blocks) × (reports ≡ other_reports)
+
+-- each reader and the other of its number have the same known bytes left at first
+abbrev pub HaveSameBytes : List Telling → List Telling → Type 0
+HaveSameBytes told other_told = (s : ℕ) (telling other : Telling)
+    → IsOfStream told s telling → IsOfStream other_told s other
+    → (whole : List ℕ) × (telling.entry ≡ Some whole) × (other.entry ≡ Some whole)
+
+-- no report tells that memory ran out, or that a read failed
+abbrev pub NoneCutShort : List Report → Type 0
+NoneCutShort reports = (s : ℕ) (report : Report) → IsOfStream reports s report
+    → ¬ IsOfMemory report × ¬ IsOfFailure report
+
+-- So two runs on one thread of one formula, by the same terms, have the same reports where their readers have the same bytes left
+-- at first, unless memory ran out or a read failed.
+abbrev pub BytesDecide : Type 0
+BytesDecide = (f : Cnf) (terms : TermsValue) (told other_told : List Telling)
+    (reports other_reports : List Report)
+    → length told ≡ terms.layout.streams → length other_told ≡ terms.layout.streams
+    → HaveSameBytes told other_told
+    → StandsOnStreams told (λ streams. IsOrderedByTurns f terms streams reports)
+    → StandsOnStreams other_told (λ streams. IsOrderedByTurns f terms streams other_reports)
+    → NoneCutShort reports → NoneCutShort other_reports
+    → reports ≡ other_reports
+
+-- each reader has the texts of its stream's lines left at first, and nothing else
+abbrev pub HaveJustTexts : List Step → List Telling → Type 0
+HaveJustTexts steps told = (s : ℕ) (telling : Telling) → IsOfStream told s telling
+    → telling.entry ≡ Some (flat_map line_text (lines_by s steps))
+
+-- Where the lines of streams have a right order that is by turns, then in a run on one thread over their texts each stream ended, as
+-- its right report says, unless memory ran out or a read failed.
+abbrev pub RightByTurns : Type 0
+RightByTurns = (f : Cnf) (terms : TermsValue) (steps : List Step) (told : List Telling)
+    (reports : List Report) (s : ℕ) (report : Report)
+    → IsCnf f → Fits terms.layout f → length told ≡ terms.layout.streams
+    → IsRightOrder f terms.layout steps → IsByTurns (map (λ step. step.stream) steps)
+    → HaveJustTexts steps told
+    → StandsOnStreams told (λ streams. IsOrderedByTurns f terms streams reports)
+    → NoneCutShort reports
+    → IsOfStream reports s report → report ≡ right_report terms s (lines_by s steps)

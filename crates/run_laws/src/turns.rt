@@ -1,0 +1,47 @@
+//! Laws of runs on one thread. Each function does nothing; its contract is the law, which holds of every formula and run.
+ghost use Rattle.run_laws.specs.TurnsLaws.{BytesDecide, RightByTurns, TurnsDecide};
+
+use lrup_model::laws::propagation_sound;
+use lrup_text::laws::{a_stream_is_cut_in_one_way, no_bytes_have_no_lines};
+use stream_check::laws::{
+    blocks_go_alike, decided_before_failure, end_judged, fresh_left, good_exactly_if,
+    good_line_taken, legal_never_fork, one_report, over_stays,
+};
+
+/// Streams that are readings of the same bytes and ends have one order by turns, and the same reports, unless memory ran out.
+pub fn turns_decide()
+    ensures { TurnsDecide }
+{
+    over_stays();
+    one_report();
+    legal_never_fork();
+    blocks_go_alike();
+}
+
+/// Two runs on one thread over the same bytes have the same reports, unless memory ran out or a read failed.
+pub fn bytes_decide()
+    ensures { BytesDecide }
+{
+    decided_before_failure();
+    one_report();
+    legal_never_fork();
+    blocks_go_alike();
+}
+
+/// Where the lines of streams have a right order that is by turns, a run on one thread says of each what is right, unless memory
+/// ran out or a read failed.
+pub fn right_by_turns()
+    ensures { RightByTurns }
+{
+    good_exactly_if();
+    propagation_sound();
+    good_line_taken();
+    fresh_left();
+    end_judged();
+    no_bytes_have_no_lines();
+    a_stream_is_cut_in_one_way();
+    decided_before_failure();
+    one_report();
+    legal_never_fork();
+    blocks_go_alike();
+}

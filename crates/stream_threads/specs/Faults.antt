@@ -1,0 +1,25 @@
+-- What is said where threads didn't find something of each stream (this project's own).
+use Rattle.std.specs.Prelude.{◌≡◌, ◌≤◌, ◌<◌, ◌+◌, ℕ, List, length, take}
+use Rattle.lrup_text.specs.ReadOut.{SourceView}
+use Rattle.stream_threads.specs.Jobs.{AllFinish, FoundValue, JobsValue}
+use Rattle.stream_threads.specs.declared.jobs.ThreadFault.{ThreadFault}
+use Rattle.stream_threads.specs.declared.jobs.ThreadFault.TheVariants.{Spawn, Ring}
+
+-- the fault is that of a ring, behind the streams of which this was found
+abbrev pub IsRingBehind : {S : Type 0} → List (FoundValue S) → ThreadFault S → Type 0
+IsRingBehind found (Spawn stream) = ⊥
+IsRingBehind found (Ring before) = before.items ≡ found
+
+-- where a stream's ring met no end, this was found of each stream before it
+abbrev pub IsFirstFault : {S : Type 0} → SourceView S → List (JobsValue S) → ThreadFault S → Type 0
+IsFirstFault view all (Spawn stream) = Unit {0}
+IsFirstFault view all (Ring found) = AllFinish view (take (length found.items) all) found.items
+
+-- the stream, from 1 on, at which the threads failed
+abbrev pub fault_stream : {S : Type 0} → ThreadFault S → ℕ
+fault_stream (Spawn stream) = stream
+fault_stream (Ring found) = length found.items + 1
+
+-- that is one of so many streams
+abbrev pub IsFaultWithin : {S : Type 0} → ℕ → ThreadFault S → Type 0
+IsFaultWithin count fault = (0 < fault_stream fault) × (fault_stream fault ≤ count)

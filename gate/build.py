@@ -1,0 +1,191 @@
+#!/usr/bin/env python3
+"""Proves the program and all that it stands on, crates that don't stand on each other side by side.
+
+    python3 gate/build.py RT
+
+rt lets one run at a time into a crate and those below it, and nearly all stand on lrup_model. So each library is proved in a lane:
+a folder with copies of its sources and of the libraries below, into which its out/ is moved for that time. Those with the longest
+way to the program come first, by the seconds of the table in CONTRIBUTING. Where a build is broken off, the next one goes on with
+what was proved. At the end `rt run` proves and runs the program. It knows by sums which libraries are proved, and proves any other
+again: nothing rests on what stands here.
+"""
+import fcntl
+import os
+import re
+import shutil
+import signal
+import subprocess
+import sys
+import tempfile
+import time
+from pathlib import Path
+
+ROOT = Path(__file__).resolve().parent.parent
+CRATES = ROOT / "crates"
+PROGRAM = "lrupd"
+LOG = CRATES / PROGRAM / "out" / "build.log"
+# Not beside the sources, where rt ci would refuse the copies that a killed build left.
+LANES = (ROOT / ".git" if (ROOT / ".git").is_dir() else ROOT / "out") / "lanes"
+PARTS = ("src", "specs", "proofs")
+CORES = len(os.sched_getaffinity(0))
+JOBS = min(4, CORES)
+GB_EACH = 3.5  # with four jobs; the most that was seen is 3.3
+
+
+LINES = {line.split(":")[0]: line for line in (ROOT / "crates.txt").read_text().splitlines() if ":" in line}
+USES = {name: [word for word in line.split() if word in LINES] for name, line in LINES.items()}  # of the repository
+SECONDS = dict(re.findall(r"^\| `(\w+)` \| (\d+)", (ROOT / "CONTRIBUTING.md").read_text(), re.M))
+
+
+def below(name):
+    return {crate for use in USES[name] for crate in {use, *below(use)}}
+
+
+ALL = {PROGRAM, *below(PROGRAM)}
+
+
+def seconds(*names):
+    return sum(int(SECONDS.get(name, 60)) for name in names)
+
+
+def way(name):
+    """The seconds to the program by the longest way."""
+    return seconds(name) + max((way(above) for above in ALL if name in USES[above]), default=0)
+
+
+def is_young(name):
+    """Whether the library is younger than its sources. If it doesn't fit them all the same, `rt run` will see that."""
+    stamp = CRATES / name / "out/rlib/stamp"
+    files = [file for crate in {name, *below(name)} for part in PARTS for file in (CRATES / crate / part).rglob("*")]
+    return stamp.is_file() and stamp.stat().st_mtime > max(file.stat().st_mtime for file in files)
+
+
+def lanes_at_once():
+    available = re.search(r"MemAvailable: +(\d+)", Path("/proc/meminfo").read_text())
+    return max(1, min(3, CORES, int(int(available[1]) / 1e6 / GB_EACH)))
+
+
+def link(one, other):
+    try:
+        os.link(one, other)
+    except OSError:
+        shutil.copy2(one, other)
+
+
+def locked(folder):
+    """Waits until no rt works in the folder, and keeps others out until what it returns is closed."""
+    held = os.open(folder, os.O_RDONLY)
+    try:
+        fcntl.flock(held, fcntl.LOCK_EX | fcntl.LOCK_NB)
+    except BlockingIOError:
+        print(f"waiting for another rt in {folder.relative_to(ROOT)}", file=sys.stderr, flush=True)
+        fcntl.flock(held, fcntl.LOCK_EX)
+    return held
+
+
+class Lane:
+    """A library that is being proved."""
+
+    def __init__(self, name):
+        self.name, self.began, self.run = name, time.monotonic(), None
+        self.home, self.top = CRATES / name, LANES / name
+        self.here = self.top / "crates" / name
+        self.lock = locked(self.home)
+        self.said = tempfile.TemporaryFile("w+", errors="replace")
+
+    def start(self, *words):
+        self.go_home()  # from a build that was killed
+        for crate in {self.name, *below(self.name)}:
+            for part in PARTS:
+                if (CRATES / crate / part).is_dir():
+                    shutil.copytree(CRATES / crate / part, self.top / "crates" / crate / part)
+            if crate != self.name and (CRATES / crate / "out/rlib").is_dir():
+                shutil.copytree(CRATES / crate / "out/rlib", self.top / "crates" / crate / "out/rlib", copy_function=link)
+        (self.top / "crates.txt").write_text("".join(LINES[crate] + "\n" for crate in {self.name, *below(self.name)}))
+        shutil.copy(ROOT / "HANDLES", self.top)
+        if (self.home / "out").is_dir():
+            os.rename(self.home / "out", self.here / "out")
+        self.run = subprocess.Popen(words, cwd=self.here, stdin=subprocess.DEVNULL, stdout=self.said, stderr=subprocess.STDOUT)
+
+    def go_home(self):
+        if self.here.is_dir():
+            lock = locked(self.here)
+            if (self.here / "out").is_dir() and not (self.home / "out").exists():
+                os.rename(self.here / "out", self.home / "out")
+            os.close(lock)
+        shutil.rmtree(self.top, ignore_errors=True)
+
+    def end(self):
+        """Ends the run, if it was started, and returns its status and what it printed."""
+        if self.run and self.run.poll() is None:
+            self.run.terminate()
+        status = self.run.wait() if self.run else 1
+        self.go_home()
+        stamp = self.home / "out/rlib/stamp"
+        if status == 0 and stamp.is_file():
+            os.utime(stamp)
+        os.close(self.lock)
+        self.said.seek(0)
+        return status, self.said.read()
+
+
+def tell(done, name, began):
+    """The line of a crate that is proved, with the share of the seconds that is left."""
+    took = int(time.monotonic() - began)
+    left = 100 * seconds(*ALL - done) // seconds(*ALL)
+    print(f"{len(done)} of {len(ALL)}: {name}, {took // 60}:{took % 60:02}" + f"; {left} % left" * bool(left), flush=True)
+
+
+def prove_libraries(rt):
+    """Returns the status and what was printed of one that isn't proved, if there is one."""
+    done = {name for name in ALL - {PROGRAM} if is_young(name)}
+    todo = sorted(ALL - {PROGRAM} - done, key=way, reverse=True)
+    running, most = [], lanes_at_once()
+    try:
+        while todo or running:
+            ready = [name for name in todo if below(name) <= done]
+            for name in ready[:most - len(running)]:
+                todo.remove(name)
+                is_first = all(way(name) > way(lane.name) for lane in running)
+                running.append(Lane(name))
+                running[-1].start(*[] if is_first else ["nice"], rt, "lib", "--jobs", str(JOBS if is_first else min(2, JOBS)))
+            time.sleep(0.1)
+            for lane in [lane for lane in running if lane.run.poll() is not None]:
+                running.remove(lane)
+                status, said = lane.end()
+                if status:
+                    return status, said
+                done.add(lane.name)
+                tell(done, lane.name, lane.began)
+    finally:
+        for lane in running:
+            lane.end()
+    return 0, ""
+
+
+def prove_program(rt):
+    began = time.monotonic()
+    files = [ROOT / "examples" / f"four-clause.{end}" for end in ("cnf", "lrup")]
+    words = [rt, "run", "--jobs", str(JOBS), "--", *files]
+    ran = subprocess.run(words, cwd=CRATES / PROGRAM, stdout=subprocess.PIPE, stderr=subprocess.STDOUT, errors="replace")
+    if not ran.returncode and re.search(rf"^crate {PROGRAM}:", ran.stdout, re.M):
+        tell(ALL, PROGRAM, began)
+    return ran.returncode, ran.stdout
+
+
+def main():
+    signal.signal(signal.SIGTERM, lambda *_: sys.exit(143))
+    rt = sys.argv[1]
+    status, said = prove_libraries(rt)
+    if not status:
+        status, said = prove_program(rt)
+    LOG.parent.mkdir(exist_ok=True)
+    LOG.write_text(said)
+    if status:
+        sys.exit(re.sub(r".*: proved\n", "", said))
+
+
+try:
+    main()
+except KeyboardInterrupt:
+    sys.exit(130)

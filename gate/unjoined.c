@@ -1,0 +1,20 @@
+/* What the sweep has to find wrong: a program that starts six threads, as lrupd does for three streams, and where one isn't started
+   says so without having waited for the others. A test's test, and no part of the program. */
+#include <pthread.h>
+#include <stdio.h>
+#include <unistd.h>
+
+static void *leave(void *nothing) { return nothing; }
+
+int main(void) {
+    for (int number = 0; number < 6; number++) {
+        pthread_t thread;
+        if (pthread_create(&thread, NULL, leave, NULL) != 0) {
+            char text[64];
+            int length = snprintf(text, sizeof text, "lrupd: worker %d not started\n", number % 3 + 1);
+            return write(STDERR_FILENO, text, length) == length ? 6 : 1;
+        }
+        pthread_detach(thread);
+    }
+    return 0;
+}

@@ -1,0 +1,66 @@
+#!/bin/sh
+# Makes a Debian package of the programs that were installed below ROOT with PREFIX=/usr, and leaves it beside ROOT:
+#
+#     sh tools/deb.sh ROOT VERSION
+#
+# It adds the documents, the examples, and for bash the completion of the options that each program's --help names.
+set -eu
+umask 022
+[ $# -eq 2 ] || { echo "usage: sh $0 ROOT VERSION" >&2; exit 2; }
+for command in dpkg-deb dpkg-shlibdeps gzip; do
+    command -v $command > /dev/null || { echo "make deb needs $command, of dpkg-dev" >&2; exit 1; }
+done
+root=$(cd "$1" && pwd)
+version=$2
+top=$(cd "$(dirname "$0")/.." && pwd)
+work=$(mktemp -d)
+trap 'rm -rf "$work"' EXIT
+
+documents=$root/usr/share/doc/lrupd
+mkdir -p "$documents/examples" "$root/DEBIAN"
+cp "$top/README.md" "$top/docs/USING.md" "$documents"
+cp "$top"/examples/README.md "$top"/examples/*.cnf "$top"/examples/*.cube "$top"/examples/*.lrup "$top"/examples/*.[1-4] \
+    "$top"/examples/*.out "$documents/examples"
+gzip -9nc "$top/CHANGELOG.md" > "$documents/changelog.gz"
+for file in "$top"/LICENSE* "$top"/COPYING* "$top"/copyright; do
+    [ ! -f "$file" ] || cat "$file" >> "$documents/copyright"
+done
+gzip -9nf "$root"/usr/share/man/man1/*.1
+
+# Where the word isn't an option, bash completes the name of a file.
+mkdir -p "$root/usr/share/bash-completion/completions"
+for program in "$root"/usr/bin/*; do
+    name=${program##*/}
+    options=$({ "$program" --help 2>&1 || :; } | grep -oE -- '(^|[ [,|])--[a-z][a-z-]*' | sed 's/^[^-]//' | LC_ALL=C sort -u | tr '\n' ' ')
+    [ -n "$options" ] || { echo "$name --help names no option" >&2; exit 1; }
+    function=_$(echo "$name" | tr - _)
+    cat > "$root/usr/share/bash-completion/completions/$name" << END
+$function() {
+    COMPREPLY=()
+    case \$2 in -*) COMPREPLY=(\$(compgen -W "${options% }" -- "\$2")) ;; esac
+}
+complete -o default -F $function $name
+END
+done
+
+# dpkg-shlibdeps wants a source package around it.
+mkdir "$work/debian"
+printf 'Source: lrupd\n\nPackage: lrupd\nArchitecture: any\n' > "$work/debian/control"
+depends=$(cd "$work" && dpkg-shlibdeps -O "$root"/usr/bin/* | sed -n 's/^shlibs:Depends=//p')
+cat > "$root/DEBIAN/control" << END
+Package: lrupd
+Version: $version
+Architecture: $(dpkg --print-architecture)
+Maintainer: Yamsatin maintainers <maintainers@users.noreply.yamsatin.example>
+Section: math
+Priority: optional
+Depends: $depends
+Installed-Size: $(du -sk --exclude=DEBIAN "$root" | cut -f1)
+Description: proved checker of the proofs of SAT solvers that share clauses
+ lrupd checks streams of LRAT lines of one or more SAT solvers while they are
+ written, and answers 's UNSATISFIABLE' only if no assignment satisfies the
+ formula, which is proved of it. lrup-exact, a filter that nobody has to trust,
+ makes such streams of DRUP, DRAT, LRAT and FRAT proofs. lrup-solve, where it
+ was built, solves a formula and has the answer checked.
+END
+dpkg-deb --root-owner-group --build "$root" "$root/../lrupd_${version}_$(dpkg --print-architecture).deb"
