@@ -35,7 +35,7 @@ const uint64_t MOST_WORDS = UINT64_C(1) << 28;      // of a row
 const uint64_t FIRST_WORDS = UINT64_C(1) << 24;     // of the first row's streams
 const uint64_t GROWTH = 8;                          // from row to row
 const double FILLED = 0.6;                          // of a row, and a larger one is made
-const double SHORT_RUN = 0.3;                       // seconds, before the first one is
+const uint64_t SHORT_STREAMS = UINT64_C(1) << 20;   // bytes of all streams, that don't want the first one yet
 const double ENDING = 10;                           // seconds that a filter has for the line that it is at
 const uint64_t LONGEST_LINE = 65535;                // literals
 const double USUAL_LENGTH = 16;
@@ -466,7 +466,7 @@ void Run::look_at_row() {
         return;
     }
     const char *given = test_word("LRUP_SOLVE_FIRST_WORDS");
-    if (is_last_row || now() - started < (given ? 0 : SHORT_RUN)) return;
+    if (is_last_row || all(&Part::bytes) < (given ? 1 : SHORT_STREAMS)) return;
     if (checker.child.pid && !is_filled(checker.row, needed)) return;
     uint64_t most = words_of_a_stream(), first = (given ? strtoull(given, nullptr, 10) : FIRST_WORDS) / teams.size();
     do words_of_row = words_of_row > 0 ? GROWTH * words_of_row : first + 1;
