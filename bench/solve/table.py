@@ -70,7 +70,7 @@ def chart(rows, path):
     height = top + len(rows) * (len(ENGINES) * high + gap) + 14
     lines = [f'<svg xmlns="http://www.w3.org/2000/svg" width="{left + scale * 2 + 30}" height="{height}" font-family="sans-serif" font-size="12">',
              '<rect width="100%" height="100%" fill="white"/>',
-             f'<text x="{left}" y="16">a proved verdict, beside the time of CaDiCaL alone</text>']
+             f'<text x="{left}" y="16">a proved verdict on four cores, beside the time of CaDiCaL alone</text>']
     for place, engines in enumerate(ENGINES):
         lines.append(f'<rect x="{left + 120 * place}" y="24" width="{high}" height="{high}" fill="{colours[engines]}"/>'
                      f'<text x="{left + 120 * place + 18}" y="34">{engines} engines</text>')
