@@ -3,11 +3,11 @@
 
     solve_test.py PROGRAM [FLAGS]
 
-Known formulas with each status, 300 random ones with early inprocessing, one to eight engines; what is refused; each child killed in
-turn, signals, a full disk, outputs that are closed. What holds sharing together is left out, one thing at a time, in a build for
-tests: each has to be found out. It builds both with `make`, and the compilers' flags where they are said, as '-O1 -g
--fsanitize=thread'; where `make` doesn't find CaDiCaL's library everything is skipped, and that is told. It shows what is off; the
-last line is 'N passed, M failed', and ', K skipped' where something isn't there. The status is 1 where a run failed.
+Known formulas with each status, 300 random ones with early inprocessing, one to eight engines; what is refused; each child
+killed in turn, signals, a full disk, outputs that are closed. What holds sharing together is left out, one thing at a time, in
+a build for tests: each has to be found out. It builds both with `make`, and the compilers' flags where they are said, as '-O1
+-g -fsanitize=thread'; where `make` doesn't find CaDiCaL's library everything is skipped, and that is told. It shows what is
+off; the last line is 'N passed, M failed', and ', K skipped' where something isn't there. The status is 1 where a run failed.
 """
 import fcntl
 import os
@@ -51,11 +51,11 @@ class Answer:
         return [line for line in self.comments if " is lost: " in line]
 
 
-def solve(words, given=None, tested=None, **options):
+def solve(words, given=None, tested=None):
     """With `tested`, a build for tests, and words in its environment."""
     environment = {**os.environ, **{f"LRUP_SOLVE_{name}": str(word) for name, word in (tested or {}).items()}}
     done = subprocess.run([TESTED if tested is not None else SOLVE, "--lrupd", PROGRAM, *words], input=given, env=environment,
-                          stdin=subprocess.DEVNULL if given is None else None, capture_output=True, text=True, timeout=SECONDS, **options)
+                          stdin=subprocess.DEVNULL if given is None else None, capture_output=True, text=True, timeout=SECONDS)
     return Answer(done.stdout, done.stderr, done.returncode)
 
 
@@ -118,7 +118,7 @@ def randomly(seed, work):
 
 
 def check_again(kept):
-    """The record is enough to have the streams checked: the command, with its files; the report is the same, but for waiting."""
+    """The record is enough to have the streams checked once more: the command, with its files. The report is the same."""
     with open(os.path.join(kept, "command")) as file:
         words = shlex.split(file.read())
     want(words[0], "lrupd", "the command")
@@ -355,8 +355,8 @@ def full(words, out, cause, work):
         raise Skipped("there is no /dev/full")
     os.symlink("/dev/full", os.path.join(work, "stream1"))
     with open(out, "w") as file:
-        done = subprocess.run([SOLVE, "--lrupd", PROGRAM, *[word.format(work=work) for word in words], example("bmc.cnf")], stdout=file,
-                              stderr=subprocess.PIPE, stdin=subprocess.DEVNULL, text=True, timeout=SECONDS)
+        done = subprocess.run([SOLVE, "--lrupd", PROGRAM, *(word.format(work=work) for word in words), example("bmc.cnf")],
+                              stdout=file, stderr=subprocess.PIPE, stdin=subprocess.DEVNULL, text=True, timeout=SECONDS)
     want((done.returncode, done.stderr.count("\n"), cause in done.stderr), (1, 1, True), f"what is said: {done.stderr}")
 
 
@@ -392,7 +392,8 @@ def progress(words, wanted, work):
     os.close(leader)
     want(out.splitlines()[-1], "s UNKNOWN", "the answer")
     shown = re.findall(rb"\r([^\r\n]*clauses checked[^\r\n]*)\x1b\[K", seen)
-    want((len(shown) > 2, b"\n" in seen, seen.endswith(b"\r\x1b[K") if shown else True), (wanted, False, True), f"on the terminal: {seen[:300]}")
+    found = len(shown) > 2, b"\n" in seen, not shown or seen.endswith(b"\r\x1b[K")
+    want(found, (wanted, False, True), f"on the terminal: {seen[:300]}")
 
 
 # Formulas that nobody here wrote, of yosys.
@@ -408,8 +409,8 @@ def miter(name, change, status, work):
         want(text.count(change[0]), 1, f"places of {change[0]}")
         text = text.replace(*change)
     formula = os.path.join(work, "formula.cnf")
-    subprocess.run(["sh", os.path.join(MITERS, "miter.sh"), written(text, work, "circuits.v"), formula], check=True, timeout=SECONDS,
-                   capture_output=True)
+    circuits = written(text, work, "circuits.v")
+    subprocess.run(["sh", os.path.join(MITERS, "miter.sh"), circuits, formula], check=True, timeout=SECONDS, capture_output=True)
     want_answer(solve([formula]), status, formula)
 
 
@@ -431,7 +432,7 @@ def options_told(work):
 
 
 def rests_on(what, count, found, variables, early, work):
-    """So many formulas, with it and without. Streams of others wait for a second, and not a minute, for a clause that doesn't come."""
+    """So many formulas, with it and without. A stream waits a second, and not a minute, for a clause that doesn't come."""
     seen = {True: 0, False: 0}
     for seed in range(count):
         numbers = random.Random(seed)
@@ -491,8 +492,8 @@ def words_and_files():
     cube = "p cnf 3 3\n1 2 0\n-1 2 0\n3 -3 0\n"
     under = "s UNSATISFIABLE UNDER ASSUMPTIONS"
     runs = [("standard input" + word, standard_input, [word] * bool(word)) for word in ("", "-")]
-    runs += [("a FIFO", from_fifo), ("where lrupd is", beside), ("-q", quiet), ("keeps", keeps, []), ("keeps four", keeps, ["-j", "4"]),
-             ("keeps standard input", keeps_standard_input),
+    runs += [("a FIFO", from_fifo), ("where lrupd is", beside), ("-q", quiet), ("keeps", keeps, []),
+             ("keeps four", keeps, ["-j", "4"]), ("keeps standard input", keeps_standard_input),
              ("assumptions that contradict", assuming, cube, "-2 0\n", 20, under),
              ("assumptions of which one does", assuming, cube, "3 1 -2 0\n", 20, under),
              ("assumptions that fit", assuming, cube, "2 -1 0\n", 10, None),
@@ -504,16 +505,16 @@ def words_and_files():
                          (["-j"], "no value after -j"), (["-j", "0", "{formula}"], "-j: 0"), (["-j", "65", "{formula}"], "-j: 65"),
                          (["-j", "x", "{formula}"], "-j: x"), (["--time", "-1", "{formula}"], "--time"),
                          (["--time", "nan", "{formula}"], "--time"), (["--memory", "", "{formula}"], "--memory"),
-                         (["--memory", "1X", "{formula}"], "--memory"), (["--memory", "99999999999999999999", "{formula}"], "--memory"),
+                         (["--memory", "1X", "{formula}"], "--memory"),
+                         (["--memory", "99999999999999999999", "{formula}"], "--memory"),
                          (["--memory", "100", "{formula}"], "no room"), (["--share-size", "-1", "{formula}"], "--share-size"),
                          (["--seed", "1.5", "{formula}"], "--seed"), (["--lrupd", "{work}/none", "{formula}"], "none"),
                          (["--lrupd", "{work}", "{formula}"], ""), (["--proofs", "{work}/none/none", "{formula}"], "none/none"),
                          (["--proofs", "{formula}", "{formula}"], "stream1")):
         runs.append((" ".join(["lrup-solve", *words]), refused, words, cause))
-    for text, words in (("", []), ("p cnf 2\n", []), ("p cnf 2 1\n1 x 0\n", []), ("p cnf 2 2\n1 0\n", []), ("p cnf 2 1\n1 0\n2 0\n", []),
-                        ("p cnf 2 1\n1 3 0\n", []), ("p cnf 2 1\n1 2\n", []), ("1 2 0\n", []), ("p cnf 99999999 1\n1 0\n", []),
-                        (FOUR, ["--assume", "{work}/bad"]), (FOUR, ["--assume", "{work}/beyond"]), (FOUR, ["--assume", "{work}/none"]),
-                        (FOUR, ["--assume", "{work}"])):
+    for text, words in (("", []), ("p cnf 2\n", []), ("p cnf 2 1\n1 x 0\n", []), ("p cnf 2 2\n1 0\n", []),
+                        ("p cnf 2 1\n1 0\n2 0\n", []), ("p cnf 2 1\n1 3 0\n", []), ("p cnf 2 1\n1 2\n", []), ("1 2 0\n", []), ("p cnf 99999999 1\n1 0\n", []),
+                        *((FOUR, ["--assume", path]) for path in ("{work}/bad", "{work}/beyond", "{work}/none", "{work}"))):
         runs.append((" ".join(["refused", repr(text[:20]), *words]), refused_by_lrupd, text, words))
     return runs
 
@@ -560,8 +561,9 @@ def sharing():
 
 def build():
     """None, or why there is nothing to be tested."""
-    made = [subprocess.run(["make", "-s", "-C", ROOT, "solve", f"SOLVE={os.path.relpath(path, ROOT)}", f"SOLVE_FLAGS={flags}"],
-                           capture_output=True, text=True) for path, flags in ((SOLVE, FLAGS), (TESTED, FLAGS + " -DSOLVE_TESTS"))]
+    make = lambda path, flags: subprocess.run(["make", "-s", "-C", ROOT, "solve", f"SOLVE={os.path.relpath(path, ROOT)}",
+                                               f"SOLVE_FLAGS={flags}"], capture_output=True, text=True)
+    made = [make(SOLVE, FLAGS), make(TESTED, FLAGS + " -DSOLVE_TESTS")]
     failed = [done for done in made if done.returncode]
     if not failed:
         return None
@@ -576,7 +578,8 @@ def main():
     if len(sys.argv) not in (2, 3):
         sys.exit(__doc__)
     PROGRAM = os.path.abspath(sys.argv[1])
-    runs = known() + words_and_files() + what_happens() + others_formulas() + sharing() + [(f"random {seed}", randomly, seed) for seed in range(300)]
+    runs = known() + words_and_files() + what_happens() + others_formulas() + sharing()
+    runs += [(f"random {seed}", randomly, seed) for seed in range(300)]
     cause = build()
     if cause:
         print(f"lrup-solve: skipped, {cause}")

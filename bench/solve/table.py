@@ -3,10 +3,10 @@
 
     ./table.py [--rounds N] [--work FOLDER] [--svg FILE] SOLVE LRUPD
 
-The formulas are formulas.py's. `cadical -q` solves each without a proof, and lrup-solve with two and with four engines; all run by
-turns, N times, 5 if not said, and the median of each counts. Where other work has the cores, time by the clock says little. So it
-counts what four cores that are free would take at least: the larger of the longest part's processor time, of an engine or a filter,
-and a quarter of all. Wants Python 3, and `cadical` on the PATH.
+The formulas are formulas.py's. `cadical -q` solves each without a proof, and lrup-solve with two and with four engines; all run
+by turns, N times, 5 if not said, and the median of each counts. Where other work has the cores, time by the clock says little.
+So it counts what four cores that are free would take at least: the larger of the longest part's processor time, of an engine or
+a filter, and a quarter of all. Wants Python 3, and `cadical` on the PATH.
 """
 import argparse
 import os
@@ -57,8 +57,10 @@ def solved(given, formula, engines):
     done = subprocess.run([given.solve, "--lrupd", given.lrupd, "-v", "-j", str(engines), formula], capture_output=True, text=True)
     if done.returncode != REFUTED:
         sys.exit(f"lrup-solve ended with status {done.returncode}: {formula}\n{done.stdout}{done.stderr}")
-    parts = [float(number) for pair in re.findall(r"^c engine \d+: ([\d.]+) s, its filter ([\d.]+) s", done.stdout, re.M) for number in pair]
-    all_of, its_engines, filters, lrupd = numbers(r"([\d.]+) s of processor time: engines ([\d.]+), filters ([\d.]+), lrupd ([\d.]+)", done.stdout)
+    pairs = re.findall(r"^c engine \d+: ([\d.]+) s, its filter ([\d.]+) s", done.stdout, re.M)
+    parts = [float(number) for pair in pairs for number in pair]
+    pattern = r"([\d.]+) s of processor time: engines ([\d.]+), filters ([\d.]+), lrupd ([\d.]+)"
+    all_of, its_engines, filters, lrupd = numbers(pattern, done.stdout)
     verdict, = numbers(r"the verdict came ([\d.]+) s after", done.stdout)
     return max(parts), max(max(parts), all_of / CORES), verdict, lrupd / all_of, filters / its_engines
 
@@ -68,7 +70,8 @@ def chart(rows, path):
     left, scale, high, gap, top = 215, 300, 12, 18, 46
     colours = {2: "#2a6f97", 4: "#89c2d9"}
     height = top + len(rows) * (len(ENGINES) * high + gap) + 14
-    lines = [f'<svg xmlns="http://www.w3.org/2000/svg" width="{left + scale * 2 + 30}" height="{height}" font-family="sans-serif" font-size="12">',
+    lines = [f'<svg xmlns="http://www.w3.org/2000/svg" width="{left + scale * 2 + 30}" height="{height}" '
+             'font-family="sans-serif" font-size="12">',
              '<rect width="100%" height="100%" fill="white"/>',
              f'<text x="{left}" y="16">a proved verdict on four cores, beside the time of CaDiCaL alone</text>']
     for place, engines in enumerate(ENGINES):
@@ -83,7 +86,8 @@ def chart(rows, path):
                          f'<text x="{left + width + 4}" y="{at + high - 2}" font-size="10">{ratios[engines]:.2f}</text>')
             at += high
         at += gap
-    lines += [f'<line x1="{left + scale}" y1="{top - 6}" x2="{left + scale}" y2="{at - gap + 6}" stroke="#d00000" stroke-dasharray="4 3"/>',
+    lines += [f'<line x1="{left + scale}" y1="{top - 6}" x2="{left + scale}" y2="{at - gap + 6}" stroke="#d00000" '
+              'stroke-dasharray="4 3"/>',
               f'<text x="{left + scale}" y="{at}" text-anchor="middle" font-size="10">CaDiCaL alone, without a proof</text>', "</svg>"]
     with open(path, "w") as file:
         file.write("\n".join(lines) + "\n")

@@ -455,7 +455,7 @@ Row Run::fitted_row(uint64_t words) const {
     return split(words, std::min(200.0, std::max(2.0, average)));
 }
 
-// The first row, or a larger one where that fills up: another lrupd makes it, and checks once more what the streams have so far.
+// The first row, or a larger one where that fills up: another lrupd makes it, and checks once more what the streams have.
 void Run::look_at_row() {
     Row needed = needed_row();
     if (next.child.ended()) return keep_to_row();
