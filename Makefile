@@ -82,7 +82,7 @@ solve: c-and-python libcadical ## build: lrup-solve, from a formula to a proved 
 	@mkdir -p $(SOLVE).objects
 	@cd $(SOLVE).objects && $(CC) -std=c11 -D_GNU_SOURCE $(SOLVE_FLAGS) -Wall -Wextra -c $(abspath tools/solve/filtering.c $(FILTER))
 	@$(CXX) -std=c++17 $(SOLVE_FLAGS) -Wall -Wextra -DVERSION='"$(VERSION)"' -o $(SOLVE) tools/solve/*.cpp $(SOLVE).objects/*.o -lcadical
-	@ln -sf $(abspath $(PROGRAM)) $(dir $(SOLVE))lrupd
+	@ln -sfr $(PROGRAM) $(dir $(SOLVE))lrupd
 
 solver-test: build solver ## check: the example solver's streams, of one to eight solvers, and of some that are killed
 	@python3 examples/solver/test.py $(PROGRAM) $(SOLVER)

@@ -7,6 +7,7 @@
 
 #include <fcntl.h>
 #include <sys/ioctl.h>
+#include <sys/stat.h>
 #include <unistd.h>
 
 #include "solve.h"
@@ -18,7 +19,10 @@ const int STREAM_PIPE = 1 << 20, PIECE = 1 << 16;
 const uint64_t DROPPED = UINT64_C(1) << 22, PAGE = 4096;    // bytes that are given back at once
 const char TRIES[] = "1000000";     // a stream waits for another one's line up to a minute
 
-bool is_program(const std::string &path) { return access(path.c_str(), X_OK) == 0; }
+bool is_program(const std::string &path) {
+    struct stat found;
+    return stat(path.c_str(), &found) == 0 && S_ISREG(found.st_mode) && access(path.c_str(), X_OK) == 0;
+}
 
 std::string folder_of_this() {
     std::vector<char> path(4096);
@@ -61,14 +65,14 @@ void append(int file, std::string &text) {
 std::string find_checker(const char *given) {
     if (given) {
         std::string found = std::string(given).find('/') != std::string::npos ? given : on_the_path(given);
-        if (!is_program(found)) refuse(std::string("no program that can be run: ") + given);
-        return found;
+        if (!is_program(found)) refuse("no program that can be run: " + quoted(given));
+        return absolute(found);
     }
     std::string beside = folder_of_this() + "lrupd";
     if (is_program(beside)) return beside;
     std::string found = on_the_path("lrupd");
-    if (found.empty()) refuse("no lrupd, neither beside this program nor on the PATH: --lrupd says where");
-    return found;
+    if (found.empty()) refuse("no lrupd, neither beside this program nor on the PATH: --lrupd says where, or `make build` makes it");
+    return absolute(found);
 }
 
 std::vector<std::string> row_words(const Row &row) {
@@ -157,16 +161,21 @@ std::vector<pollfd> Checker::files() const {
     return list;
 }
 
-void Checker::read_on(bool tell) {
+void Checker::read_on() {
     if (out.read < 0) return;
     append(out.read, report);
     append(err.read, said);
-    for (size_t end; tell && (end = said.find('\n', told)) != std::string::npos; told = end + 1)
-        printf("c %s\n", said.substr(told, end - told).c_str());
-    if (tell) fflush(stdout);
     if (!child.ended()) return;
     close_file(out.read);
     close_file(err.read);
+}
+
+bool Checker::next_line(std::string &line) {
+    size_t end = said.find('\n', told);
+    if (end == std::string::npos) return false;
+    line = said.substr(told, end - told);
+    told = end + 1;
+    return true;
 }
 
 std::string Checker::last_line() const {

@@ -9,7 +9,6 @@
 // start late, and again: its row is made before it reads a line, and doesn't grow. A short run gets a small row, a longer one a
 // larger one.
 #include <algorithm>
-#include <cctype>
 #include <cerrno>
 #include <cmath>
 #include <csignal>
@@ -21,9 +20,9 @@
 #include <fcntl.h>
 #include <poll.h>
 #include <sched.h>
+#include <sys/ioctl.h>
 #include <sys/mman.h>
 #include <sys/signalfd.h>
-#include <sys/stat.h>
 #include <unistd.h>
 
 #include "solve.h"
@@ -52,6 +51,7 @@ struct Team {
     uint32_t *outbox = nullptr;
     signed char *model = nullptr;
     bool told = false, wrong = false, paused = false;
+    std::string cause;      // why it is lost
 };
 
 std::string format(const char *text, ...) {
@@ -70,14 +70,9 @@ std::string grouped(uint64_t number) {
     return digits;
 }
 
-// For a shell.
-std::string quoted(const std::string &word) {
-    auto is_plain = [](unsigned char letter) { return isalnum(letter) || strchr("-_./+=,:@%", letter); };
-    if (std::all_of(word.begin(), word.end(), is_plain)) return word;
-    std::string text = "'";
-    for (char letter : word) text += letter == '\'' ? std::string("'\\''") : std::string(1, letter);
-    return text + "'";
-}
+std::string counted(uint64_t number, const char *what) { return grouped(number) + " " + what + (number == 1 ? "" : "s"); }
+
+std::string title(const std::string &path) { return path == "-" ? "standard input" : quoted(path); }
 
 bool fits(const Row &needed, const Row &row) { return needed.lines <= row.lines && needed.room <= row.room; }
 
@@ -102,7 +97,7 @@ private:
     Options options;
     Formula formula = {};
     std::vector<Literal> assumed;
-    std::string formula_path, assume_path, checker_program;
+    std::string formula_path, assume_path, checker_program, unkept;
     std::vector<int> copies;
     Shared *shared = nullptr;
     std::vector<Team> teams;
@@ -119,6 +114,8 @@ private:
 
     // Before anything is solved.
     void prepare();
+    void read_inputs();
+    std::string contradiction() const;
     std::string again(const std::string &path, const char *kept_as);
     void read_assumptions();
     void take_signals();
@@ -146,6 +143,7 @@ private:
     Row needed_row() const;
     Row fitted_row(uint64_t words) const;
     void look_at_row();
+    std::string command_line(const std::vector<std::string> &words) const;
     void start_checker(Checker &one, Row wanted);
     void take_next();
     void keep_to_row();
@@ -153,10 +151,11 @@ private:
 
     // What is told.
     void tell(const std::string &line) const;
+    void tell_lines();
     void tell_lost(size_t k, const std::string &why);
     void show_progress();
-    void hide_progress();
-    void keep_report() const;
+    void hide_progress() const;
+    void keep_report();
     void summary() const;
     void details() const;
     void tell_causes() const;
@@ -173,20 +172,30 @@ Run *the_run;
 
 // A path that can be read more than once: what is no file on a disk is copied to memory, or to where the record is kept.
 std::string Run::again(const std::string &path, const char *kept_as) {
-    struct stat found;
-    bool standard_input = path == "-";
-    if (!standard_input && (stat(path.c_str(), &found) != 0 || S_ISREG(found.st_mode) || S_ISDIR(found.st_mode))) return path;
-    int file = standard_input ? STDIN_FILENO : open(path.c_str(), O_RDONLY | O_CLOEXEC);
-    std::string copied = options.proofs ? std::string(options.proofs) + "/" + kept_as : "";
-    int copy = options.proofs ? create_file(copied) : file_in_memory();
-    copy_file(file, standard_input ? "standard input" : path, copy);
-    if (!standard_input) close(file);
+    if (is_read_again(path)) return path[0] == '-' ? "./" + path : path;
+    std::string copied = options.proofs ? std::string(options.proofs) + "/" + kept_as : "", begun = unfinished(copied);
+    int file = open_input(path), copy = options.proofs ? create_file(begun) : file_in_memory();
+    copy_file(file, title(path), copy);
+    close(file);
     if (options.proofs) {
         close_file(copy);
+        if (rename(begun.c_str(), copied.c_str()) != 0) refuse("cannot write " + copied + ": " + error_text());
         return copied;
     }
     copies.push_back(copy);
     return "/dev/fd/" + std::to_string(copy);
+}
+
+// Of an earlier run in the folder nothing is removed until they are read: they may come from there, by a pipe.
+void Run::read_inputs() {
+    std::vector<std::string> inputs = { options.formula ? options.formula : "-" };
+    if (options.assume) inputs.push_back(options.assume);
+    for (const std::string &path : inputs) check_input(path);
+    if (options.proofs) open_record(options.proofs, inputs);
+    formula_path = again(inputs[0], "formula.cnf");
+    if (is_compressed(formula_path)) refuse(title(inputs[0]) + ": compressed: zcat it");
+    if (options.assume) assume_path = again(inputs[1], "assumptions");
+    if (options.proofs) clear_record(options.proofs, { formula_path, assume_path });
 }
 
 // Their spelling is lrupd's to judge.
@@ -205,15 +214,24 @@ void Run::read_assumptions() {
     assumed.resize(literals_sort(assumed.data(), assumed.size()));
 }
 
+// No clause shows it, so no proof does.
+std::string Run::contradiction() const {
+    for (size_t k = 1; k < assumed.size(); k++)
+        if (assumed[k] == complement_of(assumed[k - 1]))
+            return format("assumptions %d and %d contradict each other, which no clause shows",
+                          as_written(assumed[k - 1]), as_written(assumed[k]));
+    return "";
+}
+
 // lrupd reads the formula, too: where it refuses it, its words are told.
 void Run::formula_refused(const std::string &why) {
     double limit = now() + 600;
     while (probe.child.running && now() < limit) {
         reap(children());
-        probe.read_on(false);
+        probe.read_on();
         usleep(2000);
     }
-    probe.read_on(false);
+    probe.read_on();
     if (probe.child.ended() && !probe.child.ended_with(UNKNOWN_STATUS) && !probe.last_line().empty()) {
         end_children();
         fprintf(stderr, "%s\n", probe.last_line().c_str());
@@ -222,10 +240,13 @@ void Run::formula_refused(const std::string &why) {
     refuse(why);
 }
 
+// Those that are ignored stay so, as under nohup.
 void Run::take_signals() {
     sigset_t taken;
     sigemptyset(&taken);
-    for (int number : { SIGCHLD, SIGINT, SIGTERM, SIGHUP }) sigaddset(&taken, number);
+    struct sigaction found;
+    for (int number : { SIGCHLD, SIGINT, SIGTERM, SIGHUP })
+        if (sigaction(number, nullptr, &found) != 0 || found.sa_handler != SIG_IGN) sigaddset(&taken, number);
     sigprocmask(SIG_BLOCK, &taken, nullptr);
     signals = signalfd(-1, &taken, SFD_CLOEXEC | SFD_NONBLOCK);
     if (signals < 0) refuse("cannot wait for signals: " + error_text());
@@ -248,8 +269,8 @@ uint64_t Run::words_of_a_stream() const {
 // Until the largest row is made, the filters keep within what one for clauses of the usual length would have.
 void Run::first_row() {
     if (words_of_a_stream() < 64)
-        refuse("the formula leaves no room in a row of " + grouped(options.memory ? options.memory : default_memory()) +
-               " bytes: --memory says how large it is");
+        refuse("the formula leaves no room in a row of " + counted(options.memory ? options.memory : default_memory(), "byte") +
+               ": --memory says how large it is");
     Row largest = split(words_of_a_stream(), USUAL_LENGTH);
     STORE(shared->most_lines, largest.lines);
     STORE(shared->most_literals, largest.room);
@@ -304,11 +325,8 @@ void Run::wait() {
     poll(list.data(), list.size(), int(std::ceil(1000 * tick)));
     take_signal();
     while (reap(children())) {}
-    bool tells = options.verbose && !options.quiet;
-    if (tells && !checker.files().empty()) hide_progress();
-    probe.read_on(false);
-    checker.read_on(tells);
-    next.read_on(false);
+    for (Checker *one : { &probe, &checker, &next }) one->read_on();
+    tell_lines();
 }
 
 void Run::take_signal() {
@@ -350,7 +368,9 @@ void Run::look_at_teams() {
         look_at_team(k);
         any_left |= !is_lost(k);
     }
-    if (phase == SOLVING && !any_left) finish(UNKNOWN_ANSWER, "no engine is left");
+    if (phase != SOLVING || any_left) return;
+    std::string contradicting = contradiction();
+    finish(UNKNOWN_ANSWER, contradicting.empty() ? "no engine is left" : contradicting);
 }
 
 // The proof is written once the filter has written its last line; what the engine says counts for nothing.
@@ -435,7 +455,7 @@ void Run::end_streams() {
 // lrupd.
 
 std::string Run::stream_path(size_t k) const {
-    return (options.proofs ? std::string(options.proofs) + "/" : std::string()) + "stream" + std::to_string(k + 1);
+    return (options.proofs ? absolute(options.proofs) + "/" : std::string()) + "stream" + std::to_string(k + 1);
 }
 
 // For what there is.
@@ -497,19 +517,26 @@ void Run::take_next() {
     std::swap(checker, next);
 }
 
+// From whatever folder it is run.
+std::string Run::command_line(const std::vector<std::string> &words) const {
+    std::string command = quoted(checker_program);
+    for (const std::string &word : words) command += " " + quoted(word);
+    command += " " + quoted(absolute(formula_path));
+    for (size_t k = 0; k < teams.size(); k++) command += " " + quoted(stream_path(k));
+    return command;
+}
+
 void Run::start_checker(Checker &one, Row wanted) {
     one.row = wanted;
     std::vector<std::string> words = row_words(wanted);
-    if (options.assume) words.insert(words.end(), { "--assume", assume_path });
-    std::string &command = one.command = "lrupd";
-    for (const std::string &word : words) command += " " + quoted(word);
-    command += " " + quoted(formula_path);
+    if (options.assume) words.insert(words.end(), { "--assume", absolute(assume_path) });
+    one.command = command_line(words);
     if (options.verbose) words.push_back("--watch");
     words.push_back(formula_path);
     std::vector<int> files;
-    for (size_t k = 0; k < teams.size(); k++) files.push_back(teams[k].stream), command += " " + quoted(stream_path(k));
+    for (const Team &team : teams) files.push_back(team.stream);
     one.start(checker_program, words, copies, files);
-    if (options.verbose) tell(command);
+    if (options.verbose) tell(one.command);
 }
 
 void Run::feed() {
@@ -523,10 +550,12 @@ void Run::feed() {
 
 // By lrupd's status alone.
 void Run::verdict() {
-    checker.read_on(options.verbose && !options.quiet);
-    keep_report();
-    if (checker.child.ended_with(0) || checker.child.ended_with(8)) return finish(UNSATISFIABLE, "");
+    checker.read_on();
+    tell_lines();
+    bool is_proved = checker.child.ended_with(0) || checker.child.ended_with(8);
     bool is_unknown = checker.child.ended_with(UNKNOWN_STATUS);
+    if (is_proved || is_unknown) keep_report();
+    if (is_proved) return finish(UNSATISFIABLE, "");
     finish(UNKNOWN_ANSWER, is_unknown ? "lrupd hasn't taken the proof" : "lrupd " + checker.child.end());
 }
 
@@ -534,13 +563,19 @@ void Run::verdict() {
 
 void Run::tell(const std::string &line) const {
     if (options.quiet) return;
-    if (shows_progress) fputs("\r\33[K", stderr);
-    printf("c %s\n", line.c_str());
+    hide_progress();
+    printf("c %s\n", one_line(line).c_str());
     fflush(stdout);
+}
+
+void Run::tell_lines() {
+    std::string line;
+    while (options.verbose && checker.next_line(line)) tell(line);
 }
 
 void Run::tell_lost(size_t k, const std::string &why) {
     teams[k].told = true;
+    teams[k].cause = why;
     if (options.verbose) tell(format("engine %zu is lost: %s", k + 1, why.c_str()));
 }
 
@@ -548,6 +583,11 @@ uint64_t Run::all(uint64_t Part::*field) const {
     uint64_t sum = 0;
     for (size_t k = 0; k < teams.size(); k++) sum += LOAD(shared->parts[k].*field);
     return sum;
+}
+
+size_t terminal_columns() {
+    winsize size = {};
+    return ioctl(STDERR_FILENO, TIOCGWINSZ, &size) == 0 && size.ws_col > 0 ? size.ws_col : 80;
 }
 
 void Run::show_progress() {
@@ -563,21 +603,22 @@ void Run::show_progress() {
         fullest = std::max(fullest, double(LOAD(part.literals)) / double(std::max<uint64_t>(1, LOAD(shared->most_literals))));
     }
     double rate = double(all(&Part::conflicts)) / (time - started);
-    fprintf(stderr, "\r%.1f s, %s conflicts a second, %s clauses checked, filters %s kB behind, the fullest stream at %.0f %%\33[K",
-            time - started, grouped(uint64_t(rate)).c_str(), grouped(uint64_t(share * double(lines))).c_str(),
-            grouped(all(&Part::behind) / 1000).c_str(), 100 * fullest);
+    std::string line = format("%.1f s, %s conflicts/s, %s checked, %s kB behind, fullest %.0f %%", time - started,
+                              grouped(uint64_t(rate)).c_str(), grouped(uint64_t(share * double(lines))).c_str(),
+                              grouped(all(&Part::behind) / 1000).c_str(), 100 * fullest);
+    fprintf(stderr, "\r%s\33[K", line.substr(0, terminal_columns() - 1).c_str());
 }
 
-void Run::hide_progress() {
+void Run::hide_progress() const {
     if (shows_progress) fputs("\r\33[K", stderr);
 }
 
-// What one needs to have the streams checked again.
-void Run::keep_report() const {
+// What one needs to have the streams checked again. The verdict is told even where it can't be kept.
+void Run::keep_report() {
     if (!options.proofs) return;
     std::string folder = std::string(options.proofs) + "/";
-    write_file(folder + "report", checker.report);
-    write_file(folder + "command", checker.command + "\n");
+    unkept = write_file(folder + "report", checker.report);
+    if (unkept.empty()) unkept = write_file(folder + "command", checker.command + "\n");
 }
 
 double Run::checker_seconds() const { return probe.child.seconds + checker.child.seconds + next.child.seconds + spent; }
@@ -593,19 +634,18 @@ void Run::details() const {
         const Part &part = shared->parts[k];
         uint64_t lines = LOAD(part.lines);
         tell(format("engine %zu: %.2f s, its filter %.2f s; %s conflicts; clauses: %s taken over, %s refused, %s given away; "
-                    "%s lines, %.0f %% of them cite another stream",
+                    "%s, %.0f %% of them cite another stream",
                     k + 1, teams[k].engine.seconds, teams[k].filter.seconds, grouped(LOAD(part.conflicts)).c_str(),
                     grouped(LOAD(part.taken)).c_str(), grouped(LOAD(part.refused)).c_str(), grouped(LOAD(part.given)).c_str(),
-                    grouped(lines).c_str(), lines ? 100.0 * double(LOAD(part.citing_others)) / double(lines) : 0));
+                    counted(lines, "line").c_str(), lines ? 100.0 * double(LOAD(part.citing_others)) / double(lines) : 0));
     }
     if (answered > 0) tell(format("the verdict came %.2f s after an engine's answer", now() - answered));
 }
 
-// Why there is no verdict: of each part that was lost, and of lrupd.
+// Why there is no verdict: of each engine that was lost, and of lrupd.
 void Run::tell_causes() const {
-    for (size_t k = 0; k < teams.size() && !options.verbose; k++)
-        if (teams[k].told && shared->parts[k].cause[0])
-            tell(format("the filter of engine %zu stopped: %s", k + 1, shared->parts[k].cause));
+    for (size_t k = 0; k < teams.size() && !options.verbose && contradiction().empty(); k++)
+        if (teams[k].told) tell(format("engine %zu is lost: %s", k + 1, teams[k].cause.c_str()));
     if (!checker.last_line().empty() && !options.verbose) tell(checker.last_line());
     size_t begin = 0;
     for (size_t end; (end = checker.report.find('\n', begin)) != std::string::npos; begin = end + 1)
@@ -617,8 +657,8 @@ void Run::summary() const {
     if (options.verbose) details();
     if (answer == UNKNOWN_ANSWER) tell_causes();
     double engines = processor_seconds(true), filters = processor_seconds(false), lrupd = checker_seconds();
-    tell(format("%.2f s, %d engine%s, %s clauses checked; %.2f s of processor time: engines %.2f, filters %.2f, lrupd %.2f",
-                now() - started, options.engines, options.engines > 1 ? "s" : "", grouped(all(&Part::lines)).c_str(),
+    tell(format("%.2f s, %s, %s checked; %.2f s of processor time: engines %.2f, filters %.2f, lrupd %.2f", now() - started,
+                counted(uint64_t(options.engines), "engine").c_str(), counted(all(&Part::lines), "clause").c_str(),
                 engines + filters + lrupd, engines, filters, lrupd));
 }
 
@@ -644,6 +684,7 @@ int Run::print_answer() {
     errno = 0;
     if (fflush(stdout) != 0 || ferror(stdout))
         refuse("cannot write the answer: " + (errno ? error_text() : "standard output failed"));
+    if (!unkept.empty()) refuse(unkept);
     return answer;
 }
 
@@ -651,10 +692,7 @@ int Run::print_answer() {
 void Run::prepare() {
     checker_program = find_checker(options.lrupd);
     if (options.engines == 0) options.engines = half_of_the_cores();
-    if (options.proofs && mkdir(options.proofs, 0777) != 0 && errno != EEXIST)
-        refuse(std::string("cannot make ") + options.proofs + ": " + error_text());
-    formula_path = again(options.formula ? options.formula : "-", "formula.cnf");
-    if (options.assume) assume_path = again(options.assume, "assumptions");
+    read_inputs();
     std::vector<std::string> words = row_words({ 0, 0 });
     if (options.assume) words.insert(words.end(), { "--assume", assume_path });
     words.insert(words.end(), { formula_path, "/dev/null" });
@@ -679,7 +717,7 @@ int Run::run() {
         child->signal(SIGKILL);
         wait_for(*child);
     }
-    checker.read_on(false);
+    checker.read_on();
     int status = print_answer();
     if (!ended_by) return status;
     signal(ended_by, SIG_DFL);
@@ -688,6 +726,13 @@ int Run::run() {
     sigemptyset(&none);
     sigprocmask(SIG_SETMASK, &none, nullptr);
     return status;
+}
+
+// What comes from the caller: where SIGCHLD is ignored nobody can wait for a child. A limit on the size of files is met as a
+// full disk is.
+void set_signals() {
+    signal(SIGCHLD, SIG_DFL);
+    signal(SIGXFSZ, SIG_IGN);
 }
 
 // Where the caller has closed one of the first three files, no pipe of ours takes its place.
@@ -702,6 +747,7 @@ void formula_refused(const char *cause) { the_run->formula_refused(cause); }
 
 int main(int count, char **words) {
     hold_first_files();
+    set_signals();
     Run run(read_words(count, words));
     the_run = &run;
     int status = run.run();

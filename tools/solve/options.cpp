@@ -9,20 +9,24 @@
 
 namespace {
 
+const uint64_t MOST_MEMORY = UINT64_C(1) << 31;     // bytes of lrupd's largest row
+
 const char summary[] =
     "usage: lrup-solve [OPTIONS] [FORMULA]\n"
     "\n"
-    "Solves a formula in DIMACS CNF, standard input where none is named, with several engines of CaDiCaL that share\n"
-    "clauses, and has lrupd check their proofs while they are written. 's UNSATISFIABLE' is proved by lrupd;\n"
+    "Solves a formula in DIMACS CNF, standard input where none or - is named, with several engines of CaDiCaL that\n"
+    "share clauses, and has lrupd check their proofs while they are written. 's UNSATISFIABLE' is proved by lrupd;\n"
     "'s SATISFIABLE' comes with an assignment that was evaluated.\n"
     "\n"
     "  -j N               engines, 1 to 64; each has a filter that works as hard. Half of the cores if not said\n"
-    "  --time SECONDS     then the answer is 's UNKNOWN'\n"
-    "  --memory BYTES     of lrupd's row of clauses, as 2000000000, 2000M or 2G; at its start it takes twice that\n"
+    "  --time SECONDS     by the clock; then the answer is 's UNKNOWN'\n"
+    "  --memory BYTES     the most that lrupd may take for the clauses it keeps, as 2000000000, 2000M or 2G, at most\n"
+    "                     2147483648; at its start it takes twice that\n"
     "  --share-size N     learned clauses of at most N literals are given away, 0 to 1000; 4 if not said. Units always are\n"
     "  --no-share         engines that share nothing\n"
     "  --seed N           other runs of the engines\n"
-    "  --proofs DIR       keep the streams and the report there\n"
+    "  --proofs DIR       keep the streams there, the report, and the command that checks them again: sh DIR/command.\n"
+    "                     Those of an earlier run are removed\n"
     "  --assume FILE      literals that are assumed, in one line that ends with 0, as for lrupd\n"
     "  --lrupd PATH       the checker; if not said it is looked for beside this program, and then on the PATH\n"
     "  -v                 say what goes on, in lines that begin with c\n"
@@ -30,8 +34,8 @@ const char summary[] =
     "  -h, --help         show this\n"
     "  --version          show the version\n"
     "\n"
-    "Statuses: 10 satisfiable, 20 unsatisfiable (or so under the assumptions), 0 unknown, 1 a mistake, or a file that\n"
-    "can't be used.\n";
+    "After -- a word is the formula. Statuses: 10 satisfiable, 20 unsatisfiable (or so under the assumptions),\n"
+    "0 unknown, 1 a mistake, or a file that can't be used.\n";
 
 std::string version() { return std::string("lrup-solve ") + VERSION + ", with CaDiCaL " + engine_version() + "\n"; }
 
@@ -61,16 +65,19 @@ private:
     char **next, **end;
 };
 
-[[noreturn]] void bad_value(const char *name, const char *value) { refuse(std::string("not for ") + name + ": " + value); }
+[[noreturn]] void bad_value(const char *name, const std::string &wanted, const char *value) {
+    refuse(std::string(name) + " takes " + wanted + ", not " + quoted(value));
+}
 
 uint64_t number(const char *name, const char *value, uint64_t least, uint64_t most) {
     uint64_t found = 0;
+    std::string range = std::to_string(least) + " to " + std::to_string(most);
     const char *at = value;
     for (; *at >= '0' && *at <= '9'; at++) {
         found = 10 * found + uint64_t(*at - '0');
-        if (found > most) bad_value(name, value);
+        if (found > most) bad_value(name, range, value);
     }
-    if (at == value || *at != 0 || found < least) bad_value(name, value);
+    if (at == value || *at != 0 || found < least) bad_value(name, range, value);
     return found;
 }
 
@@ -79,7 +86,8 @@ double seconds(const char *name, const char *value) {
     errno = 0;
     double found = strtod(value, &end);
     bool digits = strspn(value, "0123456789.") == strlen(value);
-    if (!digits || end == value || *end != 0 || errno != 0 || !(found > 0) || !std::isfinite(found)) bad_value(name, value);
+    if (!digits || end == value || *end != 0 || errno != 0 || !(found > 0) || !std::isfinite(found))
+        bad_value(name, "seconds above 0", value);
     return found;
 }
 
@@ -93,13 +101,17 @@ uint64_t bytes(const char *name, const char *value) {
         digits.pop_back();
         for (size_t k = 0; k <= place; k++) unit *= 1000;
     }
-    uint64_t most = UINT64_C(1000000000000000);
-    for (char digit : digits)
-        if (digit < '0' || digit > '9') bad_value(name, value);
-    if (digits.empty() || digits.size() > 15) bad_value(name, value);
+    const char *form = "bytes, as 2000000000, 2000M or 2G";
+    if (digits.empty() || digits.find_first_not_of("0123456789") != std::string::npos) bad_value(name, form, value);
     uint64_t found = strtoull(digits.c_str(), nullptr, 10);
-    if (found == 0 || found > most / unit) bad_value(name, value);
+    if (found == 0) bad_value(name, form, value);
+    if (digits.size() > 15 || found > MOST_MEMORY / unit) bad_value(name, "at most 2147483648 bytes", value);
     return found * unit;
+}
+
+const char *name_of_file(const char *name, const char *what, const char *value) {
+    if (value[0] == 0) bad_value(name, what, value);
+    return value;
 }
 
 [[noreturn]] void show(const char *text) {
@@ -115,11 +127,16 @@ bool read_valued(Options &options, Words &words, const char *word) {
     else if (words.option(word, "--memory", value)) options.memory = bytes("--memory", value);
     else if (words.option(word, "--share-size", value)) options.share_size = int(number("--share-size", value, 0, 1000));
     else if (words.option(word, "--seed", value)) options.seed = int(number("--seed", value, 0, 1000000000));
-    else if (words.option(word, "--proofs", value)) options.proofs = value;
-    else if (words.option(word, "--assume", value)) options.assume = value;
-    else if (words.option(word, "--lrupd", value)) options.lrupd = value;
+    else if (words.option(word, "--proofs", value)) options.proofs = name_of_file("--proofs", "a folder", value);
+    else if (words.option(word, "--assume", value)) options.assume = name_of_file("--assume", "a file", value);
+    else if (words.option(word, "--lrupd", value)) options.lrupd = name_of_file("--lrupd", "a program", value);
     else return false;
     return true;
+}
+
+void take_formula(Options &options, const char *word) {
+    if (options.formula) refuse("one word too many: " + quoted(word));
+    options.formula = word;
 }
 
 }
@@ -127,17 +144,22 @@ bool read_valued(Options &options, Words &words, const char *word) {
 Options read_words(int count, char **list) {
     Options options;
     Words words(count, list);
+    bool only_words = false;        // after --
     while (words.more()) {
         const char *word = words.take();
+        if (only_words) {
+            take_formula(options, word);
+            continue;
+        }
         if (strcmp(word, "--help") == 0 || strcmp(word, "-h") == 0) show(summary);
         if (strcmp(word, "--version") == 0) show(version().c_str());
-        if (strcmp(word, "--no-share") == 0) options.share = false;
+        if (strcmp(word, "--") == 0) only_words = true;
+        else if (strcmp(word, "--no-share") == 0) options.share = false;
         else if (strcmp(word, "-v") == 0) options.verbose = true;
         else if (strcmp(word, "-q") == 0) options.quiet = true;
         else if (read_valued(options, words, word)) continue;
         else if (word[0] == '-' && word[1] != 0) refuse(std::string("no such option: ") + word + " (--help lists them)");
-        else if (options.formula) refuse(std::string("one word too many: ") + word);
-        else options.formula = word;
+        else take_formula(options, word);
     }
     return options;
 }

@@ -21,12 +21,19 @@ namespace {
 std::vector<pid_t> alive;       // children that weren't waited for
 std::vector<int> opened;        // files of ours
 
-void write_all(int file, const char *bytes, size_t length, const std::string &name) {
+bool write_all(int file, const char *bytes, size_t length) {
     for (size_t written = 0; written < length;) {
         ssize_t count = write(file, bytes + written, length - written);
-        if (count < 0 && errno != EINTR) refuse("cannot write " + name + ": " + error_text());
+        if (count < 0 && errno != EINTR) return false;
         if (count > 0) written += size_t(count);
     }
+    return true;
+}
+
+// A new one: what has the name, or what the name is a link to, isn't written to.
+int new_file(const std::string &path) {
+    if (unlink(path.c_str()) != 0 && errno != ENOENT) return -1;
+    return open(path.c_str(), O_RDWR | O_CREAT | O_EXCL | O_NOFOLLOW | O_CLOEXEC, 0666);
 }
 
 int kept_open(int file) {
@@ -38,7 +45,7 @@ int kept_open(int file) {
 
 void refuse(const std::string &cause) {
     end_children();
-    fprintf(stderr, "lrup-solve: %s\n", cause.c_str());
+    fprintf(stderr, "lrup-solve: %s\n", one_line(cause).c_str());
     _exit(1);
 }
 
@@ -67,15 +74,19 @@ void close_file(int &file) {
 }
 
 int create_file(const std::string &path) {
-    int file = open(path.c_str(), O_RDWR | O_CREAT | O_TRUNC | O_CLOEXEC, 0666);
+    int file = new_file(path);
     if (file < 0) refuse("cannot write " + path + ": " + error_text());
     return kept_open(file);
 }
 
-void write_file(const std::string &path, const std::string &text) {
-    int file = create_file(path);
-    write_all(file, text.data(), text.size(), path);
-    close_file(file);
+std::string write_file(const std::string &path, const std::string &text) {
+    std::string begun = unfinished(path), cause;
+    int file = new_file(begun);
+    bool written = file >= 0 && write_all(file, text.data(), text.size());
+    if (!written || rename(begun.c_str(), path.c_str()) != 0) cause = "cannot write " + path + ": " + error_text();
+    if (file >= 0) close(file);
+    if (file >= 0 && !cause.empty()) unlink(begun.c_str());
+    return cause;
 }
 
 int file_in_memory() {
@@ -91,7 +102,7 @@ void copy_file(int file, const std::string &name, int copy) {
         if (count < 0 && errno == EINTR) continue;
         if (count < 0) refuse("cannot read " + name + ": " + error_text());
         if (count == 0) return;
-        write_all(copy, bytes.data(), size_t(count), "a copy of " + name);
+        if (!write_all(copy, bytes.data(), size_t(count))) refuse("cannot write a copy of " + name + ": " + error_text());
     }
 }
 

@@ -35,8 +35,8 @@ struct Pipe { int read = -1, write = -1; };
 
 Pipe make_pipe(int bytes);                              // so many, if the system gives them
 void close_file(int &file);
-int create_file(const std::string &path);
-void write_file(const std::string &path, const std::string &text);
+int create_file(const std::string &path);               // a new one, whatever had the name
+std::string write_file(const std::string &path, const std::string &text);   // the cause, where it can't be written
 int file_in_memory();
 void copy_file(int file, const std::string &name, int copy);
 
@@ -56,6 +56,18 @@ bool begin(Child &child, const std::string &name, const std::vector<int> &kept);
 bool reap(const std::vector<Child *> &children);         // one that has ended, if there is one
 void wait_for(Child &child);
 void end_children();
+
+// record.cpp: paths, and the folder of --proofs. An input is a path, or `-`.
+std::string quoted(const std::string &word);
+std::string one_line(const std::string &text);
+std::string absolute(const std::string &path);
+std::string unfinished(const std::string &path);        // its name while it is written
+void check_input(const std::string &path);              // refuses where it can't be read
+bool is_read_again(const std::string &path);            // lrupd can open it, too, and as often as it likes
+int open_input(const std::string &path);
+bool is_compressed(const std::string &path);
+void open_record(const std::string &folder, const std::vector<std::string> &inputs);    // refuses to write over these
+void clear_record(const std::string &folder, const std::vector<std::string> &kept);     // of an earlier run
 
 // engine.cpp: an engine's process. Doesn't return.
 struct Engine {
@@ -89,7 +101,8 @@ public:
     uint64_t fed(size_t stream) const { return streams[stream].fed; }
     uint64_t read_of(size_t stream) const;                  // bytes that it has read
     double stop();                                          // its processor seconds
-    void read_on(bool tell);                                // what it says; lines of standard error are told
+    void read_on();                                         // what it says
+    bool next_line(std::string &line);                      // of standard error, each once
     std::vector<pollfd> files() const;                      // to be waited for
     std::string last_line() const;                          // of standard error
 

@@ -1,0 +1,110 @@
+// Unverified, as all of this solver. Paths, and the folder of --proofs.
+#include <algorithm>
+#include <cctype>
+#include <cerrno>
+#include <cstring>
+
+#include <fcntl.h>
+#include <sys/stat.h>
+#include <unistd.h>
+
+#include "solve.h"
+
+namespace {
+
+bool is_same(const struct stat &one, const struct stat &other) {
+    return one.st_dev == other.st_dev && one.st_ino == other.st_ino;
+}
+
+bool find(const std::string &path, struct stat &found) {
+    return (path == "-" ? fstat(STDIN_FILENO, &found) : stat(path.c_str(), &found)) == 0;
+}
+
+bool is_standard_input(const std::string &path) {
+    struct stat found, standard;
+    return path == "-" || (find(path, found) && find("-", standard) && is_same(found, standard));
+}
+
+// All that a run writes, or wrote there.
+std::vector<std::string> files_of(const std::string &folder) {
+    std::vector<std::string> paths;
+    for (const char *name : { "formula.cnf", "assumptions", "report", "command" })
+        for (const std::string &path : { folder + "/" + name, unfinished(folder + "/" + name) }) paths.push_back(path);
+    for (int k = 1; k <= MOST_ENGINES; k++) paths.push_back(folder + "/stream" + std::to_string(k));
+    return paths;
+}
+
+}
+
+// For a shell.
+std::string quoted(const std::string &word) {
+    auto is_plain = [](unsigned char letter) { return isalnum(letter) || strchr("-_./+=,:@%", letter); };
+    if (!word.empty() && std::all_of(word.begin(), word.end(), is_plain)) return word;
+    std::string text = "'";
+    for (char letter : word) text += letter == '\'' ? std::string("'\\''") : std::string(1, letter);
+    return text + "'";
+}
+
+// A name may have an LF in it.
+std::string one_line(const std::string &text) {
+    std::string line;
+    for (char letter : text) line += letter == '\n' ? std::string("\\n") : std::string(1, letter);
+    return line;
+}
+
+std::string absolute(const std::string &path) {
+    char folder[4096];
+    return path[0] == '/' || !getcwd(folder, sizeof folder) ? path : std::string(folder) + "/" + path;
+}
+
+// The name that a file has until all of it is written.
+std::string unfinished(const std::string &path) {
+    size_t name = path.rfind('/') + 1;
+    return path.substr(0, name) + "." + path.substr(name) + ".new";
+}
+
+// What is opened.
+
+void check_input(const std::string &path) {
+    if (!is_standard_input(path) && access(path.c_str(), R_OK) != 0) refuse(quoted(path) + ": " + error_text());
+}
+
+// Standard input has other names, but lrupd has another standard input.
+bool is_read_again(const std::string &path) {
+    struct stat found;
+    bool is_ours = is_standard_input(path) || path.rfind("/dev/fd/", 0) == 0 || path.rfind("/proc/", 0) == 0;
+    return !is_ours && find(path, found) && (S_ISREG(found.st_mode) || S_ISDIR(found.st_mode));
+}
+
+int open_input(const std::string &path) {
+    int file = path == "-" ? -1 : open(path.c_str(), O_RDONLY | O_CLOEXEC);
+    if (file < 0 && is_standard_input(path)) file = fcntl(STDIN_FILENO, F_DUPFD_CLOEXEC, 3);
+    if (file < 0) refuse(quoted(path) + ": " + error_text());
+    return file;
+}
+
+bool is_compressed(const std::string &path) {
+    unsigned char bytes[2] = { 0, 0 };
+    int file = open(path.c_str(), O_RDONLY | O_CLOEXEC);
+    bool found = file >= 0 && pread(file, bytes, 2, 0) == 2 && bytes[0] == 0x1f && bytes[1] == 0x8b;
+    if (file >= 0) close(file);
+    return found;
+}
+
+// The folder.
+
+void open_record(const std::string &folder, const std::vector<std::string> &inputs) {
+    struct stat input, found;
+    if (mkdir(folder.c_str(), 0777) != 0 && errno != EEXIST) refuse("cannot make " + folder + ": " + error_text());
+    if (!find(folder, found) || !S_ISDIR(found.st_mode)) refuse(folder + ": " + strerror(ENOTDIR));
+    for (const std::string &path : files_of(folder))
+        for (const std::string &name : inputs)
+            if (find(path, found) && find(name, input) && is_same(found, input))
+                refuse(path + " would be written over: another --proofs");
+}
+
+void clear_record(const std::string &folder, const std::vector<std::string> &kept) {
+    for (const std::string &path : files_of(folder))
+        if (std::find(kept.begin(), kept.end(), path) == kept.end() && unlink(path.c_str()) != 0 && errno != ENOENT)
+            refuse("cannot remove " + path + ": " + error_text());
+}
