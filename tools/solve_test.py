@@ -14,12 +14,15 @@ import os
 import pty
 import random
 import re
+import resource
 import shlex
 import shutil
 import signal
 import stat
+import struct
 import subprocess
 import sys
+import termios
 import time
 
 sys.dont_write_bytecode = True
@@ -118,11 +121,9 @@ def randomly(seed, work):
 
 
 def check_again(kept):
-    """The record is enough to have the streams checked once more: the command, with its files. The report is the same."""
-    with open(os.path.join(kept, "command")) as file:
-        words = shlex.split(file.read())
-    want(words[0], "lrupd", "the command")
-    done = subprocess.run([PROGRAM, *words[1:]], capture_output=True, text=True, timeout=SECONDS)
+    """The record is enough to have the streams checked once more, by its command, in any folder. The report is the same."""
+    done = subprocess.run(["sh", os.path.abspath(os.path.join(kept, "command"))], cwd="/", capture_output=True, text=True,
+                          timeout=SECONDS)
     with open(os.path.join(kept, "report")) as file:
         want((done.stdout, done.returncode), (file.read(), 0), "the streams, checked again")
 
@@ -139,6 +140,110 @@ def keeps_standard_input(work):
     with open(example("bmc.cnf")) as file:
         want_answer(solve(["--proofs", kept], given=file.read()), 20)
     check_again(kept)
+
+
+def keeps_by_short_names(work):
+    """The command does in any folder, though the formula, the checker and the record were named from another one."""
+    written("0\n", work, "cube")
+    os.symlink(PROGRAM, os.path.join(work, "lrupd"))
+    shutil.copy(example("bmc.cnf"), os.path.join(work, "formula.cnf"))
+    done = subprocess.run([SOLVE, "--lrupd", "./lrupd", "--proofs", "a record", "--assume", "cube", "formula.cnf"], cwd=work,
+                          capture_output=True, text=True, timeout=SECONDS, stdin=subprocess.DEVNULL)
+    want((done.stderr, done.returncode), ("", 20), "the run")
+    check_again(os.path.join(work, "a record"))
+
+
+def read(path):
+    with open(path) as file:
+        return file.read()
+
+
+def writes_over(words, work):
+    """In a record's folder nothing is written over that the run reads, whatever its name."""
+    text, kept = read(example("bmc.cnf")), os.path.join(work, "kept")
+    os.mkdir(kept)
+    path = written(text, kept, words[0])
+    cube = written("0\n", kept, "assumptions")
+    os.symlink(path, os.path.join(work, "link"))
+    os.link(path, os.path.join(work, "other"))
+    words = [word.format(path=path, work=work, cube=cube) for word in words[1:]]
+    with open(path) as file:
+        done = subprocess.run([SOLVE, "--lrupd", PROGRAM, "--proofs", kept, *words], stdin=file, capture_output=True, text=True,
+                              timeout=SECONDS)
+    over = " would be written over: another --proofs\n"
+    want((done.stdout, done.stderr.count("\n"), done.stderr.endswith(over), done.returncode), ("", 1, True, 1),
+         f"what is said: {done.stderr}")
+    want((read(path), read(cube), sorted(os.listdir(kept))), (text, "0\n", sorted({os.path.basename(path), "assumptions"})),
+         "what stands there")
+
+
+def links_in_a_record(work):
+    """Links that have a stream's name are removed, and what they lead to stays."""
+    kept, targets = os.path.join(work, "kept"), [os.path.join(work, name) for name in ("one", "two", "three")]
+    os.mkdir(kept)
+    for target, name in zip(targets, ("stream1", "report", ".report.new")):
+        written("text", work, os.path.basename(target))
+        os.symlink(target, os.path.join(kept, name))
+    os.link(targets[1], os.path.join(kept, "stream2"))
+    want_answer(solve(["-j", "2", "--proofs", kept, example("bmc.cnf")]), 20)
+    want([read(target) for target in targets], ["text"] * 3, "what the links led to")
+    check_again(kept)
+
+
+def earlier_run(work):
+    """Of a record there is nothing left once the next run is there; its formula may come from the record, by a pipe."""
+    kept = os.path.join(work, "kept")
+    os.mkdir(kept)
+    streams = [f"stream{k}" for k in range(1, 65)]
+    for name in ["report", "command", "assumptions", "another", *streams]:
+        written("of an earlier run\n", kept, name)
+    shutil.copy(example("bmc.cnf"), os.path.join(kept, "formula.cnf"))
+    subprocess.run(["sh", "-c", 'cat "$2"/formula.cnf | "$0" --lrupd "$1" -j 2 --proofs "$2" -', SOLVE, PROGRAM, kept],
+                   timeout=SECONDS, stdout=subprocess.DEVNULL)
+    want(sorted(os.listdir(kept)), ["another", "command", "formula.cnf", "report", "stream1", "stream2"], "what is there")
+    want(read(os.path.join(kept, "formula.cnf")), read(example("bmc.cnf")), "the formula")
+    check_again(kept)
+    want_answer(solve(["-j", "1", "--memory", "300K", "--proofs", kept, generated("pigeons 9", work)]), 0)
+    want(sorted(os.listdir(kept)), ["another", "stream1"], "what is there after 's UNKNOWN'")
+
+
+def unkept(work):
+    """The report can't be kept: the answer is told all the same."""
+    kept = os.path.join(work, "kept")
+    path = written(f"#!/bin/sh\ncase \"$*\" in *' /dev/null') ;; *) mkdir {kept}/report;; esac\n"
+                   f"exec {shlex.quote(PROGRAM)} \"$@\"\n", work, "lrupd")
+    os.chmod(path, os.stat(path).st_mode | stat.S_IXUSR)
+    answer = solve(["--lrupd", path, "--proofs", kept, example("bmc.cnf")])
+    want((answer.answers, answer.status, answer.said), (["s UNSATISFIABLE"], 1,
+         f"lrup-solve: cannot write {kept}/report: Is a directory\n"), "the answer")
+    want(sorted(set(os.listdir(kept)) - {"stream1", "stream2"}), ["report"], "what is there")
+
+
+def another_name(words, work):
+    """Standard input, and other files of this process, by names that lrupd couldn't open."""
+    formula = example("bmc.cnf")
+    os.symlink("/dev/stdin", os.path.join(work, "link"))
+    for how in ('"$@" < "$formula"', 'cat "$formula" | "$@"', '"$@" 5< "$formula" < "$formula"'):
+        done = subprocess.run(["sh", "-c", how, "sh", SOLVE, "--lrupd", PROGRAM, *(word.format(work=work) for word in words)],
+                              env={**os.environ, "formula": formula}, capture_output=True, text=True, timeout=SECONDS,
+                              stdin=subprocess.DEVNULL)
+        if "/dev/fd/5" not in words or "5<" in how:
+            want_answer(Answer(done.stdout, done.stderr, done.returncode), 20)
+
+
+def name_with_an_end_of_line(work):
+    kept, formula = os.path.join(work, "a\nrecord"), written("p cnf 1 2\n1 0\n-1 0\n", work, "a\nformula")
+    answer = solve(["-v", "-j", "1", "--proofs", kept, formula])
+    want_answer(answer, 20)
+    want([line for line in answer.out.splitlines() if line[:2] not in ("c ", "s ")], [], "lines that are neither")
+    want(sum("1 clause checked" in line for line in answer.comments), 1, f"clauses in\n{answer.out}")
+    check_again(kept)
+
+
+def relative_link(work):
+    """What `make solve` leaves can be moved with the repository."""
+    link = os.path.join(OUT, "lrupd")
+    want(os.readlink(link), os.path.relpath(os.path.join(ROOT, "crates", "lrupd", "out", "lrupd"), OUT), "the link to lrupd")
 
 
 def standard_input(words, work):
@@ -182,6 +287,13 @@ def assuming(formula, cube, status, verdict, work):
                 raise Failure("the assignment isn't one under the assumptions")
 
 
+def contradicting(work):
+    formula, cube = written("p cnf 3 2\n1 2 0\n-1 2 0\n", work), written("3 1 -1 0\n", work, "cube")
+    answer = solve(["-j", "2", "--assume", cube, formula])
+    want_answer(answer, 0)
+    want(answer.comments[:-1], ["assumptions 1 and -1 contradict each other, which no clause shows"], "what is said")
+
+
 def quiet(work):
     want(solve(["-q", example("bmc.cnf")]).out, "s UNSATISFIABLE\n", "what -q leaves")
 
@@ -192,9 +304,12 @@ def quiet(work):
 def refused(words, cause, work):
     """One line on standard error, and status 1."""
     formula = written(FOUR, work)
+    with open(os.path.join(work, "compressed"), "wb") as file:
+        file.write(b"\x1f\x8b\x08\0")
     answer = solve([word.format(work=work, formula=formula) for word in words])
     want((answer.out, answer.status, answer.said.count("\n"), answer.said.startswith("lrup-solve: ")), ("", 1, 1, True),
          f"what is said of {words}: {answer.said}")
+    cause = cause.format(work=work)
     if cause not in answer.said:
         raise Failure(f"wanted a word on '{cause}', and not\n{answer.said}")
 
@@ -262,12 +377,13 @@ def until(what, condition, seconds=20):
 class Running:
     """One that is at work: both engines, their filters and lrupd are there."""
 
-    def __init__(self, formula, work, *words):
+    def __init__(self, formula, work, *words, ignored=()):
         self.folder = os.path.join(work, "folder")
         os.mkdir(self.folder)
         self.process = subprocess.Popen([SOLVE, "--lrupd", PROGRAM, "-v", "-j", "2", *words, formula], cwd=self.folder,
                                         stdout=subprocess.PIPE, stderr=subprocess.PIPE, text=True,
-                                        env={**os.environ, "TMPDIR": self.folder})
+                                        env={**os.environ, "TMPDIR": self.folder},
+                                        preexec_fn=lambda: [signal.signal(number, signal.SIG_IGN) for number in ignored])
         self.children = {}
         until("five children", self.has_all)
 
@@ -308,6 +424,18 @@ def ended_by(number, work):
         raise Failure("it took more than five seconds")
 
 
+def ignored(number, work):
+    """One that was ignored at the start stays so, as under nohup."""
+    running = Running(generated("pigeons 11", work), work, ignored=[number, signal.SIGCHLD])
+    running.process.send_signal(number)
+    time.sleep(0.5)
+    want(running.process.poll(), None, "the status after a signal that is ignored")
+    running.process.send_signal(signal.SIGTERM)
+    answer = running.end()
+    want((answer.answers, answer.status), (["s UNKNOWN"], -signal.SIGTERM), "the end")
+    want("ended by a signal: Terminated" in answer.comments, True, f"a word on the other signal in\n{answer.out}")
+
+
 def left_alone(work):
     """Where the first process is killed the others end, too."""
     running = Running(generated("pigeons 11", work), work)
@@ -325,15 +453,15 @@ def time_is_up(work):
 def row_is_full(work):
     answer = solve(["-j", "2", "--memory", "300K", generated("pigeons 9", work)])
     want_answer(answer, 0)
-    if not any("row is full" in line for line in answer.comments):
-        raise Failure(f"wanted a word on the row, and not\n{answer.out}")
+    want(sorted(set(answer.comments[:3])), [*(f"engine {k} is lost: its filter stopped: the row is full" for k in (1, 2)),
+                                            "no engine is left"], "why no engine is left")
 
 
 def rows_grow(work):
     """A first row that is far too small."""
     answer = solve(["-v", "-j", "2", generated("random 200 3", work)], tested={"FIRST_WORDS": 2000})
     want_answer(answer, 20)
-    commands = [line for line in answer.comments if line.startswith("lrupd --tries")]
+    commands = [line for line in answer.comments if "lrupd --tries " in line]
     if len(commands) < 2:
         raise Failure(f"wanted a second row, and not\n{answer.out}")
 
@@ -349,14 +477,15 @@ def rows_that_fail(work):
     want_answer(answer, answer.status)
 
 
-def full(words, out, cause, work):
-    """A disk that is full, for the streams or the answer."""
+def full(words, out, most, cause, work):
+    """A disk that is full, for the answer; for the streams, files of so many bytes at most."""
     if not os.path.exists("/dev/full"):
         raise Skipped("there is no /dev/full")
-    os.symlink("/dev/full", os.path.join(work, "stream1"))
+    limit = lambda: resource.setrlimit(resource.RLIMIT_FSIZE, (most, most)) if most else None
     with open(out, "w") as file:
         done = subprocess.run([SOLVE, "--lrupd", PROGRAM, *(word.format(work=work) for word in words), example("bmc.cnf")],
-                              stdout=file, stderr=subprocess.PIPE, stdin=subprocess.DEVNULL, text=True, timeout=SECONDS)
+                              stdout=file, stderr=subprocess.PIPE, stdin=subprocess.DEVNULL, text=True, timeout=SECONDS,
+                              preexec_fn=limit)
     want((done.returncode, done.stderr.count("\n"), cause in done.stderr), (1, 1, True), f"what is said: {done.stderr}")
 
 
@@ -375,9 +504,10 @@ def reader_left(work):
     want((done.returncode, done.stderr.count("\n")), (1, 1), f"what is said: {done.stderr}")
 
 
-def progress(words, wanted, work):
-    """One line that is written over and over, and taken away, on a terminal alone."""
+def progress(words, wanted, columns, work):
+    """One line that is written over and over, and taken away, on a terminal alone, and within its columns."""
     leader, terminal = pty.openpty()
+    fcntl.ioctl(terminal, termios.TIOCSWINSZ, struct.pack("HHHH", 24, columns, 0, 0))
     with subprocess.Popen([SOLVE, "--lrupd", PROGRAM, "-j", "2", "--time", "1.5", *words, generated("pigeons 11", work)],
                           stdout=subprocess.PIPE, stderr=terminal, text=True) as running:
         os.close(terminal)
@@ -391,9 +521,13 @@ def progress(words, wanted, work):
         pass
     os.close(leader)
     want(out.splitlines()[-1], "s UNKNOWN", "the answer")
-    shown = re.findall(rb"\r([^\r\n]*clauses checked[^\r\n]*)\x1b\[K", seen)
+    shown = re.findall(rb"\r([^\r\n\x1b]* conflicts[^\r\n\x1b]*)\x1b\[K", seen)
     found = len(shown) > 2, b"\n" in seen, not shown or seen.endswith(b"\r\x1b[K")
     want(found, (wanted, False, True), f"on the terminal: {seen[:300]}")
+    within = [line for line in shown if len(line) < (columns or 80) and (columns == 30 or line.endswith(b" %"))]
+    want(within, shown, "lines within the columns")
+    hidden, lines = seen.count(b"\r\x1b[K"), sum(line.startswith("c ") for line in out.splitlines())
+    want(hidden <= lines + 1, True, f"{hidden} times the line was hidden, for {lines} lines")
 
 
 # Formulas that nobody here wrote, of yosys.
@@ -494,27 +628,48 @@ def words_and_files():
     runs = [("standard input" + word, standard_input, [word] * bool(word)) for word in ("", "-")]
     runs += [("a FIFO", from_fifo), ("where lrupd is", beside), ("-q", quiet), ("keeps", keeps, []),
              ("keeps four", keeps, ["-j", "4"]), ("keeps standard input", keeps_standard_input),
+             ("keeps by short names", keeps_by_short_names), ("an earlier run", earlier_run),
+             ("links in a record", links_in_a_record), ("a report that can't be kept", unkept),
+             ("a name with an end of line", name_with_an_end_of_line), ("the link to lrupd", relative_link),
              ("assumptions that contradict", assuming, cube, "-2 0\n", 20, under),
              ("assumptions of which one does", assuming, cube, "3 1 -2 0\n", 20, under),
              ("assumptions that fit", assuming, cube, "2 -1 0\n", 10, None),
              ("no assumptions", assuming, cube, "0\n", 10, None),
              ("assumptions, and no need of them", assuming, FOUR.replace("cnf 2", "cnf 3"), "3 0\n", 20, None),
-             ("assumptions against each other", assuming, cube, "1 -1 0\n", 0, None),
+             ("assumptions against each other", contradicting),
              ("a unit against the assumption", assuming, "p cnf 1 1\n1 0\n", "-1 0\n", 20, under)]
+    runs += [(" ".join(["standard input as", *words]), another_name, words) for words in
+             (["/dev/stdin"], ["/proc/self/fd/0"], ["{work}/link"], ["/dev/fd/5"], ["--", "-"],
+              ["--proofs", "{work}/kept", "/dev/stdin"])]
+    runs += [(" ".join(["over", *words]), writes_over, words) for words in
+             (["formula.cnf"], ["formula.cnf", "{path}"], ["stream1", "{path}"], ["stream64", "{path}"], ["report", "{work}/link"],
+              ["command", "{work}/other"], ["stream2", "/dev/stdin"], ["x", "--assume", "{cube}", "{path}"])]
     for words, cause in ((["--nothing", "{formula}"], "--nothing"), (["{formula}", "{formula}"], "one word too many"),
-                         (["-j"], "no value after -j"), (["-j", "0", "{formula}"], "-j: 0"), (["-j", "65", "{formula}"], "-j: 65"),
-                         (["-j", "x", "{formula}"], "-j: x"), (["--time", "-1", "{formula}"], "--time"),
-                         (["--time", "nan", "{formula}"], "--time"), (["--memory", "", "{formula}"], "--memory"),
-                         (["--memory", "1X", "{formula}"], "--memory"),
-                         (["--memory", "99999999999999999999", "{formula}"], "--memory"),
-                         (["--memory", "100", "{formula}"], "no room"), (["--share-size", "-1", "{formula}"], "--share-size"),
-                         (["--seed", "1.5", "{formula}"], "--seed"), (["--lrupd", "{work}/none", "{formula}"], "none"),
-                         (["--lrupd", "{work}", "{formula}"], ""), (["--proofs", "{work}/none/none", "{formula}"], "none/none"),
-                         (["--proofs", "{formula}", "{formula}"], "stream1")):
+                         (["-j"], "no value after -j"), (["-j", "0", "{formula}"], "-j takes 1 to 64, not 0"),
+                         (["-j", "65", "{formula}"], "-j takes 1 to 64, not 65"), (["-j", "x", "{formula}"], "not x"),
+                         (["--time", "-1", "{formula}"], "--time takes seconds above 0, not -1"),
+                         (["--time", "nan", "{formula}"], "not nan"), (["--time", "0", "{formula}"], "not 0"),
+                         (["--memory", "", "{formula}"], "not ''"), (["--memory", "2g", "{formula}"], "2000M or 2G, not 2g"),
+                         (["--memory", "3G", "{formula}"], "--memory takes at most 2147483648 bytes, not 3G"),
+                         (["--memory", "2147483649", "{formula}"], "at most"),
+                         (["--memory", "99999999999999999999", "{formula}"], "at most"),
+                         (["--memory", "100", "{formula}"], "a row of 100 bytes"),
+                         (["--memory", "1", "{formula}"], "a row of 1 byte:"),
+                         (["--share-size", "-1", "{formula}"], "--share-size takes 0 to 1000, not -1"),
+                         (["--seed", "1.5", "{formula}"], "--seed takes 0 to 1000000000, not 1.5"),
+                         (["--lrupd", "{work}/none", "{formula}"], "none"), (["--lrupd", "", "{formula}"], "not ''"),
+                         (["--lrupd", "{work}", "{formula}"], "no program"), (["--lrupd", "none", "{formula}"], "no program"),
+                         (["--proofs", "{work}/none/none", "{formula}"], "none/none"), (["--proofs", "", "{formula}"], "not ''"),
+                         (["--proofs", "{formula}", "{formula}"], "Not a directory"), (["--", "{formula}", "-v"], "too many: -v"),
+                         (["{work}/none"], "{work}/none: No such file or directory"),
+                         (["{work}/a\nb"], "a\\nb': No such file or directory"),
+                         (["--assume", "{work}/none", "{formula}"], "{work}/none: No such file or directory"),
+                         (["--proofs", "{work}/new", "{work}/none"], "none: No such file or directory"),
+                         (["{work}/compressed"], "compressed: compressed: zcat it")):
         runs.append((" ".join(["lrup-solve", *words]), refused, words, cause))
     for text, words in (("", []), ("p cnf 2\n", []), ("p cnf 2 1\n1 x 0\n", []), ("p cnf 2 2\n1 0\n", []),
                         ("p cnf 2 1\n1 0\n2 0\n", []), ("p cnf 2 1\n1 3 0\n", []), ("p cnf 2 1\n1 2\n", []), ("1 2 0\n", []), ("p cnf 99999999 1\n1 0\n", []),
-                        *((FOUR, ["--assume", path]) for path in ("{work}/bad", "{work}/beyond", "{work}/none", "{work}"))):
+                        *((FOUR, ["--assume", path]) for path in ("{work}/bad", "{work}/beyond", "{work}"))):
         runs.append((" ".join(["refused", repr(text[:20]), *words]), refused_by_lrupd, text, words))
     return runs
 
@@ -529,10 +684,12 @@ def what_happens():
             ("an engine and a filter killed", killed, ["engine 1", "filter 2"], kill, 0, "no engine is left"),
             ("the first process killed", left_alone), ("time", time_is_up), ("a full row", row_is_full), ("rows", rows_grow),
             ("rows that fail", rows_that_fail),
-            ("a full disk for streams", full, ["-j", "1", "--proofs", "{work}"], os.devnull, "No space left"),
-            ("a full disk for the answer", full, [], "/dev/full", "cannot write the answer"),
+            ("a full disk for streams", full, ["-j", "1", "--proofs", "{work}"], os.devnull, 4096, "stream1: File too large"),
+            ("a full disk for the answer", full, [], "/dev/full", 0, "cannot write the answer"),
             ("a closed output", closed, "bmc.cnf", ">&-"), ("a closed output, satisfiable", closed, "assumed.cnf", ">&-"),
-            ("a reader that left", reader_left), ("progress", progress, [], True), ("no progress", progress, ["-q"], False)]
+            ("a reader that left", reader_left), ("no progress", progress, ["-q"], False, 80)]
+    runs += [(f"progress {words} {columns}", progress, words, True, columns) for words in ([], ["-v"]) for columns in (0, 30, 120)]
+    runs += [(f"signal {number}, ignored", ignored, number) for number in (signal.SIGHUP, signal.SIGINT)]
     runs += [(f"signal {number}", ended_by, number) for number in (signal.SIGINT, signal.SIGTERM, signal.SIGHUP)]
     untaken = "lrupd (hasn't taken the proof|ended with status 3)"
     for body, cause in (("exit 3", untaken), ("exit 6", "ended with status 6"), ("exit 10", "ended with status 10"),
