@@ -207,6 +207,17 @@ def earlier_run(work):
     want(sorted(os.listdir(kept)), ["another", "stream1"], "what is there after 's UNKNOWN'")
 
 
+def own_files(name, work):
+    """What has a name of the record's, and isn't of one, is left alone. Every run that has read its formula leaves a record."""
+    own = os.path.join(work, "own")
+    os.mkdir(own)
+    path = written("mine\n", own, name)
+    refused(["--proofs", own, example("bmc.cnf")], f"{path} is there, and isn't of an earlier run: another --proofs", work)
+    want(read(path), "mine\n", "what stands there")
+    for text, status in ((FOUR, 20), ("x", 1), ("p cnf 1 0\n", 10), ("p cnf 1 1\n2 0\n", 1), (FOUR, 20)):
+        want(solve(["--proofs", os.path.join(work, "kept"), "-"], given=text).status, status, f"the status with {text}")
+
+
 def unkept(work):
     """The report can't be kept: the answer is told all the same."""
     kept = os.path.join(work, "kept")
@@ -641,6 +652,7 @@ def words_and_files():
     runs += [(" ".join(["standard input as", *words]), another_name, words) for words in
              (["/dev/stdin"], ["/proc/self/fd/0"], ["{work}/link"], ["/dev/fd/5"], ["--", "-"],
               ["--proofs", "{work}/kept", "/dev/stdin"])]
+    runs += [(f"an own {name}", own_files, name) for name in ("formula.cnf", "assumptions", "report", "command")]
     runs += [(" ".join(["over", *words]), writes_over, words) for words in
              (["formula.cnf"], ["formula.cnf", "{path}"], ["stream1", "{path}"], ["stream64", "{path}"], ["report", "{work}/link"],
               ["command", "{work}/other"], ["stream2", "/dev/stdin"], ["x", "--assume", "{cube}", "{path}"])]

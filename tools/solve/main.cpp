@@ -193,9 +193,12 @@ void Run::read_inputs() {
     for (const std::string &path : inputs) check_input(path);
     if (options.proofs) open_record(options.proofs, inputs);
     formula_path = again(inputs[0], "formula.cnf");
-    if (is_compressed(formula_path)) refuse(title(inputs[0]) + ": compressed: zcat it");
     if (options.assume) assume_path = again(inputs[1], "assumptions");
     if (options.proofs) clear_record(options.proofs, { formula_path, assume_path });
+    teams.resize(size_t(options.engines));
+    for (size_t k = 0; k < teams.size(); k++)
+        teams[k].stream = options.proofs ? create_file(stream_path(k)) : file_in_memory();
+    if (is_compressed(formula_path)) refuse(title(inputs[0]) + ": compressed: zcat it");
 }
 
 // Their spelling is lrupd's to judge.
@@ -278,12 +281,9 @@ void Run::first_row() {
 
 void Run::open_teams() {
     shared = shared_memory<Shared>(1);
-    teams.resize(size_t(options.engines));
-    for (size_t k = 0; k < teams.size(); k++) {
-        Team &team = teams[k];
+    for (Team &team : teams) {
         team.outbox = shared_memory<uint32_t>(options.share && teams.size() > 1 ? OUTBOX_WORDS : 1);
         team.model = shared_memory<signed char>(size_t(formula.variables));
-        team.stream = options.proofs ? create_file(stream_path(k)) : file_in_memory();
     }
 }
 

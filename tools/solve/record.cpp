@@ -25,10 +25,18 @@ bool is_standard_input(const std::string &path) {
     return path == "-" || (find(path, found) && find("-", standard) && is_same(found, standard));
 }
 
+bool is_there(const std::string &path) {
+    struct stat found;
+    return lstat(path.c_str(), &found) == 0;
+}
+
+// Beside the streams.
+const char *const NAMES[] = { "formula.cnf", "assumptions", "report", "command" };
+
 // All that a run writes, or wrote there.
 std::vector<std::string> files_of(const std::string &folder) {
     std::vector<std::string> paths;
-    for (const char *name : { "formula.cnf", "assumptions", "report", "command" })
+    for (const char *name : NAMES)
         for (const std::string &path : { folder + "/" + name, unfinished(folder + "/" + name) }) paths.push_back(path);
     for (int k = 1; k <= MOST_ENGINES; k++) paths.push_back(folder + "/stream" + std::to_string(k));
     return paths;
@@ -93,14 +101,18 @@ bool is_compressed(const std::string &path) {
 
 // The folder.
 
+// A run that has read its inputs leaves a first stream. Where there is none, a file with one of the names is somebody's own.
 void open_record(const std::string &folder, const std::vector<std::string> &inputs) {
     struct stat input, found;
     if (mkdir(folder.c_str(), 0777) != 0 && errno != EEXIST) refuse("cannot make " + folder + ": " + error_text());
-    if (!find(folder, found) || !S_ISDIR(found.st_mode)) refuse(folder + ": " + strerror(ENOTDIR));
+    if (stat(folder.c_str(), &found) != 0 || !S_ISDIR(found.st_mode)) refuse(folder + ": " + strerror(ENOTDIR));
     for (const std::string &path : files_of(folder))
         for (const std::string &name : inputs)
             if (find(path, found) && find(name, input) && is_same(found, input))
                 refuse(path + " would be written over: another --proofs");
+    for (const std::string name : NAMES)
+        if (!is_there(folder + "/stream1") && is_there(folder + "/" + name))
+            refuse(folder + "/" + name + " is there, and isn't of an earlier run: another --proofs");
 }
 
 void clear_record(const std::string &folder, const std::vector<std::string> &kept) {
