@@ -577,9 +577,10 @@ def options_told(work):
 
 
 def rests_on(what, count, found, variables, early, work):
-    """So many formulas, with it and without. A stream waits a second, and not a minute, for a clause that doesn't come."""
+    """So many formulas, with it and without; more where none of them broke, which is a matter of time. A stream waits a second, and
+    not a minute, for a clause that doesn't come."""
     seen = {True: 0, False: 0}
-    for seed in range(count):
+    for seed in range(10 * count):
         numbers = random.Random(seed)
         size = numbers.randrange(*variables)
         formula = written(dimacs(size, random_clauses(numbers, size, round(numbers.uniform(4, 4.9) * size))), work)
@@ -589,7 +590,7 @@ def rests_on(what, count, found, variables, early, work):
             seen[left_out] += any(re.search(found, line) for line in answer.comments)
             if not left_out and "time is up" not in answer.comments:       # short slices hardly come to an end
                 want_answer(answer, answer.status if answer.status in (10, 20) else 20, formula)
-        if seen[True] and seed > 10:
+        if seen[True] and seed > 10 or seen[False]:
             break
     want((seen[True] > 0, seen[False]), (True, 0), f"runs that broke without it, and with it: {seen}")
 
@@ -597,7 +598,7 @@ def rests_on(what, count, found, variables, early, work):
 def published_late(work):
     """The filter of engine 1 dies with a clause in its buffer that it has given away: nobody may have heard of it."""
     broke = 0
-    for seed in range(12):
+    for seed in range(120):
         formula = generated(f"random 150 {seed}", work)
         for left_out in (True, False):
             tested = {"SLICE": 30, "TRIES": 20000, "LAST_GIFT": 40 + 7 * seed, **({"WITHOUT": "flush"} if left_out else {})}
@@ -606,8 +607,9 @@ def published_late(work):
                 broke += any("missing" in line for line in answer.comments)
             elif "time is up" not in answer.comments:
                 want_answer(answer, answer.status if answer.status in (10, 20) else 20, formula)
-    if not broke:
-        raise Failure("clauses that never went out weren't missed")
+        if broke and seed > 10:
+            return
+    raise Failure("clauses that never went out weren't missed")
 
 
 # The tests.
@@ -722,9 +724,9 @@ def others_formulas():
 
 def sharing():
     lost = r"is lost: .*no conflict by unit propagation"
-    return [("witnesses", rests_on, "guard", 60, lost, (140, 200), ELIMINATING),
-            ("imports first", rests_on, "order", 60, r"is lost: its filter stopped: ", (60, 140), EARLY),
-            ("kept clauses", rests_on, "keeping", 60, r"bad line \d+ \(retired ", (60, 140), EARLY),
+    return [("witnesses", rests_on, "guard", 30, lost, (140, 200), ELIMINATING),
+            ("imports first", rests_on, "order", 30, r"is lost: its filter stopped: ", (60, 140), EARLY),
+            ("kept clauses", rests_on, "keeping", 30, r"bad line \d+ \(retired ", (60, 140), EARLY),
             ("published late", published_late)]
 
 
