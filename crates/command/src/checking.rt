@@ -326,6 +326,7 @@ fn check_serially<W: Wait, C: Clock + Sync, R: Source + Drop, M: WatchSinks>(
     let SerialOutcome {
         reports,
         verdict,
+        map: _,
         readers: _,
     } = outcome;
     Ok(RunResult { reports, verdict })
@@ -360,6 +361,8 @@ fn check_in_threads<
         reports,
         verdict,
         passes: _,
+        store: _,
+        layout: _,
         readers: _,
     } = outcome;
     Ok(RunResult { reports, verdict })

@@ -2,8 +2,8 @@
 ghost use Rattle.std.specs.Prelude.{◌≡◌};
 ghost use Rattle.portfolio.specs.Outcomes.{verdict_of};
 
-use clause_store::Pass;
-use lrup_model::LayoutFault;
+use clause_store::{Pass, Store};
+use lrup_model::{Layout, LayoutFault, PlainMap};
 use std::alloc::AllocError;
 use stream_check::Report;
 use thiserror::Error;
@@ -79,6 +79,8 @@ pub struct SerialOutcome<R: Drop> {
     pub reports: Vec<Report>,
     /// What the reports come to.
     pub verdict: Verdict,
+    /// The map of all clauses.
+    pub map: PlainMap,
     /// The readers, as far as they were read, in order.
     pub readers: Vec<R>,
 }
@@ -92,6 +94,10 @@ pub struct Outcome<R: Drop> {
     pub verdict: Verdict,
     /// The streams' passes, in order. All have seen the one history.
     pub passes: Vec<Pass>,
+    /// The store that the passes are of.
+    pub store: Store,
+    /// The layout of the store.
+    pub layout: Layout,
     /// The readers, as far as they were read, in order.
     pub readers: Vec<R>,
 }

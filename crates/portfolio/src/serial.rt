@@ -6,7 +6,7 @@ ghost use Rattle.lrup_model.specs.Entailment.{IsUnsatisfiable};
 ghost use Rattle.lrup_model.specs.Event.{History};
 ghost use Rattle.lrup_model.specs.Layout.{IsFault, IsStream};
 ghost use Rattle.lrup_model.specs.declared.layout.LayoutFault.{LayoutFault};
-ghost use Rattle.lrup_model.specs.Plain.{PlainMoves, free_at, plain_place};
+ghost use Rattle.lrup_model.specs.Plain.{PlainMoves, formula_of, free_at, plain_place};
 ghost use Rattle.stream_check.specs.Checker.{IsReadyAt};
 ghost use Rattle.stream_check.specs.Judging.{joined};
 ghost use Rattle.run_laws.specs.Groups.{AreIsolated, HaveReportsAlone};
@@ -72,6 +72,9 @@ pub fn run_serial<W: Wait, R: Source + Drop, G: Gate + Drop>(
         outcome.reports.items) }
     ensures verdict { IfOk result (λ outcome.
         outcome.verdict ≡ verdict_of outcome.reports.items) }
+    // The clauses stay, for whoever saves them.
+    ensures kept { IfOk result (λ outcome. (formula_of outcome.map ≡ formula.now)
+        × (outcome.map.layout ≡ layout_of options formula.now (length readers.items))) }
     // What a user relies on.
     ensures sound { IfOk result (λ outcome.
         outcome.verdict ≡ Verdict.Unsatisfiable → IsUnsatisfiable formula.now) }
@@ -87,7 +90,7 @@ pub fn run_serial<W: Wait, R: Source + Drop, G: Gate + Drop>(
     let reports = Vec::with_capacity(alloc, workers.len())?;
     let readers = Vec::with_capacity(alloc, workers.len())?;
     take_turns(wait, &mut map, &mut workers);
-    Ok(outcome_of(workers, reports, readers))
+    Ok(outcome_of(map, workers, reports, readers))
 }
 
 /// A worker for each stream.
@@ -193,6 +196,7 @@ fn turn_at_desk<W: Wait, R: Source + Drop, G: Gate + Drop>(
 
 /// What is said of the streams, which are over.
 fn outcome_of<R: Source + Drop, G: Gate + Drop>(
+    plain: PlainMap,
     workers: Vec<Worker<R, G>>,
     mut reports: Vec<Report>,
     mut readers: Vec<R>,
@@ -204,6 +208,7 @@ fn outcome_of<R: Source + Drop, G: Gate + Drop>(
     ensures reports { HaveReports workers.items result.reports.items }
     ensures readers { result.readers.items ≡ map (λ w. w.reader) workers.items }
     ensures verdict { result.verdict ≡ verdict_of result.reports.items }
+    ensures kept { result.map ≡ plain }
 {
     for worker in workers {
         let (report, reader) = worker.into_parts();
@@ -214,6 +219,7 @@ fn outcome_of<R: Source + Drop, G: Gate + Drop>(
     SerialOutcome {
         reports,
         verdict,
+        map: plain,
         readers,
     }
 }

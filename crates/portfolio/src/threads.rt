@@ -18,7 +18,7 @@ ghost use Rattle.run_laws.specs.Serializable.{IsSerializable};
 use crate::options::Options;
 use crate::outcome::{Outcome, RunFault, Verdict};
 use clause_store::{Pass, Store};
-use lrup_model::{Cube, Formula};
+use lrup_model::{Cube, Formula, Layout};
 use lrup_text::Source;
 use run_laws::groups::{alone_has_one_report, run_isolated};
 use run_laws::orders::run_serializable;
@@ -92,6 +92,11 @@ pub fn run<T: Threads + Wait + Sync, R: Source + Send + Drop, G: Gate + Send + D
         (seen_by (views outcome.passes.items)) outcome.reports.items) }
     ensures verdict { IfOk result (λ outcome.
         outcome.verdict ≡ verdict_of outcome.reports.items) }
+    // The clauses stay, for whoever saves them.
+    ensures store { IfOk result (λ outcome. AreOf outcome.store outcome.passes.items
+        × (outcome.store.layout ≡ outcome.layout)) }
+    ensures kept { IfOk result (λ outcome.
+        outcome.layout ≡ layout_of options formula.now (length readers.items)) }
     // What a user relies on.
     ensures sound { IfOk result (λ outcome.
         outcome.verdict ≡ Verdict.Unsatisfiable → IsUnsatisfiable formula.now) }
@@ -112,11 +117,11 @@ pub fn run<T: Threads + Wait + Sync, R: Source + Send + Drop, G: Gate + Send + D
         readers,
     } = lists_for(alloc, jobs.len())?;
     match check_all(threads, &store, jobs, room) {
-        Ok(found) => Ok(outcome_of(&store, found, reports, met, readers)),
+        Ok(found) => Ok(outcome_of(store, layout, found, reports, met, readers)),
         Err(ThreadFault::Spawn(stream)) => Err(RunFault::Spawn(stream)),
         Err(ThreadFault::Ring(found)) => {
             let stream = found.len() as u64 + 1;
-            let _before = outcome_of(&store, found, reports, met, readers);
+            let _before = outcome_of(store, layout, found, reports, met, readers);
             Err(RunFault::Ring(stream))
         }
     }
@@ -154,13 +159,14 @@ fn lists_for<R: Source + Drop, G: Gate + Drop>(
 
 /// What is said of the streams, whose threads have ended. All passes meet.
 fn outcome_of<R: Source + Drop>(
-    store: &Store,
+    store: Store,
+    layout: Layout,
     found: Vec<StreamResult<R>>,
     mut reports: Vec<Report>,
     mut passes: Vec<Pass>,
     mut readers: Vec<R>,
 ) -> Outcome<R>
-    requires store { AreOf store.now (map (λ f. f.pass) found.items) }
+    requires store { AreOf store (map (λ f. f.pass) found.items) }
     requires none { (reports.items ≡ []) × (passes.items ≡ []) × (readers.items ≡ []) }
     requires reports { vec_len found ≤ vec_capacity reports }
     requires passes { vec_len found ≤ vec_capacity passes }
@@ -170,6 +176,8 @@ fn outcome_of<R: Source + Drop>(
     ensures met { AreMet (views (map (λ f. f.pass) found.items)) (views result.passes.items) }
     ensures one { HaveMet (views result.passes.items) }
     ensures verdict { result.verdict ≡ verdict_of result.reports.items }
+    ensures of { AreOf store result.passes.items }
+    ensures kept { (result.store ≡ store) × (result.layout ≡ layout) }
 {
     for one in found {
         let StreamResult {
@@ -187,6 +195,8 @@ fn outcome_of<R: Source + Drop>(
         reports,
         verdict,
         passes,
+        store,
+        layout,
         readers,
     }
 }

@@ -27,6 +27,7 @@ mod line_orders;
 mod memory;
 mod readings;
 mod rows;
+mod saving;
 mod serial;
 mod threads;
 mod watched_runs;

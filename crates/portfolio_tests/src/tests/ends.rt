@@ -113,6 +113,7 @@ fn run_growing<'a, T: Threads + Wait + Sync>(
                 reports,
                 verdict,
                 readers,
+                ..
             } = outcome;
             Ok(Came {
                 reports,

@@ -1,5 +1,6 @@
 use Rattle.std.proofs.Common.{◌≡◌, ℕ, ◌∙◌, length, drop, refl, sym, ap, ap₂, subst, arith}
 use Rattle.lrup_model.specs.Layout.{LayoutValue, IsFault, Fits}
+use Rattle.lrup_model.specs.Plain.{Plain, formula_of}
 use Rattle.lrup_text.specs.ReadOut.{source_view}
 use Rattle.run_laws.specs.ReportLemmas.{reports_alone}
 use Rattle.portfolio.specs.Outcomes.{layout_of, terms_of}
@@ -97,6 +98,32 @@ returns-clause-isolated g c =
 
 pub returns-clause-alone : goal.returns-clause-alone
 returns-clause-alone g c = reports_alone c.alone_has_one_report.ensures _ _ _ _ _ (returns-clause-isolated g c)
+
+-- the turns keep the formula and the layout
+pub returns-clause-kept : goal.returns-clause-kept
+returns-clause-kept g c =
+    let f = c.args.formula.now in
+    let p = c.in_ok-layout.layout in
+    let m = c.in_ok-map.map in
+    let view = source_view g.R.Source.left g.R.Source.has_failed g.R.Source.reads in
+    let firsts = c.args.readers.items in
+    let opened : IsOpened f p m = record {
+      fits = c.in_ok-layout.ensures.layout.2;
+      layout = c.in_ok-map.ensures.layout;
+      formula = c.in_ok-map.ensures.formula;
+      state = c.in_ok-map.ensures.state;
+      room = c.in_ok-map.ensures.room;
+    } in
+    let each : p.streams ≡ c.len.result = streams_asked c.args.options f c.len.result p c.in_ok-layout.ensures.layout.0 in
+    let count : length firsts ≡ p.streams = omega (arith, each, c.len.ensures, c.args.readers.ok.0) in
+    let terms : TermsValue = record { layout = p; cube = c.args.cube.now; tries = c.tries.result } in
+    let runs : Runs view f terms firsts m c.deref_mut.result.now =
+    subst (Runs view f terms firsts m) (sym c.deref_mut.ensures.value) (runs_opened view f terms m opened firsts c.in_ok-workers.workers.items count (subst (λ (t : TermsValue). AreStarted view t 1 firsts c.in_ok-workers.workers.items) c.new-terms.ensures c.in_ok-workers.ensures)) in
+    let after = (c.take_turns.ensures.runs f terms firsts runs).map_is in
+    let same : p ≡ layout_of c.args.options f (length firsts) = c.in_ok-layout.ensures.layout.0 ∙ ap (layout_of c.args.options f) (c.len.ensures ∙ c.args.readers.ok.0) in (
+      ap formula_of c.outcome_of.ensures.kept ∙ after.formula,
+      ap (λ (n : Plain). n.layout) c.outcome_of.ensures.kept ∙ after.layout ∙ same,
+    )
 
 pub returns-clause-sound : goal.returns-clause-sound
 returns-clause-sound g c unsatisfiable =

@@ -1,0 +1,6 @@
+pub mod EntailsLemmas
+pub mod LiveLemmas
+pub mod PrintLemmas
+pub mod ReadBack
+pub mod SaveLemmas
+pub mod FileLemmas

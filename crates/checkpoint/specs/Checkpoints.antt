@@ -1,0 +1,76 @@
+-- Checkpoints: texts of formulas whose clauses follow from another (this project's own).
+use Rattle.std.specs.Prelude.{◌≡◌, ◌≤◌, ◌++◌, ℕ, List, [], ◌∷◌, length, Option, Result, Ok, Err}
+use Rattle.std.specs.Io.KnownBytes.{Appends}
+use Rattle.std.specs.List.{AllByRecursion}
+use Rattle.lrup_model.specs.Clause.{Clause}
+use Rattle.lrup_model.specs.Cube.{CubeValue, IsUnsatisfiableUnder}
+use Rattle.lrup_model.specs.Entailment.{IsUnsatisfiable}
+use Rattle.lrup_model.specs.Formula.{Cnf, max_clause_literals, max_clauses}
+use Rattle.dimacs.specs.FormulaText.{IsFormulaText}
+use Rattle.checkpoint.specs.Entails.{Entails}
+use Rattle.checkpoint.specs.Printing.{formula_text}
+use Rattle.checkpoint.specs.declared.saving.SaveFault.{SaveFault}
+use Rattle.checkpoint.specs.declared.saving.SaveFault.TheVariants as faults
+
+-- the bytes are a text of a formula, each clause of which follows from this one
+pub record IsCheckpoint (f : Cnf) (bytes : List ℕ) : Type 0 where
+  pub formula : Cnf
+  pub text : IsFormulaText bytes formula
+  pub entails : Entails f formula
+
+-- a formula may have so many clauses, and of these lengths
+abbrev pub AreWithinLimits : List Clause → Type 0
+AreWithinLimits clauses =
+    (length clauses ≤ max_clauses)
+    × AllByRecursion (λ c. length c ≤ max_clause_literals) clauses
+
+-- What became of the saving of clauses: their text was written; or nothing, where they are too many
+-- or too long; or, where a write failed, a beginning of the text.
+abbrev pub Saves : Result (Unit {0}) SaveFault → ℕ → List Clause → Option (List ℕ)
+    → Option (List ℕ) → Type 0
+Saves (Ok _) vars clauses before after = Appends before after (formula_text vars clauses)
+Saves (Err faults.Memory) vars clauses before after = ⊥
+Saves (Err faults.TooLarge) vars clauses before after =
+    (¬ AreWithinLimits clauses) × Appends before after []
+Saves (Err faults.Unwritten) vars clauses before after =
+    (went rest : List ℕ) × (formula_text vars clauses ≡ went ++ rest) × Appends before after went
+
+-- Chains of files
+
+-- each file is a text of a formula, and the next one a checkpoint of that
+abbrev pub AreCheckpoints : List ℕ → List (List ℕ) → Type 0
+AreCheckpoints bytes [] = Unit {0}
+AreCheckpoints bytes (next ∷ more) =
+    ((f : Cnf) × IsFormulaText bytes f × IsCheckpoint f next) × AreCheckpoints next more
+
+-- the last file of a chain
+abbrev pub last_file : List ℕ → List (List ℕ) → List ℕ
+last_file bytes [] = bytes
+last_file bytes (next ∷ more) = last_file next more
+
+-- the file is a text of a formula that no assignment satisfies
+abbrev pub IsUnsatisfiableText : List ℕ → Type 0
+IsUnsatisfiableText bytes = (f : Cnf) × IsFormulaText bytes f × IsUnsatisfiable f
+
+-- the same, where each literal of the cube is true
+abbrev pub IsUnsatisfiableTextUnder : CubeValue → List ℕ → Type 0
+IsUnsatisfiableTextUnder cube bytes =
+    (f : Cnf) × IsFormulaText bytes f × IsUnsatisfiableUnder f cube
+
+-- Laws
+
+-- no text is that of two formulas
+abbrev pub OneFormula : Type 0
+OneFormula = (bytes : List ℕ) (one other : Cnf) → IsFormulaText bytes one
+    → IsFormulaText bytes other → one ≡ other
+
+-- where the last file of a chain holds an unsatisfiable formula, the first does
+abbrev pub FilesRefute : Type 0
+FilesRefute = (bytes : List ℕ) (more : List (List ℕ)) → AreCheckpoints bytes more
+    → IsUnsatisfiableText (last_file bytes more) → IsUnsatisfiableText bytes
+
+-- under a cube too
+abbrev pub FilesRefuteUnder : Type 0
+FilesRefuteUnder = (cube : CubeValue) (bytes : List ℕ) (more : List (List ℕ))
+    → AreCheckpoints bytes more → IsUnsatisfiableTextUnder cube (last_file bytes more)
+    → IsUnsatisfiableTextUnder cube bytes

@@ -1,0 +1,4 @@
+pub mod Live
+pub mod Printing
+pub mod Entails
+pub mod Checkpoints

@@ -1,0 +1,57 @@
+//! Laws of checkpoints: what a formula whose clauses follow from another says of that one. Each function does nothing; its
+//! contract is the law.
+ghost use Rattle.checkpoint.specs.Checkpoints.{FilesRefute, FilesRefuteUnder};
+ghost use Rattle.checkpoint.specs.Entails.{ChainRefutes, ChainRefutesUnder, EntailsItself, EntailsOnward, RefutesBack, RefutesBackUnder};
+ghost use Rattle.checkpoint.specs.Printing.{PrintedIsRead};
+
+use dimacs::laws::one_formula;
+
+/// A formula entails itself.
+pub fn entails_itself()
+    ensures { EntailsItself }
+{}
+
+/// What is entailed by a formula that is entailed is entailed.
+pub fn entails_onward()
+    ensures { EntailsOnward }
+{}
+
+/// A formula that entails one which no assignment satisfies is satisfied by none.
+pub fn refutes_back()
+    ensures { RefutesBack }
+{}
+
+/// So it is under each cube.
+pub fn refutes_back_under()
+    ensures { RefutesBackUnder }
+{}
+
+/// Where each formula of a chain entails the next, and no assignment satisfies the last, none satisfies the first.
+pub fn chain_refutes()
+    ensures { ChainRefutes }
+{}
+
+/// So it is under each cube.
+pub fn chain_refutes_under()
+    ensures { ChainRefutesUnder }
+{}
+
+/// The text of a formula, as it is printed, is a text of it.
+pub fn printed_is_read()
+    ensures { PrintedIsRead }
+{}
+
+/// Where each file is a text of a formula and the next one a checkpoint of it, and the last holds a formula that no assignment
+/// satisfies, the first does.
+pub fn files_refute()
+    ensures { FilesRefute }
+{
+    one_formula();
+}
+
+/// So it is under each cube.
+pub fn files_refute_under()
+    ensures { FilesRefuteUnder }
+{
+    one_formula();
+}

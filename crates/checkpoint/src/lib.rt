@@ -1,0 +1,12 @@
+//! Checkpoints: the clauses that are live at a clause map, written as a formula of their own. Each follows from the formula
+//! of the run, so that a later run may take the checkpoint for its formula.
+#![tactic(auto)]
+
+pub mod laws;
+mod live;
+mod saving;
+mod text;
+
+pub use live::live_clauses;
+pub use saving::{SaveFault, save, save_clips};
+pub use text::write_formula;

@@ -1,0 +1,120 @@
+//! Saves what is live at a clause map.
+ghost use Rattle.std.specs.Prelude.{◌≡◌, ◌↔◌, ◌⊎◌, ◌≤◌, ◌++◌, [], Err, IfOk, IsTrue, List, ℕ, false, length};
+ghost use Rattle.std.specs.Io.KnownBytes.{Appends};
+ghost use Rattle.std.specs.List.{AllByRecursion};
+ghost use Rattle.lrup_model.specs.Clause.{Clause};
+ghost use Rattle.lrup_model.specs.Entailment.{IsDerived};
+ghost use Rattle.lrup_model.specs.Event.{Reply};
+ghost use Rattle.lrup_model.specs.Formula.{max_clause_literals, max_clauses};
+ghost use Rattle.lrup_model.specs.Layout.{Fits, last_identity};
+ghost use Rattle.lrup_model.specs.Literal.{max_variable};
+ghost use Rattle.lrup_model.specs.Place.{IsKnown};
+ghost use Rattle.checkpoint.specs.Checkpoints.{IsCheckpoint, Saves};
+ghost use Rattle.checkpoint.specs.Live.{clauses_of, fetches, live_of};
+ghost use Rattle.checkpoint.specs.Printing.{formula_text};
+
+use crate::live::live_clauses;
+use crate::text::write_formula;
+use lrup_model::{ClauseMap, Clip, Formula, Layout};
+use lrup_text::{Sink, WriteFault};
+use std::alloc::{AllocError, Global};
+use thiserror::Error;
+
+/// Why a checkpoint wasn't saved.
+#[derive(Clone, Copy, Debug, PartialEq, Eq, Error)]
+pub enum SaveFault {
+    /// Out of memory. Nothing was written.
+    #[error("out of memory")]
+    Memory,
+    /// No formula has so many clauses as are live, or one so long. Nothing was written.
+    #[error("checkpoint refused: limit")]
+    TooLarge,
+    /// A write failed. A beginning of the text was written.
+    #[error("checkpoint not written")]
+    Unwritten,
+}
+
+impl From<AllocError> for SaveFault {
+    ghost use Rattle.checkpoint.specs.declared.saving.SaveFault.TheVariants.{Memory};
+
+    ghost from_gives = { λ _ fault. fault ≡ Memory };
+
+    fn from(_error: AllocError) -> SaveFault {
+        SaveFault::Memory
+    }
+}
+
+/// Writes the formula of the clauses that are live at the map, which each follow from the run's formula. All identities are
+/// fetched, each once, before the first write. It takes memory for the clips, 16 bytes a live clause.
+pub fn save<M: ClauseMap, W: Sink>(
+    alloc: Global,
+    map: &mut M,
+    layout: &Layout,
+    sink: &mut W,
+) -> Result<(), SaveFault>
+    requires layout { layout.now ≡ (M.place map.old).caller.layout }
+    requires fits { Fits layout.now (M.place map.old).caller.formula }
+    requires running { W.has_failed sink.old ≡ false }
+    // What a user relies on.
+    ensures checkpoint { IfOk result (λ _. (bytes : List ℕ)
+        × Appends (W.written sink.old) (W.written sink.new) bytes
+        × IsCheckpoint (M.place map.old).caller.formula bytes) }
+    // The clauses of the run's formula come first.
+    ensures keeps { let f = (M.place map.old).caller.formula in
+        IfOk result (λ _. (more : List Clause) × Appends (W.written sink.old) (W.written sink.new)
+        (formula_text f.vars (f.clauses ++ more))) }
+    // The map's calls, and what went out.
+    ensures saves { (replies : List Reply)
+        × M.moves map.old map.new (fetches (M.place map.old).caller.stream 1 replies)
+        × (length replies ≤ last_identity layout.now)
+        × ((length replies ≡ last_identity layout.now)
+        × Saves result layout.now.vars (live_of replies) (W.written sink.old) (W.written sink.new)
+        ⊎ (result ≡ Err SaveFault.Memory) × (sink.new ≡ sink.old)) }
+    ensures failed { IsTrue (W.has_failed sink.new) ↔ (result ≡ Err SaveFault.Unwritten) }
+{
+    let clips = live_clauses(alloc, map, layout.last_identity())?;
+    save_clips(map, &clips, layout.vars(), sink)
+}
+
+/// Writes the formula of some clauses, which each follow from the run's: those that are live, or fewer. It takes no memory, and
+/// at the map it is no event.
+pub fn save_clips<M: ClauseMap, W: Sink>(
+    map: &mut M,
+    clips: &[Clip],
+    vars: u32,
+    sink: &mut W,
+) -> Result<(), SaveFault>
+    requires known { AllByRecursion (IsKnown (M.place map.old)) clips.now }
+    requires follow { AllByRecursion (IsDerived (M.place map.old).caller.formula)
+        (clauses_of (M.place map.old) clips.now) }
+    requires vars { vars ≡ (M.place map.old).caller.formula.vars }
+    requires few { vars ≤ max_variable }
+    requires running { W.has_failed sink.old ≡ false }
+    ensures checkpoint { IfOk result (λ _. (bytes : List ℕ)
+        × Appends (W.written sink.old) (W.written sink.new) bytes
+        × IsCheckpoint (M.place map.old).caller.formula bytes) }
+    ensures saves { Saves result vars (clauses_of (M.place map.old) clips.now)
+        (W.written sink.old) (W.written sink.new) }
+    ensures failed { IsTrue (W.has_failed sink.new) ↔ (result ≡ Err SaveFault.Unwritten) }
+    ensures event { M.moves map.old map.new [] }
+    ensures stays { M.place map.new ≡ M.place map.old }
+{
+    if !are_few(clips) {
+        return Err(SaveFault::TooLarge);
+    }
+    match write_formula(map, clips, vars, sink) {
+        Ok(()) => Ok(()),
+        Err(WriteFault) => Err(SaveFault::Unwritten),
+    }
+}
+
+/// Is there a formula of so many clauses, of these lengths?
+fn are_few(clips: &[Clip]) -> bool
+    ensures { IsTrue result ↔ ((length clips.now ≤ max_clauses)
+        × AllByRecursion (λ clip. clip.len ≤ max_clause_literals) clips.now) }
+{
+    clips.len() <= Formula::MAX_CLAUSES as usize
+        && clips
+            .iter()
+            .all(|clip| clip.len() <= Formula::MAX_CLAUSE_LITERALS)
+}

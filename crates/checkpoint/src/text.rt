@@ -1,0 +1,100 @@
+//! Writes clauses as a formula in DIMACS CNF.
+ghost use Rattle.std.specs.Prelude.{◌≡◌, ◌++◌, [], codes, false, is_err};
+ghost use Rattle.std.specs.Fmt.{decimal, signed_decimal};
+ghost use Rattle.std.specs.List.{AllByRecursion};
+ghost use Rattle.lrup_model.specs.Place.{IsKnown, clip_clause};
+ghost use Rattle.lrup_text.specs.Writing.{PutsAll, WritesText};
+ghost use Rattle.checkpoint.specs.Live.{clauses_of};
+ghost use Rattle.checkpoint.specs.Printing.{clause_line, formula_text, header_line};
+
+use lrup_model::{ClauseMap, Clip, Lit};
+use lrup_text::{Sink, WriteBuffer, WriteFault};
+
+/// Writes the formula over the variables 1 to `vars` whose clauses are those of the clips, in order. After a fault, what went
+/// out is a beginning of its text. At the map it is no event.
+pub fn write_formula<M: ClauseMap, W: Sink>(
+    map: &mut M,
+    clips: &[Clip],
+    vars: u32,
+    sink: &mut W,
+) -> Result<(), WriteFault>
+    requires known { AllByRecursion (IsKnown (M.place map.old)) clips.now }
+    requires running { W.has_failed sink.old ≡ false }
+    ensures text { WritesText result (W.written sink.old) (W.written sink.new)
+        (formula_text vars (clauses_of (M.place map.old) clips.now)) }
+    ensures failed { W.has_failed sink.new ≡ is_err result }
+    ensures event { M.moves map.old map.new [] }
+    ensures stays { M.place map.new ≡ M.place map.old }
+{
+    let mut buffer = WriteBuffer::new();
+    put_header(&mut buffer, vars, clips.len(), sink)?;
+    for clip in clips {
+        put_clause(&mut buffer, map, clip, sink)?;
+    }
+    buffer.flush(sink)
+}
+
+/// Puts the header of a formula of so many variables and clauses.
+fn put_header<W: Sink>(
+    buffer: &mut WriteBuffer,
+    vars: u32,
+    count: usize,
+    sink: &mut W,
+) -> Result<(), WriteFault>
+    requires { W.has_failed sink.old ≡ false }
+    ensures puts { PutsAll result (W.written sink.old) (W.written sink.new)
+        buffer.old buffer.new (header_line vars count) }
+    ensures failed { W.has_failed sink.new ≡ is_err result }
+{
+    buffer.put(b"p cnf ", sink)?;
+    buffer.put_number(vars as u64, sink)?;
+    buffer.put(b" ", sink)?;
+    buffer.put_number(count as u64, sink)?;
+    buffer.put(b"\n", sink)
+}
+
+/// Puts the literals of the clip's clause, in the order in which the map keeps them, and the end of the line.
+fn put_clause<M: ClauseMap, W: Sink>(
+    buffer: &mut WriteBuffer,
+    map: &mut M,
+    clip: &Clip,
+    sink: &mut W,
+) -> Result<(), WriteFault>
+    requires known { IsKnown (M.place map.old) clip.now }
+    requires running { W.has_failed sink.old ≡ false }
+    ensures puts { PutsAll result (W.written sink.old) (W.written sink.new)
+        buffer.old buffer.new (clause_line (clip_clause (M.place map.old) clip.now)) }
+    ensures failed { W.has_failed sink.new ≡ is_err result }
+    ensures event { M.moves map.old map.new [] }
+    ensures stays { M.place map.new ≡ M.place map.old }
+{
+    for k in 0..clip.len() {
+        let lit = map.literal(clip, k);
+        put_literal(buffer, lit, sink)?;
+    }
+    buffer.put(b"0\n", sink)
+}
+
+/// Puts a literal, and a space after it.
+fn put_literal<W: Sink>(buffer: &mut WriteBuffer, lit: Lit, sink: &mut W) -> Result<(), WriteFault>
+    requires { W.has_failed sink.old ≡ false }
+    ensures puts { PutsAll result (W.written sink.old) (W.written sink.new)
+        buffer.old buffer.new (signed_decimal lit ++ codes " ") }
+    ensures failed { W.has_failed sink.new ≡ is_err result }
+{
+    put_signed(buffer, lit.value(), sink)?;
+    buffer.put(b" ", sink)
+}
+
+/// Puts a number that may be negative.
+fn put_signed<W: Sink>(buffer: &mut WriteBuffer, value: i64, sink: &mut W) -> Result<(), WriteFault>
+    requires { W.has_failed sink.old ≡ false }
+    ensures puts { PutsAll result (W.written sink.old) (W.written sink.new)
+        buffer.old buffer.new (signed_decimal value) }
+    ensures failed { W.has_failed sink.new ≡ is_err result }
+{
+    if value < 0 {
+        buffer.put(b"-", sink)?;
+    }
+    buffer.put_number(value.unsigned_abs(), sink)
+}

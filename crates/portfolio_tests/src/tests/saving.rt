@@ -1,0 +1,80 @@
+//! What is live after a run, saved.
+ghost use Rattle.std.specs.Prelude.{◌≡◌, false};
+ghost use Rattle.std.specs.List.{AllByRecursion};
+
+use super::{BOTH, By, Open, readers_of, same};
+use checkpoint::SaveFault;
+use lrup_model::Cube;
+use portfolio::{Options, Outcome, SerialOutcome, run, run_serial, save_live, save_plain};
+use std::alloc::Global;
+use std::sync::Wait;
+use std::test::Fail;
+use std::thread::Threads;
+use test_support::{Paper, Pieces, four_clauses};
+
+/// Saves what is live after a run over the four clauses.
+fn saved_after<'a, T: Threads + Wait + Sync>(
+    rt: &T,
+    alloc: Global,
+    by: By,
+    readers: Vec<Pieces<'a>>,
+    paper: &mut Paper,
+) -> Result<Result<(), SaveFault>, Fail>
+    requires readers { AllByRecursion (λ r. r.failed ≡ false) readers.items }
+    requires paper { paper.old.failed ≡ false }
+{
+    let formula = four_clauses(alloc)?;
+    let cube = Cube::empty(alloc);
+    let options = Options::new(1_000_000, 4, 8).ok_or("no options")?;
+    let gates = vec![in alloc; Open; readers.len()]?;
+    match by {
+        By::Threads => {
+            let outcome = run(rt, alloc, &formula, &cube, options, readers, gates)?;
+            let Outcome {
+                passes,
+                store,
+                layout,
+                ..
+            } = outcome;
+            if passes.is_empty() {
+                return Err("no pass".into());
+            }
+            Ok(save_live(alloc, &store, &layout, passes, paper))
+        }
+        By::Turns => {
+            let outcome = run_serial(rt, alloc, &formula, &cube, options, readers, gates)?;
+            let SerialOutcome { mut map, .. } = outcome;
+            Ok(save_plain(alloc, &mut map, paper))
+        }
+    }
+}
+
+#[test]
+fn what_is_live_is_saved(rt: HostRuntime) -> Result<(), Fail> {
+    for (streams, text) in [
+        (
+            ["5 2 0 1 2 0\n7 0 5 6 0\n", "6 -2 0 3 4 0\n"],
+            "p cnf 2 7\n1 2 0\n-1 2 0\n1 -2 0\n-1 -2 0\n2 0\n-2 0\n0\n",
+        ),
+        (
+            ["5 2 0 1 2 0\n5 d 5 0\n", "6 -2 0 3 4 0\n"],
+            "p cnf 2 5\n1 2 0\n-1 2 0\n1 -2 0\n-1 -2 0\n-2 0\n",
+        ),
+        (
+            ["", "5 2 0 1 2 0\n"],
+            "p cnf 2 4\n1 2 0\n-1 2 0\n1 -2 0\n-1 -2 0\n",
+        ),
+    ] {
+        for by in BOTH {
+            let readers = readers_of(rt.alloc(), &streams, 7)?;
+            let mut paper = Paper::new(rt.alloc(), 9, 0);
+            let saved = saved_after(&rt, rt.alloc(), by, readers, &mut paper)?;
+            same(
+                &rt,
+                (by, saved, paper.bytes.as_slice()),
+                (by, Ok(()), text.as_bytes()),
+            );
+        }
+    }
+    Ok(())
+}
