@@ -17,8 +17,8 @@ FORMULA ?= examples/bmc.cnf
 STREAMS ?= $(addprefix examples/bmc-four.,1 2 3 4)
 OPTIONS ?= --tries 1000000
 
-.PHONY: run build install examples live demo solver exact solve solver-test filter-test solve-test neighbours sweep leaks \
-    instructions audit pages test toolchain c-and-python libcadical
+.PHONY: run build install examples live checkpoints demo solver exact solve solver-test filter-test solve-test neighbours sweep
+.PHONY: leaks instructions audit pages test toolchain c-and-python libcadical
 .PHONY: help try deb dist quick
 
 help:
@@ -65,6 +65,10 @@ examples: $(BUILT) c-and-python ## check: compare what the program answers on th
 
 live: $(BUILT) c-and-python ## check: four recorded solvers, line by line through pipes, checked while they run
 	@python3 tests/program_live.py $(PROGRAM)
+
+checkpoints: $(BUILT) solver ## check: what --checkpoint saves, and runs of which each goes on with what the one before saved
+	@python3 tests/program_checkpoints.py $(PROGRAM)
+	@python3 tests/example_chain.py $(PROGRAM) $(SOLVER)
 
 demo: build solver ## try: four solvers that share their clauses, and the program beside them
 	@python3 examples/solver/demo.py $(PROGRAM) $(SOLVER)
@@ -134,10 +138,11 @@ quick: toolchain c-and-python ## check: after a change of CRATE=name: layout, pr
 	@sh gate/quick.sh $(RT) $(CRATE) $(LIMIT)
 
 # The whole gate: the pages; every proof from nothing, each edit that must be refused, each test, and the program as two compilers
-# build it; then, with the program that was built there, the examples, the live run, the solver's streams and the filter's, mutated
-# proofs, lrup-solve, a proof beside hostile streams, each call of the system refused in turn, of the program and of tests, memory
-# given back, and the instructions that lines take. The last line is rt's own, 'N passed, M failed'.
-TESTS := examples live solver-test filter-test solve-test neighbours sweep leaks instructions
+# build it; then, with the program that was built there, the examples, the live run, checkpoints and chains of runs, the solver's
+# streams and the filter's, mutated proofs, lrup-solve, a proof beside hostile streams, each call of the system refused in turn, of
+# the program and of tests, memory given back, and the instructions that lines take. The last line is rt's own, 'N passed, M
+# failed'.
+TESTS := examples live checkpoints solver-test filter-test solve-test neighbours sweep leaks instructions
 test: SHELL := /bin/bash
 test: toolchain pages solver exact ## check: the gate, 25 to 100 minutes: every proof, edit and test; has to pass before a push
 	@set -o pipefail; log=$$(mktemp); trap 'rm -f "$$log"' EXIT; \

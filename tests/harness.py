@@ -200,7 +200,7 @@ def answers(program: str, wanted: Wanted, work: Path) -> None:
     want(found, Ran(wanted.out, wanted.err, wanted.status), "the answer")
     for name, text in wanted.left.items():
         path = work / name
-        want(path.read_text() if path.is_file() else None, text, f"what {name} has")
+        want(text_of(path.read_bytes()) if path.is_file() else None, text, f"what {name} has")
 
 
 def with_memory(function: Callable[..., None], *arguments: Any) -> None:

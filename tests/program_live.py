@@ -1,7 +1,8 @@
 #!/usr/bin/env python3
 """Four solvers at work, as they were recorded: each writes its lines into a pipe of its own, one after the other at a steady
 pace, and the program checks them all meanwhile. Its report comes as the last solver ends, after some five seconds. Then two
-pipes with --watch: a bad line in the one is told while both are open.
+pipes with --watch: a bad line in the one is told while both are open. Then the first half of the four solvers' lines, with a
+checkpoint, which stays empty until all of them have ended.
 
     program_live.py PROGRAM
 
@@ -16,7 +17,8 @@ from pathlib import Path
 from typing import Iterator, Union
 
 sys.dont_write_bytecode = True
-from harness import Failure, Ran, example, feed, held, piped, run, started, until, want, words_given
+from checkpoints import live, printed, variables_of, want_checkpoint
+from harness import Failure, Ran, example, feed, held, piped, run, started, until, want, words_given, written
 
 PAUSE = 0.004  # seconds, after each of some 750 lines
 TOLD = "lrupd: stream 1: 0 added, 0 deleted, bad line 1 (spelling)\n"
@@ -57,9 +59,28 @@ def told_while_open(program: str, work: Path) -> None:
     want(Ran(out, errors.read_text(), status), Ran(re.sub("^lrupd:", "c", told, flags=re.M) + "s UNKNOWN\n", told, 3), "the answer")
 
 
+def checkpoint_at_the_end(program: str, work: Path) -> None:
+    halves = [written("".join(example(f"bmc-four.{number}").read_text().splitlines(True)[:370]), work, f"half{number}")
+              for number in range(1, 5)]
+    pipes, saved, formula = [work / str(number) for number in range(1, 5)], work / "saved", example("bmc.cnf")
+    words = [program, "--tries", "1000000", "--checkpoint", saved, formula, *pipes]
+    ends = list(map(held, pipes))
+    with started(words, stdout=subprocess.PIPE, text=True) as checker:
+        for half, end in zip(halves, ends):
+            end.write(half.read_bytes())
+        until("the checkpoint is created", saved.exists, 10)
+        want((checker.poll(), saved.read_text()), (None, ""), "the status and the checkpoint while the pipes are open")
+        for end in ends:
+            end.close()
+        out, _ = checker.communicate(timeout=10)
+    want((out.count(" 370 added, 0 deleted, ended\n"), checker.returncode), (4, 3), f"{out}the streams that ended, and the status")
+    want_checkpoint(saved, printed(variables_of(formula), live(formula, halves)))
+    print("a checkpoint of four solvers' first lines is there")
+
+
 def main() -> None:
     program, = words_given(__doc__)
-    for part in four_solvers, told_while_open:
+    for part in four_solvers, told_while_open, checkpoint_at_the_end:
         with tempfile.TemporaryDirectory() as work:
             part(program, Path(work))
 

@@ -1,5 +1,6 @@
 #!/usr/bin/env python3
-"""Refuses each allocation, read, write and thread of the program in turn, and compares each answer with those that may be.
+"""Refuses each allocation, read, write, thread, creation of a file and flush of the program in turn, and compares each answer,
+with what was saved, with those that may be.
 
     program_refusals.py PROGRAM [RT]
 
@@ -25,7 +26,7 @@ from pathlib import Path
 from typing import Dict, Iterator, List, NamedTuple, Optional, Sequence, Set, Tuple
 
 sys.dont_write_bytecode = True
-from harness import EXAMPLES, ROOT, TESTS, Ran, Words, compiled, piped, report, run, words_given, written
+from harness import EXAMPLES, FOUR, ROOT, TESTS, Words, compiled, piped, report, run, words_given, written
 
 
 class Test(NamedTuple):
@@ -40,8 +41,16 @@ class Test(NamedTuple):
     last: Optional[int] = None
 
 
-def stopped(status: int, cause: str) -> Ran:
-    return Ran("", f"lrupd: {cause}\n", status)
+class Answer(NamedTuple):
+    """What was written, the status, and what the checkpoint has, if one was created."""
+    out: str
+    err: str
+    status: Optional[int]
+    saved: Optional[str] = None
+
+
+def stopped(status: int, cause: str, saved: Optional[str] = None) -> Answer:
+    return Answer("", f"lrupd: {cause}\n", status, saved)
 
 
 FOUR_CLAUSE = EXAMPLES / "four-clause.cnf"
@@ -49,8 +58,13 @@ FOUR_SOLVERS = [EXAMPLES / f"bmc-four.{number}" for number in range(1, 5)]
 OUT_OF_MEMORY = stopped(6, "out of memory")
 NO_FORMULA = stopped(5, "cannot read formula")
 NO_ASSUMPTIONS = stopped(5, "cannot read assumptions")
+NOT_CREATED = stopped(5, "cannot create checkpoint")
+NOT_WRITTEN = "lrupd: checkpoint not written\n"
+NO_MEMORY_TO_SAVE = "lrupd: checkpoint not written: out of memory\n"
 ERRORS_OF_READS = ["EIO", "EINTR"]
 ERRORS_OF_WRITES = ["EIO", "ENOSPC", "EPIPE"]
+ERRORS_OF_CREATIONS = ["EACCES", "EMFILE", "ENOSPC"]
+ERRORS_OF_FLUSHES = ["EIO", "ENOSPC"]
 SHORT = ["short", "half"]
 MANY = 5_000
 ONE_LINE, MANY_LINES = "a line and an import", f"{MANY} lines and imports"  # as many allocations: lines take none
@@ -67,12 +81,14 @@ HELD = 30  # the same of one that waits for a pipe
 class Input:
     """Words, which end with the streams, and what else than the ample answer may be said where something is refused."""
 
-    def __init__(self, name: str, words: Words, streams: int = 0, dropped: Sequence[Ran] = (), waits: bool = False,
+    def __init__(self, name: str, words: Words, streams: int = 0, dropped: Sequence[Answer] = (), waits: bool = False,
                  out: Optional[str] = None) -> None:
         self.name, self.words, self.streams, self.out = name, list(map(str, words)), streams, out
         self.dropped = dropped  # reports where the growth for a dropped identity is refused
         self.waits = waits  # for a minute, where a stream that others cite fails
         self.assumes = "--assume" in self.words
+        self.checkpoint = Path(self.words[self.words.index("--checkpoint") + 1]) if "--checkpoint" in self.words else None
+        self.created = "" if self.checkpoint else None  # what the checkpoint has before something is saved
 
 
 class Machine:
@@ -81,22 +97,27 @@ class Machine:
     def __init__(self, program: str, folder: Path) -> None:
         self.program, self.mark, self.stump = program, folder / "mark", folder / "stump"
         self.shim = compiled(folder / "refuse.so", [TESTS / "refuse.c"], "-std=gnu11", "-O2", "-shared", "-fPIC")
-        self.ends: Dict[Tuple[Input, int, int], Ran] = {}
+        self.ends: Dict[Tuple[Input, int, int], Answer] = {}
 
     def run(self, words: Sequence[str], refuse: str = "", out: Optional[str] = None,
-            limit: float = HANGS) -> Tuple[Ran, bool, float]:
+            limit: float = HANGS) -> Tuple[Answer, bool, float]:
         """The answer, whether a call was refused, and the seconds that it took. What `--watch` tells is compared with the report,
         and isn't in the answer where it is right."""
-        if self.mark.exists():
-            self.mark.unlink()
+        checkpoint = Path(words[words.index("--checkpoint") + 1]) if "--checkpoint" in words else None
+        for path in [self.mark, *([checkpoint] if checkpoint else [])]:
+            if path.is_file():
+                path.unlink()
         surroundings = {"LD_PRELOAD": str(self.shim), "REFUSE": refuse, "MARK": str(self.mark), "PATH": os.environ["PATH"],
                         "LATE": str(LATE if refuse.startswith("thread") else 0)}
         began = time.monotonic()
         with open(out or os.devnull, "wb") as full:
             try:
-                answer = run([self.program, *words], limit=limit, env=surroundings, stdout=full if out else subprocess.PIPE)
+                where = full if out else subprocess.PIPE
+                answer = Answer(*run([self.program, *words], limit=limit, env=surroundings, stdout=where))
             except subprocess.TimeoutExpired:
-                answer = Ran("", f"no end in {limit} seconds", None)
+                answer = Answer("", f"no end in {limit} seconds", None)
+        if checkpoint and checkpoint.is_file():
+            answer = answer._replace(saved=checkpoint.read_text())
         if "--watch" in words:
             answer = without_told_ends(answer, refuse)
         return answer, self.mark.exists(), time.monotonic() - began
@@ -110,7 +131,7 @@ class Machine:
         """Were as many threads started before the one that was refused, and had they all begun, and ended, when that was said?"""
         return self.mark.read_text().split() == [str(count)] * 3
 
-    def answer_without(self, given: Input, number: int, line: int) -> Ran:
+    def answer_without(self, given: Input, number: int, line: int) -> Answer:
         """What has to be said where the reading of a stream fails in a line: what is said where it ends before that line."""
         if (given, number, line) not in self.ends:
             words, place = list(given.words), number - 1 - given.streams
@@ -123,7 +144,7 @@ class Machine:
         return self.ends[given, number, line]
 
 
-def without_told_ends(answer: Ran, refuse: str) -> Ran:
+def without_told_ends(answer: Answer, refuse: str) -> Answer:
     """Without the lines that tell how each stream ended, where they say what the report does; else no answer. A report that is cut
     may say less, and so may what is told where a write fails."""
     lines = answer.err.splitlines(keepends=True)
@@ -131,38 +152,54 @@ def without_told_ends(answer: Ran, refuse: str) -> Ran:
     reported = {re.sub("^c", "lrupd:", line) for line in answer.out.splitlines(keepends=True) if line.startswith("c stream ")}
     if told == reported or answer.status == 7 and told > reported or refuse.startswith("write") and told < reported:
         return answer._replace(err="".join(line for line in lines if line not in told))
-    return Ran(answer.out, f"told {sorted(told)}", None)
+    return Answer(answer.out, f"told {sorted(told)}", None)
 
 
-def is_cut(answer: Ran, ample: Ran) -> bool:
-    """The report couldn't be written: what went out is a beginning of it."""
-    return answer.status == 7 and answer.err == "lrupd: cannot write report\n" and ample.out.startswith(answer.out)
+def is_cut(answer: Answer, ample: Answer) -> bool:
+    """The report couldn't be written: what went out is a beginning of it. The checkpoint was there before."""
+    return (answer.status == 7 and answer.err == "lrupd: cannot write report\n" and ample.out.startswith(answer.out)
+            and answer.saved == ample.saved)
 
 
-def is_unopened(answer: Ran, given: Input) -> bool:
+def is_unsaved(answer: Answer, ample: Answer, cause: str) -> bool:
+    """The checkpoint couldn't be written: a beginning of it is there, and the report is as ever."""
+    wanted = ample._replace(err=cause + ample.err, status=7 if ample.status == 7 else 9, saved=answer.saved)
+    return (ample.status in [3, 7, 8] and answer == wanted and answer.saved is not None and ample.saved is not None
+            and ample.saved.startswith(answer.saved))
+
+
+def is_unopened(answer: Answer, given: Input) -> bool:
     return answer == NO_FORMULA or answer == NO_ASSUMPTIONS and given.assumes or answer in [
-        stopped(5, f"cannot open stream {number}") for number in range(1, given.streams + 1)]
+        stopped(5, f"cannot open stream {number}") for number in range(1, given.streams + 1)] or (
+        answer == NOT_CREATED and given.checkpoint is not None)
 
 
-def not_started(number: int) -> Ran:
-    return stopped(6, f"worker {number} not started")
+def not_started(number: int, saved: Optional[str] = None) -> Answer:
+    return stopped(6, f"worker {number} not started", saved)
 
 
-def is_unstarted(answer: Ran, given: Input) -> bool:
-    return answer in [not_started(number) for number in range(1, given.streams + 1)]
+def is_unstarted(answer: Answer, given: Input) -> bool:
+    return answer in [not_started(number, given.created) for number in range(1, given.streams + 1)]
 
 
-def started(ample: Ran, given: Input) -> int:
-    """How many threads a run starts: the checking thread of each stream in turn, and then the reading threads likewise."""
-    return 2 * given.streams if "--serial" not in given.words and ample.status in [0, 3, 7, 8] else 0
+def calls(kind: str, ample: Answer, given: Input) -> int:
+    """How many threads a run starts: the checking thread of each stream in turn, and then the reading threads likewise; how many
+    checkpoints it creates; and how often it flushes one."""
+    goes_on = ample.status in [0, 3, 7, 8]
+    if kind == "thread":
+        return 2 * given.streams if "--serial" not in given.words and goes_on else 0
+    if kind == "create":
+        return int(given.checkpoint is not None and (goes_on or ample == NOT_CREATED))
+    return int(given.checkpoint is not None and bool(ample.saved))
 
 
-def is_refused_allocation(answer: Ran, ample: Ran, given: Input) -> bool:
-    return (answer == OUT_OF_MEMORY or answer in given.dropped or is_unopened(answer, given)
-            or is_unstarted(answer, given) or is_cut(answer, ample))
+def is_refused_allocation(answer: Answer, ample: Answer, given: Input) -> bool:
+    return (answer in [OUT_OF_MEMORY, OUT_OF_MEMORY._replace(saved=given.created), *given.dropped]
+            or is_unopened(answer, given) or is_unstarted(answer, given) or is_cut(answer, ample)
+            or is_unsaved(answer, ample, NO_MEMORY_TO_SAVE))
 
 
-def is_failed_read(answer: Ran, given: Input, machine: Machine) -> bool:
+def is_failed_read(answer: Answer, given: Input, machine: Machine) -> bool:
     """The formula or the assumptions weren't read; or one stream fails, and the others are as without the rest of it."""
     if answer == NO_FORMULA or answer == NO_ASSUMPTIONS and given.assumes:
         return True
@@ -170,28 +207,34 @@ def is_failed_read(answer: Ran, given: Input, machine: Machine) -> bool:
     return len(failed) == 1 and answer == machine.answer_without(given, int(failed[0][0]), int(failed[0][1]))
 
 
-def is_failed_write(answer: Ran, ample: Ran) -> bool:
-    """Standard output fails, or standard error, which changes no status."""
-    return is_cut(answer, ample) or (
-        answer.status == ample.status and answer.out == ample.out and ample.err.startswith(answer.err))
+def is_failed_write(answer: Answer, ample: Answer) -> bool:
+    """The checkpoint, standard output, or standard error fails, which changes no status."""
+    return is_cut(answer, ample) or is_unsaved(answer, ample, NOT_WRITTEN) and answer.saved != ample.saved or (
+        answer == ample._replace(err=answer.err) and ample.err.startswith(answer.err))
 
 
-def may_be_ample(kind: str, how: str, ample: Ran, given: Input) -> bool:
+def may_be_ample(kind: str, how: str, ample: Answer, given: Input) -> bool:
     """May the answer be as if nothing had been refused? A call that fails is told, but for a read of what follows a bad line, and
     where the report goes to a full device anyway."""
-    fails = how in (ERRORS_OF_READS if kind == "read" else ERRORS_OF_WRITES if kind == "write" else [])
-    return not fails or given.out is not None or kind == "read" and "bad line" in ample.out
+    if how in SHORT or kind == "allocate":
+        return True
+    return kind == "read" and "bad line" in ample.out or kind in ["read", "write"] and given.out is not None
 
 
-def are_due(kind: str, ample: Ran, given: Input) -> bool:
+def are_due(kind: str, ample: Answer, given: Input) -> bool:
     """Must there be such calls? Each run that gets to the formula reads, and each that says something writes."""
     return kind in ["allocate", "write"] or kind == "read" and given.streams > 0 and ample != NO_ASSUMPTIONS
 
 
-def is_right(kind: str, how: str, number: int, answer: Ran, ample: Ran, given: Input, seconds: float, machine: Machine) -> bool:
+def is_right(kind: str, how: str, number: int, answer: Answer, ample: Answer, given: Input, seconds: float,
+             machine: Machine) -> bool:
     if kind == "thread":
-        return (answer == not_started((number - 1) % given.streams + 1) and seconds < SECONDS
+        return (answer == not_started((number - 1) % given.streams + 1, given.created) and seconds < SECONDS
                 and machine.has_waited_for(number - 1))
+    if kind == "create":
+        return answer == NOT_CREATED
+    if kind == "sync":
+        return is_unsaved(answer, ample, NOT_WRITTEN) and answer.saved == ample.saved
     if answer == ample and may_be_ample(kind, how, ample, given):
         return True
     if kind == "allocate":
@@ -201,7 +244,7 @@ def is_right(kind: str, how: str, number: int, answer: Ran, ample: Ran, given: I
     return is_failed_read(answer, given, machine) if kind == "read" else is_failed_write(answer, ample)
 
 
-def are_in_order(causes: List[str], ample: Ran, given: Input) -> bool:
+def are_in_order(causes: List[str], ample: Answer, given: Input) -> bool:
     """What the first reads are said to be of: the formula, then the assumptions, and then what isn't told on standard error."""
     wanted = [NO_FORMULA.err] + [NO_ASSUMPTIONS.err] * given.assumes + [ample.err]
     found = [cause for cause, _ in itertools.groupby(causes)]
@@ -214,7 +257,7 @@ def sweep(machine: Machine, given: Input, kind: str, how: str) -> Tuple[int, Lis
     ample, _, _ = machine.run(given.words, out=given.out)
     wrong: List[str] = []
     causes: List[str] = []
-    answers: List[Ran] = []
+    answers: List[Answer] = []
     for number in itertools.count(1):
         refuse = f"{kind}:{number}" + (f":{how}" if how else "")
         answer, refused, seconds = machine.run(given.words, refuse, given.out)
@@ -232,8 +275,8 @@ def sweep(machine: Machine, given: Input, kind: str, how: str) -> Tuple[int, Lis
         wrong.append(f"{given.name}, nothing of this kind is ever refused: {refuse}")
     if kind == "allocate" and given.dropped and not any(answer in given.dropped for answer in answers):
         wrong.append(f"{given.name}, the growth for a dropped identity is never refused")
-    if kind == "thread" and number - 1 != started(ample, given):
-        wrong.append(f"{given.name}, {number - 1} threads refused, not {started(ample, given)}")
+    if kind in ["thread", "create", "sync"] and number - 1 != calls(kind, ample, given):
+        wrong.append(f"{given.name}, {number - 1} calls refused, not {calls(kind, ample, given)}: {kind}")
     if how in ERRORS_OF_READS and kind == "read" and not are_in_order(causes, ample, given):
         wrong.append(f"{given.name}, reads refused with {how}: {causes}")
     return number - 1, wrong
@@ -249,6 +292,8 @@ FILES = {
     "other": "6 -2 0 3 4 0\n",
     "dropping": "5 d 1 0\n5 2 0 1 2 0\n",
     "drops": "5 d 1 0\n",
+    "first": "5 2 0 1 2 0\n",
+    "dropping_last": "5 2 0 1 2 0\n7 d 1 0\n",
     "drops_after": "5 2 0 1 2 0\n5 d 5 1 0\n",
     "importing": "5 2 0 1 2 0\n2 i 2 -1 0\n6 i -2 0\n7 0 5 6 0\n",
     "other_importing": "6 -2 0 3 4 0\n5 i 2 2 0\n",
@@ -259,14 +304,15 @@ FILES = {
 }
 ROW_ONE = EXAMPLES / "four-clause.lrup"
 CUBE = EXAMPLES / "assumed.cube"
+ASSUMED = [EXAMPLES / "assumed.cnf", EXAMPLES / "assumed.lrup"]
 # The hints are those of the first line of bmc.lrup; the import is of the first clause of bmc.cnf.
 LINES = [f"{number} 101 -107 -108 -109 0 487 490 0\n1 i 13 -1 5 0\n" for number in range(534, 534 + MANY)]
 DROP = "534 d 2 0\n"
 AT_ONCE = "0 added, 0 deleted, out of memory at line 1"
 
 
-def dropped(*said: str) -> List[Ran]:
-    return [Ran(report(said, 3), "", 3)]
+def dropped(*said: str, saved: Optional[str] = None) -> List[Answer]:
+    return [Answer(report(said, 3), "", 3, saved)]
 
 
 def inputs_of_way(serial: List[str], files: Dict[str, Path], folder: Path) -> Iterator[Input]:
@@ -283,10 +329,9 @@ def inputs_of_way(serial: List[str], files: Dict[str, Path], folder: Path) -> It
     yield Input("a dropped clause, watched" + kind, [*serial, "--watch", FOUR_CLAUSE, files["dropping"]], 1, dropped(AT_ONCE))
     # So many tries take a third of a second, where the other stream fails.
     few = serial or ["--tries", "5000", "--lines", "100", "--room", "100"]
-    assumed = [EXAMPLES / "assumed.cnf", EXAMPLES / "assumed.lrup"]
     yield Input("imports" + kind, [*few, FOUR_CLAUSE, files["importing"], files["other_importing"]], 2)
-    yield Input("assumptions" + kind, [*few, "--assume", CUBE, *assumed], 1)
-    yield Input("bad assumptions" + kind, [*few, "--assume", files["bad_cube"], *assumed], 1)
+    yield Input("assumptions" + kind, [*few, "--assume", CUBE, *ASSUMED], 1)
+    yield Input("bad assumptions" + kind, [*few, "--assume", files["bad_cube"], *ASSUMED], 1)
     yield Input("four solvers" + kind,
                 [*(serial or ["--tries", "1000000"]), EXAMPLES / "bmc.cnf", *FOUR_SOLVERS], 4, waits=not serial)
     for name, text in ((ONE_LINE, LINES[0]), (MANY_LINES, "".join(LINES))):
@@ -297,11 +342,29 @@ def inputs_of_way(serial: List[str], files: Dict[str, Path], folder: Path) -> It
     yield Input(MANY_CLAUSES + kind, [*serial, files["many_clauses"], os.devnull], 1)
 
 
+def checkpoints(serial: List[str], files: Dict[str, Path], folder: Path) -> Iterator[Input]:
+    """Runs that save something, and some that have nothing to save, or nowhere."""
+    kind = "".join(" " + word for word in serial)
+    words = [*(serial or ["--tries", "5000", "--lines", "100", "--room", "100"]), "--checkpoint", folder / "saved"]
+    one = FOUR.replace("2 4", "2 5") + "2 0\n"
+    yield Input("a checkpoint after a drop" + kind, [*words, FOUR_CLAUSE, files["dropping_last"]], 1,
+                dropped("1 added, 0 deleted, out of memory at line 2", saved=one))
+    yield Input("a checkpoint, watched" + kind, [*words, "--watch", FOUR_CLAUSE, files["first"], os.devnull], 2)
+    yield Input("a checkpoint of many clauses" + kind, [*words, files["many_clauses"], os.devnull], 1)
+    yield Input("a checkpoint under assumptions" + kind, [*words, "--assume", CUBE, *ASSUMED], 1)
+    yield Input("a checkpoint where the formula is refuted" + kind,
+                [*words, FOUR_CLAUSE, files["importing"], files["other_importing"]], 2)
+    yield Input("a checkpoint and a full device" + kind, [*words, FOUR_CLAUSE, os.devnull], 1, out="/dev/full")
+    yield Input("a checkpoint where a folder is" + kind, [*serial, "--checkpoint", folder, FOUR_CLAUSE, ROW_ONE], 1)
+    yield Input("a checkpoint and a missing stream" + kind, [*words, FOUR_CLAUSE, folder / "missing"], 1)
+
+
 def inputs(folder: Path) -> Iterator[Input]:
     """What is swept."""
     files = {name: written(text, folder, name) for name, text in FILES.items()}
     for options in "", "--serial":
         yield from inputs_of_way(options.split(), files, folder)
+        yield from checkpoints(options.split(), files, folder)
     yield Input("help", ["--help"])
     yield Input("a mistake in the words", ["--tries", "x", FOUR_CLAUSE, ROW_ONE])
     yield Input("a bad formula", [files["bad"], ROW_ONE], 1)
@@ -319,6 +382,10 @@ def kinds(given: Input) -> Iterator[Tuple[str, str]]:
         yield "read", how
     for how in SHORT + ERRORS_OF_WRITES:
         yield "write", how
+    for how in ERRORS_OF_CREATIONS if given.checkpoint else ERRORS_OF_CREATIONS[:1]:
+        yield "create", how
+    for how in ERRORS_OF_FLUSHES if given.checkpoint else ERRORS_OF_FLUSHES[:1]:
+        yield "sync", how
 
 
 def tests() -> Iterator[Test]:
@@ -359,7 +426,7 @@ def program_of_tests(crate: str, rt: str) -> str:
     return str(program)
 
 
-def told(answer: Ran) -> str:
+def told(answer: Answer) -> str:
     """What a test tells that failed; nothing where it passed."""
     found = re.fullmatch(r"error: (.*)\nthe test failed: its result gives status 1\n", answer.err)
     return "" if answer.status == 0 else found[1] if found else str(answer)

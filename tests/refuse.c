@@ -6,23 +6,27 @@
                     numbers: how many threads were started, how many of them had begun, and how many ended, ten seconds later at most
      read:N:HOW     read; HOW is EIO, EINTR, or short or half: one byte, or half of those asked for
      write:N:HOW    write; HOW is EIO, ENOSPC, EPIPE, or short or half
+     create:N:HOW   an open with O_EXCL; HOW is EACCES, EMFILE or ENOSPC
+     sync:N:HOW     fsync and fdatasync; HOW is EIO or ENOSPC
    A test's tool, and no part of the program. */
 #define _GNU_SOURCE
 #include <dlfcn.h>
 #include <errno.h>
 #include <fcntl.h>
 #include <pthread.h>
+#include <stdarg.h>
 #include <stdatomic.h>
 #include <stdio.h>
 #include <stdlib.h>
 #include <string.h>
+#include <sys/syscall.h>
 #include <time.h>
 #include <unistd.h>
 
 extern void *__libc_malloc(size_t), *__libc_calloc(size_t, size_t), *__libc_realloc(void *, size_t), *__libc_memalign(size_t, size_t);
 extern ssize_t __read(int, void *, size_t), __write(int, const void *, size_t);
 
-enum kind { NONE, ALLOCATE, THREAD, READ, WRITE };
+enum kind { NONE, ALLOCATE, THREAD, READ, WRITE, CREATE, SYNC };
 static enum kind refused = NONE;
 static long number, late;
 static const char *how = "", *mark = "";
@@ -30,12 +34,12 @@ static atomic_long calls, started, begun, ended;
 static atomic_int to_be_told;
 
 __attribute__((constructor)) static void begin(void) {
-    static const char *const names[] = {"", "allocate", "thread", "read", "write"};
+    static const char *const names[] = {"", "allocate", "thread", "read", "write", "create", "sync"};
     const char *refuse = getenv("REFUSE");
     mark = getenv("MARK");
     if (refuse == NULL || mark == NULL) return;
     if (getenv("LATE") != NULL) late = strtol(getenv("LATE"), NULL, 10);
-    for (int kind = ALLOCATE; kind <= WRITE; kind++) {
+    for (int kind = ALLOCATE; kind <= SYNC; kind++) {
         size_t length = strlen(names[kind]);
         if (strncmp(refuse, names[kind], length) == 0 && refuse[length] == ':') {
             char *rest;
@@ -121,7 +125,7 @@ static void tell_threads(void) {
 /* How many bytes the call may move, or -1 with errno. */
 static ssize_t allowed(size_t size) {
     static const struct { const char *name; int error; } errors[] = {
-        {"EIO", EIO}, {"EINTR", EINTR}, {"ENOSPC", ENOSPC}, {"EPIPE", EPIPE}};
+        {"EIO", EIO}, {"EINTR", EINTR}, {"ENOSPC", ENOSPC}, {"EPIPE", EPIPE}, {"EACCES", EACCES}, {"EMFILE", EMFILE}};
     for (size_t i = 0; i < sizeof errors / sizeof errors[0]; i++)
         if (strcmp(how, errors[i].name) == 0) {
             errno = errors[i].error;
@@ -141,3 +145,31 @@ ssize_t write(int file, const void *bytes, size_t size) {
     ssize_t most = is_refused(WRITE) ? allowed(size) : (ssize_t)size;
     return most < 0 ? -1 : __write(file, bytes, most);
 }
+
+static int open_at(int folder, const char *path, int flags, va_list more) {
+    int mode = flags & (O_CREAT | O_TMPFILE) ? va_arg(more, int) : 0;
+    if ((flags & O_EXCL) && is_refused(CREATE)) return (int)allowed(0);
+    return (int)syscall(SYS_openat, folder, path, flags, mode);
+}
+
+int openat(int folder, const char *path, int flags, ...) {
+    va_list more;
+    va_start(more, flags);
+    int file = open_at(folder, path, flags, more);
+    va_end(more);
+    return file;
+}
+
+int open(const char *path, int flags, ...) {
+    va_list more;
+    va_start(more, flags);
+    int file = open_at(AT_FDCWD, path, flags, more);
+    va_end(more);
+    return file;
+}
+
+extern int open64(const char *, int, ...) __attribute__((alias("open")));
+extern int openat64(int, const char *, int, ...) __attribute__((alias("openat")));
+
+int fsync(int file) { return is_refused(SYNC) ? (int)allowed(0) : (int)syscall(SYS_fsync, file); }
+int fdatasync(int file) { return is_refused(SYNC) ? (int)allowed(0) : (int)syscall(SYS_fdatasync, file); }

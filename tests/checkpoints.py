@@ -1,0 +1,56 @@
+"""What a checkpoint has to be, by the rules and not by the program."""
+import re
+from pathlib import Path
+from typing import Dict, Iterable, List, Sequence, Set, Tuple
+
+from harness import Failure, want
+from proof_forms import Clause, read_formula, read_steps
+
+Entry = Tuple[int, Clause]
+
+
+def printed(variables: int, entries: Iterable[Entry]) -> str:
+    """A formula of these clauses, each after a comment with its identity where that isn't its place."""
+    lines = []
+    for place, (identity, literals) in enumerate(entries, 1):
+        note = f"c id {identity}\n" if identity != place else ""
+        lines.append(note + "".join(f"{literal} " for literal in literals) + "0\n")
+    return f"p cnf {variables} {len(lines)}\n" + "".join(lines)
+
+
+def variables_of(formula: Path) -> int:
+    return int(next(line for line in formula.read_text().splitlines() if line.startswith("p")).split()[2])
+
+
+def live(formula: Path, streams: Sequence[Path]) -> List[Entry]:
+    """What is live where all lines are right: not what its owner deleted, nor what all streams dropped."""
+    clauses: Dict[int, Clause] = dict(enumerate(read_formula(formula), 1))
+    count = len(clauses)
+    retired: Set[int] = set()
+    dropped: List[Set[int]] = [set() for _ in streams]
+    for number, stream in enumerate(streams):
+        for step in read_steps(stream):
+            if step.kind == "a":
+                clauses[step.identity] = step.literals
+            for identity in step.hints if step.kind == "d" else []:
+                is_own = identity > count and (identity - count - 1) % len(streams) == number
+                (retired if is_own else dropped[number]).add(identity)
+    left_out = retired | set.intersection(*dropped)
+    return [(identity, literals) for identity, literals in sorted(clauses.items()) if identity not in left_out]
+
+
+def sorted_literals(text: str) -> List[str]:
+    """The lines, each clause with its literals in order and once, since no rule says in which order they stand."""
+    lines = []
+    for line in text.split("\n"):
+        if line and line[0] not in "cp":
+            if not re.fullmatch(r"(-?[1-9]\d* )*0", line):
+                raise Failure(f"a clause is misspelled: {line}")
+            line = " ".join(sorted(set(line.split()[:-1]), key=int))
+        lines.append(line)
+    return lines
+
+
+def want_checkpoint(path: Path, wanted: str) -> None:
+    """Each byte of it, but for the order of literals."""
+    want(sorted_literals(path.read_text()), sorted_literals(wanted), "the checkpoint")
