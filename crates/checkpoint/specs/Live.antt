@@ -27,9 +27,13 @@ kept_of wants id (retired ∷ replies) = kept_of wants (id + 1) replies
 abbrev pub wanted_of : (ℕ → Bool) → List Clause → List Entry
 wanted_of wants clauses = kept_of wants 1 (map live clauses)
 
--- the clauses of clips with their identities, in order
+-- the clause of a clip, with its identity
+abbrev pub entry_of : Place → ClipValue → Entry
+entry_of p clip = record { id = clip.id; clause = clip_clause p clip }
+
+-- those of clips, in order
 abbrev pub entries_of : Place → List ClipValue → List Entry
-entries_of p clips = map (λ clip. record { id = clip.id; clause = clip_clause p clip }) clips
+entries_of p clips = map (entry_of p) clips
 
 -- the clauses alone
 abbrev pub clauses_of : List Entry → List Clause

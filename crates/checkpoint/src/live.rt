@@ -48,10 +48,13 @@ pub fn live_clauses<M: ClauseMap, K: Wanted>(
 {
     let mut clips = Vec::new(alloc);
     for before in 0..last {
-        if let Fetched::Live(clip) = map.fetch(before + 1)
-            && wanted.wants(before + 1)
-        {
-            clips.push(clip)?;
+        match map.fetch(before + 1) {
+            Fetched::Live(clip) => {
+                if wanted.wants(before + 1) {
+                    clips.push(clip)?;
+                }
+            }
+            Fetched::Vacant | Fetched::Retired => {}
         }
     }
     Ok(clips)
