@@ -1,24 +1,24 @@
 -- A text of a formula has a token `0` for each clause, and a beginning of a printed text has fewer than its header says.
-use Rattle.std.proofs.Common.{◌≡◌, ◌≢◌, ◌≤◌, ◌<◌, ◌+◌, ◌-◌, ◌^◌, ◌++◌, ◌⊎◌, ℕ, suc, ℤ, pos, negsuc, Bool, List, [], ◌∷◌, length, length-append, map, min, get_or, true, false, not, cond, refl, sym, ap, subst, ◌∙◌, inl, inr, arith}
+use Rattle.std.proofs.Common.{◌≡◌, ◌≢◌, ◌≤◌, ◌<◌, ◌+◌, ◌-◌, ◌^◌, ◌++◌, ◌⊎◌, ℕ, zero, suc, ℤ, pos, negsuc, List, [], ◌∷◌, length, length-append, map, min, get_or, true, false, not, cond, refl, sym, ap, subst, ◌∙◌, inl, inr, arith}
 use Rattle.std.specs.Prelude.{codes, flat_map, ◌==◌, filter}
 use Rattle.std.specs.Fmt.{decimal, signed_decimal}
-use Rattle.std.specs.List.{AllByRecursion, slice_split}
+use Rattle.std.specs.List.{AllByRecursion}
 use Rattle.std.proofs.lemmas.Bool.{cases_Bool, eqb-true, ne_eqb}
-use Rattle.std.proofs.lemmas.Fmt.{decimal_digit, decimal_injective, decimal_nonempty, first_decimal}
-use Rattle.std.proofs.lemmas.List.{append_assoc, append-nil, length-map, map-append}
+use Rattle.std.proofs.lemmas.Fmt.{decimal_digit, decimal_injective, first_decimal}
+use Rattle.std.proofs.lemmas.List.{append_assoc, append-nil, length-map}
 use Rattle.std.proofs.lemmas.List.Elements.{All-from_recursion}
 use Rattle.std.proofs.lemmas.List.Splits.{slice_split_none}
 use Rattle.lrup_model.specs.Clause.{Clause}
-use Rattle.lrup_model.specs.Formula.{Cnf, IsFormulaClause}
+use Rattle.lrup_model.specs.Distinct.{distinct}
+use Rattle.lrup_model.specs.Formula.{IsFormulaClause}
 use Rattle.lrup_model.specs.ListLemmas.{All-front, All-map}
 use Rattle.lrup_model.specs.Literal.{IsLiteral, max_variable}
-use Rattle.dimacs.specs.FormulaText.{IsFormulaText}
-use Rattle.dimacs.specs.Lines.{is_comment, is_empty, runs, token_lines}
+use Rattle.dimacs.specs.Lines.{is_comment, is_empty, is_separator, runs, token_lines}
 use Rattle.dimacs.specs.Numerals.{is_zero}
 use Rattle.checkpoint.specs.Live.{Entry, clauses_of}
 use Rattle.checkpoint.specs.Printing.{ABeginningIsNoText, clause_line, entries_text, entry_text, formula_text, header_line, note}
 use Rattle.checkpoint.proofs.PrintLemmas.{note_none}
-use Rattle.checkpoint.proofs.ReadBack.{IsPlain, IsToken, clause_ends, clause_front, clause_front-cons, clause_is, entry_read, header_front, header_is, header_plain, header_read, note_ends, note_front, note_is, note_read, runs_last, runs_more, token_decimal, token_literal}
+use Rattle.checkpoint.proofs.ReadBack.{IsRun, clause_ends, clause_front, clause_front-cons, clause_is, entry_read, header_front, header_is, header_plain, header_read, note_ends, note_front, note_is, note_read, runs_last, runs_more, token_decimal, token_literal, token_run}
 
 -- ## a list that is cut in two
 
@@ -132,9 +132,9 @@ one_line : (line : List ℕ) → AllByRecursion (λ b. (b == 10) ≡ false) line
 one_line line end = elim (cases_Bool (is_comment line)) [
   | inl comment ↦ inl (comment_alone line end comment)
   | inr other ↦ elim (cases_Bool (is_empty (runs line))) [
-      | inl none ↦ inl (lines_alone line end ∙ rw (other, none) refl)
-      | inr some ↦ inr (lines_alone line end ∙ rw (other, some) refl)
-    ]
+    | inl none ↦ inl (lines_alone line end ∙ rw (other, none) refl)
+    | inr some ↦ inr (lines_alone line end ∙ rw (other, some) refl)
+  ]
 ]
 
 -- the zeros of lines
@@ -166,17 +166,20 @@ token_cut t more front back is = elim (cut t (32 ∷ more) front back is) [
         inr (bs, front_is ∙ ap (λ x. t ++ x ∷ bs) (sym space), cc)
 
 -- a beginning of a token is no token, or one
-part_runs : (t front between : List ℕ) → IsToken t → t ≡ front ++ between → (runs front ≡ []) ⊎ (runs front ≡ front ∷ [])
-part_runs t [] between token is = inl refl
-part_runs t (b ∷ bs) between token is =
-    inr (runs_last (b ∷ bs) (record { some = omega arith; plain = All-front IsPlain (b ∷ bs) between (subst (AllByRecursion IsPlain) is token.plain) }))
+part_runs : (t front between : List ℕ) → IsRun t → t ≡ front ++ between → (runs front ≡ []) ⊎ (runs front ≡ front ∷ [])
+part_runs t [] between run is = inl refl
+part_runs t (b ∷ bs) between run is =
+    inr (runs_last (b ∷ bs) (record {
+      some = omega arith;
+      separators = All-front (λ x. is_separator x ≡ false) (b ∷ bs) between (subst (AllByRecursion (λ x. is_separator x ≡ false)) is run.separators);
+    }))
 
-part_zeros : (t front between : List ℕ) → IsToken t → get_or t 0 0 ≢ 48 → t ≡ front ++ between → zeros (runs front) ≡ 0
+part_zeros : (t front between : List ℕ) → IsRun t → get_or t 0 0 ≢ 48 → t ≡ front ++ between → zeros (runs front) ≡ 0
 unfolding zeros
-part_zeros t [] between token first is = refl
-part_zeros t (b ∷ bs) between token first is =
+part_zeros t [] between run first is = refl
+part_zeros t (b ∷ bs) between run first is =
     let same : get_or t 0 0 ≡ b = ap (λ (u : List ℕ). get_or u 0 0) is in
-    elim (part_runs t (b ∷ bs) between token is) [
+    elim (part_runs t (b ∷ bs) between run is) [
       | inl none ↦ ap zeros none
       | inr one ↦ ap zeros one ∙ zeros_one (b ∷ bs) (λ e. first (same ∙ e))
     ]
@@ -195,13 +198,13 @@ module _ (vars : ℕ) (few : vars ≤ max_variable) where
       digit (b ∷ []) e = let zero_is : 48 ≡ b = cc in let none = ap length e in subst (λ x. zeros (runs (x ∷ [])) + min 1 (length back) ≤ 1) zero_is (omega (arith, none))
       digit (b ∷ d ∷ bs) e = absurd (omega (arith, length-append (b ∷ d ∷ bs) back, ap length e))
   front_part (l ∷ c) front back all is =
-      let token = token_literal vars few l all.0 in
+      let run = token_run (signed_decimal l) (token_literal vars few l all.0) in
       let first = first_byte vars l few all.0 in
       elim (token_cut (signed_decimal l) (clause_front c) front back (sym (clause_front-cons l c) ∙ is)) [
-        | inl (between, inside) ↦ let none = part_zeros (signed_decimal l) front between token first inside in omega (arith, none)
+        | inl (between, inside) ↦ let none = part_zeros (signed_decimal l) front between run first inside in omega (arith, none)
         | inr (later, front_is, back_is) ↦
             let rest = front_part c later back all.1 back_is in
-            let same = ap (λ (t : List ℕ). zeros (runs t)) front_is ∙ ap zeros (runs_more (signed_decimal l) later token) ∙ zeros_skip (signed_decimal l) (runs later) first in
+            let same = ap (λ (t : List ℕ). zeros (runs t)) front_is ∙ ap zeros (runs_more (signed_decimal l) later run) ∙ zeros_skip (signed_decimal l) (runs later) first in
             omega (arith, rest, same)
       ]
 
@@ -264,8 +267,87 @@ module _ (vars : ℕ) (few : vars ≤ max_variable) where
 
 -- ## the header that is cut
 
-token_p : IsToken (codes "p")
-token_p = record { some = omega arith; plain = (record { separator = refl; end = refl; comment = refl }, tt) }
+run_p : IsRun (codes "p")
+run_p = record { some = omega arith; separators = (refl, tt) }
 
-token_cnf : IsToken (codes "cnf")
-token_cnf = ?
+run_cnf : IsRun (codes "cnf")
+run_cnf = record { some = omega arith; separators = (refl, (refl, (refl, tt))) }
+
+-- a line of more than one token goes on behind the first
+goes_on : (t more front back one : List ℕ) (tokens : List (List ℕ)) → IsRun t → t ++ 32 ∷ more ≡ front ++ back → runs front ≡ one ∷ tokens → 0 < length tokens
+    → (later : List ℕ) × (runs later ≡ tokens) × (more ≡ later ++ back)
+goes_on t more front back one tokens run is found some = elim (token_cut t more front back is) [
+  | inl (between, inside) ↦ elim (part_runs t front between run inside) [
+    | inl none ↦ absurd (omega (arith, some, ap length (sym none ∙ found)))
+    | inr single ↦ absurd (omega (arith, some, ap length (sym single ∙ found)))
+  ]
+  | inr (later, front_is, back_is) ↦
+      let same : t ∷ runs later ≡ one ∷ tokens = sym (runs_more t later run) ∙ sym (ap runs front_is) ∙ found in
+      (later, cc, back_is)
+]
+
+-- a count that begins with 0 is 0
+zero_alone : (count : ℕ) (back : List ℕ) → count < 2 ^ 64 → decimal count ≡ 48 ∷ back → (count ≡ 0) × (back ≡ [])
+zero_alone zero back fits is = (refl, cc (decimal_digit 0 (omega arith)))
+zero_alone (suc n) back fits is = absurd (omega (arith, first_decimal (suc n) (omega arith) fits, ap (λ (t : List ℕ). get_or t 0 0) is))
+
+module _ (vars count : ℕ) (few_vars : vars < 2 ^ 64) (few : count < 2 ^ 64) where
+  -- a header that is cut and read as one is a line alone, and its count isn't 0, or all but the LF is there
+  header_part : (front back : List ℕ) → header_line vars count ≡ front ++ back → 0 < length back
+      → (v n : ℕ) (lines : List (List (List ℕ))) → token_lines front ≡ (codes "p" ∷ codes "cnf" ∷ decimal v ∷ decimal n ∷ []) ∷ lines
+      → (lines ≡ []) × (n ≡ 0 → (count ≡ 0) × (length back ≡ 1))
+  unfolding header_front
+  header_part front back is some v n lines found =
+      let line : header_line vars count ≡ header_front vars count few_vars few ++ 10 ∷ [] =
+      sym (append-nil (header_line vars count)) ∙ header_is vars count few_vars few [] in
+      let last = before_last (header_front vars count few_vars few) 10 front back (sym line ∙ is) some in
+      let end = All-front (λ b. (b == 10) ≡ false) front last.0 (subst (AllByRecursion (λ b. (b == 10) ≡ false)) last.1 (header_plain vars count few_vars few).end) in
+      elim (one_line front end) [
+        | inl none ↦ cc (none, found)
+        | inr single ↦
+            let same : runs front ∷ [] ≡ (codes "p" ∷ codes "cnf" ∷ decimal v ∷ decimal n ∷ []) ∷ lines = sym single ∙ found in
+            let tokens : runs front ≡ codes "p" ∷ codes "cnf" ∷ decimal v ∷ decimal n ∷ [] = cc (same) in
+            let one = goes_on (codes "p") (codes "cnf" ++ 32 ∷ (decimal vars ++ 32 ∷ decimal count)) front last.0 (codes "p") (codes "cnf" ∷ decimal v ∷ decimal n ∷ []) run_p last.1 tokens (omega arith) in
+            let two = goes_on (codes "cnf") (decimal vars ++ 32 ∷ decimal count) one.0 last.0 (codes "cnf") (decimal v ∷ decimal n ∷ []) run_cnf one.2 one.1 (omega arith) in
+            let three = goes_on (decimal vars) (decimal count) two.0 last.0 (decimal v) (decimal n ∷ []) (token_run (decimal vars) (token_decimal vars few_vars)) two.2 two.1 (omega arith) in
+            (cc (same), λ zero_is. at_zero last.0 three.0 last.2 three.1 three.2 zero_is)
+      ]
+    where
+      at_zero : (rest w : List ℕ) → length back ≡ length rest + 1 → runs w ≡ decimal n ∷ [] → decimal count ≡ w ++ rest → n ≡ 0 → (count ≡ 0) × (length back ≡ 1)
+      at_zero rest w sum tokens whole zero_is = elim (part_runs (decimal count) w rest (token_run (decimal count) (token_decimal count few)) whole) [
+        | inl none ↦ cc (none, tokens)
+        | inr single ↦
+            let number : w ≡ decimal n = cc (single, tokens) in
+            let digit : w ≡ 48 ∷ [] = number ∙ ap decimal zero_is ∙ decimal_digit 0 (omega arith) in
+            let alone = zero_alone count rest few (whole ∙ ap (λ (t : List ℕ). t ++ rest) digit) in
+            (alone.0, omega (arith, sum, ap length alone.1))
+      ]
+
+pub a_beginning_is_no_text : ABeginningIsNoText
+unfolding formula_text line_zeros zeros
+a_beginning_is_no_text vars entries is front back whole long f text =
+    let count : length (clauses_of entries) ≡ length entries = length-map entries (λ e. e.clause) in
+    let few_vars : vars < 2 ^ 64 = omega (arith, is.vars) in
+    let few : length entries < 2 ^ 64 = omega (arith, is.count) in
+    let literals = All-map (IsFormulaClause vars) (AllByRecursion (IsLiteral vars)) (λ c clause. clause.0.literals) (clauses_of entries) is.clauses in
+    let read = ap zeros text.tokens ∙ written_zeros f.vars text.few_variables text.written text.literals in
+    let size : length f.clauses ≡ length text.written = ap length text.clauses ∙ length-map text.written distinct in
+    elim (cut (header_line vars (length entries)) (entries_text 1 entries) front back whole) [
+      | inl behind ↦
+          let lines = sym (ap token_lines behind.front_is ∙ header_read vars (length entries) few_vars few behind.between) ∙ text.header in
+          let said : decimal (length entries) ≡ decimal (length f.clauses) = cc (lines) in
+          let later : token_lines behind.between ≡ text.lines = cc (lines) in
+          let same : length entries ≡ length f.clauses = decimal_injective (length entries) (length f.clauses) few (omega (arith, text.few_clauses)) said in
+          let less = entries_part vars is.vars 1 entries behind.between back literals behind.back_is long in
+          let zeros_are = ap (λ (ls : List (List (List ℕ))). zeros (flat_map (λ (line : List (List ℕ)). line) ls)) later in
+          omega (arith, less, zeros_are, read, size, same)
+      | inr within ↦
+          let alone = header_part vars (length entries) few_vars few front within.between within.front_is within.some f.vars (length f.clauses) text.lines text.header in
+          let none = ap (λ (ls : List (List (List ℕ))). zeros (flat_map (λ (line : List (List ℕ)). line) ls)) alone.0 in
+          let ends = alone.1 (omega (arith, none, read, size)) in
+          at_end entries ends.0 (omega (arith, ap length within.back_is ∙ length-append within.between (entries_text 1 entries), ends.1))
+    ]
+  where
+    at_end : (es : List Entry) → length es ≡ 0 → length back ≡ 1 + length (entries_text 1 es) → ⊥
+    at_end [] none sum = omega arith
+    at_end (e ∷ es) none sum = omega arith

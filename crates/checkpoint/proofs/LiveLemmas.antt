@@ -15,7 +15,7 @@ use Rattle.std.specs.Prelude.{Result, Ok, Err, IsErr, IfOk}
 use Rattle.lrup_model.specs.Replies.{AnswersFormula, reply_of}
 use Rattle.lrup_model.specs.declared.clause_map.Fetched.{Fetched}
 use Rattle.lrup_model.specs.declared.clause_map.Fetched.TheVariants as fetched
-use Rattle.checkpoint.specs.Live.{Entry, clauses_of, entries_of, entry_of, fetches, kept_of, wanted_of}
+use Rattle.checkpoint.specs.Live.{Entry, clauses_of, entries_of, entry_of, fetches, wanted_of, wanted_clauses}
 
 fetches-push : (s id : ℕ) (replies : List Reply) (r : Reply) → fetches s id (replies ++ r ∷ []) ≡ fetches s id replies ++ fetch s (id + length replies) r ∷ []
 fetches-push s id [] r = let same : id ≡ id + 0 = omega arith in ap (λ n. fetch s n r ∷ []) same
@@ -28,19 +28,19 @@ cond-append : (b : Bool) (e : Entry) (xs ys : List Entry) → cond b (e ∷ (xs 
 cond-append true e xs ys = refl
 cond-append false e xs ys = refl
 
-kept_of-append : (wants : ℕ → Bool) (id : ℕ) (xs ys : List Reply) → kept_of wants id (xs ++ ys) ≡ kept_of wants id xs ++ kept_of wants (id + length xs) ys
-kept_of-append wants id [] ys = let same : id ≡ id + 0 = omega arith in ap (λ n. kept_of wants n ys) same
-kept_of-append wants id (x ∷ xs) ys = at x (kept_of-append wants (id + 1) xs ys ∙ ap (λ n. kept_of wants (id + 1) xs ++ kept_of wants n ys) same)
+wanted_of-append : (wants : ℕ → Bool) (id : ℕ) (xs ys : List Reply) → wanted_of wants id (xs ++ ys) ≡ wanted_of wants id xs ++ wanted_of wants (id + length xs) ys
+wanted_of-append wants id [] ys = let same : id ≡ id + 0 = omega arith in ap (λ n. wanted_of wants n ys) same
+wanted_of-append wants id (x ∷ xs) ys = at x (wanted_of-append wants (id + 1) xs ys ∙ ap (λ n. wanted_of wants (id + 1) xs ++ wanted_of wants n ys) same)
   where
     same : id + 1 + length xs ≡ id + length (x ∷ xs)
     same = omega arith
 
-    at : (r : Reply) → kept_of wants (id + 1) (xs ++ ys) ≡ kept_of wants (id + 1) xs ++ kept_of wants (id + length (x ∷ xs)) ys
-        → kept_of wants id (r ∷ xs ++ ys) ≡ kept_of wants id (r ∷ xs) ++ kept_of wants (id + length (x ∷ xs)) ys
+    at : (r : Reply) → wanted_of wants (id + 1) (xs ++ ys) ≡ wanted_of wants (id + 1) xs ++ wanted_of wants (id + length (x ∷ xs)) ys
+        → wanted_of wants id (r ∷ xs ++ ys) ≡ wanted_of wants id (r ∷ xs) ++ wanted_of wants (id + length (x ∷ xs)) ys
     at vacant after = after
     at (live c) after =
         ap (λ (es : List Entry). cond (wants id) (record { id = id; clause = c } ∷ es) es) after
-        ∙ cond-append (wants id) (record { id = id; clause = c }) (kept_of wants (id + 1) xs) (kept_of wants (id + length (x ∷ xs)) ys)
+        ∙ cond-append (wants id) (record { id = id; clause = c }) (wanted_of wants (id + 1) xs) (wanted_of wants (id + length (x ∷ xs)) ys)
     at retired after = after
 
 -- clips that are known stay so, with their clauses
@@ -93,11 +93,11 @@ first_next f count last replies r all answer first =
 
 -- all of them are, in the end
 pub first_whole : (wants : ℕ → Bool) (f : Cnf) (count last : ℕ) (replies : List Reply) → count ≡ length f.clauses → count ≤ last → First f count last replies
-    → (more : List Entry) × (kept_of wants 1 replies ≡ wanted_of wants f.clauses ++ more)
+    → (more : List Entry) × (wanted_of wants 1 replies ≡ wanted_clauses wants f.clauses ++ more)
 first_whole wants f count last replies all within first = (
-  kept_of wants (1 + length (map live f.clauses)) first.more,
-  ap (kept_of wants 1) (first.is ∙ ap (λ (cs : List Clause). map live cs ++ first.more) (take_all last f.clauses (omega arith)))
-  ∙ kept_of-append wants 1 (map live f.clauses) first.more,
+  wanted_of wants (1 + length (map live f.clauses)) first.more,
+  ap (wanted_of wants 1) (first.is ∙ ap (λ (cs : List Clause). map live cs ++ first.more) (take_all last f.clauses (omega arith)))
+      ∙ wanted_of-append wants 1 (map live f.clauses) first.more,
 )
 
 -- what was found of the identities 1 to the last, between the two places
@@ -105,7 +105,7 @@ pub record Found (wants : ℕ → Bool) (a b : Place) (moves : History → Type 
   pub replies : List Reply
   pub moved : moves (fetches a.caller.stream 1 replies)
   pub count : length replies ≡ last
-  pub entries : entries_of b clips ≡ kept_of wants 1 replies
+  pub entries : entries_of b clips ≡ wanted_of wants 1 replies
   pub known : AllByRecursion (IsKnown b) clips
   pub follow : AllByRecursion (IsDerived a.caller.formula) (clauses_of (entries_of b clips))
   pub caller : b.caller ≡ a.caller
@@ -130,7 +130,7 @@ pub found_next : (wants : ℕ → Bool) (a b c : Place) (before after : History 
     → ((es : History) → before es → after (es ++ fetch b.caller.stream (count + 1) r ∷ []))
     → Tells b c (fetch b.caller.stream (count + 1) r ∷ [])
     → AnswersFormula b (count + 1) r
-    → AllFollow c → AllByRecursion (IsKnown c) fresh → entries_of c fresh ≡ kept_of wants (count + 1) (r ∷ []) → all ≡ clips ++ fresh
+    → AllFollow c → AllByRecursion (IsKnown c) fresh → entries_of c fresh ≡ wanted_of wants (count + 1) (r ∷ []) → all ≡ clips ++ fresh
     → Found wants a c after (count + 1) all
 found_next wants a b c before after count clips fresh all r found then tells formula follow known entries is =
     let caller : c.caller ≡ a.caller = tells.caller ∙ found.caller in
@@ -145,8 +145,8 @@ found_next wants a b c before after count clips fresh all r found then tells for
       count = omega (arith, length-append found.replies (r ∷ []), found.count);
       entries = ap (entries_of c) is ∙ map-append (entry_of c) clips fresh
           ∙ ap (λ (es : List Entry). es ++ entries_of c fresh) (stay_same b c (fetch b.caller.stream (count + 1) r ∷ []) clips tells found.known ∙ found.entries)
-          ∙ ap (λ (es : List Entry). kept_of wants 1 found.replies ++ es) (entries ∙ ap (λ n. kept_of wants n (r ∷ [])) (sym at))
-          ∙ sym (kept_of-append wants 1 found.replies (r ∷ []));
+          ∙ ap (λ (es : List Entry). wanted_of wants 1 found.replies ++ es) (entries ∙ ap (λ n. wanted_of wants n (r ∷ [])) (sym at))
+          ∙ sym (wanted_of-append wants 1 found.replies (r ∷ []));
       known = all_known;
       follow = subst (λ (k : Caller). AllByRecursion (IsDerived k.formula) (clauses_of (entries_of c all))) caller (all_follow c all follow all_known);
       caller = caller;
@@ -158,16 +158,16 @@ found_next wants a b c before after count clips fresh all r found then tells for
 
 -- a live clause that is wanted is kept
 pub kept_wanted : (wants : ℕ → Bool) (p : Place) (id : ℕ) (clip : ClipValue) → wants id ≡ true → clip.id ≡ id
-    → entries_of p (clip ∷ []) ≡ kept_of wants id (live (clip_clause p clip) ∷ [])
+    → entries_of p (clip ∷ []) ≡ wanted_of wants id (live (clip_clause p clip) ∷ [])
 kept_wanted wants p id clip wanted same = rw wanted (ap (λ n. record { id = n; clause = clip_clause p clip } ∷ []) same)
 
 -- one that isn't is left out
 pub kept_unwanted : (wants : ℕ → Bool) (p : Place) (id : ℕ) (clip : ClipValue) → wants id ≡ false
-    → kept_of wants id (live (clip_clause p clip) ∷ []) ≡ []
+    → wanted_of wants id (live (clip_clause p clip) ∷ []) ≡ []
 kept_unwanted wants p id clip unwanted = rw unwanted refl
 
 -- nothing is kept where nothing is live
-pub kept_none : (wants : ℕ → Bool) (p : Place) (id : ℕ) (r : Fetched) → (r ≡ fetched.Vacant) ⊎ (r ≡ fetched.Retired) → kept_of wants id (reply_of p r ∷ []) ≡ []
+pub kept_none : (wants : ℕ → Bool) (p : Place) (id : ℕ) (r : Fetched) → (r ≡ fetched.Vacant) ⊎ (r ≡ fetched.Retired) → wanted_of wants id (reply_of p r ∷ []) ≡ []
 kept_none wants p id r (inl vacant_is) = rw vacant_is refl
 kept_none wants p id r (inr retired_is) = rw retired_is refl
 

@@ -69,18 +69,25 @@ token_signed (negsuc n) fits = record {
 
 -- ## a line's tokens
 
-pub runs_last : (t : List ℕ) → IsToken t → runs t ≡ t ∷ []
-runs_last [] token = absurd (omega (arith, token.some))
-runs_last (b ∷ bs) token =
-    ap (filter (λ (run : List ℕ). not (is_empty run)))
-    (slice_split_none is_separator (b ∷ bs) (All-from_recursion (λ x. is_separator x ≡ false) (b ∷ bs) (All-map IsPlain (λ x. is_separator x ≡ false) (λ x plain. plain.separator) (b ∷ bs) token.plain)))
+-- some bytes, none of them a separator
+pub record IsRun (t : List ℕ) : Type 0 where
+  pub some : 0 < length t
+  pub separators : AllByRecursion (λ b. is_separator b ≡ false) t
 
-pub runs_more : (t rest : List ℕ) → IsToken t → runs (t ++ 32 ∷ rest) ≡ t ∷ runs rest
-runs_more [] rest token = absurd (omega (arith, token.some))
-runs_more (b ∷ bs) rest token =
+pub token_run : (t : List ℕ) → IsToken t → IsRun t
+token_run t token = record { some = token.some; separators = All-map IsPlain (λ b. is_separator b ≡ false) (λ b plain. plain.separator) t token.plain }
+
+pub runs_last : (t : List ℕ) → IsRun t → runs t ≡ t ∷ []
+runs_last [] run = absurd (omega (arith, run.some))
+runs_last (b ∷ bs) run =
     ap (filter (λ (run : List ℕ). not (is_empty run)))
-    (slice_split_at is_separator (b ∷ bs) 32 rest
-    (All-from_recursion (λ x. is_separator x ≡ false) (b ∷ bs) (All-map IsPlain (λ x. is_separator x ≡ false) (λ x plain. plain.separator) (b ∷ bs) token.plain)) refl)
+    (slice_split_none is_separator (b ∷ bs) (All-from_recursion (λ x. is_separator x ≡ false) (b ∷ bs) run.separators))
+
+pub runs_more : (t rest : List ℕ) → IsRun t → runs (t ++ 32 ∷ rest) ≡ t ∷ runs rest
+runs_more [] rest run = absurd (omega (arith, run.some))
+runs_more (b ∷ bs) rest run =
+    ap (filter (λ (run : List ℕ). not (is_empty run)))
+    (slice_split_at is_separator (b ∷ bs) 32 rest (All-from_recursion (λ x. is_separator x ≡ false) (b ∷ bs) run.separators) refl)
 
 -- ## lines
 
@@ -134,7 +141,7 @@ module _ (vars count : ℕ) (few_vars : vars < 2 ^ 64) (few : count < 2 ^ 64) wh
   unfolding header_front
   header_runs =
       ap (λ (ts : List (List ℕ)). codes "p" ∷ codes "cnf" ∷ ts)
-      (runs_more (decimal vars) (decimal count) (token_decimal vars few_vars) ∙ ap (λ (ts : List (List ℕ)). decimal vars ∷ ts) (runs_last (decimal count) (token_decimal count few)))
+      (runs_more (decimal vars) (decimal count) (token_run (decimal vars) (token_decimal vars few_vars)) ∙ ap (λ (ts : List (List ℕ)). decimal vars ∷ ts) (runs_last (decimal count) (token_run (decimal count) (token_decimal count few))))
 
   pub header_plain : IsPlainLine header_front
   unfolding header_front
@@ -203,7 +210,7 @@ module _ (vars : ℕ) (few : vars ≤ max_variable) where
   unfolding clause_front
   clause_runs [] all = ap (λ t. t ∷ []) (sym (decimal_digit 0 (omega arith)))
   clause_runs (l ∷ c) all =
-      ap runs (clause_front-cons l c) ∙ runs_more (signed_decimal l) (clause_front c) (token_literal l all.0)
+      ap runs (clause_front-cons l c) ∙ runs_more (signed_decimal l) (clause_front c) (token_run (signed_decimal l) (token_literal l all.0))
       ∙ ap (λ (ts : List (List ℕ)). signed_decimal l ∷ ts) (clause_runs c all.1)
 
   pub clause_ends : (c : Clause) → AllByRecursion (IsLiteral vars) c → AllByRecursion (λ b. (b == 10) ≡ false) (clause_front c)

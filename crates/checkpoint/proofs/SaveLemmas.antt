@@ -7,7 +7,7 @@ use Rattle.lrup_model.specs.Entailment.{Follows, IsDerived}
 use Rattle.lrup_model.specs.Formula.{Cnf, IsFormulaClause, max_clause_literals, max_clauses}
 use Rattle.lrup_model.specs.ListLemmas.{All-map}
 use Rattle.lrup_model.specs.Literal.{max_variable}
-use Rattle.lrup_model.specs.Place.{Place, ClipValue, IsKnown, clip_clause}
+use Rattle.lrup_model.specs.Place.{Place, ClipValue, IsKnown}
 use Rattle.checkpoint.specs.Checkpoints.{AreWithinLimits, IsCheckpoint}
 use Rattle.checkpoint.specs.Live.{Entry, clauses_of, entries_of, entry_of}
 use Rattle.checkpoint.specs.Printing.{formula_text, printed}

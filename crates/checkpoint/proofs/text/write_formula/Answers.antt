@@ -1,7 +1,7 @@
 use Rattle.std.proofs.Common.{◌++◌, ◌+◌, sym, ap, ◌∙◌}
 use Rattle.lrup_text.specs.WritingLemmas.{at_err, breaks_first, breaks_next, puts_next, writes_all_next}
 use Rattle.checkpoint.specs.Live.{entry_of}
-use Rattle.checkpoint.specs.Printing.{entries_text, entry_text}
+use Rattle.checkpoint.specs.Printing.{entry_text}
 use Rattle.checkpoint.proofs.PrintLemmas.{breaks_from_empty, header_first, header_entries, entries_next, entries_split, entries_all, later_entries, puts_as}
 use Rattle.checkpoint.proofs.text.write_formula.Goals as goal
 
