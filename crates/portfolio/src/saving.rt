@@ -44,11 +44,7 @@ pub fn save_live<W: Sink>(
 }
 
 /// Writes the formula of the clauses that are live after a run on one thread.
-pub fn save_plain<W: Sink>(
-    alloc: Global,
-    map: &mut PlainMap,
-    sink: &mut W,
-) -> Result<(), SaveFault>
+pub fn save_plain<W: Sink>(alloc: Global, map: &mut PlainMap, sink: &mut W) -> Result<(), SaveFault>
     requires fits { Fits map.old.layout (formula_of map.old) }
     requires running { W.has_failed sink.old ≡ false }
     // What was written whole is a text of a formula, each clause of which follows from the map's.
