@@ -120,8 +120,8 @@ returns-clause-kept g c =
     let each : p.streams ≡ c.len.result = streams_asked c.args.options f c.len.result p c.in_ok-layout.ensures.layout.0 in
     let count : length firsts ≡ p.streams = omega (arith, each, c.len.ensures, c.args.readers.ok.0) in
     let terms : TermsValue = record { layout = p; cube = c.args.cube.now; tries = c.tries.result } in
-    let runs : Runs view f terms firsts m c.deref_mut.result.now =
-    subst (Runs view f terms firsts m) (sym c.deref_mut.ensures.value) (runs_opened view f terms m opened firsts c.in_ok-workers.workers.items count (subst (λ (t : TermsValue). AreStarted view t 1 firsts c.in_ok-workers.workers.items) c.new-terms.ensures c.in_ok-workers.ensures)) in
+    let runs : Runs view f terms firsts 0 m c.deref_mut.result.now =
+    subst (Runs view f terms firsts 0 m) (sym c.deref_mut.ensures.value) (runs_opened view f terms m opened firsts c.in_ok-workers.workers.items count (subst (λ (t : TermsValue). AreStarted view t 1 firsts c.in_ok-workers.workers.items) c.new-terms.ensures c.in_ok-workers.ensures)) in
     let after = (c.take_turns.ensures.runs f terms firsts runs).map_is in
     let same : p ≡ layout_of c.args.options f (length firsts) = c.in_ok-layout.ensures.layout.0 ∙ ap (layout_of c.args.options f) (c.len.ensures ∙ c.args.readers.ok.0) in (
       ap formula_of c.outcome_of.ensures.kept ∙ after.formula,
@@ -147,8 +147,8 @@ returns-clause-dropped g c =
     let each : p.streams ≡ c.len.result = streams_asked c.args.options f c.len.result p c.in_ok-layout.ensures.layout.0 in
     let count : length firsts ≡ p.streams = omega (arith, each, c.len.ensures, c.args.readers.ok.0) in
     let terms : TermsValue = record { layout = p; cube = c.args.cube.now; tries = c.tries.result } in
-    let runs : Runs view f terms firsts m c.deref_mut.result.now =
-    subst (Runs view f terms firsts m) (sym c.deref_mut.ensures.value) (runs_opened view f terms m opened firsts c.in_ok-workers.workers.items count (subst (λ (t : TermsValue). AreStarted view t 1 firsts c.in_ok-workers.workers.items) c.new-terms.ensures c.in_ok-workers.ensures)) in
+    let runs : Runs view f terms firsts 0 m c.deref_mut.result.now =
+    subst (Runs view f terms firsts 0 m) (sym c.deref_mut.ensures.value) (runs_opened view f terms m opened firsts c.in_ok-workers.workers.items count (subst (λ (t : TermsValue). AreStarted view t 1 firsts c.in_ok-workers.workers.items) c.new-terms.ensures c.in_ok-workers.ensures)) in
     let back = written_back started.len worked (drop (length worked) started.items) (c.take_turns.auto.workers ∙ c.deref_mut.ensures.len) in
     let out = c.outcome_of in
     out.result.dropped.ok.0 ∙ sym (length-map out.result.dropped.items (λ (d : DroppedValue). d.ids)) ∙ ap length out.ensures.dropped
