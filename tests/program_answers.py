@@ -11,7 +11,7 @@ from pathlib import Path
 from typing import Dict, Iterator, List, Tuple
 
 sys.dont_write_bytecode = True
-from harness import (FOUR, Failure, Pieces, Row, Wanted, answered, answers, example, report, run_all, want,
+from harness import (FOUR, ROOT, Failure, Pieces, Row, Wanted, answered, answers, example, report, run_all, want,
                      with_memory, words_given)
 
 Named = Tuple[str, Wanted]
@@ -203,6 +203,10 @@ def refused_files() -> Iterator[Named]:
         yield refused("stream count", 2, "formula", *["one"] * count)
 
 
+def version() -> Iterator[Named]:
+    yield "version", Wanted(["--version"], 2, err=f"lrupd {(ROOT / 'VERSION').read_text().strip()}\n")
+
+
 USAGE: List[Tuple[str, List[str]]] = [
     ("no words", []),
     ("no stream", ["formula"]),
@@ -323,7 +327,7 @@ def many_watched(program: str, work: Path) -> None:
 
 
 def rows(program: str) -> Iterator[Row]:
-    for table in (examples, one_stream, faults, several_streams, pipes, paths, refused_formulas, refused_files, assumptions,
+    for table in (examples, one_stream, faults, several_streams, pipes, paths, refused_formulas, refused_files, version, assumptions,
                   refused_assumptions, watched, large, little_memory, full_outputs):
         for name, wanted in table():
             yield name, answers, program, wanted

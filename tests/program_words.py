@@ -98,7 +98,7 @@ def differences(program: str) -> Iterator[str]:
     done = run([program, "--help"])
     text = done.out + done.err
     options, readme = of_help(text), README.read_text()
-    manual = [item for item in of_manual("The options are as follows:") if not item.startswith("-h ")]
+    manual = [item for item in of_manual("The options are as follows:") if not item.startswith(("-h ", "-V "))]
     statuses = [row.replace(" | ", " ", 1) for row in of_table(readme, "| Status | Meaning |")]
     faults = [re.sub(r" \| .*", " ", row) for row in of_table(USING.read_text(), "| Fault | Meaning | Usual cause |")]
     yield from disagreements("options: help, manual page", options, manual)

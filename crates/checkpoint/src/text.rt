@@ -1,17 +1,17 @@
 //! Writes clauses as a formula in DIMACS CNF.
 ghost use Rattle.std.specs.Prelude.{◌≡◌, ◌++◌, [], codes, false, is_err};
-ghost use Rattle.std.specs.Fmt.{decimal, signed_decimal};
+ghost use Rattle.std.specs.Fmt.{signed_decimal};
 ghost use Rattle.std.specs.List.{AllByRecursion};
 ghost use Rattle.lrup_model.specs.Place.{IsKnown, clip_clause};
 ghost use Rattle.lrup_text.specs.Writing.{PutsAll, WritesText};
-ghost use Rattle.checkpoint.specs.Live.{clauses_of};
-ghost use Rattle.checkpoint.specs.Printing.{clause_line, formula_text, header_line};
+ghost use Rattle.checkpoint.specs.Live.{entries_of, entry_of};
+ghost use Rattle.checkpoint.specs.Printing.{clause_line, entry_text, formula_text, header_line, note};
 
-use lrup_model::{ClauseMap, Clip, Lit};
+use lrup_model::{ClauseMap, Clip, Id, Lit};
 use lrup_text::{Sink, WriteBuffer, WriteFault};
 
-/// Writes the formula over the variables 1 to `vars` whose clauses are those of the clips, in order. After a fault, what went
-/// out is a beginning of its text. At the map it is no event.
+/// Writes the formula over the variables 1 to `vars` whose clauses are those of the clips, in order, and their identities where
+/// they aren't the places. After a fault, what went out is a beginning of its text. At the map it is no event.
 pub fn write_formula<M: ClauseMap, W: Sink>(
     map: &mut M,
     clips: &[Clip],
@@ -21,15 +21,15 @@ pub fn write_formula<M: ClauseMap, W: Sink>(
     requires known { AllByRecursion (IsKnown (M.place map.old)) clips.now }
     requires running { W.has_failed sink.old ≡ false }
     ensures text { WritesText result (W.written sink.old) (W.written sink.new)
-        (formula_text vars (clauses_of (M.place map.old) clips.now)) }
+        (formula_text vars (entries_of (M.place map.old) clips.now)) }
     ensures failed { W.has_failed sink.new ≡ is_err result }
     ensures event { M.moves map.old map.new [] }
     ensures stays { M.place map.new ≡ M.place map.old }
 {
     let mut buffer = WriteBuffer::new();
     put_header(&mut buffer, vars, clips.len(), sink)?;
-    for clip in clips {
-        put_clause(&mut buffer, map, clip, sink)?;
+    for (before, clip) in clips.iter().enumerate() {
+        put_entry(&mut buffer, map, clip, before as u64 + 1, sink)?;
     }
     buffer.flush(sink)
 }
@@ -53,6 +53,46 @@ fn put_header<W: Sink>(
     buffer.put(b"\n", sink)
 }
 
+/// Puts the clip's clause at its place, with its note.
+fn put_entry<M: ClauseMap, W: Sink>(
+    buffer: &mut WriteBuffer,
+    map: &mut M,
+    clip: &Clip,
+    place: u64,
+    sink: &mut W,
+) -> Result<(), WriteFault>
+    requires known { IsKnown (M.place map.old) clip.now }
+    requires running { W.has_failed sink.old ≡ false }
+    ensures puts { PutsAll result (W.written sink.old) (W.written sink.new)
+        buffer.old buffer.new (entry_text place (entry_of (M.place map.old) clip.now)) }
+    ensures failed { W.has_failed sink.new ≡ is_err result }
+    ensures event { M.moves map.old map.new [] }
+    ensures stays { M.place map.new ≡ M.place map.old }
+{
+    put_note(buffer, clip.id(), place, sink)?;
+    put_clause(buffer, map, clip, sink)
+}
+
+/// Puts the note of a clause: its identity, where that isn't its place.
+fn put_note<W: Sink>(
+    buffer: &mut WriteBuffer,
+    id: Id,
+    place: u64,
+    sink: &mut W,
+) -> Result<(), WriteFault>
+    requires { W.has_failed sink.old ≡ false }
+    ensures puts { PutsAll result (W.written sink.old) (W.written sink.new)
+        buffer.old buffer.new (note id place) }
+    ensures failed { W.has_failed sink.new ≡ is_err result }
+{
+    if id == place {
+        return Ok(());
+    }
+    buffer.put(b"c id ", sink)?;
+    buffer.put_number(id, sink)?;
+    buffer.put(b"\n", sink)
+}
+
 /// Puts the literals of the clip's clause, in the order in which the map keeps them, and the end of the line.
 fn put_clause<M: ClauseMap, W: Sink>(
     buffer: &mut WriteBuffer,
@@ -68,33 +108,23 @@ fn put_clause<M: ClauseMap, W: Sink>(
     ensures event { M.moves map.old map.new [] }
     ensures stays { M.place map.new ≡ M.place map.old }
 {
-    for k in 0..clip.len() {
-        let lit = map.literal(clip, k);
-        put_literal(buffer, lit, sink)?;
+    for i in 0..clip.pairs() {
+        let (first, second) = map.pair(clip, i);
+        put_literal(buffer, first, sink)?;
+        if let Some(second) = second {
+            put_literal(buffer, second, sink)?;
+        }
     }
     buffer.put(b"0\n", sink)
 }
 
 /// Puts a literal, and a space after it.
+#[inline]
 fn put_literal<W: Sink>(buffer: &mut WriteBuffer, lit: Lit, sink: &mut W) -> Result<(), WriteFault>
     requires { W.has_failed sink.old ≡ false }
     ensures puts { PutsAll result (W.written sink.old) (W.written sink.new)
         buffer.old buffer.new (signed_decimal lit ++ codes " ") }
     ensures failed { W.has_failed sink.new ≡ is_err result }
 {
-    put_signed(buffer, lit.value(), sink)?;
-    buffer.put(b" ", sink)
-}
-
-/// Puts a number that may be negative.
-fn put_signed<W: Sink>(buffer: &mut WriteBuffer, value: i64, sink: &mut W) -> Result<(), WriteFault>
-    requires { W.has_failed sink.old ≡ false }
-    ensures puts { PutsAll result (W.written sink.old) (W.written sink.new)
-        buffer.old buffer.new (signed_decimal value) }
-    ensures failed { W.has_failed sink.new ≡ is_err result }
-{
-    if value < 0 {
-        buffer.put(b"-", sink)?;
-    }
-    buffer.put_number(value.unsigned_abs(), sink)
+    buffer.put_literal(lit.value(), sink)
 }

@@ -1,11 +1,11 @@
 //! Writes texts and lines.
-ghost use Rattle.std.specs.Prelude.{◌≡◌, ◌<◌, ◌≤◌, ◌+◌, [], ◌∷◌, ◌++◌, length, false, is_err, map, IsTrue, ◌↔◌, OnErr};
+ghost use Rattle.std.specs.Prelude.{◌≡◌, ◌<◌, ◌≤◌, ◌+◌, [], ◌∷◌, ◌++◌, length, take, false, is_err, map, IsTrue, ◌↔◌, OnErr};
 ghost use Rattle.std.specs.Fmt.{decimal, signed_decimal};
 ghost use Rattle.lrup_text.specs.ByteNames.{space};
 ghost use Rattle.lrup_text.specs.Grammar.{list_text};
 ghost use Rattle.lrup_text.specs.Lines.{line_of, line_text, IsWithinLimits};
 ghost use Rattle.lrup_text.specs.Reading.{literals_text};
-ghost use Rattle.lrup_text.specs.Writing.{PutsAll, WritesText};
+ghost use Rattle.lrup_text.specs.Writing.{PutsAll, WritesText, four_digits};
 
 use crate::{Line, Sink, WriteFault};
 use std::marker::Model;
@@ -14,7 +14,10 @@ use std::marker::Model;
 const WORD: usize = 24;
 
 /// The bytes that a buffer holds at most.
-const CAPACITY: usize = 512;
+const CAPACITY: usize = 4_096;
+
+/// The bytes of a number's text at most, with a sign before it and a space after it.
+const LONGEST: usize = 22;
 
 /// A short text that is made from its end.
 #[derive(Drop)]
@@ -104,7 +107,100 @@ impl Word {
     }
 }
 
-/// Bytes on their way to a sink. Up to 512 of them are held, so that many short texts make few writes.
+/// Writes a byte of a text at its place, and tells the next place.
+#[inline]
+fn write_byte(bytes: &mut [u8], at: usize, byte: u8) -> usize
+    requires { at < length bytes.old }
+    ensures end { result ≡ at + 1 }
+    ensures text { take result bytes.new ≡ take at bytes.old ++ byte ∷ [] }
+{
+    bytes[at] = byte;
+    at + 1
+}
+
+/// Writes a number of at most four digits with zeros in front, so that they are four.
+#[inline]
+fn write_four(bytes: &mut [u8], at: usize, number: u32) -> usize
+    requires small { number < 10000 }
+    requires room { at + 4 ≤ length bytes.old }
+    ensures end { result ≡ at + 4 }
+    ensures text { take result bytes.new ≡ take at bytes.old ++ four_digits number }
+{
+    let (front, back) = (number / 100, number % 100);
+    let second = write_byte(bytes, at, b'0' + (front / 10) as u8);
+    let third = write_byte(bytes, second, b'0' + (front % 10) as u8);
+    let fourth = write_byte(bytes, third, b'0' + (back / 10) as u8);
+    write_byte(bytes, fourth, b'0' + (back % 10) as u8)
+}
+
+/// Writes a number of at most four digits in decimal.
+#[inline]
+fn write_few(bytes: &mut [u8], at: usize, number: u32) -> usize
+    requires small { number < 10000 }
+    requires room { at + 4 ≤ length bytes.old }
+    ensures end { result ≡ at + length (decimal number) }
+    ensures text { take result bytes.new ≡ take at bytes.old ++ decimal number }
+{
+    if number >= 1000 {
+        write_four(bytes, at, number)
+    } else if number >= 100 {
+        let second = write_byte(bytes, at, b'0' + (number / 100) as u8);
+        let third = write_byte(bytes, second, b'0' + (number / 10 % 10) as u8);
+        write_byte(bytes, third, b'0' + (number % 10) as u8)
+    } else if number >= 10 {
+        let second = write_byte(bytes, at, b'0' + (number / 10) as u8);
+        write_byte(bytes, second, b'0' + (number % 10) as u8)
+    } else {
+        write_byte(bytes, at, b'0' + number as u8)
+    }
+}
+
+/// Writes a number in decimal: four digits at a time, so that a short one takes few divisions.
+#[inline]
+fn write_number(bytes: &mut [u8], at: usize, number: u64) -> usize
+    requires { at + 20 ≤ length bytes.old }
+    ensures end { result ≡ at + length (decimal number) }
+    ensures text { take result bytes.new ≡ take at bytes.old ++ decimal number }
+{
+    if number < 10_000 {
+        write_few(bytes, at, number as u32)
+    } else if number < 100_000_000 {
+        let last = write_few(bytes, at, (number / 10_000) as u32);
+        write_four(bytes, last, (number % 10_000) as u32)
+    } else {
+        write_long(bytes, at, number)
+    }
+}
+
+/// The same, of a number that is mostly long.
+fn write_long(bytes: &mut [u8], at: usize, number: u64) -> usize
+    requires { at + 20 ≤ length bytes.old }
+    ensures end { result ≡ at + length (decimal number) }
+    ensures text { take result bytes.new ≡ take at bytes.old ++ decimal number }
+{
+    if number < 10_000 {
+        return write_few(bytes, at, number as u32);
+    }
+    let last = write_long(bytes, at, number / 10_000);
+    write_four(bytes, last, (number % 10_000) as u32)
+}
+
+/// Writes a literal, and a space after it. Signs come by chance, so none is a branch: a number is written over the minus that it
+/// doesn't want.
+#[inline]
+fn write_literal(bytes: &mut [u8], at: usize, literal: i64) -> usize
+    requires { at + 22 ≤ length bytes.old }
+    ensures end { result ≤ at + 22 }
+    ensures text { take result bytes.new
+        ≡ take at bytes.old ++ (signed_decimal literal ++ space ∷ []) }
+{
+    bytes[at] = b'-';
+    let first = at + usize::from(literal < 0);
+    let last = write_number(bytes, first, literal.unsigned_abs());
+    write_byte(bytes, last, b' ')
+}
+
+/// Bytes on their way to a sink. Up to 4,096 of them are held, so that many short texts make few writes.
 #[derive(Drop)]
 pub struct WriteBuffer {
     bytes: [u8; CAPACITY],
@@ -118,7 +214,7 @@ impl Model for WriteBuffer {
 
     ghost view = { λ c. take c.len c.bytes };
 
-    ghost invariant = { λ c. c.len ≤ 512 };
+    ghost invariant = { λ c. c.len ≤ 4096 };
 }
 
 impl WriteBuffer {
@@ -144,15 +240,33 @@ impl WriteBuffer {
         write_all(&self.bytes[..len], sink)
     }
 
+    /// Is there room for a number, with its sign and a space?
+    #[inline]
+    fn has_room(&self) -> bool
+        ensures { IsTrue result ↔ (length self.now + 22 ≤ 4096) }
+    {
+        self.len <= CAPACITY - LONGEST
+    }
+
+    /// Puts bytes after what is held.
+    fn append(&mut self, bytes: &[u8])
+        requires { length self.old + length bytes.now ≤ 4096 }
+        ensures { self.new ≡ self.old ++ bytes.now }
+    {
+        let end = self.len + bytes.len();
+        self.bytes[self.len..end].copy_from_slice(bytes);
+        self.len = end;
+    }
+
     fn is_full(&self) -> bool
-        ensures full { IsTrue result ↔ (length self.now ≡ 512) }
-        ensures bound { length self.now ≤ 512 }
+        ensures full { IsTrue result ↔ (length self.now ≡ 4096) }
+        ensures bound { length self.now ≤ 4096 }
     {
         self.len == CAPACITY
     }
 
     fn push(&mut self, byte: u8)
-        requires { length self.old < 512 }
+        requires { length self.old < 4096 }
         ensures { self.new ≡ self.old ++ byte ∷ [] }
     {
         self.bytes[self.len] = byte;
@@ -183,6 +297,10 @@ impl WriteBuffer {
         ensures failed { W.has_failed sink.new ≡ is_err result }
         ensures empty { OnErr result (self.new ≡ []) }
     {
+        if bytes.len() <= CAPACITY - self.len {
+            self.append(bytes);
+            return Ok(());
+        }
         for byte in bytes {
             self.put_byte(*byte, sink)?;
         }
@@ -197,9 +315,41 @@ impl WriteBuffer {
         ensures failed { W.has_failed sink.new ≡ is_err result }
         ensures empty { OnErr result (self.new ≡ []) }
     {
+        if self.has_room() {
+            self.len = write_number(&mut self.bytes, self.len, number);
+            return Ok(());
+        }
         let mut word = Word::new();
         word.push_number(number);
         self.put(word.bytes(), sink)
+    }
+
+    /// Puts a literal and a space, as `put` does.
+    #[inline]
+    pub fn put_literal<W: Sink>(&mut self, literal: i64, sink: &mut W) -> Result<(), WriteFault>
+        requires { W.has_failed sink.old ≡ false }
+        ensures puts { PutsAll result (W.written sink.old) (W.written sink.new)
+            self.old self.new (signed_decimal literal ++ space ∷ []) }
+        ensures failed { W.has_failed sink.new ≡ is_err result }
+        ensures empty { OnErr result (self.new ≡ []) }
+    {
+        if self.has_room() {
+            self.len = write_literal(&mut self.bytes, self.len, literal);
+            return Ok(());
+        }
+        self.put_literal_beyond(literal, sink)
+    }
+
+    /// The same, where there may be no room for it.
+    #[inline(never)]
+    fn put_literal_beyond<W: Sink>(&mut self, literal: i64, sink: &mut W) -> Result<(), WriteFault>
+        requires { W.has_failed sink.old ≡ false }
+        ensures puts { PutsAll result (W.written sink.old) (W.written sink.new)
+            self.old self.new (signed_decimal literal ++ space ∷ []) }
+        ensures failed { W.has_failed sink.new ≡ is_err result }
+        ensures empty { OnErr result (self.new ≡ []) }
+    {
+        self.put(Word::literal(literal).bytes(), sink)
     }
 
     /// Puts literals, and a space after each.
@@ -210,7 +360,7 @@ impl WriteBuffer {
         ensures failed { W.has_failed sink.new ≡ is_err result }
     {
         for literal in lits {
-            self.put(Word::literal(*literal).bytes(), sink)?;
+            self.put_literal(*literal, sink)?;
         }
         Ok(())
     }
