@@ -11,6 +11,8 @@ SOLVE := tools/solve/out/lrup-solve
 SOLVE_FLAGS ?= -O2
 # What of the filter is part of lrup-solve.
 FILTER := $(addprefix tools/exact/,binary.c clauses.c filter.c formula.c hints.c input.c others.c propagation.c words.c write.c)
+# What the tests of programs wait for: 'make examples BUILT= PROGRAM=path' takes another program.
+BUILT ?= build
 FORMULA ?= examples/bmc.cnf
 STREAMS ?= $(addprefix examples/bmc-four.,1 2 3 4)
 OPTIONS ?= --tries 1000000
@@ -56,13 +58,13 @@ install: build exact ## use: install the program, the filter and lrup-solve, wit
 
 # What the program writes on standard output and standard error, and its status, on the examples and on some hundred small runs;
 # two groups of streams, checked apart; and whether README, USING, the manual page and --help say the same.
-examples: build ## check: compare what the program answers on the examples, and on some hundred small runs
-	@sh examples/compare.sh $(PROGRAM)
-	@sh examples/groups.sh $(PROGRAM)
-	@sh examples/words.sh $(PROGRAM)
+examples: $(BUILT) c-and-python ## check: compare what the program answers on the examples, and on some hundred small runs
+	@python3 tests/program_answers.py $(PROGRAM)
+	@python3 tests/program_groups.py $(PROGRAM)
+	@python3 tests/program_words.py $(PROGRAM)
 
-live: build ## check: four recorded solvers, line by line through pipes, checked while they run
-	@sh examples/live.sh $(PROGRAM)
+live: $(BUILT) c-and-python ## check: four recorded solvers, line by line through pipes, checked while they run
+	@python3 tests/program_live.py $(PROGRAM)
 
 demo: build solver ## try: four solvers that share their clauses, and the program beside them
 	@python3 examples/solver/demo.py $(PROGRAM) $(SOLVER)
@@ -84,27 +86,27 @@ solve: c-and-python libcadical ## build: lrup-solve, from a formula to a proved 
 	@$(CXX) -std=c++17 $(SOLVE_FLAGS) -Wall -Wextra -DVERSION='"$(VERSION)"' -o $(SOLVE) tools/solve/*.cpp $(SOLVE).objects/*.o -lcadical
 	@ln -sfr $(PROGRAM) $(dir $(SOLVE))lrupd
 
-solver-test: build solver ## check: the example solver's streams, of one to eight solvers, and of some that are killed
-	@python3 examples/solver/test.py $(PROGRAM) $(SOLVER)
+solver-test: $(BUILT) solver ## check: the example solver's streams, of one to eight solvers, and of some that are killed
+	@python3 tests/example_solver.py $(PROGRAM) $(SOLVER)
 
-filter-test: build exact ## check: the filter, with the solvers that are on the PATH, and 10,000 mutated proofs
-	@python3 tools/test.py $(PROGRAM) && python3 tools/mutate.py $(PROGRAM)
+filter-test: $(BUILT) exact ## check: the filter, with the solvers that are on the PATH, and 10,000 mutated proofs
+	@python3 tests/filter_streams.py $(PROGRAM) && python3 tests/filter_mutants.py $(PROGRAM)
 
 # Without CaDiCaL's library nothing is run.
-solve-test: build c-and-python ## check: lrup-solve, and what may happen to it, with 300 random formulas
-	@python3 tools/solve_test.py $(PROGRAM)
+solve-test: $(BUILT) c-and-python ## check: lrup-solve, and what may happen to it, with 300 random formulas
+	@python3 tests/lrup_solve.py $(PROGRAM)
 
-neighbours: build c-and-python ## check: what is said of a good proof beside hostile streams, which never changes
-	@python3 examples/neighbours.py $(PROGRAM)
+neighbours: $(BUILT) c-and-python ## check: what is said of a good proof beside hostile streams, which never changes
+	@python3 tests/program_neighbours.py $(PROGRAM)
 
-sweep: build c-and-python ## check: runs with each allocation, read, write and thread refused in turn
-	@python3 gate/sweep.py $(PROGRAM) $(RT)
+sweep: $(BUILT) c-and-python ## check: runs with each allocation, read, write and thread refused in turn
+	@python3 tests/program_refusals.py $(PROGRAM) $(RT)
 
 # Without valgrind nothing is run, nor by make instructions.
-leaks: build ## measure: memory that isn't given back, by valgrind
-	@sh gate/leaks.sh $(PROGRAM)
+leaks: $(BUILT) c-and-python ## measure: memory that isn't given back, by valgrind
+	@python3 tests/program_leaks.py $(PROGRAM)
 
-instructions: build c-and-python ## measure: how many instructions lines take, by valgrind, beside what they took
+instructions: $(BUILT) c-and-python ## measure: how many instructions lines take, by valgrind, beside what they took
 	@python3 gate/instructions.py $(PROGRAM)
 
 # What one has to read to believe status 0 and 8, and whole runs.
@@ -135,15 +137,11 @@ quick: toolchain c-and-python ## check: after a change of CRATE=name: layout, pr
 # build it; then, with the program that was built there, the examples, the live run, the solver's streams and the filter's, mutated
 # proofs, lrup-solve, a proof beside hostile streams, each call of the system refused in turn, of the program and of tests, memory
 # given back, and the instructions that lines take. The last line is rt's own, 'N passed, M failed'.
+TESTS := examples live solver-test filter-test solve-test neighbours sweep leaks instructions
 test: SHELL := /bin/bash
 test: toolchain pages solver exact ## check: the gate, 25 to 100 minutes: every proof, edit and test; has to pass before a push
 	@set -o pipefail; log=$$(mktemp); trap 'rm -f "$$log"' EXIT; \
-	$(RT) ci | tee "$$log" && sh examples/compare.sh $(PROGRAM) && sh examples/groups.sh $(PROGRAM) && \
-	sh examples/words.sh $(PROGRAM) && sh examples/live.sh $(PROGRAM) && python3 examples/solver/test.py $(PROGRAM) $(SOLVER) && \
-	python3 tools/test.py $(PROGRAM) && python3 tools/mutate.py $(PROGRAM) && python3 tools/solve_test.py $(PROGRAM) && \
-	python3 examples/neighbours.py $(PROGRAM) && python3 gate/sweep.py $(PROGRAM) $(RT) && sh gate/leaks.sh $(PROGRAM) && \
-	python3 gate/instructions.py $(PROGRAM) && \
-	tail -n 1 "$$log"
+	$(RT) ci | tee "$$log" && make --no-print-directory BUILT= $(TESTS) && tail -n 1 "$$log"
 
 toolchain:
 	@command -v $(RT) > /dev/null || { echo "lrupd needs Rattle's toolchain: no command '$(RT)' is on the PATH"; exit 1; }

@@ -1,16 +1,25 @@
 """Proofs in each form that the filter reads, written from the steps of a stream."""
 import random
-from collections import namedtuple
+from pathlib import Path
+from typing import Callable, Dict, Iterable, Iterator, List, NamedTuple, Tuple, Union
 
-# Of a deletion the hints are the identities; an import has none.
-Step = namedtuple("Step", "kind identity literals hints")
+Clause = List[int]
 
 
-def read_formula(path):
+class Step(NamedTuple):
+    """Of a deletion the hints are the identities; an import has none."""
+    kind: str
+    identity: int
+    literals: Clause
+    hints: List[int]
+
+
+def read_formula(path: Path) -> List[Clause]:
     """The clauses, as they are written."""
     with open(path) as file:
         words = [word for line in file if not line.startswith(("c", "p")) for word in line.split()]
-    clauses, literals = [], []
+    clauses: List[Clause] = []
+    literals: Clause = []
     for word in words:
         if word != "0":
             literals.append(int(word))
@@ -20,7 +29,7 @@ def read_formula(path):
     return clauses
 
 
-def read_steps(path):
+def read_steps(path: Path) -> List[Step]:
     """The lines of a stream."""
     steps = []
     with open(path) as file:
@@ -28,7 +37,7 @@ def read_steps(path):
             words = line.split()
             if words[1] in ("d", "i"):
                 numbers = list(map(int, words[2:-1]))
-                steps.append(Step(words[1], int(words[0]), *([], numbers) if words[1] == "d" else (numbers, [])))
+                steps.append(Step("d", int(words[0]), [], numbers) if words[1] == "d" else Step("i", int(words[0]), numbers, []))
             else:
                 numbers = list(map(int, words))
                 end = numbers.index(0)
@@ -36,17 +45,17 @@ def read_steps(path):
     return steps
 
 
-def line(*words):
+def line(*words: Union[str, int]) -> bytes:
     return " ".join(map(str, words)).encode() + b"\n"
 
 
-def lrat(step):
+def lrat(step: Step) -> bytes:
     if step.kind == "a":
         return line(step.identity, *step.literals, 0, *step.hints, 0)
     return line(step.identity, step.kind, *step.literals, *step.hints, 0)
 
 
-def varint(number):
+def varint(number: int) -> bytes:
     found = bytearray()
     while number > 127:
         found.append(number & 127 | 128)
@@ -55,16 +64,16 @@ def varint(number):
     return bytes(found)
 
 
-def code(number):
+def code(number: int) -> bytes:
     """Of a literal, and of an identity."""
     return varint(2 * abs(number) + (number < 0))
 
 
-def codes(numbers):
+def codes(numbers: Iterable[int]) -> bytes:
     return b"".join(map(code, numbers)) + b"\0"
 
 
-def binary_lrat(step, identity=code):
+def binary_lrat(step: Step, identity: Callable[[int], bytes] = code) -> bytes:
     """Some solvers write identities as literals, and some as they are."""
     hints = b"".join(map(identity, step.hints)) + b"\0"
     return b"d" + hints if step.kind == "d" else b"a" + identity(step.identity) + codes(step.literals) + hints
@@ -73,10 +82,10 @@ def binary_lrat(step, identity=code):
 class Deletions:
     """The proof without hints: what is deleted is told by its literals."""
 
-    def __init__(self, formula):
+    def __init__(self, formula: List[Clause]) -> None:
         self.clauses = dict(enumerate(formula, 1))
 
-    def steps(self, steps):
+    def steps(self, steps: List[Step]) -> Iterator[Tuple[str, Clause]]:
         """The literals of each addition and deletion, in order."""
         for step in steps:
             if step.kind == "a":
@@ -86,18 +95,18 @@ class Deletions:
                 yield "d", self.clauses.pop(identity)
 
 
-def drat(formula, steps):
+def drat(formula: List[Clause], steps: List[Step]) -> List[bytes]:
     return [line(*["d"] * (kind == "d"), *literals, 0) for kind, literals in Deletions(formula).steps(steps)]
 
 
-def binary_drat(formula, steps):
+def binary_drat(formula: List[Clause], steps: List[Step]) -> List[bytes]:
     return [kind.encode() + codes(literals) for kind, literals in Deletions(formula).steps(steps)]
 
 
 class Frat:
     """Identities of its own, in no order; the clauses of the formula are told in another order, and so are their literals."""
 
-    def __init__(self, formula, steps, seed, hinted):
+    def __init__(self, formula: List[Clause], steps: List[Step], seed: int, hinted: float) -> None:
         self.numbers = random.Random(seed)
         self.hinted = hinted
         names = [*range(1, len(formula) + 1), *(step.identity for step in steps if step.kind == "a")]
@@ -109,12 +118,12 @@ class Frat:
             self.add(step)
         self.lines += [self.clause("f", identity) for identity in self.clauses]
 
-    def clause(self, letter, identity):
+    def clause(self, letter: str, identity: int) -> bytes:
         literals = list(self.clauses[identity])
         self.numbers.shuffle(literals)
         return line(letter, self.names[identity], *literals, 0)
 
-    def add(self, step):
+    def add(self, step: Step) -> None:
         if step.kind == "d":
             for identity in step.hints:
                 self.lines.append(self.clause("d", identity))
@@ -122,17 +131,18 @@ class Frat:
             return
         self.clauses[step.identity] = step.literals
         hints = [self.names[hint] for hint in step.hints]
-        words = ["l", *hints, 0] if self.numbers.random() < self.hinted else []
+        words: List[Union[str, int]] = ["l", *hints, 0] if self.numbers.random() < self.hinted else []
         self.lines.append(line("a", self.names[step.identity], *step.literals, 0, *words))
 
 
-def frat(formula, steps, seed, hinted):
+def frat(formula: List[Clause], steps: List[Step], seed: int, hinted: float) -> List[bytes]:
     """`hinted` is the part of the additions that have hints."""
     return Frat(formula, steps, seed, hinted).lines
 
 
 # The forms, with the word that --format has for each.
-FORMS = {
+Form = Tuple[str, Callable[[List[Clause], List[Step]], List[bytes]]]
+FORMS: Dict[str, Form] = {
     "LRAT text": ("lrat", lambda formula, steps: [lrat(step) for step in steps]),
     "DRAT text": ("drat", drat),
     "binary DRAT": ("binary-drat", binary_drat),

@@ -1,7 +1,7 @@
 #!/usr/bin/env python3
 """Runs the filter on mutated proofs, built so that it tells what is undefined, and the program on what comes out.
 
-    mutate.py PROGRAM [COUNT [FIRST]]
+    filter_mutants.py PROGRAM [COUNT [FIRST]]
 
 COUNT is 10,000, and the mutants are those from number FIRST on, 0: a number always gives the same one. Small proofs in each form
 have bytes flipped, cut off, put in and taken out, steps doubled, swapped and left out, numbers made huge and words made letters;
@@ -12,29 +12,31 @@ beyond --lines and clauses of streams that aren't there. A mutant that fails is 
 off; the last line is 'N passed, M failed', and the status is 1 where a run failed. Where the compiler builds no such program the
 mutants are skipped, and that is told.
 """
-import glob
 import multiprocessing
 import os
 import random
 import re
-import shlex
 import shutil
 import subprocess
 import sys
 import tempfile
+from pathlib import Path
+from typing import Callable, List, Optional, Tuple
 
 sys.dont_write_bytecode = True
-from forms import FORMS, Step, read_formula, read_steps, varint
+from harness import ROOT, closing, compiled, compiler, example, run, words_given, written
+from proof_forms import FORMS, Clause, Step, read_formula, read_steps, varint
 
-HERE = os.path.dirname(os.path.abspath(__file__))
-EXAMPLES = os.path.join(HERE, "..", "examples")
-OUT = os.path.join(HERE, "exact", "out")
-SANITIZED = os.path.join(OUT, "exact-sanitized")
-KEPT = os.path.join(OUT, "mutants")
-SANITIZE = ["-fsanitize=address,undefined", "-fno-sanitize-recover=all"]
+SOURCES = sorted((ROOT / "tools" / "exact").glob("*.c"))
+OUT = ROOT / "tools" / "exact" / "out"
+SANITIZED = OUT / "exact-sanitized"
+KEPT = OUT / "mutants"
+SANITIZE = ["-std=c11", "-O1", "-g", "-fsanitize=address,undefined", "-fno-sanitize-recover=all"]
 OPTIONS = {"ASAN_OPTIONS": "exitcode=99", "UBSAN_OPTIONS": "exitcode=99:print_stacktrace=1"}
 SECONDS = 20
 
+# The word of --format, the formula and the steps.
+Base = Tuple[str, bytes, List[bytes]]
 # The formula, the stream, and how many of its first lines are mutated.
 BASES = [("four-clause.cnf", "four-clause.lrup", 2), ("pigeonhole.cnf", "pigeonhole.lrup", 12),
          ("pigeonhole.cnf", "pigeonhole.lrup", 60), ("bmc.cnf", "bmc.lrup", 20)]
@@ -52,51 +54,40 @@ LINE = re.compile(rb"(?:" + NUMBER + rb" (?:-?" + NUMBER + rb" )*0 (?:" + NUMBER
 ENDS = re.compile(r"c stream \d+: \d+ added, \d+ deleted, (ended|bad line \d+ \((identity|no room|missing \d+)\))")
 
 
-def compiler():
-    """Its words, or None where it has nothing that tells what is undefined."""
-    words = shlex.split(os.environ.get("CC", "cc")) + ["-std=c11", "-O1", "-g"] + SANITIZE
+def is_sanitizing() -> bool:
+    """Whether the compiler has what tells of undefined behaviour."""
     with tempfile.TemporaryDirectory() as work:
-        one = os.path.join(work, "one")
-        with open(one + ".c", "w") as file:
-            file.write("int main(void) { return 0; }\n")
-        built = subprocess.run(words + ["-o", one, one + ".c"], stderr=subprocess.DEVNULL).returncode == 0
-        return words if built and subprocess.run([one], stderr=subprocess.DEVNULL).returncode == 0 else None
+        source, one = written("int main(void) { return 0; }\n", Path(work), "one.c"), Path(work) / "one"
+        return run([*compiler(*SANITIZE), "-o", one, source]).status == 0 and run([one]).status == 0
 
 
-def build(words):
-    os.makedirs(OUT, exist_ok=True)
-    subprocess.run(words + ["-o", SANITIZED, *sorted(glob.glob(os.path.join(HERE, "exact", "*.c")))], check=True)
-
-
-def in_each_form(name, steps_of):
-    """The word of --format, the formula and the steps."""
-    path = os.path.join(EXAMPLES, name)
-    formula = read_formula(path)
-    with open(path, "rb") as file:
-        text = file.read()
+def in_each_form(name: str, steps_of: Callable[[List[Clause]], List[Step]]) -> List[Base]:
+    formula = read_formula(example(name))
+    text = example(name).read_bytes()
     return [(word, text, make(formula, steps_of(formula))) for word, make in FORMS.values()]
 
 
-def copies(formula):
+def copies(formula: List[Clause]) -> List[Step]:
     """The formula's clauses again and again, each deleted at once."""
-    steps = []
+    steps: List[Step] = []
     for number in range(LONG):
         original, identity = number % len(formula), len(formula) + 1 + number
         steps += [Step("a", identity, formula[original], [original + 1]), Step("d", identity, [], [identity])]
     return steps
 
 
-def make_proofs():
-    short = []
+def make_proofs() -> Tuple[List[Base], List[Base]]:
+    """Short ones and long ones."""
+    short: List[Base] = []
     for formula, name, count in BASES:
-        short += in_each_form(formula, lambda _: read_steps(os.path.join(EXAMPLES, name))[:count])
+        short += in_each_form(formula, lambda _: read_steps(example(name))[:count])
     return short, in_each_form("pigeonhole.cnf", copies)
 
 
 # Mutations: first of steps, then of bytes.
 
 
-def mutated_steps(steps, numbers):
+def mutated_steps(steps: List[bytes], numbers: random.Random) -> bytes:
     steps = list(steps)
     for _ in range(numbers.choice((0, 0, 1, 1, 2, 5))):
         one, other = numbers.randrange(len(steps)), numbers.randrange(len(steps))
@@ -112,7 +103,7 @@ def mutated_steps(steps, numbers):
     return b"".join(steps)
 
 
-def other_word(proof, numbers):
+def other_word(proof: bytes, numbers: random.Random) -> bytes:
     """A word of the text in the place of another."""
     words = list(re.finditer(rb"[^ \n]+", proof))
     if not words:
@@ -122,7 +113,7 @@ def other_word(proof, numbers):
     return proof[:word.start()] + new + proof[word.end():]
 
 
-def other_bytes(proof, numbers):
+def other_bytes(proof: bytes, numbers: random.Random) -> bytes:
     """Bytes put in, taken out, or flipped."""
     at = numbers.randrange(len(proof) + 1)
     what = numbers.randrange(5)
@@ -138,7 +129,7 @@ def other_bytes(proof, numbers):
     return proof[:at] + bytes(byte ^ 1 << numbers.randrange(8) for byte in proof[at:at + 1]) + proof[at + 1:]
 
 
-def mutated_bytes(proof, binary, numbers):
+def mutated_bytes(proof: bytes, binary: bool, numbers: random.Random) -> bytes:
     for _ in range(numbers.choice((0, 1, 1, 1, 2, 4))):
         proof = other_bytes(proof, numbers) if binary or numbers.random() < 0.5 else other_word(proof, numbers)
     if numbers.random() < 0.2:
@@ -149,7 +140,7 @@ def mutated_bytes(proof, binary, numbers):
 class Mutant:
     """The words of its command, with the files that they name."""
 
-    def __init__(self, number, proofs, work):
+    def __init__(self, number: int, proofs: Tuple[List[Base], List[Base]], work: Path) -> None:
         numbers = random.Random(number)
         short, long = proofs
         word, formula, steps = numbers.choice(long if numbers.random() < LONG_ONES else short)
@@ -161,31 +152,25 @@ class Mutant:
             self.words += ["--format", word if numbers.random() < 0.9 else numbers.choice(WORDS)]
         if self.streams > 1 and numbers.random() < 0.3:
             other = mutated_bytes(mutated_steps(numbers.choice(short)[2], numbers), False, numbers)
-            self.words += ["--other", f"{self.stream % self.streams + 1}={self.put(work, 'other', other)}"]
+            self.words += ["--other", f"{self.stream % self.streams + 1}={written(other, work, 'other')}"]
         if numbers.random() < 0.1:
             formula = mutated_bytes(formula, False, numbers)
-        self.formula = self.put(work, "formula.cnf", formula)
+        self.formula = written(formula, work)
         self.piped = numbers.random() < 0.5
-        self.words += [self.formula] + [self.put(work, "proof", proof)] * (not self.piped)
+        self.words += [str(self.formula)] + [str(written(proof, work, "proof"))] * (not self.piped)
         self.proof = proof
-
-    def put(self, work, name, data):
-        path = os.path.join(work, name)
-        with open(path, "wb") as file:
-            file.write(data)
-        return path
 
 
 # What has to hold of a run.
 
 
-def spelling(text):
+def spelling(text: bytes) -> Optional[str]:
     """What is off with the lines, or None."""
     if text and not text.endswith(b"\n"):
         return "the last line isn't whole"
     for line in text.splitlines():
         if not LINE.fullmatch(line):
-            return f"a line that is misspelled: {line[:200]}"
+            return f"a line that is misspelled: {line[:200]!r}"
         if line.count(b" ") > 65535:
             lists = [part.count(b" ") for part in line.split(b" 0")]
             if lists[0] > 65535 or max(lists) > 65536:
@@ -193,79 +178,69 @@ def spelling(text):
     return None
 
 
-def report_of(program, mutant, text, work):
+def report_of(program: str, mutant: Mutant, text: bytes, work: Path) -> Optional[str]:
     """What is off with the report on the stream, or None."""
-    path = os.path.join(work, "stream")
-    with open(path, "wb") as file:
-        file.write(text)
+    path = written(text, work, "stream")
     streams = [path if number == mutant.stream else "/dev/null" for number in range(1, mutant.streams + 1)]
-    done = subprocess.run([program, "--tries", "0", "--lines", "20000", "--room", "100000", mutant.formula, *streams],
-                          stdout=subprocess.PIPE, stderr=subprocess.PIPE, text=True, timeout=SECONDS)
-    if done.returncode == 4 and "formula" in done.stderr:
+    done = run([program, "--tries", "0", "--lines", "20000", "--room", "100000", mutant.formula, *streams], limit=SECONDS)
+    if done.status == 4 and "formula" in done.err:
         return None     # the program is stricter with formulas
-    lines = done.stdout.splitlines()
+    lines = done.out.splitlines()
     if len(lines) <= mutant.streams or not ENDS.fullmatch(lines[mutant.stream - 1]):
-        return f"status {done.returncode}, {done.stdout}{done.stderr}"
+        return f"status {done.status}, {done.out}{done.err}"
     return None
 
 
-def fault_of(program, mutant, work):
-    given = {"input": mutant.proof} if mutant.piped else {"stdin": subprocess.DEVNULL}
+def fault_of(program: str, mutant: Mutant, work: Path) -> Optional[str]:
     try:
-        done = subprocess.run([SANITIZED, *mutant.words], **given, capture_output=True, timeout=SECONDS,
-                              env={**os.environ, **OPTIONS})
+        out, err, status = run([SANITIZED, *mutant.words], mutant.proof if mutant.piped else None, SECONDS,
+                               env={**os.environ, **OPTIONS})
     except subprocess.TimeoutExpired:
         return f"no end after {SECONDS} seconds"
-    one_line = done.stderr.startswith(b"exact: ") and done.stderr.count(b"\n") == 1 and done.stderr.endswith(b"\n")
-    if done.returncode not in (0, 1) or (not one_line if done.returncode == 1 else done.stderr):
-        return f"status {done.returncode}\n{done.stderr.decode(errors='replace')[:3000]}"
-    return spelling(done.stdout) or (report_of(program, mutant, done.stdout, work) if done.stdout else None)
+    one_line = err.startswith("exact: ") and err.count("\n") == 1 and err.endswith("\n")
+    if status not in (0, 1) or (not one_line if status == 1 else err):
+        return f"status {status}\n{err[:3000]}"
+    text = out.encode(errors="surrogateescape")
+    return spelling(text) or (report_of(program, mutant, text, work) if text else None)
 
 
-def attempt(job):
+def attempt(job: Tuple[str, int]) -> Optional[str]:
     """None, or what is off."""
-    program, number, proofs = job
-    with tempfile.TemporaryDirectory() as work:
-        mutant = Mutant(number, proofs, work)
+    program, number = job
+    with tempfile.TemporaryDirectory() as name:
+        work = Path(name)
+        mutant = Mutant(number, PROOFS, work)
         fault = fault_of(program, mutant, work)
         if fault is None:
             return None
-        kept = os.path.join(KEPT, str(number))
+        kept = KEPT / str(number)
         shutil.rmtree(kept, ignore_errors=True)
         shutil.copytree(work, kept)
         if mutant.piped:
-            mutant.put(kept, "proof", mutant.proof)
-        words = " ".join(word.replace(work, kept) for word in mutant.words) + f" < {kept}/proof" * mutant.piped
+            written(mutant.proof, kept, "proof")
+        words = " ".join(word.replace(name, str(kept)) for word in mutant.words) + f" < {kept}/proof" * mutant.piped
         return f"mutant {number}: {SANITIZED} {words}\n{fault}"
 
 
 PROOFS = make_proofs()
 
 
-def run(job):
-    return attempt((*job, PROOFS))
-
-
-def main():
-    if not 2 <= len(sys.argv) <= 4:
-        sys.exit(__doc__)
-    program = os.path.abspath(sys.argv[1])
-    count, first = [*map(int, sys.argv[2:]), *(10000, 0)[len(sys.argv) - 2:]]
-    words = compiler()
-    if words is None:
-        print(f"mutants: skipped, the C compiler doesn't build with {SANITIZE[0]}")
-        print(f"0 passed, 0 failed, {count} skipped")
-        return 0
-    build(words)
+def main() -> int:
+    program, *words = words_given(__doc__, most=3)
+    count, first = [*map(int, words), *(10000, 0)[len(words):]]
+    if not is_sanitizing():
+        print(f"mutants: skipped, the C compiler doesn't build with {SANITIZE[3]}")
+        return closing(0, 0, count)
+    OUT.mkdir(exist_ok=True)
+    compiled(SANITIZED, SOURCES, *SANITIZE)
     failed = 0
     with multiprocessing.Pool() as workers:
         jobs = ((program, number) for number in range(first, first + count))
-        for fault in workers.imap_unordered(run, jobs, chunksize=20):
+        for fault in workers.imap_unordered(attempt, jobs, chunksize=20):
             if fault:
                 failed += 1
                 print(fault, flush=True)
-    print(f"{count - failed} passed, {failed} failed")
-    return 1 if failed else 0
+    return closing(count - failed, failed)
 
 
 if __name__ == "__main__":

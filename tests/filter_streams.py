@@ -1,11 +1,11 @@
 #!/usr/bin/env python3
 """Runs the filter on proofs without exact hints, and the program on what comes out.
 
-    test.py PROGRAM
+    filter_streams.py PROGRAM
 
 The recorded streams of examples/, with their hints shuffled, doubled and missing, with comments and loose spaces, have to come
 out as good streams of as many additions; so have those of several solvers with an import for each clause of another one that
-they cite, the recorded streams in each other form, and CaDiCaL's DRAT text in proofs/. Then what a few lines come to, what is
+they cite, the recorded streams in each other form, and CaDiCaL's DRAT text in tests/proofs. Then what a few lines come to, what is
 refused and where, limits from both sides, cut proofs, pipes that stay open, and outputs that fail. Where they are on the PATH,
 CaDiCaL and CryptoMiniSat run beside the filter and the program, by the commands that USING has. It shows what is off; the last
 line is 'N passed, M failed', and ', K skipped' where solvers aren't there. The status is 1 where a run failed.
@@ -17,52 +17,55 @@ import shutil
 import signal
 import subprocess
 import sys
+from pathlib import Path
+from typing import IO, Any, Callable, Dict, Iterable, List, Sequence, Tuple, Union
 
 sys.dont_write_bytecode = True
-from forms import FORMS, Step, code, codes, read_formula, read_steps, varint
-from harness import HERE, ROOT, Failure, Skipped, example, generated, run_all, want, written
+from harness import (FOUR, ROOT, TESTS, Failure, Ran, Row, Skipped, example, generated, piped, report, run, run_all,
+                     started, want, words_given, written)
+from proof_forms import FORMS, Step, code, codes, read_formula, read_steps, varint
 
-FILTER = os.path.join(HERE, "exact", "out", "exact")
-USING = os.path.join(ROOT, "docs", "USING.md")
-FOUR = "p cnf 2 4\n1 2 0\n-1 2 0\n1 -2 0\n-1 -2 0\n"
+FILTER = ROOT / "tools" / "exact" / "out" / "exact"
+USING = ROOT / "docs" / "USING.md"
+Text = Union[str, bytes]
 UNITS = "p cnf 3 4\n1 0\n-1 2 0\n-2 3 0\n-3 -2 0\n"
 FIRST = "5 2 0 1 2 0\n"
 
 
-def exact(words, given=b""):
-    """What comes out, what is said on standard error, and the status."""
-    given = given if isinstance(given, bytes) else given.encode()
-    done = subprocess.run([FILTER] + words, input=given, capture_output=True, timeout=300)
-    return done.stdout.decode(), done.stderr.decode(), done.returncode
+def exact(words: Sequence[object], given: Text = b"") -> Ran:
+    """What comes out of the filter, what is said on standard error, and the status."""
+    return run([FILTER, *words], given, limit=300)
 
 
-def check(program, formula, streams, options=()):
+def check(program: str, formula: Path, streams: Sequence[Tuple[object, int]]) -> None:
     """Each stream has to end, with the additions wanted of it; the formula to be refuted."""
-    done = subprocess.run([program, "--tries", "1000000", *options, formula] + [path for path, _ in streams],
-                          stdout=subprocess.PIPE, text=True, timeout=300)
-    *lines, verdict = done.stdout.splitlines()
+    done = run([program, "--tries", "1000000", formula, *(path for path, _ in streams)], limit=300)
+    *lines, verdict = done.out.splitlines() or [""]
+    want((len(lines), verdict, done.status), (len(streams), "s UNSATISFIABLE", 0), f"{done.err}the verdict")
     for number, (line, (_, wanted)) in enumerate(zip(lines, streams), 1):
         if not line.startswith(f"c stream {number}: {wanted} added, ") or not line.endswith(" deleted, ended"):
             raise Failure(f"wanted {wanted} additions, and not\n{line}")
-    want((verdict, done.returncode), ("s UNSATISFIABLE", 0), "the verdict")
+
+
+def at_place(stream: Tuple[object, int], place: int, count: int) -> List[Tuple[object, int]]:
+    """The stream in its place among so many, of which the others are empty."""
+    return [stream if number == place else ("/dev/null", 0) for number in range(1, count + 1)]
 
 
 # The recorded streams, with inexact hints.
 
 
-def additions_of(path):
-    with open(path) as file:
-        return sum(" d " not in line for line in file)
+def additions_of(path: Path) -> int:
+    return sum(" d " not in line for line in path.read_text().splitlines())
 
 
-def clauses_of(path):
+def clauses_of(path: Path) -> Dict[str, List[str]]:
     """The literals of each clause that a stream derives, by its identity."""
-    with open(path) as file:
-        lines = [line.split() for line in file]
+    lines = [line.split() for line in path.read_text().splitlines()]
     return {words[0]: words[1:words.index("0", 1)] for words in lines if words[1] != "d"}
 
 
-def with_imports(path, others, seed, out):
+def with_imports(path: Path, others: Iterable[Path], seed: str, out: Path) -> None:
     """The stream, with an import of each clause of the others before the line that cites it first."""
     numbers = random.Random(seed)
     foreign = {identity: literals for other in others for identity, literals in clauses_of(other).items()}
@@ -77,7 +80,7 @@ def with_imports(path, others, seed, out):
             file.write(line)
 
 
-def mangle(path, seed, keep, out):
+def mangle(path: Path, seed: str, keep: Callable[[int], bool], out: Path) -> None:
     """Hints shuffled and some doubled, a third of the lines without one or all of those that needn't be kept; and spaces."""
     numbers = random.Random(seed)
     with open(path) as stream, open(out, "w") as file:
@@ -100,94 +103,91 @@ def mangle(path, seed, keep, out):
             file.write(numbers.choice(("\n", " \n", "\r\n", "\n\nc more\n")))
 
 
-def imports_in(text):
+def imports_in(text: str) -> List[List[str]]:
     return [line.split() for line in text.splitlines() if " i " in line]
 
 
-def mangled(program, formula, names, seed, imports, work):
-    """With imports the filter sees one stream alone, and without them all."""
-    count, formula = len(names), example(formula)
-    clauses = len(read_formula(formula))
-    streams = []
-    for number, name in enumerate(names, 1):
-        source, loose, out = example(name), os.path.join(work, f"loose{number}"), os.path.join(work, f"exact{number}")
-        others = {other: example(names[other - 1]) for other in range(1, count + 1) if other != number}
-        # A clause of another stream isn't known where neither an import nor a hint names it.
-        foreign = lambda hint: not imports and hint > clauses and (hint - clauses - 1) % count != number - 1
-        if imports:
-            source = os.path.join(work, f"imports{number}")
-            with_imports(example(name), others.values(), f"{seed} {number}", source)
-        mangle(source, f"{seed} {number}", foreign, loose)
-        seen = [word for other, path in others.items() for word in ("--other", f"{other}={path}")] if not imports else []
-        text, said, status = exact(["--stream", str(number), "--streams", str(count)] + seen + [formula, loose])
-        want((said, status), ("", 0), name)
-        with open(source) as file:
-            want(imports_in(text), imports_in(file.read()), f"the imports of {name}")
-        streams.append((written(text, work, out), additions_of(example(name))))
-    check(program, formula, streams)
+def exact_stream(name: str, number: int, names: List[str], formula: Path, seed: int, imports: bool, work: Path) -> Path:
+    """A recorded stream, mangled, as the filter has it. With imports it sees that stream alone, and without them all."""
+    source, loose = example(name), work / f"loose{number}"
+    clauses, count = len(read_formula(formula)), len(names)
+    others = {other: example(names[other - 1]) for other in range(1, count + 1) if other != number}
+    # A clause of another stream isn't known where neither an import nor a hint names it.
+    foreign = lambda hint: not imports and hint > clauses and (hint - clauses - 1) % count != number - 1
+    if imports:
+        source = work / f"imports{number}"
+        with_imports(example(name), others.values(), f"{seed} {number}", source)
+    mangle(source, f"{seed} {number}", foreign, loose)
+    seen = [word for other, path in others.items() for word in ("--other", f"{other}={path}")] if not imports else []
+    text, said, status = exact(["--stream", str(number), "--streams", str(count), *seen, formula, loose])
+    want((said, status), ("", 0), name)
+    want(imports_in(text), imports_in(source.read_text()), f"the imports of {name}")
+    return written(text, work, f"exact{number}")
 
 
-def without_hints(program, formula, proof, stream, count, work):
+def mangled(program: str, formula: str, names: List[str], seed: int, imports: bool, work: Path) -> None:
+    streams = [(exact_stream(name, number, names, example(formula), seed, imports, work), additions_of(example(name)))
+               for number, name in enumerate(names, 1)]
+    check(program, example(formula), streams)
+
+
+def without_hints(program: str, formula: Path, proof: Path, stream: int, count: int, work: Path) -> None:
     text, said, status = exact(["--stream", str(stream), "--streams", str(count), formula, proof])
-    want((said, status), ("", 0), proof)
-    out = written(text, work, "exact")
-    with open(proof) as file:
-        added = sum(not line.startswith("d") for line in file)
-    check(program, formula, [(out, added) if number == stream else ("/dev/null", 0) for number in range(1, count + 1)])
+    want((said, status), ("", 0), proof.name)
+    added = sum(not line.startswith("d") for line in proof.read_text().splitlines())
+    check(program, formula, at_place((written(text, work, "exact"), added), stream, count))
 
 
-def in_form(program, formula, name, form, told, work):
+def in_form(program: str, formula_name: str, name: str, form: str, told: bool, work: Path) -> None:
     """A recorded stream in another form, as the only stream and as the second of three."""
     word, make = FORMS[form]
-    formula, stream = example(formula), example(name)
+    formula, stream = example(formula_name), example(name)
     proof = b"".join(make(read_formula(formula), read_steps(stream)))
     for number, count in ((1, 1), (2, 3)):
         options = ["--stream", str(number), "--streams", str(count)] + ["--format", word] * told
-        text, said, status = exact(options + [formula], proof)
+        text, said, status = exact([*options, formula], proof)
         if not told and form.startswith("binary") and status == 1 and said.count("\n") == 1 and "--format" in said:
             continue        # it may ask for the form
         want((said, status), ("", 0), "what the filter says")
-        out = written(text, work, "exact")
-        check(program, formula, [(out, additions_of(stream)) if other == number else ("/dev/null", 0)
-                                 for other in range(1, count + 1)])
+        check(program, formula, at_place((written(text, work, "exact"), additions_of(stream)), number, count))
 
 
 # A few lines.
 
 
-def stops(formula, proof, cause, lines, words, work):
+def stops(formula: str, proof: Text, cause: str, lines: str, words: List[str], work: Path) -> None:
     """At the line or the byte that has the cause; the lines before it are out."""
-    text, said, status = exact(words + [written(formula, work)], proof)
+    text, said, status = exact([*words, written(formula, work)], proof)
     want((text, status), (lines, 1), "what came out")
     if not said.startswith("exact: ") or cause not in said or said.count("\n") != 1:
         raise Failure(f"wanted a word on '{cause}', and not\n{said}")
 
 
-def comes_out(formula, proof, lines, words, work):
-    want(exact(words + [written(formula, work)], proof), (lines, "", 0), "what came out")
+def comes_out(formula: str, proof: Text, lines: str, words: List[str], work: Path) -> None:
+    want(exact([*words, written(formula, work)], proof), (lines, "", 0), "what came out")
 
 
-def sorted_hints(text):
+def sorted_hints(text: str) -> List[Tuple[List[str], List[str]]]:
     """Each line, with its hints in order."""
     lines = [line.split() for line in text.splitlines()]
     heads = [words.index("0", 1) for words in lines]
     return [(words[:end], sorted(words[end:])) for words, end in zip(lines, heads)]
 
 
-def comes_out_with(program, formula, proof, lines, words, work):
+def comes_out_with(program: str, formula: str, proof: Text, lines: str, words: List[str], work: Path) -> None:
     """These lines, with hints in an order that the program takes."""
-    formula = written(formula, work)
-    text, said, status = exact(words + [formula], proof)
+    path = written(formula, work)
+    text, said, status = exact([*words, path], proof)
     want((sorted_hints(text), said, status), (sorted_hints(lines), "", 0), "what came out")
-    stream, count = int(words[1]) if "--stream" in words else 1, int(words[3]) if "--stream" in words else 1
-    streams = [written(text, work, "exact") if number == stream else "/dev/null" for number in range(1, count + 1)]
-    done = subprocess.run([program, formula, *streams], stdout=subprocess.PIPE, text=True, timeout=300)
+    stream, count = (int(words[1]), int(words[3])) if "--stream" in words else (1, 1)
+    streams = [path for path, _ in at_place((written(text, work, "exact"), 0), stream, count)]
     deleted = text.count(" d ")
     added = len(text.splitlines()) - deleted
-    want(done.stdout.splitlines()[stream - 1], f"c stream {stream}: {added} added, {deleted} deleted, ended", "the report")
+    found = run([program, path, *streams], limit=300).out
+    want(found.splitlines()[stream - 1], f"c stream {stream}: {added} added, {deleted} deleted, ended", "the report")
 
 
-def told_twice(work):
+def told_twice(work: Path) -> None:
     """Two `o` lines of a clause that the formula has twice name both: one is deleted, and the other there."""
     formula = written("p cnf 2 5\n1 2 0\n-1 2 0\n1 -2 0\n-1 -2 0\n2 1 0\n", work)
     text, said, status = exact([formula], "o 3 1 2 0\no 8 2 1 0\no 4 -1 2 0\nd 8 2 1 0\na 9 2 0 l 3 4 0\n")
@@ -195,25 +195,25 @@ def told_twice(work):
     want((text, said, status), (f"1 d {deletion} 0\n6 2 0 {addition} 2 0\n", "", 0), "what came out")
 
 
-def bad_other(line, work):
+def bad_other(line: str, work: Path) -> None:
     """Where it is read it isn't LRAT text with rising identities of the formula's literals."""
     other = written(f"{line}\n8 2 0 1 2 0\n", work, "other")
     stops(FOUR, FIRST + "7 1 -2 0 8 0\n", "line 2: in ", FIRST, ONE_OF_TWO + ["--other", f"2={other}"], work)
 
 
-def another(program, work):
+def another(program: str, work: Path) -> None:
     """Clauses of another stream, so many that the filter gives their memory back."""
     formula, count = written(FOUR, work), 9000
     theirs = "".join(f"{6 + 2 * number} 1 2 0 1 0\n" for number in range(count)) + f"{6 + 2 * count} 2 0 1 2 0\n"
     ours = "".join(f"{5 + 2 * number} 1 2 0 {6 + 2 * number} 0\n" for number in range(count))
     ours += f"{5 + 2 * count} 0 {6 + 2 * count} 3 4 0\n"
     other = written(theirs, work, "other")
-    text, said, status = exact(ONE_OF_TWO + ["--other", f"2={other}", formula], ours)
+    text, said, status = exact([*ONE_OF_TWO, "--other", f"2={other}", formula], ours)
     want((text, said, status), (ours, "", 0), "what came out")
     check(program, formula, [(written(text, work, "exact"), count + 1), (other, count + 1)])
 
 
-def summary(work):
+def summary(work: Path) -> None:
     text, said, status = exact(["--help"])
     want((text[:7], said, status), ("usage: ", "", 0), "the summary")
 
@@ -222,7 +222,7 @@ TOLD = "o 9 -1 -2 0\no 20 2 1 0\no 7 2 -1 0\no 1 1 -2 0\n"     # the four clause
 ONE_OF_TWO = ["--stream", "1", "--streams", "2"]
 
 
-def refusals():
+def refusals() -> List[Row]:
     """Of LRAT, DRUP and DRAT text."""
     return [
         ("a RAT step with hints", FOUR, FIRST + "6 1 0 -3 4 0\n", "line 2: a RAT step", FIRST, []),
@@ -266,7 +266,7 @@ def refusals():
     ]
 
 
-def refusals_of_frat():
+def refusals_of_frat() -> List[Row]:
     late = TOLD + "a 10 2 0 l 20 7 0\n"
     return [
         ("FRAT, no clause of the formula's", FOUR, "o 9 1 2 0\no 3 1 0\n", "line 2: ", "", []),
@@ -289,7 +289,7 @@ def refusals_of_frat():
     ]
 
 
-def refusals_in_binary():
+def refusals_in_binary() -> List[Row]:
     """With the byte where the step begins, counted from 1."""
     drat, lrat = ["--format", "binary-drat"], ["--format", "binary-lrat"]
     two, five = b"a" + codes([2]), b"a" + code(5) + codes([2]) + codes([1, 2])
@@ -312,7 +312,7 @@ def refusals_in_binary():
     ]
 
 
-def what_comes_out(program):
+def what_comes_out(program: str) -> List[Row]:
     unit, five = "6 d 5 0\n", b"a" + code(5) + codes([2]) + codes([1, 2])
     loosely = [
         ("FRAT, hints that aren't there", FOUR, TOLD + "a 10 2 0 l 33 34 0\na 11 0 l 0\n", FIRST + "6 0 3 4 5 0\n", []),
@@ -367,30 +367,32 @@ def what_comes_out(program):
 # Limits.
 
 
-def longest(program, count, work):
+def longest(program: str, count: int, work: Path) -> None:
     """A clause of so many literals."""
     literals = range(1, count + 1)
-    written(f"p cnf {count + 1} 2\n{' '.join(map(str, literals))} {count + 1} 0\n-{count + 1} 0\n", work)
-    line = f"3 {' '.join(map(str, literals))} 0 2 1 0\n"
-    for words, proof in ((["lrat"], line), (["drat"], line[2:-7] + "\n"), (["binary-drat"], b"a" + codes(literals))):
-        one_line(program, "--format", words + [os.path.join(work, "formula.cnf")], proof, line, count <= 65535, work)
+    numbers = " ".join(map(str, literals))
+    formula = written(f"p cnf {count + 1} 2\n{numbers} {count + 1} 0\n-{count + 1} 0\n", work)
+    line = f"3 {numbers} 0 2 1 0\n"
+    proofs: List[Tuple[str, Text]] = [("lrat", line), ("drat", numbers + " 0\n"), ("binary-drat", b"a" + codes(literals))]
+    for form, proof in proofs:
+        one_line(program, form, formula, proof, line, count <= 65535, work)
 
 
-def one_line(program, option, words, proof, line, fits, work):
-    text, said, status = exact([option] + words, proof)
+def one_line(program: str, form: str, formula: Path, proof: Text, line: str, fits: bool, work: Path) -> None:
+    text, said, status = exact(["--format", form, formula], proof)
     if not fits:
         want((text, status, said.count("\n")), ("", 1, 1), "what came out")
         return
     want((text, said, status), (line, "", 0), "what came out")
-    check_report(program, words[-1], text, "c stream 1: 1 added, 0 deleted, ended", work)
+    check_report(program, formula, text, "1 added, 0 deleted, ended", work)
 
 
-def check_report(program, formula, text, wanted, work):
-    done = subprocess.run([program, formula, written(text, work, "exact")], stdout=subprocess.PIPE, text=True, timeout=300)
-    want(done.stdout.splitlines()[:1], [wanted], "the report")
+def check_report(program: str, formula: Path, text: str, said: str, work: Path) -> None:
+    found = run([program, formula, written(text, work, "exact")], limit=300).out
+    want(found.splitlines()[:1], report([said], 3).splitlines()[:1], "the report")
 
 
-def longest_chain(program, count, work):
+def longest_chain(program: str, count: int, work: Path) -> None:
     """The empty clause from so many clauses."""
     last = count - 1
     clauses = ["1 0"] + [f"-{variable} {variable + 1} 0" for variable in range(1, last)] + [f"-{last} 0"]
@@ -402,10 +404,10 @@ def longest_chain(program, count, work):
             want((text, status, said.count("\n")), ("", 1, 1), "what came out")
         else:
             want((len(text.split()), said, status), (count + 3, "", 0), "the words of the line")
-            check_report(program, formula, text, "c stream 1: 1 added, 0 deleted, ended", work)
+            check_report(program, formula, text, "1 added, 0 deleted, ended", work)
 
 
-def many_deletions(program, count, work):
+def many_deletions(program: str, count: int, work: Path) -> None:
     """More than one line may have."""
     formula = written(f"p cnf 2 {count + 4}\n" + "1 2 0\n" * count + FOUR.split("\n", 1)[1], work)
     identities = " ".join(map(str, range(1, count + 1)))
@@ -413,24 +415,26 @@ def many_deletions(program, count, work):
     want((said, status), ("", 0), "what the filter says")
     if max(len(line.split()) for line in text.splitlines()) > 65536 + 3:
         raise Failure("a line has more identities than a line may have")
-    check_report(program, formula, text, f"c stream 1: 1 added, {count} deleted, ended", work)
+    check_report(program, formula, text, f"1 added, {count} deleted, ended", work)
 
 
-def largest(program, work):
+def largest(program: str, work: Path) -> None:
     """Variables and identities."""
-    most, formula = 16777215, "p cnf {0} 2\n1 {0} 0\n-1 {0} 0\n"
-    path = written(formula.format(most), work)
-    for words, make in ((["drat"], lambda literal: f"{literal} 0\n"), (["binary-drat"], lambda literal: b"a" + codes([literal]))):
-        one_line(program, "--format", words + [path], make(most), f"3 {most} 0 1 2 0\n", True, work)
+    most = 16777215
+    formula = written(f"p cnf {most} 2\n1 {most} 0\n-1 {most} 0\n", work)
+    makes: Dict[str, Callable[[int], Text]] = {"drat": "{} 0\n".format, "binary-drat": lambda literal: b"a" + codes([literal])}
+    for form, make in makes.items():
+        one_line(program, form, formula, make(most), f"3 {most} 0 1 2 0\n", True, work)
         for literal in (most + 1, -most - 1, 1 << 31, -1 << 31, (1 << 32) + 1, 1 << 62, -1 << 62):
-            one_line(program, "--format", words + [path], make(literal), "", False, work)
+            one_line(program, form, formula, make(literal), "", False, work)
 
 
-def largest_identity(digits, fits, work):
+def largest_identity(digits: int, fits: bool, work: Path) -> None:
     """As one stream has it, whose name may have 18 digits."""
     name, formula = int("9" * digits), written(FOUR, work)
     binary = [b"a" + coding(name) + codes([2]) + coding(1) + coding(2) + b"\0" for coding in (code, varint)]
-    for word, proof in (("lrat", f"{name} 2 0 1 2 0\n"), ("binary-lrat", binary[0]), ("binary-lrat", binary[1])):
+    proofs: List[Tuple[str, Text]] = [("lrat", f"{name} 2 0 1 2 0\n"), ("binary-lrat", binary[0]), ("binary-lrat", binary[1])]
+    for word, proof in proofs:
         text, said, status = exact(["--format", word, formula], proof)
         wanted = (f"{name} 2 0 1 2 0\n", "", 0) if fits else ("", said, 1)
         want((text, said, status), wanted, "what came out")
@@ -444,7 +448,7 @@ STEPS = [Step("a", 5, [2], [1, 2]), Step("d", 5, [], [1]), Step("a", 6, [], [5, 
 LINES = ["5 2 0 1 2 0", "5 d 1 0", "6 0 3 4 5 0"]
 
 
-def parts_of(form):
+def parts_of(form: str) -> Tuple[List[bytes], bytes]:
     """What is written of the three steps, each with what comes before it; and what follows."""
     _, make = FORMS[form]
     parts = make(read_formula(example("four-clause.cnf")), STEPS)
@@ -452,14 +456,14 @@ def parts_of(form):
     return [b"".join(parts[:before + 1]), *parts[before + 1:before + 3]], b"".join(parts[before + 3:])
 
 
-def is_whole(form, proof, length):
+def is_whole(form: str, proof: bytes, length: int) -> bool:
     """Whether a step of text ends there, maybe without its LF; and FRAT's hints may be left out."""
     line = proof[:length].rsplit(b"\n", 1)[-1]
     without_hints = form.startswith("FRAT") and line.startswith(b"a ") and line.split()[-1] == b"0"
     return not line or proof[length:length + 1] == b"\n" or without_hints
 
 
-def cut(form, work):
+def cut(form: str, work: Path) -> None:
     """At each byte. What is whole comes out, and where more follows that is told."""
     word, _ = FORMS[form]
     parts, rest = parts_of(form)
@@ -475,7 +479,7 @@ def cut(form, work):
         want((status, said.count("\n")), (0, 0) if at_end else (1, 1), f"cut at {length}: the status, and lines on standard error")
 
 
-def read_line(file):
+def read_line(file: IO[bytes]) -> str:
     """One that comes soon."""
     ready, _, _ = select.select([file], [], [], 20)
     if not ready:
@@ -483,63 +487,56 @@ def read_line(file):
     return file.readline().decode()
 
 
-def live(form, options, work):
+def live(form: str, options: List[str], work: Path) -> None:
     """A line comes out while the pipe is open."""
     parts, rest = parts_of(form)
     command = [FILTER, *options, written(FOUR, work)]
-    with subprocess.Popen(command, stdin=subprocess.PIPE, stdout=subprocess.PIPE, bufsize=0) as running:
-        try:
-            for part, line in zip(parts, LINES):
-                for half in (part[:len(part) // 2], part[len(part) // 2:]):
-                    running.stdin.write(half)
-                want(sorted_hints(read_line(running.stdout)), sorted_hints(line), "a live line")
-            running.stdin.write(rest)
-            running.stdin.close()
-            want((running.stdout.read(), running.wait(20)), (b"", 0), "the end")
-        finally:
-            running.kill()
+    with started(command, stdin=subprocess.PIPE, stdout=subprocess.PIPE, bufsize=0) as running:
+        assert running.stdin and running.stdout
+        for part, line in zip(parts, LINES):
+            for half in (part[:len(part) // 2], part[len(part) // 2:]):
+                running.stdin.write(half)
+            want(sorted_hints(read_line(running.stdout)), sorted_hints(line), "a live line")
+        running.stdin.write(rest)
+        running.stdin.close()
+        want((running.stdout.read(), running.wait(20)), (b"", 0), "the end")
 
 
-def fails(out, proof, work):
+def fails(proof: str, out: Any, work: Path) -> None:
     """A stream that can't be written: one line, and status 1."""
-    command = [FILTER, written(FOUR, work)]
-    with open(out, "wb") as file:
-        done = subprocess.run(command, input=proof.encode(), stdout=file, stderr=subprocess.PIPE, timeout=60)
-    want((done.returncode, done.stderr.count(b"\n"), done.stderr[:7]), (1, 1, b"exact: "), "the status and the lines")
+    done = run([FILTER, written(FOUR, work)], proof, limit=60, stdout=out)
+    want((done.status, done.err.count("\n"), done.err[:7]), (1, 1, "exact: "), "the status and the lines")
 
 
-def full(proof, work):
+def full(proof: str, work: Path) -> None:
     if not os.path.exists("/dev/full"):
         raise Skipped("there is no /dev/full")
-    fails("/dev/full", proof, work)
+    with open("/dev/full", "wb") as file:
+        fails(proof, file, work)
 
 
-def left(work):
+def left(work: Path) -> None:
     """A reader that goes away."""
-    pipe = os.path.join(work, "pipe")
-    os.mkfifo(pipe)
-    reader = os.open(pipe, os.O_RDONLY | os.O_NONBLOCK)
-    writer = os.open(pipe, os.O_WRONLY)
+    reader, writer = os.pipe()
     os.close(reader)
-    done = subprocess.run([FILTER, written(FOUR, work)], input=b"2 0\n" * 100000, stdout=writer, stderr=subprocess.PIPE, timeout=60)
+    fails("2 0\n" * 100000, writer, work)
     os.close(writer)
-    want((done.returncode, done.stderr.count(b"\n"), done.stderr[:7]), (1, 1, b"exact: "), "the status and the lines")
 
 
-def unreadable(words, work):
+def unreadable(words: List[str], work: Path) -> None:
     """One line, and status 1."""
     formula = written(FOUR, work)
     text, said, status = exact([word.format(formula=formula, work=work) for word in words])
     want((text, status, said.count("\n"), said[:7]), ("", 1, 1, "exact: "), f"what is said of {words}")
 
 
-def usage(words, work):
+def usage(words: List[str], work: Path) -> None:
     formula = written(FOUR, work)
     text, said, status = exact([word.format(formula=formula) for word in words])
     want((text, status, "usage: " in said), ("", 2, True), f"what is said of {words}")
 
 
-def limits(program):
+def limits(program: str) -> List[Row]:
     return [
         ("65,535 literals", longest, program, 65535),
         ("65,536 literals", longest, program, 65536),
@@ -554,8 +551,8 @@ def limits(program):
     ]
 
 
-def pipes_and_files():
-    runs = []
+def pipes_and_files() -> List[Row]:
+    runs: List[Row] = []
     for form, (word, _) in FORMS.items():
         runs.append((f"{form}, cut", cut, form))
         runs.append((f"{form}, a pipe", live, form, ["--format", word]))
@@ -563,12 +560,11 @@ def pipes_and_files():
             runs.append((f"{form}, a pipe, the form found out", live, form, []))
     runs += [("a full output", full, "2 0\n0\n"), ("a full output, soon", full, "2 0\n" * 100000),
              ("a reader that goes away", left)]
-    for words in (["{work}/none"], ["{work}"], ["{formula}", "{work}/none"], ["{formula}", "{work}"],
-                  ["--other", "2={work}/none", "{formula}"]):
-        runs.append((" ".join(words), unreadable, words))
-    for words in ([], ["--help-me", "{formula}"], ["--format", "dimacs", "{formula}"], ["{formula}", "-", "-"], ["--stream"],
-                  ["--stream", "x", "{formula}"], ["{formula}", "--format"]):
-        runs.append((" ".join(["exact", *words]), usage, words))
+    for words in ("{work}/none", "{work}", "{formula} {work}/none", "{formula} {work}", "--other 2={work}/none {formula}"):
+        runs.append((words, unreadable, words.split()))
+    for words in ("", "--help-me {formula}", "--format dimacs {formula}", "{formula} - -", "--stream", "--stream x {formula}",
+                  "{formula} --format"):
+        runs.append((f"exact {words}", usage, words.split()))
     return runs
 
 
@@ -605,78 +601,74 @@ COMMANDS = [("CaDiCaL", CADICAL), ("two of CaDiCaL", CADICAL_TWICE), ("CryptoMin
             ("two of CryptoMiniSat", CRYPTOMINISAT_TWICE), ("CaDiCaL and CryptoMiniSat", BOTH)]
 
 
-def wanted_on_path(commands):
+def wanted_on_path(commands: str) -> None:
     for solver in ("cadical", "cryptominisat5"):
         if solver in commands and not shutil.which(solver):
             raise Skipped(f"there is no {solver} on the PATH")
 
 
-def make_formula(words, work):
+def make_formula(words: str, work: Path) -> Path:
     if words.endswith(".cnf"):
-        return shutil.copy(example(words), os.path.join(work, "formula.cnf"))
+        return Path(shutil.copy(example(words), work / "formula.cnf"))
     return generated(words, work)
 
 
-def in_bash(program, commands, work):
+def in_bash(program: str, commands: str, work: Path) -> Ran:
     """What the commands print, in a folder that has the repository's tools."""
-    os.symlink(HERE, os.path.join(work, "tools"))
-    os.symlink(program, os.path.join(work, "lrupd"))
+    os.symlink(ROOT / "tools", work / "tools")
+    os.symlink(program, work / "lrupd")
     for pipe in ("proof", "proof1", "proof2"):
-        os.mkfifo(os.path.join(work, pipe))
-    path = os.pathsep.join([work, os.environ["PATH"]])
+        piped(work / pipe)
+    path = os.pathsep.join([str(work), os.environ["PATH"]])
     with subprocess.Popen(["bash", "-c", commands], cwd=work, env={**os.environ, "PATH": path}, stdout=subprocess.PIPE,
                           stderr=subprocess.PIPE, text=True, start_new_session=True) as running:
         try:
-            return (*running.communicate(timeout=120), running.returncode)
+            out, err = running.communicate(timeout=120)
+            return Ran(out, err, running.returncode)
         finally:
             if running.returncode is None:
                 os.killpg(running.pid, signal.SIGKILL)
 
 
-def beside(program, commands, words, work):
+def beside(program: str, commands: str, words: str, work: Path) -> None:
     """Each stream ends, and the formula is refuted."""
     wanted_on_path(commands)
     make_formula(words, work)
-    report, said, status = in_bash(program, commands, work)
-    *lines, verdict = report.splitlines() or [""]
+    out, said, status = in_bash(program, commands, work)
+    *lines, verdict = out.splitlines() or [""]
     want((verdict, said, status), ("s UNSATISFIABLE", "", 0), "the verdict")
     want([line.endswith(", ended") for line in lines], [True] * commands.count("tools/exact"), "streams that ended")
 
 
-def in_using(commands, work):
+def in_using(commands: str, work: Path) -> None:
     """These are the commands that USING has."""
-    with open(USING) as file:
-        if "".join("    " + line for line in commands.splitlines(True)) not in file.read():
-            raise Failure(f"docs/USING.md doesn't have\n{commands}")
+    if "".join("    " + line for line in commands.splitlines(True)) not in USING.read_text():
+        raise Failure(f"docs/USING.md doesn't have\n{commands}")
 
 
-def while_it_runs(commands, words, work):
+def while_it_runs(commands: str, words: str, work: Path) -> None:
     """The filter's first line comes while the solver runs: it writes more than the pipes hold, and nobody reads on."""
     wanted_on_path(commands)
-    formula, proof = make_formula(words, work), os.path.join(work, "proof")
-    os.mkfifo(proof)
+    formula, proof = make_formula(words, work), piped(work / "proof")
     solver = commands.splitlines()[0].split(" > ")[0].split()
     form = ["--format", "binary-drat"] * (solver[0] == "cadical")
-    with subprocess.Popen(solver, cwd=work, stdout=subprocess.DEVNULL) as running, \
-            subprocess.Popen([FILTER, *form, formula, proof], stdout=subprocess.PIPE, bufsize=0) as filtering:
-        try:
-            line = read_line(filtering.stdout)
-            want((line[-3:], running.poll()), (" 0\n", None), "a line, while the solver runs")
-        finally:
-            filtering.kill()
-            running.kill()
+    with started(solver, cwd=work, stdout=subprocess.DEVNULL) as running, \
+            started([FILTER, *form, formula, proof], stdout=subprocess.PIPE, bufsize=0) as filtering:
+        assert filtering.stdout
+        line = read_line(filtering.stdout)
+        want((line[-3:], running.poll()), (" 0\n", None), "a line, while the solver runs")
 
 
-def solvers(program):
+def solvers(program: str) -> List[Row]:
     formulas = ("random 150 1", "pigeons 7", "order 15", "bmc.cnf")
-    runs = [(f"{name}, {words}", beside, program, commands, words) for name, commands in COMMANDS for words in formulas]
+    runs: List[Row] = [(f"{name}, {words}", beside, program, commands, words) for name, commands in COMMANDS for words in formulas]
     runs += [(f"USING, {name}", in_using, commands) for name, commands in COMMANDS]
     return runs + [("CaDiCaL writes while it runs", while_it_runs, CADICAL, "random 200 3"),
                    ("CryptoMiniSat writes while it runs", while_it_runs, CRYPTOMINISAT, "random 200 3")]
 
 
-def recorded(program):
-    runs = []
+def recorded(program: str) -> List[Row]:
+    runs: List[Row] = []
     for seed, (formula, *names) in enumerate((
             ("four-clause.cnf", "four-clause.lrup"),
             ("pigeonhole.cnf", "pigeonhole.lrup"),
@@ -686,10 +678,10 @@ def recorded(program):
             ("two-groups.cnf", "two-groups.1", "two-groups.2", "two-groups.3", "two-groups.4"))):
         for imports in (False, True) if len(names) > 1 else (False,):
             runs.append((names[0] + ", imports" * imports, mangled, program, formula, names, seed, imports))
-    proofs = os.path.join(HERE, "proofs")
-    for formula, name in ((example("pigeonhole.cnf"), "pigeonhole.drat"), (os.path.join(proofs, "random.cnf"), "random.drat")):
+    proofs = TESTS / "proofs"
+    for path, name in ((example("pigeonhole.cnf"), "pigeonhole.drat"), (proofs / "random.cnf", "random.drat")):
         for stream, count in ((1, 1), (2, 3)):
-            runs.append((name, without_hints, program, formula, os.path.join(proofs, name), stream, count))
+            runs.append((name, without_hints, program, path, proofs / name, stream, count))
     for formula, name in (("four-clause.cnf", "four-clause.lrup"), ("pigeonhole.cnf", "pigeonhole.lrup"), ("bmc.cnf", "bmc.lrup")):
         for form in FORMS:
             for told in (True, False):
@@ -698,10 +690,8 @@ def recorded(program):
     return runs
 
 
-def main():
-    if len(sys.argv) != 2:
-        sys.exit(__doc__)
-    program = os.path.abspath(sys.argv[1])
+def main() -> int:
+    program, = words_given(__doc__)
     refused = [(name, stops, *rest) for name, *rest in refusals() + refusals_of_frat() + refusals_in_binary()]
     return run_all(recorded(program) + refused + what_comes_out(program) + limits(program) + pipes_and_files() + solvers(program))
 

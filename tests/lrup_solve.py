@@ -1,7 +1,7 @@
 #!/usr/bin/env python3
 """Runs lrup-solve with the program, and breaks what may break.
 
-    solve_test.py PROGRAM [FLAGS]
+    lrup_solve.py PROGRAM [FLAGS]
 
 Known formulas with each status, 300 random ones with early inprocessing, one to eight engines; what is refused; each child
 killed in turn, signals, a full disk, outputs that are closed. What holds sharing together is left out, one thing at a time, in
@@ -24,53 +24,59 @@ import subprocess
 import sys
 import termios
 import time
+from pathlib import Path
+from typing import Any, Dict, List, Mapping, Optional, Sequence, Tuple
 
 sys.dont_write_bytecode = True
-from forms import read_formula
-from harness import HERE, ROOT, Failure, Skipped, dimacs, example, generated, random_clauses, run_all, want, written
+from harness import (EXAMPLES, FOUR, LIMIT, ROOT, VERDICTS, Failure, Ran, Row, Skipped, closing, dimacs, example, generated, piped,
+                     random_clauses, run, run_all, started, until, want, words_given, written)
+from proof_forms import read_formula
 
+PROGRAM, *_ = words_given(__doc__, most=2)
 FLAGS = sys.argv[2] if len(sys.argv) > 2 else "-O2"
-OUT = os.path.join(HERE, "solve", "out", *[re.sub(r"\W+", "", FLAGS)] * (len(sys.argv) > 2))
-SOLVE, TESTED = os.path.join(OUT, "lrup-solve"), os.path.join(OUT, "lrup-solve-tested")
-SECONDS = 120
+PLACE = ROOT / "tools" / "solve" / "out"
+OUT = PLACE / re.sub(r"\W+", "", FLAGS) if len(sys.argv) > 2 else PLACE
+SOLVE, TESTED = OUT / "lrup-solve", OUT / "lrup-solve-tested"
 EARLY = "elimint=10 probeint=10 subsumeint=10 compactint=10 reduceint=20 rephaseint=20"
 ELIMINATING = "elimint=1 compact=0"
-FOUR = "p cnf 2 4\n1 2 0\n-1 2 0\n1 -2 0\n-1 -2 0\n"
-MITERS = os.path.join(ROOT, "examples", "miter")
-ANSWERS = {0: "s UNKNOWN", 10: "s SATISFIABLE", 20: "s UNSATISFIABLE"}
+MITERS = EXAMPLES / "miter"
+ANSWERS = {0: VERDICTS[3], 10: "s SATISFIABLE", 20: VERDICTS[0]}
 
 
 class Answer:
     """What a run wrote, and its status."""
 
-    def __init__(self, out, said, status):
-        self.out, self.said, self.status = out, said, status
-        lines = out.splitlines()
+    def __init__(self, done: Ran) -> None:
+        self.out, self.said, self.status = done
+        lines = self.out.splitlines()
         self.answers = [line for line in lines if line.startswith("s ")]
         self.comments = [line[2:] for line in lines if line.startswith("c ")]
         self.values = [int(word) for line in lines if line.startswith("v ") for word in line.split()[1:]]
 
-    def lost(self):
+    def lost(self) -> List[str]:
         return [line for line in self.comments if " is lost: " in line]
 
 
-def solve(words, given=None, tested=None):
+def solve(words: Sequence[object], tested: Optional[Mapping[str, object]] = None, **how: Any) -> Answer:
     """With `tested`, a build for tests, and words in its environment."""
     environment = {**os.environ, **{f"LRUP_SOLVE_{name}": str(word) for name, word in (tested or {}).items()}}
-    done = subprocess.run([TESTED if tested is not None else SOLVE, "--lrupd", PROGRAM, *words], input=given, env=environment,
-                          stdin=subprocess.DEVNULL if given is None else None, capture_output=True, text=True, timeout=SECONDS)
-    return Answer(done.stdout, done.stderr, done.returncode)
+    return Answer(run([TESTED if tested is not None else SOLVE, "--lrupd", PROGRAM, *words], env=environment, **how))
 
 
-def want_answer(answer, status, formula=None, verdict=None):
+def in_shell(command: str, *words: object, **how: Any) -> Ran:
+    return run(["sh", "-c", command, *words], **how)
+
+
+def want_answer(answer: Answer, status: Optional[int], formula: Optional[Path] = None, verdict: Optional[str] = None) -> None:
     """The status and its line; of a satisfiable formula's, an assignment that makes each clause true."""
+    assert status is not None
     wanted = ([verdict or ANSWERS[status]], status, "")
     want((answer.answers, answer.status, answer.said), wanted, f"the answer of\n{answer.out[-2000:]}")
-    if status != 10:
+    if status != 10 or formula is None:
         return want(answer.values, [], "the assignment")
-    with open(formula) as file:
-        variables = int(re.search(r"^p cnf +(\d+)", file.read(), re.M)[1])
-    want([abs(value) for value in answer.values], [*range(1, variables + 1), 0], "the variables of the assignment")
+    header = re.search(r"^p cnf +(\d+)", formula.read_text(), re.M)
+    assert header
+    want([abs(value) for value in answer.values], [*range(1, int(header[1]) + 1), 0], "the variables of the assignment")
     true = set(answer.values)
     for clause in read_formula(formula):
         if not true & set(clause):
@@ -80,170 +86,160 @@ def want_answer(answer, status, formula=None, verdict=None):
 # Answers.
 
 
-def answers(text, status, words, work):
+def answers(text: str, status: int, words: List[str], work: Path) -> None:
     formula = written(text, work)
     want_answer(solve([*words, formula]), status, formula)
 
 
-def answers_of(words_or_name, status, options, work):
+def answers_of(words_or_name: str, status: int, options: List[str], work: Path) -> None:
     formula = example(words_or_name) if words_or_name.endswith(".cnf") else generated(words_or_name, work)
     want_answer(solve([*options, formula]), status, formula)
 
 
-def without_a_clause(work):
+def without_a_clause(work: Path) -> None:
     """A formula that is refuted, and its clauses but one, which aren't."""
     clauses = read_formula(example("pigeonhole.cnf"))
     formula = written(dimacs(30, clauses[1:]), work)
     want_answer(solve([formula]), 10, formula)
 
 
-def random_formula(seed):
+def random_formula(seed: int) -> str:
     numbers = random.Random(seed)
     variables = numbers.randrange(20, 130)
-    lengths = numbers.choice(((3,), (3,), (2, 3, 3, 3, 4, 5), (1, 2, 3, 4, 5, 6)))
+    lengths: Tuple[int, ...] = numbers.choice(((3,), (3,), (2, 3, 3, 3, 4, 5), (1, 2, 3, 4, 5, 6)))
     ratio = numbers.uniform(3.9, 5) if lengths == (3,) else numbers.uniform(2, 6)
     return dimacs(variables, random_clauses(numbers, variables, round(ratio * variables), lengths))
 
 
-def randomly(seed, work):
+def randomly(seed: int, work: Path) -> None:
     """Any answer but 'unknown': an assignment is evaluated here, and of the others the kept proof is checked once more."""
     numbers = random.Random(f"{seed} engines")
     formula = written(random_formula(seed), work)
-    words = ["-v", "--memory", "64M", "--seed", str(seed), "-j", str(numbers.randint(2, 4)), formula]
-    kept = os.path.join(work, "proofs")
+    words = ["-v", "--memory", "64M", "--seed", seed, "-j", numbers.randint(2, 4), formula]
+    kept = work / "proofs"
     keeps = seed % 10 == 0
     early = {"SET": EARLY, "SLICE": numbers.choice((20, 50, 200)), "FIRST_WORDS": numbers.choice((1000, 1 << 20))}
-    answer = solve(["--proofs", kept] * keeps + words, tested=early)
+    answer = solve([*["--proofs", kept] * keeps, *words], tested=early)
     want(answer.lost(), [], "engines that are lost")
     want_answer(answer, answer.status if answer.status in (10, 20) else 20, formula)
     if keeps and answer.status == 20:
         check_again(kept)
 
 
-def check_again(kept):
+def check_again(kept: Path) -> None:
     """The record is enough to have the streams checked once more, by its command, in any folder. The report is the same."""
-    done = subprocess.run(["sh", os.path.abspath(os.path.join(kept, "command"))], cwd="/", capture_output=True, text=True,
-                          timeout=SECONDS)
-    with open(os.path.join(kept, "report")) as file:
-        want((done.stdout, done.returncode), (file.read(), 0), "the streams, checked again")
+    done = run(["sh", kept / "command"], cwd="/")
+    want((done.out, done.status), ((kept / "report").read_text(), 0), "the streams, checked again")
 
 
-def keeps(words, work):
-    kept, formula = os.path.join(work, "what's kept"), shutil.copy(example("bmc.cnf"), os.path.join(work, "a formula"))
+def keeps(words: List[str], work: Path) -> None:
+    kept, formula = work / "what's kept", shutil.copy(example("bmc.cnf"), work / "a formula")
     want_answer(solve([*words, "--proofs", kept, formula]), 20)
     check_again(kept)
 
 
-def keeps_standard_input(work):
+def keeps_standard_input(work: Path) -> None:
     """The record has a copy of what came by a pipe."""
-    kept = os.path.join(work, "kept")
-    with open(example("bmc.cnf")) as file:
-        want_answer(solve(["--proofs", kept], given=file.read()), 20)
-    check_again(kept)
+    want_answer(solve(["--proofs", work / "kept"], given=example("bmc.cnf").read_text()), 20)
+    check_again(work / "kept")
 
 
-def keeps_by_short_names(work):
+def keeps_by_short_names(work: Path) -> None:
     """The command does in any folder, though the formula, the checker and the record were named from another one."""
     written("0\n", work, "cube")
-    os.symlink(PROGRAM, os.path.join(work, "lrupd"))
-    shutil.copy(example("bmc.cnf"), os.path.join(work, "formula.cnf"))
-    done = subprocess.run([SOLVE, "--lrupd", "./lrupd", "--proofs", "a record", "--assume", "cube", "formula.cnf"], cwd=work,
-                          capture_output=True, text=True, timeout=SECONDS, stdin=subprocess.DEVNULL)
-    want((done.stderr, done.returncode), ("", 20), "the run")
-    check_again(os.path.join(work, "a record"))
+    os.symlink(PROGRAM, work / "lrupd")
+    shutil.copy(example("bmc.cnf"), work / "formula.cnf")
+    done = run([SOLVE, "--lrupd", "./lrupd", "--proofs", "a record", "--assume", "cube", "formula.cnf"], cwd=work)
+    want((done.err, done.status), ("", 20), "the run")
+    check_again(work / "a record")
 
 
-def read(path):
-    with open(path) as file:
-        return file.read()
-
-
-def writes_over(words, work):
+def writes_over(words: List[str], work: Path) -> None:
     """In a record's folder nothing is written over that the run reads, whatever its name."""
-    text, kept = read(example("bmc.cnf")), os.path.join(work, "kept")
-    os.mkdir(kept)
-    path = written(text, kept, words[0])
-    cube = written("0\n", kept, "assumptions")
-    os.symlink(path, os.path.join(work, "link"))
-    os.link(path, os.path.join(work, "other"))
-    words = [word.format(path=path, work=work, cube=cube) for word in words[1:]]
+    text, kept = example("bmc.cnf").read_text(), work / "kept"
+    path, cube = written(text, kept, words[0]), written("0\n", kept, "assumptions")
+    os.symlink(path, work / "link")
+    os.link(path, work / "other")
     with open(path) as file:
-        done = subprocess.run([SOLVE, "--lrupd", PROGRAM, "--proofs", kept, *words], stdin=file, capture_output=True, text=True,
-                              timeout=SECONDS)
+        out, said, status = run([SOLVE, "--lrupd", PROGRAM, "--proofs", kept,
+                                 *(word.format(path=path, work=work, cube=cube) for word in words[1:])], stdin=file)
     over = " would be written over: another --proofs\n"
-    want((done.stdout, done.stderr.count("\n"), done.stderr.endswith(over), done.returncode), ("", 1, True, 1),
-         f"what is said: {done.stderr}")
-    want((read(path), read(cube), sorted(os.listdir(kept))), (text, "0\n", sorted({os.path.basename(path), "assumptions"})),
+    want((out, said.count("\n"), said.endswith(over), status), ("", 1, True, 1), f"what is said: {said}")
+    want((path.read_text(), cube.read_text(), sorted(os.listdir(kept))), (text, "0\n", sorted({path.name, "assumptions"})),
          "what stands there")
 
 
-def links_in_a_record(work):
+def links_in_a_record(work: Path) -> None:
     """Links that have a stream's name are removed, and what they lead to stays."""
-    kept, targets = os.path.join(work, "kept"), [os.path.join(work, name) for name in ("one", "two", "three")]
-    os.mkdir(kept)
+    kept, targets = work / "kept", [written("text", work, name) for name in ("one", "two", "three")]
+    kept.mkdir()
     for target, name in zip(targets, ("stream1", "report", ".report.new")):
-        written("text", work, os.path.basename(target))
-        os.symlink(target, os.path.join(kept, name))
-    os.link(targets[1], os.path.join(kept, "stream2"))
+        os.symlink(target, kept / name)
+    os.link(targets[1], kept / "stream2")
     want_answer(solve(["-j", "2", "--proofs", kept, example("bmc.cnf")]), 20)
-    want([read(target) for target in targets], ["text"] * 3, "what the links led to")
+    want([target.read_text() for target in targets], ["text"] * 3, "what the links led to")
     check_again(kept)
 
 
-def earlier_run(work):
+def earlier_run(work: Path) -> None:
     """Of a record there is nothing left once the next run is there; its formula may come from the record, by a pipe."""
-    kept = os.path.join(work, "kept")
-    os.mkdir(kept)
+    kept = work / "kept"
     streams = [f"stream{k}" for k in range(1, 65)]
     for name in ["report", "command", "assumptions", "another", *streams]:
         written("of an earlier run\n", kept, name)
-    shutil.copy(example("bmc.cnf"), os.path.join(kept, "formula.cnf"))
-    subprocess.run(["sh", "-c", 'cat "$2"/formula.cnf | "$0" --lrupd "$1" -j 2 --proofs "$2" -', SOLVE, PROGRAM, kept],
-                   timeout=SECONDS, stdout=subprocess.DEVNULL)
+    shutil.copy(example("bmc.cnf"), kept / "formula.cnf")
+    in_shell('cat "$2"/formula.cnf | "$0" --lrupd "$1" -j 2 --proofs "$2" -', SOLVE, PROGRAM, kept)
     want(sorted(os.listdir(kept)), ["another", "command", "formula.cnf", "report", "stream1", "stream2"], "what is there")
-    want(read(os.path.join(kept, "formula.cnf")), read(example("bmc.cnf")), "the formula")
+    want((kept / "formula.cnf").read_text(), example("bmc.cnf").read_text(), "the formula")
     check_again(kept)
     want_answer(solve(["-j", "1", "--memory", "300K", "--proofs", kept, generated("pigeons 9", work)]), 0)
     want(sorted(os.listdir(kept)), ["another", "stream1"], "what is there after 's UNKNOWN'")
 
 
-def own_files(name, work):
+def own_files(name: str, work: Path) -> None:
     """What has a name of the record's, and isn't of one, is left alone. Every run that has read its formula leaves a record."""
-    own = os.path.join(work, "own")
-    os.mkdir(own)
+    own = work / "own"
     path = written("mine\n", own, name)
     refused(["--proofs", own, example("bmc.cnf")], f"{path} is there, and isn't of an earlier run: another --proofs", work)
-    want(read(path), "mine\n", "what stands there")
+    want(path.read_text(), "mine\n", "what stands there")
     for text, status in ((FOUR, 20), ("x", 1), ("p cnf 1 0\n", 10), ("p cnf 1 1\n2 0\n", 1), (FOUR, 20)):
-        want(solve(["--proofs", os.path.join(work, "kept"), "-"], given=text).status, status, f"the status with {text}")
+        want(solve(["--proofs", work / "kept", "-"], given=text).status, status, f"the status with {text}")
 
 
-def unkept(work):
+def in_place_of_lrupd(body: str, work: Path) -> Path:
+    path = written(f"#!/bin/sh\n{body}\n", work, "lrupd")
+    path.chmod(path.stat().st_mode | stat.S_IXUSR)
+    return path
+
+
+def before_lrupd(what: str, work: Path) -> Path:
+    """A program that does this, but where lrupd only has to read the formula, and goes on as lrupd."""
+    return in_place_of_lrupd(f"case \"$*\" in *' /dev/null') ;; *) {what};; esac\nexec {shlex.quote(PROGRAM)} \"$@\"", work)
+
+
+def unkept(work: Path) -> None:
     """The report can't be kept: the answer is told all the same."""
-    kept = os.path.join(work, "kept")
-    path = written(f"#!/bin/sh\ncase \"$*\" in *' /dev/null') ;; *) mkdir {kept}/report;; esac\n"
-                   f"exec {shlex.quote(PROGRAM)} \"$@\"\n", work, "lrupd")
-    os.chmod(path, os.stat(path).st_mode | stat.S_IXUSR)
+    kept = work / "kept"
+    path = before_lrupd(f"mkdir {kept}/report", work)
     answer = solve(["--lrupd", path, "--proofs", kept, example("bmc.cnf")])
     want((answer.answers, answer.status, answer.said), (["s UNSATISFIABLE"], 1,
          f"lrup-solve: cannot write {kept}/report: Is a directory\n"), "the answer")
     want(sorted(set(os.listdir(kept)) - {"stream1", "stream2"}), ["report"], "what is there")
 
 
-def another_name(words, work):
+def another_name(words: List[str], work: Path) -> None:
     """Standard input, and other files of this process, by names that lrupd couldn't open."""
     formula = example("bmc.cnf")
-    os.symlink("/dev/stdin", os.path.join(work, "link"))
+    os.symlink("/dev/stdin", work / "link")
     for how in ('"$@" < "$formula"', 'cat "$formula" | "$@"', '"$@" 5< "$formula" < "$formula"'):
-        done = subprocess.run(["sh", "-c", how, "sh", SOLVE, "--lrupd", PROGRAM, *(word.format(work=work) for word in words)],
-                              env={**os.environ, "formula": formula}, capture_output=True, text=True, timeout=SECONDS,
-                              stdin=subprocess.DEVNULL)
+        done = in_shell(how, "sh", SOLVE, "--lrupd", PROGRAM, *(word.format(work=work) for word in words),
+                        env={**os.environ, "formula": str(formula)})
         if "/dev/fd/5" not in words or "5<" in how:
-            want_answer(Answer(done.stdout, done.stderr, done.returncode), 20)
+            want_answer(Answer(done), 20)
 
 
-def name_with_an_end_of_line(work):
-    kept, formula = os.path.join(work, "a\nrecord"), written("p cnf 1 2\n1 0\n-1 0\n", work, "a\nformula")
+def name_with_an_end_of_line(work: Path) -> None:
+    kept, formula = work / "a\nrecord", written("p cnf 1 2\n1 0\n-1 0\n", work, "a\nformula")
     answer = solve(["-v", "-j", "1", "--proofs", kept, formula])
     want_answer(answer, 20)
     want([line for line in answer.out.splitlines() if line[:2] not in ("c ", "s ")], [], "lines that are neither")
@@ -251,73 +247,66 @@ def name_with_an_end_of_line(work):
     check_again(kept)
 
 
-def relative_link(work):
+def relative_link(work: Path) -> None:
     """What `make solve` leaves can be moved with the repository."""
-    link = os.path.join(OUT, "lrupd")
-    want(os.readlink(link), os.path.relpath(os.path.join(ROOT, "crates", "lrupd", "out", "lrupd"), OUT), "the link to lrupd")
+    want(os.readlink(OUT / "lrupd"), os.path.relpath(ROOT / "crates" / "lrupd" / "out" / "lrupd", OUT), "the link to lrupd")
 
 
-def standard_input(words, work):
+def standard_input(words: List[str], work: Path) -> None:
+    want_answer(solve(words, given=example("bmc.cnf").read_text()), 20)
     with open(example("bmc.cnf")) as file:
-        want_answer(solve(words, given=file.read()), 20)
-    with open(example("bmc.cnf")) as file:
-        done = subprocess.run([SOLVE, "--lrupd", PROGRAM, *words], stdin=file, capture_output=True, text=True, timeout=SECONDS)
-    want_answer(Answer(done.stdout, done.stderr, done.returncode), 20)
+        want_answer(solve(words, stdin=file), 20)
 
 
-def from_fifo(work):
-    fifo = os.path.join(work, "fifo")
-    os.mkfifo(fifo)
-    with subprocess.Popen(["cp", example("bmc.cnf"), fifo]):
+def from_fifo(work: Path) -> None:
+    fifo = piped(work / "fifo")
+    with subprocess.Popen(["cp", str(example("bmc.cnf")), str(fifo)]):
         want_answer(solve([fifo]), 20)
 
 
-def beside(work):
+def beside(work: Path) -> None:
     """lrupd is found beside the program, then on the PATH."""
     for folder in ("one", "two"):
-        os.mkdir(os.path.join(work, folder))
-    program = shutil.copy(SOLVE, os.path.join(work, "one"))
-    where = {**os.environ, "PATH": os.path.join(work, "two")}
-    run = lambda: subprocess.run([program, example("four-clause.cnf")], env=where, capture_output=True, text=True, timeout=SECONDS)
-    done = run()
-    want((done.stdout, done.stderr.count("\n"), "no lrupd" in done.stderr, done.returncode), ("", 1, True, 1), "without lrupd")
+        (work / folder).mkdir()
+    words: List[object] = [shutil.copy(SOLVE, work / "one"), example("four-clause.cnf")]
+    where = {**os.environ, "PATH": str(work / "two")}
+    out, said, status = run(words, env=where)
+    want((out, said.count("\n"), "no lrupd" in said, status), ("", 1, True, 1), "without lrupd")
     for folder in ("two", "one"):
-        os.symlink(PROGRAM, os.path.join(work, folder, "lrupd"))
-        done = run()
-        want((done.stdout.splitlines()[-1], done.returncode), ("s UNSATISFIABLE", 20), f"with lrupd in {folder}")
-        os.remove(os.path.join(work, folder, "lrupd"))
+        os.symlink(PROGRAM, work / folder / "lrupd")
+        done = run(words, env=where)
+        want((done.out.splitlines()[-1:], done.status), (["s UNSATISFIABLE"], 20), f"with lrupd in {folder}")
+        (work / folder / "lrupd").unlink()
 
 
-def assuming(formula, cube, status, verdict, work):
-    formula, cube = written(formula, work), written(cube, work, "cube")
+def assuming(text: str, literals: str, status: int, verdict: Optional[str], work: Path) -> None:
+    formula, cube = written(text, work), written(literals, work, "cube")
     for engines in ("1", "3"):
         answer = solve(["-j", engines, "--assume", cube, formula])
         want_answer(answer, status, formula, verdict)
-        with open(cube) as file:
-            if status == 10 and not set(map(int, file.read().split())) <= set(answer.values):
-                raise Failure("the assignment isn't one under the assumptions")
+        if status == 10 and not set(map(int, literals.split())) <= set(answer.values):
+            raise Failure("the assignment isn't one under the assumptions")
 
 
-def contradicting(work):
+def contradicting(work: Path) -> None:
     formula, cube = written("p cnf 3 2\n1 2 0\n-1 2 0\n", work), written("3 1 -1 0\n", work, "cube")
     answer = solve(["-j", "2", "--assume", cube, formula])
     want_answer(answer, 0)
     want(answer.comments[:-1], ["assumptions 1 and -1 contradict each other, which no clause shows"], "what is said")
 
 
-def quiet(work):
+def quiet(work: Path) -> None:
     want(solve(["-q", example("bmc.cnf")]).out, "s UNSATISFIABLE\n", "what -q leaves")
 
 
 # Refusals.
 
 
-def refused(words, cause, work):
+def refused(words: Sequence[object], cause: str, work: Path) -> None:
     """One line on standard error, and status 1."""
     formula = written(FOUR, work)
-    with open(os.path.join(work, "compressed"), "wb") as file:
-        file.write(b"\x1f\x8b\x08\0")
-    answer = solve([word.format(work=work, formula=formula) for word in words])
+    written(b"\x1f\x8b\x08\0", work, "compressed")
+    answer = solve([str(word).format(work=work, formula=formula) for word in words])
     want((answer.out, answer.status, answer.said.count("\n"), answer.said.startswith("lrup-solve: ")), ("", 1, 1, True),
          f"what is said of {words}: {answer.said}")
     cause = cause.format(work=work)
@@ -325,22 +314,21 @@ def refused(words, cause, work):
         raise Failure(f"wanted a word on '{cause}', and not\n{answer.said}")
 
 
-def refused_by_lrupd(text, words, work):
+def refused_by_lrupd(text: str, words: List[str], work: Path) -> None:
     """In lrupd's words."""
     formula = written(text, work)
     words = [word.format(work=work) for word in words]
     written("-2 x 0\n", work, "bad")
     written("-7 0\n", work, "beyond")
-    done = subprocess.run([PROGRAM, *words, formula, "/dev/null"], capture_output=True, text=True, timeout=SECONDS)
-    want((done.stderr[:7], done.stderr.count("\n")), ("lrupd: ", 1), "lrupd's refusal")
+    said = run([PROGRAM, *words, formula, "/dev/null"]).err
+    want((said[:7], said.count("\n")), ("lrupd: ", 1), "lrupd's refusal")
     answer = solve([*words, formula])
-    want((answer.out, answer.said, answer.status), ("", done.stderr, 1), "what is said")
+    want((answer.out, answer.said, answer.status), ("", said, 1), "what is said")
 
 
-def impostor(body, cause, work):
+def impostor(body: str, cause: str, work: Path) -> None:
     """Another program in lrupd's place, which takes the formula and doesn't prove anything."""
-    path = written(f"#!/bin/sh\ncase \"$*\" in *' /dev/null') exit 3;; esac\n{body}\n", work, "lrupd")
-    os.chmod(path, os.stat(path).st_mode | stat.S_IXUSR)
+    path = in_place_of_lrupd(f"case \"$*\" in *' /dev/null') exit 3;; esac\n{body}", work)
     answer = solve(["--lrupd", path, example("bmc.cnf")])
     want_answer(answer, 0)
     if not any(re.search(cause, line) for line in answer.comments):
@@ -350,70 +338,60 @@ def impostor(body, cause, work):
 # What happens while it runs.
 
 
-def children_of(pid):
+def of_process(pid: int, name: str) -> str:
+    """What the system tells of it; nothing where it isn't there."""
+    try:
+        return Path(f"/proc/{pid}/{name}").read_text()
+    except OSError:
+        return ""
+
+
+def children_of(pid: int) -> Dict[str, int]:
     """Their names, with the ids. Of two lrupd the one counts that reads streams."""
     found = {}
-    try:
-        with open(f"/proc/{pid}/task/{pid}/children") as file:
-            pids = list(map(int, file.read().split()))
-    except OSError:
-        return found
-    for child in pids:
-        try:
-            with open(f"/proc/{child}/comm") as name, open(f"/proc/{child}/cmdline") as words:
-                title = name.read().strip()
-                if title != "lrupd" or "/dev/fd/" in words.read():
-                    found[title] = child
-        except OSError:
-            pass
+    for child in map(int, of_process(pid, f"task/{pid}/children").split()):
+        title = of_process(child, "comm").strip()
+        if title and (title != "lrupd" or "/dev/fd/" in of_process(child, "cmdline")):
+            found[title] = child
     return found
 
 
-def is_alive(pid):
-    try:
-        with open(f"/proc/{pid}/stat") as file:
-            return file.read().rsplit(")", 1)[1].split()[0] not in "ZX"
-    except OSError:
-        return False
-
-
-def until(what, condition, seconds=20):
-    end = time.monotonic() + seconds
-    while not condition():
-        if time.monotonic() > end:
-            raise Failure(f"not within {seconds} seconds: {what}")
-        time.sleep(0.01)
+def is_alive(pid: int) -> bool:
+    state = of_process(pid, "stat").rsplit(")", 1)[-1].split()
+    return bool(state) and state[0] not in "ZX"
 
 
 class Running:
     """One that is at work: both engines, their filters and lrupd are there."""
 
-    def __init__(self, formula, work, *words, ignored=()):
-        self.folder = os.path.join(work, "folder")
-        os.mkdir(self.folder)
-        self.process = subprocess.Popen([SOLVE, "--lrupd", PROGRAM, "-v", "-j", "2", *words, formula], cwd=self.folder,
+    def __init__(self, formula: Path, work: Path, ignored: Sequence[int] = ()) -> None:
+        def ignore() -> None:
+            for number in ignored:
+                signal.signal(number, signal.SIG_IGN)
+        self.folder = work / "folder"
+        self.folder.mkdir()
+        self.process = subprocess.Popen([str(SOLVE), "--lrupd", PROGRAM, "-v", "-j", "2", str(formula)], cwd=self.folder,
                                         stdout=subprocess.PIPE, stderr=subprocess.PIPE, text=True,
-                                        env={**os.environ, "TMPDIR": self.folder},
-                                        preexec_fn=lambda: [signal.signal(number, signal.SIG_IGN) for number in ignored])
-        self.children = {}
+                                        env={**os.environ, "TMPDIR": str(self.folder)}, preexec_fn=ignore)
+        self.children: Dict[str, int] = {}
         until("five children", self.has_all)
 
-    def has_all(self):
+    def has_all(self) -> bool:
         self.children = children_of(self.process.pid)
         return {"engine 1", "engine 2", "filter 1", "filter 2", "lrupd"} <= set(self.children)
 
-    def end(self):
+    def end(self) -> Answer:
         """What it said; no child of it is left, and no file."""
         try:
-            out, said = self.process.communicate(timeout=SECONDS)
+            out, said = self.process.communicate(timeout=LIMIT)
         finally:
             self.process.kill()
         until("its children end", lambda: not any(map(is_alive, self.children.values())))
         want(os.listdir(self.folder), [], "files that are left")
-        return Answer(out, said, self.process.returncode)
+        return Answer(Ran(out, said, self.process.returncode))
 
 
-def killed(names, number, status, cause, work):
+def killed(names: List[str], number: int, status: int, cause: str, work: Path) -> None:
     """Children are killed: the others go on, or the answer is 'unknown'."""
     formula = generated("random 220 5", work) if status else generated("pigeons 11", work)
     running = Running(formula, work)
@@ -425,7 +403,7 @@ def killed(names, number, status, cause, work):
         raise Failure(f"wanted a word on '{cause}', and not\n{answer.out}")
 
 
-def ended_by(number, work):
+def ended_by(number: int, work: Path) -> None:
     running = Running(generated("pigeons 11", work), work)
     begin = time.monotonic()
     running.process.send_signal(number)
@@ -435,7 +413,7 @@ def ended_by(number, work):
         raise Failure("it took more than five seconds")
 
 
-def ignored(number, work):
+def ignored(number: int, work: Path) -> None:
     """One that was ignored at the start stays so, as under nohup."""
     running = Running(generated("pigeons 11", work), work, ignored=[number, signal.SIGCHLD])
     running.process.send_signal(number)
@@ -447,28 +425,28 @@ def ignored(number, work):
     want("ended by a signal: Terminated" in answer.comments, True, f"a word on the other signal in\n{answer.out}")
 
 
-def left_alone(work):
+def left_alone(work: Path) -> None:
     """Where the first process is killed the others end, too."""
     running = Running(generated("pigeons 11", work), work)
     running.process.kill()
     running.end()
 
 
-def time_is_up(work):
+def time_is_up(work: Path) -> None:
     begin = time.monotonic()
     answer = solve(["--time", "0.7", generated("pigeons 11", work)])
     want_answer(answer, 0)
     want((answer.comments[0], time.monotonic() - begin < 10), ("time is up", True), "what is said")
 
 
-def row_is_full(work):
+def row_is_full(work: Path) -> None:
     answer = solve(["-j", "2", "--memory", "300K", generated("pigeons 9", work)])
     want_answer(answer, 0)
     want(sorted(set(answer.comments[:3])), [*(f"engine {k} is lost: its filter stopped: the row is full" for k in (1, 2)),
                                             "no engine is left"], "why no engine is left")
 
 
-def rows_grow(work):
+def rows_grow(work: Path) -> None:
     """A first row that is far too small."""
     answer = solve(["-v", "-j", "2", generated("random 200 3", work)], tested={"FIRST_WORDS": 2000})
     want_answer(answer, 20)
@@ -477,52 +455,46 @@ def rows_grow(work):
         raise Failure(f"wanted a second row, and not\n{answer.out}")
 
 
-def rows_that_fail(work):
+def rows_that_fail(work: Path) -> None:
     """There is no memory for a larger row: the run goes on with the one that it has."""
-    started = os.path.join(work, "started")
-    path = written(f"#!/bin/sh\ncase \"$*\" in *' /dev/null') ;; *) [ -e {started} ] && exit 6; touch {started};; esac\n"
-                   f"exec {shlex.quote(PROGRAM)} \"$@\"\n", work, "lrupd")
-    os.chmod(path, os.stat(path).st_mode | stat.S_IXUSR)
+    was_there = work / "started"
+    path = before_lrupd(f"[ -e {was_there} ] && exit 6; touch {was_there}", work)
     answer = solve(["-v", "-j", "2", "--lrupd", path, generated("random 200 3", work)], tested={"FIRST_WORDS": 400000})
     want(sum("no larger row" in line for line in answer.comments), 1, f"rows that fail in\n{answer.out}")
     want_answer(answer, answer.status)
 
 
-def full(words, out, most, cause, work):
+def full(words: List[str], out: str, most: int, cause: str, work: Path) -> None:
     """A disk that is full, for the answer; for the streams, files of so many bytes at most."""
     if not os.path.exists("/dev/full"):
         raise Skipped("there is no /dev/full")
     limit = lambda: resource.setrlimit(resource.RLIMIT_FSIZE, (most, most)) if most else None
     with open(out, "w") as file:
-        done = subprocess.run([SOLVE, "--lrupd", PROGRAM, *(word.format(work=work) for word in words), example("bmc.cnf")],
-                              stdout=file, stderr=subprocess.PIPE, stdin=subprocess.DEVNULL, text=True, timeout=SECONDS,
-                              preexec_fn=limit)
-    want((done.returncode, done.stderr.count("\n"), cause in done.stderr), (1, 1, True), f"what is said: {done.stderr}")
+        answer = solve([*(word.format(work=work) for word in words), example("bmc.cnf")], stdout=file, preexec_fn=limit)
+    want((answer.status, answer.said.count("\n"), cause in answer.said), (1, 1, True), f"what is said: {answer.said}")
 
 
-def closed(formula, redirection, work):
-    done = subprocess.run(["sh", "-c", f'exec "$0" --lrupd "$1" "$2" {redirection}', SOLVE, PROGRAM, example(formula)],
-                          stderr=subprocess.PIPE, stdin=subprocess.DEVNULL, text=True, timeout=SECONDS)
-    want((done.returncode, done.stderr.count("\n")), (1, 1), f"what is said: {done.stderr}")
+def closed(formula: str, work: Path) -> None:
+    done = in_shell('exec "$0" --lrupd "$1" "$2" >&-', SOLVE, PROGRAM, example(formula))
+    want((done.status, done.err.count("\n")), (1, 1), f"what is said: {done.err}")
 
 
-def reader_left(work):
+def reader_left(work: Path) -> None:
     reader, writer = os.pipe()
     os.close(reader)
-    done = subprocess.run([SOLVE, "--lrupd", PROGRAM, example("bmc.cnf")], stdout=writer, stderr=subprocess.PIPE, text=True,
-                          timeout=SECONDS)
+    answer = solve([example("bmc.cnf")], stdout=writer)
     os.close(writer)
-    want((done.returncode, done.stderr.count("\n")), (1, 1), f"what is said: {done.stderr}")
+    want((answer.status, answer.said.count("\n")), (1, 1), f"what is said: {answer.said}")
 
 
-def progress(words, wanted, columns, work):
-    """One line that is written over and over, and taken away, on a terminal alone, and within its columns."""
+def shown_on_terminal(words: List[str], columns: int, work: Path) -> Tuple[bytes, str]:
+    """And what comes on standard output."""
     leader, terminal = pty.openpty()
     fcntl.ioctl(terminal, termios.TIOCSWINSZ, struct.pack("HHHH", 24, columns, 0, 0))
-    with subprocess.Popen([SOLVE, "--lrupd", PROGRAM, "-j", "2", "--time", "1.5", *words, generated("pigeons 11", work)],
-                          stdout=subprocess.PIPE, stderr=terminal, text=True) as running:
+    with started([SOLVE, "--lrupd", PROGRAM, "-j", "2", "--time", "1.5", *words, generated("pigeons 11", work)],
+                 stdout=subprocess.PIPE, stderr=terminal, text=True) as running:
         os.close(terminal)
-        out = running.communicate(timeout=SECONDS)[0]
+        out = running.communicate(timeout=LIMIT)[0]
     fcntl.fcntl(leader, fcntl.F_SETFL, os.O_NONBLOCK)
     seen = b""
     try:
@@ -531,10 +503,16 @@ def progress(words, wanted, columns, work):
     except OSError:
         pass
     os.close(leader)
+    return seen, out
+
+
+def progress(words: List[str], wanted: bool, columns: int, work: Path) -> None:
+    """One line that is written over and over, and taken away, on a terminal alone, and within its columns."""
+    seen, out = shown_on_terminal(words, columns, work)
     want(out.splitlines()[-1], "s UNKNOWN", "the answer")
     shown = re.findall(rb"\r([^\r\n\x1b]* conflicts[^\r\n\x1b]*)\x1b\[K", seen)
     found = len(shown) > 2, b"\n" in seen, not shown or seen.endswith(b"\r\x1b[K")
-    want(found, (wanted, False, True), f"on the terminal: {seen[:300]}")
+    want(found, (wanted, False, True), f"on the terminal: {seen[:300]!r}")
     within = [line for line in shown if len(line) < (columns or 80) and (columns == 30 or line.endswith(b" %"))]
     want(within, shown, "lines within the columns")
     hidden, lines = seen.count(b"\r\x1b[K"), sum(line.startswith("c ") for line in out.splitlines())
@@ -544,31 +522,29 @@ def progress(words, wanted, columns, work):
 # Formulas that nobody here wrote, of yosys.
 
 
-def miter(name, change, status, work):
+def miter(name: str, change: Optional[Tuple[str, str]], status: int, work: Path) -> None:
     """Two circuits, and two of which one is wrong."""
     if not shutil.which("yosys"):
         raise Skipped("there is no yosys on the PATH")
-    with open(os.path.join(MITERS, f"{name}.v")) as file:
-        text = file.read()
+    text = (MITERS / f"{name}.v").read_text()
     if change:
         want(text.count(change[0]), 1, f"places of {change[0]}")
         text = text.replace(*change)
-    formula = os.path.join(work, "formula.cnf")
-    circuits = written(text, work, "circuits.v")
-    subprocess.run(["sh", os.path.join(MITERS, "miter.sh"), circuits, formula], check=True, timeout=SECONDS, capture_output=True)
+    formula = work / "formula.cnf"
+    made = run(["sh", MITERS / "miter.sh", written(text, work, "circuits.v"), formula])
+    want(made.status, 0, f"{made.out}{made.err}the status of miter.sh")
     want_answer(solve([formula]), status, formula)
 
 
 # The documents.
 
 
-def options_told(work):
+def options_told(work: Path) -> None:
     """--help and the manual page have the same options."""
     summary = solve(["--help"])
     want((summary.said, summary.status), ("", 0), "what --help says")
     listed = re.findall(r"^  (?:(-\w), )?(--?[a-z-]+)", summary.out, re.M)
-    with open(os.path.join(ROOT, "docs", "lrup-solve.1")) as file:
-        tagged = re.findall(r"^\.It (Fl .*)$", file.read(), re.M)
+    tagged = re.findall(r"^\.It (Fl .*)$", (ROOT / "docs" / "lrup-solve.1").read_text(), re.M)
     in_manual = {"-" + word for line in tagged for word in re.findall(r"Fl ([\w-]+)", line)}
     want(in_manual, {word for pair in listed for word in pair if word}, "options of the manual page")
 
@@ -576,7 +552,7 @@ def options_told(work):
 # What sharing rests on: left out, it is found out; and with it nothing of the kind happens.
 
 
-def rests_on(what, count, found, variables, early, work):
+def rests_on(what: str, count: int, found: str, variables: Tuple[int, int], early: str, work: Path) -> None:
     """So many formulas, with it and without; more where none of them broke, which is a matter of time. A stream waits a second, and
     not a minute, for a clause that doesn't come."""
     seen = {True: 0, False: 0}
@@ -585,7 +561,7 @@ def rests_on(what, count, found, variables, early, work):
         size = numbers.randrange(*variables)
         formula = written(dimacs(size, random_clauses(numbers, size, round(numbers.uniform(4, 4.9) * size))), work)
         for left_out in (True, False):
-            tested = {"SET": early, "SLICE": 30, "TRIES": 20000, **({"WITHOUT": what} if left_out else {})}
+            tested: Dict[str, object] = {"SET": early, "SLICE": 30, "TRIES": 20000, **({"WITHOUT": what} if left_out else {})}
             answer = solve(["-v", "--memory", "64M", "--time", "20", "-j", "3", formula], tested=tested)
             seen[left_out] += any(re.search(found, line) for line in answer.comments)
             if not left_out and "time is up" not in answer.comments:       # short slices hardly come to an end
@@ -595,13 +571,13 @@ def rests_on(what, count, found, variables, early, work):
     want((seen[True] > 0, seen[False]), (True, 0), f"runs that broke without it, and with it: {seen}")
 
 
-def published_late(work):
+def published_late(work: Path) -> None:
     """The filter of engine 1 dies with a clause in its buffer that it has given away: nobody may have heard of it."""
     broke = 0
     for seed in range(120):
         formula = generated(f"random 150 {seed}", work)
         for left_out in (True, False):
-            tested = {"SLICE": 30, "TRIES": 20000, "LAST_GIFT": 40 + 7 * seed, **({"WITHOUT": "flush"} if left_out else {})}
+            tested: Dict[str, object] = {"SLICE": 30, "TRIES": 20000, "LAST_GIFT": 40 + 7 * seed, **({"WITHOUT": "flush"} if left_out else {})}
             answer = solve(["-v", "--memory", "64M", "--time", "20", "-j", "3", formula], tested=tested)
             if left_out:
                 broke += any("missing" in line for line in answer.comments)
@@ -615,9 +591,9 @@ def published_late(work):
 # The tests.
 
 
-def known():
+def known() -> List[Row]:
     many = [["-j", str(engines)] for engines in (1, 2, 3, 5, 8)] + [["-j", "3", "--no-share"], ["-v"], ["--share-size", "0"], []]
-    runs = []
+    runs: List[Row] = []
     for words in many:
         title = " ".join(["", *words])
         runs += [("four clauses" + title, answers, FOUR, 20, words),
@@ -635,10 +611,10 @@ def known():
     return runs
 
 
-def words_and_files():
+def words_and_files() -> List[Row]:
     cube = "p cnf 3 3\n1 2 0\n-1 2 0\n3 -3 0\n"
     under = "s UNSATISFIABLE UNDER ASSUMPTIONS"
-    runs = [("standard input" + word, standard_input, [word] * bool(word)) for word in ("", "-")]
+    runs: List[Row] = [("standard input" + word, standard_input, [word] * bool(word)) for word in ("", "-")]
     runs += [("a FIFO", from_fifo), ("where lrupd is", beside), ("-q", quiet), ("keeps", keeps, []),
              ("keeps four", keeps, ["-j", "4"]), ("keeps standard input", keeps_standard_input),
              ("keeps by short names", keeps_by_short_names), ("an earlier run", earlier_run),
@@ -658,6 +634,11 @@ def words_and_files():
     runs += [(" ".join(["over", *words]), writes_over, words) for words in
              (["formula.cnf"], ["formula.cnf", "{path}"], ["stream1", "{path}"], ["stream64", "{path}"], ["report", "{work}/link"],
               ["command", "{work}/other"], ["stream2", "/dev/stdin"], ["x", "--assume", "{cube}", "{path}"])]
+    return runs
+
+
+def refusals() -> List[Row]:
+    runs: List[Row] = []
     for words, cause in ((["--nothing", "{formula}"], "--nothing"), (["{formula}", "{formula}"], "one word too many"),
                          (["-j"], "no value after -j"), (["-j", "0", "{formula}"], "-j takes 1 to 64, not 0"),
                          (["-j", "65", "{formula}"], "-j takes 1 to 64, not 65"), (["-j", "x", "{formula}"], "not x"),
@@ -681,16 +662,17 @@ def words_and_files():
                          (["--proofs", "{work}/new", "{work}/none"], "none: No such file or directory"),
                          (["{work}/compressed"], "compressed: compressed: zcat it")):
         runs.append((" ".join(["lrup-solve", *words]), refused, words, cause))
-    for text, words in (("", []), ("p cnf 2\n", []), ("p cnf 2 1\n1 x 0\n", []), ("p cnf 2 2\n1 0\n", []),
-                        ("p cnf 2 1\n1 0\n2 0\n", []), ("p cnf 2 1\n1 3 0\n", []), ("p cnf 2 1\n1 2\n", []), ("1 2 0\n", []), ("p cnf 99999999 1\n1 0\n", []),
-                        *((FOUR, ["--assume", path]) for path in ("{work}/bad", "{work}/beyond", "{work}"))):
-        runs.append((" ".join(["refused", repr(text[:20]), *words]), refused_by_lrupd, text, words))
+    for text in ("", "p cnf 2\n", "p cnf 2 1\n1 x 0\n", "p cnf 2 2\n1 0\n", "p cnf 2 1\n1 0\n2 0\n", "p cnf 2 1\n1 3 0\n",
+                 "p cnf 2 1\n1 2\n", "1 2 0\n", "p cnf 99999999 1\n1 0\n"):
+        runs.append((f"refused {text[:20]!r}", refused_by_lrupd, text, []))
+    for path in ("{work}/bad", "{work}/beyond", "{work}"):
+        runs.append((f"refused {FOUR[:20]!r} --assume {path}", refused_by_lrupd, FOUR, ["--assume", path]))
     return runs
 
 
-def what_happens():
+def what_happens() -> List[Row]:
     kill, term = signal.SIGKILL, signal.SIGTERM
-    runs = [("lrupd killed", killed, ["lrupd"], kill, 0, "lrupd ended by a signal"),
+    runs: List[Row] = [("lrupd killed", killed, ["lrupd"], kill, 0, "lrupd ended by a signal"),
             ("engine 1 killed", killed, ["engine 1"], kill, 20, "engine 1 is lost"),
             ("engine 2 killed", killed, ["engine 2"], term, 20, "engine 2 is lost"),
             ("filter 1 killed", killed, ["filter 1"], kill, 20, "engine 1 is lost"),
@@ -700,7 +682,7 @@ def what_happens():
             ("rows that fail", rows_that_fail),
             ("a full disk for streams", full, ["-j", "1", "--proofs", "{work}"], os.devnull, 4096, "stream1: File too large"),
             ("a full disk for the answer", full, [], "/dev/full", 0, "cannot write the answer"),
-            ("a closed output", closed, "bmc.cnf", ">&-"), ("a closed output, satisfiable", closed, "assumed.cnf", ">&-"),
+            ("a closed output", closed, "bmc.cnf"), ("a closed output, satisfiable", closed, "assumed.cnf"),
             ("a reader that left", reader_left), ("no progress", progress, ["-q"], False, 80)]
     runs += [(f"progress {words} {columns}", progress, words, True, columns) for words in ([], ["-v"]) for columns in (0, 30, 120)]
     runs += [(f"signal {number}, ignored", ignored, number) for number in (signal.SIGHUP, signal.SIGINT)]
@@ -713,7 +695,7 @@ def what_happens():
     return runs
 
 
-def others_formulas():
+def others_formulas() -> List[Row]:
     return [("miter of adders", miter, "adders", None, 20), ("of multipliers", miter, "multipliers", None, 20),
             ("of sorters", miter, "sorters", None, 20),
             ("of adders, one wrong", miter, "adders", ("(a[k] & b[k]) |", "(a[k] | b[k]) &"), 10),
@@ -722,7 +704,7 @@ def others_formulas():
             ("options told", options_told)]
 
 
-def sharing():
+def sharing() -> List[Row]:
     lost = r"is lost: .*no conflict by unit propagation"
     return [("witnesses", rests_on, "guard", 30, lost, (140, 200), ELIMINATING),
             ("imports first", rests_on, "order", 30, r"is lost: its filter stopped: ", (60, 140), EARLY),
@@ -730,32 +712,25 @@ def sharing():
             ("published late", published_late)]
 
 
-def build():
+def build() -> Optional[str]:
     """None, or why there is nothing to be tested."""
-    make = lambda path, flags: subprocess.run(["make", "-s", "-C", ROOT, "solve", f"SOLVE={os.path.relpath(path, ROOT)}",
-                                               f"SOLVE_FLAGS={flags}"], capture_output=True, text=True)
-    made = [make(SOLVE, FLAGS), make(TESTED, FLAGS + " -DSOLVE_TESTS")]
-    failed = [done for done in made if done.returncode]
-    if not failed:
-        return None
-    said = failed[0].stdout + failed[0].stderr
-    if "libcadical-dev" in said:
-        return said.splitlines()[0]
-    sys.exit(said)
+    for path, flags in ((SOLVE, FLAGS), (TESTED, FLAGS + " -DSOLVE_TESTS")):
+        out, err, status = run(["make", "-s", "-C", ROOT, "solve", f"SOLVE={path.relative_to(ROOT)}", f"SOLVE_FLAGS={flags}"],
+                               limit=600)
+        if status and "libcadical-dev" in out + err:
+            return (out + err).splitlines()[0]
+        if status:
+            sys.exit(out + err)
+    return None
 
 
-def main():
-    global PROGRAM
-    if len(sys.argv) not in (2, 3):
-        sys.exit(__doc__)
-    PROGRAM = os.path.abspath(sys.argv[1])
-    runs = known() + words_and_files() + what_happens() + others_formulas() + sharing()
+def main() -> int:
+    runs = known() + words_and_files() + refusals() + what_happens() + others_formulas() + sharing()
     runs += [(f"random {seed}", randomly, seed) for seed in range(300)]
     cause = build()
     if cause:
         print(f"lrup-solve: skipped, {cause}")
-        print(f"0 passed, 0 failed, {len(runs)} skipped")
-        return 0
+        return closing(0, 0, len(runs))
     return run_all(runs)
 
 

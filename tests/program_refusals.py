@@ -1,17 +1,16 @@
 #!/usr/bin/env python3
 """Refuses each allocation, read, write and thread of the program in turn, and compares each answer with those that may be.
 
-    sweep.py PROGRAM RT
+    program_refusals.py PROGRAM [RT]
 
 It builds refuse.c, which the loader puts before the C library, and runs PROGRAM with the first call of a kind refused, then
 with the second, and so on until a run meets no refusal; that run has to give the ample answer. Then it does so with a few
-tests: runs without the program around them, calls that can be made again, and calls that take no memory. They are as `rt ci`
-built them; where there are none, RT, Rattle's command, makes them. Where a thread isn't started, those that were have ended before
-that is said, and pipes that stay open are left alone, and hold nothing up; a program that waits for no thread has to be found
-wrong. Last, what a store took has to be given back.
+tests, unless RT is left out: runs without the program around them, calls that can be made again, and calls that take no memory.
+They are as `rt ci` built them; where there are none, RT, Rattle's command, makes them. Where a thread isn't started, those that
+were have ended before that is said, and pipes that stay open are left alone, and hold nothing up; a program that waits for no
+thread has to be found wrong. Last, what a store took has to be given back.
 """
 import fcntl
-import functools
 import itertools
 import os
 import re
@@ -22,21 +21,34 @@ import sys
 import tempfile
 import termios
 import time
-from collections import namedtuple
 from pathlib import Path
+from typing import Dict, Iterator, List, NamedTuple, Optional, Sequence, Set, Tuple
 
-Answer = namedtuple("Answer", "status out err")
-# A test, what it tells where an allocation is refused, and how many streams it starts threads for; and whether it tells each
-# refusal, since none of its allocations is made by a call that has no such answer; and the last allocation that is refused, where
-# those behind it are for threads of the test's own that wait for each other.
-Test = namedtuple("Test", "crate name told streams always last", defaults=[0, False, None])
-ROOT = Path(__file__).resolve().parent.parent
-EXAMPLES = ROOT / "examples"
+sys.dont_write_bytecode = True
+from harness import EXAMPLES, ROOT, TESTS, Ran, Words, compiled, piped, report, run, words_given, written
+
+
+class Test(NamedTuple):
+    """A test, what it tells where an allocation is refused, and how many streams it starts threads for; whether it tells each
+    refusal, since none of its allocations is made by a call that has no such answer; and the last allocation that is refused, where
+    those behind it are for threads of the test's own that wait for each other."""
+    crate: str
+    name: str
+    told: List[str]
+    streams: int = 0
+    always: bool = False
+    last: Optional[int] = None
+
+
+def stopped(status: int, cause: str) -> Ran:
+    return Ran("", f"lrupd: {cause}\n", status)
+
+
 FOUR_CLAUSE = EXAMPLES / "four-clause.cnf"
 FOUR_SOLVERS = [EXAMPLES / f"bmc-four.{number}" for number in range(1, 5)]
-OUT_OF_MEMORY = Answer(6, "", "lrupd: out of memory\n")
-NO_FORMULA = Answer(5, "", "lrupd: cannot read formula\n")
-NO_ASSUMPTIONS = Answer(5, "", "lrupd: cannot read assumptions\n")
+OUT_OF_MEMORY = stopped(6, "out of memory")
+NO_FORMULA = stopped(5, "cannot read formula")
+NO_ASSUMPTIONS = stopped(5, "cannot read assumptions")
 ERRORS_OF_READS = ["EIO", "EINTR"]
 ERRORS_OF_WRITES = ["EIO", "ENOSPC", "EPIPE"]
 SHORT = ["short", "half"]
@@ -47,7 +59,7 @@ FEW_CLAUSES, MANY_CLAUSES = "two clauses", f"{MANY} clauses"
 GROWTHS = 100  # how many allocations more the many clauses may take, whose lists double as they grow: some thirty
 MOST = 1_000  # calls of a kind are refused of a run; none makes as many
 SECONDS = 20  # within which a run ends whose thread isn't started, and not a minute later, when the others' tries are over
-LIMIT = 100  # seconds, after which a run hangs
+HANGS = 100  # seconds, after which a run hangs
 LATE = 50  # milliseconds that a thread takes to begin, where one isn't started
 HELD = 30  # the same of one that waits for a pipe
 
@@ -55,8 +67,9 @@ HELD = 30  # the same of one that waits for a pipe
 class Input:
     """Words, which end with the streams, and what else than the ample answer may be said where something is refused."""
 
-    def __init__(self, name, words, streams=0, dropped=(), waits=False, out=None):
-        self.name, self.words, self.streams, self.out = name, [str(word) for word in words], streams, out
+    def __init__(self, name: str, words: Words, streams: int = 0, dropped: Sequence[Ran] = (), waits: bool = False,
+                 out: Optional[str] = None) -> None:
+        self.name, self.words, self.streams, self.out = name, list(map(str, words)), streams, out
         self.dropped = dropped  # reports where the growth for a dropped identity is refused
         self.waits = waits  # for a minute, where a stream that others cite fails
         self.assumes = "--assume" in self.words
@@ -65,51 +78,51 @@ class Input:
 class Machine:
     """Runs the program, with a call refused."""
 
-    def __init__(self, program, folder):
-        self.program, self.shim, self.mark, self.stump = program, folder / "refuse.so", folder / "mark", folder / "stump"
-        subprocess.run([os.environ.get("CC", "cc"), "-std=gnu11", "-O2", "-shared", "-fPIC", "-o", self.shim,
-                        ROOT / "gate" / "refuse.c"], check=True)
+    def __init__(self, program: str, folder: Path) -> None:
+        self.program, self.mark, self.stump = program, folder / "mark", folder / "stump"
+        self.shim = compiled(folder / "refuse.so", [TESTS / "refuse.c"], "-std=gnu11", "-O2", "-shared", "-fPIC")
+        self.ends: Dict[Tuple[Input, int, int], Ran] = {}
 
-    def run(self, words, refuse="", out=None, limit=LIMIT):
+    def run(self, words: Sequence[str], refuse: str = "", out: Optional[str] = None, limit: float = HANGS) -> Tuple[Ran, bool, float]:
         """The answer, whether a call was refused, and the seconds that it took. What `--watch` tells is compared with the report, and
         isn't in the answer where it is right."""
-        self.mark.unlink(missing_ok=True)
+        if self.mark.exists():
+            self.mark.unlink()
         surroundings = {"LD_PRELOAD": str(self.shim), "REFUSE": refuse, "MARK": str(self.mark), "PATH": os.environ["PATH"],
                         "LATE": str(LATE if refuse.startswith("thread") else 0)}
         began = time.monotonic()
         with open(out or os.devnull, "wb") as full:
             try:
-                done = subprocess.run([self.program, *words], env=surroundings, stdin=subprocess.DEVNULL, timeout=limit,
-                                      stdout=full if out else subprocess.PIPE, stderr=subprocess.PIPE)
-                answer = Answer(done.returncode, (done.stdout or b"").decode(), done.stderr.decode())
+                answer = run([self.program, *words], limit=limit, env=surroundings, stdout=full if out else subprocess.PIPE)
             except subprocess.TimeoutExpired:
-                answer = Answer(None, "", f"no end in {limit} seconds")
+                answer = Ran("", f"no end in {limit} seconds", None)
         if "--watch" in words:
             answer = without_told_ends(answer, refuse)
         return answer, self.mark.exists(), time.monotonic() - began
 
-    def threads(self):
+    def threads(self) -> str:
         """What became of the threads that were started before the one that was refused, in words."""
         told = self.mark.read_text().split() if self.mark.exists() else []
         return "; of {} threads {} had begun, and {} ended".format(*told) if told else ""
 
-    def has_waited_for(self, count):
+    def has_waited_for(self, count: int) -> bool:
         """Were as many threads started before the one that was refused, and had they all begun, and ended, when that was said?"""
         return self.mark.read_text().split() == [str(count)] * 3
 
-    @functools.cache
-    def answer_without(self, given, number, line):
+    def answer_without(self, given: Input, number: int, line: int) -> Ran:
         """What has to be said where the reading of a stream fails in a line: what is said where it ends before that line."""
-        words, place = list(given.words), number - 1 - given.streams
-        before = Path(words[place]).read_bytes().splitlines(keepends=True)[:line - 1]
-        self.stump.write_bytes(b"".join(before))
-        words[place] = str(self.stump)
-        answer, _, _ = self.run(words)
-        ended = rf"(c stream {number}: .*), ended\n"
-        return answer._replace(out=re.sub(ended, rf"\1, read failed at line {line}\n", answer.out))
+        if (given, number, line) not in self.ends:
+            words, place = list(given.words), number - 1 - given.streams
+            before = Path(words[place]).read_bytes().splitlines(keepends=True)[:line - 1]
+            self.stump.write_bytes(b"".join(before))
+            words[place] = str(self.stump)
+            answer, _, _ = self.run(words)
+            ended = rf"(c stream {number}: .*), ended\n"
+            self.ends[given, number, line] = answer._replace(out=re.sub(ended, rf"\1, read failed at line {line}\n", answer.out))
+        return self.ends[given, number, line]
 
 
-def without_told_ends(answer, refuse):
+def without_told_ends(answer: Ran, refuse: str) -> Ran:
     """Without the lines that tell how each stream ended, where they say what the report does; else no answer. A report that is cut
     may say less, and so may what is told where a write fails."""
     lines = answer.err.splitlines(keepends=True)
@@ -117,64 +130,64 @@ def without_told_ends(answer, refuse):
     reported = {re.sub("^c", "lrupd:", line) for line in answer.out.splitlines(keepends=True) if line.startswith("c stream ")}
     if told == reported or answer.status == 7 and told > reported or refuse.startswith("write") and told < reported:
         return answer._replace(err="".join(line for line in lines if line not in told))
-    return Answer(None, answer.out, f"told {sorted(told)}")
+    return Ran(answer.out, f"told {sorted(told)}", None)
 
 
-def is_cut(answer, ample):
+def is_cut(answer: Ran, ample: Ran) -> bool:
     """The report couldn't be written: what went out is a beginning of it."""
     return answer.status == 7 and answer.err == "lrupd: cannot write report\n" and ample.out.startswith(answer.out)
 
 
-def is_unopened(answer, given):
+def is_unopened(answer: Ran, given: Input) -> bool:
     return answer == NO_FORMULA or answer == NO_ASSUMPTIONS and given.assumes or answer in [
-        Answer(5, "", f"lrupd: cannot open stream {number}\n") for number in range(1, given.streams + 1)]
+        stopped(5, f"cannot open stream {number}") for number in range(1, given.streams + 1)]
 
 
-def not_started(number):
-    return Answer(6, "", f"lrupd: worker {number} not started\n")
+def not_started(number: int) -> Ran:
+    return stopped(6, f"worker {number} not started")
 
 
-def is_unstarted(answer, given):
+def is_unstarted(answer: Ran, given: Input) -> bool:
     return answer in [not_started(number) for number in range(1, given.streams + 1)]
 
 
-def started(ample, given):
+def started(ample: Ran, given: Input) -> int:
     """How many threads a run starts: the checking thread of each stream in turn, and then the reading threads likewise."""
     return 2 * given.streams if "--serial" not in given.words and ample.status in [0, 3, 7, 8] else 0
 
 
-def is_refused_allocation(answer, ample, given):
+def is_refused_allocation(answer: Ran, ample: Ran, given: Input) -> bool:
     return (answer == OUT_OF_MEMORY or answer in given.dropped or is_unopened(answer, given)
             or is_unstarted(answer, given) or is_cut(answer, ample))
 
 
-def is_failed_read(answer, given, machine):
+def is_failed_read(answer: Ran, given: Input, machine: Machine) -> bool:
     """The formula or the assumptions weren't read; or one stream fails, and the others are as without the rest of it."""
     if answer == NO_FORMULA or answer == NO_ASSUMPTIONS and given.assumes:
         return True
     failed = re.findall(r"^c stream (\d+): .*, read failed at line (\d+)$", answer.out, re.M)
-    return len(failed) == 1 and answer == machine.answer_without(given, *map(int, failed[0]))
+    return len(failed) == 1 and answer == machine.answer_without(given, int(failed[0][0]), int(failed[0][1]))
 
 
-def is_failed_write(answer, ample):
+def is_failed_write(answer: Ran, ample: Ran) -> bool:
     """Standard output fails, or standard error, which changes no status."""
     return is_cut(answer, ample) or (
         answer.status == ample.status and answer.out == ample.out and ample.err.startswith(answer.err))
 
 
-def may_be_ample(kind, how, ample, given):
+def may_be_ample(kind: str, how: str, ample: Ran, given: Input) -> bool:
     """May the answer be as if nothing had been refused? A call that fails is told, but for a read of what follows a bad line, and
     where the report goes to a full device anyway."""
     fails = how in (ERRORS_OF_READS if kind == "read" else ERRORS_OF_WRITES if kind == "write" else [])
     return not fails or given.out is not None or kind == "read" and "bad line" in ample.out
 
 
-def are_due(kind, ample, given):
+def are_due(kind: str, ample: Ran, given: Input) -> bool:
     """Must there be such calls? Each run that gets to the formula reads, and each that says something writes."""
     return kind in ["allocate", "write"] or kind == "read" and given.streams > 0 and ample != NO_ASSUMPTIONS
 
 
-def is_right(kind, how, number, answer, ample, given, seconds, machine):
+def is_right(kind: str, how: str, number: int, answer: Ran, ample: Ran, given: Input, seconds: float, machine: Machine) -> bool:
     if kind == "thread":
         return (answer == not_started((number - 1) % given.streams + 1) and seconds < SECONDS
                 and machine.has_waited_for(number - 1))
@@ -187,7 +200,7 @@ def is_right(kind, how, number, answer, ample, given, seconds, machine):
     return is_failed_read(answer, given, machine) if kind == "read" else is_failed_write(answer, ample)
 
 
-def are_in_order(causes, ample, given):
+def are_in_order(causes: List[str], ample: Ran, given: Input) -> bool:
     """What the first reads are said to be of: the formula, then the assumptions, and then what isn't told on standard error."""
     wanted = [NO_FORMULA.err] + [NO_ASSUMPTIONS.err] * given.assumes + [ample.err]
     found = [cause for cause, _ in itertools.groupby(causes)]
@@ -195,10 +208,12 @@ def are_in_order(causes, ample, given):
     return found == wanted[:len(found)] and (not found or len(found) > reads_assumptions)
 
 
-def sweep(machine, given, kind, how):
+def sweep(machine: Machine, given: Input, kind: str, how: str) -> Tuple[int, List[str]]:
     """How many calls were refused, and the answers that may not be."""
     ample, _, _ = machine.run(given.words, out=given.out)
-    wrong, causes, answers = [], [], []
+    wrong: List[str] = []
+    causes: List[str] = []
+    answers: List[Ran] = []
     for number in itertools.count(1):
         refuse = f"{kind}:{number}" + (f":{how}" if how else "")
         answer, refused, seconds = machine.run(given.words, refuse, given.out)
@@ -223,70 +238,78 @@ def sweep(machine, given, kind, how):
     return number - 1, wrong
 
 
-def inputs(folder):
-    """What is swept."""
-    def file(name, text):
-        (folder / name).write_text(text)
-        return folder / name
+def clauses(count: int) -> str:
+    """A formula with as many clauses, short and long ones by turns."""
+    return f"p cnf 12 {count}\n" + count // 2 * "1 2 0\n1 2 3 4 5 6 7 8 9 10 11 12 0\n"
 
-    one = file("one", "5 2 0 1 2 0\n7 0 5 3 4 0\n")
-    other = file("other", "6 -2 0 3 4 0\n")
-    dropping = file("dropping", "5 d 1 0\n5 2 0 1 2 0\n")
-    drops = file("drops", "5 d 1 0\n")
-    drops_after = file("drops_after", "5 2 0 1 2 0\n5 d 5 1 0\n")
-    importing = file("importing", "5 2 0 1 2 0\n2 i 2 -1 0\n6 i -2 0\n7 0 5 6 0\n")
-    other_importing = file("other_importing", "6 -2 0 3 4 0\n5 i 2 2 0\n")
-    bad = file("bad", "p cnf 2 1\n1 x 0\n")
-    bad_cube = file("bad_cube", "-2  0\n")
-    row_one = EXAMPLES / "four-clause.lrup"
+
+FILES = {
+    "one": "5 2 0 1 2 0\n7 0 5 3 4 0\n",
+    "other": "6 -2 0 3 4 0\n",
+    "dropping": "5 d 1 0\n5 2 0 1 2 0\n",
+    "drops": "5 d 1 0\n",
+    "drops_after": "5 2 0 1 2 0\n5 d 5 1 0\n",
+    "importing": "5 2 0 1 2 0\n2 i 2 -1 0\n6 i -2 0\n7 0 5 6 0\n",
+    "other_importing": "6 -2 0 3 4 0\n5 i 2 2 0\n",
+    "bad": "p cnf 2 1\n1 x 0\n",
+    "bad_cube": "-2  0\n",
+    "few_clauses": clauses(2),
+    "many_clauses": clauses(MANY),
+}
+ROW_ONE = EXAMPLES / "four-clause.lrup"
+CUBE = EXAMPLES / "assumed.cube"
+# The hints are those of the first line of bmc.lrup; the import is of the first clause of bmc.cnf.
+LINES = [f"{number} 101 -107 -108 -109 0 487 490 0\n1 i 13 -1 5 0\n" for number in range(534, 534 + MANY)]
+DROP = "534 d 2 0\n"
+AT_ONCE = "0 added, 0 deleted, out of memory at line 1"
+
+
+def dropped(*said: str) -> List[Ran]:
+    return [Ran(report(said, 3), "", 3)]
+
+
+def inputs_of_way(serial: List[str], files: Dict[str, Path], folder: Path) -> Iterator[Input]:
+    """By threads, or by turns."""
+    kind = "".join(" " + word for word in serial)
+    yield Input("two streams" + kind, [*serial, FOUR_CLAUSE, files["one"], files["other"]], 2)
+    yield Input("a dropped clause" + kind, [*serial, FOUR_CLAUSE, files["dropping"]], 1, dropped(AT_ONCE))
+    yield Input("a dropped clause beside another stream" + kind, [*serial, FOUR_CLAUSE, files["dropping"], files["other"]], 2,
+                dropped(AT_ONCE, "1 added, 0 deleted, ended"))
+    yield Input("a drop alone" + kind, [*serial, FOUR_CLAUSE, files["drops"]], 1, dropped(AT_ONCE))
+    yield Input("a drop after a deletion" + kind, [*serial, FOUR_CLAUSE, files["drops_after"]], 1,
+                dropped("1 added, 1 deleted, out of memory at line 2"))
+    yield Input("row 1" + kind, [*serial, FOUR_CLAUSE, ROW_ONE], 1)
+    yield Input("a dropped clause, watched" + kind, [*serial, "--watch", FOUR_CLAUSE, files["dropping"]], 1, dropped(AT_ONCE))
+    # So many tries take a third of a second, where the other stream fails.
+    few = serial or ["--tries", "5000", "--lines", "100", "--room", "100"]
     assumed = [EXAMPLES / "assumed.cnf", EXAMPLES / "assumed.lrup"]
-    # The hints are those of the first line of bmc.lrup; the import is of the first clause of bmc.cnf.
-    lines = [f"{number} 101 -107 -108 -109 0 487 490 0\n1 i 13 -1 5 0\n" for number in range(534, 534 + MANY)]
-    drop = "534 d 2 0\n"
+    yield Input("imports" + kind, [*few, FOUR_CLAUSE, files["importing"], files["other_importing"]], 2)
+    yield Input("assumptions" + kind, [*few, "--assume", CUBE, *assumed], 1)
+    yield Input("bad assumptions" + kind, [*few, "--assume", files["bad_cube"], *assumed], 1)
+    yield Input("four solvers" + kind,
+                [*(serial or ["--tries", "1000000"]), EXAMPLES / "bmc.cnf", *FOUR_SOLVERS], 4, waits=not serial)
+    for name, text in ((ONE_LINE, LINES[0]), (MANY_LINES, "".join(LINES))):
+        plain, burdened = written(text, folder, "plain" + name), written(DROP + text, folder, "burdened" + name)
+        yield Input(name + kind, [*serial, EXAMPLES / "bmc.cnf", plain], 1)
+        yield Input(name + BURDENED + kind, [*serial, "--assume", CUBE, EXAMPLES / "bmc.cnf", burdened], 1, dropped(AT_ONCE))
+    yield Input(FEW_CLAUSES + kind, [*serial, files["few_clauses"], os.devnull], 1)
+    yield Input(MANY_CLAUSES + kind, [*serial, files["many_clauses"], os.devnull], 1)
 
-    def clauses(count):
-        """A formula with as many clauses, short and long ones by turns."""
-        return f"p cnf 12 {count}\n" + count // 2 * "1 2 0\n1 2 3 4 5 6 7 8 9 10 11 12 0\n"
 
-    def dropped(text):
-        return [Answer(3, f"c stream 1: {text}\ns UNKNOWN\n", "")]
-
-    at_once = dropped("0 added, 0 deleted, out of memory at line 1")
-    for serial in [[], ["--serial"]]:
-        kind = " --serial" if serial else ""
-        yield Input("two streams" + kind, [*serial, FOUR_CLAUSE, one, other], 2)
-        yield Input("a dropped clause" + kind, [*serial, FOUR_CLAUSE, dropping], 1, at_once)
-        yield Input("a dropped clause beside another stream" + kind, [*serial, FOUR_CLAUSE, dropping, other], 2,
-                    [Answer(3, "c stream 1: 0 added, 0 deleted, out of memory at line 1\n"
-                               "c stream 2: 1 added, 0 deleted, ended\ns UNKNOWN\n", "")])
-        yield Input("a drop alone" + kind, [*serial, FOUR_CLAUSE, drops], 1, at_once)
-        yield Input("a drop after a deletion" + kind, [*serial, FOUR_CLAUSE, drops_after], 1,
-                    dropped("1 added, 1 deleted, out of memory at line 2"))
-        yield Input("row 1" + kind, [*serial, FOUR_CLAUSE, row_one], 1)
-        yield Input("a dropped clause, watched" + kind, [*serial, "--watch", FOUR_CLAUSE, dropping], 1, at_once)
-        # So many tries take a third of a second, where the other stream fails.
-        few = serial or ["--tries", "5000", "--lines", "100", "--room", "100"]
-        yield Input("imports" + kind, [*few, FOUR_CLAUSE, importing, other_importing], 2)
-        yield Input("assumptions" + kind, [*few, "--assume", EXAMPLES / "assumed.cube", *assumed], 1)
-        yield Input("bad assumptions" + kind, [*few, "--assume", bad_cube, *assumed], 1)
-        yield Input("four solvers" + kind,
-                    [*(serial or ["--tries", "1000000"]), EXAMPLES / "bmc.cnf", *FOUR_SOLVERS], 4, waits=not serial)
-        yield Input(ONE_LINE + kind, [*serial, EXAMPLES / "bmc.cnf", file("line", lines[0])], 1)
-        yield Input(MANY_LINES + kind, [*serial, EXAMPLES / "bmc.cnf", file("lines", "".join(lines))], 1)
-        burdened = [*serial, "--assume", EXAMPLES / "assumed.cube", EXAMPLES / "bmc.cnf"]
-        yield Input(ONE_LINE + BURDENED + kind, [*burdened, file("burdened_line", drop + lines[0])], 1, at_once)
-        yield Input(MANY_LINES + BURDENED + kind, [*burdened, file("burdened_lines", drop + "".join(lines))], 1, at_once)
-        yield Input(FEW_CLAUSES + kind, [*serial, file("few_clauses", clauses(2)), os.devnull], 1)
-        yield Input(MANY_CLAUSES + kind, [*serial, file("many_clauses", clauses(MANY)), os.devnull], 1)
+def inputs(folder: Path) -> Iterator[Input]:
+    """What is swept."""
+    files = {name: written(text, folder, name) for name, text in FILES.items()}
+    for options in "", "--serial":
+        yield from inputs_of_way(options.split(), files, folder)
     yield Input("help", ["--help"])
-    yield Input("a mistake in the words", ["--tries", "x", FOUR_CLAUSE, row_one])
-    yield Input("a bad formula", [bad, row_one], 1)
-    yield Input("missing assumptions", ["--assume", folder / "missing", FOUR_CLAUSE, row_one], 1)
+    yield Input("a mistake in the words", ["--tries", "x", FOUR_CLAUSE, ROW_ONE])
+    yield Input("a bad formula", [files["bad"], ROW_ONE], 1)
+    yield Input("missing assumptions", ["--assume", folder / "missing", FOUR_CLAUSE, ROW_ONE], 1)
     yield Input("a missing stream", [FOUR_CLAUSE, folder / "missing"], 1)
-    yield Input("a full device", [FOUR_CLAUSE, row_one], 1, out="/dev/full")
+    yield Input("a full device", [FOUR_CLAUSE, ROW_ONE], 1, out="/dev/full")
 
 
-def kinds(given):
+def kinds(given: Input) -> Iterator[Tuple[str, str]]:
     yield "allocate", ""
     if given.name.startswith((ONE_LINE, MANY_LINES, FEW_CLAUSES, MANY_CLAUSES)):
         return
@@ -297,16 +320,17 @@ def kinds(given):
         yield "write", how
 
 
-def tests():
+def tests() -> Iterator[Test]:
     """The tests that are swept. Each cause that one may tell has to come."""
     memory = ["AllocError", "Memory"]  # of what the test makes by itself, and of the run's
 
-    def reported(added, ending):
+    def reported(added: int, ending: str) -> str:
         return f"Report {{ added: {added}, deleted: 0, empty: false, within: false, ending: {ending} }}"
 
     refused, other = reported(0, "Memory(1)"), reported(1, "Ended")
-    for name, streams, reports in [("two_streams", 2, []), ("a_dropped_clause", 1, [f"[{refused}]"]),
-                                   ("a_dropped_clause_beside_another", 2, [f"[{refused}, {other}]"])]:
+    runs: List[Tuple[str, int, List[str]]] = [("two_streams", 2, []), ("a_dropped_clause", 1, [f"[{refused}]"]),
+                                              ("a_dropped_clause_beside_another", 2, [f"[{refused}, {other}]"])]
+    for name, streams, reports in runs:
         starts = [f"Spawn({number})" for number in range(1, streams + 1)]
         yield Test("portfolio", f"memory::{name}_by_threads", memory + starts + reports, streams)
         yield Test("portfolio", f"memory::{name}_by_turns", memory + reports)
@@ -326,23 +350,24 @@ def tests():
     yield Test("clause_store", "memory::the_last_allocation_comes_after_all_calls", ["AllocError"], always=True)
 
 
-def program_of_tests(crate, rt):
+def program_of_tests(crate: str, rt: str) -> str:
     folder = ROOT / "crates" / f"{crate}_tests"
     program = folder / "out" / f"{crate}_tests_tests"
     if not program.exists():
         subprocess.run([rt, "test"], cwd=folder, stdout=subprocess.DEVNULL, check=True)
-    return program
+    return str(program)
 
 
-def told(answer):
+def told(answer: Ran) -> str:
     """What a test tells that failed; nothing where it passed."""
     found = re.fullmatch(r"error: (.*)\nthe test failed: its result gives status 1\n", answer.err)
     return "" if answer.status == 0 else found[1] if found else str(answer)
 
 
-def sweep_test(machine, test, kind):
+def sweep_test(machine: Machine, test: Test, kind: str) -> Tuple[int, List[str]]:
     """How many calls were refused, and what the test may not tell."""
-    wrong, causes = [], set()
+    wrong: List[str] = []
+    causes: Set[str] = set()
     for number in itertools.count(1):
         answer, refused, seconds = machine.run([f"tests::{test.name}"], f"{kind}:{number}")
         cause = told(answer)
@@ -365,11 +390,10 @@ def sweep_test(machine, test, kind):
     return number - 1, wrong
 
 
-def unjoined(folder):
+def unjoined(folder: Path) -> List[str]:
     """What is wrong where a program that waits for none of its threads isn't found wrong, wherever some were started."""
-    program = folder / "unjoined"
-    subprocess.run([os.environ.get("CC", "cc"), "-std=gnu11", "-pthread", "-o", program, ROOT / "gate" / "unjoined.c"], check=True)
-    machine, found = Machine(program, folder), []
+    program = compiled(folder / "unjoined", [TESTS / "unjoined.c"], "-std=gnu11", "-pthread")
+    machine, found = Machine(str(program), folder), []
     for number in range(1, 7):
         answer, _, _ = machine.run([], f"thread:{number}")
         if answer == not_started((number - 1) % 3 + 1) and not machine.has_waited_for(number - 1):
@@ -377,86 +401,107 @@ def unjoined(folder):
     return [] if found == [2, 3, 4, 5, 6] else [f"a program that waits for no thread is found wrong at {found}"]
 
 
-def waiting(pipe):
+def waiting(pipe: int) -> int:
     """How many bytes were written to a pipe and not read."""
-    return struct.unpack("i", fcntl.ioctl(pipe, termios.FIONREAD, bytes(4)))[0]
+    count: int = struct.unpack("i", fcntl.ioctl(pipe, termios.FIONREAD, bytes(4)))[0]
+    return count
 
 
-def leave(machine, folder, count):
+def leave(machine: Machine, folder: Path, count: int) -> Tuple[int, List[str]]:
     """How many threads were refused beside so many pipes that stay open after their first line, and what went wrong.
 
     The run ends all the same, and reads none of them.
     """
-    name, line, wrong = f"{count} pipes that stay open", b"5 2 0 1 2 0\n", []
-    paths = [folder / f"pipe_{count}_{number}" for number in range(1, count + 1)]
-    pipes = []
-    for path in paths:
-        os.mkfifo(path)
-        pipes.append(os.open(path, os.O_RDWR))
-        os.write(pipes[-1], line)
+    line, wrong = b"5 2 0 1 2 0\n", []
+    paths = [piped(folder / f"pipe_{count}_{number}") for number in range(1, count + 1)]
+    pipes = [os.open(path, os.O_RDWR) for path in paths]
+    for pipe in pipes:
+        os.write(pipe, line)
     for number in range(1, 2 * count + 1):
         answer, _, seconds = machine.run([str(FOUR_CLAUSE), *map(str, paths)], f"thread:{number}", limit=HELD)
         left = [waiting(pipe) for pipe in pipes]
         right = answer == not_started((number - 1) % count + 1) and machine.has_waited_for(number - 1)
         if not right or left != [len(line)] * count:
-            wrong.append(f"{name}, thread:{number}, {seconds:.1f} s: {answer}; bytes left: {left}{machine.threads()}")
+            wrong.append(f"{count} pipes that stay open, thread:{number}, {seconds:.1f} s: {answer}; bytes left: {left}"
+                         + machine.threads())
             break
     for pipe in pipes:
         os.close(pipe)
     return number, wrong
 
 
-def kept(rt):
+def kept(rt: str) -> List[str]:
     """What a test says of a store of 16 million words that is opened and dropped four times, where it doesn't pass.
 
     An opening takes 128,000,000 bytes for the row, and as much again until it returns. Here are 307,200,000, and a second list
     that is still there would want 384,000,000.
     """
     name, most = "memory::a_large_store_is_given_back", 307_200_000
-    ran = subprocess.run([program_of_tests("clause_store", rt), f"tests::{name}"], capture_output=True, text=True,
-                         preexec_fn=lambda: resource.setrlimit(resource.RLIMIT_AS, (most, most)))
-    return [f"{name}, {most:,} bytes: {ran}"] if ran.returncode else []
+    ran = run([program_of_tests("clause_store", rt), f"tests::{name}"],
+              preexec_fn=lambda: resource.setrlimit(resource.RLIMIT_AS, (most, most)))
+    return [f"{name}, {most:,} bytes: {ran}"] if ran.status else []
 
 
-def main():
-    if len(sys.argv) != 3:
-        sys.exit(__doc__)
-    began, refused, wrong, allocations = time.monotonic(), {}, [], {}
-    with tempfile.TemporaryDirectory() as name:
-        folder = Path(name)
-        wrong += unjoined(folder)
-        machine = Machine(os.path.abspath(sys.argv[1]), folder)
-        for given in inputs(folder):
-            for kind, how in kinds(given):
-                count, answers = sweep(machine, given, kind, how)
-                refused[kind] = refused.get(kind, 0) + count
-                wrong += answers
-                if kind == "allocate":
-                    allocations[given.name] = count
-        for count in [1, 2, 8]:
-            number, answers = leave(machine, folder, count)
-            refused["thread"] += number
-            wrong += answers
-        for test in tests():
-            machine = Machine(program_of_tests(test.crate, sys.argv[2]), folder)
-            for kind in ["allocate"] if test.last else ["allocate", "thread"]:
-                count, answers = sweep_test(machine, test, kind)
-                refused[kind] += count
-                wrong += answers
-    wrong += kept(sys.argv[2])
+def allocations_that_differ(allocations: Dict[str, int]) -> Iterator[str]:
+    """Lines take no allocations, and clauses few."""
     for kind in ["", " --serial"]:
         for burden in ["", BURDENED]:
             one, many = allocations[ONE_LINE + burden + kind], allocations[MANY_LINES + burden + kind]
             if one != many:
-                wrong.append(f"one line takes {one} allocations, {MANY} lines {many}{burden}{kind}")
+                yield f"one line takes {one} allocations, {MANY} lines {many}{burden}{kind}"
         few, many = allocations[FEW_CLAUSES + kind], allocations[MANY_CLAUSES + kind]
         if many > few + GROWTHS:
-            wrong.append(f"two clauses take {few} allocations, {MANY} clauses {many}{kind}")
-    for answer in wrong:
+            yield f"two clauses take {few} allocations, {MANY} clauses {many}{kind}"
+
+
+class Count:
+    """How many calls of each kind were refused, and the answers that may not be."""
+
+    def __init__(self) -> None:
+        self.refused: Dict[str, int] = {}
+        self.wrong: List[str] = []
+
+    def add(self, kind: str, found: Tuple[int, List[str]]) -> int:
+        count, wrong = found
+        self.refused[kind] = self.refused.get(kind, 0) + count
+        self.wrong += wrong
+        return count
+
+
+def sweep_program(program: str, folder: Path, count: Count) -> None:
+    machine, allocations = Machine(program, folder), {}
+    for given in inputs(folder):
+        for kind, how in kinds(given):
+            number = count.add(kind, sweep(machine, given, kind, how))
+            if kind == "allocate":
+                allocations[given.name] = number
+    count.wrong += allocations_that_differ(allocations)
+    for pipes in [1, 2, 8]:
+        count.add("thread", leave(machine, folder, pipes))
+
+
+def sweep_tests(rt: str, folder: Path, count: Count) -> None:
+    for test in tests():
+        machine = Machine(program_of_tests(test.crate, rt), folder)
+        for kind in ["allocate"] if test.last else ["allocate", "thread"]:
+            count.add(kind, sweep_test(machine, test, kind))
+    count.wrong += kept(rt)
+
+
+def main() -> int:
+    program, *rt = words_given(__doc__, 1, 2)
+    began, count = time.monotonic(), Count()
+    with tempfile.TemporaryDirectory() as name:
+        folder = Path(name)
+        count.wrong += unjoined(folder)
+        sweep_program(program, folder, count)
+        if rt:
+            sweep_tests(rt[0], folder, count)
+    for answer in count.wrong:
         print(answer)
-    print("refused: " + ", ".join(f"{kind} {count}" for kind, count in refused.items())
-          + f"; {len(wrong)} wrong answers; {time.monotonic() - began:.0f} seconds")
-    sys.exit(1 if wrong else 0)
+    print("refused: " + ", ".join(f"{kind} {number}" for kind, number in count.refused.items())
+          + f"; {len(count.wrong)} wrong answers; {time.monotonic() - began:.0f} seconds")
+    return 1 if count.wrong else 0
 
 
-main()
+sys.exit(main())

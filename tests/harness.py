@@ -1,0 +1,231 @@
+"""What the tests of programs share: runs, files and pipes, builds, and the count of what passed.
+
+A test is a row: a name, a function and its arguments. The function gets a folder of its own as the last one.
+"""
+import contextlib
+import os
+import random
+import shlex
+import subprocess
+import sys
+import tempfile
+import threading
+import time
+from pathlib import Path
+from typing import Any, Callable, Iterable, Iterator, List, Mapping, NamedTuple, Optional, Sequence, Tuple, Union
+
+TESTS = Path(__file__).resolve().parent
+ROOT = TESTS.parent
+EXAMPLES = ROOT / "examples"
+GENERATOR = EXAMPLES / "solver" / "generate.py"
+LIMIT = 120  # seconds, after which a run hangs
+FOUR = "p cnf 2 4\n1 2 0\n-1 2 0\n1 -2 0\n-1 -2 0\n"
+VERDICTS = {0: "s UNSATISFIABLE", 3: "s UNKNOWN", 8: "s UNSATISFIABLE UNDER ASSUMPTIONS"}
+
+Words = Iterable[object]
+Row = Tuple[Any, ...]
+Pieces = Iterable[Union[bytes, float]]
+
+
+class Failure(Exception):
+    pass
+
+
+class Skipped(Exception):
+    pass
+
+
+class Ran(NamedTuple):
+    """What a program wrote on standard output and standard error, and its status."""
+    out: str
+    err: str
+    status: Optional[int]
+
+
+def want(found: Any, wanted: Any, what: str) -> None:
+    if found != wanted:
+        raise Failure(f"{what}: wanted\n{str(wanted)[:2000]}\nand not\n{str(found)[:2000]}")
+
+
+# Runs.
+
+
+def text_of(data: Optional[bytes]) -> str:
+    return (data or b"").decode(errors="surrogateescape")
+
+
+def run(words: Words, given: Union[str, bytes, None] = None, limit: float = LIMIT, **how: Any) -> Ran:
+    """Runs a program to its end, with so many bytes on its standard input."""
+    if given is not None:
+        how["input"] = given.encode() if isinstance(given, str) else given
+    else:
+        how.setdefault("stdin", subprocess.DEVNULL)
+    how = {"stdout": subprocess.PIPE, "stderr": subprocess.PIPE, **how}
+    done = subprocess.run(list(map(str, words)), timeout=limit, **how)
+    return Ran(text_of(done.stdout), text_of(done.stderr), done.returncode)
+
+
+@contextlib.contextmanager
+def started(words: Words, **how: Any) -> Iterator["subprocess.Popen[Any]"]:
+    """A program at work, which is killed where it hasn't ended when the block is left."""
+    with subprocess.Popen(list(map(str, words)), **how) as process:
+        try:
+            yield process
+        finally:
+            process.kill()
+
+
+def until(what: str, condition: Callable[[], bool], seconds: float = 20) -> None:
+    end = time.monotonic() + seconds
+    while not condition():
+        if time.monotonic() > end:
+            raise Failure(f"not within {seconds} seconds: {what}")
+        time.sleep(0.01)
+
+
+# Files and pipes.
+
+
+def example(name: str) -> Path:
+    return EXAMPLES / name
+
+
+def written(text: Union[str, bytes], folder: Path, name: str = "formula.cnf") -> Path:
+    path = folder / name
+    path.parent.mkdir(exist_ok=True)
+    path.write_bytes(text.encode() if isinstance(text, str) else text)
+    return path
+
+
+def piped(path: Path) -> Path:
+    os.mkfifo(path)
+    return path
+
+
+def feed(path: Path, pieces: Pieces) -> threading.Thread:
+    """Writes these into a pipe as soon as somebody reads there; where one is a number, it waits so many seconds."""
+    def write() -> None:
+        try:
+            with open(path, "wb", buffering=0) as pipe:
+                for piece in pieces:
+                    if isinstance(piece, bytes):
+                        pipe.write(piece)
+                    else:
+                        time.sleep(piece)
+        except OSError:
+            pass  # nobody reads, or the program has ended
+    thread = threading.Thread(target=write, daemon=True)
+    thread.start()
+    return thread
+
+
+def generated(words: str, folder: Path, name: str = "formula.cnf") -> Path:
+    """A formula of the generator's."""
+    done = run([sys.executable, GENERATOR, *words.split()])
+    want(done.status, 0, f"the generator's status, which says {done.err}")
+    return written(done.out, folder, name)
+
+
+def dimacs(variables: int, clauses: Sequence[Sequence[int]]) -> str:
+    return f"p cnf {variables} {len(clauses)}\n" + "".join(" ".join(map(str, clause)) + " 0\n" for clause in clauses)
+
+
+def random_clauses(numbers: random.Random, variables: int, count: int, lengths: Sequence[int] = (3,)) -> List[List[int]]:
+    """Clauses of so many variables, with lengths drawn from these."""
+    clauses = []
+    for _ in range(count):
+        chosen = numbers.sample(range(1, variables + 1), min(variables, numbers.choice(lengths)))
+        clauses.append([variable * numbers.choice((-1, 1)) for variable in chosen])
+    return clauses
+
+
+# Programs.
+
+
+def compiler(*flags: str) -> List[str]:
+    """$CC or cc, with these flags."""
+    return [*shlex.split(os.environ.get("CC", "cc")), *flags]
+
+
+def compiled(program: Path, sources: Sequence[Path], *flags: str) -> Path:
+    subprocess.run([*compiler(*flags), "-o", str(program), *map(str, sources)], check=True)
+    return program
+
+
+def words_given(usage: Optional[str], least: int = 1, most: int = 1) -> List[str]:
+    """The words of the command line, of which the first is a program."""
+    words = sys.argv[1:]
+    if not least <= len(words) <= most:
+        sys.exit(usage)
+    return [os.path.abspath(words[0]), *words[1:]]
+
+
+# What the checker has to answer.
+
+
+def report(said: Sequence[str], status: int) -> str:
+    """A report that says this of each stream, with the verdict of the status."""
+    return "".join(f"c stream {number}: {words}\n" for number, words in enumerate(said, 1)) + VERDICTS[status] + "\n"
+
+
+class Wanted(NamedTuple):
+    """Words, the status and what is written, in a folder with these files and pipes; and what some files are in the end."""
+    words: Words
+    status: int
+    out: str = ""
+    err: str = ""
+    files: Mapping[str, str] = {}
+    pipes: Mapping[str, Pieces] = {}
+    given: Optional[str] = None
+    shell: str = 'exec "$@"'
+    left: Mapping[str, Optional[str]] = {}
+
+
+def answered(program: str, wanted: Wanted, work: Path) -> Ran:
+    for name, text in wanted.files.items():
+        written(text, work, name)
+    for name, pieces in wanted.pipes.items():
+        feed(piped(work / name), pieces)
+    return run(["sh", "-c", wanted.shell, "sh", program, *wanted.words], wanted.given, cwd=work)
+
+
+def answers(program: str, wanted: Wanted, work: Path) -> None:
+    found = answered(program, wanted, work)
+    want(found, Ran(wanted.out, wanted.err, wanted.status), "the answer")
+    for name, text in wanted.left.items():
+        path = work / name
+        want(path.read_text() if path.is_file() else None, text, f"what {name} has")
+
+
+# The count.
+
+
+def outcome(row: Row) -> Optional[Exception]:
+    """What is off, or why it is skipped; nothing where it passed."""
+    _, function, *arguments = row
+    with tempfile.TemporaryDirectory() as work:
+        try:
+            function(*arguments, Path(work))
+            return None
+        except (Failure, Skipped, OSError, ValueError, subprocess.SubprocessError) as found:
+            return found
+
+
+def closing(passed: int, failed: int, skipped: int = 0, title: str = "") -> int:
+    """Prints the last line; the status is 1 where something failed."""
+    print(f"{title}{passed} passed, {failed} failed" + f", {skipped} skipped" * (skipped > 0))
+    return 1 if failed else 0
+
+
+def run_all(rows: Sequence[Row], title: str = "") -> int:
+    """Shows what is off, and counts."""
+    failed = skipped = 0
+    for row in rows:
+        found = outcome(row)
+        if isinstance(found, Skipped):
+            skipped += 1
+            print(f"{row[0]}: skipped, {found}", flush=True)
+        elif found:
+            failed += 1
+            print(f"{row[0]}: {found}", flush=True)
+    return closing(len(rows) - failed - skipped, failed, skipped, title)
