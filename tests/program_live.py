@@ -53,7 +53,7 @@ def told_while_open(program: str, work: Path) -> None:
     print(out, end="")
     told = TOLD + "lrupd: stream 2: 0 added, 0 deleted, ended\n"
     print(told[len(TOLD):], end="", flush=True)
-    want(Ran(out, errors.read_text(), status), Ran(re.sub("^lrupd", "c", told, flags=re.M) + "s UNKNOWN\n", told, 3), "the answer")
+    want(Ran(out, errors.read_text(), status), Ran(re.sub("^lrupd:", "c", told, flags=re.M) + "s UNKNOWN\n", told, 3), "the answer")
 
 
 def main() -> None:
