@@ -146,7 +146,7 @@ TESTS := examples live checkpoints solver-test filter-test solve-test neighbours
 test: SHELL := /bin/bash
 test: toolchain pages solver exact ## check: the gate, 25 to 100 minutes: every proof, edit and test; has to pass before a push
 	@set -o pipefail; log=$$(mktemp); trap 'rm -f "$$log"' EXIT; \
-	$(RT) ci | tee "$$log" && make --no-print-directory BUILT= $(TESTS) && tail -n 1 "$$log"
+	$(RT) ci | tee "$$log" && $(MAKE) --no-print-directory BUILT= $(TESTS) && tail -n 1 "$$log"
 
 toolchain:
 	@command -v $(RT) > /dev/null || { echo "lrupd needs Rattle's toolchain: no command '$(RT)' is on the PATH"; exit 1; }
