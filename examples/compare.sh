@@ -321,6 +321,8 @@ usage 'too many lines' --lines 268435457 "$absent" "$absent"
 usage 'no number' --room x "$absent" "$absent"
 usage 'no such option' --fast "$absent" "$absent"
 usage 'a word that is no UTF-8' "$(printf '\377')" "$absent"
+want '' "lrupd $(cat "$here/../VERSION")\n"
+run 'version' 2 --version
 
 # Assumptions.
 

@@ -48,7 +48,7 @@ items() {
         { sub(/ [.,;]$/, substr($0, length($0))); text[count] = text[count] " " $0 }
         END { for (i = 1; i <= count; i++) print text[i] }'
 }
-items 'The options are as follows:' | grep -v '^-h ' > "$work/manual-options"
+items 'The options are as follows:' | grep -v '^-[hV] ' > "$work/manual-options"
 items '.Sh EXIT STATUS' > "$work/manual-statuses"
 items 'The faults of a line, where H is an identity:' > "$work/manual-faults"
 

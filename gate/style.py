@@ -6,7 +6,8 @@
 It lists names in backticks, in the documents, that don't exist; lines of clauses and of definitions beyond 100 columns; lemmas
 that are stated twice; names that mean one thing in one crate and another in another; where the picture of the crates isn't what
 crates.txt says; targets of the Makefile that CONTRIBUTING doesn't tell as `make help` does; and whether the logic of README is the
-one of the `rt` on the PATH, if there is one. The last line has the counts, and the status is 1 where one of them isn't 0.
+one of the `rt` on the PATH, if there is one; and whether `lrupd --version` says what the file VERSION does. The last line has the
+counts, and the status is 1 where one of them isn't 0.
 
 A name in backticks is looked for in the code, the definitions and proofs, the scripts, and the names of files; of `Type::call`
 and `Module.name` the pair. Where several words stand in backticks, a name is one with an underscore, a capital within or `::`, an
@@ -230,6 +231,18 @@ def other_logics():
             yield f"README.md: rt version says '{says}'"
 
 
+# The version, of which the file VERSION is the source.
+
+
+def other_versions():
+    """The version that the program tells, where the file VERSION has another one."""
+    page = ROOT / "crates/command_line/src/help.rt"
+    has = (ROOT / "VERSION").read_text().strip()
+    told = re.search(r'const VERSION: &str = "(.*)";', page.read_text())
+    if not told or told[1] != has:
+        yield f"{shown(page)}: VERSION has '{has}'"
+
+
 # Names in backticks.
 
 
@@ -340,7 +353,8 @@ def main():
     checks = [("names in backticks that don't exist", unknown_names), ("lines of clauses too wide", wide_clauses),
               ("lines of definitions too wide", wide_definitions), ("statements of lemmas more than once", repeated_statements),
               ("names with two meanings", names_with_two_meanings), ("arrows that are wrong", wrong_arrows),
-              ("lines of make help told otherwise", untold_targets), ("logics told otherwise", other_logics)]
+              ("lines of make help told otherwise", untold_targets), ("logics told otherwise", other_logics),
+              ("versions told otherwise", other_versions)]
     counts = []
     for what, check in checks:
         found = list(check())

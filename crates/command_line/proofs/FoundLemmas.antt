@@ -102,19 +102,19 @@ other : {A : Type 0} → false ≡ true → A
 other e = cc
 
 tries_parses : Parses (codes "tries") (parser.Unsigned 0 1000000)
-tries_parses = ((λ _. refl, (other, (other, (other, (other, (other, (other, (other, tt)))))))), (λ _. refl, (other, (other, (other, (other, (other, (other, (other, (other, tt))))))))))
+tries_parses = ((λ _. refl, (other, (other, (other, (other, (other, (other, (other, (other, tt))))))))), (λ _. refl, (other, (other, (other, (other, (other, (other, (other, (other, (other, (other, tt))))))))))))
 
 lines_parses : Parses (codes "lines") (parser.Unsigned 0 268435456)
-lines_parses = ((other, (λ _. refl, (other, (other, (other, (other, (other, (other, tt)))))))), (other, (λ _. refl, (other, (other, (other, (other, (other, (other, (other, tt))))))))))
+lines_parses = ((other, (λ _. refl, (other, (other, (other, (other, (other, (other, (other, tt))))))))), (other, (λ _. refl, (other, (other, (other, (other, (other, (other, (other, (other, (other, tt))))))))))))
 
 room_parses : Parses (codes "room") (parser.Unsigned 0 268435456)
-room_parses = ((other, (other, (λ _. refl, (other, (other, (other, (other, (other, tt)))))))), (other, (other, (λ _. refl, (other, (other, (other, (other, (other, (other, tt))))))))))
+room_parses = ((other, (other, (λ _. refl, (other, (other, (other, (other, (other, (other, tt))))))))), (other, (other, (λ _. refl, (other, (other, (other, (other, (other, (other, (other, (other, tt))))))))))))
 
 serial_parses : Parses (codes "serial") parser.Bool
-serial_parses = ((other, (other, (other, (other, (λ _. refl, (other, (other, (other, tt)))))))), (other, (other, (other, (other, (λ _. refl, (other, (other, (other, (other, tt))))))))))
+serial_parses = ((other, (other, (other, (other, (other, (λ _. refl, (other, (other, (other, tt))))))))), (other, (other, (other, (other, (other, (λ _. refl, (other, (other, (other, (other, (other, tt))))))))))))
 
 watch_parses : Parses (codes "watch") parser.Bool
-watch_parses = ((other, (other, (other, (other, (other, (λ _. refl, (other, (other, tt)))))))), (other, (other, (other, (other, (other, (λ _. refl, (other, (other, (other, tt))))))))))
+watch_parses = ((other, (other, (other, (other, (other, (other, (λ _. refl, (other, (other, tt))))))))), (other, (other, (other, (other, (other, (other, (λ _. refl, (other, (other, (other, (other, tt))))))))))))
 
 up_to : (d : Command) (f : Found) (name : Text) (most : ℕ) → IsProgram d → ValuesPass d f → (name ≡ [] → ⊥) → Parses name (parser.Unsigned 0 most) → HasUpTo most name (rows_of f)
 up_to d f name most is pass named parses text found = (text_passed d f name (parser.Unsigned 0 most) is pass named parses refl text found).1
@@ -167,10 +167,10 @@ filled d f id is pass named takes_one used =
         (entry.1, found, elim held.filled [ inl lt ↦ lt | inr or ↦ absurd (none or) ])
 
 formula_takes : EachArgument (TakesOne (codes "FORMULA"))
-formula_takes = ((other, (other, (other, (other, (other, (other, (λ _. (λ e. cc, λ e. absurd (omega arith)), (other, tt)))))))), (other, (other, (other, (other, (other, (other, (λ _. (λ e. cc, λ e. absurd (omega arith)), (other, (other, tt))))))))))
+formula_takes = ((other, (other, (other, (other, (other, (other, (other, (λ _. (λ e. cc, λ e. absurd (omega arith)), (other, tt))))))))), (other, (other, (other, (other, (other, (other, (other, (λ _. (λ e. cc, λ e. absurd (omega arith)), (other, (other, (other, tt))))))))))))
 
 stream_takes : EachArgument (TakesOne (codes "STREAM"))
-stream_takes = ((other, (other, (other, (other, (other, (other, (other, (λ _. (λ e. cc, λ e. absurd (omega arith)), tt)))))))), (other, (other, (other, (other, (other, (other, (other, (λ _. (λ e. cc, λ e. absurd (omega arith)), (other, tt))))))))))
+stream_takes = ((other, (other, (other, (other, (other, (other, (other, (other, (λ _. (λ e. cc, λ e. absurd (omega arith)), tt))))))))), (other, (other, (other, (other, (other, (other, (other, (other, (λ _. (λ e. cc, λ e. absurd (omega arith)), (other, (other, tt))))))))))))
 
 -- ---- all of it
 

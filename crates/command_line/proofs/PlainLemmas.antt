@@ -255,6 +255,7 @@ defaults formula first rest rows are given said = record {
   lines = said.lines ∙ ap (option_number (codes "lines") 65536) are;
   room = said.room ∙ ap (option_number (codes "room") 1048576) are;
   assume = no_path (λ path. path.now) given.assume (said.assume ∙ ap (first_of (codes "assume")) are);
+  checkpoint = no_path (λ path. path.now) given.checkpoint (said.checkpoint ∙ ap (first_of (codes "checkpoint")) are);
   serial = said.serial ∙ ap (is_set (codes "serial")) are;
   watch = said.watch ∙ ap (is_set (codes "watch")) are;
 }
@@ -268,4 +269,7 @@ plain_words formula (first ∷ rest) plain all some few = (
     sym (value_of formula path (sym (ap (first_of (codes "FORMULA")) (plain_rows formula first rest plain all)) ∙ ask.formula_is)),
     sym ask.assume_is ∙ ap (first_of (codes "assume")) (plain_rows formula first rest plain all),
   ),
+  λ path ask.
+      let no : Some path ≡ None = sym ask.path_is ∙ ap (first_of (codes "checkpoint")) (plain_rows formula first rest plain all) in
+      cc,
 )

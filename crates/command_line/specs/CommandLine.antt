@@ -21,6 +21,10 @@ number_rule name most = record (new_rule name) {
   parser = Some (parser.Unsigned 0 most);
 }
 
+-- an option `--name FILE`
+abbrev pub file_rule : Text → Rule
+file_rule name = record (new_rule name) { long = Some name; value_names = 1 }
+
 -- a flag `--name`
 abbrev pub flag_rule : Text → Rule
 flag_rule name = record (new_rule name) {
@@ -45,11 +49,11 @@ abbrev pub lrupd : App
 lrupd = record {
   top = record (new_shape (codes "lrupd")) {
     no_binary_name = true;
+    has_version = true;
     rules = number_rule (codes "tries") 1000000
         ∷ number_rule (codes "lines") 268435456
         ∷ number_rule (codes "room") 268435456
-        -- the option `--assume FILE`
-        ∷ record (new_rule (codes "assume")) { long = Some (codes "assume"); value_names = 1 }
+        ∷ file_rule (codes "assume") ∷ file_rule (codes "checkpoint")
         ∷ flag_rule (codes "serial") ∷ flag_rule (codes "watch")
         -- FORMULA: one word
         ∷ record (new_rule (codes "FORMULA")) { required = true }
@@ -64,6 +68,11 @@ pub record AskFor (words : List Text) (formula : Text) (assume : Option Text) : 
   pub good : fault_of lrupd words ≡ []
   pub formula_is : first_of (codes "FORMULA") (matches_of lrupd words) ≡ Some formula
   pub assume_is : first_of (codes "assume") (matches_of lrupd words) ≡ assume
+
+-- The words have no fault, and ask for a checkpoint at a path.
+pub record AskToSave (words : List Text) (path : Text) : Type 0 where
+  pub good : fault_of lrupd words ≡ []
+  pub path_is : first_of (codes "checkpoint") (matches_of lrupd words) ≡ Some path
 
 -- ---- what the words say, by the rows that are found in them
 
@@ -89,6 +98,8 @@ pub record IsSaidBy (rows : List Row) (given : CommandLine) : Type 0 where
   pub room : given.room ≡ option_number (codes "room") 1048576 rows
   pub small_room : given.room ≤ 268435456
   pub assume : option_map (λ path. path.now) given.assume ≡ first_of (codes "assume") rows
+  pub checkpoint :
+      option_map (λ path. path.now) given.checkpoint ≡ first_of (codes "checkpoint") rows
   pub serial : given.serial ≡ is_set (codes "serial") rows
   pub watch : given.watch ≡ is_set (codes "watch") rows
   pub formula : first_of (codes "FORMULA") rows ≡ Some given.formula.now

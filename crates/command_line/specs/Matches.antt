@@ -13,8 +13,10 @@ use Rattle.command_line.specs.declared.words.WordsFault.TheVariants.{Usage, Memo
 
 -- the command, with no argument
 abbrev pub without_arguments : App
-without_arguments =
-    record { top = record (new_shape (codes "lrupd")) { no_binary_name = true }; subs = [] }
+without_arguments = record {
+  top = record (new_shape (codes "lrupd")) { no_binary_name = true; has_version = true };
+  subs = [];
+}
 
 -- the command, with the options that have a number
 abbrev pub with_numbers : App

@@ -1,7 +1,7 @@
 //! What `clap` is told of the command line.
-ghost use Rattle.std.specs.Prelude.{◌≡◌, IfOk, false, true, Some, codes};
+ghost use Rattle.std.specs.Prelude.{◌≡◌, IfOk, false, true, codes};
 ghost use Rattle.clap.specs.Words.{app_of, new_rule, rule_of};
-ghost use Rattle.command_line.specs.CommandLine.{flag_rule, lrupd, number_rule, stream_rule};
+ghost use Rattle.command_line.specs.CommandLine.{file_rule, flag_rule, lrupd, number_rule, stream_rule};
 ghost use Rattle.command_line.specs.Matches.{with_numbers, without_arguments};
 
 use crate::help;
@@ -23,7 +23,8 @@ pub fn program<'a>(alloc: Global) -> Result<Command<'a>, AllocError>
     ensures { IfOk result (λ program. app_of program ≡ lrupd) }
 {
     let command = with_numbers(alloc)?;
-    let command = command.arg(assume(alloc))?;
+    let command = command.arg(file(alloc, "assume", help::ASSUME))?;
+    let command = command.arg(file(alloc, "checkpoint", help::CHECKPOINT))?;
     let command = command.arg(flag(alloc, "serial", help::SERIAL))?;
     let command = command.arg(flag(alloc, "watch", help::WATCH))?;
     let command = command.arg(formula(alloc))?;
@@ -46,6 +47,7 @@ fn bare<'a>(alloc: Global) -> Command<'a>
 {
     Command::new(alloc, "lrupd")
         .no_binary_name(true)
+        .version(help::VERSION)
         .about(help::PROGRAM)
         .after_help(help::EXAMPLE)
         .next_line_help(true)
@@ -63,16 +65,15 @@ fn number<'a>(alloc: Global, name: &'a str, most: u64, help: &'a str) -> Arg<'a>
         .help(help)
 }
 
-/// The option `--assume FILE`.
-fn assume<'a>(alloc: Global) -> Arg<'a>
-    ensures rule { rule_of result
-        ≡ record (new_rule (codes "assume")) { long = Some (codes "assume"); value_names = 1 } }
+/// The option `--name FILE`.
+fn file<'a>(alloc: Global, name: &'a str, help: &'a str) -> Arg<'a>
+    ensures rule { rule_of result ≡ file_rule name.now }
     ensures local { result.global ≡ false }
 {
-    Arg::new(alloc, "assume")
-        .long("assume")
+    Arg::new(alloc, name)
+        .long(name)
         .value_name("FILE")
-        .help(help::ASSUME)
+        .help(help)
 }
 
 /// The flag `--name`.

@@ -1,4 +1,7 @@
-//! What `--help` says of the program and of its arguments.
+//! What `--help` says of the program and of its arguments, and `--version` of the program.
+
+/// The program's version, that of the file VERSION.
+pub const VERSION: &str = "1.0.0";
 
 /// What the program does.
 pub const PROGRAM: &str = "\
@@ -44,6 +47,12 @@ pub const ASSUME: &str = "\
 A file of assumed literals, in one line that ends with 0: '-2 5 0'. Where a
 checked line derived a clause whose literals are all false under them, and
 none the empty clause, the answer is 's UNSATISFIABLE UNDER ASSUMPTIONS'.";
+
+/// Of `--checkpoint`.
+pub const CHECKPOINT: &str = "\
+Save the clauses that are live at the end as a formula for a later run to go
+on with: FILE, which must not be there yet, is the FORMULA of that run. With
+the answer 's UNSATISFIABLE' nothing is saved, and FILE stays empty.";
 
 /// Of `--serial`.
 pub const SERIAL: &str = "\

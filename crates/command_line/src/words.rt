@@ -24,6 +24,8 @@ pub struct CommandLine<'a> {
     pub room: u64,
     /// The path of the assumed literals, if any.
     pub assume: Option<&'a str>,
+    /// The path of the checkpoint to be written, if any.
+    pub checkpoint: Option<&'a str>,
     /// Whether one thread checks all streams by turns.
     pub serial: bool,
     /// Whether it is told, while streams are checked, what goes on.
@@ -147,7 +149,8 @@ fn command_line<'a>(alloc: Global, matches: &ArgMatches<'a>) -> Result<CommandLi
         tries: option_number(matches, "tries", 1_000),
         lines: option_number(matches, "lines", 65_536),
         room: option_number(matches, "room", 1_048_576),
-        assume: assume_of(matches),
+        assume: file_of(matches, "assume"),
+        checkpoint: file_of(matches, "checkpoint"),
         serial: is_set(matches, "serial"),
         watch: is_set(matches, "watch"),
         formula: formula_of(matches),
@@ -163,12 +166,12 @@ fn is_set(matches: &ArgMatches<'_>, name: &str) -> bool
     matches.get_flag(name)
 }
 
-/// The word of `--assume`, if it is there.
-fn assume_of<'a>(matches: &ArgMatches<'a>) -> Option<&'a str>
+/// The path that an option has, if it is there.
+fn file_of<'a>(matches: &ArgMatches<'a>, name: &str) -> Option<&'a str>
     ensures { option_map (λ path. path.now) result
-        ≡ first_of (codes "assume") (rows_of (found_of matches.now)) }
+        ≡ first_of name.now (rows_of (found_of matches.now)) }
 {
-    matches.get_str("assume")
+    matches.get_str(name)
 }
 
 /// The word FORMULA.

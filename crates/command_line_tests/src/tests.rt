@@ -64,9 +64,21 @@ fn assert_assumed(
     words: &[&str],
     want: Option<&str>,
 ) -> Result<(), Fail> {
+    assert_files(rt, alloc, words, want, None)
+}
+
+/// Of words that give `f`, `s` and each option's default, the files of the options.
+fn assert_files(
+    rt: &impl Abort,
+    alloc: Global,
+    words: &[&str],
+    assume: Option<&str>,
+    checkpoint: Option<&str>,
+) -> Result<(), Fail> {
     assert_options(rt, alloc, words, DEFAULTS)?;
     let given = read_words(alloc, &*words)?;
-    assert!(rt; given.assume == want, "{words:?}: {given:?}");
+    assert!(rt; given.assume == assume, "{words:?}: {given:?}");
+    assert!(rt; given.checkpoint == checkpoint, "{words:?}: {given:?}");
     Ok(())
 }
 
@@ -265,6 +277,63 @@ fn a_file_of_assumed_literals_may_be_named(rt: HostRuntime) -> Result<(), Fail> 
 }
 
 #[test]
+fn a_file_for_a_checkpoint_may_be_named(rt: HostRuntime) -> Result<(), Fail> {
+    let alloc = rt.alloc();
+    assert_files(&rt, alloc, &["f", "s"], None, None)?;
+    assert_files(
+        &rt,
+        alloc,
+        &["--checkpoint", "c", "f", "s"],
+        None,
+        Some("c"),
+    )?;
+    assert_files(&rt, alloc, &["--checkpoint=c", "f", "s"], None, Some("c"))?;
+    assert_files(
+        &rt,
+        alloc,
+        &["f", "--checkpoint", "f", "s"],
+        None,
+        Some("f"),
+    )?;
+    assert_files(
+        &rt,
+        alloc,
+        &["f", "s", "--checkpoint", "s"],
+        None,
+        Some("s"),
+    )?;
+    assert_files(
+        &rt,
+        alloc,
+        &["--checkpoint", "c", "--assume", "a", "f", "s"],
+        Some("a"),
+        Some("c"),
+    )?;
+    assert_files(
+        &rt,
+        alloc,
+        &["--assume=a", "f", "s", "--checkpoint=a"],
+        Some("a"),
+        Some("a"),
+    )
+}
+
+#[test]
+fn a_checkpoint_has_one_file(rt: HostRuntime) -> Result<(), Fail> {
+    let alloc = rt.alloc();
+    let missing = "a value is required for '--checkpoint <FILE>'";
+    assert_usage(
+        &rt,
+        alloc,
+        &["--checkpoint", "c", "f", "s", "--checkpoint=d"],
+        "'--checkpoint <FILE>' cannot be used multiple times",
+    )?;
+    assert_usage(&rt, alloc, &["f", "s", "--checkpoint"], missing)?;
+    assert_usage(&rt, alloc, &["--checkpoint", "--serial", "f", "s"], missing)?;
+    assert_usage(&rt, alloc, &["--checkpoint", "c", "f"], "<STREAM>")
+}
+
+#[test]
 fn options_stand_anywhere_before_two_hyphens(rt: HostRuntime) -> Result<(), Fail> {
     let alloc = rt.alloc();
     let serial = Options {
@@ -352,6 +421,8 @@ fn help_says_what_each_option_is(rt: HostRuntime) -> Result<(), Fail> {
         "0 to 268,435,456, default 1,048,576.",
         "--assume <FILE>\n",
         "'s UNSATISFIABLE UNDER ASSUMPTIONS'.",
+        "--checkpoint <FILE>\n",
+        "FILE, which must not be there yet,",
         "--serial\n",
         "--watch\n",
         "\n  lrupd --tries 1000000 big.cnf solver1.lrup solver2.lrup\n",
@@ -359,6 +430,26 @@ fn help_says_what_each_option_is(rt: HostRuntime) -> Result<(), Fail> {
     for part in parts {
         assert_usage(&rt, alloc, &["--help"], part)?;
         assert_usage(&rt, alloc, &["f", "s", "-h"], part)?;
+    }
+    Ok(())
+}
+
+/// The number is compared with the file VERSION elsewhere: by `make pages`, and by `make examples`.
+#[test]
+fn the_version_is_told(rt: HostRuntime) -> Result<(), Fail> {
+    let alloc = rt.alloc();
+    for words in [
+        &["--version"][..],
+        &["-V"][..],
+        &["f", "s", "--version"][..],
+    ] {
+        match read_words(alloc, words) {
+            Err(WordsFault::Usage(text)) => {
+                assert!(rt; text.as_str().starts_with("lrupd "), "{words:?}: {text}");
+                assert!(rt; text.as_str().lines().count() == 1, "{words:?}: {text}");
+            }
+            other => return Err(Fail::from(format_args!("{words:?}: {other:?}"))),
+        }
     }
     Ok(())
 }

@@ -1,11 +1,14 @@
 //! What the definition of what words ask for says of a few words. Each follows from the definition alone, so a wrong one isn't proved.
 ghost use Rattle.std.specs.Prelude.{[], ◌∷◌, ℕ, List, Option, Some, codes};
-ghost use Rattle.command_line.specs.CommandLine.{AskFor};
+ghost use Rattle.command_line.specs.CommandLine.{AskFor, AskToSave};
 
-/// `--assume` has the word after it, and FORMULA is the first word that no option has. Words with a fault ask for nothing.
+/// `--assume` has the word after it, and FORMULA is the first word that no option has. Words with a fault ask for nothing. A checkpoint is asked for by its own option alone.
 pub fn words_ask_for_files()
     ensures assumed { AskFor (codes "--assume" ∷ codes "a" ∷ codes "f" ∷ codes "s" ∷ [])
         (codes "f") (Some (codes "a")) }
     ensures fault { (formula : List ℕ) (assume : Option (List ℕ)) →
         ¬ AskFor (codes "--assume" ∷ codes "a" ∷ codes "f" ∷ []) formula assume }
+    ensures saved { AskToSave (codes "f" ∷ codes "--checkpoint=c" ∷ codes "s" ∷ []) (codes "c") }
+    ensures unsaved { (path : List ℕ) →
+        ¬ AskToSave (codes "--assume" ∷ codes "a" ∷ codes "f" ∷ codes "s" ∷ []) path }
 {}

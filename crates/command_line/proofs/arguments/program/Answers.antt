@@ -5,8 +5,9 @@ use Rattle.command_line.proofs.arguments.program.Goals as goal
 
 pub returns : goal.returns
 returns c =
-    let one = c.in_ok-command-2.ensures.shape c.assume.ensures.local ∙ ap₂ with_rule c.in_ok-command.ensures c.assume.ensures.rule in
-    let two = c.in_ok-command-3.ensures.shape c.flag.ensures.local ∙ ap₂ with_rule one c.flag.ensures.rule in
-    let three = c.in_ok-command-4.ensures.shape c.flag-2.ensures.local ∙ ap₂ with_rule two c.flag-2.ensures.rule in
-    let four = c.in_ok-command-5.ensures.shape c.formula.ensures.local ∙ ap₂ with_rule three c.formula.ensures.rule in
-    IfOk-weaker c.arg-5.result _ _ (λ r added. added.shape c.stream.ensures.local ∙ ap₂ with_rule four c.stream.ensures.rule) c.arg-5.ensures
+    let one = c.in_ok-command-2.ensures.shape c.file.ensures.local ∙ ap₂ with_rule c.in_ok-command.ensures c.file.ensures.rule in
+    let two = c.in_ok-command-3.ensures.shape c.file-2.ensures.local ∙ ap₂ with_rule one c.file-2.ensures.rule in
+    let three = c.in_ok-command-4.ensures.shape c.flag.ensures.local ∙ ap₂ with_rule two c.flag.ensures.rule in
+    let four = c.in_ok-command-5.ensures.shape c.flag-2.ensures.local ∙ ap₂ with_rule three c.flag-2.ensures.rule in
+    let five = c.in_ok-command-6.ensures.shape c.formula.ensures.local ∙ ap₂ with_rule four c.formula.ensures.rule in
+    IfOk-weaker c.arg-6.result _ _ (λ r added. added.shape c.stream.ensures.local ∙ ap₂ with_rule five c.stream.ensures.rule) c.arg-6.ensures

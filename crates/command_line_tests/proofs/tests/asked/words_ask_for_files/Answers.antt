@@ -1,6 +1,6 @@
 use Rattle.std.proofs.Common.{ℕ, List, [], ◌∷◌, Option, Some, codes, refl}
 use Rattle.clap.proofs.OnLiterals.{clap_on_literals}
-use Rattle.command_line.specs.CommandLine.{AskFor}
+use Rattle.command_line.specs.CommandLine.{AskFor, AskToSave}
 use Rattle.command_line_tests.proofs.tests.asked.words_ask_for_files.Goals as goal
 
 assumed : AskFor (codes "--assume" ∷ codes "a" ∷ codes "f" ∷ codes "s" ∷ []) (codes "f") (Some (codes "a"))
@@ -11,5 +11,13 @@ fault : (formula : List ℕ) (assume : Option (List ℕ)) → ¬ AskFor (codes "
 unfolding clap_on_literals
 fault formula assume h = let e = h.good in cc
 
+saved : AskToSave (codes "f" ∷ codes "--checkpoint=c" ∷ codes "s" ∷ []) (codes "c")
+unfolding clap_on_literals
+saved = record { good = refl; path_is = refl }
+
+unsaved : (path : List ℕ) → ¬ AskToSave (codes "--assume" ∷ codes "a" ∷ codes "f" ∷ codes "s" ∷ []) path
+unfolding clap_on_literals
+unsaved path h = let e = h.path_is in cc
+
 pub returns : goal.returns
-returns c = record { assumed = assumed; fault = fault }
+returns c = record { assumed = assumed; fault = fault; saved = saved; unsaved = unsaved }
