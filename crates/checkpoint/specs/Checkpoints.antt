@@ -8,6 +8,7 @@ use Rattle.lrup_model.specs.Entailment.{IsUnsatisfiable}
 use Rattle.lrup_model.specs.Formula.{Cnf, max_clause_literals, max_clauses}
 use Rattle.dimacs.specs.FormulaText.{IsFormulaText}
 use Rattle.checkpoint.specs.Entails.{Entails}
+use Rattle.checkpoint.specs.Live.{Entry, clauses_of}
 use Rattle.checkpoint.specs.Printing.{formula_text}
 use Rattle.checkpoint.specs.declared.saving.SaveFault.{SaveFault}
 use Rattle.checkpoint.specs.declared.saving.SaveFault.TheVariants as faults
@@ -26,14 +27,14 @@ AreWithinLimits clauses =
 
 -- What became of the saving of clauses: their text was written; or nothing, where they are too many
 -- or too long; or, where a write failed, a beginning of the text.
-abbrev pub Saves : Result (Unit {0}) SaveFault → ℕ → List Clause → Option (List ℕ)
+abbrev pub Saves : Result (Unit {0}) SaveFault → ℕ → List Entry → Option (List ℕ)
     → Option (List ℕ) → Type 0
-Saves (Ok _) vars clauses before after = Appends before after (formula_text vars clauses)
-Saves (Err faults.Memory) vars clauses before after = ⊥
-Saves (Err faults.TooLarge) vars clauses before after =
-    (¬ AreWithinLimits clauses) × Appends before after []
-Saves (Err faults.Unwritten) vars clauses before after =
-    (went rest : List ℕ) × (formula_text vars clauses ≡ went ++ rest) × Appends before after went
+Saves (Ok _) vars entries before after = Appends before after (formula_text vars entries)
+Saves (Err faults.Memory) vars entries before after = ⊥
+Saves (Err faults.TooLarge) vars entries before after =
+    (¬ AreWithinLimits (clauses_of entries)) × Appends before after []
+Saves (Err faults.Unwritten) vars entries before after =
+    (went rest : List ℕ) × (formula_text vars entries ≡ went ++ rest) × Appends before after went
 
 -- Chains of files
 

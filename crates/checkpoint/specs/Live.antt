@@ -1,21 +1,36 @@
--- What was fetched from a clause map, one identity after the other (this project's own).
-use Rattle.std.specs.Prelude.{◌+◌, ℕ, List, [], ◌∷◌, map}
+-- What was fetched from a clause map, one identity after the other, and what is kept of it (this project's own).
+use Rattle.std.specs.Prelude.{◌+◌, ℕ, Bool, List, [], ◌∷◌, map, if◌then◌else◌}
 use Rattle.lrup_model.specs.Clause.{Clause}
 use Rattle.lrup_model.specs.Event.{History, Reply, fetch, vacant, live, retired}
 use Rattle.lrup_model.specs.Place.{Place, ClipValue, clip_clause}
+
+-- a clause, with its identity in the run
+pub record Entry : Type 0 where
+  pub id : ℕ
+  pub clause : Clause
 
 -- a stream's fetches of the identities from id on, one for each reply
 abbrev pub fetches : ℕ → ℕ → List Reply → History
 fetches s id [] = []
 fetches s id (r ∷ replies) = fetch s id r ∷ fetches s (id + 1) replies
 
--- the clauses of the live replies, in order
-abbrev pub live_of : List Reply → List Clause
-live_of [] = []
-live_of (vacant ∷ replies) = live_of replies
-live_of (live c ∷ replies) = c ∷ live_of replies
-live_of (retired ∷ replies) = live_of replies
+-- of the replies for the identities from id on, the live ones that are wanted, in order
+abbrev pub kept_of : (ℕ → Bool) → ℕ → List Reply → List Entry
+kept_of wants id [] = []
+kept_of wants id (vacant ∷ replies) = kept_of wants (id + 1) replies
+kept_of wants id (live c ∷ replies) =
+    if wants id then record { id = id; clause = c } ∷ kept_of wants (id + 1) replies
+    else kept_of wants (id + 1) replies
+kept_of wants id (retired ∷ replies) = kept_of wants (id + 1) replies
 
--- the clauses of clips, in order
-abbrev pub clauses_of : Place → List ClipValue → List Clause
-clauses_of p clips = map (clip_clause p) clips
+-- the clauses of a formula that are wanted, under the identities from 1 on
+abbrev pub wanted_of : (ℕ → Bool) → List Clause → List Entry
+wanted_of wants clauses = kept_of wants 1 (map live clauses)
+
+-- the clauses of clips with their identities, in order
+abbrev pub entries_of : Place → List ClipValue → List Entry
+entries_of p clips = map (λ clip. record { id = clip.id; clause = clip_clause p clip }) clips
+
+-- the clauses alone
+abbrev pub clauses_of : List Entry → List Clause
+clauses_of entries = map (λ e. e.clause) entries

@@ -1,26 +1,50 @@
--- The text of a formula, as it is printed (DIMACS CNF; the exact spelling is this project's own).
-use Rattle.std.specs.Prelude.{ℕ, List, ◌++◌, codes, length, flat_map}
+-- The text of a checkpoint, as it is printed (DIMACS CNF; the exact spelling is this project's own).
+use Rattle.std.specs.Prelude.{◌≡◌, ◌<◌, ◌+◌, ◌==◌, ℕ, List, [], ◌∷◌, ◌++◌, codes, length, flat_map, if◌then◌else◌}
 use Rattle.std.specs.Fmt.{decimal, signed_decimal}
 use Rattle.lrup_model.specs.Clause.{Clause}
 use Rattle.lrup_model.specs.Formula.{Cnf, IsCnf}
 use Rattle.dimacs.specs.FormulaText.{IsFormulaText}
+use Rattle.checkpoint.specs.Live.{Entry, clauses_of}
 
 -- the numbers of variables and of clauses
 abbrev pub header_line : ℕ → ℕ → List ℕ
 header_line vars count =
     codes "p cnf " ++ decimal vars ++ codes " " ++ decimal count ++ codes "\n"
 
+-- a comment that tells a clause's identity, where that isn't its place
+unfoldable pub note : ℕ → ℕ → List ℕ
+note id place = if id == place then [] else codes "c id " ++ decimal id ++ codes "\n"
+
 -- the literals, each with a space after it, then 0
 unfoldable pub clause_line : Clause → List ℕ
 clause_line c = flat_map (λ l. signed_decimal l ++ codes " ") c ++ codes "0\n"
 
--- the header, and the line of each clause
-unfoldable pub formula_text : ℕ → List Clause → List ℕ
-formula_text vars clauses =
-    header_line vars (length clauses) ++ flat_map clause_line clauses
+-- the note of a clause at a place, and its line
+abbrev pub entry_text : ℕ → Entry → List ℕ
+entry_text place e = note e.id place ++ clause_line e.clause
+
+-- those of clauses at the places from this one on
+abbrev pub entries_text : ℕ → List Entry → List ℕ
+entries_text place [] = []
+entries_text place (e ∷ entries) = entry_text place e ++ entries_text (place + 1) entries
+
+-- the header, and the text of each clause; the places count from 1
+unfoldable pub formula_text : ℕ → List Entry → List ℕ
+formula_text vars entries = header_line vars (length entries) ++ entries_text 1 entries
+
+-- the formula that is printed
+abbrev pub printed : ℕ → List Entry → Cnf
+printed vars entries = record { vars = vars; clauses = clauses_of entries }
 
 -- Laws
 
--- the text of a formula, as it is printed, is a text of it
+-- what is printed is a text of the formula
 abbrev pub PrintedIsRead : Type 0
-PrintedIsRead = (f : Cnf) → IsCnf f → IsFormulaText (formula_text f.vars f.clauses) f
+PrintedIsRead = (vars : ℕ) (entries : List Entry) → IsCnf (printed vars entries)
+    → IsFormulaText (formula_text vars entries) (printed vars entries)
+
+-- a beginning that lacks more than the end of the last line is a text of no formula
+abbrev pub ABeginningIsNoText : Type 0
+ABeginningIsNoText = (vars : ℕ) (entries : List Entry) → IsCnf (printed vars entries)
+    → (went rest : List ℕ) → formula_text vars entries ≡ went ++ rest → 1 < length rest
+    → (f : Cnf) → ¬ IsFormulaText went f

@@ -2,7 +2,7 @@
 //! contract is the law.
 ghost use Rattle.checkpoint.specs.Checkpoints.{FilesRefute, FilesRefuteUnder};
 ghost use Rattle.checkpoint.specs.Entails.{ChainRefutes, ChainRefutesUnder, EntailsItself, EntailsOnward, RefutesBack, RefutesBackUnder};
-ghost use Rattle.checkpoint.specs.Printing.{PrintedIsRead};
+ghost use Rattle.checkpoint.specs.Printing.{ABeginningIsNoText, PrintedIsRead};
 
 use dimacs::laws::one_formula;
 
@@ -36,9 +36,15 @@ pub fn chain_refutes_under()
     ensures { ChainRefutesUnder }
 {}
 
-/// The text of a formula, as it is printed, is a text of it.
+/// The text of a checkpoint, as it is printed, is a text of its formula.
 pub fn printed_is_read()
     ensures { PrintedIsRead }
+{}
+
+/// A beginning of a checkpoint's text that lacks more than the end of the last line is a text of no formula: a file that was cut
+/// off is refused.
+pub fn a_beginning_is_no_text()
+    ensures { ABeginningIsNoText }
 {}
 
 /// Where each file is a text of a formula and the next one a checkpoint of it, and the last holds a formula that no assignment

@@ -7,6 +7,6 @@ mod live;
 mod saving;
 mod text;
 
-pub use live::live_clauses;
+pub use live::{Wanted, live_clauses};
 pub use saving::{SaveFault, save, save_clips};
 pub use text::write_formula;

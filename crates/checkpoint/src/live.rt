@@ -1,44 +1,56 @@
-//! Which clauses are live at a clause map.
-ghost use Rattle.std.specs.Prelude.{◌≡◌, ◌≤◌, ◌++◌, List, IfOk, length};
+//! Which clauses are live at a clause map, and wanted.
+ghost use Rattle.std.specs.Prelude.{◌≡◌, ◌≤◌, ◌++◌, ℕ, Bool, List, IfOk, length};
 ghost use Rattle.std.specs.List.{AllByRecursion};
-ghost use Rattle.lrup_model.specs.Clause.{Clause};
 ghost use Rattle.lrup_model.specs.Layout.{last_identity};
 ghost use Rattle.lrup_model.specs.Entailment.{IsDerived};
 ghost use Rattle.lrup_model.specs.Event.{Reply};
 ghost use Rattle.lrup_model.specs.Place.{IsKnown};
-ghost use Rattle.checkpoint.specs.Live.{clauses_of, fetches, live_of};
+ghost use Rattle.checkpoint.specs.Live.{Entry, clauses_of, entries_of, fetches, kept_of, wanted_of};
 
 use lrup_model::{ClauseMap, Clip, Fetched, Id};
 use std::alloc::{AllocError, Global};
 
-/// The clips of the clauses that are live under the identities 1 to `last`, in order. Each identity is fetched once. Where
-/// memory runs out, the fetches up to one that was answered live have been made.
-pub fn live_clauses<M: ClauseMap>(
+/// Which of the clauses that are live go into a checkpoint.
+pub trait Wanted {
+    ghost wants: { Self → ℕ → Bool };
+
+    /// Does the clause under this identity?
+    fn wants(&self, id: Id) -> bool
+        ensures { result ≡ wants self.now id };
+}
+
+/// The clips of the clauses that are live under the identities 1 to `last` and wanted, in order. Each identity is fetched once.
+/// Where memory runs out, the fetches up to one that was answered live have been made.
+pub fn live_clauses<M: ClauseMap, K: Wanted>(
     alloc: Global,
     map: &mut M,
     last: Id,
+    wanted: &K,
 ) -> Result<Vec<Clip>, AllocError>
     requires { last ≤ last_identity (M.place map.old).caller.layout }
-    // The calls are these fetches, with the replies given, and the clauses are those of the live ones.
+    // The calls are these fetches, with the replies given, and the clauses are the live ones that are wanted.
     ensures fetched { (replies : List Reply)
         × M.moves map.old map.new (fetches (M.place map.old).caller.stream 1 replies)
         × (length replies ≤ last)
         × IfOk result (λ clips. (length replies ≡ last)
-        × (clauses_of (M.place map.new) clips.items ≡ live_of replies)) }
+        × (entries_of (M.place map.new) clips.items ≡ kept_of (K.wants wanted.now) 1 replies)) }
     ensures known { IfOk result (λ clips.
         AllByRecursion (IsKnown (M.place map.new)) clips.items) }
     ensures follow { IfOk result (λ clips.
         AllByRecursion (IsDerived (M.place map.old).caller.formula)
-        (clauses_of (M.place map.new) clips.items)) }
-    // The formula's clauses come first.
+        (clauses_of (entries_of (M.place map.new) clips.items))) }
+    // Those of the formula that are wanted come first.
     ensures formula { let caller = (M.place map.old).caller in
         IfOk result (λ clips. caller.layout.clauses ≡ length caller.formula.clauses
-        → caller.layout.clauses ≤ last → (more : List Clause)
-        × (clauses_of (M.place map.new) clips.items ≡ caller.formula.clauses ++ more)) }
+        → caller.layout.clauses ≤ last → (more : List Entry)
+        × (entries_of (M.place map.new) clips.items
+        ≡ wanted_of (K.wants wanted.now) caller.formula.clauses ++ more)) }
 {
     let mut clips = Vec::new(alloc);
     for before in 0..last {
-        if let Fetched::Live(clip) = map.fetch(before + 1) {
+        if let Fetched::Live(clip) = map.fetch(before + 1)
+            && wanted.wants(before + 1)
+        {
             clips.push(clip)?;
         }
     }

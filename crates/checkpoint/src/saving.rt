@@ -2,7 +2,6 @@
 ghost use Rattle.std.specs.Prelude.{◌≡◌, ◌↔◌, ◌⊎◌, ◌≤◌, ◌++◌, [], Err, IfOk, IsTrue, List, ℕ, false, length};
 ghost use Rattle.std.specs.Io.KnownBytes.{Appends};
 ghost use Rattle.std.specs.List.{AllByRecursion};
-ghost use Rattle.lrup_model.specs.Clause.{Clause};
 ghost use Rattle.lrup_model.specs.Entailment.{IsDerived};
 ghost use Rattle.lrup_model.specs.Event.{Reply};
 ghost use Rattle.lrup_model.specs.Formula.{max_clause_literals, max_clauses};
@@ -10,10 +9,10 @@ ghost use Rattle.lrup_model.specs.Layout.{Fits, last_identity};
 ghost use Rattle.lrup_model.specs.Literal.{max_variable};
 ghost use Rattle.lrup_model.specs.Place.{IsKnown};
 ghost use Rattle.checkpoint.specs.Checkpoints.{IsCheckpoint, Saves};
-ghost use Rattle.checkpoint.specs.Live.{clauses_of, fetches, live_of};
+ghost use Rattle.checkpoint.specs.Live.{Entry, clauses_of, entries_of, fetches, kept_of, wanted_of};
 ghost use Rattle.checkpoint.specs.Printing.{formula_text};
 
-use crate::live::live_clauses;
+use crate::live::{Wanted, live_clauses};
 use crate::text::write_formula;
 use lrup_model::{ClauseMap, Clip, Formula, Layout};
 use lrup_text::{Sink, WriteFault};
@@ -24,7 +23,7 @@ use thiserror::Error;
 #[derive(Clone, Copy, Debug, PartialEq, Eq, Error)]
 pub enum SaveFault {
     /// Out of memory. Nothing was written.
-    #[error("out of memory")]
+    #[error("checkpoint not written: out of memory")]
     Memory,
     /// No formula has so many clauses as are live, or one so long. Nothing was written.
     #[error("checkpoint refused: limit")]
@@ -44,12 +43,13 @@ impl From<AllocError> for SaveFault {
     }
 }
 
-/// Writes the formula of the clauses that are live at the map, which each follow from the run's formula. All identities are
-/// fetched, each once, before the first write. It takes memory for the clips, 16 bytes a live clause.
-pub fn save<M: ClauseMap, W: Sink>(
+/// Writes the formula of the clauses that are live at the map and wanted, which each follow from the run's formula. All
+/// identities are fetched, each once, before the first write. It takes memory for the clips, 16 bytes a clause.
+pub fn save<M: ClauseMap, K: Wanted, W: Sink>(
     alloc: Global,
     map: &mut M,
     layout: &Layout,
+    wanted: &K,
     sink: &mut W,
 ) -> Result<(), SaveFault>
     requires layout { layout.now ≡ (M.place map.old).caller.layout }
@@ -59,20 +59,21 @@ pub fn save<M: ClauseMap, W: Sink>(
     ensures checkpoint { IfOk result (λ _. (bytes : List ℕ)
         × Appends (W.written sink.old) (W.written sink.new) bytes
         × IsCheckpoint (M.place map.old).caller.formula bytes) }
-    // The clauses of the run's formula come first.
+    // The clauses of the run's formula that are wanted come first.
     ensures keeps { let f = (M.place map.old).caller.formula in
-        IfOk result (λ _. (more : List Clause) × Appends (W.written sink.old) (W.written sink.new)
-        (formula_text f.vars (f.clauses ++ more))) }
+        IfOk result (λ _. (more : List Entry) × Appends (W.written sink.old) (W.written sink.new)
+        (formula_text f.vars (wanted_of (K.wants wanted.now) f.clauses ++ more))) }
     // The map's calls, and what went out.
     ensures saves { (replies : List Reply)
         × M.moves map.old map.new (fetches (M.place map.old).caller.stream 1 replies)
         × (length replies ≤ last_identity layout.now)
         × ((length replies ≡ last_identity layout.now)
-        × Saves result layout.now.vars (live_of replies) (W.written sink.old) (W.written sink.new)
+        × Saves result layout.now.vars (kept_of (K.wants wanted.now) 1 replies)
+        (W.written sink.old) (W.written sink.new)
         ⊎ (result ≡ Err SaveFault.Memory) × (sink.new ≡ sink.old)) }
     ensures failed { IsTrue (W.has_failed sink.new) ↔ (result ≡ Err SaveFault.Unwritten) }
 {
-    let clips = live_clauses(alloc, map, layout.last_identity())?;
+    let clips = live_clauses(alloc, map, layout.last_identity(), wanted)?;
     save_clips(map, &clips, layout.vars(), sink)
 }
 
@@ -86,14 +87,14 @@ pub fn save_clips<M: ClauseMap, W: Sink>(
 ) -> Result<(), SaveFault>
     requires known { AllByRecursion (IsKnown (M.place map.old)) clips.now }
     requires follow { AllByRecursion (IsDerived (M.place map.old).caller.formula)
-        (clauses_of (M.place map.old) clips.now) }
+        (clauses_of (entries_of (M.place map.old) clips.now)) }
     requires vars { vars ≡ (M.place map.old).caller.formula.vars }
     requires few { vars ≤ max_variable }
     requires running { W.has_failed sink.old ≡ false }
     ensures checkpoint { IfOk result (λ _. (bytes : List ℕ)
         × Appends (W.written sink.old) (W.written sink.new) bytes
         × IsCheckpoint (M.place map.old).caller.formula bytes) }
-    ensures saves { Saves result vars (clauses_of (M.place map.old) clips.now)
+    ensures saves { Saves result vars (entries_of (M.place map.old) clips.now)
         (W.written sink.old) (W.written sink.new) }
     ensures failed { IsTrue (W.has_failed sink.new) ↔ (result ≡ Err SaveFault.Unwritten) }
     ensures event { M.moves map.old map.new [] }

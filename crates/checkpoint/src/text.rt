@@ -4,14 +4,14 @@ ghost use Rattle.std.specs.Fmt.{decimal, signed_decimal};
 ghost use Rattle.std.specs.List.{AllByRecursion};
 ghost use Rattle.lrup_model.specs.Place.{IsKnown, clip_clause};
 ghost use Rattle.lrup_text.specs.Writing.{PutsAll, WritesText};
-ghost use Rattle.checkpoint.specs.Live.{clauses_of};
-ghost use Rattle.checkpoint.specs.Printing.{clause_line, formula_text, header_line};
+ghost use Rattle.checkpoint.specs.Live.{entries_of};
+ghost use Rattle.checkpoint.specs.Printing.{clause_line, formula_text, header_line, note};
 
-use lrup_model::{ClauseMap, Clip, Lit};
+use lrup_model::{ClauseMap, Clip, Id, Lit};
 use lrup_text::{Sink, WriteBuffer, WriteFault};
 
-/// Writes the formula over the variables 1 to `vars` whose clauses are those of the clips, in order. After a fault, what went
-/// out is a beginning of its text. At the map it is no event.
+/// Writes the formula over the variables 1 to `vars` whose clauses are those of the clips, in order, and their identities where
+/// they aren't the places. After a fault, what went out is a beginning of its text. At the map it is no event.
 pub fn write_formula<M: ClauseMap, W: Sink>(
     map: &mut M,
     clips: &[Clip],
@@ -21,14 +21,15 @@ pub fn write_formula<M: ClauseMap, W: Sink>(
     requires known { AllByRecursion (IsKnown (M.place map.old)) clips.now }
     requires running { W.has_failed sink.old ≡ false }
     ensures text { WritesText result (W.written sink.old) (W.written sink.new)
-        (formula_text vars (clauses_of (M.place map.old) clips.now)) }
+        (formula_text vars (entries_of (M.place map.old) clips.now)) }
     ensures failed { W.has_failed sink.new ≡ is_err result }
     ensures event { M.moves map.old map.new [] }
     ensures stays { M.place map.new ≡ M.place map.old }
 {
     let mut buffer = WriteBuffer::new();
     put_header(&mut buffer, vars, clips.len(), sink)?;
-    for clip in clips {
+    for (before, clip) in clips.iter().enumerate() {
+        put_note(&mut buffer, clip.id(), before as u64 + 1, sink)?;
         put_clause(&mut buffer, map, clip, sink)?;
     }
     buffer.flush(sink)
@@ -50,6 +51,26 @@ fn put_header<W: Sink>(
     buffer.put_number(vars as u64, sink)?;
     buffer.put(b" ", sink)?;
     buffer.put_number(count as u64, sink)?;
+    buffer.put(b"\n", sink)
+}
+
+/// Puts the note of a clause: its identity, where that isn't its place.
+fn put_note<W: Sink>(
+    buffer: &mut WriteBuffer,
+    id: Id,
+    place: u64,
+    sink: &mut W,
+) -> Result<(), WriteFault>
+    requires { W.has_failed sink.old ≡ false }
+    ensures puts { PutsAll result (W.written sink.old) (W.written sink.new)
+        buffer.old buffer.new (note id place) }
+    ensures failed { W.has_failed sink.new ≡ is_err result }
+{
+    if id == place {
+        return Ok(());
+    }
+    buffer.put(b"c id ", sink)?;
+    buffer.put_number(id, sink)?;
     buffer.put(b"\n", sink)
 }
 
