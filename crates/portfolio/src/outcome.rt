@@ -5,7 +5,7 @@ ghost use Rattle.portfolio.specs.Outcomes.{verdict_of};
 use clause_store::{Pass, Store};
 use lrup_model::{Layout, LayoutFault, PlainMap};
 use std::alloc::AllocError;
-use stream_check::Report;
+use stream_check::{Dropped, Report};
 use thiserror::Error;
 
 /// What the reports of all streams come to.
@@ -83,6 +83,8 @@ pub struct SerialOutcome<R: Drop> {
     pub map: PlainMap,
     /// The readers, as far as they were read, in order.
     pub readers: Vec<R>,
+    /// The identities that each stream dropped, in order.
+    pub dropped: Vec<Dropped>,
 }
 
 /// What a run with threads found.
@@ -100,4 +102,6 @@ pub struct Outcome<R: Drop> {
     pub layout: Layout,
     /// The readers, as far as they were read, in order.
     pub readers: Vec<R>,
+    /// The identities that each stream dropped, in order.
+    pub dropped: Vec<Dropped>,
 }

@@ -28,7 +28,7 @@ use runs::Terms;
 use std::alloc::{AllocError, Global};
 use std::sync::Wait;
 use stream_check::laws::ready_beside;
-use stream_check::{Gate, Report};
+use stream_check::{Dropped, Gate, Report};
 
 /// Checks the streams that the readers give, stream 1 first, on this thread and by turns: a turn of a stream reads until one
 /// line was taken, or the stream is over. It says whether one derived a clause that contradicts the cube. As many gates are
@@ -75,6 +75,7 @@ pub fn run_serial<W: Wait, R: Source + Drop, G: Gate + Drop>(
     // The clauses stay, for whoever saves them.
     ensures kept { IfOk result (λ outcome. (formula_of outcome.map ≡ formula.now)
         × (outcome.map.layout ≡ layout_of options formula.now (length readers.items))) }
+    ensures dropped { IfOk result (λ outcome. vec_len outcome.dropped ≡ length readers.items) }
     // What a user relies on.
     ensures sound { IfOk result (λ outcome.
         outcome.verdict ≡ Verdict.Unsatisfiable → IsUnsatisfiable formula.now) }
@@ -89,8 +90,9 @@ pub fn run_serial<W: Wait, R: Source + Drop, G: Gate + Drop>(
     let mut workers = workers_of(alloc, &terms, readers, gates)?;
     let reports = Vec::with_capacity(alloc, workers.len())?;
     let readers = Vec::with_capacity(alloc, workers.len())?;
+    let dropped = Vec::with_capacity(alloc, workers.len())?;
     take_turns(wait, &mut map, &mut workers);
-    Ok(outcome_of(map, workers, reports, readers))
+    Ok(outcome_of(map, workers, reports, readers, dropped))
 }
 
 /// A worker for each stream.
@@ -200,20 +202,25 @@ fn outcome_of<R: Source + Drop, G: Gate + Drop>(
     workers: Vec<Worker<R, G>>,
     mut reports: Vec<Report>,
     mut readers: Vec<R>,
+    mut dropped: Vec<Dropped>,
 ) -> SerialOutcome<R>
     requires over { AreOver workers.items }
-    requires none { (reports.items ≡ []) × (readers.items ≡ []) }
+    requires none { (reports.items ≡ []) × (readers.items ≡ []) × (dropped.items ≡ []) }
     requires reports { vec_len workers ≤ vec_capacity reports }
     requires readers { vec_len workers ≤ vec_capacity readers }
+    requires dropped { vec_len workers ≤ vec_capacity dropped }
     ensures reports { HaveReports workers.items result.reports.items }
     ensures readers { result.readers.items ≡ map (λ w. w.reader) workers.items }
+    ensures dropped { map (λ d. d.ids) result.dropped.items
+        ≡ map (λ w. w.checker.dropped) workers.items }
     ensures verdict { result.verdict ≡ verdict_of result.reports.items }
     ensures kept { result.map ≡ plain }
 {
     for worker in workers {
-        let (report, reader) = worker.into_parts();
+        let (report, reader, gone) = worker.into_parts();
         reports.push_reserved(report);
         readers.push_reserved(reader);
+        dropped.push_reserved(gone);
     }
     let verdict = Verdict::of(&reports);
     SerialOutcome {
@@ -221,5 +228,6 @@ fn outcome_of<R: Source + Drop, G: Gate + Drop>(
         verdict,
         map: plain,
         readers,
+        dropped,
     }
 }

@@ -26,7 +26,7 @@ use runs::Terms;
 use std::alloc::{AllocError, Global};
 use std::sync::Wait;
 use std::thread::Threads;
-use stream_check::{Gate, Report};
+use stream_check::{Dropped, Gate, Report};
 use stream_threads::{Room, StreamResult, ThreadFault, check_all, jobs_of};
 
 /// Checks the streams that the readers give, each in two threads of its own, one that reads it to its end and one that checks what
@@ -97,6 +97,7 @@ pub fn run<T: Threads + Wait + Sync, R: Source + Send + Drop, G: Gate + Send + D
         × (outcome.store.layout ≡ outcome.layout)) }
     ensures kept { IfOk result (λ outcome.
         outcome.layout ≡ layout_of options formula.now (length readers.items)) }
+    ensures dropped { IfOk result (λ outcome. vec_len outcome.dropped ≡ length readers.items) }
     // What a user relies on.
     ensures sound { IfOk result (λ outcome.
         outcome.verdict ≡ Verdict.Unsatisfiable → IsUnsatisfiable formula.now) }
@@ -115,13 +116,18 @@ pub fn run<T: Threads + Wait + Sync, R: Source + Send + Drop, G: Gate + Send + D
         reports,
         met,
         readers,
+        dropped,
     } = lists_for(alloc, jobs.len())?;
     match check_all(threads, &store, jobs, room) {
-        Ok(found) => Ok(outcome_of(store, layout, found, reports, met, readers)),
+        Ok(found) => Ok(outcome_of(
+                store, layout, found, reports, met, readers, dropped,
+            )),
         Err(ThreadFault::Spawn(stream)) => Err(RunFault::Spawn(stream)),
         Err(ThreadFault::Ring(found)) => {
             let stream = found.len() as u64 + 1;
-            let _before = outcome_of(store, layout, found, reports, met, readers);
+            let _before = outcome_of(
+                store, layout, found, reports, met, readers, dropped,
+            );
             Err(RunFault::Ring(stream))
         }
     }
@@ -134,6 +140,7 @@ struct Lists<R: Source + Drop, G: Gate + Drop> {
     reports: Vec<Report>,
     met: Vec<Pass>,
     readers: Vec<R>,
+    dropped: Vec<Dropped>,
 }
 
 /// Lists with room for so many streams.
@@ -148,12 +155,15 @@ fn lists_for<R: Source + Drop, G: Gate + Drop>(
         (lists.met.items ≡ []) × (vec_capacity lists.met ≡ count)) }
     ensures readers { IfOk result (λ lists.
         (lists.readers.items ≡ []) × (vec_capacity lists.readers ≡ count)) }
+    ensures dropped { IfOk result (λ lists.
+        (lists.dropped.items ≡ []) × (vec_capacity lists.dropped ≡ count)) }
 {
     Ok(Lists {
         room: Room::new(alloc, count)?,
         reports: Vec::with_capacity(alloc, count)?,
         met: Vec::with_capacity(alloc, count)?,
         readers: Vec::with_capacity(alloc, count)?,
+        dropped: Vec::with_capacity(alloc, count)?,
     })
 }
 
@@ -165,14 +175,18 @@ fn outcome_of<R: Source + Drop>(
     mut reports: Vec<Report>,
     mut passes: Vec<Pass>,
     mut readers: Vec<R>,
+    mut dropped: Vec<Dropped>,
 ) -> Outcome<R>
     requires store { AreOf store (map (λ f. f.pass) found.items) }
-    requires none { (reports.items ≡ []) × (passes.items ≡ []) × (readers.items ≡ []) }
+    requires none { (reports.items ≡ []) × (passes.items ≡ []) × (readers.items ≡ [])
+        × (dropped.items ≡ []) }
     requires reports { vec_len found ≤ vec_capacity reports }
     requires passes { vec_len found ≤ vec_capacity passes }
     requires readers { vec_len found ≤ vec_capacity readers }
+    requires dropped { vec_len found ≤ vec_capacity dropped }
     ensures reports { result.reports.items ≡ map (λ f. f.report) found.items }
     ensures readers { result.readers.items ≡ map (λ f. f.reader) found.items }
+    ensures dropped { result.dropped.items ≡ map (λ f. f.dropped) found.items }
     ensures met { AreMet (views (map (λ f. f.pass) found.items)) (views result.passes.items) }
     ensures one { HaveMet (views result.passes.items) }
     ensures verdict { result.verdict ≡ verdict_of result.reports.items }
@@ -184,10 +198,12 @@ fn outcome_of<R: Source + Drop>(
             report,
             reader,
             pass,
+            dropped: gone,
         } = one;
         reports.push_reserved(report);
         passes.push_reserved(pass);
         readers.push_reserved(reader);
+        dropped.push_reserved(gone);
     }
     store.meet_all(&mut passes);
     let verdict = Verdict::of(&reports);
@@ -198,5 +214,6 @@ fn outcome_of<R: Source + Drop>(
         store,
         layout,
         readers,
+        dropped,
     }
 }

@@ -15,7 +15,7 @@ use runs::Terms;
 use std::alloc::{AllocError, Global};
 use std::marker::Model;
 use std::sync::Wait;
-use stream_check::{CheckTurn, Checker, Gate, Report};
+use stream_check::{CheckTurn, Checker, Dropped, Gate, Report};
 
 /// The most bytes that one read asks for.
 const PIECE: usize = 65_536;
@@ -152,19 +152,20 @@ impl<R: Source + Drop, G: Gate + Drop> Worker<R, G> {
         progress.turn
     }
 
-    /// What is said of the stream, and its reader.
-    pub fn into_parts(self) -> (Report, R)
+    /// What is said of the stream, its reader, and the identities that it dropped.
+    pub fn into_parts(self) -> (Report, R, Dropped)
         requires { IsSome self.checker.ending }
         ensures report { IfSome self.checker.ending (λ ending.
             result.0 ≡ report_of_tally self.checker.tally ending) }
         ensures reader { result.1 ≡ self.reader }
+        ensures dropped { result.2.ids ≡ self.checker.dropped }
     {
         let Worker {
             reader,
             checker,
             ..
         } = self;
-        (checker.report(), reader)
+        (checker.report(), reader, checker.into_dropped())
     }
 }
 

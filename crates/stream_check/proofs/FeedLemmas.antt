@@ -126,8 +126,8 @@ reports_over end v ending over bytes blocks free leaves =
     (ending, over, either_report v.setting bytes blocks end (report_of_tally v.tally ending) (subst (λ (o : Option Ending). Leaves v.setting bytes blocks (state_by v free o)) over leaves))
 
 -- one that isn't over has this ending then
-pub ends_now : (end : StreamEnd) (old new : CheckerValue) → old.ending ≡ None → new.setting ≡ old.setting → new.tally ≡ old.tally → new.ending ≡ Some (ending_at end old.pending old.line) → new.last ≡ old.last → Ends end old new
-ends_now end old new none setting tally ending last = subst (λ (o : Option Ending). EndsBy o end old new) (sym none) (setting, tally, ending, last)
+pub ends_now : (end : StreamEnd) (old new : CheckerValue) → old.ending ≡ None → new.setting ≡ old.setting → new.tally ≡ old.tally → new.ending ≡ Some (ending_at end old.pending old.line) → new.last ≡ old.last → new.dropped ≡ old.dropped → Ends end old new
+ends_now end old new none setting tally ending last dropped = subst (λ (o : Option Ending). EndsBy o end old new) (sym none) (setting, tally, ending, last, dropped)
 
 pub reports_now : (end : StreamEnd) (old new : CheckerValue) → old.ending ≡ None → new.tally ≡ old.tally → new.ending ≡ Some (ending_at end old.pending old.line) → ReportsEnd end old new
 reports_now end old new none tally ending bytes blocks free leaves =

@@ -163,6 +163,7 @@ abbrev pub EndsBy : Option Ending → StreamEnd → CheckerValue → CheckerValu
 EndsBy None end old new =
     (new.setting ≡ old.setting) × (new.tally ≡ old.tally)
     × (new.ending ≡ Some (ending_at end old.pending old.line)) × (new.last ≡ old.last)
+    × (new.dropped ≡ old.dropped)
 EndsBy (Some ending) end old new = new ≡ old
 
 -- the end of the stream, or a failed read, ends a checker that isn't over

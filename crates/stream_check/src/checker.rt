@@ -9,6 +9,7 @@ ghost use Rattle.stream_check.specs.CheckerValue.{report_of_tally};
 ghost use Rattle.stream_check.specs.Checker.{checker_state, IsReadyAt, LeavesOn, AreBlocksOf, Turns, StaysOver, IsNew, Ends, ReportsEnd};
 
 use crate::addition::Buffers;
+use crate::dropped::Dropped;
 use crate::fault::Fault;
 use crate::gate::Gate;
 use crate::held::Held;
@@ -195,5 +196,14 @@ impl Checker {
             within: self.held.within,
             ending: self.ending.unwrap(),
         }
+    }
+
+    /// The identities of the formula and of other streams that the stream dropped.
+    pub fn into_dropped(self) -> Dropped
+        ensures { result.ids ≡ self.dropped }
+    {
+        let Checker { held, .. } = self;
+        let Held { dropped, .. } = held;
+        dropped
     }
 }

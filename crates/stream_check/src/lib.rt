@@ -19,6 +19,7 @@ mod report;
 mod setting;
 
 pub use checker::Checker;
+pub use dropped::Dropped;
 pub use fault::Fault;
 pub use gate::Gate;
 pub use progress::{CheckTurn, Progress};

@@ -55,6 +55,14 @@ ends_by (Some ending) end old new is ends = subst (λ (e : Option Ending). IsSom
 pub ends_over : (end : StreamEnd) (old new : CheckerValue) → Ends end old new → IsSome new.ending
 ends_over end old new ends = ends_by old.ending end old new refl ends
 
+drops_by : (ending : Option Ending) (end : StreamEnd) (old new : CheckerValue) → EndsBy ending end old new → new.dropped ≡ old.dropped
+drops_by None end old new ends = ends.4
+drops_by (Some ending) end old new ends = ap (λ (v : CheckerValue). v.dropped) ends
+
+-- and what was dropped stays
+pub ends_dropped : (end : StreamEnd) (old new : CheckerValue) → Ends end old new → new.dropped ≡ old.dropped
+ends_dropped end old new ends = drops_by old.ending end old new ends
+
 -- what was taken so far, and then more, with the same setting
 pub leaves_more : (c d : Setting) (one two three : CheckerState) (xs ys all : List ℕ) (front back : List History) → d ≡ c → all ≡ xs ++ ys
     → LeavesOn c one xs front two → LeavesOn d two ys back three → LeavesOn c one all (front ++ back) three

@@ -10,7 +10,7 @@ ghost use Rattle.stream_check.specs.declared.report.Report.{Report};
 ghost use Rattle.stream_check.specs.Checker.{IsNew, checker_state};
 ghost use Rattle.stream_check.specs.CheckerValue.{CheckerValue};
 ghost use Rattle.stream_check.specs.Leaving.{Leaves};
-ghost use Rattle.stream_jobs.specs.Judged.{JudgesAtMark};
+ghost use Rattle.stream_jobs.specs.Judged.{DropsBy, JudgesAtMark};
 ghost use Rattle.stream_ring.specs.Items.{SendsAll};
 
 use crate::checking::{Checked, CheckingJob};
@@ -54,15 +54,17 @@ pub fn meet<R: Source + Drop>(sent: &mut Sent<R>, checked: &mut Checked)
     requires { IsPair sent.old.producer checked.old.consumer }
     ensures reader { sent.new.reader ≡ sent.old.reader }
     ensures report { checked.new.report ≡ checked.old.report }
+    ensures dropped { checked.new.dropped ≡ checked.old.dropped }
     ensures judged { (first : R) (v : CheckerValue) (room : ℕ)
-        (blocks : List History) (report : Report)
+        (blocks : List History) (ids : List ℕ) (report : Report)
         → SendsAll _ (source_view R.left R.has_failed R.reads) first sent.old.reader
         (Rattle.rtrb.specs.Ring.sent sent.old.producer)
-        → JudgesAtMark v room (received checked.old.consumer) blocks report
+        → JudgesAtMark v room (received checked.old.consumer) blocks ids report
         → Leaves v.setting [] [] (checker_state v room)
         → (stream : Stream) × IsSome stream.end
         × IsStreamOf (source_view R.left R.has_failed R.reads) first sent.old.reader stream
-        × JudgesStream v.setting stream blocks report }
+        × JudgesStream v.setting stream blocks report
+        × DropsBy v room stream.bytes blocks ids }
 {
     came_through(&mut sent.producer, &mut checked.consumer);
 }

@@ -16,7 +16,7 @@ use runs::Terms;
 use std::alloc::{AllocError, Global};
 use std::sync::{OnceLock, OnceToken, Wait};
 use stream_check::laws::over_stays;
-use stream_check::{CheckTurn, Checker, Gate, Report};
+use stream_check::{CheckTurn, Checker, Dropped, Gate, Report};
 use stream_ring::{Received, Receiver, told};
 
 /// The most items that are popped, and the most bytes that are fed, at once.
@@ -37,11 +37,14 @@ pub struct CheckingJob<G: Gate + Drop> {
     ghost nothing: { received receiver.consumer ≡ [] },
 }
 
-/// What a checking thread gives back: what is said of the stream, or nothing where no mark came, and its end of the ring.
+/// What a checking thread gives back: what is said of the stream, or nothing where no mark came, what the stream dropped, and its
+/// end of the ring.
 #[derive(Drop)]
 pub struct Checked {
     /// How the stream is judged. None where the other end was gone before a mark came.
     pub report: Option<Report>,
+    /// The identities that the stream dropped.
+    pub dropped: Dropped,
     /// Where all was received, up to the mark.
     pub consumer: Consumer<u16>,
 }
@@ -90,7 +93,7 @@ pub fn check_when_told<'a, W: Wait, G: Gate + Drop, M: ClauseMap>(
     ensures judged { IfOk result (λ checked. IfSome checked.report (λ report.
         (blocks : List History) × M.moves map.old map.new (joined blocks)
         × JudgesAtMark job.checker (M.place map.old).room (received checked.consumer)
-        blocks report)) }
+        blocks checked.dropped.ids report)) }
 {
     let token = told(wait, signal);
     if !*signal.value(&token) {
@@ -114,6 +117,7 @@ pub fn check_when_told<'a, W: Wait, G: Gate + Drop, M: ClauseMap>(
     );
     Ok(Checked {
         report,
+        dropped: checker.into_dropped(),
         consumer: receiver.into_consumer(),
     })
 }
@@ -136,7 +140,7 @@ fn judge<W: Wait, G: Gate, M: ClauseMap>(
     ensures judged { IfSome result (λ report.
         (blocks : List History) × M.moves map.old map.new (joined blocks)
         × JudgesAtMark checker.old (M.place map.old).room (received receiver.new.consumer)
-        blocks report) }
+        blocks checker.new.dropped report) }
 {
     let end = check_received(wait, checker, gate, receiver, items, bytes, map)?;
     Some(settle(checker, gate, end))
@@ -144,9 +148,10 @@ fn judge<W: Wait, G: Gate, M: ClauseMap>(
 
 /// Takes the end of the stream, or a read that failed, and says how the stream is judged; to the gate too, where it wasn't over before.
 fn settle<G: Gate>(checker: &mut Checker, gate: &mut G, end: StreamEnd) -> Report
-    ensures { (bytes : List ℕ) (blocks : List History) (free : ℕ)
+    ensures judges { (bytes : List ℕ) (blocks : List History) (free : ℕ)
         → Leaves checker.old.setting bytes blocks (checker_state checker.old free)
         → JudgesBlocks checker.old.setting bytes end blocks result }
+    ensures dropped { checker.new.dropped ≡ checker.old.dropped }
 {
     let was_over = checker.is_over();
     let report = close(checker, end);
@@ -158,9 +163,10 @@ fn settle<G: Gate>(checker: &mut Checker, gate: &mut G, end: StreamEnd) -> Repor
 
 /// Takes the end of the stream, or a read that failed, and says how the stream is judged.
 fn close(checker: &mut Checker, end: StreamEnd) -> Report
-    ensures { (bytes : List ℕ) (blocks : List History) (free : ℕ)
+    ensures judges { (bytes : List ℕ) (blocks : List History) (free : ℕ)
         → Leaves checker.old.setting bytes blocks (checker_state checker.old free)
         → JudgesBlocks checker.old.setting bytes end blocks result }
+    ensures dropped { checker.new.dropped ≡ checker.old.dropped }
 {
     match end {
         StreamEnd::Ended => checker.end(),

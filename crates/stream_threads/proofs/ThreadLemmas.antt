@@ -19,13 +19,13 @@ use Rattle.stream_threads.specs.declared.jobs.ThreadFault.TheVariants.{Spawn, Ri
 use Rattle.runs.specs.Streams.{TermsValue}
 
 -- what was judged at a desk was judged at its pass
-pub judged_at : (v : CheckerValue) (old new : Desk) (from to : PassValue) (items : List ℕ) (report : Option Report) → old.pass ≡ from → to ≡ new.pass
-    → IfSome report (λ r. (blocks : List History) × DeskMoves old new (joined blocks) × JudgesAtMark v (desk_place old).room items blocks r)
-    → IfSome report (JudgesAtPass v from to items)
-judged_at v old new from to items None first last judged = tt
-judged_at v old new from to items (Some r) first last judged =
-    subst (λ (p : PassValue). JudgesAtPass v p to items r) first
-    (subst (λ (q : PassValue). JudgesAtPass v old.pass q items r) (sym last)
+pub judged_at : (v : CheckerValue) (old new : Desk) (from to : PassValue) (items ids : List ℕ) (report : Option Report) → old.pass ≡ from → to ≡ new.pass
+    → IfSome report (λ r. (blocks : List History) × DeskMoves old new (joined blocks) × JudgesAtMark v (desk_place old).room items blocks ids r)
+    → IfSome report (JudgesAtPass v from to items ids)
+judged_at v old new from to items ids None first last judged = tt
+judged_at v old new from to items ids (Some r) first last judged =
+    subst (λ (p : PassValue). JudgesAtPass v p to items ids r) first
+    (subst (λ (q : PassValue). JudgesAtPass v old.pass q items ids r) (sym last)
     (record { store = judged.1.store; blocks = judged.0; moves = judged.1.moves; judged = judged.2 }))
 
 -- one more of a list was taken and put at the end of another

@@ -6,12 +6,13 @@ use Rattle.clause_store.specs.Passes.{StoreValue, PassValue, store_of}
 use Rattle.stream_check.specs.declared.report.Report.{Report}
 use Rattle.stream_check.specs.Checker.{IsNew, IsReadyAt, checker_state}
 use Rattle.stream_check.specs.CheckerValue.{CheckerValue}
+use Rattle.stream_check.specs.DroppedValue.{DroppedValue}
 use Rattle.stream_check.specs.Judging.{joined}
 use Rattle.stream_check.specs.Leaving.{Leaves}
 use Rattle.lrup_text.specs.ReadOut.{SourceView}
 use Rattle.runs.specs.Readings.{IsStreamOf}
 use Rattle.runs.specs.Streams.{Stream, JudgesStream, TermsValue}
-use Rattle.stream_jobs.specs.Judged.{JudgesAtMark}
+use Rattle.stream_jobs.specs.Judged.{DropsBy, JudgesAtMark}
 
 -- what a stream's threads start with: its reader, its checker, and its pass
 pub record JobsValue (S : Type 0) : Type 0 where
@@ -34,27 +35,29 @@ AreJobs terms s (reader ∷ readers) (pass ∷ passes) (jobs ∷ all) =
     IsJob terms s reader pass jobs × AreJobs terms (s + 1) readers passes all
 AreJobs terms s _ _ _ = ⊥
 
--- what they give back: the report, the reader, and the pass
+-- what they give back: the report, the reader, the pass, and the identities that the stream dropped
 pub record FoundValue (S : Type 0) : Type 0 where
   pub report : Report
   pub reader : S
   pub pass : PassValue
+  pub dropped : DroppedValue
 
 -- the pass is one of this store, and the checker may take its first byte at it
 pub record CanBegin {S : Type 0} (store : StoreValue) (jobs : JobsValue S) : Type 0 where
   pub here : store_of jobs.pass ≡ store
   pub ready : IsReadyAt jobs.checker (pass_place jobs.pass.view)
 
--- the report judges the bytes received up to a mark by the calls that the pass made since
+-- The report judges the bytes received up to a mark by the calls that the pass made since, and these identities are dropped by
+-- them.
 pub record JudgesAtPass (v : CheckerValue) (old new : PassValue) (items : List ℕ)
-    (report : Report) : Type 0 where
+    (ids : List ℕ) (report : Report) : Type 0 where
   pub store : store_of new ≡ store_of old
   pub blocks : List History
   pub moves : PassMoves old.view new.view (joined blocks)
-  pub judged : JudgesAtMark v (pass_place old.view).room items blocks report
+  pub judged : JudgesAtMark v (pass_place old.view).room items blocks ids report
 
 -- What was found is how the stream that the reader told, and its reads gave, is judged, by the calls that the pass made, where
--- the checker had taken no byte before.
+-- the checker had taken no byte before; and what its bytes dropped.
 pub record Finishes {S : Type 0} (view : SourceView S) (jobs : JobsValue S)
     (found : FoundValue S) : Type 0 where
   pub store : store_of found.pass ≡ store_of jobs.pass
@@ -64,6 +67,7 @@ pub record Finishes {S : Type 0} (view : SourceView S) (jobs : JobsValue S)
       (checker_state jobs.checker (pass_place jobs.pass.view).room)
       → (stream : Stream) × IsSome stream.end × IsStreamOf view jobs.reader found.reader stream
       × JudgesStream jobs.checker.setting stream blocks found.report
+      × DropsBy jobs.checker (pass_place jobs.pass.view).room stream.bytes blocks found.dropped.ids
 
 -- what was found of each stream, in order
 abbrev pub AllFinish : {S : Type 0} → SourceView S → List (JobsValue S) → List (FoundValue S)

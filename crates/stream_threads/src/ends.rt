@@ -47,7 +47,7 @@ impl<G: Gate + Drop> Promise<Option<CheckedPass>> for CheckTask<G> {
     ghost kept_by = { λ task end. IfSome end (λ e.
         SameConsumer task.job.value.receiver.consumer e.checked.consumer
         × IfSome e.checked.report (JudgesAtPass task.job.value.checker task.pass.value e.pass
-        (received e.checked.consumer))) };
+        (received e.checked.consumer) e.checked.dropped.ids)) };
 }
 
 /// Waits for the start signal, and then reads all and sends it. None where it says to leave.
@@ -75,7 +75,8 @@ pub(crate) fn check<W: Wait, G: Gate + Drop>(
     requires ready { IsReadyAt job.checker (pass_place pass.view) }
     ensures ring { IfSome result (λ e. SameConsumer job.receiver.consumer e.checked.consumer) }
     ensures judged { IfSome result (λ e. IfSome e.checked.report
-        (JudgesAtPass job.checker pass e.pass (received e.checked.consumer))) }
+        (JudgesAtPass job.checker pass e.pass (received e.checked.consumer)
+        e.checked.dropped.ids)) }
 {
     let mut desk = Desk::new(store, pass);
     let Ok(checked) = check_when_told(wait, signal, job, &mut desk) else {

@@ -17,7 +17,7 @@ use std::marker::Model;
 use std::sync::{OnceLock, Wait};
 use std::thread;
 use std::thread::{Scope, Threads};
-use stream_check::{Gate, Report};
+use stream_check::{Dropped, Gate, Report};
 use stream_jobs::{Sent, meet};
 
 /// What was found of a stream.
@@ -29,6 +29,8 @@ pub struct StreamResult<R: Source + Drop> {
     pub reader: R,
     /// The stream's pass, with the calls that were made.
     pub pass: Pass,
+    /// The identities that the stream dropped.
+    pub dropped: Dropped,
 }
 
 impl<R: Source + Drop> Model for StreamResult<R> {
@@ -40,6 +42,7 @@ impl<R: Source + Drop> Model for StreamResult<R> {
       report = f.report;
       reader = f.reader;
       pass = f.pass;
+      dropped = f.dropped;
     } };
 }
 
@@ -91,7 +94,7 @@ fn meet_ends<R: Source + Drop>(
         → IfSome sent (λ s. SendsAll _ (source_view R.left R.has_failed R.reads) jobs.reader
         s.reader (Rattle.rtrb.specs.Ring.sent s.producer))
         → IfSome checked (λ e. IfSome e.checked.report (JudgesAtPass jobs.checker jobs.pass e.pass
-        (received e.checked.consumer)))
+        (received e.checked.consumer) e.checked.dropped.ids))
         → IfSome result (Finishes (source_view R.left R.has_failed R.reads) jobs) }
 {
     let mut sent = sent?;
@@ -102,6 +105,7 @@ fn meet_ends<R: Source + Drop>(
         report,
         reader: sent.reader,
         pass,
+        dropped: checked.dropped,
     })
 }
 

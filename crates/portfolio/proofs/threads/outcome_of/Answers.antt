@@ -18,6 +18,7 @@ loop-one-preserved g c =
     let report = c.push_reserved.ensures in
     let pass = c.push_reserved-in-loop-one.ensures in
     let reader = c.push_reserved-in-loop-one-2.ensures in
+    let gone = c.push_reserved-in-loop-one-3.ensures in
     record {
       whole = whole_more now.yielded (into_iter_items now.one-iterator) (into_iter_items c.next.new.self) _ one steps.0 now.invariant.whole;
       reports = pushed_more (λ (f : FoundValue g.row.R.Denot). f.report) now.reports.items c.push_reserved.new.self.items now.yielded parts.report one
@@ -26,12 +27,16 @@ loop-one-preserved g c =
           pass.items now.invariant.passes (ap (λ (f : FoundValue g.row.R.Denot). f.pass) view);
       readers = pushed_more (λ (f : FoundValue g.row.R.Denot). f.reader) now.readers.items c.push_reserved-in-loop-one-2.new.self.items now.yielded parts.reader one
           reader.items now.invariant.readers (ap (λ (f : FoundValue g.row.R.Denot). f.reader) view);
+      dropped = pushed_more (λ (f : FoundValue g.row.R.Denot). f.dropped) now.dropped.items c.push_reserved-in-loop-one-3.new.self.items now.yielded parts.dropped one
+          gone.items now.invariant.dropped (ap (λ (f : FoundValue g.row.R.Denot). f.dropped) view);
       report_count = omega (arith, report.len, steps.1, now.invariant.report_count);
       pass_count = omega (arith, pass.len, steps.1, now.invariant.pass_count);
       reader_count = omega (arith, reader.len, steps.1, now.invariant.reader_count);
+      dropped_count = omega (arith, gone.len, steps.1, now.invariant.dropped_count);
       report_room = omega (arith, report.capacity, now.invariant.report_room);
       pass_room = omega (arith, pass.capacity, now.invariant.pass_room);
       reader_room = omega (arith, reader.capacity, now.invariant.reader_room);
+      dropped_room = omega (arith, gone.capacity, now.invariant.dropped_room);
     }
 
 pub returns-clause-reports : goal.returns-clause-reports
@@ -43,6 +48,11 @@ pub returns-clause-readers : goal.returns-clause-readers
 returns-clause-readers g c =
     let now = c.loop-one in
     now.invariant.readers ∙ ap (map (λ (f : FoundValue g.row.R.Denot). f.reader)) (whole_end now.yielded c.args.found.items now.one-iterator c.next.new.self c.in-None.ensures.steps now.invariant.whole)
+
+pub returns-clause-dropped : goal.returns-clause-dropped
+returns-clause-dropped g c =
+    let now = c.loop-one in
+    now.invariant.dropped ∙ ap (map (λ (f : FoundValue g.row.R.Denot). f.dropped)) (whole_end now.yielded c.args.found.items now.one-iterator c.next.new.self c.in-None.ensures.steps now.invariant.whole)
 
 pub returns-clause-met : goal.returns-clause-met
 returns-clause-met g c =

@@ -61,6 +61,11 @@ outcome_of-requires-clause-readers g c =
     let count = finish_count (source_view g.R.Source.left g.R.Source.has_failed g.R.Source.reads) c.in_ok-jobs.jobs.items c.in-Ok.found.items c.in-Ok.ensures.found in
     omega (arith, count, c.in-Ok.found.ok.0, c.in_ok-jobs.jobs.ok.0, c.len-2.ensures, c.in_ok-room.ensures.readers.1)
 
+pub outcome_of-requires-clause-dropped : goal.outcome_of-requires-clause-dropped
+outcome_of-requires-clause-dropped g c =
+    let count = finish_count (source_view g.R.Source.left g.R.Source.has_failed g.R.Source.reads) c.in_ok-jobs.jobs.items c.in-Ok.found.items c.in-Ok.ensures.found in
+    omega (arith, count, c.in-Ok.found.ok.0, c.in_ok-jobs.jobs.ok.0, c.len-2.ensures, c.in_ok-room.ensures.dropped.1)
+
 pub returns-in-Ok-clause-layout : goal.returns-in-Ok-clause-layout
 returns-in-Ok-clause-layout g c =
     let same : c.in_ok-layout.layout ≡ layout_of c.args.options c.args.formula.now (length c.args.readers.items) =

@@ -3,10 +3,11 @@ use Rattle.std.specs.Io.KnownBytes.{Consumes}
 use Rattle.lrup_text.specs.declared.device.StreamEnd.{StreamEnd}
 use Rattle.stream_check.specs.Judging.{JudgesBlocks}
 use Rattle.runs.specs.StreamLemmas.{judged_out}
+use Rattle.stream_jobs.specs.Judged.{DropsBy}
 use Rattle.stream_jobs.proofs.both.meet.Goals as goal
 
 pub returns-clause-judged : goal.returns-clause-judged
-returns-clause-judged g c first v room blocks report sent marked fresh =
+returns-clause-judged g c first v room blocks ids report sent marked fresh =
     let same = c.came_through.ensures sent.bytes marked.bytes sent.end marked.end sent.sent marked.marked in (
       record { bytes = sent.bytes; unneeded = []; end = Some sent.end },
       refl,
@@ -21,4 +22,5 @@ returns-clause-judged g c first v room blocks report sent marked fresh =
       judged_out v.setting sent.bytes [] sent.end blocks report
           (subst (λ (end : StreamEnd). JudgesBlocks v.setting sent.bytes end blocks report) same.1
           (subst (λ (bytes : List ℕ). JudgesBlocks v.setting bytes marked.end blocks report) same.0 (marked.judged fresh))),
+      subst (λ (bytes : List ℕ). DropsBy v room bytes blocks ids) same.0 marked.dropped,
     )

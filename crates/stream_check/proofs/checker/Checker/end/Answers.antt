@@ -31,7 +31,7 @@ returns-clause-ends c =
     ] in
     let old = value_of h (read_of r) c.self.inside.ending in
     let new = value_of h (read_of c.end.new.self) (Some c.match-end.self) in
-    subst (λ (v : CheckerValue). Ends stream_ends.Ended v new) c.self.view_is (ends_now stream_ends.Ended old new none refl refl (ap (λ (e : Ending). Some e) says) refl)
+    subst (λ (v : CheckerValue). Ends stream_ends.Ended v new) c.self.view_is (ends_now stream_ends.Ended old new none refl refl (ap (λ (e : Ending). Some e) says) refl refl)
 
 pub returns-clause-reports : goal.returns-clause-reports
 returns-clause-reports c =
