@@ -82,30 +82,30 @@ ask_for : (words : List Text) (given : CommandLine) → IsCommandLineOf words gi
 ask_for words given line = record { good = line.good; formula_is = line.said.formula; assume_is = sym line.said.assume }
 
 -- what was read is a text of a formula that no assignment satisfies
-pub names_unsatisfiable : (R : Type 0) (files : FilesView R) (words : List Text) (given : CommandLine) (bytes : List ℕ) (next : files.State) → IsCommandLineOf words given
-    → WasReadIn R files files.first given.formula.now bytes next → (f : Cnf) × IsFormulaText bytes f × IsUnsatisfiable f
-    → NameUnsatisfiable files.State (WasReadIn R files) files.first words
-names_unsatisfiable R files words given bytes next line read refuted =
+pub names_unsatisfiable : (files : FilesView) (words : List Text) (given : CommandLine) (bytes : List ℕ) (next : files.State) → IsCommandLineOf words given
+    → WasReadIn files files.first given.formula.now bytes next → (f : Cnf) × IsFormulaText bytes f × IsUnsatisfiable f
+    → NameUnsatisfiable files.State (WasReadIn files) files.first words
+names_unsatisfiable files words given bytes next line read refuted =
     (given.formula.now, assumed_at given, bytes, refuted.0, next, ask_for words given line, read, refuted.1, refuted.2)
 
 -- so with the assumed literals, of files that tell the same as before
-pub names_unsatisfiable_under : (R : Type 0) (files : FilesView R) (words : List Text) (given : CommandLine) (bytes : List ℕ) (next : files.State) (tells : Text → Option (List ℕ))
-    → tells ≡ files.tells → IsCommandLineOf words given → WasReadIn R files files.first given.formula.now bytes next
+pub names_unsatisfiable_under : (files : FilesView) (words : List Text) (given : CommandLine) (bytes : List ℕ) (next : files.State) (tells : Text → Option (List ℕ))
+    → tells ≡ files.tells → IsCommandLineOf words given → WasReadIn files files.first given.formula.now bytes next
     → (f : Cnf) × (cube : CubeValue) × (after : files.State) × IsFormulaText bytes f
     × AreAssumed (WasRead files.opens files.reading.reads tells) f.vars next (assumed_at given) cube after × IsUnsatisfiableUnder f cube
-    → NameUnsatisfiableUnder files.State (WasReadIn R files) files.first words
-names_unsatisfiable_under R files words given bytes next tells told line read (f, cube, after, text, assumed, refuted) =
+    → NameUnsatisfiableUnder files.State (WasReadIn files) files.first words
+names_unsatisfiable_under files words given bytes next tells told line read (f, cube, after, text, assumed, refuted) =
     let same = subst (λ (t : Text → Option (List ℕ)). AreAssumed (WasRead files.opens files.reading.reads t) f.vars next (assumed_at given) cube after) told assumed in
     (given.formula.now, assumed_at given, bytes, f, cube, next, after, ask_for words given line, read, text, same, refuted)
 
 -- what is checked is the outcome of the words and the files
-pub is_outcome : (R : Type 0) (files : FilesView R) (words : List Text) (given : CommandLine) (f : Cnf) (cube : CubeValue) (options : OptionsValue) (readers : List R) (next later last : files.State)
-    → IsCommandLineOf words given → IsFormulaAt R files given.formula.now f next → AreAssumed (WasReadIn R files) f.vars next (assumed_at given) cube later
+pub is_outcome : (files : FilesView) (words : List Text) (given : CommandLine) (f : Cnf) (cube : CubeValue) (options : OptionsValue) (readers : List files.Reader) (next later last : files.State)
+    → IsCommandLineOf words given → IsFormulaAt files given.formula.now f next → AreAssumed (WasReadIn files) f.vars next (assumed_at given) cube later
     → options ≡ options_of given → AreOpened files.opens later given.streams readers last → map files.reading.left readers ≡ map files.tells given.streams
     → (reports : List Report) (verdict : Verdict)
     → AreChecked files.reading given.serial f (terms_of options cube f (length readers)) readers reports verdict
-    → IsOutcome R files words reports verdict
-is_outcome R files words given f cube options readers next later last line at assumed options_are opened entries_are reports verdict checked =
+    → IsOutcome files words reports verdict
+is_outcome files words given f cube options readers next later last line at assumed options_are opened entries_are reports verdict checked =
     let one = subst (λ (o : OptionsValue). AreChecked files.reading given.serial f (terms_of o cube f (length readers)) readers reports verdict) options_are checked in
     let two = subst (λ (n : ℕ). AreChecked files.reading given.serial f (terms_of (options_of given) cube f n) readers reports verdict)
     (same_count _ _ readers given.streams entries_are) one in
@@ -126,76 +126,76 @@ is_outcome R files words given f cube options readers next later last line at as
     }
 
 -- The causes are those of the words and the files.
-pub read_cause : (R : Type 0) (files : FilesView R) (words : List Text) (given : CommandLine) → IsCommandLineOf words given
-    → (fault : CommandFault) → IsReadCause R files given.formula.now fault → IsCause R files words fault
-read_cause R files words given line (faults.Usage text) cause = absurd cause
-read_cause R files words given line faults.Unread cause = (given, line, inl cause)
-read_cause R files words given line (faults.Refused fault) cause = (given, line, inl cause)
-read_cause R files words given line faults.CubeUnread cause = absurd cause
-read_cause R files words given line (faults.CubeRefused fault) cause = absurd cause
-read_cause R files words given line (faults.NotOpened stream) cause = absurd cause
-read_cause R files words given line (faults.Layout fault) cause = absurd cause
-read_cause R files words given line (faults.NotStarted stream) cause = absurd cause
-read_cause R files words given line (faults.Ring stream) cause = absurd cause
-read_cause R files words given line faults.Memory cause = tt
-read_cause R files words given line faults.Unwritten cause = absurd cause
+pub read_cause : (files : FilesView) (words : List Text) (given : CommandLine) → IsCommandLineOf words given
+    → (fault : CommandFault) → IsReadCause files given.formula.now fault → IsCause files words fault
+read_cause files words given line (faults.Usage text) cause = absurd cause
+read_cause files words given line faults.Unread cause = (given, line, inl cause)
+read_cause files words given line (faults.Refused fault) cause = (given, line, inl cause)
+read_cause files words given line faults.CubeUnread cause = absurd cause
+read_cause files words given line (faults.CubeRefused fault) cause = absurd cause
+read_cause files words given line (faults.NotOpened stream) cause = absurd cause
+read_cause files words given line (faults.Layout fault) cause = absurd cause
+read_cause files words given line (faults.NotStarted stream) cause = absurd cause
+read_cause files words given line (faults.Ring stream) cause = absurd cause
+read_cause files words given line faults.Memory cause = tt
+read_cause files words given line faults.Unwritten cause = absurd cause
 
-assume_cause : (R : Type 0) (files : FilesView R) (words : List Text) (given : CommandLine) (f : Cnf) (next : files.State) → IsCommandLineOf words given
-    → IsFormulaAt R files given.formula.now f next → (path : Text) → assumed_at given ≡ Some path → (fault : CommandFault) → IsAssumeCause R files f.vars next (Some path) fault → IsCause R files words fault
-assume_cause R files words given f next line at path same (faults.Usage text) cause = absurd cause
-assume_cause R files words given f next line at path same faults.Unread cause = absurd cause
-assume_cause R files words given f next line at path same (faults.Refused fault) cause = absurd cause
-assume_cause R files words given f next line at path same faults.CubeUnread cause = (given, line, inr (f, next, at, inl (subst (λ (o : Option Text). IsAssumeCause R files f.vars next o faults.CubeUnread) (sym same) cause)))
-assume_cause R files words given f next line at path same (faults.CubeRefused fault) cause = (given, line, inr (f, next, at, inl (subst (λ (o : Option Text). IsAssumeCause R files f.vars next o (faults.CubeRefused fault)) (sym same) cause)))
-assume_cause R files words given f next line at path same (faults.NotOpened stream) cause = absurd cause
-assume_cause R files words given f next line at path same (faults.Layout fault) cause = absurd cause
-assume_cause R files words given f next line at path same (faults.NotStarted stream) cause = absurd cause
-assume_cause R files words given f next line at path same (faults.Ring stream) cause = absurd cause
-assume_cause R files words given f next line at path same faults.Memory cause = tt
-assume_cause R files words given f next line at path same faults.Unwritten cause = absurd cause
+assume_cause : (files : FilesView) (words : List Text) (given : CommandLine) (f : Cnf) (next : files.State) → IsCommandLineOf words given
+    → IsFormulaAt files given.formula.now f next → (path : Text) → assumed_at given ≡ Some path → (fault : CommandFault) → IsAssumeCause files f.vars next (Some path) fault → IsCause files words fault
+assume_cause files words given f next line at path same (faults.Usage text) cause = absurd cause
+assume_cause files words given f next line at path same faults.Unread cause = absurd cause
+assume_cause files words given f next line at path same (faults.Refused fault) cause = absurd cause
+assume_cause files words given f next line at path same faults.CubeUnread cause = (given, line, inr (f, next, at, inl (subst (λ (o : Option Text). IsAssumeCause files f.vars next o faults.CubeUnread) (sym same) cause)))
+assume_cause files words given f next line at path same (faults.CubeRefused fault) cause = (given, line, inr (f, next, at, inl (subst (λ (o : Option Text). IsAssumeCause files f.vars next o (faults.CubeRefused fault)) (sym same) cause)))
+assume_cause files words given f next line at path same (faults.NotOpened stream) cause = absurd cause
+assume_cause files words given f next line at path same (faults.Layout fault) cause = absurd cause
+assume_cause files words given f next line at path same (faults.NotStarted stream) cause = absurd cause
+assume_cause files words given f next line at path same (faults.Ring stream) cause = absurd cause
+assume_cause files words given f next line at path same faults.Memory cause = tt
+assume_cause files words given f next line at path same faults.Unwritten cause = absurd cause
 
-pub assumed_cause : (R : Type 0) (files : FilesView R) (words : List Text) (given : CommandLine) (f : Cnf) (next : files.State) → IsCommandLineOf words given
-    → IsFormulaAt R files given.formula.now f next → (path : Option Text) → assumed_at given ≡ path → (fault : CommandFault) → IsAssumeCause R files f.vars next path fault → IsCause R files words fault
-assumed_cause R files words given f next line at None same fault cause = absurd cause
-assumed_cause R files words given f next line at (Some path) same fault cause = assume_cause R files words given f next line at path same fault cause
+pub assumed_cause : (files : FilesView) (words : List Text) (given : CommandLine) (f : Cnf) (next : files.State) → IsCommandLineOf words given
+    → IsFormulaAt files given.formula.now f next → (path : Option Text) → assumed_at given ≡ path → (fault : CommandFault) → IsAssumeCause files f.vars next path fault → IsCause files words fault
+assumed_cause files words given f next line at None same fault cause = absurd cause
+assumed_cause files words given f next line at (Some path) same fault cause = assume_cause files words given f next line at path same fault cause
 
-pub open_cause : (R : Type 0) (files : FilesView R) (words : List Text) (given : CommandLine) (f : Cnf) (cube : CubeValue) (next later : files.State) → IsCommandLineOf words given
-    → IsFormulaAt R files given.formula.now f next → AreAssumed (WasReadIn R files) f.vars next (assumed_at given) cube later → (fault : CommandFault) → IsOpenCause files.opens files.may_refuse later given.streams fault → IsCause R files words fault
-open_cause R files words given f cube next later line at assumed (faults.Usage text) cause = absurd cause
-open_cause R files words given f cube next later line at assumed faults.Unread cause = absurd cause
-open_cause R files words given f cube next later line at assumed (faults.Refused fault) cause = absurd cause
-open_cause R files words given f cube next later line at assumed faults.CubeUnread cause = absurd cause
-open_cause R files words given f cube next later line at assumed (faults.CubeRefused fault) cause = absurd cause
-open_cause R files words given f cube next later line at assumed (faults.NotOpened stream) cause = (given, line, inr (f, next, at, inr (cube, later, assumed, inl cause)))
-open_cause R files words given f cube next later line at assumed (faults.Layout fault) cause = absurd cause
-open_cause R files words given f cube next later line at assumed (faults.NotStarted stream) cause = absurd cause
-open_cause R files words given f cube next later line at assumed (faults.Ring stream) cause = absurd cause
-open_cause R files words given f cube next later line at assumed faults.Memory cause = tt
-open_cause R files words given f cube next later line at assumed faults.Unwritten cause = absurd cause
+pub open_cause : (files : FilesView) (words : List Text) (given : CommandLine) (f : Cnf) (cube : CubeValue) (next later : files.State) → IsCommandLineOf words given
+    → IsFormulaAt files given.formula.now f next → AreAssumed (WasReadIn files) f.vars next (assumed_at given) cube later → (fault : CommandFault) → IsOpenCause files.opens files.may_refuse later given.streams fault → IsCause files words fault
+open_cause files words given f cube next later line at assumed (faults.Usage text) cause = absurd cause
+open_cause files words given f cube next later line at assumed faults.Unread cause = absurd cause
+open_cause files words given f cube next later line at assumed (faults.Refused fault) cause = absurd cause
+open_cause files words given f cube next later line at assumed faults.CubeUnread cause = absurd cause
+open_cause files words given f cube next later line at assumed (faults.CubeRefused fault) cause = absurd cause
+open_cause files words given f cube next later line at assumed (faults.NotOpened stream) cause = (given, line, inr (f, next, at, inr (cube, later, assumed, inl cause)))
+open_cause files words given f cube next later line at assumed (faults.Layout fault) cause = absurd cause
+open_cause files words given f cube next later line at assumed (faults.NotStarted stream) cause = absurd cause
+open_cause files words given f cube next later line at assumed (faults.Ring stream) cause = absurd cause
+open_cause files words given f cube next later line at assumed faults.Memory cause = tt
+open_cause files words given f cube next later line at assumed faults.Unwritten cause = absurd cause
 
-line_cause : (R : Type 0) (files : FilesView R) (words : List Text) (given : CommandLine) (f : Cnf) (cube : CubeValue) (next later : files.State) → IsCommandLineOf words given
-    → IsFormulaAt R files given.formula.now f next → AreAssumed (WasReadIn R files) f.vars next (assumed_at given) cube later → (fault : CommandFault) → IsRunCause given.serial (layout_at given f) fault → IsCause R files words fault
-line_cause R files words given f cube next later line at assumed (faults.Usage text) cause = absurd cause
-line_cause R files words given f cube next later line at assumed faults.Unread cause = absurd cause
-line_cause R files words given f cube next later line at assumed (faults.Refused fault) cause = absurd cause
-line_cause R files words given f cube next later line at assumed faults.CubeUnread cause = absurd cause
-line_cause R files words given f cube next later line at assumed (faults.CubeRefused fault) cause = absurd cause
-line_cause R files words given f cube next later line at assumed (faults.NotOpened stream) cause = absurd cause
-line_cause R files words given f cube next later line at assumed (faults.Layout fault) cause = (given, line, inr (f, next, at, inr (cube, later, assumed, inr cause)))
-line_cause R files words given f cube next later line at assumed (faults.NotStarted stream) cause = (given, line, inr (f, next, at, inr (cube, later, assumed, inr cause)))
-line_cause R files words given f cube next later line at assumed (faults.Ring stream) cause = (given, line, inr (f, next, at, inr (cube, later, assumed, inr cause)))
-line_cause R files words given f cube next later line at assumed faults.Memory cause = tt
-line_cause R files words given f cube next later line at assumed faults.Unwritten cause = absurd cause
+line_cause : (files : FilesView) (words : List Text) (given : CommandLine) (f : Cnf) (cube : CubeValue) (next later : files.State) → IsCommandLineOf words given
+    → IsFormulaAt files given.formula.now f next → AreAssumed (WasReadIn files) f.vars next (assumed_at given) cube later → (fault : CommandFault) → IsRunCause given.serial (layout_at given f) fault → IsCause files words fault
+line_cause files words given f cube next later line at assumed (faults.Usage text) cause = absurd cause
+line_cause files words given f cube next later line at assumed faults.Unread cause = absurd cause
+line_cause files words given f cube next later line at assumed (faults.Refused fault) cause = absurd cause
+line_cause files words given f cube next later line at assumed faults.CubeUnread cause = absurd cause
+line_cause files words given f cube next later line at assumed (faults.CubeRefused fault) cause = absurd cause
+line_cause files words given f cube next later line at assumed (faults.NotOpened stream) cause = absurd cause
+line_cause files words given f cube next later line at assumed (faults.Layout fault) cause = (given, line, inr (f, next, at, inr (cube, later, assumed, inr cause)))
+line_cause files words given f cube next later line at assumed (faults.NotStarted stream) cause = (given, line, inr (f, next, at, inr (cube, later, assumed, inr cause)))
+line_cause files words given f cube next later line at assumed (faults.Ring stream) cause = (given, line, inr (f, next, at, inr (cube, later, assumed, inr cause)))
+line_cause files words given f cube next later line at assumed faults.Memory cause = tt
+line_cause files words given f cube next later line at assumed faults.Unwritten cause = absurd cause
 
 -- so a run's cause, by the layout that the run has
-pub run_cause_of : (R : Type 0) (files : FilesView R) (words : List Text) (given : CommandLine) (f : Cnf) (cube : CubeValue) (options : OptionsValue) (readers : List R) (next later : files.State)
-    → IsCommandLineOf words given → IsFormulaAt R files given.formula.now f next → AreAssumed (WasReadIn R files) f.vars next (assumed_at given) cube later
+pub run_cause_of : (files : FilesView) (words : List Text) (given : CommandLine) (f : Cnf) (cube : CubeValue) (options : OptionsValue) (readers : List files.Reader) (next later : files.State)
+    → IsCommandLineOf words given → IsFormulaAt files given.formula.now f next → AreAssumed (WasReadIn files) f.vars next (assumed_at given) cube later
     → options ≡ options_of given → map files.reading.left readers ≡ map files.tells given.streams
-    → (fault : CommandFault) → IsRunCause given.serial (layout_of options f (length readers)) fault → IsCause R files words fault
-run_cause_of R files words given f cube options readers next later line at assumed options_are entries_are fault cause =
+    → (fault : CommandFault) → IsRunCause given.serial (layout_of options f (length readers)) fault → IsCause files words fault
+run_cause_of files words given f cube options readers next later line at assumed options_are entries_are fault cause =
     let count = same_count _ _ readers given.streams entries_are in
     let moved = subst (λ (p : LayoutValue). IsRunCause given.serial p fault) (same_layout options f given (length readers) options_are count) cause in
-    line_cause R files words given f cube next later line at assumed fault moved
+    line_cause files words given f cube next later line at assumed fault moved
 
 -- the files refuse the same before and after the formula was read
 pub open_moved : {F R : Type 0} (opens : F → Text → R → F → Type 0) (may later_may : Text → Bool) (first : F) (paths later_paths : List Text) → later_may ≡ may → later_paths ≡ paths

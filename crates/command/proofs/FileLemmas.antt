@@ -16,93 +16,93 @@ use Rattle.command.specs.declared.files.OpenFault.{OpenFault}
 use Rattle.command.specs.declared.files.OpenFault.TheVariants as opens
 
 -- why a file wasn't opened, or not read to its end
-pub opening_cause : (R : Type 0) (files : FilesView R) (before : files.State) (path : Text) (fault : OpenFault) → (fault ≡ opens.NotOpened → IsTrue (files.may_refuse path))
-    → IsFileCause R files before path (of_open fault)
-opening_cause R files before path opens.NotOpened refused = inl (refused refl)
-opening_cause R files before path opens.Memory refused = tt
+pub opening_cause : (files : FilesView) (before : files.State) (path : Text) (fault : OpenFault) → (fault ≡ opens.NotOpened → IsTrue (files.may_refuse path))
+    → IsFileCause files before path (of_open fault)
+opening_cause files before path opens.NotOpened refused = inl (refused refl)
+opening_cause files before path opens.Memory refused = tt
 
-pub reading_cause : (R : Type 0) (files : FilesView R) (before : files.State) (path : Text) (reader : R) (after : files.State) → files.opens before path reader after
+pub reading_cause : (files : FilesView) (before : files.State) (path : Text) (reader : files.Reader) (after : files.State) → files.opens before path reader after
     → files.reading.left reader ≡ files.tells path
-    → (fault : CommandFault) → IsFailedRead files.reading reader fault → IsFileCause R files before path fault
-reading_cause R files before path reader after opened left (faults.Usage text) cause = absurd cause
-reading_cause R files before path reader after opened left faults.Unread cause = inr (record { reader = reader; after = after; opened = opened; left = left; broken = cause })
-reading_cause R files before path reader after opened left (faults.Refused fault) cause = absurd cause
-reading_cause R files before path reader after opened left faults.CubeUnread cause = absurd cause
-reading_cause R files before path reader after opened left (faults.CubeRefused fault) cause = absurd cause
-reading_cause R files before path reader after opened left (faults.NotOpened stream) cause = absurd cause
-reading_cause R files before path reader after opened left (faults.Layout fault) cause = absurd cause
-reading_cause R files before path reader after opened left (faults.NotStarted stream) cause = absurd cause
-reading_cause R files before path reader after opened left (faults.Ring stream) cause = absurd cause
-reading_cause R files before path reader after opened left faults.Memory cause = tt
-reading_cause R files before path reader after opened left faults.Unwritten cause = absurd cause
+    → (fault : CommandFault) → IsFailedRead files.reading reader fault → IsFileCause files before path fault
+reading_cause files before path reader after opened left (faults.Usage text) cause = absurd cause
+reading_cause files before path reader after opened left faults.Unread cause = inr (record { reader = reader; after = after; opened = opened; left = left; broken = cause })
+reading_cause files before path reader after opened left (faults.Refused fault) cause = absurd cause
+reading_cause files before path reader after opened left faults.CubeUnread cause = absurd cause
+reading_cause files before path reader after opened left (faults.CubeRefused fault) cause = absurd cause
+reading_cause files before path reader after opened left (faults.NotOpened stream) cause = absurd cause
+reading_cause files before path reader after opened left (faults.Layout fault) cause = absurd cause
+reading_cause files before path reader after opened left (faults.NotStarted stream) cause = absurd cause
+reading_cause files before path reader after opened left (faults.Ring stream) cause = absurd cause
+reading_cause files before path reader after opened left faults.Memory cause = tt
+reading_cause files before path reader after opened left faults.Unwritten cause = absurd cause
 
 -- what was read of a file that was opened
-pub was_read : (R : Type 0) (files : FilesView R) (before : files.State) (path : Text) (reader : R) (after : files.State) {T E : Type 0} (items : T → List ℕ) (read : Result T E)
+pub was_read : (files : FilesView) (before : files.State) (path : Text) (reader : files.Reader) (after : files.State) {T E : Type 0} (items : T → List ℕ) (read : Result T E)
     → files.opens before path reader after → files.reading.left reader ≡ files.tells path
-    → IfOk read (λ bytes. GaveAll R files.reading.reads reader (items bytes)) → IfOk read (λ bytes. ForSome (files.reading.left reader) (λ all. all ≡ items bytes))
-    → IfOk read (λ bytes. WasReadIn R files before path (items bytes) after)
-was_read R files before path reader after items (Ok bytes) opened left gave all =
+    → IfOk read (λ bytes. GaveAll files.reading.reads reader (items bytes)) → IfOk read (λ bytes. ForSome (files.reading.left reader) (λ all. all ≡ items bytes))
+    → IfOk read (λ bytes. WasReadIn files before path (items bytes) after)
+was_read files before path reader after items (Ok bytes) opened left gave all =
     record { reader = reader; opened = opened; gave = gave; told = λ whole told. all whole (left ∙ told) }
-was_read R files before path reader after items (Err fault) opened left gave all = tt
+was_read files before path reader after items (Err fault) opened left gave all = tt
 
 -- so of the formula's file, and of that of the assumed literals
-pub formula_file_cause : (R : Type 0) (files : FilesView R) (path : Text) (fault : CommandFault) → IsFileCause R files files.first path fault → IsReadCause R files path fault
-formula_file_cause R files path (faults.Usage text) cause = absurd cause
-formula_file_cause R files path faults.Unread cause = cause
-formula_file_cause R files path (faults.Refused fault) cause = absurd cause
-formula_file_cause R files path faults.CubeUnread cause = absurd cause
-formula_file_cause R files path (faults.CubeRefused fault) cause = absurd cause
-formula_file_cause R files path (faults.NotOpened stream) cause = absurd cause
-formula_file_cause R files path (faults.Layout fault) cause = absurd cause
-formula_file_cause R files path (faults.NotStarted stream) cause = absurd cause
-formula_file_cause R files path (faults.Ring stream) cause = absurd cause
-formula_file_cause R files path faults.Memory cause = tt
-formula_file_cause R files path faults.Unwritten cause = absurd cause
+pub formula_file_cause : (files : FilesView) (path : Text) (fault : CommandFault) → IsFileCause files files.first path fault → IsReadCause files path fault
+formula_file_cause files path (faults.Usage text) cause = absurd cause
+formula_file_cause files path faults.Unread cause = cause
+formula_file_cause files path (faults.Refused fault) cause = absurd cause
+formula_file_cause files path faults.CubeUnread cause = absurd cause
+formula_file_cause files path (faults.CubeRefused fault) cause = absurd cause
+formula_file_cause files path (faults.NotOpened stream) cause = absurd cause
+formula_file_cause files path (faults.Layout fault) cause = absurd cause
+formula_file_cause files path (faults.NotStarted stream) cause = absurd cause
+formula_file_cause files path (faults.Ring stream) cause = absurd cause
+formula_file_cause files path faults.Memory cause = tt
+formula_file_cause files path faults.Unwritten cause = absurd cause
 
-pub cube_file_cause : (R : Type 0) (files : FilesView R) (vars : ℕ) (before : files.State) (path : Text) (fault : CommandFault) → IsFileCause R files before path fault
-    → IsAssumeCause R files vars before (Some path) (of_cube_file fault)
-cube_file_cause R files vars before path (faults.Usage text) cause = absurd cause
-cube_file_cause R files vars before path faults.Unread cause = cause
-cube_file_cause R files vars before path (faults.Refused fault) cause = absurd cause
-cube_file_cause R files vars before path faults.CubeUnread cause = absurd cause
-cube_file_cause R files vars before path (faults.CubeRefused fault) cause = absurd cause
-cube_file_cause R files vars before path (faults.NotOpened stream) cause = absurd cause
-cube_file_cause R files vars before path (faults.Layout fault) cause = absurd cause
-cube_file_cause R files vars before path (faults.NotStarted stream) cause = absurd cause
-cube_file_cause R files vars before path (faults.Ring stream) cause = absurd cause
-cube_file_cause R files vars before path faults.Memory cause = tt
-cube_file_cause R files vars before path faults.Unwritten cause = absurd cause
+pub cube_file_cause : (files : FilesView) (vars : ℕ) (before : files.State) (path : Text) (fault : CommandFault) → IsFileCause files before path fault
+    → IsAssumeCause files vars before (Some path) (of_cube_file fault)
+cube_file_cause files vars before path (faults.Usage text) cause = absurd cause
+cube_file_cause files vars before path faults.Unread cause = cause
+cube_file_cause files vars before path (faults.Refused fault) cause = absurd cause
+cube_file_cause files vars before path faults.CubeUnread cause = absurd cause
+cube_file_cause files vars before path (faults.CubeRefused fault) cause = absurd cause
+cube_file_cause files vars before path (faults.NotOpened stream) cause = absurd cause
+cube_file_cause files vars before path (faults.Layout fault) cause = absurd cause
+cube_file_cause files vars before path (faults.NotStarted stream) cause = absurd cause
+cube_file_cause files vars before path (faults.Ring stream) cause = absurd cause
+cube_file_cause files vars before path faults.Memory cause = tt
+cube_file_cause files vars before path faults.Unwritten cause = absurd cause
 
 -- why what was read is no formula, or no text of literals
-pub text_cause : (R : Type 0) (files : FilesView R) (path : Text) (bytes : List ℕ) (after : files.State) → WasReadIn R files files.first path bytes after
-    → (fault : DimacsFault) → (fault ≢ formulas.Memory → IsFormulaFault bytes fault) → IsReadCause R files path (of_formula fault)
-text_cause R files path bytes after was formulas.NoHeader is = (λ e. cc, (bytes, after, was, is (λ e. cc)))
-text_cause R files path bytes after was formulas.BadHeader is = (λ e. cc, (bytes, after, was, is (λ e. cc)))
-text_cause R files path bytes after was (formulas.BadNumber line) is = (λ e. cc, (bytes, after, was, is (λ e. cc)))
-text_cause R files path bytes after was (formulas.VariableRange line) is = (λ e. cc, (bytes, after, was, is (λ e. cc)))
-text_cause R files path bytes after was formulas.OpenClause is = (λ e. cc, (bytes, after, was, is (λ e. cc)))
-text_cause R files path bytes after was formulas.TooFew is = (λ e. cc, (bytes, after, was, is (λ e. cc)))
-text_cause R files path bytes after was (formulas.TooMany line) is = (λ e. cc, (bytes, after, was, is (λ e. cc)))
-text_cause R files path bytes after was formulas.Limit is = (λ e. cc, (bytes, after, was, is (λ e. cc)))
-text_cause R files path bytes after was formulas.Memory is = tt
+pub text_cause : (files : FilesView) (path : Text) (bytes : List ℕ) (after : files.State) → WasReadIn files files.first path bytes after
+    → (fault : DimacsFault) → (fault ≢ formulas.Memory → IsFormulaFault bytes fault) → IsReadCause files path (of_formula fault)
+text_cause files path bytes after was formulas.NoHeader is = (λ e. cc, (bytes, after, was, is (λ e. cc)))
+text_cause files path bytes after was formulas.BadHeader is = (λ e. cc, (bytes, after, was, is (λ e. cc)))
+text_cause files path bytes after was (formulas.BadNumber line) is = (λ e. cc, (bytes, after, was, is (λ e. cc)))
+text_cause files path bytes after was (formulas.VariableRange line) is = (λ e. cc, (bytes, after, was, is (λ e. cc)))
+text_cause files path bytes after was formulas.OpenClause is = (λ e. cc, (bytes, after, was, is (λ e. cc)))
+text_cause files path bytes after was formulas.TooFew is = (λ e. cc, (bytes, after, was, is (λ e. cc)))
+text_cause files path bytes after was (formulas.TooMany line) is = (λ e. cc, (bytes, after, was, is (λ e. cc)))
+text_cause files path bytes after was formulas.Limit is = (λ e. cc, (bytes, after, was, is (λ e. cc)))
+text_cause files path bytes after was formulas.Memory is = tt
 
-pub cube_text_cause : (R : Type 0) (files : FilesView R) (vars : ℕ) (before : files.State) (path : Text) (bytes : List ℕ) (after : files.State) → WasReadIn R files before path bytes after
-    → (fault : CubeFault) → IsCubeFault vars bytes fault → IsAssumeCause R files vars before (Some path) (of_cube fault)
-cube_text_cause R files vars before path bytes after was cubes.Spelling is = (λ e. cc, (bytes, after, was, is))
-cube_text_cause R files vars before path bytes after was cubes.TooLong is = (λ e. cc, (bytes, after, was, is))
-cube_text_cause R files vars before path bytes after was cubes.Range is = (λ e. cc, (bytes, after, was, is))
-cube_text_cause R files vars before path bytes after was cubes.Memory is = tt
+pub cube_text_cause : (files : FilesView) (vars : ℕ) (before : files.State) (path : Text) (bytes : List ℕ) (after : files.State) → WasReadIn files before path bytes after
+    → (fault : CubeFault) → IsCubeFault vars bytes fault → IsAssumeCause files vars before (Some path) (of_cube fault)
+cube_text_cause files vars before path bytes after was cubes.Spelling is = (λ e. cc, (bytes, after, was, is))
+cube_text_cause files vars before path bytes after was cubes.TooLong is = (λ e. cc, (bytes, after, was, is))
+cube_text_cause files vars before path bytes after was cubes.Range is = (λ e. cc, (bytes, after, was, is))
+cube_text_cause files vars before path bytes after was cubes.Memory is = tt
 
 -- Which files were the first ones is nothing to a cause of a later one.
-module _ (R : Type 0) (files : FilesView R) (first : files.State) where
-  abbrev later : FilesView R
+module _ (files : FilesView) (first : files.State) where
+  abbrev later : FilesView
   later = record files { first = first }
 
-  moved_unread : (before : files.State) (path : Text) → IsTrue (files.may_refuse path) ⊎ WasUnread R later before path → IsTrue (files.may_refuse path) ⊎ WasUnread R files before path
+  moved_unread : (before : files.State) (path : Text) → IsTrue (files.may_refuse path) ⊎ WasUnread later before path → IsTrue (files.may_refuse path) ⊎ WasUnread files before path
   moved_unread before path (inl may) = inl may
   moved_unread before path (inr was) = inr (record { reader = was.reader; after = was.after; opened = was.opened; left = was.left; broken = was.broken })
 
-  pub moved_cause : (vars : ℕ) (before : files.State) (path : Option Text) (fault : CommandFault) → IsAssumeCause R later vars before path fault → IsAssumeCause R files vars before path fault
+  pub moved_cause : (vars : ℕ) (before : files.State) (path : Option Text) (fault : CommandFault) → IsAssumeCause later vars before path fault → IsAssumeCause files vars before path fault
   moved_cause vars before None fault cause = absurd cause
   moved_cause vars before (Some path) (faults.Usage text) cause = absurd cause
   moved_cause vars before (Some path) faults.Unread cause = absurd cause

@@ -19,13 +19,13 @@ has_7 : (failed : Bool) (verdict : Verdict) → IsTrue failed → report_status 
 has_7 true verdict is = refl
 has_7 false verdict is = absurd (let no : false ≡ true = is in cc)
 
-module _ (R : Type 0) (files : FilesView R) where
-  never_assumed : (vars : ℕ) (before : files.State) (path : Option Text) → IsAssumeCause R files vars before path faults.Unwritten → ⊥
+module _ (files : FilesView) where
+  never_assumed : (vars : ℕ) (before : files.State) (path : Option Text) → IsAssumeCause files vars before path faults.Unwritten → ⊥
   never_assumed vars before None cause = cause
   never_assumed vars before (Some path) cause = cause
 
   -- no cause is one of the writing of a report
-  never_unwritten : (words : List Text) → IsCause R files words faults.Unwritten → ⊥
+  never_unwritten : (words : List Text) → IsCause files words faults.Unwritten → ⊥
   never_unwritten words cause = elim cause.2 [
     | inl read ↦ read
     | inr later ↦ elim later.3 [
@@ -34,7 +34,7 @@ module _ (R : Type 0) (files : FilesView R) where
     ]
   ]
 
-  not_7 : (words : List Text) (fault : CommandFault) → IsCause R files words fault → status_of fault ≡ 7 → ⊥
+  not_7 : (words : List Text) (fault : CommandFault) → IsCause files words fault → status_of fault ≡ 7 → ⊥
   not_7 words (faults.Usage text) cause is = let no : Path ℕ 2 7 = is in cc
   not_7 words faults.Unread cause is = let no : Path ℕ 5 7 = is in cc
   not_7 words (faults.Refused fault) cause is = let no : Path ℕ 4 7 = is in cc
@@ -51,13 +51,13 @@ module _ (R : Type 0) (files : FilesView R) where
   not_7 words faults.Unwritten cause is = never_unwritten words cause
 
 -- however the program ends, its status is 7 exactly where the sink failed
-pub ends_unwritten : (R : Type 0) (files : FilesView R) (words : List Text) (out err : SinkChange) (status : ℕ)
-    → EndsWithReport R files words out err status ⊎ EndsWithFault R files words out err status → IsTrue out.failed ↔ (status ≡ 7)
-ends_unwritten R files words out err status (inl report) = (
+pub ends_unwritten : (files : FilesView) (words : List Text) (out err : SinkChange) (status : ℕ)
+    → EndsWithReport files words out err status ⊎ EndsWithFault files words out err status → IsTrue out.failed ↔ (status ≡ 7)
+ends_unwritten files words out err status (inl report) = (
   (λ failed. report.status_is ∙ has_7 out.failed report.verdict failed),
   (λ seven. written out.failed report.verdict (sym report.status_is ∙ seven)),
 )
-ends_unwritten R files words out err status (inr fault) = (
+ends_unwritten files words out err status (inr fault) = (
   (λ failed. absurd (let no : false ≡ true = sym fault.untouched.failed ∙ failed in cc)),
-  (λ seven. absurd (not_7 R files words fault.fault fault.cause (sym fault.status_is ∙ seven))),
+  (λ seven. absurd (not_7 files words fault.fault fault.cause (sym fault.status_is ∙ seven))),
 )

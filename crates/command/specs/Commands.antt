@@ -14,8 +14,9 @@ use Rattle.lrup_model.specs.declared.layout.LayoutFault.{LayoutFault}
 use Rattle.dimacs.specs.FormulaFault.{IsFormulaFault}
 use Rattle.dimacs.specs.FormulaText.{IsFormulaText}
 use Rattle.dimacs.specs.declared.fault.DimacsFault.TheVariants as formulas
+use Rattle.lrup_text.specs.declared.device.Source as Source
 use Rattle.lrup_text.specs.declared.device.StreamEnd.TheVariants as stream_ends
-use Rattle.lrup_text.specs.ReadOut.{ReadOut, SourceView}
+use Rattle.lrup_text.specs.ReadOut.{ReadOut, SourceView, source_view}
 use Rattle.lrup_text.specs.Reads.{GaveAll, ReadsOf}
 use Rattle.lrup_text.specs.Cubes.{IsCubeFault, IsCubeText}
 use Rattle.lrup_text.specs.declared.cube.CubeFault.TheVariants as cubes
@@ -31,6 +32,8 @@ use Rattle.portfolio.specs.declared.outcome.Verdict.TheVariants.{Unsatisfiable, 
 use Rattle.command_line.specs.CommandLine.{AskFor, HaveFault, IsCommandLineOf}
 use Rattle.command_line.specs.declared.words.CommandLine.{CommandLine}
 use Rattle.command.specs.Faults.{status_of, error_text}
+use Rattle.command.specs.declared.checking.Problem.{Problem}
+use Rattle.command.specs.declared.files.Files as Files
 use Rattle.command.specs.declared.fault.CommandFault.{CommandFault}
 use Rattle.command.specs.declared.fault.CommandFault.TheVariants as faults
 
@@ -88,6 +91,10 @@ layout_at given f = layout_of (options_of given) f (length given.streams)
 abbrev pub terms_given : CommandLine → CubeValue → Cnf → TermsValue
 terms_given given cube f = terms_of (options_of given) cube f (length given.streams)
 
+-- the same, of a problem and so many streams
+abbrev pub terms_on : Problem → ℕ → TermsValue
+terms_on p streams = terms_of p.options p.cube.now p.formula.now streams
+
 -- what the reports say of the streams: on one thread they have an order of lines, by turns; with two threads for each, each was read to its
 -- end or to a read that failed, and they are judged by their events of one legal history
 abbrev pub AreReported : Bool → Cnf → TermsValue → List Report → List Stream → Type 0
@@ -111,38 +118,48 @@ pub record AreChecked {R : Type 0} (reading : SourceView R) (serial : Bool) (f :
   pub sound : verdict ≡ Unsatisfiable → IsUnsatisfiable f
   pub sound_under : verdict ≡ UnsatisfiableUnder → IsUnsatisfiableUnder f terms.cube
 
--- What is known of files: as what they pass from one opening to the next, and which of these they are at first; what the file at
--- each path tells, where the device tells it, and whether a path may be refused, of which both stay; what an opening does; and what
--- is known of the readers that files are opened as.
-pub record FilesView (R : Type 0) : Type 1 where
+-- what is known of readers, as their type says it
+abbrev pub readers_view : {R : Type 0} → Source.Ghosts R → SourceView R
+readers_view its = source_view its.left its.has_failed its.reads
+
+-- What is known of files: as what they pass from one opening to the next, and as what readers they are opened; which of these they are
+-- at first; what the file at each path tells, where the device tells it, and whether a path may be refused, of which both stay; what an
+-- opening does; and what is known of the readers.
+pub record FilesView : Type 1 where
   pub State : Type 0
+  pub Reader : Type 0
   pub first : State
   pub tells : Text → Option (List ℕ)
   pub may_refuse : Text → Bool
-  pub opens : State → Text → R → State → Type 0
-  pub reading : SourceView R
+  pub opens : State → Text → Reader → State → Type 0
+  pub reading : SourceView Reader
 
--- the record of these
-abbrev pub files_view : {F R : Type 0} → F → (Text → Option (List ℕ)) → (Text → Bool)
-    → (R → Option (List ℕ)) → (R → Bool) → (F → Text → R → F → Type 0) → ReadsOf R → FilesView R
-files_view {F = F} first tells may_refuse left has_failed opens reads = record {
+-- these, as a type of files and one of their inputs say them
+abbrev pub files_view : {F R W M : Type 0} → Files.Ghosts F R W M → Source.Ghosts R → F
+    → FilesView
+files_view {F = F} {R = R} its input first = record {
   State = F;
+  Reader = R;
   first = first;
-  tells = tells;
-  may_refuse = may_refuse;
-  opens = opens;
-  reading = record { left = left; has_failed = has_failed; reads = reads };
+  tells = its.tells first;
+  may_refuse = its.may_refuse first;
+  opens = its.opens;
+  reading = readers_view input;
 }
 
+-- the same, where others were the first ones
+abbrev pub from_first : (files : FilesView) → files.State → FilesView
+from_first files first = record files { first = first }
+
 -- what was read of the file at a path, by what is known of files
-abbrev pub WasReadIn : (R : Type 0) (files : FilesView R) → files.State → Text → List ℕ
+abbrev pub WasReadIn : (files : FilesView) → files.State → Text → List ℕ
     → files.State → Type 0
-WasReadIn R files = WasRead files.opens files.reading.reads files.tells
+WasReadIn files = WasRead files.opens files.reading.reads files.tells
 
 -- the formula whose text was read of the file at a path, the first to be opened, and the files after that
-abbrev pub IsFormulaAt : (R : Type 0) (files : FilesView R) → Text → Cnf → files.State → Type 0
-IsFormulaAt R files path f after =
-    (bytes : List ℕ) × WasReadIn R files files.first path bytes after × IsFormulaText bytes f
+abbrev pub IsFormulaAt : (files : FilesView) → Text → Cnf → files.State → Type 0
+IsFormulaAt files path f after =
+    (bytes : List ℕ) × WasReadIn files files.first path bytes after × IsFormulaText bytes f
 
 -- the path that is lent, if any
 abbrev pub path_of : Option (Bor Text) → Option Text
@@ -163,17 +180,17 @@ AreOpened opens before _ _ after = ⊥
 
 -- The reports and the verdict that the words and the files come to. The first opening is the formula's, the next is that of the
 -- assumed literals, if any, and then come those of the streams, in order. `readers` are their files as they were opened.
-pub record IsOutcome (R : Type 0) (files : FilesView R) (words : List Text) (reports : List Report)
+pub record IsOutcome (files : FilesView) (words : List Text) (reports : List Report)
     (verdict : Verdict) : Type 0 where
   pub given : CommandLine
   pub command_line : IsCommandLineOf words given
   pub formula : Cnf
   pub next : files.State
-  pub is_formula : IsFormulaAt R files given.formula.now formula next
+  pub is_formula : IsFormulaAt files given.formula.now formula next
   pub cube : CubeValue
   pub later : files.State
-  pub assumed : AreAssumed (WasReadIn R files) formula.vars next (assumed_at given) cube later
-  pub readers : List R
+  pub assumed : AreAssumed (WasReadIn files) formula.vars next (assumed_at given) cube later
+  pub readers : List files.Reader
   pub last : files.State
   pub opened : AreOpened files.opens later given.streams readers last
   pub left : map files.reading.left readers ≡ map files.tells given.streams
@@ -198,46 +215,46 @@ IsFailedRead reading first faults.Memory = Unit {0}
 IsFailedRead reading first fault = ⊥
 
 -- The file at the path was opened, from the files before, and its reading failed.
-pub record WasUnread (R : Type 0) (files : FilesView R) (before : files.State)
+pub record WasUnread (files : FilesView) (before : files.State)
     (path : Text) : Type 0 where
-  pub reader : R
+  pub reader : files.Reader
   pub after : files.State
   pub opened : files.opens before path reader after
   pub left : files.reading.left reader ≡ files.tells path
   pub broken : HasBrokenOff files.reading reader
 
 -- why the file at a path wasn't read: it was refused, or its reading failed
-abbrev pub IsFileCause : (R : Type 0) (files : FilesView R) → files.State → Text → CommandFault
+abbrev pub IsFileCause : (files : FilesView) → files.State → Text → CommandFault
     → Type 0
-IsFileCause R files before path faults.Unread =
-    IsTrue (files.may_refuse path) ⊎ WasUnread R files before path
-IsFileCause R files before path faults.Memory = Unit {0}
-IsFileCause R files before path fault = ⊥
+IsFileCause files before path faults.Unread =
+    IsTrue (files.may_refuse path) ⊎ WasUnread files before path
+IsFileCause files before path faults.Memory = Unit {0}
+IsFileCause files before path fault = ⊥
 
 -- why the formula at a path wasn't read: its file, the first to be opened, was refused, or its reading failed, or it holds no formula
-abbrev pub IsReadCause : (R : Type 0) → FilesView R → Text → CommandFault → Type 0
-IsReadCause R files path faults.Unread =
-    IsTrue (files.may_refuse path) ⊎ WasUnread R files files.first path
-IsReadCause R files path (faults.Refused fault) =
+abbrev pub IsReadCause : FilesView → Text → CommandFault → Type 0
+IsReadCause files path faults.Unread =
+    IsTrue (files.may_refuse path) ⊎ WasUnread files files.first path
+IsReadCause files path (faults.Refused fault) =
     (fault ≢ formulas.Memory)
-    × ((bytes : List ℕ) × (after : files.State) × WasReadIn R files files.first path bytes after
+    × ((bytes : List ℕ) × (after : files.State) × WasReadIn files files.first path bytes after
     × IsFormulaFault bytes fault)
-IsReadCause R files path faults.Memory = Unit {0}
-IsReadCause R files path fault = ⊥
+IsReadCause files path faults.Memory = Unit {0}
+IsReadCause files path fault = ⊥
 
 -- why the assumed literals at a path, over the variables 1 to vars, weren't read: their file, the next to be opened, was refused, or
 -- its reading failed, or it holds no text of them; without a path there is no cause
-abbrev pub IsAssumeCause : (R : Type 0) (files : FilesView R) → ℕ → files.State → Option Text
+abbrev pub IsAssumeCause : (files : FilesView) → ℕ → files.State → Option Text
     → CommandFault → Type 0
-IsAssumeCause R files vars before None fault = ⊥
-IsAssumeCause R files vars before (Some path) faults.CubeUnread =
-    IsTrue (files.may_refuse path) ⊎ WasUnread R files before path
-IsAssumeCause R files vars before (Some path) (faults.CubeRefused fault) =
+IsAssumeCause files vars before None fault = ⊥
+IsAssumeCause files vars before (Some path) faults.CubeUnread =
+    IsTrue (files.may_refuse path) ⊎ WasUnread files before path
+IsAssumeCause files vars before (Some path) (faults.CubeRefused fault) =
     (fault ≢ cubes.Memory)
-    × ((bytes : List ℕ) × (after : files.State) × WasReadIn R files before path bytes after
+    × ((bytes : List ℕ) × (after : files.State) × WasReadIn files before path bytes after
     × IsCubeFault vars bytes fault)
-IsAssumeCause R files vars before (Some path) faults.Memory = Unit {0}
-IsAssumeCause R files vars before (Some path) fault = ⊥
+IsAssumeCause files vars before (Some path) faults.Memory = Unit {0}
+IsAssumeCause files vars before (Some path) fault = ⊥
 
 -- why not all of the streams at these paths were opened: those before one were, in order, and the file of that one, counted from 1,
 -- was refused
@@ -262,22 +279,22 @@ IsRunCause serial p fault = ⊥
 
 -- the cause of a fault of the formula; or, of a formula that was read, of a fault of the assumed literals; or, of both that were read,
 -- of a fault of the opening of the streams or of the run
-abbrev pub IsCauseAt : (R : Type 0) → FilesView R → CommandLine → CommandFault → Type 0
-IsCauseAt R files given fault =
-    IsReadCause R files given.formula.now fault
-    ⊎ ((f : Cnf) × (next : files.State) × IsFormulaAt R files given.formula.now f next
-    × (IsAssumeCause R files f.vars next (assumed_at given) fault
+abbrev pub IsCauseAt : FilesView → CommandLine → CommandFault → Type 0
+IsCauseAt files given fault =
+    IsReadCause files given.formula.now fault
+    ⊎ ((f : Cnf) × (next : files.State) × IsFormulaAt files given.formula.now f next
+    × (IsAssumeCause files f.vars next (assumed_at given) fault
     ⊎ ((cube : CubeValue) × (later : files.State)
-    × AreAssumed (WasReadIn R files) f.vars next (assumed_at given) cube later
+    × AreAssumed (WasReadIn files) f.vars next (assumed_at given) cube later
     × (IsOpenCause files.opens files.may_refuse later given.streams fault
     ⊎ IsRunCause given.serial (layout_at given f) fault))))
 
 -- Why there is no outcome, by the words and the files.
-abbrev pub IsCause : (R : Type 0) → FilesView R → List Text → CommandFault → Type 0
-IsCause R files words (faults.Usage text) = HaveFault words
-IsCause R files words faults.Memory = Unit {0}
-IsCause R files words fault =
-    (given : CommandLine) × IsCommandLineOf words given × IsCauseAt R files given fault
+abbrev pub IsCause : FilesView → List Text → CommandFault → Type 0
+IsCause files words (faults.Usage text) = HaveFault words
+IsCause files words faults.Memory = Unit {0}
+IsCause files words fault =
+    (given : CommandLine) × IsCommandLineOf words given × IsCauseAt files given fault
 
 -- What goes out.
 
@@ -321,20 +338,20 @@ SaysOfReport true err = SinkTook err (error_text faults.Unwritten)
 SaysOfReport false err = IsUntouched err
 
 -- The program ends with a report.
-pub record EndsWithReport (R : Type 0) (files : FilesView R) (words : List Text)
+pub record EndsWithReport (files : FilesView) (words : List Text)
     (out err : SinkChange) (status : ℕ) : Type 0 where
   pub reports : List Report
   pub verdict : Verdict
-  pub outcome : IsOutcome R files words reports verdict
+  pub outcome : IsOutcome files words reports verdict
   pub printed : SinkTook out (report_text reports verdict)
   pub said : SaysOfReport out.failed err
   pub status_is : status ≡ report_status out.failed verdict
 
 -- The program ends without one, and says why.
-pub record EndsWithFault (R : Type 0) (files : FilesView R) (words : List Text)
+pub record EndsWithFault (files : FilesView) (words : List Text)
     (out err : SinkChange) (status : ℕ) : Type 0 where
   pub fault : CommandFault
-  pub cause : IsCause R files words fault
+  pub cause : IsCause files words fault
   pub untouched : IsUntouched out
   pub said : SinkTook err (error_text fault)
   pub status_is : status ≡ status_of fault

@@ -12,8 +12,7 @@ ghost use Rattle.command.specs.Commands.{SinkTook, WasRead, change, files_view};
 
 use crate::fault::CommandFault;
 use crate::files::Files;
-use crate::program::{command_watched, say};
-use crate::watching::WatchSinks;
+use crate::program::{command, say};
 use lrup_text::{Sink, write_all};
 use std::alloc::{AllocError, Global};
 use std::env::Args;
@@ -23,13 +22,12 @@ use std::sync::Wait;
 use std::thread::Threads;
 use std::time::Clock;
 
-/// Runs `command_watched` with the program's arguments, of which the first is its name, and gives the exit status. Where the system
+/// Runs `command` with the program's arguments, of which the first is its name, and gives the exit status. Where the system
 /// gives none, `err` gets the cause: out of memory, with status 6, or an argument that isn't UTF-8, with status 2.
 pub fn command_with_arguments<
     T: Threads + Wait + Sync,
     C: Clock + Sync,
     F: Files,
-    M: WatchSinks,
     O: Sink,
     E: Sink,
 >(
@@ -38,7 +36,6 @@ pub fn command_with_arguments<
     alloc: Global,
     arguments: io::Result<Args>,
     files: &mut F,
-    watchers: &M,
     out: &mut O,
     err: &mut E,
 ) -> ExitCode
@@ -55,13 +52,12 @@ pub fn command_with_arguments<
         → IsOkAnd arguments (λ given.
         NameUnsatisfiableUnder _ read files.old (words_after_name given)) }
     // A report of what the words and the files come to, or none and the cause; what goes out; and the status.
-    ensures ends { let view = files_view files.old (F.tells files.old) (F.may_refuse files.old)
-        F.Input.Source.left F.Input.Source.has_failed F.opens F.Input.Source.reads in
+    ensures ends { let view = files_view F.Files F.Input.Source files.old in
         let output = change (O.written out.old) (O.written out.new) (O.has_failed out.new) in
         let errors = change (E.written err.old) (E.written err.new) (E.has_failed err.new) in
         IfOk arguments (λ given.
-        EndsWithReport _ view (words_after_name given) output errors (exit_status result)
-        ⊎ EndsWithFault _ view (words_after_name given) output errors (exit_status result)) }
+        EndsWithReport view (words_after_name given) output errors (exit_status result)
+        ⊎ EndsWithFault view (words_after_name given) output errors (exit_status result)) }
     // No arguments, and the cause.
     ensures refused { IfErr arguments (λ error. EndsWithoutArguments (error_kind error)
         (change (O.written out.old) (O.written out.new) (O.has_failed out.new))
@@ -75,21 +71,20 @@ pub fn command_with_arguments<
 {
     match arguments {
         Ok(arguments) => {
-            let status = with_words(threads, clock, alloc, arguments, files, watchers, out, err);
+            let status = with_words(threads, clock, alloc, arguments, files, out, err);
             ExitCode::from(status)
         }
         Err(error) => ExitCode::from(refuse(error.kind(), err)),
     }
 }
 
-/// Runs `command_watched` with the words of the arguments after the first.
-fn with_words<T: Threads + Wait + Sync, C: Clock + Sync, F: Files, M: WatchSinks, O: Sink, E: Sink>(
+/// Runs `command` with the words of the arguments after the first.
+fn with_words<T: Threads + Wait + Sync, C: Clock + Sync, F: Files, O: Sink, E: Sink>(
     threads: &T,
     clock: &C,
     alloc: Global,
     arguments: Args,
     files: &mut F,
-    watchers: &M,
     out: &mut O,
     err: &mut E,
 ) -> u8
@@ -99,12 +94,11 @@ fn with_words<T: Threads + Wait + Sync, C: Clock + Sync, F: Files, M: WatchSinks
         result ≡ 0 → NameUnsatisfiable _ read files.old (words_after_name arguments) }
     ensures sound_under { let read = WasRead F.opens F.Input.Source.reads (F.tells files.old) in
         result ≡ 8 → NameUnsatisfiableUnder _ read files.old (words_after_name arguments) }
-    ensures ends { let view = files_view files.old (F.tells files.old) (F.may_refuse files.old)
-        F.Input.Source.left F.Input.Source.has_failed F.opens F.Input.Source.reads in
+    ensures ends { let view = files_view F.Files F.Input.Source files.old in
         let output = change (O.written out.old) (O.written out.new) (O.has_failed out.new) in
         let errors = change (E.written err.old) (E.written err.new) (E.has_failed err.new) in
-        EndsWithReport _ view (words_after_name arguments) output errors result
-        ⊎ EndsWithFault _ view (words_after_name arguments) output errors result }
+        EndsWithReport view (words_after_name arguments) output errors result
+        ⊎ EndsWithFault view (words_after_name arguments) output errors result }
     ensures usage { HaveFault (words_after_name arguments) → (result ≡ 2) ⊎ (result ≡ 6) }
     ensures unwritten { IsTrue (O.has_failed out.new) ↔ (result ≡ 7) }
 {
@@ -114,7 +108,7 @@ fn with_words<T: Threads + Wait + Sync, C: Clock + Sync, F: Files, M: WatchSinks
     let Ok(words) = words_of(alloc, &arguments) else {
         return say(&CommandFault::Memory, err);
     };
-    command_watched(threads, clock, alloc, &words, files, watchers, out, err)
+    command(threads, clock, alloc, &words, files, out, err)
 }
 
 /// The arguments after the program's name.

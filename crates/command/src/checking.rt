@@ -9,18 +9,15 @@ ghost use Rattle.dimacs.specs.FormulaText.{IsFormulaText};
 ghost use Rattle.lrup_model.specs.Cube.{CubeValue, IsUnsatisfiableUnder};
 ghost use Rattle.lrup_model.specs.Entailment.{IsUnsatisfiable};
 ghost use Rattle.lrup_model.specs.Formula.{Cnf};
-ghost use Rattle.portfolio.specs.Outcomes.{layout_of, terms_of};
-ghost use Rattle.lrup_text.specs.ReadOut.{source_view};
 ghost use Rattle.lrup_text.specs.Reads.{GaveAll};
 ghost use Rattle.command.specs.Commands.{AreAssumed, AreChecked, AreOpened, IsAssumeCause, IsCause, IsFailedRead};
 ghost use Rattle.command.specs.Commands.{IsFileCause, IsOpenCause, IsOutcome, IsRunCause, Text, WasRead, WasReadIn};
-ghost use Rattle.command.specs.Commands.{assumed_at, files_view, path_of};
+ghost use Rattle.command.specs.Commands.{assumed_at, files_view, from_first, path_of, readers_view, terms_on};
 ghost use Rattle.command.specs.Faults.{of_cube_file};
 ghost use Rattle.stream_check.specs.Setting.{max_tries};
 
 use crate::fault::CommandFault;
 use crate::files::{Files, OpenFault};
-use crate::watching::WatchSinks;
 use command_line::{CommandLine, read_words};
 use dimacs::DimacsFault;
 use lrup_model::{Cube, Formula};
@@ -63,13 +60,11 @@ pub fn read_asked<'a, W: Wait, F: Files>(
     files: &mut F,
 ) -> Result<Asked<'a>, CommandFault>
     ensures line { IfOk result (λ asked. IsCommandLineOf (texts words.now) asked.line) }
-    ensures bytes { let view = files_view files.old (F.tells files.old) (F.may_refuse files.old)
-        F.Input.Source.left F.Input.Source.has_failed F.opens F.Input.Source.reads in
-        IfOk result (λ asked. WasReadIn _ view files.old
+    ensures bytes { let view = files_view F.Files F.Input.Source files.old in
+        IfOk result (λ asked. WasReadIn view files.old
         asked.line.formula.now asked.formula.items files.new) }
-    ensures cause { let view = files_view files.old (F.tells files.old) (F.may_refuse files.old)
-        F.Input.Source.left F.Input.Source.has_failed F.opens F.Input.Source.reads in
-        IfErr result (IsCause _ view (texts words.now)) }
+    ensures cause { let view = files_view F.Files F.Input.Source files.old in
+        IfErr result (IsCause view (texts words.now)) }
     ensures stays { F.tells files.new ≡ F.tells files.old }
     ensures stays_refused { F.may_refuse files.new ≡ F.may_refuse files.old }
 {
@@ -79,21 +74,19 @@ pub fn read_asked<'a, W: Wait, F: Files>(
 }
 
 /// Parses the formula, reads the assumed literals, and opens and checks the streams. It blocks while a file does.
-pub fn check_asked<T: Threads + Wait + Sync, C: Clock + Sync, F: Files, M: WatchSinks>(
+pub fn check_asked<T: Threads + Wait + Sync, C: Clock + Sync, F: Files>(
     threads: &T,
     clock: &C,
     alloc: Global,
     asked: Asked<'_>,
     files: &mut F,
-    watchers: &M,
 ) -> Result<RunResult, CommandFault>
     requires tries { asked.line.tries ≤ max_tries }
     ensures outcome { (words : List Text) (first : F) →
-        let view = files_view first (F.tells files.old) (F.may_refuse files.old)
-        F.Input.Source.left F.Input.Source.has_failed F.opens F.Input.Source.reads in
+        let view = from_first (files_view F.Files F.Input.Source files.old) first in
         IsCommandLineOf words asked.entry.line
-        → WasReadIn _ view first asked.entry.line.formula.now asked.entry.formula.items files.old
-        → IfOk result (λ found. IsOutcome _ view words found.reports.items found.verdict) }
+        → WasReadIn view first asked.entry.line.formula.now asked.entry.formula.items files.old
+        → IfOk result (λ found. IsOutcome view words found.reports.items found.verdict) }
     ensures sound { IfOk result (λ found. found.verdict ≡ Verdict.Unsatisfiable
         → (f : Cnf) × IsFormulaText asked.entry.formula.items f × IsUnsatisfiable f) }
     ensures sound_under { let read = WasRead F.opens F.Input.Source.reads (F.tells files.old) in
@@ -103,11 +96,10 @@ pub fn check_asked<T: Threads + Wait + Sync, C: Clock + Sync, F: Files, M: Watch
         × AreAssumed read f.vars files.old (assumed_at asked.entry.line) cube after
         × IsUnsatisfiableUnder f cube) }
     ensures cause { (words : List Text) (first : F) →
-        let view = files_view first (F.tells files.old) (F.may_refuse files.old)
-        F.Input.Source.left F.Input.Source.has_failed F.opens F.Input.Source.reads in
+        let view = from_first (files_view F.Files F.Input.Source files.old) first in
         IsCommandLineOf words asked.entry.line
-        → WasReadIn _ view first asked.entry.line.formula.now asked.entry.formula.items files.old
-        → IfErr result (IsCause _ view words) }
+        → WasReadIn view first asked.entry.line.formula.now asked.entry.formula.items files.old
+        → IfErr result (IsCause view words) }
 {
     let Asked {
         line,
@@ -117,17 +109,13 @@ pub fn check_asked<T: Threads + Wait + Sync, C: Clock + Sync, F: Files, M: Watch
     let cube = read_assumed(threads, alloc, files, line.assume, &formula)?;
     let options = Options::new(line.tries, line.lines, line.room).unwrap();
     let readers = open_streams(alloc, files, line.streams.as_slice())?;
-    check_streams(
-        threads,
-        clock,
-        alloc,
-        &formula,
-        &cube,
+    let problem = Problem {
+        formula: &formula,
+        cube: &cube,
         options,
-        line.serial,
-        line.watch.then_some(watchers),
-        readers,
-    )
+    };
+    let watched = line.watch.then_some(&*files);
+    check_streams(threads, clock, alloc, &problem, line.serial, watched, readers)
 }
 
 /// Parses a formula, and gives the memory of its text back.
@@ -147,13 +135,11 @@ fn read_assumed<W: Wait, F: Files>(
     path: Option<&str>,
     formula: &Formula,
 ) -> Result<Cube, CommandFault>
-    ensures cube { let view = files_view files.old (F.tells files.old) (F.may_refuse files.old)
-        F.Input.Source.left F.Input.Source.has_failed F.opens F.Input.Source.reads in
-        IfOk result (λ cube. AreAssumed (WasReadIn _ view) formula.now.vars files.old
+    ensures cube { let view = files_view F.Files F.Input.Source files.old in
+        IfOk result (λ cube. AreAssumed (WasReadIn view) formula.now.vars files.old
         (path_of path.entry) cube files.new) }
-    ensures cause { let view = files_view files.old (F.tells files.old) (F.may_refuse files.old)
-        F.Input.Source.left F.Input.Source.has_failed F.opens F.Input.Source.reads in
-        IfErr result (IsAssumeCause _ view formula.now.vars files.old (path_of path.entry)) }
+    ensures cause { let view = files_view F.Files F.Input.Source files.old in
+        IfErr result (IsAssumeCause view formula.now.vars files.old (path_of path.entry)) }
     ensures stays { F.tells files.new ≡ F.tells files.old }
     ensures stays_refused { F.may_refuse files.new ≡ F.may_refuse files.old }
 {
@@ -171,13 +157,11 @@ fn read_cube_at<W: Wait, F: Files>(
     path: &str,
     formula: &Formula,
 ) -> Result<Cube, CommandFault>
-    ensures cube { let view = files_view files.old (F.tells files.old) (F.may_refuse files.old)
-        F.Input.Source.left F.Input.Source.has_failed F.opens F.Input.Source.reads in
-        IfOk result (λ cube. AreAssumed (WasReadIn _ view) formula.now.vars files.old
+    ensures cube { let view = files_view F.Files F.Input.Source files.old in
+        IfOk result (λ cube. AreAssumed (WasReadIn view) formula.now.vars files.old
         (Some path.now) cube files.new) }
-    ensures cause { let view = files_view files.old (F.tells files.old) (F.may_refuse files.old)
-        F.Input.Source.left F.Input.Source.has_failed F.opens F.Input.Source.reads in
-        IfErr result (IsAssumeCause _ view formula.now.vars files.old (Some path.now)) }
+    ensures cause { let view = files_view F.Files F.Input.Source files.old in
+        IfErr result (IsAssumeCause view formula.now.vars files.old (Some path.now)) }
     ensures stays { F.tells files.new ≡ F.tells files.old }
     ensures stays_refused { F.may_refuse files.new ≡ F.may_refuse files.old }
 {
@@ -204,13 +188,11 @@ fn read_file<W: Wait, F: Files>(
     files: &mut F,
     path: &str,
 ) -> Result<Vec<u8>, CommandFault>
-    ensures bytes { let view = files_view files.old (F.tells files.old) (F.may_refuse files.old)
-        F.Input.Source.left F.Input.Source.has_failed F.opens F.Input.Source.reads in
+    ensures bytes { let view = files_view F.Files F.Input.Source files.old in
         IfOk result (λ bytes.
-        WasReadIn _ view files.old path.now bytes.items files.new) }
-    ensures cause { let view = files_view files.old (F.tells files.old) (F.may_refuse files.old)
-        F.Input.Source.left F.Input.Source.has_failed F.opens F.Input.Source.reads in
-        IfErr result (IsFileCause _ view files.old path.now) }
+        WasReadIn view files.old path.now bytes.items files.new) }
+    ensures cause { let view = files_view F.Files F.Input.Source files.old in
+        IfErr result (IsFileCause view files.old path.now) }
     ensures stays { F.tells files.new ≡ F.tells files.old }
     ensures stays_refused { F.may_refuse files.new ≡ F.may_refuse files.old }
 {
@@ -230,7 +212,7 @@ fn read_all<W: Wait, S: Source>(
     ensures gave { IfOk result (λ bytes. GaveAll _ S.reads source.old bytes.items) }
     ensures all { IfOk result (λ bytes. ForSome (S.left source.old) (λ all. all ≡ bytes.items)) }
     ensures fault { IfErr result
-        (IsFailedRead (source_view S.left S.has_failed S.reads) source.old) }
+        (IsFailedRead (readers_view S.Source) source.old) }
 {
     let mut bytes = Vec::new(alloc);
     let mut buffer = vec![in alloc; 0; most]?;
@@ -273,55 +255,61 @@ fn open_streams<F: Files>(
     Ok(readers)
 }
 
-/// Checks the streams, by turns on this thread or each in two threads of its own. Where there are sinks, it is told what goes on.
-fn check_streams<T: Threads + Wait + Sync, C: Clock + Sync, R: Source + Send + Drop, M: WatchSinks>(
+/// What streams are checked by.
+#[derive(Clone, Copy)]
+struct Problem<'a> {
+    formula: &'a Formula,
+    cube: &'a Cube,
+    options: Options,
+}
+
+/// Checks the streams, by turns on this thread or each in two threads of its own. Where they are watched, the watchers are of these
+/// files.
+fn check_streams<T: Threads + Wait + Sync, C: Clock + Sync, F: Files>(
     threads: &T,
     clock: &C,
     alloc: Global,
-    formula: &Formula,
-    cube: &Cube,
-    options: Options,
+    problem: &Problem<'_>,
     serial: bool,
-    watchers: Option<&M>,
-    readers: Vec<R>,
+    watched: Option<&F>,
+    readers: Vec<F::Input>,
 ) -> Result<RunResult, CommandFault>
-    requires running { AllByRecursion (λ r. R.has_failed r ≡ false) readers.items }
-    ensures checked { let terms = terms_of options cube.now formula.now (length readers.items) in
-        IfOk result (λ found. AreChecked (source_view R.left R.has_failed R.reads) serial
-        formula.now terms readers.items found.reports.items found.verdict) }
-    ensures cause { IfErr result
-        (IsRunCause serial (layout_of options formula.now (length readers.items))) }
+    requires running { AllByRecursion (λ r. F.Input.Source.has_failed r ≡ false) readers.items }
+    ensures checked { let terms = terms_on problem.now (length readers.items) in
+        IfOk result (λ found. AreChecked (readers_view F.Input.Source) serial
+        problem.now.formula.now terms readers.items found.reports.items found.verdict) }
+    ensures cause { let terms = terms_on problem.now (length readers.items) in
+        IfErr result (IsRunCause serial terms.layout) }
 {
     if serial {
-        check_serially(
-            threads, clock, alloc, formula, cube, options, watchers, readers,
-        )
+        check_serially(threads, clock, alloc, problem, watched, readers)
     } else {
-        check_in_threads(
-            threads, clock, alloc, formula, cube, options, watchers, readers,
-        )
+        check_in_threads(threads, clock, alloc, problem, watched, readers)
     }
 }
 
 /// Checks the streams on this thread, by turns.
-fn check_serially<W: Wait, C: Clock + Sync, R: Source + Drop, M: WatchSinks>(
+fn check_serially<W: Wait, C: Clock + Sync, F: Files>(
     wait: &W,
     clock: &C,
     alloc: Global,
-    formula: &Formula,
-    cube: &Cube,
-    options: Options,
-    watchers: Option<&M>,
-    readers: Vec<R>,
+    problem: &Problem<'_>,
+    watched: Option<&F>,
+    readers: Vec<F::Input>,
 ) -> Result<RunResult, CommandFault>
-    requires running { AllByRecursion (λ r. R.has_failed r ≡ false) readers.items }
-    ensures checked { let terms = terms_of options cube.now formula.now (length readers.items) in
-        IfOk result (λ found. AreChecked (source_view R.left R.has_failed R.reads) true
-        formula.now terms readers.items found.reports.items found.verdict) }
-    ensures cause { IfErr result
-        (IsRunCause true (layout_of options formula.now (length readers.items))) }
+    requires running { AllByRecursion (λ r. F.Input.Source.has_failed r ≡ false) readers.items }
+    ensures checked { let terms = terms_on problem.now (length readers.items) in
+        IfOk result (λ found. AreChecked (readers_view F.Input.Source) true
+        problem.now.formula.now terms readers.items found.reports.items found.verdict) }
+    ensures cause { let terms = terms_on problem.now (length readers.items) in
+        IfErr result (IsRunCause true terms.layout) }
 {
-    let gates = turn_gates(alloc, clock, watchers, readers.len())?;
+    let Problem {
+        formula,
+        cube,
+        options,
+    } = *problem;
+    let gates = turn_gates(alloc, clock, watched, readers.len())?;
     let outcome = run_serial(wait, alloc, formula, cube, options, readers, gates)?;
     let SerialOutcome {
         reports,
@@ -333,29 +321,27 @@ fn check_serially<W: Wait, C: Clock + Sync, R: Source + Drop, M: WatchSinks>(
 }
 
 /// Checks the streams, each in two threads of its own.
-fn check_in_threads<
-    T: Threads + Wait + Sync,
-    C: Clock + Sync,
-    R: Source + Send + Drop,
-    M: WatchSinks,
->(
+fn check_in_threads<T: Threads + Wait + Sync, C: Clock + Sync, F: Files>(
     threads: &T,
     clock: &C,
     alloc: Global,
-    formula: &Formula,
-    cube: &Cube,
-    options: Options,
-    watchers: Option<&M>,
-    readers: Vec<R>,
+    problem: &Problem<'_>,
+    watched: Option<&F>,
+    readers: Vec<F::Input>,
 ) -> Result<RunResult, CommandFault>
-    requires running { AllByRecursion (λ r. R.has_failed r ≡ false) readers.items }
-    ensures checked { let terms = terms_of options cube.now formula.now (length readers.items) in
-        IfOk result (λ found. AreChecked (source_view R.left R.has_failed R.reads) false
-        formula.now terms readers.items found.reports.items found.verdict) }
-    ensures cause { IfErr result
-        (IsRunCause false (layout_of options formula.now (length readers.items))) }
+    requires running { AllByRecursion (λ r. F.Input.Source.has_failed r ≡ false) readers.items }
+    ensures checked { let terms = terms_on problem.now (length readers.items) in
+        IfOk result (λ found. AreChecked (readers_view F.Input.Source) false
+        problem.now.formula.now terms readers.items found.reports.items found.verdict) }
+    ensures cause { let terms = terms_on problem.now (length readers.items) in
+        IfErr result (IsRunCause false terms.layout) }
 {
-    let gates = thread_gates(alloc, clock, watchers, readers.len())?;
+    let Problem {
+        formula,
+        cube,
+        options,
+    } = *problem;
+    let gates = thread_gates(alloc, clock, watched, readers.len())?;
     let outcome = run(threads, alloc, formula, cube, options, readers, gates)?;
     let Outcome {
         reports,
@@ -368,43 +354,43 @@ fn check_in_threads<
     Ok(RunResult { reports, verdict })
 }
 
-/// A gate for each of so many streams that are checked in threads. Each tells on a sink of its own, where there are sinks.
-fn thread_gates<'a, C: Clock + Sync, M: WatchSinks>(
+/// A gate for each of so many streams that are checked in threads. Where they are watched, each tells on a watcher of its own.
+fn thread_gates<'a, C: Clock + Sync, F: Files>(
     alloc: Global,
     clock: &'a C,
-    watchers: Option<&M>,
+    watched: Option<&F>,
     count: usize,
-) -> Result<Vec<Watch<Pause<&'a C>, &'a C, M::Watcher>>, AllocError>
+) -> Result<Vec<Watch<Pause<&'a C>, &'a C, F::Watcher>>, AllocError>
     ensures { IfOk result (λ gates. vec_len gates ≡ count) }
 {
     let mut gates = Vec::with_capacity(alloc, count)?;
     for _gate in 0..count {
         let pause = Pause::new(clock);
-        gates.push_reserved(Watch::new(pause, clock, sink_of(watchers)));
+        gates.push_reserved(Watch::new(pause, clock, watcher_of(watched)));
     }
     Ok(gates)
 }
 
 /// Such gates of streams that are checked by turns.
-fn turn_gates<'a, C: Clock + Sync, M: WatchSinks>(
+fn turn_gates<'a, C: Clock + Sync, F: Files>(
     alloc: Global,
     clock: &'a C,
-    watchers: Option<&M>,
+    watched: Option<&F>,
     count: usize,
-) -> Result<Vec<TurnWatch<&'a C, M::Watcher>>, AllocError>
+) -> Result<Vec<TurnWatch<&'a C, F::Watcher>>, AllocError>
     ensures { IfOk result (λ gates. vec_len gates ≡ count) }
 {
     let mut gates = Vec::with_capacity(alloc, count)?;
     for _gate in 0..count {
-        gates.push_reserved(TurnWatch::new(clock, sink_of(watchers)));
+        gates.push_reserved(TurnWatch::new(clock, watcher_of(watched)));
     }
     Ok(gates)
 }
 
-/// A sink, where there are any.
-fn sink_of<M: WatchSinks>(watchers: Option<&M>) -> Option<M::Watcher> {
-    match watchers {
+/// A watcher of these files, if there are any.
+fn watcher_of<F: Files>(watched: Option<&F>) -> Option<F::Watcher> {
+    match watched {
         None => None,
-        Some(watchers) => Some(watchers.sink()),
+        Some(files) => Some(files.watcher()),
     }
 }

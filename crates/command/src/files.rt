@@ -1,7 +1,8 @@
-//! Where a formula, the assumed literals and the streams come from.
-ghost use Rattle.std.specs.Prelude.{◌≡◌, ℕ, Bool, List, Option, Err, IfOk, IsTrue, false};
+//! Where a formula, the assumed literals and the streams come from, and where a checkpoint goes to.
+ghost use Rattle.std.specs.Prelude.{◌≡◌, ℕ, Bool, List, [], Option, Err, IfOk, IsTrue, false};
+ghost use Rattle.std.specs.Option.{ForSome};
 
-use lrup_text::Source;
+use lrup_text::{Sink, Source, WriteFault};
 use std::io;
 use thiserror::Error;
 
@@ -31,10 +32,16 @@ impl From<io::Error> for OpenFault {
     }
 }
 
-/// Files that paths name.
+/// Files that paths name, and what else of a machine a run writes to.
 pub trait Files {
     /// A file that is open.
     type Input: Source + Send + Drop;
+
+    /// A file that was created.
+    type Output: Sink + Drop;
+
+    /// Where the thread of a stream tells what goes on.
+    type Watcher: Sink + Send + Drop;
 
     /// All bytes of the file at a path, where the device tells them: a file of the machine doesn't. They stay, however often it is
     /// opened.
@@ -43,8 +50,17 @@ pub trait Files {
     /// Whether the opening of a path may fail for another cause than memory.
     ghost may_refuse: { Self → List ℕ → Bool };
 
+    /// Whether the creation of a file at a path may fail for another cause than memory.
+    ghost may_refuse_new: { Self → List ℕ → Bool };
+
     /// What an opening does: the files before it, the path, the file that is open then, and the files after it.
     ghost opens: { Self → List ℕ → Self.Input → Self → Type 0 } = { λ _ _ _ _. Unit {0} };
+
+    /// What the creation of a file does: the files before it, the path, the new file, and the files after it.
+    ghost creates: { Self → List ℕ → Self.Output → Self → Type 0 } = { λ _ _ _ _. Unit {0} };
+
+    /// What the keeping of a file does: the files before it, the file with what was written, and the files after it.
+    ghost keeps: { Self → Self.Output → Self → Type 0 } = { λ _ _ _. Unit {0} };
 
     /// Opens the file at a path, which is read from its beginning.
     fn open(&mut self, path: &str) -> Result<Self::Input, OpenFault>
@@ -54,5 +70,23 @@ pub trait Files {
         ensures opens { IfOk result (λ input. opens self.old path.now input self.new) }
         ensures refused { result ≡ Err OpenFault.NotOpened → IsTrue (may_refuse self.old path.now) }
         ensures stays { tells self.new ≡ tells self.old }
-        ensures stays_refused { may_refuse self.new ≡ may_refuse self.old };
+        ensures stays_refused { may_refuse self.new ≡ may_refuse self.old }
+        ensures stays_refused_new { may_refuse_new self.new ≡ may_refuse_new self.old };
+
+    /// Creates a file at a path where there was none.
+    fn create(&mut self, path: &str) -> Result<Self::Output, OpenFault>
+        ensures empty { IfOk result (λ output.
+            ForSome (Self.Output.Sink.written output) (λ all. all ≡ [])) }
+        ensures running { IfOk result (λ output. Self.Output.Sink.has_failed output ≡ false) }
+        ensures creates { IfOk result (λ output. creates self.old path.now output self.new) }
+        ensures refused { result ≡ Err OpenFault.NotOpened
+            → IsTrue (may_refuse_new self.old path.now) };
+
+    /// Closes a file that was created, once what was written lies on the device.
+    fn keep(&mut self, output: Self::Output) -> Result<(), WriteFault>
+        ensures { IfOk result (λ _. keeps self.old output self.new) };
+
+    /// A sink before its first write.
+    fn watcher(&self) -> Self::Watcher
+        ensures { Self.Watcher.Sink.has_failed result ≡ false };
 }

@@ -6,10 +6,8 @@ mod checking;
 mod fault;
 mod files;
 mod program;
-mod watching;
 
 pub use arguments::command_with_arguments;
 pub use checking::Asked;
 pub use files::{Files, OpenFault};
-pub use program::{check_formula, command, command_watched};
-pub use watching::WatchSinks;
+pub use program::{check_formula, command};

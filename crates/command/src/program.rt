@@ -9,14 +9,13 @@ ghost use Rattle.portfolio.specs.ReportText.{report_text};
 ghost use Rattle.command_line.specs.CommandLine.{HaveFault, IsCommandLineOf};
 ghost use Rattle.command.specs.Commands.{AreAssumed, EndsWithFault, EndsWithReport, NameUnsatisfiable};
 ghost use Rattle.command.specs.Commands.{NameUnsatisfiableUnder, SaysOfReport, SinkTook, Text, WasRead, WasReadIn};
-ghost use Rattle.command.specs.Commands.{assumed_at, change, files_view, report_status};
+ghost use Rattle.command.specs.Commands.{assumed_at, change, files_view, from_first, report_status};
 ghost use Rattle.command.specs.Faults.{status_of, error_text};
 ghost use Rattle.stream_check.specs.Setting.{max_tries};
 
 use crate::checking::{Asked, RunResult, check_asked, read_asked};
 use crate::fault::CommandFault;
 use crate::files::Files;
-use crate::watching::{Unwatched, WatchSinks};
 use lrup_text::{Sink, WriteFault};
 use portfolio::{Verdict, write_report};
 use std::alloc::Global;
@@ -28,7 +27,8 @@ use std::time::Clock;
 /// this order: the words are read, the formula's file is read and parsed, and so is that of the
 /// assumed literals, the streams are opened and checked, and the report goes to `out`. Where there
 /// is no report, `out` gets nothing, and `err` the cause. Where the report can't be written, `out`
-/// has a beginning of it, and `err` says so. It blocks while a file does.
+/// has a beginning of it, and `err` says so. Where the words have `--watch`, it is told what goes on
+/// while streams are checked, on a watcher for each stream. It blocks while a file does.
 ///
 /// | status | where |
 /// |---|---|
@@ -58,82 +58,31 @@ pub fn command<T: Threads + Wait + Sync, C: Clock + Sync, F: Files, O: Sink, E: 
     ensures sound_under { let read = WasRead F.opens F.Input.Source.reads (F.tells files.old) in
         result ≡ 8 → NameUnsatisfiableUnder _ read files.old (texts words.now) }
     // A report of what the words and the files come to, or none and the cause; what goes out; and the status.
-    ensures ends { let view = files_view files.old (F.tells files.old) (F.may_refuse files.old)
-        F.Input.Source.left F.Input.Source.has_failed F.opens F.Input.Source.reads in
+    ensures ends { let view = files_view F.Files F.Input.Source files.old in
         let output = change (O.written out.old) (O.written out.new) (O.has_failed out.new) in
         let errors = change (E.written err.old) (E.written err.new) (E.has_failed err.new) in
-        EndsWithReport _ view (texts words.now) output errors result
-        ⊎ EndsWithFault _ view (texts words.now) output errors result }
-    // Words with a fault have a status of their own, unless memory ran out.
-    ensures usage { HaveFault (texts words.now) → (result ≡ 2) ⊎ (result ≡ 6) }
-    // So does a report that wasn't written.
-    ensures unwritten { IsTrue (O.has_failed out.new) ↔ (result ≡ 7) }
-{
-    command_watched(threads, clock, alloc, words, files, &Unwatched, out, err)
-}
-
-/// Runs `lrupd` as `command` does. Where the words have `--watch`, it is told what goes on while streams are checked, on a sink for
-/// each stream.
-pub fn command_watched<
-    T: Threads + Wait + Sync,
-    C: Clock + Sync,
-    F: Files,
-    M: WatchSinks,
-    O: Sink,
-    E: Sink,
->(
-    threads: &T,
-    clock: &C,
-    alloc: Global,
-    words: &[&str],
-    files: &mut F,
-    watchers: &M,
-    out: &mut O,
-    err: &mut E,
-) -> u8
-    requires out { O.has_failed out.old ≡ false }
-    requires err { E.has_failed err.old ≡ false }
-    // What a user relies on: with status 0 the bytes that were read of FORMULA are a text of a formula that no assignment satisfies.
-    ensures sound { let read = WasRead F.opens F.Input.Source.reads (F.tells files.old) in
-        result ≡ 0 → NameUnsatisfiable _ read files.old (texts words.now) }
-    // With status 8 no assignment makes it and every literal of the assumed ones' file true.
-    ensures sound_under { let read = WasRead F.opens F.Input.Source.reads (F.tells files.old) in
-        result ≡ 8 → NameUnsatisfiableUnder _ read files.old (texts words.now) }
-    // A report of what the words and the files come to, or none and the cause; what goes out; and the status.
-    ensures ends { let view = files_view files.old (F.tells files.old) (F.may_refuse files.old)
-        F.Input.Source.left F.Input.Source.has_failed F.opens F.Input.Source.reads in
-        let output = change (O.written out.old) (O.written out.new) (O.has_failed out.new) in
-        let errors = change (E.written err.old) (E.written err.new) (E.has_failed err.new) in
-        EndsWithReport _ view (texts words.now) output errors result
-        ⊎ EndsWithFault _ view (texts words.now) output errors result }
+        EndsWithReport view (texts words.now) output errors result
+        ⊎ EndsWithFault view (texts words.now) output errors result }
     // Words with a fault have a status of their own, unless memory ran out.
     ensures usage { HaveFault (texts words.now) → (result ≡ 2) ⊎ (result ≡ 6) }
     // So does a report that wasn't written.
     ensures unwritten { IsTrue (O.has_failed out.new) ↔ (result ≡ 7) }
 {
     match read_asked(threads, alloc, words, files) {
-        Ok(asked) => check_formula(threads, clock, alloc, asked, files, watchers, out, err),
+        Ok(asked) => check_formula(threads, clock, alloc, asked, files, out, err),
         Err(fault) => say(&fault, err),
     }
 }
 
-/// Checks the streams against a formula's text, as `command_watched` does with what it has read. In this order: the text is parsed,
+/// Checks the streams against a formula's text, as `command` does with what it has read. In this order: the text is parsed,
 /// and its memory given back, the file of the assumed literals is read and parsed, the streams are opened and checked, and the report
 /// goes to `out`. The bytes are those of any source, so the clause `sound` knows of no file.
-pub fn check_formula<
-    T: Threads + Wait + Sync,
-    C: Clock + Sync,
-    F: Files,
-    M: WatchSinks,
-    O: Sink,
-    E: Sink,
->(
+pub fn check_formula<T: Threads + Wait + Sync, C: Clock + Sync, F: Files, O: Sink, E: Sink>(
     threads: &T,
     clock: &C,
     alloc: Global,
     asked: Asked<'_>,
     files: &mut F,
-    watchers: &M,
     out: &mut O,
     err: &mut E,
 ) -> u8
@@ -153,16 +102,15 @@ pub fn check_formula<
     // Where words give this command line, and the bytes are what was read of FORMULA by the first opening of files that were `first`
     // before it: a report of what these words and files come to, or none and the cause; what goes out; and the status.
     ensures ends { (words : List Text) (first : F) →
-        let view = files_view first (F.tells files.old) (F.may_refuse files.old)
-        F.Input.Source.left F.Input.Source.has_failed F.opens F.Input.Source.reads in
+        let view = from_first (files_view F.Files F.Input.Source files.old) first in
         let output = change (O.written out.old) (O.written out.new) (O.has_failed out.new) in
         let errors = change (E.written err.old) (E.written err.new) (E.has_failed err.new) in
         IsCommandLineOf words asked.entry.line
-        → WasReadIn _ view first asked.entry.line.formula.now asked.entry.formula.items files.old
-        → EndsWithReport _ view words output errors result
-        ⊎ EndsWithFault _ view words output errors result }
+        → WasReadIn view first asked.entry.line.formula.now asked.entry.formula.items files.old
+        → EndsWithReport view words output errors result
+        ⊎ EndsWithFault view words output errors result }
 {
-    match check_asked(threads, clock, alloc, asked, files, watchers) {
+    match check_asked(threads, clock, alloc, asked, files) {
         Ok(found) => report(&found, out, err),
         Err(fault) => say(&fault, err),
     }

@@ -2,7 +2,7 @@
 ghost use Rattle.std.specs.Prelude.{None, true, false};
 
 use command::{Files, OpenFault, command};
-use lrup_text::{ReadFault, Source};
+use lrup_text::{ReadFault, Sink, Source, WriteFault};
 use std::alloc::Global;
 use std::fmt;
 use std::process::Abort;
@@ -11,6 +11,7 @@ use std::test::Fail;
 use std::thread::Threads;
 use std::time::Clock;
 use test_support::{Paper, Pieces};
+use watched::{Ear, Told};
 
 mod arguments;
 mod assumptions;
@@ -48,6 +49,24 @@ impl Source for OpenFile<'_> {
     }
 }
 
+/// A sink that takes all bytes and writes none.
+#[derive(Clone, Copy)]
+struct Nowhere;
+
+impl Sink for Nowhere {
+    ghost written = { λ _. None };
+
+    ghost has_failed = { λ _. false };
+
+    fn write(&mut self, bytes: &[u8]) -> Result<usize, WriteFault> {
+        Ok(bytes.len())
+    }
+
+    fn failed(&self) -> bool {
+        false
+    }
+}
+
 /// A file of the shelf.
 #[derive(Clone, Copy)]
 struct Entry<'a> {
@@ -66,6 +85,8 @@ struct Shelf<'a> {
     most: usize,
     /// Whether memory is out at each opening.
     is_full: bool,
+    /// What is told to those who watch, if anybody does.
+    told: Option<&'a Told>,
 }
 
 impl Shelf<'_> {
@@ -82,9 +103,15 @@ impl Shelf<'_> {
 impl<'a> Files for Shelf<'a> {
     type Input = OpenFile<'a>;
 
+    type Output = Nowhere;
+
+    type Watcher = Ear<'a>;
+
     ghost tells = { λ _ _. None };
 
     ghost may_refuse = { λ _ _. true };
+
+    ghost may_refuse_new = { λ _ _. true };
 
     fn open(&mut self, path: &str) -> Result<OpenFile<'a>, OpenFault> {
         if self.is_full || self.opened.push_str(path).is_err() || self.opened.push(' ').is_err() {
@@ -94,6 +121,18 @@ impl<'a> Files for Shelf<'a> {
             Some(entry) => Ok(OpenFile(Pieces::new(entry.text, self.most, entry.fails_at))),
             None => Err(OpenFault::NotOpened),
         }
+    }
+
+    fn create(&mut self, _path: &str) -> Result<Nowhere, OpenFault> {
+        Err(OpenFault::NotOpened)
+    }
+
+    fn keep(&mut self, _output: Nowhere) -> Result<(), WriteFault> {
+        Err(WriteFault)
+    }
+
+    fn watcher(&self) -> Ear<'a> {
+        Ear::new(self.told)
     }
 }
 
@@ -119,6 +158,7 @@ fn shelf_of<'a>(alloc: Global, formula: &'a str, streams: &[&'a str]) -> Result<
         opened: String::new(alloc),
         most: 3,
         is_full: false,
+        told: None,
     })
 }
 

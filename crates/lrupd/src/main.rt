@@ -2,14 +2,14 @@
 //! solvers that share their clauses, while the solvers write them.
 #![tactic(auto)]
 
-use command::{Files, OpenFault, WatchSinks, command_with_arguments};
-use lrup_text::{Reading, Writing};
+use command::{Files, OpenFault, command_with_arguments};
+use lrup_text::{Reading, WriteFault, Writing};
 use std::env;
-use std::fs::File;
+use std::fs::{File, OpenOptions};
 use std::io::Stderr;
 use std::process::ExitCode;
 
-/// The machine's files. None tells its bytes before it is read, and each may be refused.
+/// The machine's files, and its standard error for those who watch. No file tells its bytes, and each may be refused.
 #[derive(Drop)]
 struct MachineFiles<'a> {
     rt: &'a HostRuntime,
@@ -18,28 +18,38 @@ struct MachineFiles<'a> {
 impl Files for MachineFiles<'_> {
     type Input = Reading<File>;
 
+    type Output = Writing<File>;
+
+    /// Each line is one write, so that those of several streams don't mix.
+    type Watcher = Writing<Stderr>;
+
     ghost use Rattle.std.specs.Prelude.{None, true};
 
     ghost tells = { λ _ _. None };
 
     ghost may_refuse = { λ _ _. true };
 
+    ghost may_refuse_new = { λ _ _. true };
+
     fn open(&mut self, path: &str) -> Result<Reading<File>, OpenFault> {
         Ok(Reading::new(File::open(self.rt, path)?))
     }
-}
 
-/// Sinks over the machine's standard error. Each line is one write, so that those of several streams don't mix.
-#[derive(Clone, Copy)]
-struct StandardError {
-    err: Stderr,
-}
+    fn create(&mut self, path: &str) -> Result<Writing<File>, OpenFault> {
+        let mut options = OpenOptions::new();
+        let file = options.write(true).create_new(true).open(self.rt, path)?;
+        Ok(Writing::new(file))
+    }
 
-impl WatchSinks for StandardError {
-    type Watcher = Writing<Stderr>;
+    fn keep(&mut self, output: Writing<File>) -> Result<(), WriteFault> {
+        match output.into_inner().sync_all() {
+            Ok(()) => Ok(()),
+            Err(_) => Err(WriteFault),
+        }
+    }
 
-    fn sink(&self) -> Writing<Stderr> {
-        Writing::new(self.err)
+    fn watcher(&self) -> Writing<Stderr> {
+        Writing::new(self.rt.stderr())
     }
 }
 
@@ -47,16 +57,6 @@ fn main(rt: HostRuntime) -> ExitCode {
     let mut files = MachineFiles { rt: &rt };
     let mut out = Writing::new(rt.stdout());
     let mut err = Writing::new(rt.stderr());
-    let watchers = StandardError { err: rt.stderr() };
     let arguments = env::args(&rt);
-    command_with_arguments(
-        &rt,
-        &rt,
-        rt.alloc(),
-        arguments,
-        &mut files,
-        &watchers,
-        &mut out,
-        &mut err,
-    )
+    command_with_arguments(&rt, &rt, rt.alloc(), arguments, &mut files, &mut out, &mut err)
 }

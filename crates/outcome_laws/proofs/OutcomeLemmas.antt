@@ -49,68 +49,68 @@ same_line s report other same =
 pub text_of : (told : Option (List ℕ)) (text bytes : List ℕ) → told ≡ Some text → ForSome told (λ all. all ≡ bytes) → text ≡ bytes
 text_of told text bytes is all = all text is
 
-pub is_text : (R : Type 0) (files : FilesView R) (path : Text) (f : Cnf) (after : files.State) (text : List ℕ) → files.tells path ≡ Some text
-    → IsFormulaAt R files path f after → IsFormulaText text f
-is_text R files path f after text told at =
+pub is_text : (files : FilesView) (path : Text) (f : Cnf) (after : files.State) (text : List ℕ) → files.tells path ≡ Some text
+    → IsFormulaAt files path f after → IsFormulaText text f
+is_text files path f after text told at =
     subst (λ (x : List ℕ). IsFormulaText x f) (sym (text_of (files.tells path) text at.0 told at.1.told)) at.2
 
 -- what the readers of an outcome told
-pub told_in : (R : Type 0) (files : FilesView R) (words : List Text) (reports : List Report) (verdict : Verdict) → IsOutcome R files words reports verdict → List Telling
-told_in R files words reports verdict a = tellings files.reading a.readers a.checked.lasts
+pub told_in : (files : FilesView) (words : List Text) (reports : List Report) (verdict : Verdict) → IsOutcome files words reports verdict → List Telling
+told_in files words reports verdict a = tellings files.reading a.readers a.checked.lasts
 
 -- an outcome on one thread has an order by turns
-pub turns_of : (R : Type 0) (files : FilesView R) (words : List Text) (reports : List Report) (verdict : Verdict) (a : IsOutcome R files words reports verdict) → a.given.serial ≡ true
-    → StandsOnStreams (told_in R files words reports verdict a) (λ streams. IsOrderedByTurns a.formula (terms_given a.given a.cube a.formula) streams reports)
+pub turns_of : (files : FilesView) (words : List Text) (reports : List Report) (verdict : Verdict) (a : IsOutcome files words reports verdict) → a.given.serial ≡ true
+    → StandsOnStreams (told_in files words reports verdict a) (λ streams. IsOrderedByTurns a.formula (terms_given a.given a.cube a.formula) streams reports)
 unfolding told_in
-turns_of R files words reports verdict a serial =
-    subst (λ (b : Bool). StandsOnStreams (told_in R files words reports verdict a) (AreReported b a.formula (terms_given a.given a.cube a.formula) reports)) serial a.checked.reported
+turns_of files words reports verdict a serial =
+    subst (λ (b : Bool). StandsOnStreams (told_in files words reports verdict a) (AreReported b a.formula (terms_given a.given a.cube a.formula) reports)) serial a.checked.reported
 
 -- each stream's reader told something
-pub told_length : (R : Type 0) (files : FilesView R) (words : List Text) (reports : List Report) (verdict : Verdict) (a : IsOutcome R files words reports verdict)
-    → length (told_in R files words reports verdict a) ≡ length a.given.streams
+pub told_length : (files : FilesView) (words : List Text) (reports : List Report) (verdict : Verdict) (a : IsOutcome files words reports verdict)
+    → length (told_in files words reports verdict a) ≡ length a.given.streams
 unfolding told_in
-told_length R files words reports verdict a =
+told_length files words reports verdict a =
     told_as_many files.reading a.readers a.checked.lasts a.checked.reported.streams a.checked.read
     ∙ sym (length-map a.readers files.reading.left) ∙ ap length a.left ∙ length-map a.given.streams files.tells
 
 -- an outcome's reports are those of a run
-pub run_of : SerialRun → (R : Type 0) (files : FilesView R) (words : List Text) (reports : List Report) (verdict : Verdict) (a : IsOutcome R files words reports verdict)
-    → IsRun a.formula (terms_given a.given a.cube a.formula) (told_in R files words reports verdict a) reports
+pub run_of : SerialRun → (files : FilesView) (words : List Text) (reports : List Report) (verdict : Verdict) (a : IsOutcome files words reports verdict)
+    → IsRun a.formula (terms_given a.given a.cube a.formula) (told_in files words reports verdict a) reports
 unfolding told_in
-run_of serial R files words reports verdict a =
+run_of serial files words reports verdict a =
     is_run serial a.given.serial a.formula (terms_given a.given a.cube a.formula) (tellings files.reading a.readers a.checked.lasts) reports
-    (told_length R files words reports verdict a) a.checked.reported
+    (told_length files words reports verdict a) a.checked.reported
 
 -- what a file tells its reader had left at first
-pub telling_of_file : (R : Type 0) (files : FilesView R) (words : List Text) (reports : List Report) (verdict : Verdict) (a : IsOutcome R files words reports verdict)
+pub telling_of_file : (files : FilesView) (words : List Text) (reports : List Report) (verdict : Verdict) (a : IsOutcome files words reports verdict)
     (s : ℕ) (path : Text) (whole : List ℕ) → IsOfStream a.given.streams s path → files.tells path ≡ Some whole
-    → (telling : Telling) × IsOfStream (told_in R files words reports verdict a) s telling × (telling.entry ≡ Some whole)
+    → (telling : Telling) × IsOfStream (told_in files words reports verdict a) s telling × (telling.entry ≡ Some whole)
 unfolding told_in
-telling_of_file R files words reports verdict a s path whole at told =
+telling_of_file files words reports verdict a s path whole at told =
     let entry : slice_get (map files.reading.left a.readers) (s - 1) ≡ Some (Some whole) =
     ap (λ (es : List (Option (List ℕ))). slice_get es (s - 1)) a.left
     ∙ slice_get-map files.tells a.given.streams (s - 1) ∙ ap (option_map files.tells) at.1 ∙ ap (λ (x : Option (List ℕ)). Some x) told in
     let is = telling_at files.reading a.readers a.checked.lasts a.checked.reported.streams a.checked.read (s - 1) (Some whole) entry in
     (is.0, (at.0, is.1), is.2)
 
-pub outcomes_agree : OneFormula → SerialRun → SameBytesSayTheSame → (R : Type 0) (files : FilesView R) (Q : Type 0) (others : FilesView Q) → OutcomesAgree R files Q others
-outcomes_agree one_formula serial same R files Q others words other_words reports other_reports verdict other_verdict a b s text whole report other
+pub outcomes_agree : OneFormula → SerialRun → SameBytesSayTheSame → (files : FilesView) (others : FilesView) → OutcomesAgree files others
+outcomes_agree one_formula serial same files others words other_words reports other_reports verdict other_verdict a b s text whole report other
     options count told known cites on there =
     let formulas : b.formula ≡ a.formula =
-    one_formula text b.formula a.formula (is_text Q others b.given.formula.now b.formula b.next text known b.is_formula) (is_text R files a.given.formula.now a.formula a.next text told a.is_formula) in
+    one_formula text b.formula a.formula (is_text others b.given.formula.now b.formula b.next text known b.is_formula) (is_text files a.given.formula.now a.formula a.next text told a.is_formula) in
     let layouts : layout_at b.given b.formula ≡ layout_at a.given a.formula =
     ap (λ (x : OptionsValue). layout_of x b.formula (length b.given.streams)) options
     ∙ ap (λ (x : Cnf). layout_of (options_of a.given) x (length b.given.streams)) formulas
     ∙ ap (layout_of (options_of a.given) a.formula) count in
     let fits : Fits (layout_at a.given a.formula) a.formula = record { vars = refl; clauses = refl; literals = refl } in
-    let mine = run_of serial R files words reports verdict a in
-    let theirs = run_of serial Q others other_words other_reports other_verdict b in
-    let here = telling_of_file R files words reports verdict a s on.path whole on.names on.tells in
-    let over = telling_of_file Q others other_words other_reports other_verdict b s there.path whole there.names there.tells in
+    let mine = run_of serial files words reports verdict a in
+    let theirs = run_of serial others other_words other_reports other_verdict b in
+    let here = telling_of_file files words reports verdict a s on.path whole on.names on.tells in
+    let over = telling_of_file others other_words other_reports other_verdict b s there.path whole there.names there.tells in
     same_line s report other
     (same a.formula (terms_given a.given a.cube a.formula) (terms_given b.given b.cube b.formula) s whole
-    (told_in R files words reports verdict a) (told_in Q others other_words other_reports other_verdict b) here.0 over.0 reports other_reports report other
+    (told_in files words reports verdict a) (told_in others other_words other_reports other_verdict b) here.0 over.0 reports other_reports report other
     fits layouts (ap (λ (x : OptionsValue). x.tries) options) cites
-    mine (subst (λ (g : Cnf). IsRun g (terms_given b.given b.cube b.formula) (told_in Q others other_words other_reports other_verdict b) other_reports) formulas theirs)
+    mine (subst (λ (g : Cnf). IsRun g (terms_given b.given b.cube b.formula) (told_in others other_words other_reports other_verdict b) other_reports) formulas theirs)
     here.1 here.2 over.1 over.2
     on.says there.says on.memory on.failure there.memory there.failure)

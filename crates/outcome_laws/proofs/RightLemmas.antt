@@ -85,16 +85,16 @@ has_report f terms told reports r s is =
       | inr past ↦ absurd (omega (arith, past.0, is.0, is.1, r.count, judged_count terms (λ t. true) r.history 1 r.streams reports r.judged))
     ]
 
-module _ (R : Type 0) (files : FilesView R) (Lost : Report → Type 0) where
+module _ (files : FilesView) (Lost : Report → Type 0) where
   pub when_said : (words : List Text) (s : ℕ) (out : SinkChange) (status : ℕ) (verdict : Verdict) → verdict ≡ Unsatisfiable
-      → (failed : Bool) → out.failed ≡ failed → status ≡ report_status failed verdict → (status ≡ 0) ⊎ IsExcused R files words s Lost out status
+      → (failed : Bool) → out.failed ≡ failed → status ≡ report_status failed verdict → (status ≡ 0) ⊎ IsExcused files words s Lost out status
   when_said words s out status verdict is true failed status_is = inr (unwritten failed status_is)
   when_said words s out status verdict is false failed status_is = inl (status_is ∙ ap (report_status false) is)
 
-  pub when_lost : (words : List Text) (s : ℕ) (out : SinkChange) (status : ℕ) (reports : List Report) (verdict : Verdict) → IsOutcome R files words reports verdict
+  pub when_lost : (words : List Text) (s : ℕ) (out : SinkChange) (status : ℕ) (reports : List Report) (verdict : Verdict) → IsOutcome files words reports verdict
       → (report : Report) → IsOfStream reports s report → Lost report
       → (other : Verdict) → verdict ≡ other → (failed : Bool) → out.failed ≡ failed → status ≡ report_status failed other
-      → (status ≡ 0) ⊎ IsExcused R files words s Lost out status
+      → (status ≡ 0) ⊎ IsExcused files words s Lost out status
   when_lost words s out status reports verdict a report says why other same true failed is = inr (unwritten failed is)
   when_lost words s out status reports verdict a report says why Unsatisfiable same false failed is = inl is
   when_lost words s out status reports verdict a report says why UnsatisfiableUnder same false failed is = inr (lost reports verdict a report says why (inr is))
@@ -129,31 +129,31 @@ comes_to reports verdict s report is at says =
     (if list_any (λ r. r.within) reports then UnsatisfiableUnder else Unknown) (one_says reports (s - 1) report at.1 says)
 
 -- what the program says comes to one of these
-module _ (R : Type 0) (files : FilesView R) (Lost : Report → Type 0) where
+module _ (files : FilesView) (Lost : Report → Type 0) where
   with_report : (words : List Text) (s : ℕ) (out err : SinkChange) (status : ℕ)
-      → ((reports : List Report) (verdict : Verdict) → IsOutcome R files words reports verdict
+      → ((reports : List Report) (verdict : Verdict) → IsOutcome files words reports verdict
       → (verdict ≡ Unsatisfiable) ⊎ ((report : Report) × IsOfStream reports s report × Lost report))
-      → EndsWithReport R files words out err status → (status ≡ 0) ⊎ IsExcused R files words s Lost out status
+      → EndsWithReport files words out err status → (status ≡ 0) ⊎ IsExcused files words s Lost out status
   with_report words s out err status says ends = elim (says ends.reports ends.verdict ends.outcome) [
-    | inl is ↦ when_said R files Lost words s out status ends.verdict is out.failed refl ends.status_is
-    | inr why ↦ when_lost R files Lost words s out status ends.reports ends.verdict ends.outcome why.0 why.1 why.2 ends.verdict refl out.failed refl ends.status_is
+    | inl is ↦ when_said files Lost words s out status ends.verdict is out.failed refl ends.status_is
+    | inr why ↦ when_lost files Lost words s out status ends.reports ends.verdict ends.outcome why.0 why.1 why.2 ends.verdict refl out.failed refl ends.status_is
   ]
 
-module _ (one_formula : OneFormula) (serial : SerialRun) (alike : SameWordsAskAlike) (empty : RightEmpty) (R : Type 0) (files : FilesView R) where
+module _ (one_formula : OneFormula) (serial : SerialRun) (alike : SameWordsAskAlike) (empty : RightEmpty) (files : FilesView) where
   -- what was asked for is what the outcome is of
-  pub record IsOf (words : List Text) (asks : AskWell R files words) (reports : List Report) (verdict : Verdict) (a : IsOutcome R files words reports verdict) : Type 0 where
+  pub record IsOf (words : List Text) (asks : AskWell files words) (reports : List Report) (verdict : Verdict) (a : IsOutcome files words reports verdict) : Type 0 where
     pub formulas : a.formula ≡ asks.formula
     pub streams : a.given.streams ≡ asks.given.streams
     pub layouts : layout_at asks.given asks.formula ≡ layout_at a.given a.formula
     pub cnf : IsCnf a.formula
-    pub run : IsRun a.formula (terms_given a.given a.cube a.formula) (told_in R files words reports verdict a) reports
+    pub run : IsRun a.formula (terms_given a.given a.cube a.formula) (told_in files words reports verdict a) reports
 
-  pub is_of : (words : List Text) (asks : AskWell R files words) (reports : List Report) (verdict : Verdict) (a : IsOutcome R files words reports verdict) → IsOf words asks reports verdict a
+  pub is_of : (words : List Text) (asks : AskWell files words) (reports : List Report) (verdict : Verdict) (a : IsOutcome files words reports verdict) → IsOf words asks reports verdict a
   is_of words asks reports verdict a =
       let same = alike words asks.given a.given asks.command_line a.command_line in
       let told : files.tells a.given.formula.now ≡ Some asks.text = ap files.tells same.2 ∙ asks.told in
       let formulas : a.formula ≡ asks.formula =
-      one_formula asks.text a.formula asks.formula (is_text R files a.given.formula.now a.formula a.next asks.text told a.is_formula) asks.is_text in
+      one_formula asks.text a.formula asks.formula (is_text files a.given.formula.now a.formula a.next asks.text told a.is_formula) asks.is_text in
       record {
         formulas = formulas;
         streams = same.1;
@@ -161,11 +161,11 @@ module _ (one_formula : OneFormula) (serial : SerialRun) (alike : SameWordsAskAl
             ∙ ap (λ (x : Cnf). layout_of (options_of a.given) x (length asks.given.streams)) (sym formulas)
             ∙ ap (λ (x : List Text). layout_of (options_of a.given) a.formula (length x)) (sym same.1);
         cnf = text_cnf asks.text a.formula (subst (IsFormulaText asks.text) (sym formulas) asks.is_text);
-        run = run_of serial R files words reports verdict a;
+        run = run_of serial files words reports verdict a;
       }
 
-  refutation_says : RightBegins → (words : List Text) (s : ℕ) (ask : AskForRightRefutation R files words s) (reports : List Report) (verdict : Verdict)
-      (a : IsOutcome R files words reports verdict)
+  refutation_says : RightBegins → (words : List Text) (s : ℕ) (ask : AskForRightRefutation files words s) (reports : List Report) (verdict : Verdict)
+      (a : IsOutcome files words reports verdict)
       → (verdict ≡ Unsatisfiable) ⊎ ((report : Report) × IsOfStream reports s report × IsCutOffIn (length ask.right.lines) report)
   refutation_says begins words s ask reports verdict a =
       let asks = ask.asks in
@@ -176,22 +176,22 @@ module _ (one_formula : OneFormula) (serial : SerialRun) (alike : SameWordsAskAl
       (subst (λ (p : LayoutValue). IsRightBeginning asks.formula p s ask.bytes lines) is.layouts ask.right.right) in
       let names : IsOfStream a.given.streams s ask.path = subst (λ (x : List Text). IsOfStream x s ask.path) (sym is.streams) ask.names in
       let terms = terms_given a.given a.cube a.formula in
-      let here = telling_of_file R files words reports verdict a s ask.path ask.bytes names ask.tells in
+      let here = telling_of_file files words reports verdict a s ask.path ask.bytes names ask.tells in
       let within = slice_get_within a.given.streams (s - 1) ask.path names.1 in
       let stream : IsStream terms.layout s = (names.0, omega (arith, within, names.0)) in
-      let report = has_report a.formula terms (told_in R files words reports verdict a) reports is.run s stream in
-      elim (begins a.formula terms s ask.bytes lines (told_in R files words reports verdict a) here.0 reports report.0
+      let report = has_report a.formula terms (told_in files words reports verdict a) reports is.run s stream in
+      elim (begins a.formula terms s ask.bytes lines (told_in files words reports verdict a) here.0 reports report.0
       is.cnf (record { vars = refl; clauses = refl; literals = refl }) stream right is.run here.1 here.2 report.1) [
         | inl tells ↦ inl (comes_to reports verdict s report.0 a.checked.is_verdict report.1 (tells.empty ((empty terms s lines).1 ask.right.empty)))
         | inr cut ↦ inr (report.0, report.1, cut)
       ]
 
   -- the file of each stream of the set begins with the texts of its lines
-  have_texts : (words : List Text) (s : ℕ) (ask : AskForRightOrder R files words s) (reports : List Report) (verdict : Verdict)
-      (a : IsOutcome R files words reports verdict) → IsOf words ask.asks reports verdict a
-      → HaveTexts ask.set ask.steps (told_in R files words reports verdict a)
+  have_texts : (words : List Text) (s : ℕ) (ask : AskForRightOrder files words s) (reports : List Report) (verdict : Verdict)
+      (a : IsOutcome files words reports verdict) → IsOf words ask.asks reports verdict a
+      → HaveTexts ask.set ask.steps (told_in files words reports verdict a)
   have_texts words s ask reports verdict a is t telling member at =
-      let told = told_in R files words reports verdict a in
+      let told = told_in files words reports verdict a in
       let within = slice_get_within told (t - 1) telling at.1 in
       let first = at.0 in
       elim (slice_get_cases a.given.streams (t - 1)).1 [
@@ -199,14 +199,14 @@ module _ (one_formula : OneFormula) (serial : SerialRun) (alike : SameWordsAskAl
         | inl has ↦
             let names : IsOfStream a.given.streams t has.0 = (first, has.2) in
             let tells = ask.tells t has.0 member (subst (λ (x : List Text). IsOfStream x t has.0) is.streams names) in
-            let here = telling_of_file R files words reports verdict a t has.0 (flat_map line_text (lines_by t ask.steps) ++ tells.0) names tells.1 in
+            let here = telling_of_file files words reports verdict a t has.0 (flat_map line_text (lines_by t ask.steps) ++ tells.0) names tells.1 in
             (tells.0, ap (λ (x : Telling). x.entry) (same_at told t telling here.0 at here.1) ∙ here.2)
       ]
 
-  order_says : TogetherBegins → (words : List Text) (s : ℕ) (ask : AskForRightOrder R files words s) (reports : List Report) (verdict : Verdict)
-      (a : IsOutcome R files words reports verdict)
+  order_says : TogetherBegins → (words : List Text) (s : ℕ) (ask : AskForRightOrder files words s) (reports : List Report) (verdict : Verdict)
+      (a : IsOutcome files words reports verdict)
       → (verdict ≡ Unsatisfiable)
-      ⊎ ((report : Report) × IsOfStream reports s report × IsHeldUp R files words ask.asks s (length (lines_by s ask.steps)) report)
+      ⊎ ((report : Report) × IsOfStream reports s report × IsHeldUp files words ask.asks s (length (lines_by s ask.steps)) report)
   order_says together words s ask reports verdict a =
       let asks = ask.asks in
       let is : IsOf words asks reports verdict a = is_of words asks reports verdict a in
@@ -217,8 +217,8 @@ module _ (one_formula : OneFormula) (serial : SerialRun) (alike : SameWordsAskAl
       let some : 0 < length (lines_by s ask.steps) = omega (arith, ask.empty.2) in
       let stream : IsStream terms.layout s = of_some s (IsStream terms.layout) ask.steps order.streams some in
       let member : IsTrue (ask.set s) = of_some s (λ t. IsTrue (ask.set t)) ask.steps ask.members some in
-      let report = has_report a.formula terms (told_in R files words reports verdict a) reports is.run s stream in
-      elim (together a.formula terms ask.set ask.steps (told_in R files words reports verdict a) reports s report.0 is.cnf
+      let report = has_report a.formula terms (told_in files words reports verdict a) reports is.run s stream in
+      elim (together a.formula terms ask.set ask.steps (told_in files words reports verdict a) reports s report.0 is.cnf
       (record { vars = refl; clauses = refl; literals = refl }) order ask.members is.run (have_texts words s ask reports verdict a is)
       member report.1) [
         | inl tells ↦ inl (comes_to reports verdict s report.0 a.checked.is_verdict report.1 (tells.empty ((empty terms s (lines_by s ask.steps)).1 ask.empty)))
@@ -232,41 +232,41 @@ module _ (one_formula : OneFormula) (serial : SerialRun) (alike : SameWordsAskAl
 
 -- Without one
 
-module _ (one_formula : OneFormula) (no_fault : NoFormulaFault) (alike : SameWordsAskAlike) (R : Type 0) (files : FilesView R) where
+module _ (one_formula : OneFormula) (no_fault : NoFormulaFault) (alike : SameWordsAskAlike) (files : FilesView) where
   -- no file that was read is at fault
   not_refused : (path : Text) (text : List ℕ) (f : Cnf) (fault : DimacsFault) → files.tells path ≡ Some text → IsFormulaText text f
-      → ¬ IsReadCause R files path (faults.Refused fault)
+      → ¬ IsReadCause files path (faults.Refused fault)
   not_refused path text f fault told is cause =
       let same = text_of (files.tells path) text cause.1.0 told cause.1.2.told in
       no_fault cause.1.0 f fault (subst (λ (b : List ℕ). IsFormulaText b f) same is) cause.1.3
 
-  not_assumed : (vars : ℕ) (before : files.State) (path : Option Text) (fault : CubeFault) → AreRightAssumptions R files vars path
-      → ¬ IsAssumeCause R files vars before path (faults.CubeRefused fault)
+  not_assumed : (vars : ℕ) (before : files.State) (path : Option Text) (fault : CubeFault) → AreRightAssumptions files vars path
+      → ¬ IsAssumeCause files vars before path (faults.CubeRefused fault)
   not_assumed vars before None fault right cause = cause
   not_assumed vars before (Some path) fault right cause =
       let same = text_of (files.tells path) right.0 cause.1.0 right.1 cause.1.2.told in
       right.2 fault cause.0 (subst (λ (b : List ℕ). IsCubeFault vars b fault) (sym same) cause.1.3)
 
-  no_usage : (before : files.State) (path : Option Text) (vars : ℕ) (fault : DimacsFault) → ¬ IsAssumeCause R files vars before path (faults.Refused fault)
+  no_usage : (before : files.State) (path : Option Text) (vars : ℕ) (fault : DimacsFault) → ¬ IsAssumeCause files vars before path (faults.Refused fault)
   no_usage before None vars fault cause = cause
   no_usage before (Some path) vars fault cause = cause
 
-  no_layout : (before : files.State) (path : Option Text) (vars : ℕ) (fault : LayoutFault) → ¬ IsAssumeCause R files vars before path (faults.Layout fault)
+  no_layout : (before : files.State) (path : Option Text) (vars : ℕ) (fault : LayoutFault) → ¬ IsAssumeCause files vars before path (faults.Layout fault)
   no_layout before None vars fault cause = cause
   no_layout before (Some path) vars fault cause = cause
 
-  never_unwritten : (before : files.State) (path : Option Text) (vars : ℕ) → ¬ IsAssumeCause R files vars before path faults.Unwritten
+  never_unwritten : (before : files.State) (path : Option Text) (vars : ℕ) → ¬ IsAssumeCause files vars before path faults.Unwritten
   never_unwritten before None vars cause = cause
   never_unwritten before (Some path) vars cause = cause
 
   -- the formula that was read is the one that is told
-  formula_at : (words : List Text) (ask : AskWell R files words) (given : CommandLine) (f : Cnf) (next : files.State)
-      → IsCommandLineOf words given → IsFormulaAt R files given.formula.now f next → f ≡ ask.formula
+  formula_at : (words : List Text) (ask : AskWell files words) (given : CommandLine) (f : Cnf) (next : files.State)
+      → IsCommandLineOf words given → IsFormulaAt files given.formula.now f next → f ≡ ask.formula
   formula_at words ask given f next line at =
       let same = alike words ask.given given ask.command_line line in
-      one_formula ask.text f ask.formula (is_text R files given.formula.now f next ask.text (ap files.tells same.2 ∙ ask.told) at) ask.is_text
+      one_formula ask.text f ask.formula (is_text files given.formula.now f next ask.text (ap files.tells same.2 ∙ ask.told) at) ask.is_text
 
-  of_machine : (words : List Text) (ask : AskWell R files words) (fault : CommandFault) → IsCause R files words fault → IsOfMachine fault
+  of_machine : (words : List Text) (ask : AskWell files words) (fault : CommandFault) → IsCause files words fault → IsOfMachine fault
   of_machine words ask (faults.Usage text) cause = cause ask.command_line.good
   of_machine words ask faults.Unread cause = tt
   of_machine words ask faults.CubeUnread cause = tt
@@ -291,8 +291,8 @@ module _ (one_formula : OneFormula) (no_fault : NoFormulaFault) (alike : SameWor
               let assumed : assumed_at cause.0 ≡ assumed_at ask.given = cause.1.said.assume ∙ sym ask.command_line.said.assume in
               let formulas = formula_at words ask cause.0 later.0 later.1 cause.1 later.2 in
               not_assumed ask.formula.vars later.1 (assumed_at ask.given) fault ask.assumptions
-              (subst (λ (p : Option Text). IsAssumeCause R files ask.formula.vars later.1 p (faults.CubeRefused fault)) assumed
-              (subst (λ (f : Cnf). IsAssumeCause R files f.vars later.1 (assumed_at cause.0) (faults.CubeRefused fault)) formulas assume))
+              (subst (λ (p : Option Text). IsAssumeCause files ask.formula.vars later.1 p (faults.CubeRefused fault)) assumed
+              (subst (λ (f : Cnf). IsAssumeCause files f.vars later.1 (assumed_at cause.0) (faults.CubeRefused fault)) formulas assume))
           | inr last ↦ elim last.3 [ inl opens ↦ opens | inr runs ↦ runs ]
         ]
       ]
@@ -323,25 +323,25 @@ module _ (one_formula : OneFormula) (no_fault : NoFormulaFault) (alike : SameWor
         ]
       ]
 
-  pub without_report : (Lost : Report → Type 0) (words : List Text) (s : ℕ) (out err : SinkChange) (status : ℕ) → AskWell R files words
-      → EndsWithFault R files words out err status → IsExcused R files words s Lost out status
+  pub without_report : (Lost : Report → Type 0) (words : List Text) (s : ℕ) (out err : SinkChange) (status : ℕ) → AskWell files words
+      → EndsWithFault files words out err status → IsExcused files words s Lost out status
   without_report Lost words s out err status ask ends =
       let machine = of_machine words ask ends.fault ends.cause in
       no_report ends.fault ends.cause machine ends.status_is
       (subst (λ (n : ℕ). (n ≡ 5) ⊎ (n ≡ 6)) (sym ends.status_is) (machine_status ends.fault machine))
 
 pub right_refutation_says : OneFormula → NoFormulaFault → SerialRun → SameWordsAskAlike → RightBegins → RightEmpty
-    → (R : Type 0) (files : FilesView R) → RightRefutationSays R files
-right_refutation_says one_formula no_fault serial alike begins empty R files words s out err status ask (inl report) =
-    with_report R files (IsCutOffIn (length ask.right.lines)) words s out err status
-    (refutation_says one_formula serial alike empty R files begins words s ask) report
-right_refutation_says one_formula no_fault serial alike begins empty R files words s out err status ask (inr fault) =
-    inr (without_report one_formula no_fault alike R files (IsCutOffIn (length ask.right.lines)) words s out err status ask.asks fault)
+    → (files : FilesView) → RightRefutationSays files
+right_refutation_says one_formula no_fault serial alike begins empty files words s out err status ask (inl report) =
+    with_report files (IsCutOffIn (length ask.right.lines)) words s out err status
+    (refutation_says one_formula serial alike empty files begins words s ask) report
+right_refutation_says one_formula no_fault serial alike begins empty files words s out err status ask (inr fault) =
+    inr (without_report one_formula no_fault alike files (IsCutOffIn (length ask.right.lines)) words s out err status ask.asks fault)
 
 pub right_order_says : OneFormula → NoFormulaFault → SerialRun → SameWordsAskAlike → TogetherBegins → RightEmpty
-    → (R : Type 0) (files : FilesView R) → RightOrderSays R files
-right_order_says one_formula no_fault serial alike together empty R files words s out err status ask (inl report) =
-    with_report R files (IsHeldUp R files words ask.asks s (length (lines_by s ask.steps))) words s out err status
-    (order_says one_formula serial alike empty R files together words s ask) report
-right_order_says one_formula no_fault serial alike together empty R files words s out err status ask (inr fault) =
-    inr (without_report one_formula no_fault alike R files (IsHeldUp R files words ask.asks s (length (lines_by s ask.steps))) words s out err status ask.asks fault)
+    → (files : FilesView) → RightOrderSays files
+right_order_says one_formula no_fault serial alike together empty files words s out err status ask (inl report) =
+    with_report files (IsHeldUp files words ask.asks s (length (lines_by s ask.steps))) words s out err status
+    (order_says one_formula serial alike empty files together words s ask) report
+right_order_says one_formula no_fault serial alike together empty files words s out err status ask (inr fault) =
+    inr (without_report one_formula no_fault alike files (IsHeldUp files words ask.asks s (length (lines_by s ask.steps))) words s out err status ask.asks fault)

@@ -31,28 +31,28 @@ use Rattle.outcome_laws.proofs.OutcomeLemmas.{OneFormula, is_text, told_in, tell
 use Rattle.outcome_laws.proofs.RightLemmas.{NoFormulaFault, IsOf, is_of, of_some, comes_to, has_report, when_said, when_lost, without_report}
 
 -- a stream that told something has a path
-path_at : (R : Type 0) (files : FilesView R) (words : List Text) (reports : List Report) (verdict : Verdict) (a : IsOutcome R files words reports verdict)
-    (s : ℕ) (telling : Telling) → IsOfStream (told_in R files words reports verdict a) s telling → (path : Text) × IsOfStream a.given.streams s path
-path_at R files words reports verdict a s telling at =
-    let within = slice_get_within (told_in R files words reports verdict a) (s - 1) telling at.1 in
+path_at : (files : FilesView) (words : List Text) (reports : List Report) (verdict : Verdict) (a : IsOutcome files words reports verdict)
+    (s : ℕ) (telling : Telling) → IsOfStream (told_in files words reports verdict a) s telling → (path : Text) × IsOfStream a.given.streams s path
+path_at files words reports verdict a s telling at =
+    let within = slice_get_within (told_in files words reports verdict a) (s - 1) telling at.1 in
     elim (slice_get_cases a.given.streams (s - 1)).1 [
       | inl has ↦ (has.0, (at.0, has.2))
-      | inr past ↦ absurd (omega (arith, past.0, within, told_length R files words reports verdict a))
+      | inr past ↦ absurd (omega (arith, past.0, within, told_length files words reports verdict a))
     ]
 
 -- what it told is what its file tells
-entry_at : (R : Type 0) (files : FilesView R) (words : List Text) (reports : List Report) (verdict : Verdict) (a : IsOutcome R files words reports verdict)
-    (s : ℕ) (telling : Telling) (path : Text) (whole : List ℕ) → IsOfStream (told_in R files words reports verdict a) s telling
+entry_at : (files : FilesView) (words : List Text) (reports : List Report) (verdict : Verdict) (a : IsOutcome files words reports verdict)
+    (s : ℕ) (telling : Telling) (path : Text) (whole : List ℕ) → IsOfStream (told_in files words reports verdict a) s telling
     → IsOfStream a.given.streams s path → files.tells path ≡ Some whole → telling.entry ≡ Some whole
-entry_at R files words reports verdict a s telling path whole at names tells =
-    let here = telling_of_file R files words reports verdict a s path whole names tells in
-    ap (λ (x : Telling). x.entry) (same_at (told_in R files words reports verdict a) s telling here.0 at here.1) ∙ here.2
+entry_at files words reports verdict a s telling path whole at names tells =
+    let here = telling_of_file files words reports verdict a s path whole names tells in
+    ap (λ (x : Telling). x.entry) (same_at (told_in files words reports verdict a) s telling here.0 at here.1) ∙ here.2
 
-pub serial_outcomes_agree : OneFormula → BytesDecide → (R : Type 0) (files : FilesView R) (Q : Type 0) (others : FilesView Q) → SerialOutcomesAgree R files Q others
-serial_outcomes_agree one_formula decide R files Q others words other_words reports other_reports verdict other_verdict a b ask cubes fine good =
+pub serial_outcomes_agree : OneFormula → BytesDecide → (files : FilesView) (others : FilesView) → SerialOutcomesAgree files others
+serial_outcomes_agree one_formula decide files others words other_words reports other_reports verdict other_verdict a b ask cubes fine good =
     let formulas : b.formula ≡ a.formula =
-    one_formula ask.text b.formula a.formula (is_text Q others b.given.formula.now b.formula b.next ask.text ask.same_formula b.is_formula)
-    (is_text R files a.given.formula.now a.formula a.next ask.text ask.formula a.is_formula) in
+    one_formula ask.text b.formula a.formula (is_text others b.given.formula.now b.formula b.next ask.text ask.same_formula b.is_formula)
+    (is_text files a.given.formula.now a.formula a.next ask.text ask.formula a.is_formula) in
     let terms = terms_given a.given a.cube a.formula in
     let layouts : layout_at b.given b.formula ≡ layout_at a.given a.formula =
     ap (λ (x : OptionsValue). layout_of x b.formula (length b.given.streams)) ask.options
@@ -62,24 +62,24 @@ serial_outcomes_agree one_formula decide R files Q others words other_words repo
     ap (λ (p : LayoutValue). record { layout = p; cube = b.cube; tries = b.given.tries }) layouts
     ∙ ap (λ (c : CubeValue). record { layout = layout_at a.given a.formula; cube = c; tries = b.given.tries }) cubes
     ∙ ap (λ (x : OptionsValue). record { layout = layout_at a.given a.formula; cube = a.cube; tries = x.tries }) ask.options in
-    let told = told_in R files words reports verdict a in
-    let other_told = told_in Q others other_words other_reports other_verdict b in
+    let told = told_in files words reports verdict a in
+    let other_told = told_in others other_words other_reports other_verdict b in
     let theirs : StandsOnStreams other_told (λ streams. IsOrderedByTurns a.formula terms streams other_reports) =
     subst (λ (t : TermsValue). StandsOnStreams other_told (λ streams. IsOrderedByTurns a.formula t streams other_reports)) same_terms
     (subst (λ (g : Cnf). StandsOnStreams other_told (λ streams. IsOrderedByTurns g (terms_given b.given b.cube b.formula) streams other_reports)) formulas
-    (turns_of Q others other_words other_reports other_verdict b ask.too)) in
+    (turns_of others other_words other_reports other_verdict b ask.too)) in
     let bytes : HaveSameBytes told other_told = λ s telling other at there.
-    let path = path_at R files words reports verdict a s telling at in
-    let other_path = path_at Q others other_words other_reports other_verdict b s other there in
+    let path = path_at files words reports verdict a s telling at in
+    let other_path = path_at others other_words other_reports other_verdict b s other there in
     let both = ask.streams s path.0 other_path.0 path.1 other_path.1 in (
       both.0,
-      entry_at R files words reports verdict a s telling path.0 both.0 at path.1 both.1,
-      entry_at Q others other_words other_reports other_verdict b s other other_path.0 both.0 there other_path.1 both.2,
+      entry_at files words reports verdict a s telling path.0 both.0 at path.1 both.1,
+      entry_at others other_words other_reports other_verdict b s other other_path.0 both.0 there other_path.1 both.2,
     ) in
     let same : reports ≡ other_reports =
     decide a.formula terms told other_told reports other_reports
-    (told_length R files words reports verdict a) (told_length Q others other_words other_reports other_verdict b ∙ ask.count)
-    bytes (turns_of R files words reports verdict a ask.serial) theirs fine good in
+    (told_length files words reports verdict a) (told_length others other_words other_reports other_verdict b ∙ ask.count)
+    bytes (turns_of files words reports verdict a ask.serial) theirs fine good in
     (same, a.checked.is_verdict ∙ ap verdict_of same ∙ sym b.checked.is_verdict)
 
 -- Right streams, by turns
@@ -127,46 +127,46 @@ some_cut reports = elim (cut_at reports) [
 ]
 
 module _ (one_formula : OneFormula) (no_fault : NoFormulaFault) (serial_run : SerialRun) (alike : SameWordsAskAlike) (right : RightByTurns) (empty : RightEmpty)
-    (R : Type 0) (files : FilesView R) (words : List Text) (s : ℕ) (ask : AskForRightTurns R files words s) where
+    (files : FilesView) (words : List Text) (s : ℕ) (ask : AskForRightTurns files words s) where
   -- where no stream was cut off the verdict is 'unsatisfiable'
-  turns_refute : (reports : List Report) (verdict : Verdict) (a : IsOutcome R files words reports verdict) → NoneCutShort reports → verdict ≡ Unsatisfiable
+  turns_refute : (reports : List Report) (verdict : Verdict) (a : IsOutcome files words reports verdict) → NoneCutShort reports → verdict ≡ Unsatisfiable
   turns_refute reports verdict a fine =
       let asks = ask.asks in
-      let is : IsOf one_formula serial_run alike empty R files words asks reports verdict a = is_of one_formula serial_run alike empty R files words asks reports verdict a in
+      let is : IsOf one_formula serial_run alike empty files words asks reports verdict a = is_of one_formula serial_run alike empty files words asks reports verdict a in
       let terms = terms_given a.given a.cube a.formula in
-      let told = told_in R files words reports verdict a in
+      let told = told_in files words reports verdict a in
       let order : IsRightOrder a.formula terms.layout ask.steps =
       subst (λ (x : Cnf). IsRightOrder x (layout_at a.given a.formula) ask.steps) (sym is.formulas)
       (subst (λ (p : LayoutValue). IsRightOrder asks.formula p ask.steps) is.layouts ask.order) in
       let on_one : a.given.serial ≡ true = a.command_line.said.serial ∙ sym asks.command_line.said.serial ∙ ask.serial in
       let texts : HaveJustTexts ask.steps told =
       λ t telling at.
-      let path = path_at R files words reports verdict a t telling at in
+      let path = path_at files words reports verdict a t telling at in
       let names : IsOfStream asks.given.streams t path.0 = subst (λ (x : List Text). IsOfStream x t path.0) is.streams path.1 in
-      entry_at R files words reports verdict a t telling path.0 (flat_map line_text (lines_by t ask.steps)) at path.1 (ask.tells t path.0 names) in
+      entry_at files words reports verdict a t telling path.0 (flat_map line_text (lines_by t ask.steps)) at path.1 (ask.tells t path.0 names) in
       let some : 0 < length (lines_by s ask.steps) = omega (arith, ask.empty.2) in
       let stream : IsStream terms.layout s = of_some s (IsStream terms.layout) ask.steps order.streams some in
       let report = has_report a.formula terms told reports is.run s stream in
       let same : report.0 ≡ right_report terms s (lines_by s ask.steps) =
       right a.formula terms ask.steps told reports s report.0 is.cnf (record { vars = refl; clauses = refl; literals = refl })
-      (told_length R files words reports verdict a) order ask.turns texts (turns_of R files words reports verdict a on_one) fine report.1 in
+      (told_length files words reports verdict a) order ask.turns texts (turns_of files words reports verdict a on_one) fine report.1 in
       comes_to reports verdict s report.0 a.checked.is_verdict report.1 (ap (λ (r : Report). r.empty) same ∙ (empty terms s (lines_by s ask.steps)).1 ask.empty)
 
-  turns_say : (out err : SinkChange) (status : ℕ) → EndsWithReport R files words out err status → (status ≡ 0) ⊎ ((t : ℕ) × IsExcused R files words t IsCutOff out status)
+  turns_say : (out err : SinkChange) (status : ℕ) → EndsWithReport files words out err status → (status ≡ 0) ⊎ ((t : ℕ) × IsExcused files words t IsCutOff out status)
   turns_say out err status ends = elim (some_cut ends.reports) [
-    | inl cut ↦ elim (when_lost R files IsCutOff words cut.0 out status ends.reports ends.verdict ends.outcome cut.1 cut.2 cut.3 ends.verdict refl out.failed refl ends.status_is) [
+    | inl cut ↦ elim (when_lost files IsCutOff words cut.0 out status ends.reports ends.verdict ends.outcome cut.1 cut.2 cut.3 ends.verdict refl out.failed refl ends.status_is) [
       | inl is ↦ inl is
       | inr excused ↦ inr (cut.0, excused)
     ]
-    | inr fine ↦ elim (when_said R files IsCutOff words s out status ends.verdict (turns_refute ends.reports ends.verdict ends.outcome fine) out.failed refl ends.status_is) [
+    | inr fine ↦ elim (when_said files IsCutOff words s out status ends.verdict (turns_refute ends.reports ends.verdict ends.outcome fine) out.failed refl ends.status_is) [
       | inl is ↦ inl is
       | inr excused ↦ inr (s, excused)
     ]
   ]
 
 pub right_turns_say : OneFormula → NoFormulaFault → SerialRun → SameWordsAskAlike → RightByTurns → RightEmpty
-    → (R : Type 0) (files : FilesView R) → RightTurnsSay R files
-right_turns_say one_formula no_fault serial_run alike right empty R files words s out err status ask (inl report) =
-    turns_say one_formula no_fault serial_run alike right empty R files words s ask out err status report
-right_turns_say one_formula no_fault serial_run alike right empty R files words s out err status ask (inr fault) =
-    inr (s, without_report one_formula no_fault alike R files IsCutOff words s out err status ask.asks fault)
+    → (files : FilesView) → RightTurnsSay files
+right_turns_say one_formula no_fault serial_run alike right empty files words s out err status ask (inl report) =
+    turns_say one_formula no_fault serial_run alike right empty files words s ask out err status report
+right_turns_say one_formula no_fault serial_run alike right empty files words s out err status ask (inr fault) =
+    inr (s, without_report one_formula no_fault alike files IsCutOff words s out err status ask.asks fault)

@@ -35,9 +35,9 @@ no_fault (faults.Ring stream) is = let no : 0 ≡ 6 = is in cc
 no_fault faults.Memory is = let no : 0 ≡ 6 = is in cc
 no_fault faults.Unwritten is = let no : 0 ≡ 7 = is in cc
 
-pub status_0 : (R : Type 0) (files : FilesView R) → Status0HasACommandLine R files
-status_0 R files words out err (inl report) =
+pub status_0 : (files : FilesView) → Status0HasACommandLine files
+status_0 files words out err (inl report) =
     let o = report.outcome in
     let at = o.is_formula in
     (o.given, at.0, o.formula, o.next, o.command_line, at.1, at.2, o.checked.sound (refuted out.failed report.verdict report.status_is))
-status_0 R files words out err (inr fault) = absurd (no_fault fault.fault fault.status_is)
+status_0 files words out err (inr fault) = absurd (no_fault fault.fault fault.status_is)

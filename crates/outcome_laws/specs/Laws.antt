@@ -55,26 +55,26 @@ SameWordsAskAlike = (words : List Text) (given other : CommandLine) → IsComman
 -- In two outcomes of the program, whose options and number of streams are the same, a stream that cites within itself has the same
 -- line, where the files of the formula and of the stream tell the same bytes, unless a report of the stream is of memory or of a
 -- failed read: whatever the other streams' files are, whatever is assumed, and whichever of the two ran with threads.
-abbrev pub OutcomesAgree : (R : Type 0) → FilesView R → (Q : Type 0) → FilesView Q → Type 0
-OutcomesAgree R files Q others =
+abbrev pub OutcomesAgree : FilesView → FilesView → Type 0
+OutcomesAgree files others =
     (words other_words : List Text) (reports other_reports : List Report)
     (verdict other_verdict : Verdict)
-    (a : IsOutcome R files words reports verdict)
-    (b : IsOutcome Q others other_words other_reports other_verdict)
+    (a : IsOutcome files words reports verdict)
+    (b : IsOutcome others other_words other_reports other_verdict)
     (s : ℕ) (text whole : List ℕ) (report other_report : Report)
     → options_of b.given ≡ options_of a.given → length b.given.streams ≡ length a.given.streams
     → files.tells a.given.formula.now ≡ Some text → others.tells b.given.formula.now ≡ Some text
     → CiteWithin (layout_at a.given a.formula) (one s) whole
-    → ReportsOn R files a.given reports s whole report
-    → ReportsOn Q others b.given other_reports s whole other_report
+    → ReportsOn files a.given reports s whole report
+    → ReportsOn others b.given other_reports s whole other_report
     → stream_line s report ≡ stream_line s other_report
 
 -- What the program's ending says of status 0: the words have a command line, and what was read at its FORMULA is a text of a formula
 -- that no assignment satisfies. So all that isn't in the clause `sound` of what the words say is in the clause `ends`.
-abbrev pub Status0HasACommandLine : (R : Type 0) → FilesView R → Type 0
-Status0HasACommandLine R files = (words : List Text) (out err : SinkChange)
-    → EndsWithReport R files words out err 0 ⊎ EndsWithFault R files words out err 0
+abbrev pub Status0HasACommandLine : FilesView → Type 0
+Status0HasACommandLine files = (words : List Text) (out err : SinkChange)
+    → EndsWithReport files words out err 0 ⊎ EndsWithFault files words out err 0
     → (given : CommandLine) × (bytes : List ℕ) × (f : Cnf) × (after : files.State)
     × IsCommandLineOf words given
-    × WasReadIn R files files.first given.formula.now bytes after
+    × WasReadIn files files.first given.formula.now bytes after
     × IsFormulaText bytes f × IsUnsatisfiable f

@@ -37,7 +37,7 @@ pub record SayTheSame (report other : Report) : Type 0 where
 
 -- Of the command line's streams the file of stream s tells these bytes. Its report is this one, and tells neither that memory ran out
 -- nor of a failed read.
-pub record ReportsOn (R : Type 0) (files : FilesView R) (given : CommandLine)
+pub record ReportsOn (files : FilesView) (given : CommandLine)
     (reports : List Report) (s : ℕ) (whole : List ℕ) (report : Report) : Type 0 where
   pub path : Text
   pub names : IsOfStream given.streams s path

@@ -24,15 +24,15 @@ use Rattle.command.specs.declared.fault.CommandFault.{CommandFault}
 use Rattle.command.specs.declared.fault.CommandFault.TheVariants as faults
 
 -- there are no assumed literals, or the file at their path tells bytes that have no fault
-abbrev pub AreRightAssumptions : (R : Type 0) → FilesView R → ℕ → Option Text → Type 0
-AreRightAssumptions R files vars None = Unit {0}
-AreRightAssumptions R files vars (Some path) =
+abbrev pub AreRightAssumptions : FilesView → ℕ → Option Text → Type 0
+AreRightAssumptions files vars None = Unit {0}
+AreRightAssumptions files vars (Some path) =
     (bytes : List ℕ) × (files.tells path ≡ Some bytes)
     × ((fault : CubeFault) → fault ≢ cubes.Memory → ¬ IsCubeFault vars bytes fault)
 
 -- The words ask for a formula whose file tells a text of it, for assumed literals that have no fault, if any, and for streams that
 -- there is a layout for. Nothing is asked of the streams.
-pub record AskWell (R : Type 0) (files : FilesView R) (words : List Text) : Type 0 where
+pub record AskWell (files : FilesView) (words : List Text) : Type 0 where
   pub given : CommandLine
   pub command_line : IsCommandLineOf words given
   pub text : List ℕ
@@ -40,12 +40,12 @@ pub record AskWell (R : Type 0) (files : FilesView R) (words : List Text) : Type
   pub formula : Cnf
   pub is_text : IsFormulaText text formula
   pub layout : (fault : LayoutFault) → ¬ IsFault (layout_at given formula) fault
-  pub assumptions : AreRightAssumptions R files formula.vars (assumed_at given)
+  pub assumptions : AreRightAssumptions files formula.vars (assumed_at given)
 
 -- The words ask well, and the file of stream s tells a right refutation of the formula. Nothing is asked of the other streams.
-pub record AskForRightRefutation (R : Type 0) (files : FilesView R) (words : List Text)
+pub record AskForRightRefutation (files : FilesView) (words : List Text)
     (s : ℕ) : Type 0 where
-  pub asks : AskWell R files words
+  pub asks : AskWell files words
   pub path : Text
   pub names : IsOfStream asks.given.streams s path
   pub bytes : List ℕ
@@ -54,9 +54,9 @@ pub record AskForRightRefutation (R : Type 0) (files : FilesView R) (words : Lis
 
 -- The words ask well, lines of a set of streams have a right order, the files of these streams begin with the texts of their lines, and
 -- some line of stream s adds the empty clause. Nothing is asked of the streams outside the set, nor of what comes behind the lines.
-pub record AskForRightOrder (R : Type 0) (files : FilesView R) (words : List Text)
+pub record AskForRightOrder (files : FilesView) (words : List Text)
     (s : ℕ) : Type 0 where
-  pub asks : AskWell R files words
+  pub asks : AskWell files words
   pub set : ℕ → Bool
   pub steps : List Step
   pub order : IsRightOrder asks.formula (layout_at asks.given asks.formula) steps
@@ -83,46 +83,46 @@ IsOfMachine faults.Unwritten = ⊥
 
 -- memory ran out, or a read failed, in the first lines of stream s, so many; or one of them cites a clause of another stream that
 -- wasn't there, or wasn't any more; here the cube makes no difference
-abbrev pub IsHeldUp : (R : Type 0) (files : FilesView R) (words : List Text) → AskWell R files words
+abbrev pub IsHeldUp : (files : FilesView) (words : List Text) → AskWell files words
     → ℕ → ℕ → Report → Type 0
-IsHeldUp R files words asks s count report =
+IsHeldUp files words asks s count report =
     IsCutOffIn count report
     ⊎ LacksOfAnotherIn (setting_of (terms_given asks.given [] asks.formula) s) count report
 
 -- Why the program doesn't say 'unsatisfiable', where stream s adds the empty clause by right lines. None of these says that a line
 -- is wrong.
-pub data IsExcused (R : Type 0) (files : FilesView R) (words : List Text) (s : ℕ)
+pub data IsExcused (files : FilesView) (words : List Text) (s : ℕ)
     (Lost : Report → Type 0) (out : SinkChange) (status : ℕ) : Type 0 where
   -- the report wasn't written
   unwritten : (failed : out.failed ≡ true) (is : status ≡ 7)
-      → IsExcused R files words s Lost out status
+      → IsExcused files words s Lost out status
   -- there is no report, for a fault of the machine
   no_report :
-      (fault : CommandFault) (cause : IsCause R files words fault) (machine : IsOfMachine fault)
+      (fault : CommandFault) (cause : IsCause files words fault) (machine : IsOfMachine fault)
       (status_is : status ≡ status_of fault) (is : (status ≡ 5) ⊎ (status ≡ 6))
-      → IsExcused R files words s Lost out status
+      → IsExcused files words s Lost out status
   -- there is a report, and stream s was stopped in its right lines, for such a reason
   lost :
       (reports : List Report) (verdict : Verdict)
-      (outcome : IsOutcome R files words reports verdict) (report : Report)
+      (outcome : IsOutcome files words reports verdict) (report : Report)
       (says : IsOfStream reports s report) (why : Lost report)
-      (is : (status ≡ 3) ⊎ (status ≡ 8)) → IsExcused R files words s Lost out status
+      (is : (status ≡ 3) ⊎ (status ≡ 8)) → IsExcused files words s Lost out status
 
 -- Where the words ask for a right refutation, the program ends with status 0; or with 7, for a report that wasn't written; or with 5
 -- or 6, for a fault of the machine; or with 3 or 8, and then memory ran out, or a read failed, in the refutation's lines.
-abbrev pub RightRefutationSays : (R : Type 0) → FilesView R → Type 0
-RightRefutationSays R files = (words : List Text) (s : ℕ) (out err : SinkChange) (status : ℕ)
-    → (ask : AskForRightRefutation R files words s)
-    → EndsWithReport R files words out err status ⊎ EndsWithFault R files words out err status
+abbrev pub RightRefutationSays : FilesView → Type 0
+RightRefutationSays files = (words : List Text) (s : ℕ) (out err : SinkChange) (status : ℕ)
+    → (ask : AskForRightRefutation files words s)
+    → EndsWithReport files words out err status ⊎ EndsWithFault files words out err status
     → (status ≡ 0)
-    ⊎ IsExcused R files words s (IsCutOffIn (length ask.right.lines)) out status
+    ⊎ IsExcused files words s (IsCutOffIn (length ask.right.lines)) out status
 
 -- Where the words ask for streams whose lines have a right order, the program ends so too, with one more reason for 3 or 8: one of that
 -- stream's lines cites a clause of another stream that wasn't there, or wasn't any more.
-abbrev pub RightOrderSays : (R : Type 0) → FilesView R → Type 0
-RightOrderSays R files = (words : List Text) (s : ℕ) (out err : SinkChange) (status : ℕ)
-    → (ask : AskForRightOrder R files words s)
-    → EndsWithReport R files words out err status ⊎ EndsWithFault R files words out err status
+abbrev pub RightOrderSays : FilesView → Type 0
+RightOrderSays files = (words : List Text) (s : ℕ) (out err : SinkChange) (status : ℕ)
+    → (ask : AskForRightOrder files words s)
+    → EndsWithReport files words out err status ⊎ EndsWithFault files words out err status
     → (status ≡ 0)
-    ⊎ IsExcused R files words s
-    (IsHeldUp R files words ask.asks s (length (lines_by s ask.steps))) out status
+    ⊎ IsExcused files words s
+    (IsHeldUp files words ask.asks s (length (lines_by s ask.steps))) out status

@@ -16,7 +16,7 @@ use Rattle.outcome_laws.specs.Right.{AskWell, IsExcused}
 
 -- Two command lines ask for the same run on one thread: with the same options, and formulas and streams whose files tell the same
 -- bytes.
-pub record AskForSameTurns (R : Type 0) (files : FilesView R) (Q : Type 0) (others : FilesView Q)
+pub record AskForSameTurns (files : FilesView) (others : FilesView)
     (given other : CommandLine) : Type 0 where
   pub serial : given.serial ≡ true
   pub too : other.serial ≡ true
@@ -32,21 +32,21 @@ pub record AskForSameTurns (R : Type 0) (files : FilesView R) (Q : Type 0) (othe
 
 -- Two outcomes of such command lines, under the same assumed literals, have the same reports, and so the same verdict, unless a report
 -- tells that memory ran out or a read failed.
-abbrev pub SerialOutcomesAgree : (R : Type 0) → FilesView R → (Q : Type 0) → FilesView Q → Type 0
-SerialOutcomesAgree R files Q others =
+abbrev pub SerialOutcomesAgree : FilesView → FilesView → Type 0
+SerialOutcomesAgree files others =
     (words other_words : List Text) (reports other_reports : List Report)
     (verdict other_verdict : Verdict)
-    (a : IsOutcome R files words reports verdict)
-    (b : IsOutcome Q others other_words other_reports other_verdict)
-    → AskForSameTurns R files Q others a.given b.given → b.cube ≡ a.cube
+    (a : IsOutcome files words reports verdict)
+    (b : IsOutcome others other_words other_reports other_verdict)
+    → AskForSameTurns files others a.given b.given → b.cube ≡ a.cube
     → NoneCutShort reports → NoneCutShort other_reports
     → (reports ≡ other_reports) × (verdict ≡ other_verdict)
 
 -- The words ask for a run on one thread; lines of its streams have a right order that is by turns; the file of each stream tells the
 -- texts of its lines, and nothing else; and some line of stream s adds the empty clause.
-pub record AskForRightTurns (R : Type 0) (files : FilesView R) (words : List Text)
+pub record AskForRightTurns (files : FilesView) (words : List Text)
     (s : ℕ) : Type 0 where
-  pub asks : AskWell R files words
+  pub asks : AskWell files words
   pub serial : asks.given.serial ≡ true
   pub steps : List Step
   pub order : IsRightOrder asks.formula (layout_at asks.given asks.formula) steps
@@ -61,8 +61,8 @@ IsCutOff report = IsOfMemory report ⊎ IsOfFailure report
 
 -- Then the program ends with status 0; or with 7, for a report that wasn't written; or with 5 or 6, for a fault of the machine; or with
 -- 3 or 8, and then memory ran out in some stream, or a read of it failed.
-abbrev pub RightTurnsSay : (R : Type 0) → FilesView R → Type 0
-RightTurnsSay R files = (words : List Text) (s : ℕ) (out err : SinkChange) (status : ℕ)
-    → AskForRightTurns R files words s
-    → EndsWithReport R files words out err status ⊎ EndsWithFault R files words out err status
-    → (status ≡ 0) ⊎ ((t : ℕ) × IsExcused R files words t IsCutOff out status)
+abbrev pub RightTurnsSay : FilesView → Type 0
+RightTurnsSay files = (words : List Text) (s : ℕ) (out err : SinkChange) (status : ℕ)
+    → AskForRightTurns files words s
+    → EndsWithReport files words out err status ⊎ EndsWithFault files words out err status
+    → (status ≡ 0) ⊎ ((t : ℕ) × IsExcused files words t IsCutOff out status)

@@ -35,11 +35,9 @@ pub fn same_words_ask_alike()
 /// the options and the number of streams are the same, and the files of the formula and of the stream tell the same bytes. Unless a
 /// report of the stream is of memory or of a failed read.
 pub fn outcomes_agree<F: Files, G: Files>(files: &F, others: &G)
-    ensures { let view = files_view files.now (F.tells files.now) (F.may_refuse files.now)
-        F.Input.Source.left F.Input.Source.has_failed F.opens F.Input.Source.reads in
-        let other = files_view others.now (G.tells others.now) (G.may_refuse others.now)
-        G.Input.Source.left G.Input.Source.has_failed G.opens G.Input.Source.reads in
-        OutcomesAgree _ view _ other }
+    ensures { let view = files_view F.Files F.Input.Source files.now in
+        let other = files_view G.Files G.Input.Source others.now in
+        OutcomesAgree view other }
 {
     one_formula();
     serial_run();
@@ -49,18 +47,16 @@ pub fn outcomes_agree<F: Files, G: Files>(files: &F, others: &G)
 /// With status 0 the words have a whole command line, and what was read at its FORMULA is a text of a formula that no assignment
 /// satisfies: the clause `ends` of `command` says so.
 pub fn status_0_has_a_command_line<F: Files>(files: &F)
-    ensures { let view = files_view files.now (F.tells files.now) (F.may_refuse files.now)
-        F.Input.Source.left F.Input.Source.has_failed F.opens F.Input.Source.reads in
-        Status0HasACommandLine _ view }
+    ensures { let view = files_view F.Files F.Input.Source files.now in
+        Status0HasACommandLine view }
 {}
 
 /// Where the words ask for a right refutation, the program ends with status 0; or with 7, for a report that wasn't written; or with
 /// 5 or 6, for a fault of the machine; or with 3 or 8, and then memory ran out, or a read failed, in the refutation's lines: the
 /// clause `ends` of `command` says so.
 pub fn right_refutation_says<F: Files>(files: &F)
-    ensures { let view = files_view files.now (F.tells files.now) (F.may_refuse files.now)
-        F.Input.Source.left F.Input.Source.has_failed F.opens F.Input.Source.reads in
-        RightRefutationSays _ view }
+    ensures { let view = files_view F.Files F.Input.Source files.now in
+        RightRefutationSays view }
 {
     one_formula();
     formula_or_fault();
@@ -73,9 +69,8 @@ pub fn right_refutation_says<F: Files>(files: &F)
 /// Where the words ask for streams whose lines have a right order, one of which adds the empty clause, the program ends so too; or with
 /// 3 or 8, and then a line of that stream cites a clause of another stream, which wasn't there, or wasn't any more.
 pub fn right_order_says<F: Files>(files: &F)
-    ensures { let view = files_view files.now (F.tells files.now) (F.may_refuse files.now)
-        F.Input.Source.left F.Input.Source.has_failed F.opens F.Input.Source.reads in
-        RightOrderSays _ view }
+    ensures { let view = files_view F.Files F.Input.Source files.now in
+        RightOrderSays view }
 {
     one_formula();
     formula_or_fault();
@@ -89,11 +84,9 @@ pub fn right_order_says<F: Files>(files: &F)
 /// and the assumed literals are the same, and the files of the formula and of each stream tell the same bytes. Unless some report is
 /// of memory or of a failed read.
 pub fn serial_outcomes_agree<F: Files, G: Files>(files: &F, others: &G)
-    ensures { let view = files_view files.now (F.tells files.now) (F.may_refuse files.now)
-        F.Input.Source.left F.Input.Source.has_failed F.opens F.Input.Source.reads in
-        let other = files_view others.now (G.tells others.now) (G.may_refuse others.now)
-        G.Input.Source.left G.Input.Source.has_failed G.opens G.Input.Source.reads in
-        SerialOutcomesAgree _ view _ other }
+    ensures { let view = files_view F.Files F.Input.Source files.now in
+        let other = files_view G.Files G.Input.Source others.now in
+        SerialOutcomesAgree view other }
 {
     one_formula();
     bytes_decide();
@@ -103,9 +96,8 @@ pub fn serial_outcomes_agree<F: Files, G: Files>(files: &F, others: &G)
 /// clause, the program ends with status 0; or with 7, for a report that wasn't written; or with 5 or 6, for a fault of the machine;
 /// or with 3 or 8, and then memory ran out in some stream, or a read of it failed: the clause `ends` of `command` says so.
 pub fn right_turns_say<F: Files>(files: &F)
-    ensures { let view = files_view files.now (F.tells files.now) (F.may_refuse files.now)
-        F.Input.Source.left F.Input.Source.has_failed F.opens F.Input.Source.reads in
-        RightTurnsSay _ view }
+    ensures { let view = files_view F.Files F.Input.Source files.now in
+        RightTurnsSay view }
 {
     one_formula();
     formula_or_fault();

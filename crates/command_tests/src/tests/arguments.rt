@@ -1,5 +1,4 @@
 //! Runs with the arguments that the system gives, the program's name first; and why it opened no file.
-use super::watched::{Ear, Told};
 use super::*;
 use command::command_with_arguments;
 use std::env::Args;
@@ -24,11 +23,7 @@ fn assert_exits<T: Threads + Wait + Sync + Clock + Abort>(
     let mut files = shelf_of(alloc, FOUR, &["5 2 0 1 2 0\n6 0 5 3 4 0\n", ""])?;
     let mut out = Paper::new(alloc, 7, 0);
     let mut err = Paper::new(alloc, 7, 0);
-    let told = Told::new();
-    let ear = Ear { told: &told };
-    let code = command_with_arguments(
-        rt, rt, alloc, arguments, &mut files, &ear, &mut out, &mut err,
-    );
+    let code = command_with_arguments(rt, rt, alloc, arguments, &mut files, &mut out, &mut err);
     let (report, cause, status) = want;
     let wrote = (out.bytes.as_slice(), err.bytes.as_slice(), code);
     let wanted = (report.as_bytes(), cause.as_bytes(), ExitCode::from(status));

@@ -39,9 +39,15 @@ struct Changing<'a> {
 impl<'a> Files for Changing<'a> {
     type Input = Account<'a>;
 
+    type Output = Nowhere;
+
+    type Watcher = Nowhere;
+
     ghost tells = { λ _ _. None };
 
     ghost may_refuse = { λ _ _. false };
+
+    ghost may_refuse_new = { λ _ _. true };
 
     ghost opens = { λ before _ input after. (input.0.left.now ≡ before.text.now)
         × (after.text.now ≡ before.later.now) × (after.later.now ≡ before.later.now) };
@@ -50,6 +56,18 @@ impl<'a> Files for Changing<'a> {
         let text = self.text;
         self.text = self.later;
         Ok(Account(Pieces::new(text, 3, 0)))
+    }
+
+    fn create(&mut self, _path: &str) -> Result<Nowhere, OpenFault> {
+        Err(OpenFault::NotOpened)
+    }
+
+    fn keep(&mut self, _output: Nowhere) -> Result<(), WriteFault> {
+        Err(WriteFault)
+    }
+
+    fn watcher(&self) -> Nowhere {
+        Nowhere
     }
 }
 

@@ -63,9 +63,15 @@ struct FormulaAlone<'a> {
 impl<'a> Files for FormulaAlone<'a> {
     type Input = NotedFile<'a>;
 
+    type Output = Nowhere;
+
+    type Watcher = Nowhere;
+
     ghost tells = { λ _ _. None };
 
     ghost may_refuse = { λ _ _. true };
+
+    ghost may_refuse_new = { λ _ _. true };
 
     fn open(&mut self, path: &str) -> Result<NotedFile<'a>, OpenFault> {
         if path != "f" {
@@ -75,6 +81,18 @@ impl<'a> Files for FormulaAlone<'a> {
             text: Pieces::new(self.formula, self.most, 0),
             reads: self.reads,
         })
+    }
+
+    fn create(&mut self, _path: &str) -> Result<Nowhere, OpenFault> {
+        Err(OpenFault::NotOpened)
+    }
+
+    fn keep(&mut self, _output: Nowhere) -> Result<(), WriteFault> {
+        Err(WriteFault)
+    }
+
+    fn watcher(&self) -> Nowhere {
+        Nowhere
     }
 }
 

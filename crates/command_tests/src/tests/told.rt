@@ -20,10 +20,16 @@ struct Told<'a> {
 impl<'a> Files for Told<'a> {
     type Input = Pieces<'a>;
 
+    type Output = Nowhere;
+
+    type Watcher = Nowhere;
+
     ghost tells = { λ files path.
         Some (cond (nat_eq (length path) 1) files.formula.now files.stream.now) };
 
     ghost may_refuse = { λ _ _. false };
+
+    ghost may_refuse_new = { λ _ _. true };
 
     fn open(&mut self, path: &str) -> Result<Pieces<'a>, OpenFault> {
         let text = if path.len() == 1 {
@@ -32,6 +38,18 @@ impl<'a> Files for Told<'a> {
             self.stream
         };
         Ok(Pieces::new(text, 3, 0))
+    }
+
+    fn create(&mut self, _path: &str) -> Result<Nowhere, OpenFault> {
+        Err(OpenFault::NotOpened)
+    }
+
+    fn keep(&mut self, _output: Nowhere) -> Result<(), WriteFault> {
+        Err(WriteFault)
+    }
+
+    fn watcher(&self) -> Nowhere {
+        Nowhere
     }
 }
 

@@ -1,8 +1,8 @@
 //! Runs that tell what goes on, on sinks of the tests' own.
 ghost use Rattle.std.specs.Prelude.{None, false};
 
-use super::{FOUR, assert_ends, same, shelf_of};
-use command::{WatchSinks, command_watched};
+use super::{FOUR, same, shelf_of};
+use command::command;
 use lrup_text::{Sink, WriteFault};
 use std::alloc::Global;
 use std::process::Abort;
@@ -37,10 +37,19 @@ impl Told {
     }
 }
 
-/// A sink that counts what it takes.
+/// A sink that counts what it takes, where there is a place for the counts.
 #[derive(Clone, Copy)]
 pub(super) struct Ear<'a> {
-    pub(super) told: &'a Told,
+    told: Option<&'a Told>,
+}
+
+impl<'a> Ear<'a> {
+    pub(super) fn new(told: Option<&'a Told>) -> Ear<'a> {
+        if let Some(told) = told {
+            told.sinks.fetch_add(1, Ordering::SeqCst);
+        }
+        Ear { told }
+    }
 }
 
 impl Sink for Ear<'_> {
@@ -49,23 +58,16 @@ impl Sink for Ear<'_> {
     ghost has_failed = { λ _. false };
 
     fn write(&mut self, bytes: &[u8]) -> Result<usize, WriteFault> {
-        let lines = bytes.iter().filter(|byte| **byte == b'\n').count();
-        self.told.lines.fetch_add(lines as u64, Ordering::SeqCst);
-        self.told.writes.fetch_add(1, Ordering::SeqCst);
+        if let Some(told) = self.told {
+            let lines = bytes.iter().filter(|byte| **byte == b'\n').count();
+            told.lines.fetch_add(lines as u64, Ordering::SeqCst);
+            told.writes.fetch_add(1, Ordering::SeqCst);
+        }
         Ok(bytes.len())
     }
 
     fn failed(&self) -> bool {
         false
-    }
-}
-
-impl<'a> WatchSinks for Ear<'a> {
-    type Watcher = Ear<'a>;
-
-    fn sink(&self) -> Ear<'a> {
-        self.told.sinks.fetch_add(1, Ordering::SeqCst);
-        *self
     }
 }
 
@@ -96,8 +98,8 @@ fn tells<T: Threads + Wait + Sync + Clock + Abort>(
     let mut files = shelf_of(alloc, FOUR, &STREAMS)?;
     let mut out = Paper::new(alloc, 7, 0);
     let mut err = Paper::new(alloc, 7, 0);
-    let ear = Ear { told: &told };
-    let status = command_watched(rt, rt, alloc, words, &mut files, &ear, &mut out, &mut err);
+    files.told = Some(&told);
+    let status = command(rt, rt, alloc, words, &mut files, &mut out, &mut err);
     let wrote = (out.bytes.as_slice(), err.bytes.len(), status);
     same(rt, (words, wrote), (words, (REPORT.as_bytes(), 0, 3)));
     same(
@@ -112,16 +114,6 @@ fn tells<T: Threads + Wait + Sync + Clock + Abort>(
 fn with_the_flag_each_stream_is_told_of(rt: HostRuntime) -> Result<(), Fail> {
     for (words, watched) in WORDS {
         tells(&rt, rt.alloc(), words, watched)?;
-    }
-    Ok(())
-}
-
-/// Without sinks of the caller's nothing is told, with the flag or without.
-#[test]
-fn without_sinks_nothing_is_told(rt: HostRuntime) -> Result<(), Fail> {
-    for (words, _watched) in WORDS {
-        let mut files = shelf_of(rt.alloc(), FOUR, &STREAMS)?;
-        assert_ends(&rt, rt.alloc(), words, &mut files, (REPORT, "", 3));
     }
     Ok(())
 }

@@ -34,12 +34,12 @@ same_words g c = read_all texts (map string_bytes) c.deref-2.result.now c.in-Ok-
 pub returns-clause-sound : goal.returns-clause-sound
 returns-clause-sound g c zero =
     let Read = WasRead g.F.Files.opens g.F.Input.Source.reads (g.F.Files.tells c.args.files.now) in
-    subst (λ (words : List Text). NameUnsatisfiable _ Read c.args.files.now words) (same_words g c) (c.command_watched.ensures.sound zero)
+    subst (λ (words : List Text). NameUnsatisfiable _ Read c.args.files.now words) (same_words g c) (c.command.ensures.sound zero)
 
 pub returns-clause-sound_under : goal.returns-clause-sound_under
 returns-clause-sound_under g c eight =
     let Read = WasRead g.F.Files.opens g.F.Input.Source.reads (g.F.Files.tells c.args.files.now) in
-    subst (λ (words : List Text). NameUnsatisfiableUnder _ Read c.args.files.now words) (same_words g c) (c.command_watched.ensures.sound_under eight)
+    subst (λ (words : List Text). NameUnsatisfiableUnder _ Read c.args.files.now words) (same_words g c) (c.command.ensures.sound_under eight)
 
 pub returns-clause-usage : goal.returns-clause-usage
-returns-clause-usage g c fault = c.command_watched.ensures.usage (subst HaveFault (sym (same_words g c)) fault)
+returns-clause-usage g c fault = c.command.ensures.usage (subst HaveFault (sym (same_words g c)) fault)

@@ -1,6 +1,6 @@
 use Rattle.std.proofs.Common.{◌≡◌, ◌∙◌, List, map, refl, sym, ap, subst}
 use Rattle.clap.specs.Walk.{texts}
-use Rattle.command.specs.Commands.{AreOpened, IsCause, IsFormulaAt, IsOutcome, Text, assumed_at, files_view, options_of}
+use Rattle.command.specs.Commands.{AreOpened, IsCause, IsFormulaAt, IsOutcome, Text, assumed_at, files_view, from_first, options_of}
 use Rattle.command.specs.Faults.{of_formula}
 use Rattle.command.proofs.CheckingLemmas.{assumed_cause, err_given, if_err, if_ok, is_outcome, open_cause, open_moved, read_cause, run_cause_of, some_given}
 use Rattle.command.proofs.FileLemmas.{moved_cause, text_cause}
@@ -8,47 +8,43 @@ use Rattle.command.proofs.checking.check_asked.Goals as goal
 
 pub returns-in_err-formula-clause-cause : goal.returns-in_err-formula-clause-cause
 returns-in_err-formula-clause-cause g c words first good at =
-    let R = g.row.F-Input.Denot in
-    let files = files_view first (g.F.Files.tells c.args.files.now) (g.F.Files.may_refuse c.args.files.now) g.F.Input.Source.left g.F.Input.Source.has_failed g.F.Files.opens g.F.Input.Source.reads in
+    let files = from_first (files_view g.F.Files g.F.Input.Source c.args.files.now) first in
     let asked = c.args.asked in
     let fault = c.in_err-formula.field-0.0 in
-    let refused = text_cause R files asked.line.formula.now asked.formula.items c.args.files.now at fault c.in_err-formula.ensures.fault in
-    let cause = read_cause R files words asked.line good (of_formula fault) refused in
-    err_given c.from_residual.result _ (IsCause R files words) (λ other is. subst (IsCause R files words) (sym is) cause) c.from_residual.ensures.1
+    let refused = text_cause files asked.line.formula.now asked.formula.items c.args.files.now at fault c.in_err-formula.ensures.fault in
+    let cause = read_cause files words asked.line good (of_formula fault) refused in
+    err_given c.from_residual.result _ (IsCause files words) (λ other is. subst (IsCause files words) (sym is) cause) c.from_residual.ensures.1
 
 pub returns-in_err-cube-clause-cause : goal.returns-in_err-cube-clause-cause
 returns-in_err-cube-clause-cause g c words first good at =
-    let R = g.row.F-Input.Denot in
-    let files = files_view first (g.F.Files.tells c.args.files.now) (g.F.Files.may_refuse c.args.files.now) g.F.Input.Source.left g.F.Input.Source.has_failed g.F.Files.opens g.F.Input.Source.reads in
+    let files = from_first (files_view g.F.Files g.F.Input.Source c.args.files.now) first in
     let line = c.args.asked.line in
     let next = c.args.files.now in
     let formula = c.in_ok-formula.formula in
     let fault = c.in_err-cube.field-0.0 in
-    let moved = moved_cause R files next formula.vars next (assumed_at line) fault c.in_err-cube.ensures.cause in
-    let is_formula : IsFormulaAt R files line.formula.now formula c.args.files.now = (c.args.asked.formula.items, at, c.in_ok-formula.ensures.formula) in
-    let cause = assumed_cause R files words line formula next good is_formula (assumed_at line) refl fault moved in
-    err_given c.from_residual-in_err-cube.result _ (IsCause R files words)
-    (λ other is. subst (IsCause R files words) (sym is) cause) c.from_residual-in_err-cube.ensures.1
+    let moved = moved_cause files next formula.vars next (assumed_at line) fault c.in_err-cube.ensures.cause in
+    let is_formula : IsFormulaAt files line.formula.now formula c.args.files.now = (c.args.asked.formula.items, at, c.in_ok-formula.ensures.formula) in
+    let cause = assumed_cause files words line formula next good is_formula (assumed_at line) refl fault moved in
+    err_given c.from_residual-in_err-cube.result _ (IsCause files words)
+    (λ other is. subst (IsCause files words) (sym is) cause) c.from_residual-in_err-cube.ensures.1
 
 pub returns-in_err-readers-clause-cause : goal.returns-in_err-readers-clause-cause
 returns-in_err-readers-clause-cause g c words first good at =
-    let R = g.row.F-Input.Denot in
-    let files = files_view first (g.F.Files.tells c.args.files.now) (g.F.Files.may_refuse c.args.files.now) g.F.Input.Source.left g.F.Input.Source.has_failed g.F.Files.opens g.F.Input.Source.reads in
+    let files = from_first (files_view g.F.Files g.F.Input.Source c.args.files.now) first in
     let line = c.args.asked.line in
     let formula = c.in_ok-formula.formula in
-    let is_formula : IsFormulaAt R files line.formula.now formula c.args.files.now = (c.args.asked.formula.items, at, c.in_ok-formula.ensures.formula) in
+    let is_formula : IsFormulaAt files line.formula.now formula c.args.files.now = (c.args.asked.formula.items, at, c.in_ok-formula.ensures.formula) in
     let cube = c.in_ok-cube.cube in
     let later = c.read_assumed.new.files in
     let fault = c.in_err-readers.field-0.0 in
     let moved = open_moved files.opens files.may_refuse (g.F.Files.may_refuse later) later line.streams (texts c.as_slice.result.now)
     c.in_ok-cube.ensures.stays_refused c.as_slice.ensures fault c.in_err-readers.ensures.cause in
-    let cause = open_cause R files words line formula cube c.args.files.now later good is_formula c.in_ok-cube.ensures.cube fault moved in
-    err_given c.from_residual-in_err-readers.result _ (IsCause R files words)
-    (λ other is. subst (IsCause R files words) (sym is) cause) c.from_residual-in_err-readers.ensures.1
+    let cause = open_cause files words line formula cube c.args.files.now later good is_formula c.in_ok-cube.ensures.cube fault moved in
+    err_given c.from_residual-in_err-readers.result _ (IsCause files words)
+    (λ other is. subst (IsCause files words) (sym is) cause) c.from_residual-in_err-readers.ensures.1
 
 pub returns : goal.returns
 returns g c =
-    let R = g.row.F-Input.Denot in
     let line = c.args.asked.line in
     let bytes = c.args.asked.formula.items in
     let left = g.F.Input.Source.left in
@@ -67,16 +63,16 @@ returns g c =
     subst (λ (paths : List Text). AreOpened g.F.Files.opens later paths readers c.open_streams.new.files) c.as_slice.ensures c.in_ok-readers.ensures.opened in
     record {
       outcome = λ words first good at.
-          let files = files_view first (g.F.Files.tells c.args.files.now) (g.F.Files.may_refuse c.args.files.now) g.F.Input.Source.left g.F.Input.Source.has_failed g.F.Files.opens g.F.Input.Source.reads in
-          if_ok c.check_streams.result _ (λ found. IsOutcome R files words found.reports.items found.verdict)
-          (λ found. is_outcome R files words line formula cube c.unwrap-options.result readers next later c.open_streams.new.files good (bytes, at, text) assumed options opened entries
+          let files = from_first (files_view g.F.Files g.F.Input.Source c.args.files.now) first in
+          if_ok c.check_streams.result _ (λ found. IsOutcome files words found.reports.items found.verdict)
+          (λ found. is_outcome files words line formula cube c.unwrap-options.result readers next later c.open_streams.new.files good (bytes, at, text) assumed options opened entries
           found.reports.items found.verdict) c.check_streams.ensures.checked;
       sound = if_ok c.check_streams.result _ _ (λ found checked unsatisfiable. (formula, text, checked.sound unsatisfiable)) c.check_streams.ensures.checked;
       sound_under = if_ok c.check_streams.result _ _
           (λ found checked unsatisfiable. (formula, cube, later, text, assumed, checked.sound_under unsatisfiable)) c.check_streams.ensures.checked;
       cause = λ words first good at.
-          let files = files_view first (g.F.Files.tells c.args.files.now) (g.F.Files.may_refuse c.args.files.now) g.F.Input.Source.left g.F.Input.Source.has_failed g.F.Files.opens g.F.Input.Source.reads in
-          if_err c.check_streams.result _ (IsCause R files words)
-          (run_cause_of R files words line formula cube c.unwrap-options.result readers next later good (bytes, at, text) assumed options entries)
+          let files = from_first (files_view g.F.Files g.F.Input.Source c.args.files.now) first in
+          if_err c.check_streams.result _ (IsCause files words)
+          (run_cause_of files words line formula cube c.unwrap-options.result readers next later good (bytes, at, text) assumed options entries)
           c.check_streams.ensures.cause;
     }

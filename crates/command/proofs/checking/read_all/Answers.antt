@@ -2,9 +2,9 @@ use Rattle.std.proofs.Common.{arith, ◌≡◌, ℕ, List, None, rules, subst, s
 use Rattle.std.specs.Io.KnownBytes.{Consumes}
 use Rattle.std.proofs.lemmas.List.{length-take-le}
 use Rattle.lrup_text.specs.ReadLemmas.{gave_more}
-use Rattle.lrup_text.specs.ReadOut.{SourceView, source_view}
+use Rattle.lrup_text.specs.ReadOut.{SourceView}
 use Rattle.lrup_text.specs.Reads.{Gave}
-use Rattle.command.specs.Commands.{HasBrokenOff, IsFailedRead}
+use Rattle.command.specs.Commands.{HasBrokenOff, IsFailedRead, readers_view}
 use Rattle.command.specs.declared.fault.CommandFault.{CommandFault}
 use Rattle.command.specs.declared.fault.CommandFault.TheVariants as faults
 use Rattle.command.proofs.CheckingLemmas.{err_given}
@@ -39,7 +39,7 @@ broken_off R reading first last after bytes room fault gave consumed read failed
 
 pub returns-in_err-count-clause-fault : goal.returns-in_err-count-clause-fault
 returns-in_err-count-clause-fault g c =
-    let reading = source_view g.S.Source.left g.S.Source.has_failed g.S.Source.reads in
+    let reading = readers_view g.S.Source in
     let read = c.in_err-count.ensures in
     err_given c.from_residual-in_err-count.result _ (IsFailedRead reading c.args.source.now)
     (λ fault is. broken_off _ reading _ _ _ _ _ fault c.loop.invariant.gave c.loop.invariant.consumes read.reads read.failed is)

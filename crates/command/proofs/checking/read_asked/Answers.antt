@@ -7,11 +7,10 @@ use Rattle.command.proofs.checking.read_asked.Goals as goal
 
 pub returns-in_err-formula-clause-cause : goal.returns-in_err-formula-clause-cause
 returns-in_err-formula-clause-cause g c =
-    let R = g.row.F-Input.Denot in
-    let files = files_view c.args.files.now (g.F.Files.tells c.args.files.now) (g.F.Files.may_refuse c.args.files.now) g.F.Input.Source.left g.F.Input.Source.has_failed g.F.Files.opens g.F.Input.Source.reads in
+    let files = files_view g.F.Files g.F.Input.Source c.args.files.now in
     let words = texts c.args.words.now in
     let line = c.in_ok-line.line in
     let fault = c.in_err-formula.field-0.0 in
-    let cause = read_cause R files words line c.in_ok-line.ensures.ok fault (formula_file_cause R files line.formula.now fault c.in_err-formula.ensures.cause) in
-    err_given c.from_residual-in_err-formula.result _ (IsCause R files words)
-    (λ other is. subst (IsCause R files words) (sym is) cause) c.from_residual-in_err-formula.ensures.1
+    let cause = read_cause files words line c.in_ok-line.ensures.ok fault (formula_file_cause files line.formula.now fault c.in_err-formula.ensures.cause) in
+    err_given c.from_residual-in_err-formula.result _ (IsCause files words)
+    (λ other is. subst (IsCause files words) (sym is) cause) c.from_residual-in_err-formula.ensures.1

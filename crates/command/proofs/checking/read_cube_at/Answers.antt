@@ -7,15 +7,15 @@ use Rattle.command.proofs.checking.read_cube_at.Goals as goal
 
 pub returns-in_err-read_cube-in-Ok-clause-cause : goal.returns-in_err-read_cube-in-Ok-clause-cause
 returns-in_err-read_cube-in-Ok-clause-cause g c =
-    let files = files_view c.args.files.now (g.F.Files.tells c.args.files.now) (g.F.Files.may_refuse c.args.files.now) g.F.Input.Source.left g.F.Input.Source.has_failed g.F.Files.opens g.F.Input.Source.reads in
-    let IsCause = IsAssumeCause g.row.F-Input.Denot files c.args.formula.now.vars c.args.files.now (Some c.args.path.now) in
+    let files = files_view g.F.Files g.F.Input.Source c.args.files.now in
+    let IsCause = IsAssumeCause files c.args.formula.now.vars c.args.files.now (Some c.args.path.now) in
     let faulty = subst (λ (n : ℕ). IsCubeFault n c.in-Ok.bytes.items c.in_err-read_cube-in-Ok.field-0.0) c.vars.ensures.vars
     (subst (λ (bytes : List ℕ). IsCubeFault c.vars.result bytes c.in_err-read_cube-in-Ok.field-0.0) c.deref.ensures.value c.in_err-read_cube-in-Ok.ensures.fault) in
-    let cause = cube_text_cause g.row.F-Input.Denot files c.args.formula.now.vars c.args.files.now c.args.path.now c.in-Ok.bytes.items c.read_file.new.files c.in-Ok.ensures.bytes c.in_err-read_cube-in-Ok.field-0.0 faulty in
+    let cause = cube_text_cause files c.args.formula.now.vars c.args.files.now c.args.path.now c.in-Ok.bytes.items c.read_file.new.files c.in-Ok.ensures.bytes c.in_err-read_cube-in-Ok.field-0.0 faulty in
     err_given c.from_residual.result _ IsCause (λ fault is. subst IsCause (sym is) cause) c.from_residual.ensures.1
 
 pub returns-in-Err-clause-cause : goal.returns-in-Err-clause-cause
 returns-in-Err-clause-cause g c =
-    let files = files_view c.args.files.now (g.F.Files.tells c.args.files.now) (g.F.Files.may_refuse c.args.files.now) g.F.Input.Source.left g.F.Input.Source.has_failed g.F.Files.opens g.F.Input.Source.reads in
-    let IsCause = IsAssumeCause g.row.F-Input.Denot files c.args.formula.now.vars c.args.files.now (Some c.args.path.now) in
-    subst IsCause (sym c.of_cube_file.ensures) (cube_file_cause g.row.F-Input.Denot files c.args.formula.now.vars c.args.files.now c.args.path.now c.in-Err.fault c.in-Err.ensures.cause)
+    let files = files_view g.F.Files g.F.Input.Source c.args.files.now in
+    let IsCause = IsAssumeCause files c.args.formula.now.vars c.args.files.now (Some c.args.path.now) in
+    subst IsCause (sym c.of_cube_file.ensures) (cube_file_cause files c.args.formula.now.vars c.args.files.now c.args.path.now c.in-Err.fault c.in-Err.ensures.cause)

@@ -3,38 +3,36 @@ use Rattle.clap.specs.Walk.{texts}
 use Rattle.command.specs.Commands.{EndsWithFault, EndsWithReport, FilesView, Text, WasReadIn, change, files_view}
 use Rattle.command.proofs.CheckingLemmas.{names_unsatisfiable, names_unsatisfiable_under}
 use Rattle.command.proofs.StatusLemmas.{ends_unwritten}
-use Rattle.command.proofs.program.command_watched.Goals as goal
+use Rattle.command.proofs.program.command.Goals as goal
 
 pub returns-in-Ok-clause-sound : goal.returns-in-Ok-clause-sound
 returns-in-Ok-clause-sound g c zero =
     let asked = c.in-Ok.asked in
-    let files = files_view c.args.files.now (g.F.Files.tells c.args.files.now) (g.F.Files.may_refuse c.args.files.now) g.F.Input.Source.left g.F.Input.Source.has_failed g.F.Files.opens g.F.Input.Source.reads in
-    names_unsatisfiable g.row.F-Input.Denot files (texts c.args.words.now) asked.line asked.formula.items c.read_asked.new.files
+    let files = files_view g.F.Files g.F.Input.Source c.args.files.now in
+    names_unsatisfiable files (texts c.args.words.now) asked.line asked.formula.items c.read_asked.new.files
     c.in-Ok.ensures.line c.in-Ok.ensures.bytes (c.check_formula.ensures.sound zero)
 
 pub returns-in-Ok-clause-sound_under : goal.returns-in-Ok-clause-sound_under
 returns-in-Ok-clause-sound_under g c eight =
     let asked = c.in-Ok.asked in
-    let files = files_view c.args.files.now (g.F.Files.tells c.args.files.now) (g.F.Files.may_refuse c.args.files.now) g.F.Input.Source.left g.F.Input.Source.has_failed g.F.Files.opens g.F.Input.Source.reads in
+    let files = files_view g.F.Files g.F.Input.Source c.args.files.now in
     let next = c.read_asked.new.files in
-    names_unsatisfiable_under g.row.F-Input.Denot files (texts c.args.words.now) asked.line asked.formula.items next (g.F.Files.tells next)
+    names_unsatisfiable_under files (texts c.args.words.now) asked.line asked.formula.items next (g.F.Files.tells next)
     c.in-Ok.ensures.stays c.in-Ok.ensures.line c.in-Ok.ensures.bytes (c.check_formula.ensures.sound_under eight)
 
 pub returns-in-Ok-clause-ends : goal.returns-in-Ok-clause-ends
 returns-in-Ok-clause-ends g c =
-    let R = g.row.F-Input.Denot in
     let asked = c.in-Ok.asked in
     let words = texts c.args.words.now in
     let first = c.args.files.now in
     let next = c.read_asked.new.files in
-    let tells = g.F.Files.tells first in
-    let view : (Text → Option (List ℕ)) → (Text → Bool) → FilesView R = λ t m. files_view first t m g.F.Input.Source.left g.F.Input.Source.has_failed g.F.Files.opens g.F.Input.Source.reads in
+    let view : (Text → Option (List ℕ)) → (Text → Bool) → FilesView = λ t m. record (files_view g.F.Files g.F.Input.Source first) { tells = t; may_refuse = m } in
     let output = change (g.O.Sink.written c.args.out.now) (g.O.Sink.written c.check_formula.new.out) (g.O.Sink.has_failed c.check_formula.new.out) in
     let errors = change (g.E.Sink.written c.args.err.now) (g.E.Sink.written c.check_formula.new.err) (g.E.Sink.has_failed c.check_formula.new.err) in
-    let Ends : (Text → Option (List ℕ)) → (Text → Bool) → Type 0 = λ t m. WasReadIn R (view t m) first asked.line.formula.now asked.formula.items next
-    → EndsWithReport R (view t m) words output errors c.check_formula.result ⊎ EndsWithFault R (view t m) words output errors c.check_formula.result in
+    let Ends : (Text → Option (List ℕ)) → (Text → Bool) → Type 0 = λ t m. WasReadIn (view t m) first asked.line.formula.now asked.formula.items next
+    → EndsWithReport (view t m) words output errors c.check_formula.result ⊎ EndsWithFault (view t m) words output errors c.check_formula.result in
     let ends = c.check_formula.ensures.ends words first c.in-Ok.ensures.line in
-    subst (Ends tells) c.in-Ok.ensures.stays_refused (subst (λ t. Ends t (g.F.Files.may_refuse next)) c.in-Ok.ensures.stays ends) c.in-Ok.ensures.bytes
+    subst (Ends (g.F.Files.tells first)) c.in-Ok.ensures.stays_refused (subst (λ t. Ends t (g.F.Files.may_refuse next)) c.in-Ok.ensures.stays ends) c.in-Ok.ensures.bytes
 
 pub returns-in-Ok-clause-unwritten : goal.returns-in-Ok-clause-unwritten
-returns-in-Ok-clause-unwritten g c = ends_unwritten _ _ _ _ _ _ (returns-in-Ok-clause-ends g c)
+returns-in-Ok-clause-unwritten g c = ends_unwritten _ _ _ _ _ (returns-in-Ok-clause-ends g c)
