@@ -4,3 +4,4 @@ pub mod PrintLemmas
 pub mod ReadBack
 pub mod SaveLemmas
 pub mod FileLemmas
+pub mod Beginnings

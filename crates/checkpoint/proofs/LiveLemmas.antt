@@ -1,9 +1,9 @@
 -- What was fetched so far, one identity after the other.
-use Rattle.std.proofs.Common.{◌≡◌, ℕ, ◌+◌, ◌-◌, ◌≤◌, List, [], ◌∷◌, ◌++◌, map, length, length-append, take, refl, sym, ap, subst, ◌∙◌, inl, inr, arith}
+use Rattle.std.proofs.Common.{◌≡◌, ℕ, Bool, true, false, cond, ◌+◌, ◌-◌, ◌≤◌, List, [], ◌∷◌, ◌++◌, map, length, length-append, take, refl, sym, ap, subst, ◌∙◌, ◌⊎◌, inl, inr, arith}
 use Rattle.std.specs.List.{AllByRecursion}
 use Rattle.std.specs.Prelude.{slice_index_or}
 use Rattle.std.proofs.lemmas.Bool.{cases_lt}
-use Rattle.std.proofs.lemmas.List.{append_assoc, append-nil, map-append, take_all, take_more}
+use Rattle.std.proofs.lemmas.List.{append_assoc, append-nil, map-append, map_more, take_all}
 use Rattle.lrup_model.specs.Clause.{Clause}
 use Rattle.lrup_model.specs.Entailment.{IsDerived}
 use Rattle.lrup_model.specs.Event.{History, Reply, fetch, vacant, live, retired}
@@ -15,7 +15,7 @@ use Rattle.std.specs.Prelude.{Result, Ok, Err, IsErr, IfOk}
 use Rattle.lrup_model.specs.Replies.{AnswersFormula, reply_of}
 use Rattle.lrup_model.specs.declared.clause_map.Fetched.{Fetched}
 use Rattle.lrup_model.specs.declared.clause_map.Fetched.TheVariants as fetched
-use Rattle.checkpoint.specs.Live.{fetches, live_of}
+use Rattle.checkpoint.specs.Live.{Entry, clauses_of, entries_of, entry_of, fetches, wanted_of, wanted_clauses}
 
 fetches-push : (s id : ℕ) (replies : List Reply) (r : Reply) → fetches s id (replies ++ r ∷ []) ≡ fetches s id replies ++ fetch s (id + length replies) r ∷ []
 fetches-push s id [] r = let same : id ≡ id + 0 = omega arith in ap (λ n. fetch s n r ∷ []) same
@@ -23,30 +23,45 @@ fetches-push s id (q ∷ replies) r =
     let same : id + 1 + length replies ≡ id + length (q ∷ replies) = omega arith in
     ap (λ es. fetch s id q ∷ es) (fetches-push s (id + 1) replies r ∙ ap (λ n. fetches s (id + 1) replies ++ fetch s n r ∷ []) same)
 
-live_of-append : (xs ys : List Reply) → live_of (xs ++ ys) ≡ live_of xs ++ live_of ys
-live_of-append [] ys = refl
-live_of-append (vacant ∷ xs) ys = live_of-append xs ys
-live_of-append (live c ∷ xs) ys = ap (λ cs. c ∷ cs) (live_of-append xs ys)
-live_of-append (retired ∷ xs) ys = live_of-append xs ys
+-- one more in front of both
+cond-append : (b : Bool) (e : Entry) (xs ys : List Entry) → cond b (e ∷ (xs ++ ys)) (xs ++ ys) ≡ cond b (e ∷ xs) xs ++ ys
+cond-append true e xs ys = refl
+cond-append false e xs ys = refl
+
+wanted_of-append : (wants : ℕ → Bool) (id : ℕ) (xs ys : List Reply) → wanted_of wants id (xs ++ ys) ≡ wanted_of wants id xs ++ wanted_of wants (id + length xs) ys
+wanted_of-append wants id [] ys = let same : id ≡ id + 0 = omega arith in ap (λ n. wanted_of wants n ys) same
+wanted_of-append wants id (x ∷ xs) ys = at x (wanted_of-append wants (id + 1) xs ys ∙ ap (λ n. wanted_of wants (id + 1) xs ++ wanted_of wants n ys) same)
+  where
+    same : id + 1 + length xs ≡ id + length (x ∷ xs)
+    same = omega arith
+
+    at : (r : Reply) → wanted_of wants (id + 1) (xs ++ ys) ≡ wanted_of wants (id + 1) xs ++ wanted_of wants (id + length (x ∷ xs)) ys
+        → wanted_of wants id (r ∷ xs ++ ys) ≡ wanted_of wants id (r ∷ xs) ++ wanted_of wants (id + length (x ∷ xs)) ys
+    at vacant after = after
+    at (live c) after =
+        ap (λ (es : List Entry). cond (wants id) (record { id = id; clause = c } ∷ es) es) after
+        ∙ cond-append (wants id) (record { id = id; clause = c }) (wanted_of wants (id + 1) xs) (wanted_of wants (id + length (x ∷ xs)) ys)
+    at retired after = after
 
 -- clips that are known stay so, with their clauses
 stay_known : (a b : Place) (es : History) (clips : List ClipValue) → Tells a b es → AllByRecursion (IsKnown a) clips → AllByRecursion (IsKnown b) clips
 stay_known a b es clips tells known = All-map (IsKnown a) (IsKnown b) (λ clip is. (known_stays a b es clip tells is).0) clips known
 
-stay_same : (a b : Place) (es : History) (clips : List ClipValue) → Tells a b es → AllByRecursion (IsKnown a) clips → map (clip_clause b) clips ≡ map (clip_clause a) clips
+stay_same : (a b : Place) (es : History) (clips : List ClipValue) → Tells a b es → AllByRecursion (IsKnown a) clips → entries_of b clips ≡ entries_of a clips
 stay_same a b es [] tells known = refl
 stay_same a b es (clip ∷ clips) tells known =
-    ap (λ c. c ∷ map (clip_clause b) clips) (known_stays a b es clip tells known.0).1 ∙ ap (λ cs. clip_clause a clip ∷ cs) (stay_same a b es clips tells known.1)
+    ap (λ (c : Clause). record { id = clip.id; clause = c } ∷ entries_of b clips) (known_stays a b es clip tells known.0).1
+    ∙ ap (λ (cs : List Entry). entry_of a clip ∷ cs) (stay_same a b es clips tells known.1)
 
 -- known clauses follow
-all_follow : (p : Place) (clips : List ClipValue) → AllFollow p → AllByRecursion (IsKnown p) clips → AllByRecursion (IsDerived p.caller.formula) (map (clip_clause p) clips)
+all_follow : (p : Place) (clips : List ClipValue) → AllFollow p → AllByRecursion (IsKnown p) clips → AllByRecursion (IsDerived p.caller.formula) (clauses_of (entries_of p clips))
 all_follow p [] follow known = tt
 all_follow p (clip ∷ clips) follow known = (known_follows p clip follow known.0, all_follow p clips follow known.1)
 
--- the formula's clauses come first, as far as the fetches have come
+-- the formula's clauses are live, as far as the fetches have come
 pub record First (f : Cnf) (count : ℕ) (last : ℕ) (replies : List Reply) : Type 0 where
-  pub more : List Clause
-  pub is : live_of replies ≡ take last f.clauses ++ more
+  pub more : List Reply
+  pub is : replies ≡ map live (take last f.clauses) ++ more
   pub none : last ≤ count → more ≡ []
 
 first_next : (f : Cnf) (count last : ℕ) (replies : List Reply) (r : Reply) → count ≡ length f.clauses
@@ -55,67 +70,69 @@ first_next f count last replies r all answer first =
     elim (cases_lt last count) [
       | inl within ↦
           let next : last + 1 - 1 ≡ last = omega arith in
-          let clause : live_of (r ∷ []) ≡ slice_index_or f.clauses last [] ∷ [] = ap (λ (q : Reply). live_of (q ∷ [])) (answer (omega arith)) ∙ ap (λ n. slice_index_or f.clauses n [] ∷ []) next in
+          let clause : r ≡ live (slice_index_or f.clauses last []) = answer (omega arith) ∙ ap (λ n. live (slice_index_or f.clauses n [])) next in
           record {
             more = [];
-            is = live_of-append replies (r ∷ []) ∙ ap (λ cs. cs ++ live_of (r ∷ [])) first.is
-                ∙ ap (λ cs. (take last f.clauses ++ cs) ++ live_of (r ∷ [])) (first.none (omega arith))
-                ∙ ap (λ cs. cs ++ live_of (r ∷ [])) (append-nil (take last f.clauses))
-                ∙ ap (λ cs. take last f.clauses ++ cs) clause
-                ∙ sym (take_more f.clauses last [] (omega arith))
-                ∙ sym (append-nil (take (last + 1) f.clauses));
+            is = ap (λ (rs : List Reply). rs ++ r ∷ []) (first.is ∙ ap (λ (rs : List Reply). map live (take last f.clauses) ++ rs) (first.none (omega arith)) ∙ append-nil (map live (take last f.clauses)))
+                ∙ ap (λ (q : Reply). map live (take last f.clauses) ++ q ∷ []) clause
+                ∙ sym (map_more live f.clauses last [] (omega arith))
+                ∙ sym (append-nil (map live (take (last + 1) f.clauses)));
             none = λ _. refl;
           }
       | inr above ↦
           let whole = take_all last f.clauses (omega arith) in
           let whole' = take_all (last + 1) f.clauses (omega arith) in
           record {
-            more = first.more ++ live_of (r ∷ []);
-            is = live_of-append replies (r ∷ []) ∙ ap (λ cs. cs ++ live_of (r ∷ [])) first.is
-                ∙ ap (λ cs. (cs ++ first.more) ++ live_of (r ∷ [])) (whole ∙ sym whole')
-                ∙ append_assoc (take (last + 1) f.clauses) first.more (live_of (r ∷ []));
+            more = first.more ++ r ∷ [];
+            is = ap (λ (rs : List Reply). rs ++ r ∷ []) first.is
+                ∙ ap (λ (cs : List Clause). (map live cs ++ first.more) ++ r ∷ []) (whole ∙ sym whole')
+                ∙ append_assoc (map live (take (last + 1) f.clauses)) first.more (r ∷ []);
             none = λ low. absurd (omega arith);
           }
     ]
 
--- all of them do, in the end
-pub first_whole : (f : Cnf) (count last : ℕ) (replies : List Reply) → count ≡ length f.clauses → count ≤ last → First f count last replies
-    → (more : List Clause) × (live_of replies ≡ f.clauses ++ more)
-first_whole f count last replies all within first = (first.more, first.is ∙ ap (λ cs. cs ++ first.more) (take_all last f.clauses (omega arith)))
+-- all of them are, in the end
+pub first_whole : (wants : ℕ → Bool) (f : Cnf) (count last : ℕ) (replies : List Reply) → count ≡ length f.clauses → count ≤ last → First f count last replies
+    → (more : List Entry) × (wanted_of wants 1 replies ≡ wanted_clauses wants f.clauses ++ more)
+first_whole wants f count last replies all within first = (
+  wanted_of wants (1 + length (map live f.clauses)) first.more,
+  ap (wanted_of wants 1) (first.is ∙ ap (λ (cs : List Clause). map live cs ++ first.more) (take_all last f.clauses (omega arith)))
+      ∙ wanted_of-append wants 1 (map live f.clauses) first.more,
+)
 
 -- what was found of the identities 1 to the last, between the two places
-pub record Found (a b : Place) (moves : History → Type 0) (last : ℕ) (clips : List ClipValue) : Type 0 where
+pub record Found (wants : ℕ → Bool) (a b : Place) (moves : History → Type 0) (last : ℕ) (clips : List ClipValue) : Type 0 where
   pub replies : List Reply
   pub moved : moves (fetches a.caller.stream 1 replies)
   pub count : length replies ≡ last
-  pub clauses : map (clip_clause b) clips ≡ live_of replies
+  pub entries : entries_of b clips ≡ wanted_of wants 1 replies
   pub known : AllByRecursion (IsKnown b) clips
-  pub follow : AllByRecursion (IsDerived a.caller.formula) (map (clip_clause b) clips)
+  pub follow : AllByRecursion (IsDerived a.caller.formula) (clauses_of (entries_of b clips))
   pub caller : b.caller ≡ a.caller
   pub first : a.caller.layout.clauses ≡ length a.caller.formula.clauses → First a.caller.formula a.caller.layout.clauses last replies
 
 -- nothing was fetched
-pub found_none : (a : Place) (moves : History → Type 0) → moves [] → Found a a moves 0 []
-found_none a moves none = record {
+pub found_none : (wants : ℕ → Bool) (a : Place) (moves : History → Type 0) → moves [] → Found wants a a moves 0 []
+found_none wants a moves none = record {
   replies = [];
   moved = none;
   count = refl;
-  clauses = refl;
+  entries = refl;
   known = tt;
   follow = tt;
   caller = refl;
   first = λ all. record { more = []; is = refl; none = λ _. refl };
 }
 
--- the next identity, under which these clips were found
-pub found_next : (a b c : Place) (before after : History → Type 0) (count : ℕ) (clips fresh all : List ClipValue) (r : Reply)
-    → Found a b before count clips
+-- the next identity, under which these clips were kept
+pub found_next : (wants : ℕ → Bool) (a b c : Place) (before after : History → Type 0) (count : ℕ) (clips fresh all : List ClipValue) (r : Reply)
+    → Found wants a b before count clips
     → ((es : History) → before es → after (es ++ fetch b.caller.stream (count + 1) r ∷ []))
     → Tells b c (fetch b.caller.stream (count + 1) r ∷ [])
     → AnswersFormula b (count + 1) r
-    → AllFollow c → AllByRecursion (IsKnown c) fresh → map (clip_clause c) fresh ≡ live_of (r ∷ []) → all ≡ clips ++ fresh
-    → Found a c after (count + 1) all
-found_next a b c before after count clips fresh all r found then tells formula follow known clauses is =
+    → AllFollow c → AllByRecursion (IsKnown c) fresh → entries_of c fresh ≡ wanted_of wants (count + 1) (r ∷ []) → all ≡ clips ++ fresh
+    → Found wants a c after (count + 1) all
+found_next wants a b c before after count clips fresh all r found then tells formula follow known entries is =
     let caller : c.caller ≡ a.caller = tells.caller ∙ found.caller in
     let at : 1 + length found.replies ≡ count + 1 = omega (arith, found.count) in
     let events = fetches-push a.caller.stream 1 found.replies r ∙ ap (λ n. fetches a.caller.stream 1 found.replies ++ fetch a.caller.stream n r ∷ []) at
@@ -126,12 +143,12 @@ found_next a b c before after count clips fresh all r found then tells formula f
       replies = found.replies ++ r ∷ [];
       moved = subst after (sym events) (then (fetches a.caller.stream 1 found.replies) found.moved);
       count = omega (arith, length-append found.replies (r ∷ []), found.count);
-      clauses = ap (map (clip_clause c)) is ∙ map-append (clip_clause c) clips fresh
-          ∙ ap (λ cs. cs ++ map (clip_clause c) fresh) (stay_same b c (fetch b.caller.stream (count + 1) r ∷ []) clips tells found.known ∙ found.clauses)
-          ∙ ap (λ cs. live_of found.replies ++ cs) clauses
-          ∙ sym (live_of-append found.replies (r ∷ []));
+      entries = ap (entries_of c) is ∙ map-append (entry_of c) clips fresh
+          ∙ ap (λ (es : List Entry). es ++ entries_of c fresh) (stay_same b c (fetch b.caller.stream (count + 1) r ∷ []) clips tells found.known ∙ found.entries)
+          ∙ ap (λ (es : List Entry). wanted_of wants 1 found.replies ++ es) (entries ∙ ap (λ n. wanted_of wants n (r ∷ [])) (sym at))
+          ∙ sym (wanted_of-append wants 1 found.replies (r ∷ []));
       known = all_known;
-      follow = subst (λ (k : Caller). AllByRecursion (IsDerived k.formula) (map (clip_clause c) all)) caller (all_follow c all follow all_known);
+      follow = subst (λ (k : Caller). AllByRecursion (IsDerived k.formula) (clauses_of (entries_of c all))) caller (all_follow c all follow all_known);
       caller = caller;
       first = λ count_is. first_next a.caller.formula a.caller.layout.clauses count found.replies r count_is
           (λ within. subst (λ (k : Caller). r ≡ live (clause_at k.formula (count + 1))) found.caller
@@ -139,11 +156,20 @@ found_next a b c before after count clips fresh all r found then tells formula f
           (found.first count_is);
     }
 
--- an answer that isn't live shows no clause
-pub none_live : (p : Place) (r : Fetched) → ((clip : ClipValue) → ¬ (r ≡ fetched.Live clip)) → live_of (reply_of p r ∷ []) ≡ []
-none_live p fetched.Vacant not_live = refl
-none_live p (fetched.Live clip) not_live = absurd (not_live clip refl)
-none_live p fetched.Retired not_live = refl
+-- a live clause that is wanted is kept
+pub kept_wanted : (wants : ℕ → Bool) (p : Place) (id : ℕ) (clip : ClipValue) → wants id ≡ true → clip.id ≡ id
+    → entries_of p (clip ∷ []) ≡ wanted_of wants id (live (clip_clause p clip) ∷ [])
+kept_wanted wants p id clip wanted same = rw wanted (ap (λ n. record { id = n; clause = clip_clause p clip } ∷ []) same)
+
+-- one that isn't is left out
+pub kept_unwanted : (wants : ℕ → Bool) (p : Place) (id : ℕ) (clip : ClipValue) → wants id ≡ false
+    → wanted_of wants id (live (clip_clause p clip) ∷ []) ≡ []
+kept_unwanted wants p id clip unwanted = rw unwanted refl
+
+-- nothing is kept where nothing is live
+pub kept_none : (wants : ℕ → Bool) (p : Place) (id : ℕ) (r : Fetched) → (r ≡ fetched.Vacant) ⊎ (r ≡ fetched.Retired) → wanted_of wants id (reply_of p r ∷ []) ≡ []
+kept_none wants p id r (inl vacant_is) = rw vacant_is refl
+kept_none wants p id r (inr retired_is) = rw retired_is refl
 
 -- what holds of an error, at the exit of a `?`
 pub no_ok : {T E : Type 0} (r : Result T E) (P : T → Type 0) → IsErr r → IfOk r P

@@ -1,18 +1,19 @@
 -- A formula's text by the parts that are written one after the other.
-use Rattle.std.proofs.Common.{◌≡◌, ◌≤◌, ◌<◌, ◌+◌, ◌++◌, ℕ, ℤ, pos, negsuc, nat_abs, List, [], length, map, take, drop, get_or, Option, Some, refl, sym, ap, subst, ◌∙◌, add-one, true, false, arith}
+use Rattle.std.proofs.Common.{◌≡◌, ◌≤◌, ◌<◌, ◌≢◌, ◌+◌, ◌++◌, ◌∷◌, ℕ, ℤ, pos, negsuc, nat_abs, List, [], length, map, take, drop, get_or, Option, Some, refl, sym, ap, subst, ◌∙◌, add-one, true, false, arith}
 use Rattle.std.specs.Prelude.{codes, flat_map, slice_get, Result, IsErr}
 use Rattle.std.proofs.lemmas.Int.{ints}
 use Rattle.std.specs.Int.Signed.{lt_z}
 use Rattle.std.specs.Fmt.{decimal, signed_decimal}
 use Rattle.std.proofs.lemmas.Grind.{flat_map-append}
-use Rattle.std.proofs.lemmas.List.{append_assoc, flat_map_more, take_all, take-append-drop, length-map}
-use Rattle.std.proofs.lemmas.List.Folds.{flat_map-map}
+use Rattle.std.proofs.lemmas.List.{append_assoc, append-nil, flat_map_more, map_more, map-append, take_all, take-append-drop, length-map, length-take}
+use Rattle.std.proofs.lemmas.Bool.{eq-eqb, ne_eqb}
 use Rattle.lrup_model.specs.Clause.{Clause}
 use Rattle.lrup_model.specs.ClauseLemmas.{take-next}
 use Rattle.lrup_model.specs.Place.{ClipValue}
 use Rattle.lrup_text.specs.Writing.{Breaks, Puts, PutsAll, WritesText}
-use Rattle.lrup_text.specs.WritingLemmas.{at_err, texts_more, texts_split}
-use Rattle.checkpoint.specs.Printing.{clause_line, formula_text, header_line}
+use Rattle.lrup_text.specs.WritingLemmas.{at_err}
+use Rattle.checkpoint.specs.Live.{Entry}
+use Rattle.checkpoint.specs.Printing.{clause_line, entries_text, entry_text, formula_text, header_line, note}
 
 -- a number that may be negative
 
@@ -48,35 +49,64 @@ module _ (c : Clause) (k : ℕ) where
   unfolding clause_line
   literals_all all = ap (λ d. literals_text d ++ codes "0\n") (sym (take_all k c all))
 
--- the lines of the clauses of these clips
-abbrev pub lines_text : (ClipValue → Clause) → List ClipValue → List ℕ
-lines_text clause clips = flat_map (λ clip. clause_line (clause clip)) clips
+-- a note, where there is one
+pub note_none : (id place : ℕ) → id ≡ place → note id place ≡ []
+unfolding note
+note_none id place same = rw (eq-eqb id place same) refl
 
--- the header and the first lines
-abbrev pub header_lines : ℕ → (ClipValue → Clause) → List ClipValue → ℕ → List ℕ
-header_lines vars clause clips k = header_line vars (length clips) ++ lines_text clause (take k clips)
+pub note_some : (id place : ℕ) → id ≢ place → note id place ≡ codes "c id " ++ decimal id ++ codes "\n"
+unfolding note
+note_some id place other = rw (ne_eqb id place other) refl
 
-module _ (vars : ℕ) (clause : ClipValue → Clause) (clips : List ClipValue) where
-  pub header_first : formula_text vars (map clause clips) ≡ header_line vars (length clips) ++ lines_text clause clips
+-- the texts of two lists, one after the other
+entries_text-append : (place : ℕ) (xs ys : List Entry) → entries_text place (xs ++ ys) ≡ entries_text place xs ++ entries_text (place + length xs) ys
+entries_text-append place [] ys = let same : place ≡ place + 0 = omega arith in ap (λ n. entries_text n ys) same
+entries_text-append place (x ∷ xs) ys =
+    let same : place + 1 + length xs ≡ place + length (x ∷ xs) = omega arith in
+    ap (λ t. entry_text place x ++ t) (entries_text-append (place + 1) xs ys ∙ ap (λ n. entries_text (place + 1) xs ++ entries_text n ys) same)
+    ∙ sym (append_assoc (entry_text place x) (entries_text (place + 1) xs) (entries_text (place + length (x ∷ xs)) ys))
+
+-- the header and the texts of the first clauses
+abbrev pub header_entries : ℕ → (ClipValue → Entry) → List ClipValue → ℕ → List ℕ
+header_entries vars entry clips k = header_line vars (length clips) ++ entries_text 1 (map entry (take k clips))
+
+-- the texts of the clauses from this one on
+abbrev pub later_entries : (ClipValue → Entry) → List ClipValue → ℕ → List ℕ
+later_entries entry clips k = entries_text (1 + k) (map entry (drop k clips))
+
+module _ (vars : ℕ) (entry : ClipValue → Entry) (clips : List ClipValue) where
+  pub header_first : formula_text vars (map entry clips) ≡ header_line vars (length clips) ++ entries_text 1 (map entry clips)
   unfolding formula_text
-  header_first =
-      ap (λ n. header_line vars n ++ flat_map clause_line (map clause clips)) (length-map clips clause)
-      ∙ ap (λ t. header_line vars (length clips) ++ t) (flat_map-map clause_line clause clips)
+  header_first = ap (λ n. header_line vars n ++ entries_text 1 (map entry clips)) (length-map clips entry)
 
-  pub lines_next : (k : ℕ) (d : ClipValue) → k < length clips → header_line vars (length clips) ++ lines_text clause (take (k + 1) clips) ≡ header_lines vars clause clips k ++ clause_line (clause (get_or clips k d))
-  lines_next k d inside =
-      ap (λ t. header_line vars (length clips) ++ t) (texts_more (λ clip. clause_line (clause clip)) clips k d inside)
-      ∙ sym (append_assoc (header_line vars (length clips)) (lines_text clause (take k clips)) (clause_line (clause (get_or clips k d))))
+  pub entries_next : (k : ℕ) (d : ClipValue) → k < length clips → header_entries vars entry clips (k + 1) ≡ header_entries vars entry clips k ++ entry_text (k + 1) (entry (get_or clips k d))
+  entries_next k d inside =
+      let at : 1 + length (map entry (take k clips)) ≡ k + 1 = omega (arith, length-map (take k clips) entry, length-take k clips) in
+      let this : Entry = entry (get_or clips k d) in
+      ap (λ t. header_line vars (length clips) ++ t)
+      (ap (entries_text 1) (map_more entry clips k d inside) ∙ entries_text-append 1 (map entry (take k clips)) (this ∷ [])
+      ∙ ap (λ n. entries_text 1 (map entry (take k clips)) ++ entries_text n (this ∷ [])) at
+      ∙ ap (λ t. entries_text 1 (map entry (take k clips)) ++ t) (append-nil (entry_text (k + 1) this)))
+      ∙ sym (append_assoc (header_line vars (length clips)) (entries_text 1 (map entry (take k clips))) (entry_text (k + 1) this))
 
-  pub lines_split : (k : ℕ) (d : ClipValue) → k < length clips → formula_text vars (map clause clips) ≡ (header_lines vars clause clips k ++ clause_line (clause (get_or clips k d))) ++ lines_text clause (drop (k + 1) clips)
-  lines_split k d inside =
+  -- all of it, cut after the first clauses
+  entries_cut : (k : ℕ) → k ≤ length clips → formula_text vars (map entry clips) ≡ header_entries vars entry clips k ++ later_entries entry clips k
+  entries_cut k inside =
+      let at : 1 + length (map entry (take k clips)) ≡ 1 + k = omega (arith, length-map (take k clips) entry, length-take k clips) in
       header_first
-      ∙ ap (λ t. header_line vars (length clips) ++ t) (texts_split (λ clip. clause_line (clause clip)) clips k d inside)
-      ∙ sym (append_assoc (header_line vars (length clips)) (lines_text clause (take k clips) ++ clause_line (clause (get_or clips k d))) (lines_text clause (drop (k + 1) clips)))
-      ∙ ap (λ t. t ++ lines_text clause (drop (k + 1) clips)) (sym (append_assoc (header_line vars (length clips)) (lines_text clause (take k clips)) (clause_line (clause (get_or clips k d)))))
+      ∙ ap (λ t. header_line vars (length clips) ++ t)
+      (ap (λ (cs : List ClipValue). entries_text 1 (map entry cs)) (sym (take-append-drop k clips))
+      ∙ ap (entries_text 1) (map-append entry (take k clips) (drop k clips))
+      ∙ entries_text-append 1 (map entry (take k clips)) (map entry (drop k clips))
+      ∙ ap (λ n. entries_text 1 (map entry (take k clips)) ++ entries_text n (map entry (drop k clips))) at)
+      ∙ sym (append_assoc (header_line vars (length clips)) (entries_text 1 (map entry (take k clips))) (later_entries entry clips k))
 
-  pub lines_all : (k : ℕ) → length clips ≤ k → formula_text vars (map clause clips) ≡ header_lines vars clause clips k
-  lines_all k all = header_first ∙ ap (λ xs. header_line vars (length clips) ++ lines_text clause xs) (sym (take_all k clips all))
+  pub entries_split : (k : ℕ) (d : ClipValue) → k < length clips
+      → formula_text vars (map entry clips) ≡ (header_entries vars entry clips k ++ entry_text (k + 1) (entry (get_or clips k d))) ++ later_entries entry clips (k + 1)
+  entries_split k d inside = entries_cut (k + 1) (omega arith) ∙ ap (λ t. t ++ later_entries entry clips (k + 1)) (entries_next k d inside)
+
+  pub entries_all : (k : ℕ) → length clips ≤ k → formula_text vars (map entry clips) ≡ header_entries vars entry clips k
+  entries_all k all = header_first ∙ ap (λ (cs : List ClipValue). header_line vars (length clips) ++ entries_text 1 (map entry cs)) (sym (take_all k clips all))
 
 -- a beginning of a text that went out, where nothing was held before
 pub breaks_from_empty : {E : Type 0} (r : Result (Unit {0}) E) {a b : Option (List ℕ)} {h z : List ℕ} → h ≡ [] → IsErr r → Breaks a b h z → WritesText r a b z

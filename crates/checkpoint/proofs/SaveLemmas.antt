@@ -1,5 +1,5 @@
 -- Why what is written of the live clauses is a checkpoint.
-use Rattle.std.proofs.Common.{◌≡◌, ◌≤◌, ◌↔◌, ℕ, List, [], ◌∷◌, length, sym, subst, arith}
+use Rattle.std.proofs.Common.{◌≡◌, ◌≤◌, ◌↔◌, ℕ, List, [], ◌∷◌, length, sym, ◌∙◌, subst, arith}
 use Rattle.std.specs.List.{AllByRecursion}
 use Rattle.std.proofs.lemmas.List.{length-map}
 use Rattle.lrup_model.specs.Clause.{Clause, IsClause}
@@ -7,10 +7,10 @@ use Rattle.lrup_model.specs.Entailment.{Follows, IsDerived}
 use Rattle.lrup_model.specs.Formula.{Cnf, IsFormulaClause, max_clause_literals, max_clauses}
 use Rattle.lrup_model.specs.ListLemmas.{All-map}
 use Rattle.lrup_model.specs.Literal.{max_variable}
-use Rattle.lrup_model.specs.Place.{Place, ClipValue, IsKnown, clip_clause}
+use Rattle.lrup_model.specs.Place.{Place, ClipValue, IsKnown}
 use Rattle.checkpoint.specs.Checkpoints.{AreWithinLimits, IsCheckpoint}
-use Rattle.checkpoint.specs.Live.{clauses_of}
-use Rattle.checkpoint.specs.Printing.{formula_text}
+use Rattle.checkpoint.specs.Live.{Entry, clauses_of, entries_of, entry_of}
+use Rattle.checkpoint.specs.Printing.{formula_text, printed}
 use Rattle.checkpoint.proofs.ReadBack.{printed_is_read}
 
 -- the clips are within the limits
@@ -18,7 +18,7 @@ abbrev AreFewClips : List ClipValue → Type 0
 AreFewClips clips = (length clips ≤ max_clauses) × AllByRecursion (λ clip. clip.len ≤ max_clause_literals) clips
 
 few_lengths : (p : Place) (clips : List ClipValue) → AllByRecursion (IsKnown p) clips
-    → AllByRecursion (λ clip. clip.len ≤ max_clause_literals) clips ↔ AllByRecursion (λ c. length c ≤ max_clause_literals) (clauses_of p clips)
+    → AllByRecursion (λ clip. clip.len ≤ max_clause_literals) clips ↔ AllByRecursion (λ c. length c ≤ max_clause_literals) (clauses_of (entries_of p clips))
 few_lengths p [] known = ((λ all. tt), (λ all. tt))
 few_lengths p (clip ∷ clips) known =
     let rest = few_lengths p clips known.1 in (
@@ -26,20 +26,20 @@ few_lengths p (clip ∷ clips) known =
       λ all. (omega (arith, known.0.len, all.0), rest.1 all.1),
     )
 
-pub few_clauses : (p : Place) (clips : List ClipValue) → AllByRecursion (IsKnown p) clips → AreFewClips clips ↔ AreWithinLimits (clauses_of p clips)
+pub few_clauses : (p : Place) (clips : List ClipValue) → AllByRecursion (IsKnown p) clips → AreFewClips clips ↔ AreWithinLimits (clauses_of (entries_of p clips))
 few_clauses p clips known =
     let lengths = few_lengths p clips known in
-    let count = length-map clips (clip_clause p) in (
+    let count : length (clauses_of (entries_of p clips)) ≡ length clips = length-map (entries_of p clips) (λ e. e.clause) ∙ length-map clips (entry_of p) in (
       λ few. (omega (arith, count, few.0), lengths.0 few.1),
       λ few. (omega (arith, count, few.0), lengths.1 few.1),
     )
 
-pub checkpoint_of : (f : Cnf) (vars : ℕ) (cs : List Clause) → vars ≡ f.vars → vars ≤ max_variable → AreWithinLimits cs → AllByRecursion (IsDerived f) cs
-    → IsCheckpoint f (formula_text vars cs)
-checkpoint_of f vars cs same few within derived = record {
-  formula = record { vars = vars; clauses = cs };
-  text = printed_is_read (record { vars = vars; clauses = cs }) (record { vars = few; count = within.0; clauses = formula_clauses cs derived within.1 });
-  entails = record { vars = same; each = All-map (IsDerived f) (Follows f) (λ c is. is.1) cs derived };
+pub checkpoint_of : (f : Cnf) (vars : ℕ) (entries : List Entry) → vars ≡ f.vars → vars ≤ max_variable → AreWithinLimits (clauses_of entries)
+    → AllByRecursion (IsDerived f) (clauses_of entries) → IsCheckpoint f (formula_text vars entries)
+checkpoint_of f vars entries same few within derived = record {
+  formula = printed vars entries;
+  text = printed_is_read vars entries (record { vars = few; count = within.0; clauses = formula_clauses (clauses_of entries) derived within.1 });
+  entails = record { vars = same; each = All-map (IsDerived f) (Follows f) (λ c is. is.1) (clauses_of entries) derived };
 }
   where
     formula_clauses : (ds : List Clause) → AllByRecursion (IsDerived f) ds → AllByRecursion (λ c. length c ≤ max_clause_literals) ds → AllByRecursion (IsFormulaClause vars) ds

@@ -15,21 +15,25 @@ fetches s id [] = []
 fetches s id (r ∷ replies) = fetch s id r ∷ fetches s (id + 1) replies
 
 -- of the replies for the identities from id on, the live ones that are wanted, in order
-abbrev pub kept_of : (ℕ → Bool) → ℕ → List Reply → List Entry
-kept_of wants id [] = []
-kept_of wants id (vacant ∷ replies) = kept_of wants (id + 1) replies
-kept_of wants id (live c ∷ replies) =
-    if wants id then record { id = id; clause = c } ∷ kept_of wants (id + 1) replies
-    else kept_of wants (id + 1) replies
-kept_of wants id (retired ∷ replies) = kept_of wants (id + 1) replies
+abbrev pub wanted_of : (ℕ → Bool) → ℕ → List Reply → List Entry
+wanted_of wants id [] = []
+wanted_of wants id (vacant ∷ replies) = wanted_of wants (id + 1) replies
+wanted_of wants id (live c ∷ replies) =
+    if wants id then record { id = id; clause = c } ∷ wanted_of wants (id + 1) replies
+    else wanted_of wants (id + 1) replies
+wanted_of wants id (retired ∷ replies) = wanted_of wants (id + 1) replies
 
 -- the clauses of a formula that are wanted, under the identities from 1 on
-abbrev pub wanted_of : (ℕ → Bool) → List Clause → List Entry
-wanted_of wants clauses = kept_of wants 1 (map live clauses)
+abbrev pub wanted_clauses : (ℕ → Bool) → List Clause → List Entry
+wanted_clauses wants clauses = wanted_of wants 1 (map live clauses)
 
--- the clauses of clips with their identities, in order
+-- the clause of a clip, with its identity
+abbrev pub entry_of : Place → ClipValue → Entry
+entry_of p clip = record { id = clip.id; clause = clip_clause p clip }
+
+-- those of clips, in order
 abbrev pub entries_of : Place → List ClipValue → List Entry
-entries_of p clips = map (λ clip. record { id = clip.id; clause = clip_clause p clip }) clips
+entries_of p clips = map (entry_of p) clips
 
 -- the clauses alone
 abbrev pub clauses_of : List Entry → List Clause

@@ -5,7 +5,7 @@ ghost use Rattle.lrup_model.specs.Layout.{last_identity};
 ghost use Rattle.lrup_model.specs.Entailment.{IsDerived};
 ghost use Rattle.lrup_model.specs.Event.{Reply};
 ghost use Rattle.lrup_model.specs.Place.{IsKnown};
-ghost use Rattle.checkpoint.specs.Live.{Entry, clauses_of, entries_of, fetches, kept_of, wanted_of};
+ghost use Rattle.checkpoint.specs.Live.{Entry, clauses_of, entries_of, fetches, wanted_of, wanted_clauses};
 
 use lrup_model::{ClauseMap, Clip, Fetched, Id};
 use std::alloc::{AllocError, Global};
@@ -33,7 +33,7 @@ pub fn live_clauses<M: ClauseMap, K: Wanted>(
         × M.moves map.old map.new (fetches (M.place map.old).caller.stream 1 replies)
         × (length replies ≤ last)
         × IfOk result (λ clips. (length replies ≡ last)
-        × (entries_of (M.place map.new) clips.items ≡ kept_of (K.wants wanted.now) 1 replies)) }
+        × (entries_of (M.place map.new) clips.items ≡ wanted_of (K.wants wanted.now) 1 replies)) }
     ensures known { IfOk result (λ clips.
         AllByRecursion (IsKnown (M.place map.new)) clips.items) }
     ensures follow { IfOk result (λ clips.
@@ -44,14 +44,17 @@ pub fn live_clauses<M: ClauseMap, K: Wanted>(
         IfOk result (λ clips. caller.layout.clauses ≡ length caller.formula.clauses
         → caller.layout.clauses ≤ last → (more : List Entry)
         × (entries_of (M.place map.new) clips.items
-        ≡ wanted_of (K.wants wanted.now) caller.formula.clauses ++ more)) }
+        ≡ wanted_clauses (K.wants wanted.now) caller.formula.clauses ++ more)) }
 {
     let mut clips = Vec::new(alloc);
     for before in 0..last {
-        if let Fetched::Live(clip) = map.fetch(before + 1)
-            && wanted.wants(before + 1)
-        {
-            clips.push(clip)?;
+        match map.fetch(before + 1) {
+            Fetched::Live(clip) => {
+                if wanted.wants(before + 1) {
+                    clips.push(clip)?;
+                }
+            }
+            Fetched::Vacant | Fetched::Retired => {}
         }
     }
     Ok(clips)

@@ -9,7 +9,7 @@ ghost use Rattle.lrup_model.specs.Layout.{Fits, last_identity};
 ghost use Rattle.lrup_model.specs.Literal.{max_variable};
 ghost use Rattle.lrup_model.specs.Place.{IsKnown};
 ghost use Rattle.checkpoint.specs.Checkpoints.{IsCheckpoint, Saves};
-ghost use Rattle.checkpoint.specs.Live.{Entry, clauses_of, entries_of, fetches, kept_of, wanted_of};
+ghost use Rattle.checkpoint.specs.Live.{Entry, clauses_of, entries_of, fetches, wanted_of, wanted_clauses};
 ghost use Rattle.checkpoint.specs.Printing.{formula_text};
 
 use crate::live::{Wanted, live_clauses};
@@ -62,13 +62,13 @@ pub fn save<M: ClauseMap, K: Wanted, W: Sink>(
     // The clauses of the run's formula that are wanted come first.
     ensures keeps { let f = (M.place map.old).caller.formula in
         IfOk result (λ _. (more : List Entry) × Appends (W.written sink.old) (W.written sink.new)
-        (formula_text f.vars (wanted_of (K.wants wanted.now) f.clauses ++ more))) }
+        (formula_text f.vars (wanted_clauses (K.wants wanted.now) f.clauses ++ more))) }
     // The map's calls, and what went out.
     ensures saves { (replies : List Reply)
         × M.moves map.old map.new (fetches (M.place map.old).caller.stream 1 replies)
         × (length replies ≤ last_identity layout.now)
         × ((length replies ≡ last_identity layout.now)
-        × Saves result layout.now.vars (kept_of (K.wants wanted.now) 1 replies)
+        × Saves result layout.now.vars (wanted_of (K.wants wanted.now) 1 replies)
         (W.written sink.old) (W.written sink.new)
         ⊎ (result ≡ Err SaveFault.Memory) × (sink.new ≡ sink.old)) }
     ensures failed { IsTrue (W.has_failed sink.new) ↔ (result ≡ Err SaveFault.Unwritten) }

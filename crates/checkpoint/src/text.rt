@@ -4,8 +4,8 @@ ghost use Rattle.std.specs.Fmt.{decimal, signed_decimal};
 ghost use Rattle.std.specs.List.{AllByRecursion};
 ghost use Rattle.lrup_model.specs.Place.{IsKnown, clip_clause};
 ghost use Rattle.lrup_text.specs.Writing.{PutsAll, WritesText};
-ghost use Rattle.checkpoint.specs.Live.{entries_of};
-ghost use Rattle.checkpoint.specs.Printing.{clause_line, formula_text, header_line, note};
+ghost use Rattle.checkpoint.specs.Live.{entries_of, entry_of};
+ghost use Rattle.checkpoint.specs.Printing.{clause_line, entry_text, formula_text, header_line, note};
 
 use lrup_model::{ClauseMap, Clip, Id, Lit};
 use lrup_text::{Sink, WriteBuffer, WriteFault};
@@ -29,8 +29,7 @@ pub fn write_formula<M: ClauseMap, W: Sink>(
     let mut buffer = WriteBuffer::new();
     put_header(&mut buffer, vars, clips.len(), sink)?;
     for (before, clip) in clips.iter().enumerate() {
-        put_note(&mut buffer, clip.id(), before as u64 + 1, sink)?;
-        put_clause(&mut buffer, map, clip, sink)?;
+        put_entry(&mut buffer, map, clip, before as u64 + 1, sink)?;
     }
     buffer.flush(sink)
 }
@@ -52,6 +51,26 @@ fn put_header<W: Sink>(
     buffer.put(b" ", sink)?;
     buffer.put_number(count as u64, sink)?;
     buffer.put(b"\n", sink)
+}
+
+/// Puts the clip's clause at its place, with its note.
+fn put_entry<M: ClauseMap, W: Sink>(
+    buffer: &mut WriteBuffer,
+    map: &mut M,
+    clip: &Clip,
+    place: u64,
+    sink: &mut W,
+) -> Result<(), WriteFault>
+    requires known { IsKnown (M.place map.old) clip.now }
+    requires running { W.has_failed sink.old ≡ false }
+    ensures puts { PutsAll result (W.written sink.old) (W.written sink.new)
+        buffer.old buffer.new (entry_text place (entry_of (M.place map.old) clip.now)) }
+    ensures failed { W.has_failed sink.new ≡ is_err result }
+    ensures event { M.moves map.old map.new [] }
+    ensures stays { M.place map.new ≡ M.place map.old }
+{
+    put_note(buffer, clip.id(), place, sink)?;
+    put_clause(buffer, map, clip, sink)
 }
 
 /// Puts the note of a clause: its identity, where that isn't its place.

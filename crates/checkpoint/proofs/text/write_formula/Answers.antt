@@ -1,46 +1,47 @@
-use Rattle.std.proofs.Common.{◌++◌, ◌+◌, drop, sym, ap, ◌∙◌}
-use Rattle.lrup_model.specs.Place.{clip_clause}
+use Rattle.std.proofs.Common.{◌++◌, ◌+◌, sym, ap, ◌∙◌}
 use Rattle.lrup_text.specs.WritingLemmas.{at_err, breaks_first, breaks_next, puts_next, writes_all_next}
-use Rattle.checkpoint.specs.Printing.{clause_line}
-use Rattle.checkpoint.proofs.PrintLemmas.{breaks_from_empty, header_first, lines_text, lines_next, lines_split, lines_all, header_lines, puts_as}
+use Rattle.checkpoint.specs.Live.{entry_of}
+use Rattle.checkpoint.specs.Printing.{entry_text}
+use Rattle.checkpoint.proofs.PrintLemmas.{breaks_from_empty, header_first, header_entries, entries_next, entries_split, entries_all, later_entries, puts_as}
 use Rattle.checkpoint.proofs.text.write_formula.Goals as goal
 
 pub returns-in_err-put_header-clause-text : goal.returns-in_err-put_header-clause-text
 returns-in_err-put_header-clause-text g c =
-    let clause = clip_clause (g.M.ClauseMap.place c.args.map.now) in
+    let entry = entry_of (g.M.ClauseMap.place c.args.map.now) in
     breaks_from_empty c.from_residual.result c.new-buffer.ensures c.from_residual.ensures.0
-    (breaks_first c.in_err-put_header.ensures.puts (lines_text clause c.args.clips.now) (header_first c.args.vars clause c.args.clips.now))
+    (breaks_first c.in_err-put_header.ensures.puts (later_entries entry c.args.clips.now 0) (header_first c.args.vars entry c.args.clips.now))
 
-pub returns-in_err-put_clause-clause-text : goal.returns-in_err-put_clause-clause-text
-returns-in_err-put_clause-clause-text g c =
-    let clause = clip_clause (g.M.ClauseMap.place c.args.map.now) in
+pub returns-in_err-put_entry-clause-text : goal.returns-in_err-put_entry-clause-text
+returns-in_err-put_entry-clause-text g c =
+    let entry = entry_of (g.M.ClauseMap.place c.args.map.now) in
     let clips = c.args.clips.now in
-    let k = c.loop-clip.clip-index in
-    let line = rw c.loop-clip.invariant.stays at c.in_err-put_clause.ensures.puts in
-    let text = lines_split c.args.vars clause clips k c.clip-item.result c.loop-clip-test.true in
-    let broken = breaks_next c.loop-clip.invariant.puts line (lines_text clause (drop (k + 1) clips))
-    (text ∙ ap (λ clip. (header_lines c.args.vars clause clips k ++ clause_line (clause clip)) ++ lines_text clause (drop (k + 1) clips)) (sym c.clip-item.is)) in
-    at_err c.from_residual-in_err-put_clause.result _ _ c.from_residual-in_err-put_clause.ensures.0 (broken.went, broken.rest, broken.is, broken.appends)
+    let k = c.loop-before.before in
+    let text = rw c.loop-before.invariant.stays at c.in_err-put_entry.ensures.puts in
+    let is = entries_split c.args.vars entry clips k c.index-clips-before.result c.loop-before-test.true in
+    let broken = breaks_next c.loop-before.invariant.puts text (later_entries entry clips (k + 1))
+    (is ∙ ap (λ clip. (header_entries c.args.vars entry clips k ++ entry_text (k + 1) (entry clip)) ++ later_entries entry clips (k + 1)) (sym c.index-clips-before.is)) in
+    at_err c.from_residual-in_err-put_entry.result _ _ c.from_residual-in_err-put_entry.ensures.0 (broken.went, broken.rest, broken.is, broken.appends)
 
-pub returns-in_err-put_clause-clause-event : goal.returns-in_err-put_clause-clause-event
-returns-in_err-put_clause-clause-event g c = g.met.M.ClauseMap.moves_append _ _ _ _ _ c.loop-clip.invariant.event c.in_err-put_clause.ensures.event
+pub returns-in_err-put_entry-clause-event : goal.returns-in_err-put_entry-clause-event
+returns-in_err-put_entry-clause-event g c = g.met.M.ClauseMap.moves_append _ _ _ _ _ c.loop-before.invariant.event c.in_err-put_entry.ensures.event
 
-pub loop-clip-preserved : goal.loop-clip-preserved
-loop-clip-preserved g c =
-    let clause = clip_clause (g.M.ClauseMap.place c.args.map.now) in
+pub loop-before-preserved : goal.loop-before-preserved
+loop-before-preserved g c =
+    let entry = entry_of (g.M.ClauseMap.place c.args.map.now) in
     let clips = c.args.clips.now in
-    let k = c.loop-clip.clip-index in
-    let line = rw c.loop-clip.invariant.stays at c.in_ok-put_clause.ensures.puts in
+    let k = c.loop-before.before in
+    let text = rw c.loop-before.invariant.stays at c.in_ok-put_entry.ensures.puts in
     record {
-      running = c.in_ok-put_clause.ensures.failed;
-      puts = puts_next c.loop-clip.invariant.puts line
-          (lines_next c.args.vars clause clips k c.clip-item.result c.loop-clip-test.true ∙ ap (λ clip. header_lines c.args.vars clause clips k ++ clause_line (clause clip)) (sym c.clip-item.is));
-      event = g.met.M.ClauseMap.moves_append _ _ _ _ _ c.loop-clip.invariant.event c.in_ok-put_clause.ensures.event;
-      stays = c.in_ok-put_clause.ensures.stays ∙ c.loop-clip.invariant.stays;
+      running = c.in_ok-put_entry.ensures.failed;
+      puts = puts_next c.loop-before.invariant.puts text
+          (entries_next c.args.vars entry clips k c.index-clips-before.result c.loop-before-test.true
+          ∙ ap (λ clip. header_entries c.args.vars entry clips k ++ entry_text (k + 1) (entry clip)) (sym c.index-clips-before.is));
+      event = g.met.M.ClauseMap.moves_append _ _ _ _ _ c.loop-before.invariant.event c.in_ok-put_entry.ensures.event;
+      stays = c.in_ok-put_entry.ensures.stays ∙ c.loop-before.invariant.stays;
     }
 
 pub returns-clause-text : goal.returns-clause-text
 returns-clause-text g c =
-    let clause = clip_clause (g.M.ClauseMap.place c.args.map.now) in
-    let text = lines_all c.args.vars clause c.args.clips.now c.loop-clip.clip-index c.loop-clip-test.false in
-    writes_all_next c.flush.result _ (puts_as c.loop-clip.invariant.puts text) c.flush.ensures.text
+    let entry = entry_of (g.M.ClauseMap.place c.args.map.now) in
+    let text = entries_all c.args.vars entry c.args.clips.now c.loop-before.before c.loop-before-test.false in
+    writes_all_next c.flush.result _ (puts_as c.loop-before.invariant.puts text) c.flush.ensures.text
