@@ -39,7 +39,7 @@ reading_cause files before path reader after opened left faults.Unwritten cause 
 -- what was read of a file that was opened
 pub was_read : (files : FilesView) (before : files.State) (path : Text) (reader : files.Reader) (after : files.State) {T E : Type 0} (items : T → List ℕ) (read : Result T E)
     → files.opens before path reader after → files.reading.left reader ≡ files.tells path
-    → IfOk read (λ bytes. GaveAll files.reading.reads reader (items bytes)) → IfOk read (λ bytes. ForSome (files.reading.left reader) (λ all. all ≡ items bytes))
+    → IfOk read (λ bytes. GaveAll files.Reader files.reading.reads reader (items bytes)) → IfOk read (λ bytes. ForSome (files.reading.left reader) (λ all. all ≡ items bytes))
     → IfOk read (λ bytes. WasReadIn files before path (items bytes) after)
 was_read files before path reader after items (Ok bytes) opened left gave all =
     record { reader = reader; opened = opened; gave = gave; told = λ whole told. all whole (left ∙ told) }
