@@ -2,3 +2,4 @@ pub mod Outcomes
 pub mod ReportText
 pub mod Turns
 pub mod Working
+pub mod Saving

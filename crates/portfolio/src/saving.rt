@@ -1,27 +1,45 @@
 //! What is live after a run, saved.
 ghost use Rattle.std.specs.Prelude.{◌≡◌, ◌↔◌, ◌<◌, Err, IfOk, IsTrue, List, ℕ, false, vec_len};
 ghost use Rattle.std.specs.Io.KnownBytes.{Appends};
-ghost use Rattle.lrup_model.specs.Event.{History};
+ghost use Rattle.lrup_model.specs.Event.{History, Reply};
 ghost use Rattle.lrup_model.specs.Formula.{Cnf};
 ghost use Rattle.lrup_model.specs.Layout.{Fits};
-ghost use Rattle.lrup_model.specs.Plain.{formula_of};
+ghost use Rattle.lrup_model.specs.Plain.{PlainMoves, formula_of};
 ghost use Rattle.clause_store.specs.Passes.{AreOf, views};
 ghost use Rattle.runs.specs.Headline.{HaveOneHistory};
 ghost use Rattle.checkpoint.specs.Checkpoints.{IsCheckpoint};
+ghost use Rattle.checkpoint.specs.Live.{fetches};
+ghost use Rattle.portfolio.specs.Saving.{SavesByLast, SavesFound, is_wanted};
 
-use checkpoint::{SaveFault, save};
+use checkpoint::{SaveFault, Wanted, save};
 use clause_store::{Desk, Pass, Store};
-use lrup_model::{Layout, PlainMap};
+use lrup_model::{Id, Layout, PlainMap};
 use lrup_text::Sink;
 use std::alloc::Global;
+use stream_check::Dropped;
 
-/// Writes the formula of the clauses that are live after a run, as the last of its passes finds them. What was said of the
-/// run's history is of the passes as they were before.
+/// What not all streams dropped, where there is one.
+#[derive(Drop)]
+struct NotAllDropped<'a> {
+    dropped: &'a [Dropped],
+}
+
+impl Wanted for NotAllDropped<'_> {
+    ghost wants = { λ w. is_wanted w.dropped.now };
+
+    fn wants(&self, id: Id) -> bool {
+        self.dropped.is_empty() || self.dropped.iter().any(|one| !one.has(id))
+    }
+}
+
+/// Writes the formula of the clauses that are live after a run, as the last of its passes finds them, but for those that all
+/// streams dropped. What was said of the run's history is of the passes as they were before.
 pub fn save_live<W: Sink>(
     alloc: Global,
     store: &Store,
     layout: &Layout,
     passes: Vec<Pass>,
+    dropped: &[Dropped],
     sink: &mut W,
 ) -> Result<(), SaveFault>
     requires of { AreOf store.now passes.items }
@@ -32,6 +50,9 @@ pub fn save_live<W: Sink>(
     ensures checkpoint { (f : Cnf) (h : History)
         → HaveOneHistory f layout.now h (views passes.items) → IfOk result (λ _. (bytes : List ℕ)
         × Appends (W.written sink.old) (W.written sink.new) bytes × IsCheckpoint f bytes) }
+    // It is that of the clauses that the last pass found live, and that not all streams dropped.
+    ensures saves { SavesByLast W.written result layout.now (is_wanted dropped.now) passes.items
+        sink.old sink.new }
     ensures failed { IsTrue (W.has_failed sink.new) ↔ (result ≡ Err SaveFault.Unwritten) }
 {
     let mut passes = passes;
@@ -40,13 +61,15 @@ pub fn save_live<W: Sink>(
     };
     // The call shows that the pass is fair, and so that the layout is the formula's.
     let _ = pass.stream();
-    save(alloc, &mut Desk::new(store, pass), layout, sink)
+    let mut desk = Desk::new(store, pass);
+    save(alloc, &mut desk, layout, &NotAllDropped { dropped }, sink)
 }
 
-/// Writes the formula of the clauses that are live after a run on one thread.
+/// Writes the formula of the clauses that are live after a run on one thread, but for those that all streams dropped.
 pub fn save_plain<W: Sink>(
     alloc: Global,
     map: &mut PlainMap,
+    dropped: &[Dropped],
     sink: &mut W,
 ) -> Result<(), SaveFault>
     requires fits { Fits map.old.layout (formula_of map.old) }
@@ -55,10 +78,16 @@ pub fn save_plain<W: Sink>(
     ensures checkpoint { IfOk result (λ _. (bytes : List ℕ)
         × Appends (W.written sink.old) (W.written sink.new) bytes
         × IsCheckpoint (formula_of map.old) bytes) }
+    // It is that of the clauses that the map has live, and that not all streams dropped.
+    ensures saves { (replies : List Reply)
+        × PlainMoves map.old map.new 1 (fetches 1 1 replies)
+        × SavesFound W.written result map.old.layout (is_wanted dropped.now) replies
+        sink.old sink.new }
     ensures failed { IsTrue (W.has_failed sink.new) ↔ (result ≡ Err SaveFault.Unwritten) }
 {
     let layout = *map.layout();
     // The call shows that there is a stream.
     let _ = layout.streams();
-    save(alloc, &mut map.desk(1), &layout, sink)
+    let mut desk = map.desk(1);
+    save(alloc, &mut desk, &layout, &NotAllDropped { dropped }, sink)
 }

@@ -119,15 +119,11 @@ pub fn run<T: Threads + Wait + Sync, R: Source + Send + Drop, G: Gate + Send + D
         dropped,
     } = lists_for(alloc, jobs.len())?;
     match check_all(threads, &store, jobs, room) {
-        Ok(found) => Ok(outcome_of(
-                store, layout, found, reports, met, readers, dropped,
-            )),
+        Ok(found) => Ok(outcome_of(store, layout, found, reports, met, readers, dropped)),
         Err(ThreadFault::Spawn(stream)) => Err(RunFault::Spawn(stream)),
         Err(ThreadFault::Ring(found)) => {
             let stream = found.len() as u64 + 1;
-            let _before = outcome_of(
-                store, layout, found, reports, met, readers, dropped,
-            );
+            let _before = outcome_of(store, layout, found, reports, met, readers, dropped);
             Err(RunFault::Ring(stream))
         }
     }

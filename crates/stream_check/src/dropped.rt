@@ -23,7 +23,7 @@ impl Model for Dropped {
 }
 
 impl Dropped {
-    pub fn new(alloc: Global) -> Dropped
+    pub(crate) fn new(alloc: Global) -> Dropped
         ensures { result.ids ≡ [] }
     {
         Dropped {
@@ -31,6 +31,7 @@ impl Dropped {
         }
     }
 
+    /// Did the stream drop this identity?
     pub fn has(&self, id: Id) -> bool
         ensures { result ≡ is_among self.now.ids id }
     {
@@ -38,7 +39,7 @@ impl Dropped {
     }
 
     /// Keeps one identity more. Where there is no memory for it, nothing changes; where there is room, none is wanted.
-    pub fn add(&mut self, id: Id) -> Result<(), AllocError>
+    pub(crate) fn add(&mut self, id: Id) -> Result<(), AllocError>
         requires { is_among self.old.ids id ≡ false }
         ensures members { OnOk result
             ((j : ℕ) → is_among self.new.ids j ≡ (is_among self.old.ids j || id == j)) }
@@ -51,7 +52,7 @@ impl Dropped {
     }
 
     /// How many identities there are.
-    pub fn count(&self) -> u64
+    pub(crate) fn count(&self) -> u64
         ensures count { result ≡ length self.now.ids }
         ensures small { result < 2 ^ 63 }
     {

@@ -7,6 +7,7 @@ use checkpoint::SaveFault;
 use lrup_model::Cube;
 use portfolio::{Options, Outcome, SerialOutcome, run, run_serial, save_live, save_plain};
 use std::alloc::Global;
+use std::process::Abort;
 use std::sync::Wait;
 use std::test::Fail;
 use std::thread::Threads;
@@ -34,19 +35,44 @@ fn saved_after<'a, T: Threads + Wait + Sync>(
                 passes,
                 store,
                 layout,
+                dropped,
                 ..
             } = outcome;
             if passes.is_empty() {
                 return Err("no pass".into());
             }
-            Ok(save_live(alloc, &store, &layout, passes, paper))
+            Ok(save_live(alloc, &store, &layout, passes, &dropped, paper))
         }
         By::Turns => {
             let outcome = run_serial(rt, alloc, &formula, &cube, options, readers, gates)?;
-            let SerialOutcome { mut map, .. } = outcome;
-            Ok(save_plain(alloc, &mut map, paper))
+            let SerialOutcome {
+                mut map,
+                dropped,
+                ..
+            } = outcome;
+            Ok(save_plain(alloc, &mut map, &dropped, paper))
         }
     }
+}
+
+/// After a run of these streams, with threads and by turns, this text is saved.
+fn saves<T: Threads + Wait + Sync + Abort>(
+    rt: &T,
+    alloc: Global,
+    streams: &[&str],
+    text: &str,
+) -> Result<(), Fail> {
+    for by in BOTH {
+        let readers = readers_of(alloc, streams, 7)?;
+        let mut paper = Paper::new(alloc, 9, 0);
+        let saved = saved_after(rt, alloc, by, readers, &mut paper)?;
+        same(
+            rt,
+            (by, saved, paper.bytes.as_slice()),
+            (by, Ok(()), text.as_bytes()),
+        );
+    }
+    Ok(())
 }
 
 #[test]
@@ -58,23 +84,52 @@ fn what_is_live_is_saved(rt: HostRuntime) -> Result<(), Fail> {
         ),
         (
             ["5 2 0 1 2 0\n5 d 5 0\n", "6 -2 0 3 4 0\n"],
-            "p cnf 2 5\n1 2 0\n-1 2 0\n1 -2 0\n-1 -2 0\n-2 0\n",
+            "p cnf 2 5\n1 2 0\n-1 2 0\n1 -2 0\n-1 -2 0\nc id 6\n-2 0\n",
         ),
         (
             ["", "5 2 0 1 2 0\n"],
             "p cnf 2 4\n1 2 0\n-1 2 0\n1 -2 0\n-1 -2 0\n",
         ),
     ] {
-        for by in BOTH {
-            let readers = readers_of(rt.alloc(), &streams, 7)?;
-            let mut paper = Paper::new(rt.alloc(), 9, 0);
-            let saved = saved_after(&rt, rt.alloc(), by, readers, &mut paper)?;
-            same(
-                &rt,
-                (by, saved, paper.bytes.as_slice()),
-                (by, Ok(()), text.as_bytes()),
-            );
-        }
+        saves(&rt, rt.alloc(), &streams, text)?;
+    }
+    Ok(())
+}
+
+#[test]
+fn what_all_streams_dropped_is_left_out(rt: HostRuntime) -> Result<(), Fail> {
+    let text = "p cnf 2 4\nc id 2\n-1 2 0\nc id 3\n1 -2 0\nc id 4\n-1 -2 0\nc id 5\n2 0\n";
+    saves(&rt, rt.alloc(), &["5 2 0 1 2 0\n7 d 1 0\n"], text)?;
+    for streams in [
+        ["5 2 0 1 2 0\n5 d 1 0\n", "6 d 1 0\n"],
+        // A bad line takes back nothing of what was dropped before it.
+        ["5 2 0 1 2 0\n5 d 1 0\n", "6 d 1 0\n6 d 1 0\n"],
+    ] {
+        saves(&rt, rt.alloc(), &streams, text)?;
+    }
+    Ok(())
+}
+
+#[test]
+fn what_a_stream_keeps_stays(rt: HostRuntime) -> Result<(), Fail> {
+    for (streams, text) in [
+        // The second keeps what the first drops.
+        (
+            ["5 2 0 1 2 0\n5 d 1 0\n", ""],
+            "p cnf 2 5\n1 2 0\n-1 2 0\n1 -2 0\n-1 -2 0\n2 0\n",
+        ),
+        // Each drops another clause.
+        (
+            ["5 d 1 0\n", "6 d 2 0\n"],
+            "p cnf 2 4\n1 2 0\n-1 2 0\n1 -2 0\n-1 -2 0\n",
+        ),
+        // The second drops a clause of the first.
+        (
+            ["5 2 0 1 2 0\n", "6 -2 0 3 4 0\n6 d 5 0\n"],
+            "p cnf 2 6\n1 2 0\n-1 2 0\n1 -2 0\n-1 -2 0\n2 0\n-2 0\n",
+        ),
+    ] {
+        saves(&rt, rt.alloc(), &streams, text)?;
     }
     Ok(())
 }

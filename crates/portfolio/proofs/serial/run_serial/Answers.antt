@@ -1,4 +1,5 @@
 use Rattle.std.proofs.Common.{◌≡◌, ℕ, ◌∙◌, length, drop, refl, sym, ap, ap₂, subst, arith}
+use Rattle.std.proofs.lemmas.List.{length-map}
 use Rattle.lrup_model.specs.Layout.{LayoutValue, IsFault, Fits}
 use Rattle.lrup_model.specs.Plain.{Plain, formula_of}
 use Rattle.lrup_text.specs.ReadOut.{source_view}
@@ -7,6 +8,8 @@ use Rattle.portfolio.specs.Outcomes.{layout_of, terms_of}
 use Rattle.runs.specs.StreamLemmas.{told_as_many}
 use Rattle.runs.specs.Streams.{TermsValue, tellings}
 use Rattle.portfolio.specs.Turns.{AreOver, AreStarted, Runs}
+use Rattle.portfolio.specs.Working.{WorkerValue}
+use Rattle.stream_check.specs.DroppedValue.{DroppedValue}
 use Rattle.portfolio.proofs.CubeLemmas.{sound_under_order}
 use Rattle.portfolio.proofs.HeadlineLemmas.{is_empty, no_fault}
 use Rattle.portfolio.proofs.TurnsLemmas.{IsOpened, runs_opened, run_ordered, sound_over, streams_asked, written_back}
@@ -117,13 +120,39 @@ returns-clause-kept g c =
     let each : p.streams ≡ c.len.result = streams_asked c.args.options f c.len.result p c.in_ok-layout.ensures.layout.0 in
     let count : length firsts ≡ p.streams = omega (arith, each, c.len.ensures, c.args.readers.ok.0) in
     let terms : TermsValue = record { layout = p; cube = c.args.cube.now; tries = c.tries.result } in
-    let runs : Runs view f terms firsts m c.deref_mut.result.now =
-    subst (Runs view f terms firsts m) (sym c.deref_mut.ensures.value) (runs_opened view f terms m opened firsts c.in_ok-workers.workers.items count (subst (λ (t : TermsValue). AreStarted view t 1 firsts c.in_ok-workers.workers.items) c.new-terms.ensures c.in_ok-workers.ensures)) in
+    let runs : Runs view f terms firsts 0 m c.deref_mut.result.now =
+    subst (Runs view f terms firsts 0 m) (sym c.deref_mut.ensures.value) (runs_opened view f terms m opened firsts c.in_ok-workers.workers.items count (subst (λ (t : TermsValue). AreStarted view t 1 firsts c.in_ok-workers.workers.items) c.new-terms.ensures c.in_ok-workers.ensures)) in
     let after = (c.take_turns.ensures.runs f terms firsts runs).map_is in
     let same : p ≡ layout_of c.args.options f (length firsts) = c.in_ok-layout.ensures.layout.0 ∙ ap (layout_of c.args.options f) (c.len.ensures ∙ c.args.readers.ok.0) in (
       ap formula_of c.outcome_of.ensures.kept ∙ after.formula,
       ap (λ (n : Plain). n.layout) c.outcome_of.ensures.kept ∙ after.layout ∙ same,
     )
+
+pub returns-clause-dropped : goal.returns-clause-dropped
+returns-clause-dropped g c =
+    let f = c.args.formula.now in
+    let p = c.in_ok-layout.layout in
+    let m = c.in_ok-map.map in
+    let view = source_view g.R.Source.left g.R.Source.has_failed g.R.Source.reads in
+    let firsts = c.args.readers.items in
+    let started = c.in_ok-workers.workers in
+    let worked = c.take_turns.new.workers in
+    let opened : IsOpened f p m = record {
+      fits = c.in_ok-layout.ensures.layout.2;
+      layout = c.in_ok-map.ensures.layout;
+      formula = c.in_ok-map.ensures.formula;
+      state = c.in_ok-map.ensures.state;
+      room = c.in_ok-map.ensures.room;
+    } in
+    let each : p.streams ≡ c.len.result = streams_asked c.args.options f c.len.result p c.in_ok-layout.ensures.layout.0 in
+    let count : length firsts ≡ p.streams = omega (arith, each, c.len.ensures, c.args.readers.ok.0) in
+    let terms : TermsValue = record { layout = p; cube = c.args.cube.now; tries = c.tries.result } in
+    let runs : Runs view f terms firsts 0 m c.deref_mut.result.now =
+    subst (Runs view f terms firsts 0 m) (sym c.deref_mut.ensures.value) (runs_opened view f terms m opened firsts c.in_ok-workers.workers.items count (subst (λ (t : TermsValue). AreStarted view t 1 firsts c.in_ok-workers.workers.items) c.new-terms.ensures c.in_ok-workers.ensures)) in
+    let back = written_back started.len worked (drop (length worked) started.items) (c.take_turns.auto.workers ∙ c.deref_mut.ensures.len) in
+    let out = c.outcome_of in
+    out.result.dropped.ok.0 ∙ sym (length-map out.result.dropped.items (λ (d : DroppedValue). d.ids)) ∙ ap length out.ensures.dropped
+    ∙ length-map _ (λ (w : WorkerValue g.row.R.Denot). w.checker.dropped) ∙ ap length back ∙ (c.take_turns.ensures.runs f terms firsts runs).count ∙ sym count
 
 pub returns-clause-sound : goal.returns-clause-sound
 returns-clause-sound g c unsatisfiable =

@@ -1,4 +1,5 @@
 use Rattle.std.proofs.Common.{◌≡◌, ℕ, ◌+◌, ◌-◌, length, map, take, refl, sym, ap, ap₂, subst, ◌∙◌, arith}
+use Rattle.std.proofs.lemmas.List.{length-map}
 use Rattle.lrup_model.specs.Layout.{LayoutValue, IsFault, Fits}
 use Rattle.runs.specs.Headline.{HaveOneHistory, WereJudged, seen_by}
 use Rattle.lrup_text.specs.ReadOut.{source_view}
@@ -6,7 +7,7 @@ use Rattle.portfolio.specs.Outcomes.{layout_of, terms_of}
 use Rattle.runs.specs.StreamLemmas.{told_as_many}
 use Rattle.runs.specs.Streams.{TermsValue, tellings}
 use Rattle.stream_threads.specs.Faults.{IsFaultWithin, IsFirstFault, fault_stream}
-use Rattle.stream_threads.specs.Jobs.{AreJobs}
+use Rattle.stream_threads.specs.Jobs.{AreJobs, FoundValue}
 use Rattle.run_laws.specs.ReportLemmas.{reports_alone}
 use Rattle.portfolio.proofs.CubeLemmas.{sound_under_run}
 use Rattle.portfolio.proofs.HeadlineLemmas.{no_fault, not_layout, AreOpened, are_opened, are_ready, all_can_begin, ready_count, finish_of, finish_count, one_history, judged_by, judged_so, ready_take, were_judged, sound_run}
@@ -75,8 +76,8 @@ returns-in-Ok-clause-layout g c =
       λ bad. absurd (no_fault c.in_ok-layout.layout fault c.in_ok-layout.ensures.layout.1 (subst (λ (l : LayoutValue). IsFault l fault) (sym same) bad)),
     )
 
-pub returns-clause-layout : goal.returns-clause-layout
-returns-clause-layout g c =
+pub returns-in-Err-Ring-clause-layout : goal.returns-in-Err-Ring-clause-layout
+returns-in-Err-Ring-clause-layout g c =
     let same : c.in_ok-layout.layout ≡ layout_of c.args.options c.args.formula.now (length c.args.readers.items) =
     c.in_ok-layout.ensures.layout.0 ∙ ap (λ (n : ℕ). layout_of c.args.options c.args.formula.now n) (c.len.ensures ∙ c.args.readers.ok.0) in
     λ fault. (
@@ -105,6 +106,23 @@ returns-in-Ok-clause-history g c =
     subst (λ (l : LayoutValue). HaveOneHistory f l (seen_by vs) vs) same
     (one_history view f terms c.in_ok-store.store firsts jobs.items c.in-Ok.found.items vs
     c.in_ok-layout.ensures.layout.1 opens.layout count ready c.in-Ok.ensures.found c.outcome_of.ensures.met c.outcome_of.ensures.one)
+
+pub returns-in-Ok-clause-dropped : goal.returns-in-Ok-clause-dropped
+returns-in-Ok-clause-dropped g c =
+    let f = c.args.formula.now in
+    let p = c.in_ok-layout.layout in
+    let passes = c.in_ok-store.passes in
+    let opens = c.in_ok-store.ensures in
+    let jobs = c.in_ok-jobs.jobs in
+    let terms : TermsValue = record { layout = p; cube = c.args.cube.now; tries = c.tries.result } in
+    let view = source_view g.R.Source.left g.R.Source.has_failed g.R.Source.reads in
+    let firsts = c.args.readers.items in
+    let opened : AreOpened c.in_ok-store.store f 1 passes.items = are_opened c.in_ok-store.store f p passes.items (sym passes.ok.0 ∙ opens.count) opens.passes in
+    let ready = are_ready view c.in_ok-store.store f terms 1 firsts passes.items jobs.items (subst (λ (t : TermsValue). AreJobs t 1 c.args.readers.items c.in_ok-store.passes.items c.in_ok-jobs.jobs.items) c.new-terms.ensures c.in_ok-jobs.ensures) opened in
+    let found = c.in-Ok.found.items in
+    let out = c.outcome_of in
+    out.result.dropped.ok.0 ∙ ap length out.ensures.dropped ∙ length-map found (λ (x : FoundValue g.row.R.Denot). x.dropped)
+    ∙ finish_count view jobs.items found c.in-Ok.ensures.found ∙ ready_count view c.in_ok-store.store f terms 1 firsts jobs.items ready
 
 pub returns-in-Ok-clause-reports : goal.returns-in-Ok-clause-reports
 returns-in-Ok-clause-reports g c =
@@ -246,8 +264,13 @@ outcome_of-before-requires-clause-readers g c =
     let within = subst (IsFaultWithin c.in_ok-jobs.jobs.len) c.in-Err-Ring.field-0-is c.in-Err-Ring.ensures.fault in
     omega (arith, within.1, c.in-Err-Ring.found.ok.0, c.len-2.ensures, c.in_ok-room.ensures.readers.1)
 
-pub returns-clause-ring : goal.returns-clause-ring
-returns-clause-ring g c = λ stream e.
+pub outcome_of-before-requires-clause-dropped : goal.outcome_of-before-requires-clause-dropped
+outcome_of-before-requires-clause-dropped g c =
+    let within = subst (IsFaultWithin c.in_ok-jobs.jobs.len) c.in-Err-Ring.field-0-is c.in-Err-Ring.ensures.fault in
+    omega (arith, within.1, c.in-Err-Ring.found.ok.0, c.len-2.ensures, c.in_ok-room.ensures.dropped.1)
+
+pub returns-in-Err-Ring-clause-ring : goal.returns-in-Err-Ring-clause-ring
+returns-in-Err-Ring-clause-ring g c = λ stream e.
     let here : c.len-in-Err-Ring.result + 1 ≡ stream = cc in
     let f = c.args.formula.now in
     let p = c.in_ok-layout.layout in
@@ -266,8 +289,8 @@ returns-clause-ring g c = λ stream e.
     )
 
 -- the passes of the streams before it have met
-pub returns-clause-first : goal.returns-clause-first
-returns-clause-first g c = λ stream e.
+pub returns-in-Err-Ring-clause-first : goal.returns-in-Err-Ring-clause-first
+returns-in-Err-Ring-clause-first g c = λ stream e.
     let here : c.len-in-Err-Ring.result + 1 ≡ stream = cc in
     let f = c.args.formula.now in
     let p = c.in_ok-layout.layout in
