@@ -14,6 +14,7 @@ use Rattle.lrup_model.specs.declared.layout.LayoutFault.{LayoutFault}
 use Rattle.dimacs.specs.FormulaFault.{IsFormulaFault}
 use Rattle.dimacs.specs.FormulaText.{IsFormulaText}
 use Rattle.dimacs.specs.declared.fault.DimacsFault.TheVariants as formulas
+use Rattle.lrup_text.specs.declared.device.Sink as Sink
 use Rattle.lrup_text.specs.declared.device.Source as Source
 use Rattle.lrup_text.specs.declared.device.StreamEnd.TheVariants as stream_ends
 use Rattle.lrup_text.specs.ReadOut.{ReadOut, SourceView, source_view}
@@ -29,10 +30,13 @@ use Rattle.runs.specs.Streams.{StandsOnStreams, Stream, TermsValue, tellings}
 use Rattle.runs.specs.Turns.{IsOrderedByTurns}
 use Rattle.portfolio.specs.declared.outcome.Verdict.{Verdict}
 use Rattle.portfolio.specs.declared.outcome.Verdict.TheVariants.{Unsatisfiable, UnsatisfiableUnder, Unknown}
+use Rattle.checkpoint.specs.Checkpoints.{IsCheckpoint}
+use Rattle.checkpoint.specs.declared.saving.SaveFault.{SaveFault}
+use Rattle.checkpoint.specs.declared.saving.SaveFault.TheVariants as saves
 use Rattle.command_line.specs.CommandLine.{AskFor, HaveFault, IsCommandLineOf}
 use Rattle.command_line.specs.declared.words.CommandLine.{CommandLine}
 use Rattle.command.specs.Faults.{status_of, error_text}
-use Rattle.command.specs.declared.checking.Problem.{Problem}
+use Rattle.command.specs.declared.checking.Setup.{Setup}
 use Rattle.command.specs.declared.files.Files as Files
 use Rattle.command.specs.declared.fault.CommandFault.{CommandFault}
 use Rattle.command.specs.declared.fault.CommandFault.TheVariants as faults
@@ -59,6 +63,28 @@ NameUnsatisfiable F Read first words =
     (formula : Text) × (assume : Option Text) × (bytes : List ℕ) × (f : Cnf) × (after : F)
     × AskFor words formula assume × Read first formula bytes after × IsFormulaText bytes f
     × IsUnsatisfiable f
+
+-- A file was created at the path, with nothing in it, these bytes went to it, and it was kept.
+pub record WasSaved {F W : Type 0} (creates : F → Text → W → F → Type 0)
+    (written : W → Option (List ℕ)) (keeps : F → W → F → Type 0) (before : F) (path : Text)
+    (bytes : List ℕ) (after : F) : Type 0 where
+  pub first : W
+  pub next : F
+  pub created : creates before path first next
+  pub empty : ForSome (written first) (λ all. all ≡ [])
+  pub last : W
+  pub wrote : Appends (written first) (written last) bytes
+  pub kept : keeps next last after
+
+-- The words ask for a formula, what was read of the file at its path, the first to be opened, is a
+-- text of it, and what was saved at this path, as the last that was done to the files, is a text of
+-- a formula each clause of which follows from that one.
+abbrev pub NameCheckpoint : {F : Type 0} → (F → Text → List ℕ → F → Type 0)
+    → (F → Text → List ℕ → F → Type 0) → F → List Text → Text → F → Type 0
+NameCheckpoint {F = F} Read Save first words path last =
+    (formula : Text) × (assume : Option Text) × (bytes saved : List ℕ) × (f : Cnf)
+    × (next before : F) × AskFor words formula assume × Read first formula bytes next
+    × IsFormulaText bytes f × Save before path saved last × IsCheckpoint f saved
 
 -- what was read of the file of the assumed literals, over the variables 1 to vars; without a path
 -- there are none, and nothing is opened
@@ -91,8 +117,8 @@ layout_at given f = layout_of (options_of given) f (length given.streams)
 abbrev pub terms_given : CommandLine → CubeValue → Cnf → TermsValue
 terms_given given cube f = terms_of (options_of given) cube f (length given.streams)
 
--- the same, of a problem and so many streams
-abbrev pub terms_on : Problem → ℕ → TermsValue
+-- the same, of a setup and so many streams
+abbrev pub terms_on : Setup → ℕ → TermsValue
 terms_on p streams = terms_of p.options p.cube.now p.formula.now streams
 
 -- what the reports say of the streams: on one thread they have an order of lines, by turns; with two threads for each, each was read to its
@@ -122,29 +148,40 @@ pub record AreChecked {R : Type 0} (reading : SourceView R) (serial : Bool) (f :
 abbrev pub readers_view : {R : Type 0} → Source.Ghosts R → SourceView R
 readers_view its = source_view its.left its.has_failed its.reads
 
--- What is known of files: as what they pass from one opening to the next, and as what readers they are opened; which of these they are
--- at first; what the file at each path tells, where the device tells it, and whether a path may be refused, of which both stay; what an
--- opening does; and what is known of the readers.
+-- What is known of files: as what they pass from one call to the next, as what readers they are opened, and as what sinks they are
+-- created; which of these they are at first; what the file at each path tells, where the device tells it, and whether the opening of
+-- a path or its creation may be refused, all of which stays while files are opened; what an opening, a creation and a keeping does; and
+-- what is known of the readers and the sinks.
 pub record FilesView : Type 1 where
   pub State : Type 0
   pub Reader : Type 0
+  pub Output : Type 0
   pub first : State
   pub tells : Text → Option (List ℕ)
   pub may_refuse : Text → Bool
+  pub may_refuse_new : Text → Bool
   pub opens : State → Text → Reader → State → Type 0
+  pub creates : State → Text → Output → State → Type 0
+  pub keeps : State → Output → State → Type 0
   pub reading : SourceView Reader
+  pub written : Output → Option (List ℕ)
 
--- these, as a type of files and one of their inputs say them
-abbrev pub files_view : {F R W M : Type 0} → Files.Ghosts F R W M → Source.Ghosts R → F
-    → FilesView
-files_view {F = F} {R = R} its input first = record {
+-- these, as the types of files, of their readers and of their sinks say them
+abbrev pub files_view : {F R W M : Type 0} → Files.Ghosts F R W M → Source.Ghosts R
+    → Sink.Ghosts W → F → FilesView
+files_view {F = F} {R = R} {W = W} its input output first = record {
   State = F;
   Reader = R;
+  Output = W;
   first = first;
   tells = its.tells first;
   may_refuse = its.may_refuse first;
+  may_refuse_new = its.may_refuse_new first;
   opens = its.opens;
+  creates = its.creates;
+  keeps = its.keeps;
   reading = readers_view input;
+  written = output.written;
 }
 
 -- the same, where others were the first ones
@@ -155,6 +192,10 @@ from_first files first = record files { first = first }
 abbrev pub WasReadIn : (files : FilesView) → files.State → Text → List ℕ
     → files.State → Type 0
 WasReadIn files = WasRead files.opens files.reading.reads files.tells
+
+-- what was saved at a path, by what is known of files
+abbrev pub WasSavedIn : (files : FilesView) → files.State → Text → List ℕ → files.State → Type 0
+WasSavedIn files = WasSaved files.creates files.written files.keeps
 
 -- the formula whose text was read of the file at a path, the first to be opened, and the files after that
 abbrev pub IsFormulaAt : (files : FilesView) → Text → Cnf → files.State → Type 0
@@ -168,6 +209,10 @@ path_of path = option_map (λ p. p.now) path
 -- the path of the assumed literals that the words have, if any
 abbrev pub assumed_at : CommandLine → Option Text
 assumed_at given = path_of given.assume
+
+-- the path of the checkpoint that they ask for, if any
+abbrev pub checkpoint_at : CommandLine → Option Text
+checkpoint_at given = path_of given.checkpoint
 
 -- The files at the paths were opened as these readers, each by the opening next after the one before it: the first from the files
 -- before, the last to those after.
@@ -196,6 +241,21 @@ pub record IsOutcome (files : FilesView) (words : List Text) (reports : List Rep
   pub left : map files.reading.left readers ≡ map files.tells given.streams
   pub checked : AreChecked files.reading given.serial formula (terms_given given cube formula)
       readers reports verdict
+
+-- What a run of a formula, with this verdict, leaves as its checkpoint, and why that wasn't saved, if it wasn't. Without a path it is
+-- nothing; with 'unsatisfiable' it is a file that was created. Else it was saved, and each of its clauses follows from the formula; or it
+-- wasn't, and its file was created; only where its bytes don't lie on the device it may have been tried to keep them.
+abbrev pub LeavesCheckpoint : (files : FilesView) → Option Text → Cnf → Verdict
+    → Option SaveFault → files.State → files.State → Type 0
+LeavesCheckpoint files None f verdict unsaved before after =
+    (unsaved ≡ None) × (after ≡ before)
+LeavesCheckpoint files (Some path) f Unsatisfiable unsaved before after =
+    (unsaved ≡ None) × ((output : files.Output) × files.creates before path output after)
+LeavesCheckpoint files (Some path) f verdict None before after =
+    (bytes : List ℕ) × WasSavedIn files before path bytes after × IsCheckpoint f bytes
+LeavesCheckpoint files (Some path) f verdict (Some fault) before after =
+    (output : files.Output) × (next : files.State) × files.creates before path output next
+    × ((fault ≡ saves.Unwritten) ⊎ (after ≡ next))
 
 -- Causes. Nothing shows afterwards that memory ran out or that a thread wasn't started, so these are taken as causes whatever the
 -- files hold.
@@ -267,6 +327,12 @@ IsOpenCause {F = F} {R = R} opens may_refuse before paths (faults.NotOpened stre
 IsOpenCause opens may_refuse before paths faults.Memory = Unit {0}
 IsOpenCause opens may_refuse before paths fault = ⊥
 
+-- why the checkpoint at a path, if any, wasn't created: it was refused
+abbrev pub IsCreateCause : (Text → Bool) → Option Text → CommandFault → Type 0
+IsCreateCause may_refuse_new (Some path) faults.NotCreated = IsTrue (may_refuse_new path)
+IsCreateCause may_refuse_new (Some path) faults.Memory = Unit {0}
+IsCreateCause may_refuse_new path fault = ⊥
+
 -- why streams weren't checked: there is no layout; or there is one, and a thread wasn't started, or what it sent had no end
 abbrev pub IsRunCause : Bool → LayoutValue → CommandFault → Type 0
 IsRunCause serial p (faults.Layout fault) = IsFault p fault
@@ -278,7 +344,7 @@ IsRunCause serial p faults.Memory = Unit {0}
 IsRunCause serial p fault = ⊥
 
 -- the cause of a fault of the formula; or, of a formula that was read, of a fault of the assumed literals; or, of both that were read,
--- of a fault of the opening of the streams or of the run
+-- of a fault of the opening of the streams or of the run; or, of streams that were opened, of a fault of the checkpoint's creation
 abbrev pub IsCauseAt : FilesView → CommandLine → CommandFault → Type 0
 IsCauseAt files given fault =
     IsReadCause files given.formula.now fault
@@ -287,7 +353,10 @@ IsCauseAt files given fault =
     ⊎ ((cube : CubeValue) × (later : files.State)
     × AreAssumed (WasReadIn files) f.vars next (assumed_at given) cube later
     × (IsOpenCause files.opens files.may_refuse later given.streams fault
-    ⊎ IsRunCause given.serial (layout_at given f) fault))))
+    ⊎ IsRunCause given.serial (layout_at given f) fault
+    ⊎ ((readers : List files.Reader) × (last : files.State)
+    × AreOpened files.opens later given.streams readers last
+    × IsCreateCause files.may_refuse_new (checkpoint_at given) fault)))))
 
 -- Why there is no outcome, by the words and the files.
 abbrev pub IsCause : FilesView → List Text → CommandFault → Type 0
@@ -327,25 +396,32 @@ verdict_status Unsatisfiable = 0
 verdict_status UnsatisfiableUnder = 8
 verdict_status Unknown = 3
 
--- the status where the writing of the report failed, and where it didn't
-abbrev pub report_status : Bool → Verdict → ℕ
-report_status true verdict = status_of faults.Unwritten
-report_status false verdict = verdict_status verdict
+-- the status where the writing of the report failed, and where it didn't, with a checkpoint that wasn't saved and without one
+abbrev pub report_status : Bool → Option SaveFault → Verdict → ℕ
+report_status true unsaved verdict = status_of faults.Unwritten
+report_status false (Some fault) verdict = status_of (faults.NotSaved fault)
+report_status false None verdict = verdict_status verdict
 
 -- what standard error says then
-abbrev pub SaysOfReport : Bool → SinkChange → Type 0
-SaysOfReport true err = SinkTook err (error_text faults.Unwritten)
-SaysOfReport false err = IsUntouched err
+abbrev pub SaysOfReport : Bool → Option SaveFault → SinkChange → Type 0
+SaysOfReport true (Some fault) err =
+    SinkTook err (error_text (faults.NotSaved fault) ++ error_text faults.Unwritten)
+SaysOfReport true None err = SinkTook err (error_text faults.Unwritten)
+SaysOfReport false (Some fault) err = SinkTook err (error_text (faults.NotSaved fault))
+SaysOfReport false None err = IsUntouched err
 
--- The program ends with a report.
-pub record EndsWithReport (files : FilesView) (words : List Text)
+-- The program ends with a report, and leaves these files.
+pub record EndsWithReport (files : FilesView) (words : List Text) (after : files.State)
     (out err : SinkChange) (status : ℕ) : Type 0 where
   pub reports : List Report
   pub verdict : Verdict
   pub outcome : IsOutcome files words reports verdict
+  pub unsaved : Option SaveFault
+  pub checkpoint : LeavesCheckpoint files (checkpoint_at outcome.given) outcome.formula verdict
+      unsaved outcome.last after
   pub printed : SinkTook out (report_text reports verdict)
-  pub said : SaysOfReport out.failed err
-  pub status_is : status ≡ report_status out.failed verdict
+  pub said : SaysOfReport out.failed unsaved err
+  pub status_is : status ≡ report_status out.failed unsaved verdict
 
 -- The program ends without one, and says why.
 pub record EndsWithFault (files : FilesView) (words : List Text)

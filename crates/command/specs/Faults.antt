@@ -1,6 +1,8 @@
--- Why the program ends without a report: what it says of that, and its status (this project's own).
+-- Why the program ends without a report, or without its checkpoint: what it says of that, and its status (this project's own).
 use Rattle.std.specs.Prelude.{ℕ, List, ◌++◌, codes, Option}
 use Rattle.std.specs.Fmt.{decimal}
+use Rattle.checkpoint.specs.declared.saving.SaveFault.{SaveFault}
+use Rattle.checkpoint.specs.declared.saving.SaveFault.TheVariants as saves
 use Rattle.command_line.specs.declared.words.WordsFault.{WordsFault}
 use Rattle.command_line.specs.declared.words.WordsFault.TheVariants as words
 use Rattle.dimacs.specs.declared.fault.DimacsFault.{DimacsFault}
@@ -65,6 +67,8 @@ status_of (faults.NotStarted stream) = 6
 status_of (faults.Ring stream) = 6
 status_of faults.Memory = 6
 status_of faults.Unwritten = 7
+status_of faults.NotCreated = 5
+status_of (faults.NotSaved fault) = 9
 
 -- What is said: a usage fault in the words of the command line's reader, each other fault in one line.
 abbrev pub formula_fault_text : DimacsFault → List ℕ
@@ -87,6 +91,11 @@ cube_fault_text cubes.TooLong = codes "assumptions refused: too long"
 cube_fault_text cubes.Range = codes "assumptions refused: variable out of range"
 cube_fault_text cubes.Memory = codes "out of memory"
 
+abbrev pub save_fault_text : SaveFault → List ℕ
+save_fault_text saves.Memory = codes "checkpoint not written: out of memory"
+save_fault_text saves.TooLarge = codes "checkpoint refused: limit"
+save_fault_text saves.Unwritten = codes "checkpoint not written"
+
 abbrev pub cause_text : CommandFault → List ℕ
 cause_text (faults.Usage text) = text
 cause_text faults.Unread = codes "cannot read formula"
@@ -99,6 +108,8 @@ cause_text (faults.NotStarted stream) = codes "worker " ++ decimal stream ++ cod
 cause_text (faults.Ring stream) = codes "ring of stream " ++ decimal stream
 cause_text faults.Memory = codes "out of memory"
 cause_text faults.Unwritten = codes "cannot write report"
+cause_text faults.NotCreated = codes "cannot create checkpoint"
+cause_text (faults.NotSaved fault) = save_fault_text fault
 
 -- a line of the program's
 abbrev pub error_line : List ℕ → List ℕ

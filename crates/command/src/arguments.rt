@@ -4,10 +4,11 @@ ghost use Rattle.std.specs.IoError.{error_kind};
 ghost use Rattle.std.specs.Process.{exit_status};
 ghost use Rattle.std.specs.Vec.Iter.{into_iter_items};
 ghost use Rattle.clap.specs.Walk.{texts};
-ghost use Rattle.command_line.specs.CommandLine.{HaveFault};
+ghost use Rattle.command_line.specs.CommandLine.{AskToSave, HaveFault};
 ghost use Rattle.command.specs.Arguments.{EndsWithoutArguments, not_utf8, refusal_status, refusal_text};
 ghost use Rattle.command.specs.Arguments.{words_after_name};
-ghost use Rattle.command.specs.Commands.{EndsWithFault, EndsWithReport, NameUnsatisfiable, NameUnsatisfiableUnder};
+ghost use Rattle.command.specs.Commands.{EndsWithFault, EndsWithReport, NameCheckpoint, NameUnsatisfiable};
+ghost use Rattle.command.specs.Commands.{NameUnsatisfiableUnder, Text, WasSaved};
 ghost use Rattle.command.specs.Commands.{SinkTook, WasRead, change, files_view};
 
 use crate::fault::CommandFault;
@@ -52,12 +53,19 @@ pub fn command_with_arguments<
         → IsOkAnd arguments (λ given.
         NameUnsatisfiableUnder _ read files.old (words_after_name given)) }
     // A report of what the words and the files come to, or none and the cause; what goes out; and the status.
-    ensures ends { let view = files_view F.Files F.Input.Source files.old in
+    ensures ends { let view = files_view F.Files F.Input.Source F.Output.Sink files.old in
         let output = change (O.written out.old) (O.written out.new) (O.has_failed out.new) in
         let errors = change (E.written err.old) (E.written err.new) (E.has_failed err.new) in
         IfOk arguments (λ given.
-        EndsWithReport view (words_after_name given) output errors (exit_status result)
+        EndsWithReport view (words_after_name given) files.new output errors (exit_status result)
         ⊎ EndsWithFault view (words_after_name given) output errors (exit_status result)) }
+    // With status 3 or 8, where the words ask for a checkpoint, what was saved there is a text of a formula each clause of which
+    // follows from that of FORMULA.
+    ensures saved { let read = WasRead F.opens F.Input.Source.reads (F.tells files.old) in
+        let save = WasSaved F.creates F.Output.Sink.written F.keeps in
+        IfOk arguments (λ given. (path : Text) → AskToSave (words_after_name given) path
+        → (exit_status result ≡ 3) ⊎ (exit_status result ≡ 8)
+        → NameCheckpoint read save files.old (words_after_name given) path files.new) }
     // No arguments, and the cause.
     ensures refused { IfErr arguments (λ error. EndsWithoutArguments (error_kind error)
         (change (O.written out.old) (O.written out.new) (O.has_failed out.new))
@@ -94,11 +102,15 @@ fn with_words<T: Threads + Wait + Sync, C: Clock + Sync, F: Files, O: Sink, E: S
         result ≡ 0 → NameUnsatisfiable _ read files.old (words_after_name arguments) }
     ensures sound_under { let read = WasRead F.opens F.Input.Source.reads (F.tells files.old) in
         result ≡ 8 → NameUnsatisfiableUnder _ read files.old (words_after_name arguments) }
-    ensures ends { let view = files_view F.Files F.Input.Source files.old in
+    ensures ends { let view = files_view F.Files F.Input.Source F.Output.Sink files.old in
         let output = change (O.written out.old) (O.written out.new) (O.has_failed out.new) in
         let errors = change (E.written err.old) (E.written err.new) (E.has_failed err.new) in
-        EndsWithReport view (words_after_name arguments) output errors result
+        EndsWithReport view (words_after_name arguments) files.new output errors result
         ⊎ EndsWithFault view (words_after_name arguments) output errors result }
+    ensures saved { let read = WasRead F.opens F.Input.Source.reads (F.tells files.old) in
+        let save = WasSaved F.creates F.Output.Sink.written F.keeps in
+        (path : Text) → AskToSave (words_after_name arguments) path → (result ≡ 3) ⊎ (result ≡ 8)
+        → NameCheckpoint read save files.old (words_after_name arguments) path files.new }
     ensures usage { HaveFault (words_after_name arguments) → (result ≡ 2) ⊎ (result ≡ 6) }
     ensures unwritten { IsTrue (O.has_failed out.new) ↔ (result ≡ 7) }
 {

@@ -12,18 +12,22 @@ ghost use Rattle.lrup_model.specs.Formula.{Cnf};
 ghost use Rattle.lrup_text.specs.Reads.{GaveAll};
 ghost use Rattle.command.specs.Commands.{AreAssumed, AreChecked, AreOpened, IsAssumeCause, IsCause, IsFailedRead};
 ghost use Rattle.command.specs.Commands.{IsFileCause, IsOpenCause, IsOutcome, IsRunCause, Text, WasRead, WasReadIn};
-ghost use Rattle.command.specs.Commands.{assumed_at, files_view, from_first, path_of, readers_view, terms_on};
+ghost use Rattle.command.specs.Commands.{IsCreateCause, LeavesCheckpoint, assumed_at, checkpoint_at, files_view, from_first};
+ghost use Rattle.command.specs.Commands.{path_of, readers_view, terms_on};
+ghost use Rattle.command.specs.Saving.{IsCreated, IsKept, IsWritten, to_write};
 ghost use Rattle.command.specs.Faults.{of_cube_file};
 ghost use Rattle.stream_check.specs.Setting.{max_tries};
 
 use crate::fault::CommandFault;
 use crate::files::{Files, OpenFault};
+use checkpoint::SaveFault;
 use command_line::{CommandLine, read_words};
 use dimacs::DimacsFault;
 use lrup_model::{Cube, Formula};
-use lrup_text::{Source, read_cube};
+use lrup_text::{Source, WriteFault, read_cube};
 use portfolio::{
-    Options, Outcome, Pause, SerialOutcome, TurnWatch, Verdict, Watch, run, run_serial,
+    Options, Outcome, Pause, SerialOutcome, TurnWatch, Verdict, Watch, run, run_serial, save_live,
+    save_plain,
 };
 use std::alloc::{AllocError, Global};
 use std::sync::Wait;
@@ -34,13 +38,15 @@ use stream_check::Report;
 /// How many bytes of a file are read at a time, at most.
 const PIECE: usize = 1 << 16;
 
-/// What a run found.
+/// What a run found, and what it made of its checkpoint.
 #[derive(Drop)]
 pub struct RunResult {
     /// What is said of each stream, in order.
     pub reports: Vec<Report>,
     /// What the reports come to.
     pub verdict: Verdict,
+    /// Why the checkpoint wasn't saved, where one was to be.
+    pub unsaved: Option<SaveFault>,
 }
 
 /// A command line, and what was read of the formula's file.
@@ -60,20 +66,22 @@ pub fn read_asked<'a, W: Wait, F: Files>(
     files: &mut F,
 ) -> Result<Asked<'a>, CommandFault>
     ensures line { IfOk result (λ asked. IsCommandLineOf (texts words.now) asked.line) }
-    ensures bytes { let view = files_view F.Files F.Input.Source files.old in
+    ensures bytes { let view = files_view F.Files F.Input.Source F.Output.Sink files.old in
         IfOk result (λ asked. WasReadIn view files.old
         asked.line.formula.now asked.formula.items files.new) }
-    ensures cause { let view = files_view F.Files F.Input.Source files.old in
+    ensures cause { let view = files_view F.Files F.Input.Source F.Output.Sink files.old in
         IfErr result (IsCause view (texts words.now)) }
     ensures stays { F.tells files.new ≡ F.tells files.old }
     ensures stays_refused { F.may_refuse files.new ≡ F.may_refuse files.old }
+    ensures stays_refused_new { F.may_refuse_new files.new ≡ F.may_refuse_new files.old }
 {
     let line = read_words(alloc, words)?;
     let formula = read_file(wait, alloc, files, line.formula)?;
     Ok(Asked { line, formula })
 }
 
-/// Parses the formula, reads the assumed literals, and opens and checks the streams. It blocks while a file does.
+/// Parses the formula, reads the assumed literals, opens the streams, creates the checkpoint's file if there is to be one, checks the
+/// streams, and saves the checkpoint unless one of them refuted the formula. It blocks while a file does.
 pub fn check_asked<T: Threads + Wait + Sync, C: Clock + Sync, F: Files>(
     threads: &T,
     clock: &C,
@@ -83,10 +91,12 @@ pub fn check_asked<T: Threads + Wait + Sync, C: Clock + Sync, F: Files>(
 ) -> Result<RunResult, CommandFault>
     requires tries { asked.line.tries ≤ max_tries }
     ensures outcome { (words : List Text) (first : F) →
-        let view = from_first (files_view F.Files F.Input.Source files.old) first in
+        let view = from_first (files_view F.Files F.Input.Source F.Output.Sink files.old) first in
         IsCommandLineOf words asked.entry.line
         → WasReadIn view first asked.entry.line.formula.now asked.entry.formula.items files.old
-        → IfOk result (λ found. IsOutcome view words found.reports.items found.verdict) }
+        → IfOk result (λ found. (outcome : IsOutcome view words found.reports.items found.verdict)
+        × LeavesCheckpoint view (checkpoint_at outcome.given) outcome.formula found.verdict
+        found.unsaved outcome.last files.new) }
     ensures sound { IfOk result (λ found. found.verdict ≡ Verdict.Unsatisfiable
         → (f : Cnf) × IsFormulaText asked.entry.formula.items f × IsUnsatisfiable f) }
     ensures sound_under { let read = WasRead F.opens F.Input.Source.reads (F.tells files.old) in
@@ -96,7 +106,7 @@ pub fn check_asked<T: Threads + Wait + Sync, C: Clock + Sync, F: Files>(
         × AreAssumed read f.vars files.old (assumed_at asked.entry.line) cube after
         × IsUnsatisfiableUnder f cube) }
     ensures cause { (words : List Text) (first : F) →
-        let view = from_first (files_view F.Files F.Input.Source files.old) first in
+        let view = from_first (files_view F.Files F.Input.Source F.Output.Sink files.old) first in
         IsCommandLineOf words asked.entry.line
         → WasReadIn view first asked.entry.line.formula.now asked.entry.formula.items files.old
         → IfErr result (IsCause view words) }
@@ -109,13 +119,26 @@ pub fn check_asked<T: Threads + Wait + Sync, C: Clock + Sync, F: Files>(
     let cube = read_assumed(threads, alloc, files, line.assume, &formula)?;
     let options = Options::new(line.tries, line.lines, line.room).unwrap();
     let readers = open_streams(alloc, files, line.streams.as_slice())?;
-    let problem = Problem {
+    let output = create_checkpoint(files, line.checkpoint)?;
+    let setup = Setup {
         formula: &formula,
         cube: &cube,
         options,
+        serial: line.serial,
     };
     let watched = line.watch.then_some(&*files);
-    check_streams(threads, clock, alloc, &problem, line.serial, watched, readers)
+    let checked = check_streams(threads, clock, alloc, &setup, watched, readers, output)?;
+    let Checked {
+        reports,
+        verdict,
+        saved,
+    } = checked;
+    let unsaved = keep_checkpoint(files, saved);
+    Ok(RunResult {
+        reports,
+        verdict,
+        unsaved,
+    })
 }
 
 /// Parses a formula, and gives the memory of its text back.
@@ -135,13 +158,14 @@ fn read_assumed<W: Wait, F: Files>(
     path: Option<&str>,
     formula: &Formula,
 ) -> Result<Cube, CommandFault>
-    ensures cube { let view = files_view F.Files F.Input.Source files.old in
+    ensures cube { let view = files_view F.Files F.Input.Source F.Output.Sink files.old in
         IfOk result (λ cube. AreAssumed (WasReadIn view) formula.now.vars files.old
         (path_of path.entry) cube files.new) }
-    ensures cause { let view = files_view F.Files F.Input.Source files.old in
+    ensures cause { let view = files_view F.Files F.Input.Source F.Output.Sink files.old in
         IfErr result (IsAssumeCause view formula.now.vars files.old (path_of path.entry)) }
     ensures stays { F.tells files.new ≡ F.tells files.old }
     ensures stays_refused { F.may_refuse files.new ≡ F.may_refuse files.old }
+    ensures stays_refused_new { F.may_refuse_new files.new ≡ F.may_refuse_new files.old }
 {
     match path {
         None => Ok(Cube::empty(alloc)),
@@ -157,13 +181,14 @@ fn read_cube_at<W: Wait, F: Files>(
     path: &str,
     formula: &Formula,
 ) -> Result<Cube, CommandFault>
-    ensures cube { let view = files_view F.Files F.Input.Source files.old in
+    ensures cube { let view = files_view F.Files F.Input.Source F.Output.Sink files.old in
         IfOk result (λ cube. AreAssumed (WasReadIn view) formula.now.vars files.old
         (Some path.now) cube files.new) }
-    ensures cause { let view = files_view F.Files F.Input.Source files.old in
+    ensures cause { let view = files_view F.Files F.Input.Source F.Output.Sink files.old in
         IfErr result (IsAssumeCause view formula.now.vars files.old (Some path.now)) }
     ensures stays { F.tells files.new ≡ F.tells files.old }
     ensures stays_refused { F.may_refuse files.new ≡ F.may_refuse files.old }
+    ensures stays_refused_new { F.may_refuse_new files.new ≡ F.may_refuse_new files.old }
 {
     match read_file(wait, alloc, files, path) {
         Ok(bytes) => Ok(read_cube(alloc, &bytes, formula.vars())?),
@@ -188,13 +213,14 @@ fn read_file<W: Wait, F: Files>(
     files: &mut F,
     path: &str,
 ) -> Result<Vec<u8>, CommandFault>
-    ensures bytes { let view = files_view F.Files F.Input.Source files.old in
+    ensures bytes { let view = files_view F.Files F.Input.Source F.Output.Sink files.old in
         IfOk result (λ bytes.
         WasReadIn view files.old path.now bytes.items files.new) }
-    ensures cause { let view = files_view F.Files F.Input.Source files.old in
+    ensures cause { let view = files_view F.Files F.Input.Source F.Output.Sink files.old in
         IfErr result (IsFileCause view files.old path.now) }
     ensures stays { F.tells files.new ≡ F.tells files.old }
     ensures stays_refused { F.may_refuse files.new ≡ F.may_refuse files.old }
+    ensures stays_refused_new { F.may_refuse_new files.new ≡ F.may_refuse_new files.old }
 {
     let mut source = files.open(path)?;
     read_all(wait, alloc, &mut source, PIECE)
@@ -241,6 +267,7 @@ fn open_streams<F: Files>(
         AllByRecursion (λ r. F.Input.Source.has_failed r ≡ false) readers.items) }
     ensures cause { IfErr result
         (IsOpenCause F.opens (F.may_refuse files.old) files.old (texts paths.now)) }
+    ensures stays_refused_new { F.may_refuse_new files.new ≡ F.may_refuse_new files.old }
 {
     let mut readers = Vec::with_capacity(alloc, paths.len())?;
     for path in paths {
@@ -255,36 +282,87 @@ fn open_streams<F: Files>(
     Ok(readers)
 }
 
-/// What streams are checked by.
+/// Creates the checkpoint's file, if there is to be one.
+fn create_checkpoint<F: Files>(
+    files: &mut F,
+    path: Option<&str>,
+) -> Result<Option<F::Output>, CommandFault>
+    ensures created { IfOk result (λ output. IsCreated F.creates F.Output.Sink.written files.old
+        (path_of path.entry) output files.new) }
+    ensures running { IfOk result (λ output.
+        ForSome output (λ sink. F.Output.Sink.has_failed sink ≡ false)) }
+    ensures cause { IfErr result (IsCreateCause (F.may_refuse_new files.old) (path_of path.entry)) }
+{
+    let Some(path) = path else {
+        return Ok(None);
+    };
+    match files.create(path) {
+        Ok(output) => Ok(Some(output)),
+        Err(OpenFault::NotOpened) => Err(CommandFault::NotCreated),
+        Err(OpenFault::Memory) => Err(CommandFault::Memory),
+    }
+}
+
+/// Keeps the checkpoint's file, where a checkpoint was written to it, and says why there is none.
+fn keep_checkpoint<F: Files>(
+    files: &mut F,
+    saved: Result<Option<F::Output>, SaveFault>,
+) -> Option<SaveFault>
+    ensures { IsKept F.keeps files.old saved result files.new }
+{
+    match saved {
+        Ok(None) => None,
+        Ok(Some(output)) => match files.keep(output) {
+            Ok(()) => None,
+            Err(WriteFault) => Some(SaveFault::Unwritten),
+        },
+        Err(fault) => Some(fault),
+    }
+}
+
+/// What streams are checked by, and whether by turns on one thread.
 #[derive(Clone, Copy)]
-struct Problem<'a> {
+struct Setup<'a> {
     formula: &'a Formula,
     cube: &'a Cube,
     options: Options,
+    serial: bool,
 }
 
-/// Checks the streams, by turns on this thread or each in two threads of its own. Where they are watched, the watchers are of these
-/// files.
+/// What the checking of the streams found, and what it made of the checkpoint's file: one to be kept, where a checkpoint was written
+/// to it.
+#[derive(Drop)]
+struct Checked<W: Drop> {
+    reports: Vec<Report>,
+    verdict: Verdict,
+    saved: Result<Option<W>, SaveFault>,
+}
+
+/// Checks the streams, by turns on this thread or each in two threads of its own, and writes a checkpoint to its file, if there is
+/// one. Where they are watched, the watchers are of these files.
 fn check_streams<T: Threads + Wait + Sync, C: Clock + Sync, F: Files>(
     threads: &T,
     clock: &C,
     alloc: Global,
-    problem: &Problem<'_>,
-    serial: bool,
+    setup: &Setup<'_>,
     watched: Option<&F>,
     readers: Vec<F::Input>,
-) -> Result<RunResult, CommandFault>
+    output: Option<F::Output>,
+) -> Result<Checked<F::Output>, CommandFault>
     requires running { AllByRecursion (λ r. F.Input.Source.has_failed r ≡ false) readers.items }
-    ensures checked { let terms = terms_on problem.now (length readers.items) in
-        IfOk result (λ found. AreChecked (readers_view F.Input.Source) serial
-        problem.now.formula.now terms readers.items found.reports.items found.verdict) }
-    ensures cause { let terms = terms_on problem.now (length readers.items) in
-        IfErr result (IsRunCause serial terms.layout) }
+    requires created { ForSome output (λ sink. F.Output.Sink.has_failed sink ≡ false) }
+    ensures checked { let terms = terms_on setup.now (length readers.items) in
+        IfOk result (λ found. AreChecked (readers_view F.Input.Source) setup.now.serial
+        setup.now.formula.now terms readers.items found.reports.items found.verdict) }
+    ensures written { IfOk result (λ found. IsWritten F.Output.Sink.written setup.now.formula.now
+        found.verdict output found.saved) }
+    ensures cause { let terms = terms_on setup.now (length readers.items) in
+        IfErr result (IsRunCause setup.now.serial terms.layout) }
 {
-    if serial {
-        check_serially(threads, clock, alloc, problem, watched, readers)
+    if setup.serial {
+        check_serially(threads, clock, alloc, setup, watched, readers, output)
     } else {
-        check_in_threads(threads, clock, alloc, problem, watched, readers)
+        check_in_threads(threads, clock, alloc, setup, watched, readers, output)
     }
 }
 
@@ -293,31 +371,44 @@ fn check_serially<W: Wait, C: Clock + Sync, F: Files>(
     wait: &W,
     clock: &C,
     alloc: Global,
-    problem: &Problem<'_>,
+    setup: &Setup<'_>,
     watched: Option<&F>,
     readers: Vec<F::Input>,
-) -> Result<RunResult, CommandFault>
+    output: Option<F::Output>,
+) -> Result<Checked<F::Output>, CommandFault>
     requires running { AllByRecursion (λ r. F.Input.Source.has_failed r ≡ false) readers.items }
-    ensures checked { let terms = terms_on problem.now (length readers.items) in
+    requires created { ForSome output (λ sink. F.Output.Sink.has_failed sink ≡ false) }
+    ensures checked { let terms = terms_on setup.now (length readers.items) in
         IfOk result (λ found. AreChecked (readers_view F.Input.Source) true
-        problem.now.formula.now terms readers.items found.reports.items found.verdict) }
-    ensures cause { let terms = terms_on problem.now (length readers.items) in
+        setup.now.formula.now terms readers.items found.reports.items found.verdict) }
+    ensures written { IfOk result (λ found. IsWritten F.Output.Sink.written setup.now.formula.now
+        found.verdict output found.saved) }
+    ensures cause { let terms = terms_on setup.now (length readers.items) in
         IfErr result (IsRunCause true terms.layout) }
 {
-    let Problem {
-        formula,
-        cube,
-        options,
-    } = *problem;
     let gates = turn_gates(alloc, clock, watched, readers.len())?;
-    let outcome = run_serial(wait, alloc, formula, cube, options, readers, gates)?;
+    let outcome = run_serial(
+        wait, alloc, setup.formula, setup.cube, setup.options, readers, gates,
+    )?;
     let SerialOutcome {
         reports,
         verdict,
-        map: _,
+        mut map,
         readers: _,
+        dropped,
     } = outcome;
-    Ok(RunResult { reports, verdict })
+    let saved = match to_write(verdict, output) {
+        None => Ok(None),
+        Some(mut sink) => match save_plain(alloc, &mut map, &dropped, &mut sink) {
+            Ok(()) => Ok(Some(sink)),
+            Err(fault) => Err(fault),
+        },
+    };
+    Ok(Checked {
+        reports,
+        verdict,
+        saved,
+    })
 }
 
 /// Checks the streams, each in two threads of its own.
@@ -325,33 +416,58 @@ fn check_in_threads<T: Threads + Wait + Sync, C: Clock + Sync, F: Files>(
     threads: &T,
     clock: &C,
     alloc: Global,
-    problem: &Problem<'_>,
+    setup: &Setup<'_>,
     watched: Option<&F>,
     readers: Vec<F::Input>,
-) -> Result<RunResult, CommandFault>
+    output: Option<F::Output>,
+) -> Result<Checked<F::Output>, CommandFault>
     requires running { AllByRecursion (λ r. F.Input.Source.has_failed r ≡ false) readers.items }
-    ensures checked { let terms = terms_on problem.now (length readers.items) in
+    requires created { ForSome output (λ sink. F.Output.Sink.has_failed sink ≡ false) }
+    ensures checked { let terms = terms_on setup.now (length readers.items) in
         IfOk result (λ found. AreChecked (readers_view F.Input.Source) false
-        problem.now.formula.now terms readers.items found.reports.items found.verdict) }
-    ensures cause { let terms = terms_on problem.now (length readers.items) in
+        setup.now.formula.now terms readers.items found.reports.items found.verdict) }
+    ensures written { IfOk result (λ found. IsWritten F.Output.Sink.written setup.now.formula.now
+        found.verdict output found.saved) }
+    ensures cause { let terms = terms_on setup.now (length readers.items) in
         IfErr result (IsRunCause false terms.layout) }
 {
-    let Problem {
-        formula,
-        cube,
-        options,
-    } = *problem;
     let gates = thread_gates(alloc, clock, watched, readers.len())?;
-    let outcome = run(threads, alloc, formula, cube, options, readers, gates)?;
+    let outcome = run(
+        threads, alloc, setup.formula, setup.cube, setup.options, readers, gates,
+    )?;
     let Outcome {
         reports,
         verdict,
-        passes: _,
-        store: _,
-        layout: _,
+        passes,
+        store,
+        layout,
         readers: _,
+        dropped,
     } = outcome;
-    Ok(RunResult { reports, verdict })
+    let saved = match to_write(verdict, output) {
+        None => Ok(None),
+        Some(mut sink) => {
+            match save_live(alloc, &store, &layout, passes, &dropped, &mut sink) {
+                Ok(()) => Ok(Some(sink)),
+                Err(fault) => Err(fault),
+            }
+        }
+    };
+    Ok(Checked {
+        reports,
+        verdict,
+        saved,
+    })
+}
+
+/// The checkpoint's file, where there is one and a checkpoint is to be written to it.
+fn to_write<W: Drop>(verdict: Verdict, output: Option<W>) -> Option<W>
+    ensures { result ≡ to_write verdict output }
+{
+    match verdict {
+        Verdict::Unsatisfiable => None,
+        Verdict::UnsatisfiableUnder | Verdict::Unknown => output,
+    }
 }
 
 /// A gate for each of so many streams that are checked in threads. Where they are watched, each tells on a watcher of its own.

@@ -1,12 +1,13 @@
-//! Why there is no report, what is said of it, and the status.
+//! Why there is no report or no checkpoint, what is said of it, and the status.
 ghost use Rattle.std.specs.Prelude.{◌≡◌, [], Some, false, is_err};
 ghost use Rattle.lrup_text.specs.Writing.{PutsAll, WritesText};
 ghost use Rattle.lrup_model.specs.Layout.{layout_fault_text};
 ghost use Rattle.command.specs.Faults.{cause_bytes, cause_text, cube_fault_text, formula_fault_text, error_line};
-ghost use Rattle.command.specs.Faults.{status_of, error_text};
+ghost use Rattle.command.specs.Faults.{error_text, save_fault_text, status_of};
 ghost use Rattle.stream_check.specs.Faults.{number_text};
 
 use crate::files::OpenFault;
+use checkpoint::SaveFault;
 use command_line::{UsageText, WordsFault};
 use dimacs::DimacsFault;
 use lrup_model::LayoutFault;
@@ -14,7 +15,7 @@ use lrup_text::{CubeFault, ReadFault, Sink, WriteBuffer, WriteFault, write_all};
 use portfolio::RunFault;
 use std::alloc::AllocError;
 
-/// Why there is no report, or not all of it.
+/// Why there is no report, or not all of it, or no checkpoint.
 #[derive(Debug, Drop)]
 pub enum CommandFault {
     /// The words have a mistake, or ask for help.
@@ -39,6 +40,10 @@ pub enum CommandFault {
     Memory,
     /// The report wasn't written to its end.
     Unwritten,
+    /// The checkpoint's file wasn't created.
+    NotCreated,
+    /// The checkpoint wasn't saved.
+    NotSaved(SaveFault),
 }
 
 impl From<AllocError> for CommandFault {
@@ -140,8 +145,10 @@ impl CommandFault {
             | CommandFault::Layout(LayoutFault::BadStreamCount | LayoutFault::RowTooLong) => 2,
             CommandFault::Refused(_) | CommandFault::CubeRefused(_) | CommandFault::Layout(_) => 4,
             CommandFault::Unread | CommandFault::CubeUnread | CommandFault::NotOpened(_) => 5,
+            CommandFault::NotCreated => 5,
             CommandFault::NotStarted(_) | CommandFault::Ring(_) | CommandFault::Memory => 6,
             CommandFault::Unwritten => 7,
+            CommandFault::NotSaved(_) => 9,
         }
     }
 
@@ -178,6 +185,8 @@ impl CommandFault {
             CommandFault::Ring(stream) => Cause::numbered(b"ring of stream ", *stream),
             CommandFault::Memory => Cause::plain(b"out of memory"),
             CommandFault::Unwritten => Cause::plain(b"cannot write report"),
+            CommandFault::NotCreated => Cause::plain(b"cannot create checkpoint"),
+            CommandFault::NotSaved(fault) => save_cause(*fault),
         }
     }
 }
@@ -259,6 +268,17 @@ fn layout_cause(fault: LayoutFault) -> Cause<'static>
         }
         LayoutFault::BadStreamCount => Cause::plain(b"stream count"),
         LayoutFault::RowTooLong => Cause::plain(b"row too long"),
+    }
+}
+
+/// Why the checkpoint wasn't saved.
+fn save_cause(fault: SaveFault) -> Cause<'static>
+    ensures { cause_bytes result.text.now result.number result.rest.now ≡ save_fault_text fault }
+{
+    match fault {
+        SaveFault::Memory => Cause::plain(b"checkpoint not written: out of memory"),
+        SaveFault::TooLarge => Cause::plain(b"checkpoint refused: limit"),
+        SaveFault::Unwritten => Cause::plain(b"checkpoint not written"),
     }
 }
 

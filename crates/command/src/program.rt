@@ -6,9 +6,9 @@ ghost use Rattle.lrup_model.specs.Cube.{CubeValue, IsUnsatisfiableUnder};
 ghost use Rattle.lrup_model.specs.Entailment.{IsUnsatisfiable};
 ghost use Rattle.lrup_model.specs.Formula.{Cnf};
 ghost use Rattle.portfolio.specs.ReportText.{report_text};
-ghost use Rattle.command_line.specs.CommandLine.{HaveFault, IsCommandLineOf};
-ghost use Rattle.command.specs.Commands.{AreAssumed, EndsWithFault, EndsWithReport, NameUnsatisfiable};
-ghost use Rattle.command.specs.Commands.{NameUnsatisfiableUnder, SaysOfReport, SinkTook, Text, WasRead, WasReadIn};
+ghost use Rattle.command_line.specs.CommandLine.{AskToSave, HaveFault, IsCommandLineOf};
+ghost use Rattle.command.specs.Commands.{AreAssumed, EndsWithFault, EndsWithReport, NameCheckpoint, NameUnsatisfiable};
+ghost use Rattle.command.specs.Commands.{NameUnsatisfiableUnder, SaysOfReport, SinkTook, Text, WasRead, WasReadIn, WasSaved};
 ghost use Rattle.command.specs.Commands.{assumed_at, change, files_view, from_first, report_status};
 ghost use Rattle.command.specs.Faults.{status_of, error_text};
 ghost use Rattle.stream_check.specs.Setting.{max_tries};
@@ -25,8 +25,9 @@ use std::time::Clock;
 
 /// Runs `lrupd` with the words after the program's name, and gives the status that it ends with. In
 /// this order: the words are read, the formula's file is read and parsed, and so is that of the
-/// assumed literals, the streams are opened and checked, and the report goes to `out`. Where there
-/// is no report, `out` gets nothing, and `err` the cause. Where the report can't be written, `out`
+/// assumed literals, the streams are opened, the checkpoint's file is created if the words ask for one,
+/// the streams are checked, the checkpoint is saved unless the verdict is 'unsatisfiable', and the
+/// report goes to `out`. Where the checkpoint wasn't saved, `err` says so first. Where there is no report, `out` gets nothing, and `err` the cause. Where the report can't be written, `out`
 /// has a beginning of it, and `err` says so. Where the words have `--watch`, it is told what goes on
 /// while streams are checked, on a watcher for each stream. It blocks while a file does.
 ///
@@ -36,10 +37,11 @@ use std::time::Clock;
 /// | 2 | the words have a mistake or ask for help; too many streams; the row would be too long |
 /// | 3 | the report says `s UNKNOWN` |
 /// | 4 | the formula or the assumptions were refused for another cause than memory |
-/// | 5 | the file of the formula or of the assumptions wasn't opened or read; a stream's file wasn't opened |
+/// | 5 | the file of the formula or of the assumptions wasn't opened or read; a stream's file wasn't opened; the checkpoint's wasn't created |
 /// | 6 | out of memory, outside a report; a worker couldn't be started; a stream's ring gave no mark |
 /// | 7 | the report couldn't be written |
 /// | 8 | the report says `s UNSATISFIABLE UNDER ASSUMPTIONS` |
+/// | 9 | in place of 3 and 8, where the checkpoint wasn't saved |
 pub fn command<T: Threads + Wait + Sync, C: Clock + Sync, F: Files, O: Sink, E: Sink>(
     threads: &T,
     clock: &C,
@@ -58,11 +60,17 @@ pub fn command<T: Threads + Wait + Sync, C: Clock + Sync, F: Files, O: Sink, E: 
     ensures sound_under { let read = WasRead F.opens F.Input.Source.reads (F.tells files.old) in
         result ≡ 8 → NameUnsatisfiableUnder _ read files.old (texts words.now) }
     // A report of what the words and the files come to, or none and the cause; what goes out; and the status.
-    ensures ends { let view = files_view F.Files F.Input.Source files.old in
+    ensures ends { let view = files_view F.Files F.Input.Source F.Output.Sink files.old in
         let output = change (O.written out.old) (O.written out.new) (O.has_failed out.new) in
         let errors = change (E.written err.old) (E.written err.new) (E.has_failed err.new) in
-        EndsWithReport view (texts words.now) output errors result
+        EndsWithReport view (texts words.now) files.new output errors result
         ⊎ EndsWithFault view (texts words.now) output errors result }
+    // With status 3 or 8, where the words ask for a checkpoint, what was saved there is a text of a formula each clause of which
+    // follows from that of FORMULA.
+    ensures saved { let read = WasRead F.opens F.Input.Source.reads (F.tells files.old) in
+        let save = WasSaved F.creates F.Output.Sink.written F.keeps in
+        (path : Text) → AskToSave (texts words.now) path → (result ≡ 3) ⊎ (result ≡ 8)
+        → NameCheckpoint read save files.old (texts words.now) path files.new }
     // Words with a fault have a status of their own, unless memory ran out.
     ensures usage { HaveFault (texts words.now) → (result ≡ 2) ⊎ (result ≡ 6) }
     // So does a report that wasn't written.
@@ -75,8 +83,8 @@ pub fn command<T: Threads + Wait + Sync, C: Clock + Sync, F: Files, O: Sink, E: 
 }
 
 /// Checks the streams against a formula's text, as `command` does with what it has read. In this order: the text is parsed,
-/// and its memory given back, the file of the assumed literals is read and parsed, the streams are opened and checked, and the report
-/// goes to `out`. The bytes are those of any source, so the clause `sound` knows of no file.
+/// and its memory given back, the file of the assumed literals is read and parsed, the streams are opened and checked, a checkpoint is
+/// saved if one is asked for, and the report goes to `out`. The bytes are those of any source, so the clause `sound` knows of no file.
 pub fn check_formula<T: Threads + Wait + Sync, C: Clock + Sync, F: Files, O: Sink, E: Sink>(
     threads: &T,
     clock: &C,
@@ -102,12 +110,12 @@ pub fn check_formula<T: Threads + Wait + Sync, C: Clock + Sync, F: Files, O: Sin
     // Where words give this command line, and the bytes are what was read of FORMULA by the first opening of files that were `first`
     // before it: a report of what these words and files come to, or none and the cause; what goes out; and the status.
     ensures ends { (words : List Text) (first : F) →
-        let view = from_first (files_view F.Files F.Input.Source files.old) first in
+        let view = from_first (files_view F.Files F.Input.Source F.Output.Sink files.old) first in
         let output = change (O.written out.old) (O.written out.new) (O.has_failed out.new) in
         let errors = change (E.written err.old) (E.written err.new) (E.has_failed err.new) in
         IsCommandLineOf words asked.entry.line
         → WasReadIn view first asked.entry.line.formula.now asked.entry.formula.items files.old
-        → EndsWithReport view words output errors result
+        → EndsWithReport view words files.new output errors result
         ⊎ EndsWithFault view words output errors result }
 {
     match check_asked(threads, clock, alloc, asked, files) {
@@ -116,28 +124,56 @@ pub fn check_formula<T: Threads + Wait + Sync, C: Clock + Sync, F: Files, O: Sin
     }
 }
 
-/// Writes the report of what was found, and gives the status.
+/// Says why the checkpoint wasn't saved, where it wasn't, writes the report of what was found, and gives the status.
 fn report<O: Sink, E: Sink>(found: &RunResult, out: &mut O, err: &mut E) -> u8
     requires out { O.has_failed out.old ≡ false }
     requires err { E.has_failed err.old ≡ false }
     ensures printed { SinkTook
         (change (O.written out.old) (O.written out.new) (O.has_failed out.new))
         (report_text found.now.reports.items found.now.verdict) }
-    ensures said { SaysOfReport (O.has_failed out.new)
+    ensures said { SaysOfReport (O.has_failed out.new) found.now.unsaved
         (change (E.written err.old) (E.written err.new) (E.has_failed err.new)) }
-    ensures status { result ≡ report_status (O.has_failed out.new) found.now.verdict }
+    ensures status { result
+        ≡ report_status (O.has_failed out.new) found.now.unsaved found.now.verdict }
 {
+    if let Some(fault) = found.unsaved {
+        let _ = say(&CommandFault::NotSaved(fault), err);
+    }
     match write_report(&found.reports, found.verdict, out) {
-        Ok(()) => match found.verdict {
+        Ok(()) => written_status(found),
+        Err(WriteFault) => say_next(&CommandFault::Unwritten, err),
+    }
+}
+
+/// The status of a report that was written.
+fn written_status(found: &RunResult) -> u8
+    ensures { result ≡ report_status false found.now.unsaved found.now.verdict }
+{
+    match found.unsaved {
+        Some(_) => 9,
+        None => match found.verdict {
             Verdict::Unsatisfiable => 0,
             Verdict::UnsatisfiableUnder => 8,
             Verdict::Unknown => 3,
         },
-        Err(WriteFault) => say(&CommandFault::Unwritten, err),
     }
 }
 
-/// Says why there is no report, or not all of it, and gives the status, whether that could be written or not.
+/// Says a fault, unless the sink has failed, and gives the status.
+fn say_next<E: Sink>(fault: &CommandFault, err: &mut E) -> u8
+    ensures failed { E.has_failed err.old ≡ true → err.new ≡ err.old }
+    ensures said { E.has_failed err.old ≡ false
+        → SinkTook (change (E.written err.old) (E.written err.new) (E.has_failed err.new))
+        (error_text fault.now) }
+    ensures status { result ≡ status_of fault.now }
+{
+    if err.failed() {
+        return fault.status();
+    }
+    say(fault, err)
+}
+
+/// Says a fault, and gives the status, whether that could be written or not.
 pub fn say<E: Sink>(fault: &CommandFault, err: &mut E) -> u8
     requires err { E.has_failed err.old ≡ false }
     ensures said { SinkTook (change (E.written err.old) (E.written err.new) (E.has_failed err.new))
