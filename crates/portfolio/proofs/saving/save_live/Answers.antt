@@ -1,7 +1,7 @@
-use Rattle.std.proofs.Common.{◌≡◌, ◌+◌, ◌-◌, ◌++◌, ◌∷◌, [], ℕ, List, Some, length, map, refl, sym, ap, subst, ◌∙◌, arith}
+use Rattle.std.proofs.Common.{◌≡◌, ◌+◌, ◌-◌, ◌++◌, ◌∷◌, [], ℕ, List, Some, length, refl, ap, subst, ◌∙◌, arith}
 use Rattle.std.specs.Prelude.{IfOk, slice_get}
 use Rattle.std.specs.Io.KnownBytes.{Appends}
-use Rattle.std.proofs.lemmas.List.{map-append, length-map}
+use Rattle.std.proofs.lemmas.List.{map-append}
 use Rattle.lrup_model.specs.Formula.{Cnf}
 use Rattle.lrup_model.specs.Pass.{View}
 use Rattle.lrup_model.specs.Place.{Caller}
@@ -24,6 +24,6 @@ returns-clause-checkpoint g c = λ f h history.
     let at : slice_get (views c.args.passes.items) (length vs + 1 - 1) ≡ Some pass.view =
     ap (slice_get (views c.args.passes.items)) stream ∙ ap (λ (ws : List View). slice_get ws (length vs)) all ∙ last_at vs pass.view in
     let caller = (history.calls (length vs + 1) pass.view (omega arith, at)).0 in
-    let formula : c.new.result.pass.view.caller.formula ≡ f = ap (λ (p : PassValue). p.view.caller.formula) c.new.ensures ∙ ap (λ (k : Caller). k.formula) caller in
+    let formula : c.new-desk.result.pass.view.caller.formula ≡ f = ap (λ (p : PassValue). p.view.caller.formula) c.new-desk.ensures ∙ ap (λ (k : Caller). k.formula) caller in
     subst (λ (k : Cnf). IfOk c.save.result (λ _. (bytes : List ℕ) × Appends (g.W.Sink.written c.args.sink.now) (g.W.Sink.written c.save.new.sink) bytes × IsCheckpoint k bytes))
     formula c.save.ensures.checkpoint
