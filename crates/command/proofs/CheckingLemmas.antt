@@ -17,7 +17,7 @@ use Rattle.command_line.specs.CommandLine.{AskFor, IsCommandLineOf}
 use Rattle.command_line.specs.declared.words.CommandLine.{CommandLine}
 use Rattle.command.specs.Commands.{AreAssumed, IsAssumeCause, NameUnsatisfiableUnder, assumed_at}
 use Rattle.command.specs.Commands.{AreChecked, AreOpened, IsCause, IsFormulaAt, IsOpenCause, IsOutcome, IsReadCause}
-use Rattle.command.specs.Commands.{FilesView, IsRunCause, NameUnsatisfiable, Text, WasRead, WasReadIn, layout_at, options_of}
+use Rattle.command.specs.Commands.{FilesView, IsCreateCause, IsRunCause, NameUnsatisfiable, Text, WasRead, WasReadIn, checkpoint_at, layout_at, options_of}
 use Rattle.command.specs.Faults.{of_run}
 use Rattle.command.specs.declared.fault.CommandFault.{CommandFault}
 use Rattle.command.specs.declared.fault.CommandFault.TheVariants as faults
@@ -78,7 +78,7 @@ same_count : {A B C : Type 0} (f : A → C) (g : B → C) (xs : List A) (ys : Li
 same_count f g xs ys same = sym (length-map xs f) ∙ ap length same ∙ length-map ys g
 
 -- what words ask for that are a command line
-ask_for : (words : List Text) (given : CommandLine) → IsCommandLineOf words given → AskFor words given.formula.now (assumed_at given)
+pub ask_for : (words : List Text) (given : CommandLine) → IsCommandLineOf words given → AskFor words given.formula.now (assumed_at given)
 ask_for words given line = record { good = line.good; formula_is = line.said.formula; assume_is = sym line.said.assume }
 
 -- what was read is a text of a formula that no assignment satisfies
@@ -139,6 +139,8 @@ read_cause files words given line (faults.NotStarted stream) cause = absurd caus
 read_cause files words given line (faults.Ring stream) cause = absurd cause
 read_cause files words given line faults.Memory cause = tt
 read_cause files words given line faults.Unwritten cause = absurd cause
+read_cause files words given line faults.NotCreated cause = absurd cause
+read_cause files words given line (faults.NotSaved fault) cause = absurd cause
 
 assume_cause : (files : FilesView) (words : List Text) (given : CommandLine) (f : Cnf) (next : files.State) → IsCommandLineOf words given
     → IsFormulaAt files given.formula.now f next → (path : Text) → assumed_at given ≡ Some path → (fault : CommandFault) → IsAssumeCause files f.vars next (Some path) fault → IsCause files words fault
@@ -153,6 +155,8 @@ assume_cause files words given f next line at path same (faults.NotStarted strea
 assume_cause files words given f next line at path same (faults.Ring stream) cause = absurd cause
 assume_cause files words given f next line at path same faults.Memory cause = tt
 assume_cause files words given f next line at path same faults.Unwritten cause = absurd cause
+assume_cause files words given f next line at path same faults.NotCreated cause = absurd cause
+assume_cause files words given f next line at path same (faults.NotSaved fault) cause = absurd cause
 
 pub assumed_cause : (files : FilesView) (words : List Text) (given : CommandLine) (f : Cnf) (next : files.State) → IsCommandLineOf words given
     → IsFormulaAt files given.formula.now f next → (path : Option Text) → assumed_at given ≡ path → (fault : CommandFault) → IsAssumeCause files f.vars next path fault → IsCause files words fault
@@ -172,6 +176,8 @@ open_cause files words given f cube next later line at assumed (faults.NotStarte
 open_cause files words given f cube next later line at assumed (faults.Ring stream) cause = absurd cause
 open_cause files words given f cube next later line at assumed faults.Memory cause = tt
 open_cause files words given f cube next later line at assumed faults.Unwritten cause = absurd cause
+open_cause files words given f cube next later line at assumed faults.NotCreated cause = absurd cause
+open_cause files words given f cube next later line at assumed (faults.NotSaved fault) cause = absurd cause
 
 line_cause : (files : FilesView) (words : List Text) (given : CommandLine) (f : Cnf) (cube : CubeValue) (next later : files.State) → IsCommandLineOf words given
     → IsFormulaAt files given.formula.now f next → AreAssumed (WasReadIn files) f.vars next (assumed_at given) cube later → (fault : CommandFault) → IsRunCause given.serial (layout_at given f) fault → IsCause files words fault
@@ -181,11 +187,13 @@ line_cause files words given f cube next later line at assumed (faults.Refused f
 line_cause files words given f cube next later line at assumed faults.CubeUnread cause = absurd cause
 line_cause files words given f cube next later line at assumed (faults.CubeRefused fault) cause = absurd cause
 line_cause files words given f cube next later line at assumed (faults.NotOpened stream) cause = absurd cause
-line_cause files words given f cube next later line at assumed (faults.Layout fault) cause = (given, line, inr (f, next, at, inr (cube, later, assumed, inr cause)))
-line_cause files words given f cube next later line at assumed (faults.NotStarted stream) cause = (given, line, inr (f, next, at, inr (cube, later, assumed, inr cause)))
-line_cause files words given f cube next later line at assumed (faults.Ring stream) cause = (given, line, inr (f, next, at, inr (cube, later, assumed, inr cause)))
+line_cause files words given f cube next later line at assumed (faults.Layout fault) cause = (given, line, inr (f, next, at, inr (cube, later, assumed, inr (inl cause))))
+line_cause files words given f cube next later line at assumed (faults.NotStarted stream) cause = (given, line, inr (f, next, at, inr (cube, later, assumed, inr (inl cause))))
+line_cause files words given f cube next later line at assumed (faults.Ring stream) cause = (given, line, inr (f, next, at, inr (cube, later, assumed, inr (inl cause))))
 line_cause files words given f cube next later line at assumed faults.Memory cause = tt
 line_cause files words given f cube next later line at assumed faults.Unwritten cause = absurd cause
+line_cause files words given f cube next later line at assumed faults.NotCreated cause = absurd cause
+line_cause files words given f cube next later line at assumed (faults.NotSaved fault) cause = absurd cause
 
 -- so a run's cause, by the layout that the run has
 pub run_cause_of : (files : FilesView) (words : List Text) (given : CommandLine) (f : Cnf) (cube : CubeValue) (options : OptionsValue) (readers : List files.Reader) (next later : files.State)
@@ -203,3 +211,22 @@ pub open_moved : {F R : Type 0} (opens : F → Text → R → F → Type 0) (may
 open_moved opens may later_may first paths later_paths may_stays paths_are fault cause =
     let one = subst (λ (m : Text → Bool). IsOpenCause opens m first later_paths fault) may_stays cause in
     subst (λ (ps : List Text). IsOpenCause opens may first ps fault) paths_are one
+
+-- why the checkpoint's file wasn't created
+pub create_cause : (files : FilesView) (words : List Text) (given : CommandLine) (f : Cnf) (cube : CubeValue) (next later : files.State) → IsCommandLineOf words given
+    → IsFormulaAt files given.formula.now f next → AreAssumed (WasReadIn files) f.vars next (assumed_at given) cube later
+    → (readers : List files.Reader) (last : files.State) → AreOpened files.opens later given.streams readers last
+    → (fault : CommandFault) → IsCreateCause files.may_refuse_new (checkpoint_at given) fault → IsCause files words fault
+create_cause files words given f cube next later line at assumed readers last opened (faults.Usage text) cause = absurd cause
+create_cause files words given f cube next later line at assumed readers last opened faults.Unread cause = absurd cause
+create_cause files words given f cube next later line at assumed readers last opened (faults.Refused fault) cause = absurd cause
+create_cause files words given f cube next later line at assumed readers last opened faults.CubeUnread cause = absurd cause
+create_cause files words given f cube next later line at assumed readers last opened (faults.CubeRefused fault) cause = absurd cause
+create_cause files words given f cube next later line at assumed readers last opened (faults.NotOpened stream) cause = absurd cause
+create_cause files words given f cube next later line at assumed readers last opened (faults.Layout fault) cause = absurd cause
+create_cause files words given f cube next later line at assumed readers last opened (faults.NotStarted stream) cause = absurd cause
+create_cause files words given f cube next later line at assumed readers last opened (faults.Ring stream) cause = absurd cause
+create_cause files words given f cube next later line at assumed readers last opened faults.Memory cause = tt
+create_cause files words given f cube next later line at assumed readers last opened faults.Unwritten cause = absurd cause
+create_cause files words given f cube next later line at assumed readers last opened faults.NotCreated cause = (given, line, inr (f, next, at, inr (cube, later, assumed, inr (inr (readers, last, opened, cause)))))
+create_cause files words given f cube next later line at assumed readers last opened (faults.NotSaved fault) cause = absurd cause

@@ -35,6 +35,8 @@ reading_cause files before path reader after opened left (faults.NotStarted stre
 reading_cause files before path reader after opened left (faults.Ring stream) cause = absurd cause
 reading_cause files before path reader after opened left faults.Memory cause = tt
 reading_cause files before path reader after opened left faults.Unwritten cause = absurd cause
+reading_cause files before path reader after opened left faults.NotCreated cause = absurd cause
+reading_cause files before path reader after opened left (faults.NotSaved fault) cause = absurd cause
 
 -- what was read of a file that was opened
 pub was_read : (files : FilesView) (before : files.State) (path : Text) (reader : files.Reader) (after : files.State) {T E : Type 0} (items : T → List ℕ) (read : Result T E)
@@ -58,6 +60,8 @@ formula_file_cause files path (faults.NotStarted stream) cause = absurd cause
 formula_file_cause files path (faults.Ring stream) cause = absurd cause
 formula_file_cause files path faults.Memory cause = tt
 formula_file_cause files path faults.Unwritten cause = absurd cause
+formula_file_cause files path faults.NotCreated cause = absurd cause
+formula_file_cause files path (faults.NotSaved fault) cause = absurd cause
 
 pub cube_file_cause : (files : FilesView) (vars : ℕ) (before : files.State) (path : Text) (fault : CommandFault) → IsFileCause files before path fault
     → IsAssumeCause files vars before (Some path) (of_cube_file fault)
@@ -72,6 +76,8 @@ cube_file_cause files vars before path (faults.NotStarted stream) cause = absurd
 cube_file_cause files vars before path (faults.Ring stream) cause = absurd cause
 cube_file_cause files vars before path faults.Memory cause = tt
 cube_file_cause files vars before path faults.Unwritten cause = absurd cause
+cube_file_cause files vars before path faults.NotCreated cause = absurd cause
+cube_file_cause files vars before path (faults.NotSaved fault) cause = absurd cause
 
 -- why what was read is no formula, or no text of literals
 pub text_cause : (files : FilesView) (path : Text) (bytes : List ℕ) (after : files.State) → WasReadIn files files.first path bytes after
@@ -115,3 +121,5 @@ module _ (files : FilesView) (first : files.State) where
   moved_cause vars before (Some path) (faults.Ring stream) cause = absurd cause
   moved_cause vars before (Some path) faults.Memory cause = tt
   moved_cause vars before (Some path) faults.Unwritten cause = absurd cause
+  moved_cause vars before (Some path) faults.NotCreated cause = absurd cause
+  moved_cause vars before (Some path) (faults.NotSaved fault) cause = absurd cause

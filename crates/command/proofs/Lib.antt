@@ -6,3 +6,4 @@ mod WordLemmas
 mod ArgumentLemmas
 mod FileLemmas
 mod StatusLemmas
+mod SavingLemmas

@@ -1,23 +1,45 @@
--- What a status of 7 says.
-use Rattle.std.proofs.Common.{◌≡◌, ◌∙◌, ◌⊎◌, ℕ, Bool, IsTrue, true, false, List, Option, None, Some, inl, inr, refl, sym}
+-- What a status says.
+use Rattle.std.proofs.Common.{◌≡◌, ◌∙◌, ◌⊎◌, ℕ, Bool, IsTrue, true, false, List, Option, None, Some, inl, inr, refl, sym, subst, arith}
 use Rattle.std.specs.Prelude.{◌↔◌}
+use Rattle.lrup_model.specs.Formula.{Cnf}
 use Rattle.lrup_model.specs.declared.layout.LayoutFault.TheVariants as layouts
 use Rattle.portfolio.specs.declared.outcome.Verdict.{Verdict}
 use Rattle.portfolio.specs.declared.outcome.Verdict.TheVariants.{Unsatisfiable, UnsatisfiableUnder, Unknown}
-use Rattle.command.specs.Commands.{EndsWithFault, EndsWithReport, FilesView, IsAssumeCause, IsCause, SinkChange, Text, assumed_at, report_status}
+use Rattle.checkpoint.specs.Checkpoints.{IsCheckpoint}
+use Rattle.checkpoint.specs.declared.saving.SaveFault.{SaveFault}
+use Rattle.command_line.specs.CommandLine.{AskToSave}
+use Rattle.command.specs.Commands.{EndsWithFault, EndsWithReport, FilesView, IsAssumeCause, IsCause, SinkChange, Text, assumed_at, checkpoint_at, report_status}
+use Rattle.command.specs.Commands.{LeavesCheckpoint, NameCheckpoint, WasReadIn, WasSavedIn}
 use Rattle.command.specs.Faults.{status_of}
 use Rattle.command.specs.declared.fault.CommandFault.{CommandFault}
 use Rattle.command.specs.declared.fault.CommandFault.TheVariants as faults
+use Rattle.command.proofs.CheckingLemmas.{ask_for}
 
-written : (failed : Bool) (verdict : Verdict) → report_status failed verdict ≡ 7 → IsTrue failed
-written true verdict is = refl
-written false Unsatisfiable is = absurd (let no : Path ℕ 0 7 = is in cc)
-written false UnsatisfiableUnder is = absurd (let no : Path ℕ 8 7 = is in cc)
-written false Unknown is = absurd (let no : Path ℕ 3 7 = is in cc)
+-- the verdict of a report with this status
+pub zero_is : (failed : Bool) (unsaved : Option SaveFault) (verdict : Verdict) → report_status failed unsaved verdict ≡ 0 → verdict ≡ Unsatisfiable
+zero_is true unsaved verdict is = absurd (let no : Path ℕ 7 0 = is in cc)
+zero_is false (Some fault) verdict is = absurd (let no : Path ℕ 9 0 = is in cc)
+zero_is false None Unsatisfiable is = refl
+zero_is false None UnsatisfiableUnder is = absurd (let no : Path ℕ 8 0 = is in cc)
+zero_is false None Unknown is = absurd (let no : Path ℕ 3 0 = is in cc)
 
-has_7 : (failed : Bool) (verdict : Verdict) → IsTrue failed → report_status failed verdict ≡ 7
-has_7 true verdict is = refl
-has_7 false verdict is = absurd (let no : false ≡ true = is in cc)
+pub eight_is : (failed : Bool) (unsaved : Option SaveFault) (verdict : Verdict) → report_status failed unsaved verdict ≡ 8 → verdict ≡ UnsatisfiableUnder
+eight_is true unsaved verdict is = absurd (let no : Path ℕ 7 8 = is in cc)
+eight_is false (Some fault) verdict is = absurd (let no : Path ℕ 9 8 = is in cc)
+eight_is false None Unsatisfiable is = absurd (let no : Path ℕ 0 8 = is in cc)
+eight_is false None UnsatisfiableUnder is = refl
+eight_is false None Unknown is = absurd (let no : Path ℕ 3 8 = is in cc)
+
+written : (failed : Bool) (unsaved : Option SaveFault) (verdict : Verdict) → report_status failed unsaved verdict ≡ 7 → IsTrue failed
+written true unsaved verdict is = refl
+written false (Some fault) verdict is = absurd (let no : Path ℕ 9 7 = is in cc)
+written false None Unsatisfiable is = absurd (let no : Path ℕ 0 7 = is in cc)
+written false None UnsatisfiableUnder is = absurd (let no : Path ℕ 8 7 = is in cc)
+written false None Unknown is = absurd (let no : Path ℕ 3 7 = is in cc)
+
+has_7 : (failed : Bool) (unsaved : Option SaveFault) (verdict : Verdict) → IsTrue failed → report_status failed unsaved verdict ≡ 7
+has_7 true unsaved verdict is = refl
+has_7 false unsaved verdict is = absurd (let no : false ≡ true = is in cc)
 
 module _ (files : FilesView) where
   never_assumed : (vars : ℕ) (before : files.State) (path : Option Text) → IsAssumeCause files vars before path faults.Unwritten → ⊥
@@ -30,7 +52,7 @@ module _ (files : FilesView) where
     | inl read ↦ read
     | inr later ↦ elim later.3 [
       | inl assume ↦ never_assumed later.0.vars later.1 (assumed_at cause.0) assume
-      | inr last ↦ elim last.3 [ inl opens ↦ opens | inr runs ↦ runs ]
+      | inr last ↦ elim last.3 [ inl opens ↦ opens | inr more ↦ elim more [ inl runs ↦ runs | inr create ↦ create.3 ] ]
     ]
   ]
 
@@ -49,15 +71,66 @@ module _ (files : FilesView) where
   not_7 words (faults.Ring stream) cause is = let no : Path ℕ 6 7 = is in cc
   not_7 words faults.Memory cause is = let no : Path ℕ 6 7 = is in cc
   not_7 words faults.Unwritten cause is = never_unwritten words cause
+  not_7 words faults.NotCreated cause is = let no : Path ℕ 5 7 = is in cc
+  not_7 words (faults.NotSaved fault) cause is = let no : Path ℕ 9 7 = is in cc
 
 -- however the program ends, its status is 7 exactly where the sink failed
-pub ends_unwritten : (files : FilesView) (words : List Text) (out err : SinkChange) (status : ℕ)
-    → EndsWithReport files words out err status ⊎ EndsWithFault files words out err status → IsTrue out.failed ↔ (status ≡ 7)
-ends_unwritten files words out err status (inl report) = (
-  (λ failed. report.status_is ∙ has_7 out.failed report.verdict failed),
-  (λ seven. written out.failed report.verdict (sym report.status_is ∙ seven)),
+pub ends_unwritten : (files : FilesView) (words : List Text) (after : files.State) (out err : SinkChange) (status : ℕ)
+    → EndsWithReport files words after out err status ⊎ EndsWithFault files words out err status → IsTrue out.failed ↔ (status ≡ 7)
+ends_unwritten files words after out err status (inl report) = (
+  (λ failed. report.status_is ∙ has_7 out.failed report.unsaved report.verdict failed),
+  (λ seven. written out.failed report.unsaved report.verdict (sym report.status_is ∙ seven)),
 )
-ends_unwritten files words out err status (inr fault) = (
+ends_unwritten files words after out err status (inr fault) = (
   (λ failed. absurd (let no : false ≡ true = sym fault.untouched.failed ∙ failed in cc)),
   (λ seven. absurd (not_7 files words fault.fault fault.cause (sym fault.status_is ∙ seven))),
 )
+
+-- With status 3 or 8 a checkpoint that was asked for was saved.
+
+neither : (n : ℕ) → (n ≡ 3 → ⊥) → (n ≡ 8 → ⊥) → (n ≡ 3) ⊎ (n ≡ 8) → ⊥
+neither n not_3 not_8 (inl three) = not_3 three
+neither n not_3 not_8 (inr eight) = not_8 eight
+
+no_fault : (fault : CommandFault) → (status_of fault ≡ 3) ⊎ (status_of fault ≡ 8) → ⊥
+no_fault (faults.Usage text) is = neither 2 (λ e. cc) (λ e. cc) is
+no_fault faults.Unread is = neither 5 (λ e. cc) (λ e. cc) is
+no_fault (faults.Refused fault) is = neither 4 (λ e. cc) (λ e. cc) is
+no_fault faults.CubeUnread is = neither 5 (λ e. cc) (λ e. cc) is
+no_fault (faults.CubeRefused fault) is = neither 4 (λ e. cc) (λ e. cc) is
+no_fault (faults.NotOpened stream) is = neither 5 (λ e. cc) (λ e. cc) is
+no_fault (faults.Layout layouts.TooManyVariables) is = neither 4 (λ e. cc) (λ e. cc) is
+no_fault (faults.Layout layouts.TooManyClauses) is = neither 4 (λ e. cc) (λ e. cc) is
+no_fault (faults.Layout layouts.BadStreamCount) is = neither 2 (λ e. cc) (λ e. cc) is
+no_fault (faults.Layout layouts.RowTooLong) is = neither 2 (λ e. cc) (λ e. cc) is
+no_fault (faults.NotStarted stream) is = neither 6 (λ e. cc) (λ e. cc) is
+no_fault (faults.Ring stream) is = neither 6 (λ e. cc) (λ e. cc) is
+no_fault faults.Memory is = neither 6 (λ e. cc) (λ e. cc) is
+no_fault faults.Unwritten is = neither 7 (λ e. cc) (λ e. cc) is
+no_fault faults.NotCreated is = neither 5 (λ e. cc) (λ e. cc) is
+no_fault (faults.NotSaved fault) is = neither 9 (λ e. cc) (λ e. cc) is
+
+module _ (files : FilesView) where
+  leaves_saved : (failed : Bool) (unsaved : Option SaveFault) (verdict : Verdict) (path : Text) (f : Cnf) (before after : files.State)
+      → (report_status failed unsaved verdict ≡ 3) ⊎ (report_status failed unsaved verdict ≡ 8) → LeavesCheckpoint files (Some path) f verdict unsaved before after
+      → (bytes : List ℕ) × WasSavedIn files before path bytes after × IsCheckpoint f bytes
+  leaves_saved true unsaved verdict path f before after is leaves = absurd (neither 7 (λ e. cc) (λ e. cc) is)
+  leaves_saved false (Some fault) verdict path f before after is leaves = absurd (neither 9 (λ e. cc) (λ e. cc) is)
+  leaves_saved false None Unsatisfiable path f before after is leaves = absurd (neither 0 (λ e. cc) (λ e. cc) is)
+  leaves_saved false None UnsatisfiableUnder path f before after is leaves = leaves
+  leaves_saved false None Unknown path f before after is leaves = leaves
+
+  pub ends_saved : (words : List Text) (after : files.State) (out err : SinkChange) (status : ℕ)
+      → EndsWithReport files words after out err status ⊎ EndsWithFault files words out err status
+      → (path : Text) → AskToSave words path → (status ≡ 3) ⊎ (status ≡ 8) → NameCheckpoint (WasReadIn files) (WasSavedIn files) files.first words path after
+  ends_saved words after out err status (inl report) path ask is =
+      let outcome = report.outcome in
+      let given = outcome.given in
+      let asked : checkpoint_at given ≡ Some path = outcome.command_line.said.checkpoint ∙ ask.path_is in
+      let leaves = subst (λ (o : Option Text). LeavesCheckpoint files o outcome.formula report.verdict report.unsaved outcome.last after) asked report.checkpoint in
+      let statuses = subst (λ (n : ℕ). (n ≡ 3) ⊎ (n ≡ 8)) report.status_is is in
+      let saved = leaves_saved out.failed report.unsaved report.verdict path outcome.formula outcome.last after statuses leaves in
+      let read = outcome.is_formula in
+      (given.formula.now, assumed_at given, read.0, saved.0, outcome.formula, outcome.next, outcome.last, ask_for words given outcome.command_line, read.1, read.2, saved.1, saved.2)
+  ends_saved words after out err status (inr fault) path ask is =
+      absurd (no_fault fault.fault (subst (λ (n : ℕ). (n ≡ 3) ⊎ (n ≡ 8)) fault.status_is is))

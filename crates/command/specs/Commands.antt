@@ -327,11 +327,12 @@ IsOpenCause {F = F} {R = R} opens may_refuse before paths (faults.NotOpened stre
 IsOpenCause opens may_refuse before paths faults.Memory = Unit {0}
 IsOpenCause opens may_refuse before paths fault = ⊥
 
--- why the checkpoint at a path, if any, wasn't created: it was refused
+-- why the checkpoint that is asked for wasn't created: its path was refused
 abbrev pub IsCreateCause : (Text → Bool) → Option Text → CommandFault → Type 0
-IsCreateCause may_refuse_new (Some path) faults.NotCreated = IsTrue (may_refuse_new path)
-IsCreateCause may_refuse_new (Some path) faults.Memory = Unit {0}
-IsCreateCause may_refuse_new path fault = ⊥
+IsCreateCause may_refuse_new asked faults.NotCreated =
+    (path : Text) × (asked ≡ Some path) × IsTrue (may_refuse_new path)
+IsCreateCause may_refuse_new asked faults.Memory = Unit {0}
+IsCreateCause may_refuse_new asked fault = ⊥
 
 -- why streams weren't checked: there is no layout; or there is one, and a thread wasn't started, or what it sent had no end
 abbrev pub IsRunCause : Bool → LayoutValue → CommandFault → Type 0
@@ -353,10 +354,10 @@ IsCauseAt files given fault =
     ⊎ ((cube : CubeValue) × (later : files.State)
     × AreAssumed (WasReadIn files) f.vars next (assumed_at given) cube later
     × (IsOpenCause files.opens files.may_refuse later given.streams fault
-    ⊎ IsRunCause given.serial (layout_at given f) fault
+    ⊎ (IsRunCause given.serial (layout_at given f) fault
     ⊎ ((readers : List files.Reader) × (last : files.State)
     × AreOpened files.opens later given.streams readers last
-    × IsCreateCause files.may_refuse_new (checkpoint_at given) fault)))))
+    × IsCreateCause files.may_refuse_new (checkpoint_at given) fault))))))
 
 -- Why there is no outcome, by the words and the files.
 abbrev pub IsCause : FilesView → List Text → CommandFault → Type 0

@@ -1,8 +1,8 @@
 use Rattle.std.proofs.Common.{◌≡◌, List, inr, map, rules, string_bytes, subst, sym}
 use Rattle.clap.specs.Walk.{texts}
-use Rattle.command_line.specs.CommandLine.{HaveFault}
+use Rattle.command_line.specs.CommandLine.{AskToSave, HaveFault}
 use Rattle.command.specs.Arguments.{words_after_name}
-use Rattle.command.specs.Commands.{NameUnsatisfiable, NameUnsatisfiableUnder, Text, WasRead}
+use Rattle.command.specs.Commands.{NameCheckpoint, NameUnsatisfiable, NameUnsatisfiableUnder, Text, WasRead, WasSaved}
 use Rattle.command.proofs.WordLemmas.{read_all}
 use Rattle.command.specs.declared.fault.CommandFault.TheVariants as faults
 use Rattle.command.proofs.arguments.with_words.Given
@@ -40,6 +40,13 @@ pub returns-clause-sound_under : goal.returns-clause-sound_under
 returns-clause-sound_under g c eight =
     let Read = WasRead g.F.Files.opens g.F.Input.Source.reads (g.F.Files.tells c.args.files.now) in
     subst (λ (words : List Text). NameUnsatisfiableUnder _ Read c.args.files.now words) (same_words g c) (c.command.ensures.sound_under eight)
+
+pub returns-clause-saved : goal.returns-clause-saved
+returns-clause-saved g c path ask is =
+    let Read = WasRead g.F.Files.opens g.F.Input.Source.reads (g.F.Files.tells c.args.files.now) in
+    let Save = WasSaved g.F.Files.creates g.F.Output.Sink.written g.F.Files.keeps in
+    let asked = subst (λ (words : List Text). AskToSave words path) (sym (same_words g c)) ask in
+    subst (λ (words : List Text). NameCheckpoint Read Save c.args.files.now words path c.command.new.files) (same_words g c) (c.command.ensures.saved path asked is)
 
 pub returns-clause-usage : goal.returns-clause-usage
 returns-clause-usage g c fault = c.command.ensures.usage (subst HaveFault (sym (same_words g c)) fault)

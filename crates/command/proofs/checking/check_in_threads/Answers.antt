@@ -5,7 +5,7 @@ use Rattle.command.proofs.checking.check_in_threads.Goals as goal
 
 pub returns-in_err-outcome-clause-cause : goal.returns-in_err-outcome-clause-cause
 returns-in_err-outcome-clause-cause g c =
-    let p = (terms_on c.args.problem.now (length c.args.readers.items)).layout in
+    let p = (terms_on c.args.setup.now (length c.args.readers.items)).layout in
     let cause = run_cause false p c.run.result c.in_err-outcome.field-0.0 c.in_err-outcome.was c.run.ensures.layout
     (λ stream is. (refl, c.run.ensures.spawn stream is)) (λ stream is. (refl, c.run.ensures.ring stream is)) in
     err_given c.from_residual-in_err-outcome.result _ (IsRunCause false p)
@@ -13,7 +13,7 @@ returns-in_err-outcome-clause-cause g c =
 
 pub returns-clause-checked : goal.returns-clause-checked
 returns-clause-checked g c =
-    let p = (terms_on c.args.problem.now (length c.args.readers.items)).layout in
+    let p = (terms_on c.args.setup.now (length c.args.readers.items)).layout in
     let reports = c.in_ok-outcome.ensures.reports in
     record {
       layout = has_layout p c.run.result c.in_ok-outcome.outcome c.in_ok-outcome.was c.run.ensures.layout;

@@ -5,7 +5,7 @@ use Rattle.command.proofs.checking.check_serially.Goals as goal
 
 pub returns-in_err-outcome-clause-cause : goal.returns-in_err-outcome-clause-cause
 returns-in_err-outcome-clause-cause g c =
-    let p = (terms_on c.args.problem.now (length c.args.readers.items)).layout in
+    let p = (terms_on c.args.setup.now (length c.args.readers.items)).layout in
     let cause = run_cause true p c.run_serial.result c.in_err-outcome.field-0.0 c.in_err-outcome.was c.run_serial.ensures.layout
     (λ stream is. absurd (c.run_serial.ensures.no_spawn stream is)) (λ stream is. absurd (c.run_serial.ensures.no_ring stream is)) in
     err_given c.from_residual-in_err-outcome.result _ (IsRunCause true p)
@@ -13,7 +13,7 @@ returns-in_err-outcome-clause-cause g c =
 
 pub returns-clause-checked : goal.returns-clause-checked
 returns-clause-checked g c =
-    let p = (terms_on c.args.problem.now (length c.args.readers.items)).layout in
+    let p = (terms_on c.args.setup.now (length c.args.readers.items)).layout in
     let ordered = c.in_ok-outcome.ensures.ordered in
     record {
       layout = has_layout p c.run_serial.result c.in_ok-outcome.outcome c.in_ok-outcome.was c.run_serial.ensures.layout;

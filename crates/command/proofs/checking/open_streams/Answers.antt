@@ -21,6 +21,7 @@ loop-path-preserved g c =
       room = omega (arith, pushed.capacity, now.invariant.room);
       stays = c.open.ensures.stays ∙ now.invariant.stays;
       stays_refused = c.open.ensures.stays_refused ∙ now.invariant.stays_refused;
+      stays_refused_new = c.open.ensures.stays_refused_new ∙ now.invariant.stays_refused_new;
     }
 
 pub returns-in-Err-NotOpened-clause-cause : goal.returns-in-Err-NotOpened-clause-cause

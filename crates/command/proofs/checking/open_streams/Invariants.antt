@@ -14,4 +14,5 @@ invariant-loop-path g l =
       room : length l.fn.paths ≤ vec_capacity l.readers;
       stays : g.F.Files.tells l.files ≡ g.F.Files.tells l.fn.files;
       stays_refused : g.F.Files.may_refuse l.files ≡ g.F.Files.may_refuse l.fn.files;
+      stays_refused_new : g.F.Files.may_refuse_new l.files ≡ g.F.Files.may_refuse_new l.fn.files;
     }

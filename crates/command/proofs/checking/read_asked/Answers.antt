@@ -7,7 +7,7 @@ use Rattle.command.proofs.checking.read_asked.Goals as goal
 
 pub returns-in_err-formula-clause-cause : goal.returns-in_err-formula-clause-cause
 returns-in_err-formula-clause-cause g c =
-    let files = files_view g.F.Files g.F.Input.Source c.args.files.now in
+    let files = files_view g.F.Files g.F.Input.Source g.F.Output.Sink c.args.files.now in
     let words = texts c.args.words.now in
     let line = c.in_ok-line.line in
     let fault = c.in_err-formula.field-0.0 in

@@ -7,7 +7,7 @@ use Rattle.command.proofs.checking.read_cube_at.Goals as goal
 
 pub returns-in_err-read_cube-in-Ok-clause-cause : goal.returns-in_err-read_cube-in-Ok-clause-cause
 returns-in_err-read_cube-in-Ok-clause-cause g c =
-    let files = files_view g.F.Files g.F.Input.Source c.args.files.now in
+    let files = files_view g.F.Files g.F.Input.Source g.F.Output.Sink c.args.files.now in
     let IsCause = IsAssumeCause files c.args.formula.now.vars c.args.files.now (Some c.args.path.now) in
     let faulty = subst (λ (n : ℕ). IsCubeFault n c.in-Ok.bytes.items c.in_err-read_cube-in-Ok.field-0.0) c.vars.ensures.vars
     (subst (λ (bytes : List ℕ). IsCubeFault c.vars.result bytes c.in_err-read_cube-in-Ok.field-0.0) c.deref.ensures.value c.in_err-read_cube-in-Ok.ensures.fault) in
@@ -16,6 +16,6 @@ returns-in_err-read_cube-in-Ok-clause-cause g c =
 
 pub returns-in-Err-clause-cause : goal.returns-in-Err-clause-cause
 returns-in-Err-clause-cause g c =
-    let files = files_view g.F.Files g.F.Input.Source c.args.files.now in
+    let files = files_view g.F.Files g.F.Input.Source g.F.Output.Sink c.args.files.now in
     let IsCause = IsAssumeCause files c.args.formula.now.vars c.args.files.now (Some c.args.path.now) in
     subst IsCause (sym c.of_cube_file.ensures) (cube_file_cause files c.args.formula.now.vars c.args.files.now c.args.path.now c.in-Err.fault c.in-Err.ensures.cause)

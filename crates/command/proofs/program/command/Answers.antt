@@ -2,20 +2,20 @@ use Rattle.std.proofs.Common.{◌⊎◌, ℕ, Bool, List, Option, subst}
 use Rattle.clap.specs.Walk.{texts}
 use Rattle.command.specs.Commands.{EndsWithFault, EndsWithReport, FilesView, Text, WasReadIn, change, files_view}
 use Rattle.command.proofs.CheckingLemmas.{names_unsatisfiable, names_unsatisfiable_under}
-use Rattle.command.proofs.StatusLemmas.{ends_unwritten}
+use Rattle.command.proofs.StatusLemmas.{ends_saved, ends_unwritten}
 use Rattle.command.proofs.program.command.Goals as goal
 
 pub returns-in-Ok-clause-sound : goal.returns-in-Ok-clause-sound
 returns-in-Ok-clause-sound g c zero =
     let asked = c.in-Ok.asked in
-    let files = files_view g.F.Files g.F.Input.Source c.args.files.now in
+    let files = files_view g.F.Files g.F.Input.Source g.F.Output.Sink c.args.files.now in
     names_unsatisfiable files (texts c.args.words.now) asked.line asked.formula.items c.read_asked.new.files
     c.in-Ok.ensures.line c.in-Ok.ensures.bytes (c.check_formula.ensures.sound zero)
 
 pub returns-in-Ok-clause-sound_under : goal.returns-in-Ok-clause-sound_under
 returns-in-Ok-clause-sound_under g c eight =
     let asked = c.in-Ok.asked in
-    let files = files_view g.F.Files g.F.Input.Source c.args.files.now in
+    let files = files_view g.F.Files g.F.Input.Source g.F.Output.Sink c.args.files.now in
     let next = c.read_asked.new.files in
     names_unsatisfiable_under files (texts c.args.words.now) asked.line asked.formula.items next (g.F.Files.tells next)
     c.in-Ok.ensures.stays c.in-Ok.ensures.line c.in-Ok.ensures.bytes (c.check_formula.ensures.sound_under eight)
@@ -26,13 +26,19 @@ returns-in-Ok-clause-ends g c =
     let words = texts c.args.words.now in
     let first = c.args.files.now in
     let next = c.read_asked.new.files in
-    let view : (Text → Option (List ℕ)) → (Text → Bool) → FilesView = λ t m. record (files_view g.F.Files g.F.Input.Source first) { tells = t; may_refuse = m } in
+    let view : (Text → Option (List ℕ)) → (Text → Bool) → (Text → Bool) → FilesView =
+    λ t m n. record (files_view g.F.Files g.F.Input.Source g.F.Output.Sink first) { tells = t; may_refuse = m; may_refuse_new = n } in
     let output = change (g.O.Sink.written c.args.out.now) (g.O.Sink.written c.check_formula.new.out) (g.O.Sink.has_failed c.check_formula.new.out) in
     let errors = change (g.E.Sink.written c.args.err.now) (g.E.Sink.written c.check_formula.new.err) (g.E.Sink.has_failed c.check_formula.new.err) in
-    let Ends : (Text → Option (List ℕ)) → (Text → Bool) → Type 0 = λ t m. WasReadIn (view t m) first asked.line.formula.now asked.formula.items next
-    → EndsWithReport (view t m) words output errors c.check_formula.result ⊎ EndsWithFault (view t m) words output errors c.check_formula.result in
+    let Ends : (Text → Option (List ℕ)) → (Text → Bool) → (Text → Bool) → Type 0 = λ t m n. WasReadIn (view t m n) first asked.line.formula.now asked.formula.items next
+    → EndsWithReport (view t m n) words c.check_formula.new.files output errors c.check_formula.result ⊎ EndsWithFault (view t m n) words output errors c.check_formula.result in
     let ends = c.check_formula.ensures.ends words first c.in-Ok.ensures.line in
-    subst (Ends (g.F.Files.tells first)) c.in-Ok.ensures.stays_refused (subst (λ t. Ends t (g.F.Files.may_refuse next)) c.in-Ok.ensures.stays ends) c.in-Ok.ensures.bytes
+    let told = subst (λ t. Ends t (g.F.Files.may_refuse next) (g.F.Files.may_refuse_new next)) c.in-Ok.ensures.stays ends in
+    let refused = subst (λ m. Ends (g.F.Files.tells first) m (g.F.Files.may_refuse_new next)) c.in-Ok.ensures.stays_refused told in
+    subst (Ends (g.F.Files.tells first) (g.F.Files.may_refuse first)) c.in-Ok.ensures.stays_refused_new refused c.in-Ok.ensures.bytes
+
+pub returns-in-Ok-clause-saved : goal.returns-in-Ok-clause-saved
+returns-in-Ok-clause-saved g c = ends_saved _ _ _ _ _ _ (returns-in-Ok-clause-ends g c)
 
 pub returns-in-Ok-clause-unwritten : goal.returns-in-Ok-clause-unwritten
-returns-in-Ok-clause-unwritten g c = ends_unwritten _ _ _ _ _ (returns-in-Ok-clause-ends g c)
+returns-in-Ok-clause-unwritten g c = ends_unwritten _ _ _ _ _ _ (returns-in-Ok-clause-ends g c)

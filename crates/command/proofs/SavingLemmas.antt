@@ -1,0 +1,45 @@
+-- A checkpoint's file, from its creation to its end.
+use Rattle.std.proofs.Common.{◌≡◌, ◌∙◌, List, ℕ, Option, None, Some, Result, Ok, Err, inl, inr, refl, sym, subst}
+use Rattle.lrup_model.specs.Formula.{Cnf}
+use Rattle.portfolio.specs.declared.outcome.Verdict.{Verdict}
+use Rattle.portfolio.specs.declared.outcome.Verdict.TheVariants.{Unsatisfiable, UnsatisfiableUnder, Unknown}
+use Rattle.checkpoint.specs.declared.saving.SaveFault.{SaveFault}
+use Rattle.command.specs.Commands.{FilesView, LeavesCheckpoint, Text}
+use Rattle.command.specs.Saving.{IsCreated, IsKept, IsWritten}
+
+module _ (files : FilesView) (f : Cnf) where
+  -- nothing was to be kept
+  none_kept : (next after : files.State) (saved : Result (Option files.Output) SaveFault) (unsaved : Option SaveFault) → saved ≡ Ok None → IsKept files.keeps next saved unsaved after
+      → (unsaved ≡ None) × (after ≡ next)
+  none_kept next after saved unsaved is kept = subst (λ (s : Result (Option files.Output) SaveFault). IsKept files.keeps next s unsaved after) is kept
+
+  -- what was created, written and kept is a checkpoint that was saved
+  leaves_of : (path : Text) (verdict : Verdict) (before next after : files.State) (first : files.Output) (saved : Result (Option files.Output) SaveFault) (unsaved : Option SaveFault)
+      → IsCreated files.creates files.written before (Some path) (Some first) next → IsWritten files.written f verdict (Some first) saved → IsKept files.keeps next saved unsaved after
+      → LeavesCheckpoint files (Some path) f verdict unsaved before after
+  leaves_of path Unsatisfiable before next after first saved unsaved created written kept =
+      let none = none_kept next after saved unsaved written kept in
+      (none.0, (first, subst (λ (s : files.State). files.creates before path first s) (sym none.1) created.0))
+  leaves_of path UnsatisfiableUnder before next after first (Ok None) unsaved created written kept = absurd written
+  leaves_of path UnsatisfiableUnder before next after first (Ok (Some last)) None created written kept =
+      (written.0, record { first = first; next = next; created = created.0; empty = created.1; last = last; wrote = written.1; kept = kept }, written.2)
+  leaves_of path UnsatisfiableUnder before next after first (Ok (Some last)) (Some fault) created written kept = (first, next, created.0, inl kept)
+  leaves_of path UnsatisfiableUnder before next after first (Err fault) None created written kept = absurd (let no : None ≡ Some fault = kept.0 in cc)
+  leaves_of path UnsatisfiableUnder before next after first (Err fault) (Some other) created written kept = (first, next, created.0, inr kept.1)
+  leaves_of path Unknown before next after first (Ok None) unsaved created written kept = absurd written
+  leaves_of path Unknown before next after first (Ok (Some last)) None created written kept =
+      (written.0, record { first = first; next = next; created = created.0; empty = created.1; last = last; wrote = written.1; kept = kept }, written.2)
+  leaves_of path Unknown before next after first (Ok (Some last)) (Some fault) created written kept = (first, next, created.0, inl kept)
+  leaves_of path Unknown before next after first (Err fault) None created written kept = absurd (let no : None ≡ Some fault = kept.0 in cc)
+  leaves_of path Unknown before next after first (Err fault) (Some other) created written kept = (first, next, created.0, inr kept.1)
+
+  pub leaves_checkpoint : (path : Option Text) (verdict : Verdict) (before next after : files.State) (output : Option files.Output) (saved : Result (Option files.Output) SaveFault)
+      (unsaved : Option SaveFault) → IsCreated files.creates files.written before path output next → IsWritten files.written f verdict output saved → IsKept files.keeps next saved unsaved after
+      → LeavesCheckpoint files path f verdict unsaved before after
+  leaves_checkpoint None verdict before next after None saved unsaved created written kept =
+      let none = none_kept next after saved unsaved written kept in
+      (none.0, none.1 ∙ created)
+  leaves_checkpoint None verdict before next after (Some first) saved unsaved created written kept = absurd created
+  leaves_checkpoint (Some path) verdict before next after None saved unsaved created written kept = absurd created
+  leaves_checkpoint (Some path) verdict before next after (Some first) saved unsaved created written kept =
+      leaves_of path verdict before next after first saved unsaved created written kept
