@@ -1,29 +1,17 @@
 -- A formula's text by the parts that are written one after the other.
-use Rattle.std.proofs.Common.{◌≡◌, ◌≤◌, ◌<◌, ◌≢◌, ◌+◌, ◌++◌, ◌∷◌, ℕ, ℤ, pos, negsuc, nat_abs, List, [], length, map, take, drop, get_or, Option, Some, refl, sym, ap, subst, ◌∙◌, add-one, true, false, arith}
-use Rattle.std.specs.Prelude.{codes, flat_map, slice_get, Result, IsErr}
-use Rattle.std.proofs.lemmas.Int.{ints}
-use Rattle.std.specs.Int.Signed.{lt_z}
+use Rattle.std.proofs.Common.{◌≡◌, ◌≤◌, ◌<◌, ◌≢◌, ◌+◌, ◌*◌, ◌++◌, ◌∷◌, ℕ, ℤ, List, [], length, map, take, drop, get_or, Option, Some, inl, inr, refl, sym, ap, subst, ◌∙◌, add-one, arith}
+use Rattle.std.specs.Prelude.{codes, flat_map, slice_get, Result}
 use Rattle.std.specs.Fmt.{decimal, signed_decimal}
 use Rattle.std.proofs.lemmas.Grind.{flat_map-append}
+use Rattle.std.proofs.lemmas.Option.{slice_get_cases}
 use Rattle.std.proofs.lemmas.List.{append_assoc, append-nil, flat_map_more, map_more, map-append, take_all, take-append-drop, length-map, length-take}
 use Rattle.std.proofs.lemmas.Bool.{eq-eqb, ne_eqb}
 use Rattle.lrup_model.specs.Clause.{Clause}
 use Rattle.lrup_model.specs.ClauseLemmas.{take-next}
 use Rattle.lrup_model.specs.Place.{ClipValue}
-use Rattle.lrup_text.specs.Writing.{Breaks, Puts, PutsAll, WritesText}
-use Rattle.lrup_text.specs.WritingLemmas.{at_err}
+use Rattle.lrup_text.specs.Writing.{Puts, PutsAll}
 use Rattle.checkpoint.specs.Live.{Entry}
 use Rattle.checkpoint.specs.Printing.{clause_line, entries_text, entry_text, formula_text, header_line, note}
-
--- a number that may be negative
-
-pub negative_text : (z : ℤ) → lt_z z (pos 0) ≡ true → signed_decimal z ≡ codes "-" ++ decimal (nat_abs z)
-negative_text (pos n) low = absurd (grind (arith, ints, low))
-negative_text (negsuc n) low = refl
-
-pub other_text : (z : ℤ) → lt_z z (pos 0) ≡ false → signed_decimal z ≡ decimal (nat_abs z)
-other_text (pos n) high = refl
-other_text (negsuc n) high = absurd (grind (arith, ints, high))
 
 -- a literal, and a space after it
 abbrev pub literal_text : ℤ → List ℕ
@@ -33,7 +21,7 @@ abbrev pub literals_text : Clause → List ℕ
 literals_text c = flat_map literal_text c
 
 module _ (c : Clause) (k : ℕ) where
-  pub literals_next : (l : ℤ) → slice_get c k ≡ Some l → literals_text (take (k + 1) c) ≡ literals_text (take k c) ++ literal_text l
+  literals_next : (l : ℤ) → slice_get c k ≡ Some l → literals_text (take (k + 1) c) ≡ literals_text (take k c) ++ literal_text l
   literals_next l at =
       ap literals_text (ap (λ n. take n c) (add-one k) ∙ take-next c k l at) ∙ sym (flat_map_more literal_text [] (take k c) l)
 
@@ -48,6 +36,27 @@ module _ (c : Clause) (k : ℕ) where
   pub literals_all : length c ≤ k → clause_line c ≡ literals_text (take k c) ++ codes "0\n"
   unfolding clause_line
   literals_all all = ap (λ d. literals_text d ++ codes "0\n") (sym (take_all k c all))
+
+-- a pair of literals, the second of which may not be there
+module _ (c : Clause) (i : ℕ) (first : ℤ) (at : slice_get c (2 * i) ≡ Some first) where
+  pub pair_first : literals_text (take (2 * i + 1) c) ≡ literals_text (take (2 * i) c) ++ literal_text first
+  pair_first = literals_next c (2 * i) first at
+
+  pub pair_both : (second : ℤ) → slice_get c (2 * i + 1) ≡ Some second
+      → literals_text (take (2 * (i + 1)) c) ≡ (literals_text (take (2 * i) c) ++ literal_text first) ++ literal_text second
+  pair_both second at' =
+      let next : 2 * (i + 1) ≡ 2 * i + 1 + 1 = omega arith in
+      ap (λ n. literals_text (take n c)) next ∙ literals_next c (2 * i + 1) second at' ∙ ap (λ t. t ++ literal_text second) pair_first
+
+  pub pair_split : (second : ℤ) → slice_get c (2 * i + 1) ≡ Some second
+      → clause_line c ≡ ((literals_text (take (2 * i) c) ++ literal_text first) ++ literal_text second) ++ (literals_text (drop (2 * i + 1 + 1) c) ++ codes "0\n")
+  pair_split second at' =
+      literals_split c (2 * i + 1) second at' ∙ ap (λ t. (t ++ literal_text second) ++ (literals_text (drop (2 * i + 1 + 1) c) ++ codes "0\n")) pair_first
+
+  pub pair_alone : ((l : ℤ) → ¬ (slice_get c (2 * i + 1) ≡ Some l)) → literals_text (take (2 * (i + 1)) c) ≡ literals_text (take (2 * i) c) ++ literal_text first
+  pair_alone none =
+      let short : length c ≤ 2 * i + 1 = elim (slice_get_cases c (2 * i + 1)).1 [ inl found ↦ absurd (none found.0 found.2) | inr short ↦ short.0 ] in
+      ap literals_text (take_all (2 * (i + 1)) c (omega (arith, short)) ∙ sym (take_all (2 * i + 1) c short)) ∙ pair_first
 
 -- a note, where there is one
 pub note_none : (id place : ℕ) → id ≡ place → note id place ≡ []
@@ -107,12 +116,6 @@ module _ (vars : ℕ) (entry : ClipValue → Entry) (clips : List ClipValue) whe
 
   pub entries_all : (k : ℕ) → length clips ≤ k → formula_text vars (map entry clips) ≡ header_entries vars entry clips k
   entries_all k all = header_first ∙ ap (λ (cs : List ClipValue). header_line vars (length clips) ++ entries_text 1 (map entry cs)) (sym (take_all k clips all))
-
--- a beginning of a text that went out, where nothing was held before
-pub breaks_from_empty : {E : Type 0} (r : Result (Unit {0}) E) {a b : Option (List ℕ)} {h z : List ℕ} → h ≡ [] → IsErr r → Breaks a b h z → WritesText r a b z
-breaks_from_empty r {a} {b} {h} {z} empty err broken =
-    let from : Breaks a b [] z = subst (λ (x : List ℕ). Breaks a b x z) empty broken in
-    at_err r _ _ err (from.went, from.rest, from.is, from.appends)
 
 -- a text that is equal to what was put
 pub puts_all_as : {E : Type 0} (r : Result (Unit {0}) E) (a b : Option (List ℕ)) (h i : List ℕ) {x z : List ℕ} → PutsAll r a b h i x → z ≡ x → PutsAll r a b h i z

@@ -1,6 +1,6 @@
 //! Writes clauses as a formula in DIMACS CNF.
 ghost use Rattle.std.specs.Prelude.{◌≡◌, ◌++◌, [], codes, false, is_err};
-ghost use Rattle.std.specs.Fmt.{decimal, signed_decimal};
+ghost use Rattle.std.specs.Fmt.{signed_decimal};
 ghost use Rattle.std.specs.List.{AllByRecursion};
 ghost use Rattle.lrup_model.specs.Place.{IsKnown, clip_clause};
 ghost use Rattle.lrup_text.specs.Writing.{PutsAll, WritesText};
@@ -108,33 +108,23 @@ fn put_clause<M: ClauseMap, W: Sink>(
     ensures event { M.moves map.old map.new [] }
     ensures stays { M.place map.new ≡ M.place map.old }
 {
-    for k in 0..clip.len() {
-        let lit = map.literal(clip, k);
-        put_literal(buffer, lit, sink)?;
+    for i in 0..clip.pairs() {
+        let (first, second) = map.pair(clip, i);
+        put_literal(buffer, first, sink)?;
+        if let Some(second) = second {
+            put_literal(buffer, second, sink)?;
+        }
     }
     buffer.put(b"0\n", sink)
 }
 
 /// Puts a literal, and a space after it.
+#[inline]
 fn put_literal<W: Sink>(buffer: &mut WriteBuffer, lit: Lit, sink: &mut W) -> Result<(), WriteFault>
     requires { W.has_failed sink.old ≡ false }
     ensures puts { PutsAll result (W.written sink.old) (W.written sink.new)
         buffer.old buffer.new (signed_decimal lit ++ codes " ") }
     ensures failed { W.has_failed sink.new ≡ is_err result }
 {
-    put_signed(buffer, lit.value(), sink)?;
-    buffer.put(b" ", sink)
-}
-
-/// Puts a number that may be negative.
-fn put_signed<W: Sink>(buffer: &mut WriteBuffer, value: i64, sink: &mut W) -> Result<(), WriteFault>
-    requires { W.has_failed sink.old ≡ false }
-    ensures puts { PutsAll result (W.written sink.old) (W.written sink.new)
-        buffer.old buffer.new (signed_decimal value) }
-    ensures failed { W.has_failed sink.new ≡ is_err result }
-{
-    if value < 0 {
-        buffer.put(b"-", sink)?;
-    }
-    buffer.put_number(value.unsigned_abs(), sink)
+    buffer.put_literal(lit.value(), sink)
 }

@@ -71,6 +71,13 @@ pub at_err : {T E : Type 0} (r : Result T E) (P Q : Type 0) → IsErr r → Q
 at_err (Ok x) P Q h q = cc
 at_err (Err e) P Q h q = q
 
+-- a beginning of a text that went out, where nothing was held before
+pub breaks_from_empty : {E : Type 0} (r : Result (Unit {0}) E) {a b : Option (List ℕ)}
+    {h z : List ℕ} → h ≡ [] → IsErr r → Breaks a b h z → WritesText r a b z
+breaks_from_empty r {a} {b} {h} {z} empty err broken =
+    let from : Breaks a b [] z = subst (λ (x : List ℕ). Breaks a b x z) empty broken in
+    at_err r _ _ err (from.went, from.rest, from.is, from.appends)
+
 -- the same, for a text that is equal to it; or to two parts; or that goes on after them
 pub breaks_as : {a b : Option (List ℕ)} {h x z : List ℕ} → Breaks a b h x → z ≡ x → Breaks a b h z
 breaks_as {a} {b} {h} broken is = subst (λ t. Breaks a b h t) (sym is) broken

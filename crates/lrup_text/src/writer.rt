@@ -1,11 +1,11 @@
 //! Writes texts and lines.
-ghost use Rattle.std.specs.Prelude.{◌≡◌, ◌<◌, ◌≤◌, ◌+◌, [], ◌∷◌, ◌++◌, length, false, is_err, map, IsTrue, ◌↔◌, OnErr};
+ghost use Rattle.std.specs.Prelude.{◌≡◌, ◌<◌, ◌≤◌, ◌+◌, [], ◌∷◌, ◌++◌, length, take, false, is_err, map, IsTrue, ◌↔◌, OnErr};
 ghost use Rattle.std.specs.Fmt.{decimal, signed_decimal};
 ghost use Rattle.lrup_text.specs.ByteNames.{space};
 ghost use Rattle.lrup_text.specs.Grammar.{list_text};
 ghost use Rattle.lrup_text.specs.Lines.{line_of, line_text, IsWithinLimits};
 ghost use Rattle.lrup_text.specs.Reading.{literals_text};
-ghost use Rattle.lrup_text.specs.Writing.{PutsAll, WritesText};
+ghost use Rattle.lrup_text.specs.Writing.{PutsAll, WritesText, four_digits};
 
 use crate::{Line, Sink, WriteFault};
 use std::marker::Model;
@@ -15,6 +15,9 @@ const WORD: usize = 24;
 
 /// The bytes that a buffer holds at most.
 const CAPACITY: usize = 512;
+
+/// The bytes of a number's text at most, with a sign before it and a space after it.
+const LONGEST: usize = 22;
 
 /// A short text that is made from its end.
 #[derive(Drop)]
@@ -104,6 +107,85 @@ impl Word {
     }
 }
 
+/// Writes a byte of a text at its place, and tells the next place.
+#[inline]
+fn write_byte(bytes: &mut [u8], at: usize, byte: u8) -> usize
+    requires { at < length bytes.old }
+    ensures end { result ≡ at + 1 }
+    ensures text { take result bytes.new ≡ take at bytes.old ++ byte ∷ [] }
+{
+    bytes[at] = byte;
+    at + 1
+}
+
+/// Writes a number of at most four digits with zeros in front, so that they are four.
+#[inline]
+fn write_four(bytes: &mut [u8], at: usize, number: u32) -> usize
+    requires small { number < 10000 }
+    requires room { at + 4 ≤ length bytes.old }
+    ensures end { result ≡ at + 4 }
+    ensures text { take result bytes.new ≡ take at bytes.old ++ four_digits number }
+{
+    let (front, back) = (number / 100, number % 100);
+    let second = write_byte(bytes, at, b'0' + (front / 10) as u8);
+    let third = write_byte(bytes, second, b'0' + (front % 10) as u8);
+    let fourth = write_byte(bytes, third, b'0' + (back / 10) as u8);
+    write_byte(bytes, fourth, b'0' + (back % 10) as u8)
+}
+
+/// Writes a number of at most four digits in decimal.
+#[inline]
+fn write_few(bytes: &mut [u8], at: usize, number: u32) -> usize
+    requires small { number < 10000 }
+    requires room { at + 4 ≤ length bytes.old }
+    ensures end { result ≡ at + length (decimal number) }
+    ensures text { take result bytes.new ≡ take at bytes.old ++ decimal number }
+{
+    if number >= 1000 {
+        write_four(bytes, at, number)
+    } else if number >= 100 {
+        let second = write_byte(bytes, at, b'0' + (number / 100) as u8);
+        let third = write_byte(bytes, second, b'0' + (number / 10 % 10) as u8);
+        write_byte(bytes, third, b'0' + (number % 10) as u8)
+    } else if number >= 10 {
+        let second = write_byte(bytes, at, b'0' + (number / 10) as u8);
+        write_byte(bytes, second, b'0' + (number % 10) as u8)
+    } else {
+        write_byte(bytes, at, b'0' + number as u8)
+    }
+}
+
+/// Writes a number in decimal: four digits at a time, so that short ones take few divisions.
+#[inline]
+fn write_number(bytes: &mut [u8], at: usize, number: u64) -> usize
+    requires { at + 20 ≤ length bytes.old }
+    ensures end { result ≡ at + length (decimal number) }
+    ensures text { take result bytes.new ≡ take at bytes.old ++ decimal number }
+{
+    if number < 10_000 {
+        write_few(bytes, at, number as u32)
+    } else if number < 100_000_000 {
+        let last = write_few(bytes, at, (number / 10_000) as u32);
+        write_four(bytes, last, (number % 10_000) as u32)
+    } else {
+        let last = write_long(bytes, at, number / 10_000);
+        write_four(bytes, last, (number % 10_000) as u32)
+    }
+}
+
+/// The same, of a number that is mostly long.
+fn write_long(bytes: &mut [u8], at: usize, number: u64) -> usize
+    requires { at + 20 ≤ length bytes.old }
+    ensures end { result ≡ at + length (decimal number) }
+    ensures text { take result bytes.new ≡ take at bytes.old ++ decimal number }
+{
+    if number < 10_000 {
+        return write_few(bytes, at, number as u32);
+    }
+    let last = write_long(bytes, at, number / 10_000);
+    write_four(bytes, last, (number % 10_000) as u32)
+}
+
 /// Bytes on their way to a sink. Up to 512 of them are held, so that many short texts make few writes.
 #[derive(Drop)]
 pub struct WriteBuffer {
@@ -142,6 +224,47 @@ impl WriteBuffer {
         let len = self.len;
         self.len = 0;
         write_all(&self.bytes[..len], sink)
+    }
+
+    /// Is there room for a number, with its sign and a space?
+    #[inline]
+    fn has_room(&self) -> bool
+        ensures { IsTrue result ↔ (length self.now + 22 ≤ 512) }
+    {
+        self.len <= CAPACITY - LONGEST
+    }
+
+    /// Puts a number's decimal text after what is held.
+    #[inline]
+    fn push_number(&mut self, number: u64)
+        requires { length self.old + 20 ≤ 512 }
+        ensures text { self.new ≡ self.old ++ decimal number }
+        ensures room { length self.new ≤ length self.old + 20 }
+    {
+        self.len = write_number(&mut self.bytes, self.len, number);
+    }
+
+    /// Puts a literal and a space after what is held.
+    #[inline]
+    fn push_literal(&mut self, literal: i64)
+        requires { length self.old + 22 ≤ 512 }
+        ensures { self.new ≡ self.old ++ (signed_decimal literal ++ space ∷ []) }
+    {
+        if literal < 0 {
+            self.push(b'-');
+        }
+        self.push_number(literal.unsigned_abs());
+        self.push(b' ');
+    }
+
+    /// Puts bytes after what is held.
+    fn append(&mut self, bytes: &[u8])
+        requires { length self.old + length bytes.now ≤ 512 }
+        ensures { self.new ≡ self.old ++ bytes.now }
+    {
+        let end = self.len + bytes.len();
+        self.bytes[self.len..end].copy_from_slice(bytes);
+        self.len = end;
     }
 
     fn is_full(&self) -> bool
@@ -183,6 +306,10 @@ impl WriteBuffer {
         ensures failed { W.has_failed sink.new ≡ is_err result }
         ensures empty { OnErr result (self.new ≡ []) }
     {
+        if bytes.len() <= CAPACITY - self.len {
+            self.append(bytes);
+            return Ok(());
+        }
         for byte in bytes {
             self.put_byte(*byte, sink)?;
         }
@@ -197,9 +324,29 @@ impl WriteBuffer {
         ensures failed { W.has_failed sink.new ≡ is_err result }
         ensures empty { OnErr result (self.new ≡ []) }
     {
+        if self.has_room() {
+            self.push_number(number);
+            return Ok(());
+        }
         let mut word = Word::new();
         word.push_number(number);
         self.put(word.bytes(), sink)
+    }
+
+    /// Puts a literal and a space, as `put` does.
+    #[inline]
+    pub fn put_literal<W: Sink>(&mut self, literal: i64, sink: &mut W) -> Result<(), WriteFault>
+        requires { W.has_failed sink.old ≡ false }
+        ensures puts { PutsAll result (W.written sink.old) (W.written sink.new)
+            self.old self.new (signed_decimal literal ++ space ∷ []) }
+        ensures failed { W.has_failed sink.new ≡ is_err result }
+        ensures empty { OnErr result (self.new ≡ []) }
+    {
+        if self.has_room() {
+            self.push_literal(literal);
+            return Ok(());
+        }
+        self.put(Word::literal(literal).bytes(), sink)
     }
 
     /// Puts literals, and a space after each.
@@ -210,7 +357,7 @@ impl WriteBuffer {
         ensures failed { W.has_failed sink.new ≡ is_err result }
     {
         for literal in lits {
-            self.put(Word::literal(*literal).bytes(), sink)?;
+            self.put_literal(*literal, sink)?;
         }
         Ok(())
     }

@@ -1,10 +1,8 @@
 -- The text of a report by the parts that are written one after the other.
 use Rattle.std.proofs.Common.{◌≡◌, ℕ, ◌+◌, ◌<◌, ◌≤◌, List, [], ◌∷◌, ◌++◌, length, take, drop, get_or, Option, sym, ◌∙◌, ap, subst, arith}
-use Rattle.std.specs.Prelude.{IsErr, Result, codes}
+use Rattle.std.specs.Prelude.{codes}
 use Rattle.std.specs.Fmt.{decimal}
 use Rattle.std.proofs.lemmas.List.{append_assoc, append-nil, take_more, take_all, take-append-drop, length-take-le}
-use Rattle.lrup_text.specs.Writing.{Breaks, WritesText}
-use Rattle.lrup_text.specs.WritingLemmas.{at_err}
 use Rattle.stream_check.specs.declared.report.Report.{Report}
 use Rattle.portfolio.specs.declared.outcome.Verdict.{Verdict}
 use Rattle.portfolio.specs.ReportText.{ending_text, line_after, report_text, stream_line, stream_lines, verdict_line}
@@ -59,12 +57,6 @@ pub lines_all : (rs : List Report) (k : ℕ) → length rs ≤ k → stream_line
 lines_all rs k all = ap (stream_lines 1) (sym (take_all k rs all))
 
 -- ---- a line by itself
-
--- a beginning of a text that went out, where nothing was held before
-pub breaks_from_empty : {E : Type 0} (r : Result (Unit {0}) E) {a b : Option (List ℕ)} {h z : List ℕ} → h ≡ [] → IsErr r → Breaks a b h z → WritesText r a b z
-breaks_from_empty r {a} {b} {h} {z} empty err broken =
-    let from : Breaks a b [] z = subst (λ (x : List ℕ). Breaks a b x z) empty broken in
-    at_err r _ _ err (from.went, from.rest, from.is, from.appends)
 
 -- words, a number, more words, another number, and what ends the line
 pub numbers-parts : (words first between second rest : List ℕ) → words ++ first ++ between ++ second ++ rest ≡ ((words ++ first) ++ (between ++ second)) ++ rest

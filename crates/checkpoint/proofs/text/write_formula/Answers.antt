@@ -1,8 +1,8 @@
 use Rattle.std.proofs.Common.{◌++◌, ◌+◌, sym, ap, ◌∙◌}
-use Rattle.lrup_text.specs.WritingLemmas.{at_err, breaks_first, breaks_next, puts_next, writes_all_next}
+use Rattle.lrup_text.specs.WritingLemmas.{at_err, breaks_first, breaks_from_empty, breaks_next, puts_next, writes_all_next}
 use Rattle.checkpoint.specs.Live.{entry_of}
 use Rattle.checkpoint.specs.Printing.{entry_text}
-use Rattle.checkpoint.proofs.PrintLemmas.{breaks_from_empty, header_first, header_entries, entries_next, entries_split, entries_all, later_entries, puts_as}
+use Rattle.checkpoint.proofs.PrintLemmas.{header_first, header_entries, entries_next, entries_split, entries_all, later_entries, puts_as}
 use Rattle.checkpoint.proofs.text.write_formula.Goals as goal
 
 pub returns-in_err-put_header-clause-text : goal.returns-in_err-put_header-clause-text

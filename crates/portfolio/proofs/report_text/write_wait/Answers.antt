@@ -1,8 +1,8 @@
 use Rattle.std.proofs.Common.{◌++◌}
 use Rattle.std.specs.Prelude.{codes}
 use Rattle.std.specs.Fmt.{decimal}
-use Rattle.lrup_text.specs.WritingLemmas.{breaks_as, breaks_more, breaks_then, puts_next, puts_then, writes_from_empty}
-use Rattle.portfolio.proofs.ReportLines.{breaks_from_empty, numbers-parts}
+use Rattle.lrup_text.specs.WritingLemmas.{breaks_as, breaks_from_empty, breaks_more, breaks_then, puts_next, puts_then, writes_from_empty}
+use Rattle.portfolio.proofs.ReportLines.{numbers-parts}
 use Rattle.portfolio.proofs.report_text.write_wait.Goals as goal
 
 pub returns-in_err-put_numbered-clause-text : goal.returns-in_err-put_numbered-clause-text
