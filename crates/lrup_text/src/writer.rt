@@ -14,7 +14,7 @@ use std::marker::Model;
 const WORD: usize = 24;
 
 /// The bytes that a buffer holds at most.
-const CAPACITY: usize = 512;
+const CAPACITY: usize = 4_096;
 
 /// The bytes of a number's text at most, with a sign before it and a space after it.
 const LONGEST: usize = 22;
@@ -155,7 +155,7 @@ fn write_few(bytes: &mut [u8], at: usize, number: u32) -> usize
     }
 }
 
-/// Writes a number in decimal: four digits at a time, so that short ones take few divisions.
+/// Writes a number in decimal: four digits at a time, so that a short one takes few divisions.
 #[inline]
 fn write_number(bytes: &mut [u8], at: usize, number: u64) -> usize
     requires { at + 20 ≤ length bytes.old }
@@ -168,8 +168,7 @@ fn write_number(bytes: &mut [u8], at: usize, number: u64) -> usize
         let last = write_few(bytes, at, (number / 10_000) as u32);
         write_four(bytes, last, (number % 10_000) as u32)
     } else {
-        let last = write_long(bytes, at, number / 10_000);
-        write_four(bytes, last, (number % 10_000) as u32)
+        write_long(bytes, at, number)
     }
 }
 
@@ -186,7 +185,22 @@ fn write_long(bytes: &mut [u8], at: usize, number: u64) -> usize
     write_four(bytes, last, (number % 10_000) as u32)
 }
 
-/// Bytes on their way to a sink. Up to 512 of them are held, so that many short texts make few writes.
+/// Writes a literal, and a space after it. Signs come by chance, so none is a branch: a number is written over the minus that it
+/// doesn't want.
+#[inline]
+fn write_literal(bytes: &mut [u8], at: usize, literal: i64) -> usize
+    requires { at + 22 ≤ length bytes.old }
+    ensures end { result ≤ at + 22 }
+    ensures text { take result bytes.new
+        ≡ take at bytes.old ++ (signed_decimal literal ++ space ∷ []) }
+{
+    bytes[at] = b'-';
+    let first = at + usize::from(literal < 0);
+    let last = write_number(bytes, first, literal.unsigned_abs());
+    write_byte(bytes, last, b' ')
+}
+
+/// Bytes on their way to a sink. Up to 4,096 of them are held, so that many short texts make few writes.
 #[derive(Drop)]
 pub struct WriteBuffer {
     bytes: [u8; CAPACITY],
@@ -200,7 +214,7 @@ impl Model for WriteBuffer {
 
     ghost view = { λ c. take c.len c.bytes };
 
-    ghost invariant = { λ c. c.len ≤ 512 };
+    ghost invariant = { λ c. c.len ≤ 4096 };
 }
 
 impl WriteBuffer {
@@ -229,37 +243,14 @@ impl WriteBuffer {
     /// Is there room for a number, with its sign and a space?
     #[inline]
     fn has_room(&self) -> bool
-        ensures { IsTrue result ↔ (length self.now + 22 ≤ 512) }
+        ensures { IsTrue result ↔ (length self.now + 22 ≤ 4096) }
     {
         self.len <= CAPACITY - LONGEST
     }
 
-    /// Puts a number's decimal text after what is held.
-    #[inline]
-    fn push_number(&mut self, number: u64)
-        requires { length self.old + 20 ≤ 512 }
-        ensures text { self.new ≡ self.old ++ decimal number }
-        ensures room { length self.new ≤ length self.old + 20 }
-    {
-        self.len = write_number(&mut self.bytes, self.len, number);
-    }
-
-    /// Puts a literal and a space after what is held.
-    #[inline]
-    fn push_literal(&mut self, literal: i64)
-        requires { length self.old + 22 ≤ 512 }
-        ensures { self.new ≡ self.old ++ (signed_decimal literal ++ space ∷ []) }
-    {
-        if literal < 0 {
-            self.push(b'-');
-        }
-        self.push_number(literal.unsigned_abs());
-        self.push(b' ');
-    }
-
     /// Puts bytes after what is held.
     fn append(&mut self, bytes: &[u8])
-        requires { length self.old + length bytes.now ≤ 512 }
+        requires { length self.old + length bytes.now ≤ 4096 }
         ensures { self.new ≡ self.old ++ bytes.now }
     {
         let end = self.len + bytes.len();
@@ -268,14 +259,14 @@ impl WriteBuffer {
     }
 
     fn is_full(&self) -> bool
-        ensures full { IsTrue result ↔ (length self.now ≡ 512) }
-        ensures bound { length self.now ≤ 512 }
+        ensures full { IsTrue result ↔ (length self.now ≡ 4096) }
+        ensures bound { length self.now ≤ 4096 }
     {
         self.len == CAPACITY
     }
 
     fn push(&mut self, byte: u8)
-        requires { length self.old < 512 }
+        requires { length self.old < 4096 }
         ensures { self.new ≡ self.old ++ byte ∷ [] }
     {
         self.bytes[self.len] = byte;
@@ -325,7 +316,7 @@ impl WriteBuffer {
         ensures empty { OnErr result (self.new ≡ []) }
     {
         if self.has_room() {
-            self.push_number(number);
+            self.len = write_number(&mut self.bytes, self.len, number);
             return Ok(());
         }
         let mut word = Word::new();
@@ -343,9 +334,21 @@ impl WriteBuffer {
         ensures empty { OnErr result (self.new ≡ []) }
     {
         if self.has_room() {
-            self.push_literal(literal);
+            self.len = write_literal(&mut self.bytes, self.len, literal);
             return Ok(());
         }
+        self.put_literal_beyond(literal, sink)
+    }
+
+    /// The same, where there may be no room for it.
+    #[inline(never)]
+    fn put_literal_beyond<W: Sink>(&mut self, literal: i64, sink: &mut W) -> Result<(), WriteFault>
+        requires { W.has_failed sink.old ≡ false }
+        ensures puts { PutsAll result (W.written sink.old) (W.written sink.new)
+            self.old self.new (signed_decimal literal ++ space ∷ []) }
+        ensures failed { W.has_failed sink.new ≡ is_err result }
+        ensures empty { OnErr result (self.new ≡ []) }
+    {
         self.put(Word::literal(literal).bytes(), sink)
     }
 

@@ -7,9 +7,6 @@ use Rattle.lrup_text.proofs.writer.write_number.Goals as goal
 pub write_four-requires-clause-room : goal.write_four-requires-clause-room
 write_four-requires-clause-room c = omega (arith, fours_room c.args.number (omega arith) (omega arith))
 
-pub write_four-requires-else-number-lt100000000-clause-room : goal.write_four-requires-else-number-lt100000000-clause-room
-write_four-requires-else-number-lt100000000-clause-room c = omega (arith, fours_room c.args.number (omega arith) (omega arith))
-
 pub returns-then-number-lt100000000-clause-end : goal.returns-then-number-lt100000000-clause-end
 returns-then-number-lt100000000-clause-end c = omega (arith, length-decimal_fours c.args.number (omega arith) (omega arith))
 
@@ -17,13 +14,4 @@ pub returns-then-number-lt100000000-clause-text : goal.returns-then-number-lt100
 returns-then-number-lt100000000-clause-text c =
     let n = c.args.number in
     written_more (take c.args.at c.args.bytes.now) (decimal (n / 10000)) (four_digits (n % 10000)) (decimal n) c.write_few-last.ensures.text c.write_four.ensures.text
-    (decimal_fours n (omega arith) (omega arith))
-
-pub returns-else-number-lt100000000-clause-end : goal.returns-else-number-lt100000000-clause-end
-returns-else-number-lt100000000-clause-end c = omega (arith, length-decimal_fours c.args.number (omega arith) (omega arith))
-
-pub returns-else-number-lt100000000-clause-text : goal.returns-else-number-lt100000000-clause-text
-returns-else-number-lt100000000-clause-text c =
-    let n = c.args.number in
-    written_more (take c.args.at c.args.bytes.now) (decimal (n / 10000)) (four_digits (n % 10000)) (decimal n) c.write_long-last.ensures.text c.write_four-else-number-lt100000000.ensures.text
     (decimal_fours n (omega arith) (omega arith))
