@@ -13,11 +13,12 @@ use Rattle.portfolio.specs.declared.outcome.RunFault.{RunFault}
 use Rattle.portfolio.specs.declared.outcome.RunFault.TheVariants as runs
 use Rattle.portfolio.specs.declared.outcome.Verdict.{Verdict}
 use Rattle.stream_check.specs.declared.report.Report.{Report}
+use Rattle.checkpoint.specs.declared.saving.SaveFault.{SaveFault}
 use Rattle.command_line.specs.CommandLine.{AskFor, IsCommandLineOf}
 use Rattle.command_line.specs.declared.words.CommandLine.{CommandLine}
 use Rattle.command.specs.Commands.{AreAssumed, IsAssumeCause, NameUnsatisfiableUnder, assumed_at}
 use Rattle.command.specs.Commands.{AreChecked, AreOpened, IsCause, IsFormulaAt, IsOpenCause, IsOutcome, IsReadCause}
-use Rattle.command.specs.Commands.{FilesView, IsCreateCause, IsRunCause, NameUnsatisfiable, Text, WasRead, WasReadIn, checkpoint_at, layout_at, options_of}
+use Rattle.command.specs.Commands.{FilesView, IsCreateCause, IsRunCause, LeavesCheckpoint, NameUnsatisfiable, Text, WasRead, WasReadIn, checkpoint_at, layout_at, options_of}
 use Rattle.command.specs.Faults.{of_run}
 use Rattle.command.specs.declared.fault.CommandFault.{CommandFault}
 use Rattle.command.specs.declared.fault.CommandFault.TheVariants as faults
@@ -98,18 +99,19 @@ names_unsatisfiable_under files words given bytes next tells told line read (f, 
     let same = subst (λ (t : Text → Option (List ℕ)). AreAssumed (WasRead files.opens files.reading.reads t) f.vars next (assumed_at given) cube after) told assumed in
     (given.formula.now, assumed_at given, bytes, f, cube, next, after, ask_for words given line, read, text, same, refuted)
 
--- what is checked is the outcome of the words and the files
+-- what is checked is the outcome of the words and the files, and it leaves the checkpoint that they ask for
 pub is_outcome : (files : FilesView) (words : List Text) (given : CommandLine) (f : Cnf) (cube : CubeValue) (options : OptionsValue) (readers : List files.Reader) (next later last : files.State)
     → IsCommandLineOf words given → IsFormulaAt files given.formula.now f next → AreAssumed (WasReadIn files) f.vars next (assumed_at given) cube later
     → options ≡ options_of given → AreOpened files.opens later given.streams readers last → map files.reading.left readers ≡ map files.tells given.streams
-    → (reports : List Report) (verdict : Verdict)
+    → (reports : List Report) (verdict : Verdict) (unsaved : Option SaveFault) (after : files.State)
     → AreChecked files.reading given.serial f (terms_of options cube f (length readers)) readers reports verdict
-    → IsOutcome files words reports verdict
-is_outcome files words given f cube options readers next later last line at assumed options_are opened entries_are reports verdict checked =
+    → LeavesCheckpoint files (checkpoint_at given) f verdict unsaved last after
+    → (outcome : IsOutcome files words reports verdict) × LeavesCheckpoint files (checkpoint_at outcome.given) outcome.formula verdict unsaved outcome.last after
+is_outcome files words given f cube options readers next later last line at assumed options_are opened entries_are reports verdict unsaved after checked leaves =
     let one = subst (λ (o : OptionsValue). AreChecked files.reading given.serial f (terms_of o cube f (length readers)) readers reports verdict) options_are checked in
     let two = subst (λ (n : ℕ). AreChecked files.reading given.serial f (terms_of (options_of given) cube f n) readers reports verdict)
     (same_count _ _ readers given.streams entries_are) one in
-    record {
+    let outcome : IsOutcome files words reports verdict = record {
       given = given;
       command_line = line;
       formula = f;
@@ -123,7 +125,8 @@ is_outcome files words given f cube options readers next later last line at assu
       opened = opened;
       left = entries_are;
       checked = two;
-    }
+    } in
+    (outcome, leaves)
 
 -- The causes are those of the words and the files.
 pub read_cause : (files : FilesView) (words : List Text) (given : CommandLine) → IsCommandLineOf words given

@@ -1,11 +1,48 @@
 -- A checkpoint's file, from its creation to its end.
-use Rattle.std.proofs.Common.{◌≡◌, ◌∙◌, List, ℕ, Option, None, Some, Result, Ok, Err, inl, inr, refl, sym, subst}
+use Rattle.std.proofs.Common.{◌≡◌, ◌∙◌, Bool, false, List, ℕ, Option, None, Some, Result, Ok, Err, inl, inr, refl, sym, subst}
+use Rattle.std.specs.Io.KnownBytes.{Appends}
+use Rattle.std.specs.Option.{ForSome}
 use Rattle.lrup_model.specs.Formula.{Cnf}
 use Rattle.portfolio.specs.declared.outcome.Verdict.{Verdict}
 use Rattle.portfolio.specs.declared.outcome.Verdict.TheVariants.{Unsatisfiable, UnsatisfiableUnder, Unknown}
+use Rattle.checkpoint.specs.Checkpoints.{IsCheckpoint}
 use Rattle.checkpoint.specs.declared.saving.SaveFault.{SaveFault}
 use Rattle.command.specs.Commands.{FilesView, LeavesCheckpoint, Text}
-use Rattle.command.specs.Saving.{IsCreated, IsKept, IsWritten}
+use Rattle.command.specs.Saving.{IsCreated, IsKept, IsWritten, to_write}
+
+-- a file that is written to hasn't failed
+pub running_to_write : {W : Type 0} (has_failed : W → Bool) (verdict : Verdict) (output : Option W) (first : W) → ForSome output (λ sink. has_failed sink ≡ false)
+    → to_write verdict output ≡ Some first → has_failed first ≡ false
+running_to_write has_failed Unsatisfiable output first running is = absurd (let no : None ≡ Some first = is in cc)
+running_to_write has_failed UnsatisfiableUnder output first running is = running first is
+running_to_write has_failed Unknown output first running is = running first is
+
+module _ {W : Type 0} (written : W → Option (List ℕ)) (f : Cnf) where
+  -- what is written: nothing, a checkpoint, or less where there is a fault
+  pub written_none : (verdict : Verdict) (output : Option W) → to_write verdict output ≡ None → IsWritten written f verdict output (Ok None)
+  written_none verdict None is = refl
+  written_none Unsatisfiable (Some first) is = refl
+  written_none UnsatisfiableUnder (Some first) is = absurd (let no : Some first ≡ None = is in cc)
+  written_none Unknown (Some first) is = absurd (let no : Some first ≡ None = is in cc)
+
+  pub written_err : (verdict : Verdict) (output : Option W) (first : W) (fault : SaveFault) → to_write verdict output ≡ Some first → IsWritten written f verdict output (Err fault)
+  written_err Unsatisfiable output first fault is = absurd (let no : None ≡ Some first = is in cc)
+  written_err UnsatisfiableUnder None first fault is = absurd (let no : None ≡ Some first = is in cc)
+  written_err UnsatisfiableUnder (Some other) first fault is = tt
+  written_err Unknown None first fault is = absurd (let no : None ≡ Some first = is in cc)
+  written_err Unknown (Some other) first fault is = tt
+
+  pub written_ok : (verdict : Verdict) (output : Option W) (first last : W) → to_write verdict output ≡ Some first
+      → (bytes : List ℕ) × Appends (written first) (written last) bytes × IsCheckpoint f bytes → IsWritten written f verdict output (Ok (Some last))
+  written_ok Unsatisfiable output first last is wrote = absurd (let no : None ≡ Some first = is in cc)
+  written_ok UnsatisfiableUnder None first last is wrote = absurd (let no : None ≡ Some first = is in cc)
+  written_ok UnsatisfiableUnder (Some other) first last is wrote =
+      let same : first ≡ other = cc in
+      subst (λ (sink : W). (bytes : List ℕ) × Appends (written sink) (written last) bytes × IsCheckpoint f bytes) same wrote
+  written_ok Unknown None first last is wrote = absurd (let no : None ≡ Some first = is in cc)
+  written_ok Unknown (Some other) first last is wrote =
+      let same : first ≡ other = cc in
+      subst (λ (sink : W). (bytes : List ℕ) × Appends (written sink) (written last) bytes × IsCheckpoint f bytes) same wrote
 
 module _ (files : FilesView) (f : Cnf) where
   -- nothing was to be kept

@@ -16,6 +16,7 @@ ghost use Rattle.stream_check.specs.Setting.{max_tries};
 use crate::checking::{Asked, RunResult, check_asked, read_asked};
 use crate::fault::CommandFault;
 use crate::files::Files;
+use checkpoint::SaveFault;
 use lrup_text::{Sink, WriteFault};
 use portfolio::{Verdict, write_report};
 use std::alloc::Global;
@@ -25,11 +26,12 @@ use std::time::Clock;
 
 /// Runs `lrupd` with the words after the program's name, and gives the status that it ends with. In
 /// this order: the words are read, the formula's file is read and parsed, and so is that of the
-/// assumed literals, the streams are opened, the checkpoint's file is created if the words ask for one,
-/// the streams are checked, the checkpoint is saved unless the verdict is 'unsatisfiable', and the
-/// report goes to `out`. Where the checkpoint wasn't saved, `err` says so first. Where there is no report, `out` gets nothing, and `err` the cause. Where the report can't be written, `out`
-/// has a beginning of it, and `err` says so. Where the words have `--watch`, it is told what goes on
-/// while streams are checked, on a watcher for each stream. It blocks while a file does.
+/// assumed literals, the streams are opened, the checkpoint's file is created, the streams are
+/// checked, the checkpoint is saved, and the report goes to `out`. There is a checkpoint where the
+/// words have `--checkpoint`, and nothing is saved where the report says `s UNSATISFIABLE`. Where the
+/// saving fails, `err` says why. Where there is no report, `out` gets nothing, and `err` the cause.
+/// Where the report can't be written, `out` has a beginning of it, and `err` says so. Where the words
+/// have `--watch`, it is told what goes on, on a watcher for each stream. It blocks while a file does.
 ///
 /// | status | where |
 /// |---|---|
@@ -37,7 +39,7 @@ use std::time::Clock;
 /// | 2 | the words have a mistake or ask for help; too many streams; the row would be too long |
 /// | 3 | the report says `s UNKNOWN` |
 /// | 4 | the formula or the assumptions were refused for another cause than memory |
-/// | 5 | the file of the formula or of the assumptions wasn't opened or read; a stream's file wasn't opened; the checkpoint's wasn't created |
+/// | 5 | the file of the formula or of the assumptions wasn't opened or read; a stream's wasn't opened; the checkpoint's wasn't created |
 /// | 6 | out of memory, outside a report; a worker couldn't be started; a stream's ring gave no mark |
 /// | 7 | the report couldn't be written |
 /// | 8 | the report says `s UNSATISFIABLE UNDER ASSUMPTIONS` |
@@ -136,12 +138,21 @@ fn report<O: Sink, E: Sink>(found: &RunResult, out: &mut O, err: &mut E) -> u8
     ensures status { result
         ≡ report_status (O.has_failed out.new) found.now.unsaved found.now.verdict }
 {
-    if let Some(fault) = found.unsaved {
-        let _ = say(&CommandFault::NotSaved(fault), err);
-    }
+    say_unsaved(found.unsaved, err);
     match write_report(&found.reports, found.verdict, out) {
         Ok(()) => written_status(found),
         Err(WriteFault) => say_next(&CommandFault::Unwritten, err),
+    }
+}
+
+/// Says why the checkpoint wasn't saved, where it wasn't.
+fn say_unsaved<E: Sink>(unsaved: Option<SaveFault>, err: &mut E)
+    requires err { E.has_failed err.old ≡ false }
+    ensures { SaysOfReport false unsaved
+        (change (E.written err.old) (E.written err.new) (E.has_failed err.new)) }
+{
+    if let Some(fault) = unsaved {
+        let _ = say(&CommandFault::NotSaved(fault), err);
     }
 }
 

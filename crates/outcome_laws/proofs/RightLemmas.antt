@@ -30,9 +30,10 @@ use Rattle.run_laws.specs.RightLaws.{RightBegins, RightEmpty}
 use Rattle.portfolio.specs.Outcomes.{OptionsValue, layout_of, verdict_of}
 use Rattle.portfolio.specs.declared.outcome.Verdict.{Verdict}
 use Rattle.portfolio.specs.declared.outcome.Verdict.TheVariants.{Unsatisfiable, UnsatisfiableUnder, Unknown}
-use Rattle.command_line.specs.CommandLine.{IsCommandLineOf}
+use Rattle.command_line.specs.CommandLine.{AskToSave, IsCommandLineOf}
 use Rattle.command_line.specs.declared.words.CommandLine.{CommandLine}
-use Rattle.command.specs.Commands.{EndsWithFault, EndsWithReport, FilesView, IsAssumeCause, IsCause, IsFormulaAt, IsOutcome, IsReadCause, SinkChange, Text, assumed_at, layout_at, options_of, report_status, terms_given}
+use Rattle.command.specs.Commands.{EndsWithFault, EndsWithReport, FilesView, IsAssumeCause, IsCause, IsFormulaAt, IsOutcome, IsReadCause, LeavesCheckpoint, SinkChange, Text, assumed_at, checkpoint_at, layout_at, options_of, report_status, terms_given}
+use Rattle.checkpoint.specs.declared.saving.SaveFault.{SaveFault}
 use Rattle.command.specs.Faults.{status_of}
 use Rattle.command.specs.declared.fault.CommandFault.{CommandFault}
 use Rattle.command.specs.declared.fault.CommandFault.TheVariants as faults
@@ -85,20 +86,61 @@ has_report f terms told reports r s is =
       | inr past ↦ absurd (omega (arith, past.0, is.0, is.1, r.count, judged_count terms (λ t. true) r.history 1 r.streams reports r.judged))
     ]
 
-module _ (files : FilesView) (Lost : Report → Type 0) where
-  pub when_said : (words : List Text) (s : ℕ) (out : SinkChange) (status : ℕ) (verdict : Verdict) → verdict ≡ Unsatisfiable
-      → (failed : Bool) → out.failed ≡ failed → status ≡ report_status failed verdict → (status ≡ 0) ⊎ IsExcused files words s Lost out status
-  when_said words s out status verdict is true failed status_is = inr (unwritten failed status_is)
-  when_said words s out status verdict is false failed status_is = inl (status_is ∙ ap (report_status false) is)
+module _ (files : FilesView) where
+  -- with 'unsatisfiable' there is nothing to be saved
+  all_saved : (path : Option Text) (f : Cnf) (verdict : Verdict) (unsaved : Option SaveFault) (before after : files.State) → verdict ≡ Unsatisfiable
+      → LeavesCheckpoint files path f verdict unsaved before after → unsaved ≡ None
+  all_saved path f UnsatisfiableUnder unsaved before after is leaves = absurd (let no : UnsatisfiableUnder ≡ Unsatisfiable = is in cc)
+  all_saved path f Unknown unsaved before after is leaves = absurd (let no : Unknown ≡ Unsatisfiable = is in cc)
+  all_saved None f Unsatisfiable unsaved before after is leaves = leaves.0
+  all_saved (Some path) f Unsatisfiable unsaved before after is leaves = leaves.0
 
-  pub when_lost : (words : List Text) (s : ℕ) (out : SinkChange) (status : ℕ) (reports : List Report) (verdict : Verdict) → IsOutcome files words reports verdict
+  -- what wasn't saved was asked for
+  asked_for : (path : Option Text) (f : Cnf) (verdict : Verdict) (fault : SaveFault) (before after : files.State) → LeavesCheckpoint files path f verdict (Some fault) before after
+      → (asked : Text) × (path ≡ Some asked)
+  asked_for None f verdict fault before after leaves = absurd (let no : Some fault ≡ None = leaves.0 in cc)
+  asked_for (Some path) f verdict fault before after leaves = (path, refl)
+
+  pub asks_to_save : (words : List Text) (given : CommandLine) (f : Cnf) (verdict : Verdict) (fault : SaveFault) (before after : files.State) → IsCommandLineOf words given
+      → LeavesCheckpoint files (checkpoint_at given) f verdict (Some fault) before after → (path : Text) × AskToSave words path
+  asks_to_save words given f verdict fault before after line leaves =
+      let asked = asked_for (checkpoint_at given) f verdict fault before after leaves in
+      (asked.0, record { good = line.good; path_is = sym line.said.checkpoint ∙ asked.1 })
+
+module _ (files : FilesView) (Lost : Report → Type 0) where
+  said_so : (words : List Text) (s : ℕ) (out : SinkChange) (status : ℕ) (unsaved : Option SaveFault) (verdict : Verdict) → verdict ≡ Unsatisfiable → unsaved ≡ None
+      → (failed : Bool) → out.failed ≡ failed → status ≡ report_status failed unsaved verdict → (status ≡ 0) ⊎ IsExcused files words s Lost out status
+  said_so words s out status unsaved verdict is saved true failed status_is = inr (unwritten failed status_is)
+  said_so words s out status None verdict is saved false failed status_is = inl (status_is ∙ ap (report_status false None) is)
+  said_so words s out status (Some fault) verdict is saved false failed status_is = absurd (let no : Some fault ≡ None = saved in cc)
+
+  pub when_said : (words : List Text) (after : files.State) (s : ℕ) (out err : SinkChange) (status : ℕ) (ends : EndsWithReport files words after out err status)
+      → ends.verdict ≡ Unsatisfiable → (status ≡ 0) ⊎ IsExcused files words s Lost out status
+  when_said words after s out err status ends is =
+      let saved = all_saved files (checkpoint_at ends.outcome.given) ends.outcome.formula ends.verdict ends.unsaved ends.outcome.last after is ends.checkpoint in
+      said_so words s out status ends.unsaved ends.verdict is saved out.failed refl ends.status_is
+
+  lost_so : (words : List Text) (s : ℕ) (out : SinkChange) (status : ℕ) (reports : List Report) (verdict : Verdict) → IsOutcome files words reports verdict
       → (report : Report) → IsOfStream reports s report → Lost report
-      → (other : Verdict) → verdict ≡ other → (failed : Bool) → out.failed ≡ failed → status ≡ report_status failed other
+      → (unsaved : Option SaveFault) → ((fault : SaveFault) → unsaved ≡ Some fault → (path : Text) × AskToSave words path)
+      → (other : Verdict) → verdict ≡ other → (failed : Bool) → out.failed ≡ failed → status ≡ report_status failed unsaved other
       → (status ≡ 0) ⊎ IsExcused files words s Lost out status
-  when_lost words s out status reports verdict a report says why other same true failed is = inr (unwritten failed is)
-  when_lost words s out status reports verdict a report says why Unsatisfiable same false failed is = inl is
-  when_lost words s out status reports verdict a report says why UnsatisfiableUnder same false failed is = inr (lost reports verdict a report says why (inr is))
-  when_lost words s out status reports verdict a report says why Unknown same false failed is = inr (lost reports verdict a report says why (inl is))
+  lost_so words s out status reports verdict a report says why unsaved asks other same true failed is = inr (unwritten failed is)
+  lost_so words s out status reports verdict a report says why (Some fault) asks other same false failed is =
+      let asked = asks fault refl in
+      inr (lost reports verdict a report says why (inr (asked.0, asked.1, is)))
+  lost_so words s out status reports verdict a report says why None asks Unsatisfiable same false failed is = inl is
+  lost_so words s out status reports verdict a report says why None asks UnsatisfiableUnder same false failed is = inr (lost reports verdict a report says why (inl (inr is)))
+  lost_so words s out status reports verdict a report says why None asks Unknown same false failed is = inr (lost reports verdict a report says why (inl (inl is)))
+
+  pub when_lost : (words : List Text) (after : files.State) (s : ℕ) (out err : SinkChange) (status : ℕ) (ends : EndsWithReport files words after out err status)
+      → (report : Report) → IsOfStream ends.reports s report → Lost report → (status ≡ 0) ⊎ IsExcused files words s Lost out status
+  when_lost words after s out err status ends report says why =
+      let o = ends.outcome in
+      let asks : (fault : SaveFault) → ends.unsaved ≡ Some fault → (path : Text) × AskToSave words path = λ fault is.
+      asks_to_save files words o.given o.formula ends.verdict fault o.last after o.command_line
+      (subst (λ (u : Option SaveFault). LeavesCheckpoint files (checkpoint_at o.given) o.formula ends.verdict u o.last after) is ends.checkpoint) in
+      lost_so words s out status ends.reports ends.verdict o report says why ends.unsaved asks ends.verdict refl out.failed refl ends.status_is
 
 -- no text of a formula has a fault: the law of `dimacs`
 abbrev pub NoFormulaFault : Type 0
@@ -116,6 +158,8 @@ machine_status (faults.NotStarted stream) is = inr refl
 machine_status (faults.Ring stream) is = inr refl
 machine_status faults.Memory is = inr refl
 machine_status faults.Unwritten is = absurd is
+machine_status faults.NotCreated is = inl refl
+machine_status (faults.NotSaved fault) is = absurd is
 
 -- another stream than s owns the identity
 abbrev IsAnothers : LayoutValue → ℕ → ℕ → Type 0
@@ -130,13 +174,13 @@ comes_to reports verdict s report is at says =
 
 -- what the program says comes to one of these
 module _ (files : FilesView) (Lost : Report → Type 0) where
-  with_report : (words : List Text) (s : ℕ) (out err : SinkChange) (status : ℕ)
+  with_report : (words : List Text) (after : files.State) (s : ℕ) (out err : SinkChange) (status : ℕ)
       → ((reports : List Report) (verdict : Verdict) → IsOutcome files words reports verdict
       → (verdict ≡ Unsatisfiable) ⊎ ((report : Report) × IsOfStream reports s report × Lost report))
-      → EndsWithReport files words out err status → (status ≡ 0) ⊎ IsExcused files words s Lost out status
-  with_report words s out err status says ends = elim (says ends.reports ends.verdict ends.outcome) [
-    | inl is ↦ when_said files Lost words s out status ends.verdict is out.failed refl ends.status_is
-    | inr why ↦ when_lost files Lost words s out status ends.reports ends.verdict ends.outcome why.0 why.1 why.2 ends.verdict refl out.failed refl ends.status_is
+      → EndsWithReport files words after out err status → (status ≡ 0) ⊎ IsExcused files words s Lost out status
+  with_report words after s out err status says ends = elim (says ends.reports ends.verdict ends.outcome) [
+    | inl is ↦ when_said files Lost words after s out err status ends is
+    | inr why ↦ when_lost files Lost words after s out err status ends why.0 why.1 why.2
   ]
 
 module _ (one_formula : OneFormula) (serial : SerialRun) (alike : SameWordsAskAlike) (empty : RightEmpty) (files : FilesView) where
@@ -255,6 +299,10 @@ module _ (one_formula : OneFormula) (no_fault : NoFormulaFault) (alike : SameWor
   no_layout before None vars fault cause = cause
   no_layout before (Some path) vars fault cause = cause
 
+  never_unsaved : (before : files.State) (path : Option Text) (vars : ℕ) (fault : SaveFault) → ¬ IsAssumeCause files vars before path (faults.NotSaved fault)
+  never_unsaved before None vars fault cause = cause
+  never_unsaved before (Some path) vars fault cause = cause
+
   never_unwritten : (before : files.State) (path : Option Text) (vars : ℕ) → ¬ IsAssumeCause files vars before path faults.Unwritten
   never_unwritten before None vars cause = cause
   never_unwritten before (Some path) vars cause = cause
@@ -280,7 +328,7 @@ module _ (one_formula : OneFormula) (no_fault : NoFormulaFault) (alike : SameWor
         | inl read ↦ not_refused cause.0.formula.now ask.text ask.formula fault (ap files.tells same.2 ∙ ask.told) ask.is_text read
         | inr later ↦ elim later.3 [
           | inl assume ↦ no_usage later.1 (assumed_at cause.0) later.0.vars fault assume
-          | inr last ↦ elim last.3 [ inl opens ↦ opens | inr runs ↦ runs ]
+          | inr last ↦ elim last.3 [ inl opens ↦ opens | inr more ↦ elim more [ inl runs ↦ runs | inr create ↦ create.3 ] ]
         ]
       ]
   of_machine words ask (faults.CubeRefused fault) cause =
@@ -293,7 +341,7 @@ module _ (one_formula : OneFormula) (no_fault : NoFormulaFault) (alike : SameWor
               not_assumed ask.formula.vars later.1 (assumed_at ask.given) fault ask.assumptions
               (subst (λ (p : Option Text). IsAssumeCause files ask.formula.vars later.1 p (faults.CubeRefused fault)) assumed
               (subst (λ (f : Cnf). IsAssumeCause files f.vars later.1 (assumed_at cause.0) (faults.CubeRefused fault)) formulas assume))
-          | inr last ↦ elim last.3 [ inl opens ↦ opens | inr runs ↦ runs ]
+          | inr last ↦ elim last.3 [ inl opens ↦ opens | inr more ↦ elim more [ inl runs ↦ runs | inr create ↦ create.3 ] ]
         ]
       ]
   of_machine words ask (faults.Layout fault) cause =
@@ -303,7 +351,8 @@ module _ (one_formula : OneFormula) (no_fault : NoFormulaFault) (alike : SameWor
           | inl assume ↦ no_layout later.1 (assumed_at cause.0) later.0.vars fault assume
           | inr last ↦ elim last.3 [
             | inl opens ↦ opens
-            | inr runs ↦
+            | inr (inr create) ↦ create.3
+            | inr (inl runs) ↦
                 let same = alike words ask.given cause.0 ask.command_line cause.1 in
                 let formulas = formula_at words ask cause.0 later.0 later.1 cause.1 later.2 in
                 let layouts : layout_at cause.0 later.0 ≡ layout_at ask.given ask.formula =
@@ -319,7 +368,17 @@ module _ (one_formula : OneFormula) (no_fault : NoFormulaFault) (alike : SameWor
         | inl read ↦ read
         | inr later ↦ elim later.3 [
           | inl assume ↦ never_unwritten later.1 (assumed_at cause.0) later.0.vars assume
-          | inr last ↦ elim last.3 [ inl opens ↦ opens | inr runs ↦ runs ]
+          | inr last ↦ elim last.3 [ inl opens ↦ opens | inr more ↦ elim more [ inl runs ↦ runs | inr create ↦ create.3 ] ]
+        ]
+      ]
+
+  of_machine words ask faults.NotCreated cause = tt
+  of_machine words ask (faults.NotSaved fault) cause =
+      elim cause.2 [
+        | inl read ↦ read
+        | inr later ↦ elim later.3 [
+          | inl assume ↦ never_unsaved later.1 (assumed_at cause.0) later.0.vars fault assume
+          | inr last ↦ elim last.3 [ inl opens ↦ opens | inr more ↦ elim more [ inl runs ↦ runs | inr create ↦ create.3 ] ]
         ]
       ]
 
@@ -332,16 +391,16 @@ module _ (one_formula : OneFormula) (no_fault : NoFormulaFault) (alike : SameWor
 
 pub right_refutation_says : OneFormula → NoFormulaFault → SerialRun → SameWordsAskAlike → RightBegins → RightEmpty
     → (files : FilesView) → RightRefutationSays files
-right_refutation_says one_formula no_fault serial alike begins empty files words s out err status ask (inl report) =
-    with_report files (IsCutOffIn (length ask.right.lines)) words s out err status
+right_refutation_says one_formula no_fault serial alike begins empty files words after s out err status ask (inl report) =
+    with_report files (IsCutOffIn (length ask.right.lines)) words after s out err status
     (refutation_says one_formula serial alike empty files begins words s ask) report
-right_refutation_says one_formula no_fault serial alike begins empty files words s out err status ask (inr fault) =
+right_refutation_says one_formula no_fault serial alike begins empty files words after s out err status ask (inr fault) =
     inr (without_report one_formula no_fault alike files (IsCutOffIn (length ask.right.lines)) words s out err status ask.asks fault)
 
 pub right_order_says : OneFormula → NoFormulaFault → SerialRun → SameWordsAskAlike → TogetherBegins → RightEmpty
     → (files : FilesView) → RightOrderSays files
-right_order_says one_formula no_fault serial alike together empty files words s out err status ask (inl report) =
-    with_report files (IsHeldUp files words ask.asks s (length (lines_by s ask.steps))) words s out err status
+right_order_says one_formula no_fault serial alike together empty files words after s out err status ask (inl report) =
+    with_report files (IsHeldUp files words ask.asks s (length (lines_by s ask.steps))) words after s out err status
     (order_says one_formula serial alike empty files together words s ask) report
-right_order_says one_formula no_fault serial alike together empty files words s out err status ask (inr fault) =
+right_order_says one_formula no_fault serial alike together empty files words after s out err status ask (inr fault) =
     inr (without_report one_formula no_fault alike files (IsHeldUp files words ask.asks s (length (lines_by s ask.steps))) words s out err status ask.asks fault)

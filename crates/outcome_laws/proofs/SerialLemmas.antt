@@ -152,13 +152,13 @@ module _ (one_formula : OneFormula) (no_fault : NoFormulaFault) (serial_run : Se
       (told_length files words reports verdict a) order ask.turns texts (turns_of files words reports verdict a on_one) fine report.1 in
       comes_to reports verdict s report.0 a.checked.is_verdict report.1 (ap (λ (r : Report). r.empty) same ∙ (empty terms s (lines_by s ask.steps)).1 ask.empty)
 
-  turns_say : (out err : SinkChange) (status : ℕ) → EndsWithReport files words out err status → (status ≡ 0) ⊎ ((t : ℕ) × IsExcused files words t IsCutOff out status)
-  turns_say out err status ends = elim (some_cut ends.reports) [
-    | inl cut ↦ elim (when_lost files IsCutOff words cut.0 out status ends.reports ends.verdict ends.outcome cut.1 cut.2 cut.3 ends.verdict refl out.failed refl ends.status_is) [
+  turns_say : (after : files.State) (out err : SinkChange) (status : ℕ) → EndsWithReport files words after out err status → (status ≡ 0) ⊎ ((t : ℕ) × IsExcused files words t IsCutOff out status)
+  turns_say after out err status ends = elim (some_cut ends.reports) [
+    | inl cut ↦ elim (when_lost files IsCutOff words after cut.0 out err status ends cut.1 cut.2 cut.3) [
       | inl is ↦ inl is
       | inr excused ↦ inr (cut.0, excused)
     ]
-    | inr fine ↦ elim (when_said files IsCutOff words s out status ends.verdict (turns_refute ends.reports ends.verdict ends.outcome fine) out.failed refl ends.status_is) [
+    | inr fine ↦ elim (when_said files IsCutOff words after s out err status ends (turns_refute ends.reports ends.verdict ends.outcome fine)) [
       | inl is ↦ inl is
       | inr excused ↦ inr (s, excused)
     ]
@@ -166,7 +166,7 @@ module _ (one_formula : OneFormula) (no_fault : NoFormulaFault) (serial_run : Se
 
 pub right_turns_say : OneFormula → NoFormulaFault → SerialRun → SameWordsAskAlike → RightByTurns → RightEmpty
     → (files : FilesView) → RightTurnsSay files
-right_turns_say one_formula no_fault serial_run alike right empty files words s out err status ask (inl report) =
-    turns_say one_formula no_fault serial_run alike right empty files words s ask out err status report
-right_turns_say one_formula no_fault serial_run alike right empty files words s out err status ask (inr fault) =
+right_turns_say one_formula no_fault serial_run alike right empty files words after s out err status ask (inl report) =
+    turns_say one_formula no_fault serial_run alike right empty files words s ask after out err status report
+right_turns_say one_formula no_fault serial_run alike right empty files words after s out err status ask (inr fault) =
     inr (s, without_report one_formula no_fault alike files IsCutOff words s out err status ask.asks fault)

@@ -1,20 +1,22 @@
 -- What the clause `ends` says of status 0.
-use Rattle.std.proofs.Common.{◌≡◌, Bool, true, false, inl, inr, refl}
+use Rattle.std.proofs.Common.{◌≡◌, Bool, true, false, Option, None, Some, inl, inr, refl}
 use Rattle.lrup_model.specs.declared.layout.LayoutFault.{LayoutFault}
 use Rattle.lrup_model.specs.declared.layout.LayoutFault.TheVariants as layouts
 use Rattle.portfolio.specs.declared.outcome.Verdict.{Verdict}
 use Rattle.portfolio.specs.declared.outcome.Verdict.TheVariants.{Unsatisfiable, UnsatisfiableUnder, Unknown}
+use Rattle.checkpoint.specs.declared.saving.SaveFault.{SaveFault}
 use Rattle.command.specs.Commands.{FilesView, report_status}
 use Rattle.command.specs.Faults.{layout_status, status_of}
 use Rattle.command.specs.declared.fault.CommandFault.{CommandFault}
 use Rattle.command.specs.declared.fault.CommandFault.TheVariants as faults
 use Rattle.outcome_laws.specs.Laws.{Status0HasACommandLine}
 
-refuted : (failed : Bool) (verdict : Verdict) → 0 ≡ report_status failed verdict → verdict ≡ Unsatisfiable
-refuted true verdict is = absurd (let no : 0 ≡ 7 = is in cc)
-refuted false Unsatisfiable is = refl
-refuted false UnsatisfiableUnder is = absurd (let no : 0 ≡ 8 = is in cc)
-refuted false Unknown is = absurd (let no : 0 ≡ 3 = is in cc)
+refuted : (failed : Bool) (unsaved : Option SaveFault) (verdict : Verdict) → 0 ≡ report_status failed unsaved verdict → verdict ≡ Unsatisfiable
+refuted true unsaved verdict is = absurd (let no : 0 ≡ 7 = is in cc)
+refuted false (Some fault) verdict is = absurd (let no : 0 ≡ 9 = is in cc)
+refuted false None Unsatisfiable is = refl
+refuted false None UnsatisfiableUnder is = absurd (let no : 0 ≡ 8 = is in cc)
+refuted false None Unknown is = absurd (let no : 0 ≡ 3 = is in cc)
 
 no_layout : (fault : LayoutFault) → 0 ≡ layout_status fault → ⊥
 no_layout layouts.TooManyVariables is = let no : 0 ≡ 4 = is in cc
@@ -34,10 +36,12 @@ no_fault (faults.NotStarted stream) is = let no : 0 ≡ 6 = is in cc
 no_fault (faults.Ring stream) is = let no : 0 ≡ 6 = is in cc
 no_fault faults.Memory is = let no : 0 ≡ 6 = is in cc
 no_fault faults.Unwritten is = let no : 0 ≡ 7 = is in cc
+no_fault faults.NotCreated is = let no : 0 ≡ 5 = is in cc
+no_fault (faults.NotSaved fault) is = let no : 0 ≡ 9 = is in cc
 
 pub status_0 : (files : FilesView) → Status0HasACommandLine files
-status_0 files words out err (inl report) =
+status_0 files words after out err (inl report) =
     let o = report.outcome in
     let at = o.is_formula in
-    (o.given, at.0, o.formula, o.next, o.command_line, at.1, at.2, o.checked.sound (refuted out.failed report.verdict report.status_is))
-status_0 files words out err (inr fault) = absurd (no_fault fault.fault fault.status_is)
+    (o.given, at.0, o.formula, o.next, o.command_line, at.1, at.2, o.checked.sound (refuted out.failed report.unsaved report.verdict report.status_is))
+status_0 files words after out err (inr fault) = absurd (no_fault fault.fault fault.status_is)

@@ -72,9 +72,9 @@ OutcomesAgree files others =
 -- What the program's ending says of status 0: the words have a command line, and what was read at its FORMULA is a text of a formula
 -- that no assignment satisfies. So all that isn't in the clause `sound` of what the words say is in the clause `ends`.
 abbrev pub Status0HasACommandLine : FilesView → Type 0
-Status0HasACommandLine files = (words : List Text) (out err : SinkChange)
-    → EndsWithReport files words out err 0 ⊎ EndsWithFault files words out err 0
-    → (given : CommandLine) × (bytes : List ℕ) × (f : Cnf) × (after : files.State)
+Status0HasACommandLine files = (words : List Text) (after : files.State) (out err : SinkChange)
+    → EndsWithReport files words after out err 0 ⊎ EndsWithFault files words out err 0
+    → (given : CommandLine) × (bytes : List ℕ) × (f : Cnf) × (next : files.State)
     × IsCommandLineOf words given
-    × WasReadIn files files.first given.formula.now bytes after
+    × WasReadIn files files.first given.formula.now bytes next
     × IsFormulaText bytes f × IsUnsatisfiable f

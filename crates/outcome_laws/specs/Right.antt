@@ -16,7 +16,7 @@ use Rattle.run_laws.specs.Blame.{LacksOfAnotherIn}
 use Rattle.run_laws.specs.Right.{AddsEmpty, IsCutOffIn, IsRightRefutation}
 use Rattle.run_laws.specs.Together.{Step, IsRightOrder, lines_by}
 use Rattle.portfolio.specs.declared.outcome.Verdict.{Verdict}
-use Rattle.command_line.specs.CommandLine.{IsCommandLineOf}
+use Rattle.command_line.specs.CommandLine.{AskToSave, IsCommandLineOf}
 use Rattle.command_line.specs.declared.words.CommandLine.{CommandLine}
 use Rattle.command.specs.Commands.{EndsWithFault, EndsWithReport, FilesView, IsCause, IsOutcome, SinkChange, Text, assumed_at, layout_at, terms_given}
 use Rattle.command.specs.Faults.{status_of}
@@ -66,7 +66,7 @@ pub record AskForRightOrder (files : FilesView) (words : List Text)
       × (files.tells path ≡ Some (flat_map line_text (lines_by t steps) ++ more))
   pub empty : Any AddsEmpty (lines_by s steps)
 
--- The fault is the machine's: a file wasn't opened, or a read of the formula or of the assumed literals failed (5); memory ran out,
+-- The fault is the machine's: a file wasn't opened or created, or a read of the formula or of the assumed literals failed (5); memory ran out,
 -- a thread wasn't started, or a ring met no end (6).
 abbrev pub IsOfMachine : CommandFault → Type 0
 IsOfMachine (faults.Usage text) = ⊥
@@ -80,6 +80,8 @@ IsOfMachine (faults.NotStarted stream) = Unit {0}
 IsOfMachine (faults.Ring stream) = Unit {0}
 IsOfMachine faults.Memory = Unit {0}
 IsOfMachine faults.Unwritten = ⊥
+IsOfMachine faults.NotCreated = Unit {0}
+IsOfMachine (faults.NotSaved fault) = ⊥
 
 -- memory ran out, or a read failed, in the first lines of stream s, so many; or one of them cites a clause of another stream that
 -- wasn't there, or wasn't any more; here the cube makes no difference
@@ -88,6 +90,11 @@ abbrev pub IsHeldUp : (files : FilesView) (words : List Text) → AskWell files 
 IsHeldUp files words asks s count report =
     IsCutOffIn count report
     ⊎ LacksOfAnotherIn (setting_of (terms_given asks.given [] asks.formula) s) count report
+
+-- the status of a report that isn't 'unsatisfiable': 3 or 8; or 9, where the words ask for a checkpoint, and it wasn't saved
+abbrev pub IsOpen : List Text → ℕ → Type 0
+IsOpen words status =
+    ((status ≡ 3) ⊎ (status ≡ 8)) ⊎ ((path : Text) × AskToSave words path × (status ≡ 9))
 
 -- Why the program doesn't say 'unsatisfiable', where stream s adds the empty clause by right lines. None of these says that a line
 -- is wrong.
@@ -106,23 +113,24 @@ pub data IsExcused (files : FilesView) (words : List Text) (s : ℕ)
       (reports : List Report) (verdict : Verdict)
       (outcome : IsOutcome files words reports verdict) (report : Report)
       (says : IsOfStream reports s report) (why : Lost report)
-      (is : (status ≡ 3) ⊎ (status ≡ 8)) → IsExcused files words s Lost out status
+      (is : IsOpen words status) → IsExcused files words s Lost out status
 
 -- Where the words ask for a right refutation, the program ends with status 0; or with 7, for a report that wasn't written; or with 5
--- or 6, for a fault of the machine; or with 3 or 8, and then memory ran out, or a read failed, in the refutation's lines.
+-- or 6, for a fault of the machine; or with 3 or 8, or 9 in their place, and then memory ran out, or a read failed, in the refutation's
+-- lines.
 abbrev pub RightRefutationSays : FilesView → Type 0
-RightRefutationSays files = (words : List Text) (s : ℕ) (out err : SinkChange) (status : ℕ)
-    → (ask : AskForRightRefutation files words s)
-    → EndsWithReport files words out err status ⊎ EndsWithFault files words out err status
+RightRefutationSays files = (words : List Text) (after : files.State) (s : ℕ) (out err : SinkChange)
+    (status : ℕ) → (ask : AskForRightRefutation files words s)
+    → EndsWithReport files words after out err status ⊎ EndsWithFault files words out err status
     → (status ≡ 0)
     ⊎ IsExcused files words s (IsCutOffIn (length ask.right.lines)) out status
 
--- Where the words ask for streams whose lines have a right order, the program ends so too, with one more reason for 3 or 8: one of that
+-- Where the words ask for streams whose lines have a right order, the program ends so too, with one more reason for these: one of that
 -- stream's lines cites a clause of another stream that wasn't there, or wasn't any more.
 abbrev pub RightOrderSays : FilesView → Type 0
-RightOrderSays files = (words : List Text) (s : ℕ) (out err : SinkChange) (status : ℕ)
-    → (ask : AskForRightOrder files words s)
-    → EndsWithReport files words out err status ⊎ EndsWithFault files words out err status
+RightOrderSays files = (words : List Text) (after : files.State) (s : ℕ) (out err : SinkChange)
+    (status : ℕ) → (ask : AskForRightOrder files words s)
+    → EndsWithReport files words after out err status ⊎ EndsWithFault files words out err status
     → (status ≡ 0)
     ⊎ IsExcused files words s
     (IsHeldUp files words ask.asks s (length (lines_by s ask.steps))) out status

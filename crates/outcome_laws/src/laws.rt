@@ -35,8 +35,8 @@ pub fn same_words_ask_alike()
 /// the options and the number of streams are the same, and the files of the formula and of the stream tell the same bytes. Unless a
 /// report of the stream is of memory or of a failed read.
 pub fn outcomes_agree<F: Files, G: Files>(files: &F, others: &G)
-    ensures { let view = files_view F.Files F.Input.Source files.now in
-        let other = files_view G.Files G.Input.Source others.now in
+    ensures { let view = files_view F.Files F.Input.Source F.Output.Sink files.now in
+        let other = files_view G.Files G.Input.Source G.Output.Sink others.now in
         OutcomesAgree view other }
 {
     one_formula();
@@ -47,15 +47,15 @@ pub fn outcomes_agree<F: Files, G: Files>(files: &F, others: &G)
 /// With status 0 the words have a whole command line, and what was read at its FORMULA is a text of a formula that no assignment
 /// satisfies: the clause `ends` of `command` says so.
 pub fn status_0_has_a_command_line<F: Files>(files: &F)
-    ensures { let view = files_view F.Files F.Input.Source files.now in
+    ensures { let view = files_view F.Files F.Input.Source F.Output.Sink files.now in
         Status0HasACommandLine view }
 {}
 
 /// Where the words ask for a right refutation, the program ends with status 0; or with 7, for a report that wasn't written; or with
-/// 5 or 6, for a fault of the machine; or with 3 or 8, and then memory ran out, or a read failed, in the refutation's lines: the
-/// clause `ends` of `command` says so.
+/// 5 or 6, for a fault of the machine; or with 3 or 8, and then memory ran out, or a read failed, in the refutation's lines; or with
+/// 9 in their place, for a checkpoint that the words ask for and that wasn't saved: the clause `ends` of `command` says so.
 pub fn right_refutation_says<F: Files>(files: &F)
-    ensures { let view = files_view F.Files F.Input.Source files.now in
+    ensures { let view = files_view F.Files F.Input.Source F.Output.Sink files.now in
         RightRefutationSays view }
 {
     one_formula();
@@ -67,9 +67,10 @@ pub fn right_refutation_says<F: Files>(files: &F)
 }
 
 /// Where the words ask for streams whose lines have a right order, one of which adds the empty clause, the program ends so too; or with
-/// 3 or 8, and then a line of that stream cites a clause of another stream, which wasn't there, or wasn't any more.
+/// 3 or 8, or 9 in their place, and then a line of that stream cites a clause of another stream, which wasn't there, or wasn't any
+/// more.
 pub fn right_order_says<F: Files>(files: &F)
-    ensures { let view = files_view F.Files F.Input.Source files.now in
+    ensures { let view = files_view F.Files F.Input.Source F.Output.Sink files.now in
         RightOrderSays view }
 {
     one_formula();
@@ -84,8 +85,8 @@ pub fn right_order_says<F: Files>(files: &F)
 /// and the assumed literals are the same, and the files of the formula and of each stream tell the same bytes. Unless some report is
 /// of memory or of a failed read.
 pub fn serial_outcomes_agree<F: Files, G: Files>(files: &F, others: &G)
-    ensures { let view = files_view F.Files F.Input.Source files.now in
-        let other = files_view G.Files G.Input.Source others.now in
+    ensures { let view = files_view F.Files F.Input.Source F.Output.Sink files.now in
+        let other = files_view G.Files G.Input.Source G.Output.Sink others.now in
         SerialOutcomesAgree view other }
 {
     one_formula();
@@ -94,9 +95,10 @@ pub fn serial_outcomes_agree<F: Files, G: Files>(files: &F, others: &G)
 
 /// Where the words ask for a run on one thread over streams whose lines have a right order by turns, and one of which adds the empty
 /// clause, the program ends with status 0; or with 7, for a report that wasn't written; or with 5 or 6, for a fault of the machine;
-/// or with 3 or 8, and then memory ran out in some stream, or a read of it failed: the clause `ends` of `command` says so.
+/// or with 3 or 8, or 9 in their place, and then memory ran out in some stream, or a read of it failed: the clause `ends` of `command`
+/// says so.
 pub fn right_turns_say<F: Files>(files: &F)
-    ensures { let view = files_view F.Files F.Input.Source files.now in
+    ensures { let view = files_view F.Files F.Input.Source F.Output.Sink files.now in
         RightTurnsSay view }
 {
     one_formula();

@@ -99,12 +99,10 @@ returns g c =
     record {
       outcome = λ words first good at.
           let files = from_first (files_view g.F.Files g.F.Input.Source g.F.Output.Sink c.args.files.now) first in
-          (
-            is_outcome files words line formula cube c.unwrap-options.result readers next later last good (bytes, at, text) assumed options opened entries
-            found.reports.items found.verdict checked,
-            leaves_checkpoint files formula (checkpoint_at line) found.verdict last c.create_checkpoint.new.files c.keep_checkpoint-unsaved.new.files c.in_ok-output.output found.saved
-            c.keep_checkpoint-unsaved.result c.in_ok-output.ensures.created c.in_ok-checked.ensures.written c.keep_checkpoint-unsaved.ensures,
-          );
+          is_outcome files words line formula cube c.unwrap-options.result readers next later last good (bytes, at, text) assumed options opened entries
+          found.reports.items found.verdict c.keep_checkpoint-unsaved.result c.keep_checkpoint-unsaved.new.files checked
+          (leaves_checkpoint files formula (checkpoint_at line) found.verdict last c.create_checkpoint.new.files c.keep_checkpoint-unsaved.new.files c.in_ok-output.output found.saved
+          c.keep_checkpoint-unsaved.result c.in_ok-output.ensures.created c.in_ok-checked.ensures.written c.keep_checkpoint-unsaved.ensures);
       sound = λ unsatisfiable. (formula, text, checked.sound unsatisfiable);
       sound_under = λ unsatisfiable. (formula, cube, later, text, assumed, checked.sound_under unsatisfiable);
       cause = λ words first good at. tt;

@@ -1,6 +1,10 @@
-use Rattle.std.proofs.Common.{false, length, refl, sym, subst}
+use Rattle.std.proofs.Common.{◌∙◌, false, length, Option, Result, refl, sym, subst}
 use Rattle.command.specs.Commands.{IsRunCause, terms_on}
 use Rattle.command.proofs.CheckingLemmas.{err_given, has_layout, run_cause}
+use Rattle.checkpoint.specs.declared.saving.SaveFault.{SaveFault}
+use Rattle.command.specs.Saving.{IsWritten}
+use Rattle.command.proofs.SavingLemmas.{running_to_write, written_err, written_none, written_ok}
+use Rattle.command.proofs.checking.check_in_threads.Goals.{in-None, in-Some, in-Ok, in-Err}
 use Rattle.command.proofs.checking.check_in_threads.Goals as goal
 
 pub returns-in_err-outcome-clause-cause : goal.returns-in_err-outcome-clause-cause
@@ -28,3 +32,24 @@ returns-clause-checked g c =
       sound = c.in_ok-outcome.ensures.sound;
       sound_under = c.in_ok-outcome.ensures.sound_under;
     }
+
+pub save_live-requires-clause-running : goal.save_live-requires-clause-running
+save_live-requires-clause-running g c =
+    running_to_write g.F.Output.Sink.has_failed c.in_ok-outcome.outcome.verdict c.args.output c.in-Some.sink c.requires.created (sym c.to_write.ensures ∙ c.in-Some.is)
+
+pub returns-clause-written : goal.returns-clause-written
+returns-clause-written g c =
+    let W = g.row.F-Output.Denot in
+    let written = g.F.Output.Sink.written in
+    let formula = c.args.setup.now.formula.now in
+    let outcome = c.in_ok-outcome.outcome in
+    let Written : Result (Option W) SaveFault → Type 0 = λ saved. IsWritten written formula outcome.verdict c.args.output saved in
+    let history = rw (← c.in_ok-outcome.ensures.kept) at c.in_ok-outcome.ensures.history in
+    elim c.match-to_write.branch [
+      | in-None w ↦ subst Written (sym w.saved-is) (written_none written formula outcome.verdict c.args.output (sym c.to_write.ensures ∙ w.in-None.is))
+      | in-Some w ↦ elim w.match-save_live.branch [
+        | in-Ok w' ↦ subst Written (sym (w.saved-is ∙ w'.saved-is)) (written_ok written formula outcome.verdict c.args.output w.in-Some.sink w.save_live.new.sink
+          (sym c.to_write.ensures ∙ w.in-Some.is) (w'.in-Ok.ensures.checkpoint formula _ history))
+        | in-Err w' ↦ subst Written (sym (w.saved-is ∙ w'.saved-is)) (written_err written formula outcome.verdict c.args.output w.in-Some.sink w'.in-Err.fault (sym c.to_write.ensures ∙ w.in-Some.is))
+      ]
+    ]

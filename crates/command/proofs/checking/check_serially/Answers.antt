@@ -1,6 +1,10 @@
-use Rattle.std.proofs.Common.{true, length, sym, subst}
+use Rattle.std.proofs.Common.{◌∙◌, true, length, Option, Result, sym, subst}
 use Rattle.command.specs.Commands.{IsRunCause, terms_on}
 use Rattle.command.proofs.CheckingLemmas.{err_given, has_layout, run_cause}
+use Rattle.checkpoint.specs.declared.saving.SaveFault.{SaveFault}
+use Rattle.command.specs.Saving.{IsWritten}
+use Rattle.command.proofs.SavingLemmas.{written_err, written_none, written_ok}
+use Rattle.command.proofs.checking.check_serially.Goals.{in-None, in-Some+in-Ok, in-Some+in-Err}
 use Rattle.command.proofs.checking.check_serially.Goals as goal
 
 pub returns-in_err-outcome-clause-cause : goal.returns-in_err-outcome-clause-cause
@@ -24,3 +28,17 @@ returns-clause-checked g c =
       sound = c.in_ok-outcome.ensures.sound;
       sound_under = c.in_ok-outcome.ensures.sound_under;
     }
+
+pub returns-clause-written : goal.returns-clause-written
+returns-clause-written g c =
+    let W = g.row.F-Output.Denot in
+    let written = g.F.Output.Sink.written in
+    let formula = c.args.setup.now.formula.now in
+    let outcome = c.in_ok-outcome.outcome in
+    let Written : Result (Option W) SaveFault → Type 0 = λ saved. IsWritten written formula outcome.verdict c.args.output saved in
+    elim c.match-to_write.branch [
+      | in-None w ↦ subst Written (sym w.saved-is) (written_none written formula outcome.verdict c.args.output (sym c.to_write.ensures ∙ w.in-None.is))
+      | in-Some+in-Ok w ↦ subst Written (sym w.saved-is) (written_ok written formula outcome.verdict c.args.output w.in-Some.sink w.save_plain.new.sink
+        (sym c.to_write.ensures ∙ w.in-Some.is) (rw c.in_ok-outcome.ensures.kept.0 at w.in-Ok.ensures.checkpoint))
+      | in-Some+in-Err w ↦ subst Written (sym w.saved-is) (written_err written formula outcome.verdict c.args.output w.in-Some.sink w.in-Err.fault (sym c.to_write.ensures ∙ w.in-Some.is))
+    ]
