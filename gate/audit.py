@@ -91,6 +91,7 @@ class Definition:
                     names.add(member.group(1))
         else:
             for line in self.text.split("\n"):
+                line = re.sub(r"\{\w+ = (\w+)\}", r"\1", line)       # a parameter that is given by its name
                 if line.startswith(self.name + " ") and " :" not in line.split("=")[0]:
                     names.update(
                         word for word in NAME.findall(line.split(" =")[0])[1:] if not self.file.is_constructor(word)
@@ -125,10 +126,10 @@ class RustType:
 
     language = "rust"
 
-    def __init__(self, crate, path, text, whole=False):
+    def __init__(self, crate, path, text, whole=False, part=""):
         self.crate, self.path, self.whole = crate, path, whole
         self.is_trait = re.search(r"^pub trait ", text, re.M) is not None
-        self.name = re.search(r"^pub (?:struct|enum|trait) (\w+)", text, re.M).group(1)
+        self.name = re.search(r"^pub (?:struct|enum|trait) (\w+)", text, re.M).group(1) + part
         self.given, self.text = text, self.short(text)
         match = re.search(rf"^impl(?:<.*?>)? Model for {self.name}\b.*?^}}", path.read_text(), re.M | re.S)
         value = match and re.search(r"ghost Value = \{ (.*?) \};", match.group(0))
@@ -167,6 +168,11 @@ class RustType:
 def whole(thing):
     """A trait with all of its members."""
     return RustType(thing.crate, thing.path, thing.given, whole=True)
+
+
+def part_of(thing, part):
+    """A trait with other members, which SHOWN names under its name and this one."""
+    return RustType(thing.crate, thing.path, thing.given, part=f", {part}")
 
 
 def shown_members(trait, lines):
@@ -633,13 +639,15 @@ def phrase_by_phrase(said, rows):
 # Of these traits what the clauses rest on: the members, and the clauses of each.
 SHOWN = {
     "Files": {"Input": [], "tells": [], "opens": [], "open": ["opens"]},
+    "Files, creation": {"Output": [], "creates": [], "keeps": [], "create": ["creates"], "keep": [None]},
     "Source": {"reads": [], "read": ["reads"]},
+    "Sink": {"written": [], "write": ["bytes"]},
 }
 
 # What signatures name and no clause on the pages speaks of.
-UNSEEN = {"DimacsFault", "OpenFault", "ReadFault", "Sink"}
+UNSEEN = {"DimacsFault", "OpenFault", "ReadFault", "Sink", "WriteFault"}
 
-MOST_WORDS = 4100       # of the page on status 0 and 8
+MOST_WORDS = 6000       # of the page on status 0 and 8, and on checkpoints
 
 MADE = "Made from the sources by `make audit`; the gate fails where this page isn't what they give."
 
@@ -718,6 +726,23 @@ STATUS_8_PHRASES = [
      `--assume`'s file, by the next opening, is its text ([[IsCubeText]]); without `--assume` there are none."""),
 ]
 
+CHECKPOINTS_TOP = """## Checkpoints
+
+By the [[fn command.saved]]:"""
+
+CHECKPOINT_PHRASES = [
+    ("With status 3 or 8", """[[fn command.saved: (result ≡ 3) ⊎ (result ≡ 8)]], where the words ask for a checkpoint at a path:
+     [[AskToSave]]."""),
+    ("the bytes that went to the checkpoint", """they are the `saved` of [[NameCheckpoint: Save before path saved last]], and
+     `Save` is [[fn command.saved: WasSaved F.creates F.Output.Sink.written F.keeps]]: a file was created at the path, with nothing
+     in it ([[Files, creation]]); these bytes went to it, [[WasSaved: wrote : Appends (written first) (written last) bytes]]
+     ([[Sink]]); and it was kept, which led to the files that the caller has afterwards ([[WasSaved]])."""),
+    ("are a text of a formula over the same variables, each clause of which follows from the run's formula", """[[NameCheckpoint:
+     IsCheckpoint f saved]]: [[IsCheckpoint: text : IsFormulaText bytes formula]], with [[Entails: vars : g.vars ≡ f.vars]] and
+     [[Entails: each : AllByRecursion (Follows f) g.clauses]]. The run's formula is `f`, by [[NameCheckpoint: Read first formula
+     bytes next × IsFormulaText bytes f]], as above."""),
+]
+
 AUDIT_LIBRARIES = """## What the libraries define
 
 In short. In full it stands in the module of `clap` that is named (`clap.specs.Words` is `rattle/clap/specs/Words.antt`, beside
@@ -739,6 +764,7 @@ GLOSSES = """
 `AllByRecursion P xs` P of each element
 `AllZip R xs ys` R of the elements at each place of the two lists, which are equally long
 `Any P xs` P of some element
+`Appends old new bs` if `old` is `Some xs`, `new` is `Some ys`, and ys is `xs ++ bs`; of `None` it says nothing
 `App` a command of `clap`: what it takes itself, `top`, and its subcommands, `subs`
 `Append` each use of the argument adds to its values
 `Consumes old new bs` if `old` is `Some xs`, `new` is `Some ys`, and xs is `bs ++ ys`; of `None` it says nothing
@@ -763,6 +789,7 @@ buffer isn't empty; if it is `Err`, what is known is as it was
 `concat xss` the lists, one after the other
 `count_by f xs` how many elements pass the test
 `decimal n` n in decimal, without leading zeros
+`drop n xs` the list without its first n elements
 `fault_of app words` the errors that the command finds in the words, asking for help among them: `[]` if there is none
 `filter f xs` the elements that pass the test
 `fold f a xs` f over the elements, from a on: of x and y it is `f (f a x) y`
@@ -799,6 +826,7 @@ buffer isn't empty; if it is `Err`, what is known is as it was
 `unsigned_abs z` z without its sign
 `usize_max` 2^64 - 1
 `vec_len v` the count of elements
+`WriteAppends old new r buffer` if r is `Ok n`, `Appends` of the first n of the buffer; if it is `Err`, what is known is as it was
 """
 
 # Operators that everybody knows.
@@ -1070,7 +1098,7 @@ def by_mention(roots, text):
 
 def audit_page():
     """The page on status 0 and 8, with the definitions that each clause takes."""
-    command = Contract("command/src/program.rt: command", ["out", "err", "sound", "sound_under"], commented=False)
+    command = Contract("command/src/program.rt: command", ["out", "err", "sound", "sound_under", "saved"], commented=False)
     arguments = Contract("command/src/arguments.rt: command_with_arguments", ["sound"])
     check = Contract("command/src/program.rt: check_formula", ["sound"])
     guarantee = sentence("The guarantee:").split(". ")[0].split("; ")
@@ -1078,11 +1106,15 @@ def audit_page():
     placed = {}
     first = top_down(by_mention(command.named_by(["sound"]) + [rust_type("command", "Files")], sound[1]), placed)
     more = top_down(by_mention(command.named_by(["sound_under"]), under[1]), placed)
-    things = [command, *first, *more]
+    chained = phrase_by_phrase(sentence("Runs can be chained."), CHECKPOINT_PHRASES)
+    kept = [part_of(rust_type("command", "Files"), "creation"), rust_type("lrup_text", "Sink")]
+    last = top_down(by_mention(command.named_by(["saved"]) + kept, chained[1]), placed)
+    things = [command, *first, *more, *last]
     page = Page("AUDIT.md", [
         AUDIT_TOP, sound[0], SIGNATURE, command, "Phrase by phrase:", sound[1], ACCOUNT,
         AUDIT_HOW.replace("{count}", str(len(definitions_of(first)))).replace("{twins}", twins(things)), *first,
         STATUS_8_TOP, *under, f"{len(definitions_of(more))} definitions more.", *more,
+        CHECKPOINTS_TOP, *chained, f"{len(definitions_of(last))} definitions more.", *last,
         AUDIT_LIBRARIES, libraries(things, []), TRUST], cited=[arguments, check, Law("command_line/src/laws.rt: plain_words"),
         Law("dimacs/src/laws.rt: one_formula")])
     page.sound = first
