@@ -131,6 +131,6 @@ module _ (files : FilesView) where
       let statuses = subst (λ (n : ℕ). (n ≡ 3) ⊎ (n ≡ 8)) report.status_is is in
       let saved = leaves_saved out.failed report.unsaved report.verdict path outcome.formula outcome.last after statuses leaves in
       let read = outcome.is_formula in
-      (given.formula.now, assumed_at given, read.0, saved.0, outcome.formula, outcome.next, outcome.last, ask_for words given outcome.command_line, read.1, read.2, saved.1, saved.2)
+      (read.0, saved.0, (given.formula.now, assumed_at given, outcome.formula, outcome.next, outcome.last, ask_for words given outcome.command_line, read.1, read.2, saved.1, saved.2))
   ends_saved words after out err status (inr fault) path ask is =
       absurd (no_fault fault.fault (subst (λ (n : ℕ). (n ≡ 3) ⊎ (n ≡ 8)) fault.status_is is))

@@ -64,7 +64,8 @@ NameUnsatisfiable F Read first words =
     × AskFor words formula assume × Read first formula bytes after × IsFormulaText bytes f
     × IsUnsatisfiable f
 
--- A file was created at the path, with nothing in it, these bytes went to it, and it was kept.
+-- A file was created at the path and kept. Where its device tells its bytes, it was empty first, and
+-- these are all that went to it.
 pub record WasSaved {F W : Type 0} (creates : F → Text → W → F → Type 0)
     (written : W → Option (List ℕ)) (keeps : F → W → F → Type 0) (before : F) (path : Text)
     (bytes : List ℕ) (after : F) : Type 0 where
@@ -76,15 +77,21 @@ pub record WasSaved {F W : Type 0} (creates : F → Text → W → F → Type 0)
   pub wrote : Appends (written first) (written last) bytes
   pub kept : keeps next last after
 
--- The words ask for a formula, what was read of the file at its path, the first to be opened, is a
--- text of it, and what was saved at this path, as the last that was done to the files, is a text of
--- a formula each clause of which follows from that one.
+-- The words ask for a formula. The bytes that were read of the file at its path, the first to be
+-- opened, are a text of it, and those that were saved at this path, as the last thing done to the
+-- files, are a checkpoint of it.
+abbrev pub SavesFrom : {F : Type 0} → (F → Text → List ℕ → F → Type 0)
+    → (F → Text → List ℕ → F → Type 0) → F → List Text → Text → List ℕ → List ℕ → F → Type 0
+SavesFrom {F = F} Read Save first words path bytes saved last =
+    (formula : Text) × (assume : Option Text) × (f : Cnf) × (next before : F)
+    × AskFor words formula assume × Read first formula bytes next × IsFormulaText bytes f
+    × Save before path saved last × IsCheckpoint f saved
+
+-- a run of these words saved a checkpoint at this path
 abbrev pub NameCheckpoint : {F : Type 0} → (F → Text → List ℕ → F → Type 0)
     → (F → Text → List ℕ → F → Type 0) → F → List Text → Text → F → Type 0
-NameCheckpoint {F = F} Read Save first words path last =
-    (formula : Text) × (assume : Option Text) × (bytes saved : List ℕ) × (f : Cnf)
-    × (next before : F) × AskFor words formula assume × Read first formula bytes next
-    × IsFormulaText bytes f × Save before path saved last × IsCheckpoint f saved
+NameCheckpoint Read Save first words path last =
+    (bytes saved : List ℕ) × SavesFrom Read Save first words path bytes saved last
 
 -- what was read of the file of the assumed literals, over the variables 1 to vars; without a path
 -- there are none, and nothing is opened
@@ -242,9 +249,9 @@ pub record IsOutcome (files : FilesView) (words : List Text) (reports : List Rep
   pub checked : AreChecked files.reading given.serial formula (terms_given given cube formula)
       readers reports verdict
 
--- What a run of a formula, with this verdict, leaves as its checkpoint, and why that wasn't saved, if it wasn't. Without a path it is
--- nothing; with 'unsatisfiable' it is a file that was created. Else it was saved, and each of its clauses follows from the formula; or it
--- wasn't, and its file was created; only where its bytes don't lie on the device it may have been tried to keep them.
+-- What a run of a formula, with this verdict, leaves as its checkpoint, and why that wasn't saved, if it wasn't. Without a path:
+-- nothing. With 'unsatisfiable': a file that was created. Else the file was created, written and kept; or it was created, and the fault
+-- says why it wasn't saved: only where a write or the keeping failed may anything more have been done to the files.
 abbrev pub LeavesCheckpoint : (files : FilesView) → Option Text → Cnf → Verdict
     → Option SaveFault → files.State → files.State → Type 0
 LeavesCheckpoint files None f verdict unsaved before after =

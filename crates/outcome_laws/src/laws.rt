@@ -1,9 +1,11 @@
 //! Laws of outcomes. Each function does nothing; its contract is the law.
 ghost use Rattle.command.specs.Commands.{files_view};
+ghost use Rattle.outcome_laws.specs.Chains.{OutcomesRefute, OutcomesRefuteUnder};
 ghost use Rattle.outcome_laws.specs.Right.{RightOrderSays, RightRefutationSays};
 ghost use Rattle.outcome_laws.specs.Serial.{RightTurnsSay, SerialOutcomesAgree};
 ghost use Rattle.outcome_laws.specs.Laws.{NoCubeJudgesAlike, SameBytesSayTheSame, SameWordsAskAlike, OutcomesAgree, Status0HasACommandLine};
 
+use checkpoint::laws::{files_refute, files_refute_under};
 use command::Files;
 use dimacs::laws::{formula_or_fault, one_formula};
 use run_laws::groups::{same_bytes_agree, serial_run};
@@ -107,4 +109,20 @@ pub fn right_turns_say<F: Files>(files: &F)
     same_words_ask_alike();
     right_by_turns();
     right_empty();
+}
+
+/// Of a chain of runs, each of which read as its formula what the one before had saved, the last with status 0: no assignment
+/// satisfies the formula whose text the first one read. The clauses `saved` and `sound` of `command` give what is asked of each run.
+pub fn outcomes_refute<F: Files>(_files: &F)
+    ensures { OutcomesRefute F.Files F.Input.Source F.Output.Sink }
+{
+    files_refute();
+}
+
+/// With status 8 of the last run, none satisfies it and makes true each literal that this run assumed, whatever the runs before it
+/// assumed.
+pub fn outcomes_refute_under<F: Files>(_files: &F)
+    ensures { OutcomesRefuteUnder F.Files F.Input.Source F.Output.Sink }
+{
+    files_refute_under();
 }
