@@ -733,14 +733,17 @@ By the [[fn command.saved]]:"""
 CHECKPOINT_PHRASES = [
     ("With status 3 or 8", """[[fn command.saved: (result ≡ 3) ⊎ (result ≡ 8)]], where the words ask for a checkpoint at a path:
      [[AskToSave]]."""),
-    ("the bytes that went to the checkpoint", """they are the `saved` of [[NameCheckpoint: Save before path saved last]], and
+    ("the bytes that went to the checkpoint", """they are the `saved` of [[NameCheckpoint]], by [[SavesFrom: Save before path saved last]], and
      `Save` is [[fn command.saved: WasSaved F.creates F.Output.Sink.written F.keeps]]: a file was created at the path, with nothing
      in it ([[Files, creation]]); these bytes went to it, [[WasSaved: wrote : Appends (written first) (written last) bytes]]
      ([[Sink]]); and it was kept, which led to the files that the caller has afterwards ([[WasSaved]])."""),
-    ("are a text of a formula over the same variables, each clause of which follows from the run's formula", """[[NameCheckpoint:
+    ("are a text of a formula over the same variables, each clause of which follows from the run's formula", """[[SavesFrom:
      IsCheckpoint f saved]]: [[IsCheckpoint: text : IsFormulaText bytes formula]], with [[Entails: vars : g.vars ≡ f.vars]] and
-     [[Entails: each : AllByRecursion (Follows f) g.clauses]]. The run's formula is `f`, by [[NameCheckpoint: Read first formula
+     [[Entails: each : AllByRecursion (Follows f) g.clauses]]. The run's formula is `f`, by [[SavesFrom: Read first formula
      bytes next × IsFormulaText bytes f]], as above."""),
+    ("So where each run of a chain read as its formula what the one before had saved, and the last ends with status 0, no assignment satisfies the first formula",
+     """[[law outcomes_refute]], which asks of each run but the last what its clause `saved` says (`HasSaved`), of texts
+     that are each the next one's formula, and of the last what `sound` says (`HasRefuted`)."""),
 ]
 
 AUDIT_LIBRARIES = """## What the libraries define
@@ -1115,7 +1118,7 @@ def audit_page():
         AUDIT_HOW.replace("{count}", str(len(definitions_of(first)))).replace("{twins}", twins(things)), *first,
         STATUS_8_TOP, *under, f"{len(definitions_of(more))} definitions more.", *more,
         CHECKPOINTS_TOP, *chained, f"{len(definitions_of(last))} definitions more.", *last,
-        AUDIT_LIBRARIES, libraries(things, []), TRUST], cited=[arguments, check, Law("command_line/src/laws.rt: plain_words"),
+        AUDIT_LIBRARIES, libraries(things, []), TRUST], cited=[arguments, check, Law("command_line/src/laws.rt: plain_words"), Law("outcome_laws/src/laws.rt: outcomes_refute"),
         Law("dimacs/src/laws.rt: one_formula")])
     page.sound = first
     return page
