@@ -404,7 +404,7 @@ verdict_status Unsatisfiable = 0
 verdict_status UnsatisfiableUnder = 8
 verdict_status Unknown = 3
 
--- the status where the writing of the report failed, and where it didn't, with a checkpoint that wasn't saved and without one
+-- the status: of a report that wasn't written; else of a checkpoint that wasn't saved; else of the verdict
 abbrev pub report_status : Bool → Option SaveFault → Verdict → ℕ
 report_status true unsaved verdict = status_of faults.Unwritten
 report_status false (Some fault) verdict = status_of (faults.NotSaved fault)

@@ -303,7 +303,7 @@ fn create_checkpoint<F: Files>(
     }
 }
 
-/// Keeps the checkpoint's file, where a checkpoint was written to it, and says why there is none.
+/// Keeps the checkpoint's file, where a checkpoint was written to it, and says why it wasn't kept.
 fn keep_checkpoint<F: Files>(
     files: &mut F,
     saved: Result<Option<F::Output>, SaveFault>,

@@ -6,10 +6,10 @@ use lrup_text::{Sink, Source, WriteFault};
 use std::io;
 use thiserror::Error;
 
-/// Why a file wasn't opened.
+/// Why a file wasn't opened or created.
 #[derive(Clone, Copy, Debug, PartialEq, Eq, Error)]
 pub enum OpenFault {
-    /// It isn't there, or can't be read.
+    /// It isn't there, or can't be read; or one is there already, or none can be created.
     #[error("not opened")]
     NotOpened,
     /// Out of memory.

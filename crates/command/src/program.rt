@@ -40,7 +40,7 @@ use std::time::Clock;
 /// | 3 | the report says `s UNKNOWN` |
 /// | 4 | the formula or the assumptions were refused for another cause than memory |
 /// | 5 | the file of the formula or of the assumptions wasn't opened or read; a stream's wasn't opened; the checkpoint's wasn't created |
-/// | 6 | out of memory, outside a report; a worker couldn't be started; a stream's ring gave no mark |
+/// | 6 | out of memory, outside a report and the saving; a worker couldn't be started; a stream's ring gave no mark |
 /// | 7 | the report couldn't be written |
 /// | 8 | the report says `s UNSATISFIABLE UNDER ASSUMPTIONS` |
 /// | 9 | in place of 3 and 8, where the checkpoint wasn't saved |
