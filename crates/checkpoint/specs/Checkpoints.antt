@@ -13,7 +13,7 @@ use Rattle.checkpoint.specs.Printing.{formula_text}
 use Rattle.checkpoint.specs.declared.saving.SaveFault.{SaveFault}
 use Rattle.checkpoint.specs.declared.saving.SaveFault.TheVariants as faults
 
--- the bytes are a text of a formula, each clause of which follows from this one
+-- the bytes are a text of a formula over the same variables, each clause of which follows from this one
 pub record IsCheckpoint (f : Cnf) (bytes : List ℕ) : Type 0 where
   pub formula : Cnf
   pub text : IsFormulaText bytes formula

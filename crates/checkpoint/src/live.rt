@@ -20,7 +20,7 @@ pub trait Wanted {
 }
 
 /// The clips of the clauses that are live under the identities 1 to `last` and wanted, in order. Each identity is fetched once.
-/// Where memory runs out, the fetches up to one that was answered live have been made.
+/// Where memory runs out, only the first of these fetches were made.
 pub fn live_clauses<M: ClauseMap, K: Wanted>(
     alloc: Global,
     map: &mut M,

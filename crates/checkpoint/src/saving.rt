@@ -25,10 +25,10 @@ pub enum SaveFault {
     /// Out of memory. Nothing was written.
     #[error("checkpoint not written: out of memory")]
     Memory,
-    /// No formula has so many clauses as are live, or one so long. Nothing was written.
+    /// More clauses are wanted than a formula may have, or one is too long. Nothing was written.
     #[error("checkpoint refused: limit")]
     TooLarge,
-    /// A write failed. A beginning of the text was written.
+    /// A write failed, or the file wasn't kept. At most the text was written.
     #[error("checkpoint not written")]
     Unwritten,
 }

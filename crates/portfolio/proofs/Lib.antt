@@ -4,5 +4,6 @@ pub mod HeadlineLemmas
 pub mod JoiningLemmas
 pub mod ReportLines
 pub mod RoundLemmas
+pub mod SavingLemmas
 pub mod TurnsLemmas
 pub mod WorkingLemmas

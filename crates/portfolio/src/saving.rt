@@ -4,12 +4,13 @@ ghost use Rattle.std.specs.Io.KnownBytes.{Appends};
 ghost use Rattle.lrup_model.specs.Event.{History, Reply};
 ghost use Rattle.lrup_model.specs.Formula.{Cnf};
 ghost use Rattle.lrup_model.specs.Layout.{Fits};
-ghost use Rattle.lrup_model.specs.Plain.{PlainMoves, formula_of};
+ghost use Rattle.lrup_model.specs.Plain.{PlainMoves, formula_of, plain_state};
+ghost use Rattle.lrup_model.specs.State.{state};
 ghost use Rattle.clause_store.specs.Passes.{AreOf, views};
 ghost use Rattle.runs.specs.Headline.{HaveOneHistory};
 ghost use Rattle.checkpoint.specs.Checkpoints.{IsCheckpoint};
 ghost use Rattle.checkpoint.specs.Live.{fetches};
-ghost use Rattle.portfolio.specs.Saving.{SavesByLast, SavesFound, is_wanted};
+ghost use Rattle.portfolio.specs.Saving.{SavesState, is_wanted};
 
 use checkpoint::{SaveFault, Wanted, save};
 use clause_store::{Desk, Pass, Store};
@@ -18,7 +19,7 @@ use lrup_text::Sink;
 use std::alloc::Global;
 use stream_check::Dropped;
 
-/// What not all streams dropped, where there is one.
+/// Wants what some stream hasn't dropped; all, where there are no streams.
 #[derive(Drop)]
 struct NotAllDropped<'a> {
     dropped: &'a [Dropped],
@@ -32,8 +33,8 @@ impl Wanted for NotAllDropped<'_> {
     }
 }
 
-/// Writes the formula of the clauses that are live after a run, as the last of its passes finds them, but for those that all
-/// streams dropped. What was said of the run's history is of the passes as they were before.
+/// Writes the formula of the clauses that are live after a run, but for those that all streams dropped. The run's clauses speak
+/// of the passes as they were before this call.
 pub fn save_live<W: Sink>(
     alloc: Global,
     store: &Store,
@@ -50,9 +51,11 @@ pub fn save_live<W: Sink>(
     ensures checkpoint { (f : Cnf) (h : History)
         → HaveOneHistory f layout.now h (views passes.items) → IfOk result (λ _. (bytes : List ℕ)
         × Appends (W.written sink.old) (W.written sink.new) bytes × IsCheckpoint f bytes) }
-    // It is that of the clauses that the last pass found live, and that not all streams dropped.
-    ensures saves { SavesByLast W.written result layout.now (is_wanted dropped.now) passes.items
-        sink.old sink.new }
+    // It is that of the clauses that the run's history leaves live, and that not all streams
+    // dropped.
+    ensures saves { (f : Cnf) (h : History)
+        → HaveOneHistory f layout.now h (views passes.items) → SavesState W.written result
+        (state f h) layout.now (is_wanted dropped.now) sink.old sink.new }
     ensures failed { IsTrue (W.has_failed sink.new) ↔ (result ≡ Err SaveFault.Unwritten) }
 {
     let mut passes = passes;
@@ -62,7 +65,12 @@ pub fn save_live<W: Sink>(
     // The call shows that the pass is fair, and so that the layout is the formula's.
     let _ = pass.stream();
     let mut desk = Desk::new(store, pass);
-    save(alloc, &mut desk, layout, &NotAllDropped { dropped }, sink)
+    let saved = save(alloc, &mut desk, layout, &NotAllDropped { dropped }, sink);
+    // It is no event. That all have seen one history again shows that nobody else published or retired meanwhile, so that what
+    // was fetched is what the run left.
+    passes.push_reserved(desk.into_pass());
+    store.meet_all(&mut passes);
+    saved
 }
 
 /// Writes the formula of the clauses that are live after a run on one thread, but for those that all streams dropped.
@@ -79,10 +87,11 @@ pub fn save_plain<W: Sink>(
         × Appends (W.written sink.old) (W.written sink.new) bytes
         × IsCheckpoint (formula_of map.old) bytes) }
     // It is that of the clauses that the map has live, and that not all streams dropped.
-    ensures saves { (replies : List Reply)
-        × PlainMoves map.old map.new 1 (fetches 1 1 replies)
-        × SavesFound W.written result map.old.layout (is_wanted dropped.now) replies
-        sink.old sink.new }
+    ensures saves { SavesState W.written result (plain_state map.old) map.old.layout
+        (is_wanted dropped.now) sink.old sink.new }
+    // The map only answered fetches.
+    ensures moves { (replies : List Reply)
+        × PlainMoves map.old map.new 1 (fetches 1 1 replies) }
     ensures failed { IsTrue (W.has_failed sink.new) ↔ (result ≡ Err SaveFault.Unwritten) }
 {
     let layout = *map.layout();

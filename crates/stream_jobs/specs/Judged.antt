@@ -10,7 +10,7 @@ use Rattle.stream_check.specs.Leaving.{Leaves}
 use Rattle.stream_ring.specs.Items.{EndsAtMark}
 
 -- The bytes, whose lines have these blocks of events, bring a checker, which had this room, to one that has dropped these
--- identities.
+-- identities. Where a line was bad, nothing is said of them.
 pub record DropsBy (v : CheckerValue) (room : ℕ) (bytes : List ℕ) (blocks : List History)
     (ids : List ℕ) : Type 0 where
   pub last : CheckerValue
@@ -19,7 +19,7 @@ pub record DropsBy (v : CheckerValue) (room : ℕ) (bytes : List ℕ) (blocks : 
   pub are : ids ≡ last.dropped
 
 -- The items received end at a mark; and the bytes before it, with the end that the mark tells and these blocks of events, are
--- judged so, where no byte had been taken when the checker had this room. These identities are dropped by them.
+-- judged so, where no byte had been taken when the checker had this room. The lines drop these identities.
 pub record JudgesAtMark (v : CheckerValue) (room : ℕ) (items : List ℕ) (blocks : List History)
     (ids : List ℕ) (report : Report) : Type 0 where
   pub bytes : List ℕ

@@ -1,0 +1,185 @@
+-- What the fetches after a run are answered by: the state that the run's history leaves.
+use Rattle.std.proofs.Common.{◌≡◌, ℕ, suc, zero, ◌+◌, ◌-◌, ◌<◌, ◌≤◌, List, [], ◌∷◌, ◌++◌, length, Some, refl, sym, ap, ap₂, subst, ◌∙◌, inl, inr, arith, append-nil, append_assoc}
+use Rattle.std.specs.Prelude.{slice_get}
+use Rattle.std.specs.List.{AllByRecursion}
+use Rattle.std.proofs.lemmas.Bool.{cases_eq, cases_lt}
+use Rattle.std.proofs.lemmas.List.{append_cancel_left}
+use Rattle.lrup_model.specs.Event as events
+use Rattle.lrup_model.specs.Event.{Event, History, Reply, own, stream_of}
+use Rattle.lrup_model.specs.Formula.{Cnf}
+use Rattle.lrup_model.specs.History.{IsLegal, LegalFrom}
+use Rattle.lrup_model.specs.HistoryLemmas.{legal-back, own-mine, own-other}
+use Rattle.lrup_model.specs.Layout.{LayoutValue, Owns}
+use Rattle.lrup_model.specs.OwnerLemmas.{owned}
+use Rattle.lrup_model.specs.Pass.{View, IsFair, PassMoves, AreMet, AllSaw}
+use Rattle.lrup_model.specs.Place.{Caller}
+use Rattle.lrup_model.specs.Running.{own-append}
+use Rattle.lrup_model.specs.State.{State, Answers, opening, state}
+use Rattle.stream_check.specs.Checking.{IsFetch}
+use Rattle.checkpoint.specs.Live.{fetches}
+use Rattle.runs.specs.Headline.{HaveOneHistory}
+
+-- ---- histories of fetches
+
+are_fetches : (s id : ℕ) (replies : List Reply) → AllByRecursion IsFetch (fetches s id replies)
+are_fetches s id [] = tt
+are_fetches s id (r ∷ replies) = (tt, are_fetches s (id + 1) replies)
+
+-- what holds of a stream's events holds of those behind the first
+own_rest : (P : Event → Type 0) (e : Event) (h : History) (s : ℕ) → AllByRecursion P (own (e ∷ h) s)
+    → AllByRecursion P (own h s)
+own_rest P e h s all =
+    elim (cases_eq (stream_of e) s) [
+      | inl mine ↦ (subst (λ (g : History). AllByRecursion P g) (own-mine e h s mine) all).1
+      | inr other ↦ subst (λ (g : History). AllByRecursion P g) (own-other e h s other) all
+    ]
+
+-- and of the first, where it is the stream's
+own_first : (P : Event → Type 0) (e : Event) (h : History) → AllByRecursion P (own (e ∷ h) (stream_of e)) → P e
+own_first P e h all = (subst (λ (g : History). AllByRecursion P g) (own-mine e h (stream_of e) refl) all).0
+
+-- A legal publish or retire is one of an owner. So where owners only fetch, all events are fetches.
+pub all_fetch : (f : Cnf) (p : LayoutValue) (m : State) (h : History) → LegalFrom f p m h
+    → ((t id : ℕ) → Owns p t id → AllByRecursion IsFetch (own h t)) → AllByRecursion IsFetch h
+all_fetch f p m [] legal owners = tt
+all_fetch f p m (events.fetch s id r ∷ h) legal owners =
+    (tt, all_fetch f p m h legal.2 (λ t j owns. own_rest IsFetch (events.fetch s id r) h t (owners t j owns)))
+all_fetch f p m (events.publish s id c r ∷ h) legal owners =
+    absurd (own_first IsFetch (events.publish s id c r) h (owners s id legal.1.0))
+all_fetch f p m (events.retire s id r ∷ h) legal owners =
+    absurd (own_first IsFetch (events.retire s id r) h (owners s id legal.1))
+
+-- legal fetches are answered by the state before them
+pub all_answer : (f : Cnf) (p : LayoutValue) (m : State) (h : History) → LegalFrom f p m h
+    → AllByRecursion IsFetch h → AllByRecursion (Answers m) h
+all_answer f p m [] legal all = tt
+all_answer f p m (events.fetch s id r ∷ h) legal all = (legal.0, all_answer f p m h legal.2 all.1)
+all_answer f p m (events.publish s id c r ∷ h) legal all = absurd all.0
+all_answer f p m (events.retire s id r ∷ h) legal all = absurd all.0
+
+-- what holds of all events holds of a stream's
+own_all : (P : Event → Type 0) (h : History) (s : ℕ) → AllByRecursion P h → AllByRecursion P (own h s)
+own_all P [] s all = tt
+own_all P (e ∷ h) s all =
+    elim (cases_eq (stream_of e) s) [
+      | inl mine ↦ subst (λ (g : History). AllByRecursion P g) (sym (own-mine e h s mine)) (all.0, own_all P h s all.1)
+      | inr other ↦ subst (λ (g : History). AllByRecursion P g) (sym (own-other e h s other)) (own_all P h s all.1)
+    ]
+
+-- a fetch is answered alike whichever stream asks
+answer_any : (m : State) (s t id : ℕ) (r : Reply) → Answers m (events.fetch s id r) → Answers m (events.fetch t id r)
+answer_any m s t id events.vacant answers = answers
+answer_any m s t id (events.live c) answers = answers
+answer_any m s t id events.retired answers = answers
+
+pub answers_any : (m : State) (s t id : ℕ) (replies : List Reply) → AllByRecursion (Answers m) (fetches s id replies)
+    → AllByRecursion (Answers m) (fetches t id replies)
+answers_any m s t id [] all = tt
+answers_any m s t id (r ∷ replies) all = (answer_any m s t id r all.0, answers_any m s t (id + 1) replies all.1)
+
+-- legal fetches are answered by the state before them, whichever stream asks
+pub fetches_answer : (f : Cnf) (p : LayoutValue) (m : State) (s : ℕ) (replies : List Reply)
+    → LegalFrom f p m (fetches s 1 replies) → (t : ℕ) → AllByRecursion (Answers m) (fetches t 1 replies)
+fetches_answer f p m s replies legal t =
+    answers_any m s t 1 replies (all_answer f p m (fetches s 1 replies) legal (are_fetches s 1 replies))
+
+-- Where each owner of an identity has only fetches behind a history, and this stream these, they are answered by the state that
+-- the history leaves.
+pub answered_behind : (f : Cnf) (p : LayoutValue) (h more : History) (s : ℕ) (replies : List Reply)
+    → IsLegal f p (h ++ more) → ((t id : ℕ) → Owns p t id → AllByRecursion IsFetch (own more t))
+    → own more s ≡ fetches s 1 replies → (t : ℕ) → AllByRecursion (Answers (state f h)) (fetches t 1 replies)
+answered_behind f p h more s replies legal owners mine t =
+    let back : LegalFrom f p (state f h) more = legal-back f p (opening f) h more legal.events in
+    let all : AllByRecursion (Answers (state f h)) more = all_answer f p (state f h) more back (all_fetch f p (state f h) more back owners) in
+    answers_any (state f h) s t 1 replies
+    (subst (λ (g : History). AllByRecursion (Answers (state f h)) g) mine (own_all (Answers (state f h)) more s all))
+
+-- ---- passes that meet once more
+
+-- the pass at this place after all met: it made no call, and is fair at their history
+record MetAt (h : History) (x : View) : Type 0 where
+  after : View
+  moves : PassMoves x after []
+  fair : IsFair after
+  saw : after.seen ≡ h
+
+met_at : (h : History) (xs ys : List View) → AreMet xs ys → AllSaw h ys → (k : ℕ) (x : View) → slice_get xs k ≡ Some x → MetAt h x
+met_at h [] [] met saw k x at = absurd (cc)
+met_at h [] (y ∷ ys) met saw k x at = absurd met
+met_at h (w ∷ xs) [] met saw k x at = absurd met
+met_at h (w ∷ xs) (y ∷ ys) met saw zero x at =
+    let this : w ≡ x = cc in
+    subst (MetAt h) this (record { after = y; moves = met.0; fair = met.1; saw = saw.0 })
+met_at h (w ∷ xs) (y ∷ ys) met saw (suc k) x at = met_at h xs ys met.2 saw.1 k x at
+
+-- its calls are its stream's events
+met_own : (h : History) (x : View) → MetAt h x → own h x.caller.stream ≡ x.mine
+met_own h x at =
+    ap₂ (λ (g : History) (c : Caller). own g c.stream) (sym at.saw) (sym at.moves.caller)
+    ∙ at.fair.mine ∙ at.moves.mine ∙ append-nil x.mine
+
+pub last_at : (vs : List View) (v : View) → slice_get (vs ++ v ∷ []) (length vs) ≡ Some v
+last_at [] v = refl
+last_at (w ∷ vs) v = last_at vs v
+
+-- where the last is another, each other is where it was
+front_at : (vs : List View) (v w : View) (k : ℕ) → k < length vs
+    → (x : View) × (slice_get (vs ++ v ∷ []) k ≡ Some x) × (slice_get (vs ++ w ∷ []) k ≡ Some x)
+front_at [] v w k within = absurd (omega arith)
+front_at (x ∷ vs) v w zero within = (x, refl, refl)
+front_at (x ∷ vs) v w (suc k) within = front_at vs v w k (omega arith)
+
+last_count : (vs : List View) (v : View) → length (vs ++ v ∷ []) ≡ length vs + 1
+last_count [] v = refl
+last_count (w ∷ vs) v = omega (arith, last_count vs v)
+
+-- where a stream has the same events in a history and in its beginning, it has none behind that
+own_none_behind : (h more : History) (s : ℕ) → own (h ++ more) s ≡ own h s → own more s ≡ []
+own_none_behind h more s same =
+    append_cancel_left (own h s) (own more s) [] (sym (own-append h more s) ∙ same ∙ sym (append-nil (own h s)))
+
+-- The last of a run's passes fetched, and then all met once more: what was fetched is what the run's history left.
+pub fetched_so : (f : Cnf) (p : LayoutValue) (h : History) (vs : List View) (v w : View) (replies : List Reply) (us : List View) (g : History)
+    → HaveOneHistory f p h (vs ++ v ∷ []) → PassMoves v w (fetches v.caller.stream 1 replies)
+    → AreMet (vs ++ w ∷ []) us → AllSaw g us → (t : ℕ) → AllByRecursion (Answers (state f h)) (fetches t 1 replies)
+fetched_so f p h vs v w replies us g one moves met saw =
+    let count : length vs + 1 ≡ p.streams = sym (last_count vs v) ∙ one.count in
+    let s : ℕ = length vs + 1 in
+    let place : length vs + 1 - 1 ≡ length vs = omega arith in
+    let called = one.calls s v (omega arith, ap (slice_get (vs ++ v ∷ [])) place ∙ last_at vs v) in
+    let last : MetAt g w = met_at g (vs ++ w ∷ []) us met saw (length vs) w (last_at vs w) in
+    let more : History = moves.seen.0 ++ last.moves.seen.0 in
+    let whole : g ≡ h ++ more =
+    sym last.saw ∙ last.moves.seen.1 ∙ ap (λ (k : History). k ++ last.moves.seen.0) (moves.seen.1 ∙ ap (λ (k : History). k ++ moves.seen.0) called.1)
+    ∙ append_assoc h moves.seen.0 last.moves.seen.0 in
+    let stream : v.caller.stream ≡ s = ap (λ (c : Caller). c.stream) called.0 in
+    let stays : w.caller.stream ≡ s = ap (λ (c : Caller). c.stream) moves.caller ∙ stream in
+    let fetched : w.mine ≡ own h s ++ fetches s 1 replies =
+    moves.mine ∙ ap₂ (λ (k : History) (n : ℕ). k ++ fetches n 1 replies) called.2 stream in
+    let mine : own more s ≡ fetches s 1 replies =
+    append_cancel_left (own h s) (own more s) (fetches s 1 replies)
+    (sym (own-append h more s) ∙ ap₂ (λ (k : History) (n : ℕ). own k n) (sym whole) (sym stays) ∙ met_own g w last ∙ fetched) in
+    let caller : last.after.caller ≡ record { formula = f; layout = p; stream = s } = last.moves.caller ∙ moves.caller ∙ called.0 in
+    let legal : IsLegal f p (h ++ more) =
+    subst (λ (k : History). IsLegal f p k) (last.saw ∙ whole)
+    (subst (λ (c : Caller). IsLegal c.formula c.layout last.after.seen) caller last.fair.legal) in
+    let owners : (t id : ℕ) → Owns p t id → AllByRecursion IsFetch (own more t) = λ t id owns.
+    let is = owned p t id (omega arith) owns in
+    let first : 0 < t = is.first in
+    let within : t ≤ p.streams = is.last in
+    elim (cases_lt (t - 1) (length vs)) [
+      | inl front ↦
+          let at = front_at vs v w (t - 1) front in
+          let x : View = at.0 in
+          let before = one.calls t x (first, at.1) in
+          let after : MetAt g x = met_at g (vs ++ w ∷ []) us met saw (t - 1) x at.2 in
+          let same : own g t ≡ own h t =
+          ap (λ (n : ℕ). own g n) (sym (ap (λ (c : Caller). c.stream) before.0)) ∙ met_own g x after ∙ before.2 in
+          let none : own more t ≡ [] = own_none_behind h more t (ap (λ (k : History). own k t) (sym whole) ∙ same) in
+          subst (λ (k : History). AllByRecursion IsFetch k) (sym none) tt
+      | inr past ↦
+          let this : s ≡ t = omega arith in
+          subst (λ (n : ℕ). AllByRecursion IsFetch (own more n)) this
+          (subst (λ (k : History). AllByRecursion IsFetch k) (sym mine) (are_fetches s 1 replies))
+    ] in
+    answered_behind f p h more s replies legal owners mine
