@@ -327,8 +327,8 @@ def many_watched(program: str, work: Path) -> None:
 
 
 def rows(program: str) -> Iterator[Row]:
-    for table in (examples, one_stream, faults, several_streams, pipes, paths, refused_formulas, refused_files, version, assumptions,
-                  refused_assumptions, watched, large, little_memory, full_outputs):
+    for table in (examples, one_stream, faults, several_streams, pipes, paths, refused_formulas, refused_files, version,
+                  assumptions, refused_assumptions, watched, large, little_memory, full_outputs):
         for name, wanted in table():
             yield name, answers, program, wanted
     for name, wanted in largest():

@@ -23,13 +23,15 @@ RUNS: List[Tuple[int, List[object]]] = [
     (0, ["--tries", "1000000", example("bmc.cnf"), *SOLVERS]),
     (8, ["--assume", example("assumed.cube"), example("assumed.cnf"), example("assumed.lrup")]),
     (3, ["--tries", "0", example("bmc.cnf"), *SOLVERS[:2]]),
+    (3, ["--tries", "0", "--checkpoint", "saved", example("bmc.cnf"), *SOLVERS[:2]]),
+    (5, ["--checkpoint", ".", FOUR, FIRST]),
     (4, [FIRST, FIRST]),
     (5, [FOUR, FIRST, example("no such file")]),
 ]
 
 
 def gives_back(program: str, status: int, words: List[object], work: Path) -> None:
-    found = run([*VALGRIND, program, *words])
+    found = run([*VALGRIND, program, *words], cwd=work)
     want(found.status, status, f"{found.out}{found.err}the status")
 
 

@@ -408,6 +408,7 @@ def tests() -> Iterator[Test]:
     yield Test("lrup_model", "a_refused_cube_can_be_made_again", [])
     yield Test("dimacs", "a_refused_text_can_be_parsed_again", [])
     yield Test("clause_store", "memory::a_refused_store_can_be_opened_again", [])
+    yield Test("checkpoint", "worked::a_refused_save_can_be_made_again", ["AllocError"])
     yield Test("stream_ring", "a_refused_ring_can_be_made_again", [])
     yield Test("stream_jobs", "refused_jobs_can_be_made_again", ["AllocError"], last=20)
     # Some allocations are the test's own; each later one is for the set of dropped identities, and ends the stream.
