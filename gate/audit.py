@@ -742,8 +742,8 @@ CHECKPOINT_PHRASES = [
      [[Entails: each : AllByRecursion (Follows f) g.clauses]]. The run's formula is `f`, by [[SavesFrom: Read first formula
      bytes next × IsFormulaText bytes f]], as above."""),
     ("So where each run of a chain read as its formula what the one before had saved, and the last ends with status 0, no assignment satisfies the first formula",
-     """[[law outcomes_refute]], which asks of each run but the last what its clause `saved` says (`HasSaved`), of texts
-     that are each the next one's formula, and of the last what `sound` says (`HasRefuted`)."""),
+     """[[law outcomes_refute]]: of runs one after the other, as the clause `ends` tells them (`IsRunOn`), each
+     on the bytes that the one before it saved (`saved_by`)."""),
 ]
 
 AUDIT_LIBRARIES = """## What the libraries define

@@ -5,4 +5,4 @@ mod OutcomeLemmas
 mod StatusLemmas
 mod RightLemmas
 mod SerialLemmas
-mod ChainLemmas
+mod RefutingLemmas

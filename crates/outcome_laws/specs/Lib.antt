@@ -2,4 +2,4 @@ pub mod Outcomes
 pub mod Laws
 pub mod Right
 pub mod Serial
-pub mod Chains
+pub mod Refuting

@@ -1,6 +1,6 @@
 //! Laws of outcomes. Each function does nothing; its contract is the law.
 ghost use Rattle.command.specs.Commands.{files_view};
-ghost use Rattle.outcome_laws.specs.Chains.{OutcomesRefute, OutcomesRefuteUnder};
+ghost use Rattle.outcome_laws.specs.Refuting.{OutcomesRefute, OutcomesRefuteUnder};
 ghost use Rattle.outcome_laws.specs.Right.{RightOrderSays, RightRefutationSays};
 ghost use Rattle.outcome_laws.specs.Serial.{RightTurnsSay, SerialOutcomesAgree};
 ghost use Rattle.outcome_laws.specs.Laws.{NoCubeJudgesAlike, SameBytesSayTheSame, SameWordsAskAlike, OutcomesAgree, Status0HasACommandLine};
@@ -111,18 +111,17 @@ pub fn right_turns_say<F: Files>(files: &F)
     right_empty();
 }
 
-/// Of a chain of runs, each of which read as its formula what the one before had saved, the last with status 0: no assignment
-/// satisfies the formula whose text the first one read. The clauses `saved` and `sound` of `command` give what is asked of each run.
+/// Where runs of the program follow one another, each on the checkpoint that the one before it saved, and the last one ends with
+/// status 0, what the first one read is a text of a formula that no assignment satisfies: the clause `ends` of `command` says so.
 pub fn outcomes_refute<F: Files>(_files: &F)
-    ensures { OutcomesRefute F.Files F.Input.Source F.Output.Sink }
+    ensures { OutcomesRefute (files_view F.Files F.Input.Source F.Output.Sink) }
 {
     files_refute();
 }
 
-/// With status 8 of the last run, none satisfies it and makes true each literal that this run assumed, whatever the runs before it
-/// assumed.
+/// Where the last one ends with status 8, no assignment makes the literals that it assumed true besides.
 pub fn outcomes_refute_under<F: Files>(_files: &F)
-    ensures { OutcomesRefuteUnder F.Files F.Input.Source F.Output.Sink }
+    ensures { OutcomesRefuteUnder (files_view F.Files F.Input.Source F.Output.Sink) }
 {
     files_refute_under();
 }

@@ -18,6 +18,7 @@ use Rattle.lrup_model.specs.State.{State, Answers, opening, state}
 use Rattle.stream_check.specs.Checking.{IsFetch}
 use Rattle.checkpoint.specs.Live.{fetches}
 use Rattle.runs.specs.Headline.{HaveOneHistory}
+use Rattle.run_laws.specs.OwnLemmas.{own_all}
 
 -- ---- histories of fetches
 
@@ -56,15 +57,6 @@ all_answer f p m [] legal all = tt
 all_answer f p m (events.fetch s id r ∷ h) legal all = (legal.0, all_answer f p m h legal.2 all.1)
 all_answer f p m (events.publish s id c r ∷ h) legal all = absurd all.0
 all_answer f p m (events.retire s id r ∷ h) legal all = absurd all.0
-
--- what holds of all events holds of a stream's
-own_all : (P : Event → Type 0) (h : History) (s : ℕ) → AllByRecursion P h → AllByRecursion P (own h s)
-own_all P [] s all = tt
-own_all P (e ∷ h) s all =
-    elim (cases_eq (stream_of e) s) [
-      | inl mine ↦ subst (λ (g : History). AllByRecursion P g) (sym (own-mine e h s mine)) (all.0, own_all P h s all.1)
-      | inr other ↦ subst (λ (g : History). AllByRecursion P g) (sym (own-other e h s other)) (own_all P h s all.1)
-    ]
 
 -- a fetch is answered alike whichever stream asks
 answer_any : (m : State) (s t id : ℕ) (r : Reply) → Answers m (events.fetch s id r) → Answers m (events.fetch t id r)

@@ -22,7 +22,8 @@ use Rattle.run_laws.specs.Right.{right_report}
 use Rattle.run_laws.specs.RightLaws.{RightBegins}
 use Rattle.run_laws.proofs.BlameLemmas.{foreign_by, IsReadIn, read_in}
 use Rattle.run_laws.proofs.BlameLines.{IsFoundIn, AreFair}
-use Rattle.run_laws.proofs.BlameStreams.{near_fair, IsStillThere, all_still_there, own_all, Anything, all_anything, fair_front, has_ended, lines_go_on, goes_on_tells}
+use Rattle.run_laws.specs.OwnLemmas.{own_all}
+use Rattle.run_laws.proofs.BlameStreams.{near_fair, IsStillThere, all_still_there, Anything, all_anything, fair_front, has_ended, lines_go_on, goes_on_tells}
 use Rattle.run_laws.proofs.RightLemmas.{all_others, right_judged}
 use Rattle.run_laws.proofs.RightLines.{own_side}
 

@@ -36,7 +36,8 @@ use Rattle.run_laws.specs.Blame.{HaveBytesOf, LacksOfAnother, LacksOfAnotherIn, 
 use Rattle.run_laws.specs.Right.{IsCutOffIn, TellsAtLeast}
 use Rattle.run_laws.specs.Groups.{IsRun}
 use Rattle.run_laws.proofs.BlameLines.{IsFoundIn, AreFair, FindAlike, same_clause}
-use Rattle.run_laws.proofs.BlameStreams.{near_fair, IsStillThere, all_still_there, own_all, IsIn, in_left, in_all, own_published, left_published, stream_publishes, has_ended, fair_front, IsBlameless, GoesOn, lines_go_on, goes_on_tells, whole_told}
+use Rattle.run_laws.specs.OwnLemmas.{own_all}
+use Rattle.run_laws.proofs.BlameStreams.{near_fair, IsStillThere, all_still_there, IsIn, in_left, in_all, own_published, left_published, stream_publishes, has_ended, fair_front, IsBlameless, GoesOn, lines_go_on, goes_on_tells, whole_told}
 use Rattle.run_laws.proofs.GroupLemmas.{inside, is_inside, inside_is, closed_finds}
 use Rattle.run_laws.proofs.Places.{has_place, judged_at}
 use Rattle.run_laws.proofs.RightLines.{side_by}

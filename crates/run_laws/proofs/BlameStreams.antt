@@ -103,13 +103,6 @@ all_anything c (events.fetch s id events.retired ∷ es) = (tt, all_anything c e
 all_anything c (events.publish s id d r ∷ es) = (tt, all_anything c es)
 all_anything c (events.retire s id r ∷ es) = (tt, all_anything c es)
 
-pub own_all : (P : Event → Type 0) (h : History) (s : ℕ) → AllByRecursion P h → AllByRecursion P (own h s)
-own_all P [] s all = tt
-own_all P (e ∷ h) s all = elim (cases_eq (stream_of e) s) [
-  | inl mine ↦ subst (AllByRecursion P) (sym (own-mine e h s mine)) (all.0, own_all P h s all.1)
-  | inr other ↦ subst (AllByRecursion P) (sym (own-other e h s other)) (own_all P h s all.1)
-]
-
 -- What is published
 
 abbrev pub IsIn : ℕ × Clause → List (ℕ × Clause) → Type 0

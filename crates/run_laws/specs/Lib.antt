@@ -4,6 +4,7 @@ pub mod ReportLemmas
 pub mod Lines
 pub mod Premises
 pub mod PublishLemmas
+pub mod OwnLemmas
 pub mod Serializable
 pub mod OrderLaws
 pub mod Right
