@@ -32,8 +32,7 @@ module _ {F : Type 0} (view : F → FilesView) (IsLast : F → List ℕ → Type
   are_checkpoints bytes (next ∷ more) runs =
       let files = view runs.0.0 in
       let run = runs.0.2 in
-      let o = run.ends.outcome in
-      (
+      let o = run.ends.outcome in (
         (
           o.formula,
           is_read files bytes runs.0.1 run,
