@@ -339,7 +339,14 @@ fn checkpoints_without_a_report(rt: HostRuntime) -> Result<(), Fail> {
         ..WELL
     };
     let both = "lrupd: checkpoint not written\nlrupd: cannot write report\n";
-    assert_unsaved(&rt, rt.alloc(), broken, 1, (7, "", both), ("f 1 +ck ", "", 0))
+    assert_unsaved(
+        &rt,
+        rt.alloc(),
+        broken,
+        1,
+        (7, "", both),
+        ("f 1 +ck ", "", 0),
+    )
 }
 
 /// A standard error that fails in the line on the checkpoint says no more, and changes no status.
@@ -361,7 +368,11 @@ fn checkpoints_whose_fault_is_not_said(rt: HostRuntime) -> Result<(), Fail> {
         let mut err = Paper::new(rt.alloc(), 7, 2);
         let words = ["--checkpoint", "ck", "f", "1"];
         let ended = command(&rt, &rt, rt.alloc(), &words, &mut files, &mut out, &mut err);
-        same(&rt, (ended, err.bytes.as_slice()), (status, b"lrupd: ".as_slice()));
+        same(
+            &rt,
+            (ended, err.bytes.as_slice()),
+            (status, b"lrupd: ".as_slice()),
+        );
     }
     Ok(())
 }
