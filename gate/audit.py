@@ -1072,7 +1072,8 @@ As [on AUDIT](AUDIT.md#how-to-read-it); and besides:
 
 CONTRACTS = """## The contracts
 
-What the sentences don't say: the [[fn run.layout+spawn+ring+first]] say what holds where there is no outcome."""
+What the sentences don't say: the [[fn run.layout+spawn+ring+first]] say what holds where there is no outcome, and the
+[[fn run.store+kept+dropped]] what an outcome keeps for a checkpoint."""
 
 CALLS = """The calls of the store by which a pass makes, sees and reads history. Of its others `meet_all` lets passes meet in
 turn, and the rest ask, and change nothing."""
