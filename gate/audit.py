@@ -1052,8 +1052,9 @@ RIGHT_PHRASES = [
      [[law serial_outcomes_agree]]."""),
     ("or 7; or 5 or 6, by a fault of the machine", """[[IsExcused: unwritten : (failed : out.failed ≡ true)]];
      [[IsExcused: machine : IsOfMachine fault]], which a stream's file that isn't opened is too."""),
-    ("or 3 or 8, and then it stopped so in these lines", """[[IsExcused: (why : Lost report)]], with
-     [[RightRefutationSays: IsCutOffIn (length ask.right.lines)]], or [[IsHeldUp]] where the streams cite each other."""),
+    ("or 3, 8 or 9, and then it stopped so in these lines", """[[IsExcused: (why : Lost report)]], with
+     [[RightRefutationSays: IsCutOffIn (length ask.right.lines)]], or [[IsHeldUp]] where the streams cite each other; 9 only with a
+     checkpoint that is asked for ([[IsOpen]])."""),
     ("proved over files that tell their bytes", """[[AskForRightRefutation: tells : files.tells path ≡ Some bytes]]. The argument is that
      [of AUDIT](AUDIT.md#status-0), under 'Which reads?'."""),
 ]
