@@ -1,5 +1,6 @@
 #!/usr/bin/env python3
-"""Writes docs/AUDIT.md, what one has to read to believe status 0 and 8, and docs/AUDIT-RUNS.md, the same for whole runs.
+"""Writes docs/AUDIT.md, what one has to read to believe status 0 and 8 and checkpoints, and docs/AUDIT-RUNS.md, the same for whole
+runs.
 
     python3 gate/audit.py            writes the pages
     python3 gate/audit.py --check    fails where a page isn't what the sources give, or DEFINITIONS has other counts
@@ -656,8 +657,8 @@ AUDIT_TOP = f"""# What there is to believe: status 0 and 8
 {MADE}
 
 The prover shows that the code keeps its contracts. That the contracts say what one wants to rely on is for a reader to judge.
-This page has all that the clauses behind status 0 and 8 rest on, down to names of libraries, which have a line each; whole runs
-are on [AUDIT-RUNS](AUDIT-RUNS.md). At each definition ask: is this what the words mean? [DEFINITIONS](DEFINITIONS.md) has
+This page has all that the clauses behind status 0 and 8, and behind checkpoints, rest on, down to names of libraries, which have
+a line each; whole runs are on [AUDIT-RUNS](AUDIT-RUNS.md). At each definition ask: is this what the words mean? [DEFINITIONS](DEFINITIONS.md) has
 examples.
 
 No clause says that something is answered: 'out of memory' may always come.
@@ -728,7 +729,7 @@ STATUS_8_PHRASES = [
 
 CHECKPOINTS_TOP = """## Checkpoints
 
-By the [[fn command.saved]]:"""
+By the [[fn command.saved]], and two laws:"""
 
 CHECKPOINT_PHRASES = [
     ("With status 3 or 8", """[[fn command.saved: (result ≡ 3) ⊎ (result ≡ 8)]], where the words ask for a checkpoint at a path:
@@ -741,10 +742,20 @@ CHECKPOINT_PHRASES = [
      IsCheckpoint f saved]]: [[IsCheckpoint: text : IsFormulaText bytes formula]], with [[Entails: vars : g.vars ≡ f.vars]] and
      [[Entails: each : AllByRecursion (Follows f) g.clauses]]. The run's formula is `f`, by [[SavesFrom: Read first formula
      bytes next × IsFormulaText bytes f]], as above."""),
-    ("So where each run of a chain read as its formula what the one before had saved, and the last ends with status 0, no assignment satisfies the first formula",
-     """[[law outcomes_refute]]: of runs one after the other, as the clause `ends` tells them (`IsRunOn`), each
-     on the bytes that the one before it saved (`saved_by`)."""),
+    ("where each run of a chain read as its formula what the one before had saved", """a premise, of the bytes that were read and
+     saved: then by the [[fn command.saved]] of each run they are [[AreCheckpoints: ((f : Cnf) × IsFormulaText bytes f ×
+     IsCheckpoint f next) × AreCheckpoints next more]]. No clause says what a file gives that was kept, and is opened later."""),
+    ("the last ends with status 0, no assignment satisfies the first formula", """the law [[law files_refute]]: the last run's
+     bytes are `last_file bytes more`, of which the [[fn command.sound]] says [[IsUnsatisfiableText: (f : Cnf) × IsFormulaText
+     bytes f × IsUnsatisfiable f]]; so that holds of the first run's `bytes`. [[law outcomes_refute]] says it at once, of runs as
+     the clause `ends` of `command` has them."""),
+    ("where it ends with status 8, none satisfies it and makes the literals true that the last run assumed", """the law
+     [[law files_refute_under]], with the [[fn command.sound_under]] of the last run; and [[law outcomes_refute_under]]."""),
 ]
+
+CHECKPOINTS_ACCOUNT = """Of the machine's files all this is an argument, as with reads: they allow all that `creates` and `keeps` may
+be, and tell nothing of what was written. Take any run, and files that play its calls back: `command` would write the same to
+them."""
 
 AUDIT_LIBRARIES = """## What the libraries define
 
@@ -1041,8 +1052,9 @@ RIGHT_PHRASES = [
      [[law serial_outcomes_agree]]."""),
     ("or 7; or 5 or 6, by a fault of the machine", """[[IsExcused: unwritten : (failed : out.failed ≡ true)]];
      [[IsExcused: machine : IsOfMachine fault]], which a stream's file that isn't opened is too."""),
-    ("or 3 or 8, and then it stopped so in these lines", """[[IsExcused: (why : Lost report)]], with
-     [[RightRefutationSays: IsCutOffIn (length ask.right.lines)]], or [[IsHeldUp]] where the streams cite each other."""),
+    ("or 3, 8 or 9, and then it stopped so in these lines", """[[IsExcused: (why : Lost report)]], with
+     [[RightRefutationSays: IsCutOffIn (length ask.right.lines)]], or [[IsHeldUp]] where the streams cite each other; 9 only with a
+     checkpoint that is asked for ([[IsOpen]])."""),
     ("proved over files that tell their bytes", """[[AskForRightRefutation: tells : files.tells path ≡ Some bytes]]. The argument is that
      [of AUDIT](AUDIT.md#status-0), under 'Which reads?'."""),
 ]
@@ -1061,7 +1073,8 @@ As [on AUDIT](AUDIT.md#how-to-read-it); and besides:
 
 CONTRACTS = """## The contracts
 
-What the sentences don't say: the [[fn run.layout+spawn+ring+first]] say what holds where there is no outcome."""
+What the sentences don't say: the [[fn run.layout+spawn+ring+first]] say what holds where there is no outcome, and the
+[[fn run.store+kept+dropped]] what an outcome keeps for a checkpoint."""
 
 CALLS = """The calls of the store by which a pass makes, sees and reads history. Of its others `meet_all` lets passes meet in
 turn, and the rest ask, and change nothing."""
@@ -1111,15 +1124,17 @@ def audit_page():
     more = top_down(by_mention(command.named_by(["sound_under"]), under[1]), placed)
     chained = phrase_by_phrase(sentence("Runs can be chained."), CHECKPOINT_PHRASES)
     kept = [part_of(rust_type("command", "Files"), "creation"), rust_type("lrup_text", "Sink")]
-    last = top_down(by_mention(command.named_by(["saved"]) + kept, chained[1]), placed)
-    things = [command, *first, *more, *last]
+    laws = [Law(f"checkpoint/src/laws.rt: {name}") for name in "files_refute files_refute_under".split()]
+    last = top_down(by_mention(command.named_by(["saved"]) + kept + of_all(laws), chained[1]), placed)
+    things = [command, *first, *more, *laws, *last]
     page = Page("AUDIT.md", [
         AUDIT_TOP, sound[0], SIGNATURE, command, "Phrase by phrase:", sound[1], ACCOUNT,
         AUDIT_HOW.replace("{count}", str(len(definitions_of(first)))).replace("{twins}", twins(things)), *first,
         STATUS_8_TOP, *under, f"{len(definitions_of(more))} definitions more.", *more,
-        CHECKPOINTS_TOP, *chained, f"{len(definitions_of(last))} definitions more.", *last,
-        AUDIT_LIBRARIES, libraries(things, []), TRUST], cited=[arguments, check, Law("command_line/src/laws.rt: plain_words"), Law("outcome_laws/src/laws.rt: outcomes_refute"),
-        Law("dimacs/src/laws.rt: one_formula")])
+        CHECKPOINTS_TOP, *chained, CHECKPOINTS_ACCOUNT, *laws, f"{len(definitions_of(last))} definitions more.", *last,
+        AUDIT_LIBRARIES, libraries(things, []), TRUST], cited=[arguments, check, Law("command_line/src/laws.rt: plain_words"),
+        Law("dimacs/src/laws.rt: one_formula"), Law("outcome_laws/src/laws.rt: outcomes_refute"),
+        Law("outcome_laws/src/laws.rt: outcomes_refute_under")])
     page.sound = first
     return page
 
