@@ -66,8 +66,8 @@ pub fn save_live<W: Sink>(
     let _ = pass.stream();
     let mut desk = Desk::new(store, pass);
     let saved = save(alloc, &mut desk, layout, &NotAllDropped { dropped }, sink);
-    // It is no event. That all have seen one history again shows that nobody else published or retired meanwhile, so that what
-    // was fetched is what the run left.
+    // The meeting is no event. It shows that no other stream published or retired meanwhile, and so that what was fetched is what
+    // the run left.
     passes.push_reserved(desk.into_pass());
     store.meet_all(&mut passes);
     saved
