@@ -376,3 +376,42 @@ fn checkpoints_whose_fault_is_not_said(rt: HostRuntime) -> Result<(), Fail> {
     }
     Ok(())
 }
+
+/// Whether a run that may have been refused memory ended so, and kept this: all of the checkpoint, or nothing, and said which.
+fn may_end(ran: &Ran, kept: &[u8]) -> bool {
+    let said = ran.err.as_slice();
+    let is_whole = kept == LESS.as_bytes() || kept == ALL.as_bytes();
+    match ran.status {
+        3 => is_whole && said.is_empty(),
+        6 => kept.is_empty() && ran.out.is_empty(),
+        7 => is_whole || kept.is_empty(),
+        9 => kept.is_empty() && said.starts_with(b"lrupd: checkpoint not written"),
+        _ => false,
+    }
+}
+
+/// To be run with each allocation failing in turn. Where a stream has no memory for what it drops, it stops, and the first clause stays.
+#[test]
+fn memory_that_runs_out(rt: HostRuntime) -> Result<(), Fail> {
+    for option in ["--tries=1000", "--serial"] {
+        let taken = AtomicU64::new(0);
+        let mut files = Folder {
+            alloc: rt.alloc(),
+            shelf: shelf_of(rt.alloc(), FOUR, &[DROPS])?,
+            manner: WELL,
+            taken: &taken,
+            kept: Vec::new(rt.alloc()),
+        };
+        let mut out = Paper::new(rt.alloc(), 7, 0);
+        let mut err = Paper::new(rt.alloc(), 7, 0);
+        let words = [option, "--checkpoint", "ck", "f", "1"];
+        let status = command(&rt, &rt, rt.alloc(), &words, &mut files, &mut out, &mut err);
+        let ran = Ran {
+            out: out.bytes,
+            err: err.bytes,
+            status,
+        };
+        same(&rt, (status, may_end(&ran, &files.kept)), (status, true));
+    }
+    Ok(())
+}
