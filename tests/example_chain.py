@@ -15,7 +15,7 @@ from pathlib import Path
 from typing import List, NamedTuple, Sequence, Tuple
 
 sys.dont_write_bytecode = True
-from harness import EXAMPLES, Row, example, generated, run, run_all, want, words_given, written
+from harness import EXAMPLES, VERDICTS, Row, example, generated, run, run_all, want, words_given, written
 
 CHAIN = EXAMPLES / "chain.py"
 TRIES = ["--tries", "1000000"]
@@ -89,6 +89,14 @@ def wrong_step(program: str, at: int, bad: int, work: Path) -> None:
     want([report[-1] for report in chained.reports], ["s UNKNOWN"] * bad, "the verdicts")
 
 
+def under_assumptions(program: str, work: Path) -> None:
+    """The last run has status 8."""
+    options = ["--assume", str(example("assumed.cube"))]
+    chained = chain(program, 2, example("assumed.cnf"), [example("assumed.lrup")], options, work)
+    verdicts = [report[-1] for report in chained.reports]
+    want((verdicts, chained.status), ([VERDICTS[3], VERDICTS[8]], 8), "the verdicts and the status")
+
+
 def never_derived(program: str, work: Path) -> None:
     """Streams that cite a clause of a stream that isn't there."""
     chained = chain(program, 3, example("bmc.cnf"), [example("bmc-four.1"), Path("/dev/null")], ["--tries", "10"], work)
@@ -109,7 +117,7 @@ def rows(program: str, solver: str) -> List[Row]:
         found.append((" ".join(options), too_much_for_one_run, program, options, fault, count))
     for at, bad in (200, 1), (2000, 2), (3000, 3):
         found.append((f"hints left out after {at} lines", wrong_step, program, at, bad))
-    return [*found, ("a clause that nobody derives", never_derived, program)]
+    return [*found, ("assumptions", under_assumptions, program), ("a clause that nobody derives", never_derived, program)]
 
 
 def main() -> int:
