@@ -1,5 +1,6 @@
 #!/usr/bin/env python3
-"""Writes docs/AUDIT.md, what one has to read to believe status 0 and 8, and docs/AUDIT-RUNS.md, the same for whole runs.
+"""Writes docs/AUDIT.md, what one has to read to believe status 0 and 8 and checkpoints, and docs/AUDIT-RUNS.md, the same for whole
+runs.
 
     python3 gate/audit.py            writes the pages
     python3 gate/audit.py --check    fails where a page isn't what the sources give, or DEFINITIONS has other counts
@@ -91,6 +92,7 @@ class Definition:
                     names.add(member.group(1))
         else:
             for line in self.text.split("\n"):
+                line = re.sub(r"\{\w+ = (\w+)\}", r"\1", line)       # a parameter that is given by its name
                 if line.startswith(self.name + " ") and " :" not in line.split("=")[0]:
                     names.update(
                         word for word in NAME.findall(line.split(" =")[0])[1:] if not self.file.is_constructor(word)
@@ -125,10 +127,10 @@ class RustType:
 
     language = "rust"
 
-    def __init__(self, crate, path, text, whole=False):
+    def __init__(self, crate, path, text, whole=False, part=""):
         self.crate, self.path, self.whole = crate, path, whole
         self.is_trait = re.search(r"^pub trait ", text, re.M) is not None
-        self.name = re.search(r"^pub (?:struct|enum|trait) (\w+)", text, re.M).group(1)
+        self.name = re.search(r"^pub (?:struct|enum|trait) (\w+)", text, re.M).group(1) + part
         self.given, self.text = text, self.short(text)
         match = re.search(rf"^impl(?:<.*?>)? Model for {self.name}\b.*?^}}", path.read_text(), re.M | re.S)
         value = match and re.search(r"ghost Value = \{ (.*?) \};", match.group(0))
@@ -167,6 +169,11 @@ class RustType:
 def whole(thing):
     """A trait with all of its members."""
     return RustType(thing.crate, thing.path, thing.given, whole=True)
+
+
+def part_of(thing, part):
+    """A trait with other members, which SHOWN names under its name and this one."""
+    return RustType(thing.crate, thing.path, thing.given, part=f", {part}")
 
 
 def shown_members(trait, lines):
@@ -633,13 +640,15 @@ def phrase_by_phrase(said, rows):
 # Of these traits what the clauses rest on: the members, and the clauses of each.
 SHOWN = {
     "Files": {"Input": [], "tells": [], "opens": [], "open": ["opens"]},
+    "Files, creation": {"Output": [], "creates": [], "keeps": [], "create": ["creates"], "keep": [None]},
     "Source": {"reads": [], "read": ["reads"]},
+    "Sink": {"written": [], "write": ["bytes"]},
 }
 
 # What signatures name and no clause on the pages speaks of.
-UNSEEN = {"DimacsFault", "OpenFault", "ReadFault", "Sink"}
+UNSEEN = {"DimacsFault", "OpenFault", "ReadFault", "Sink", "WriteFault"}
 
-MOST_WORDS = 4100       # of the page on status 0 and 8
+MOST_WORDS = 6000       # of the page on status 0 and 8, and on checkpoints
 
 MADE = "Made from the sources by `make audit`; the gate fails where this page isn't what they give."
 
@@ -648,8 +657,8 @@ AUDIT_TOP = f"""# What there is to believe: status 0 and 8
 {MADE}
 
 The prover shows that the code keeps its contracts. That the contracts say what one wants to rely on is for a reader to judge.
-This page has all that the clauses behind status 0 and 8 rest on, down to names of libraries, which have a line each; whole runs
-are on [AUDIT-RUNS](AUDIT-RUNS.md). At each definition ask: is this what the words mean? [DEFINITIONS](DEFINITIONS.md) has
+This page has all that the clauses behind status 0 and 8, and behind checkpoints, rest on, down to names of libraries, which have
+a line each; whole runs are on [AUDIT-RUNS](AUDIT-RUNS.md). At each definition ask: is this what the words mean? [DEFINITIONS](DEFINITIONS.md) has
 examples.
 
 No clause says that something is answered: 'out of memory' may always come.
@@ -718,6 +727,36 @@ STATUS_8_PHRASES = [
      `--assume`'s file, by the next opening, is its text ([[IsCubeText]]); without `--assume` there are none."""),
 ]
 
+CHECKPOINTS_TOP = """## Checkpoints
+
+By the [[fn command.saved]], and two laws:"""
+
+CHECKPOINT_PHRASES = [
+    ("With status 3 or 8", """[[fn command.saved: (result ≡ 3) ⊎ (result ≡ 8)]], where the words ask for a checkpoint at a path:
+     [[AskToSave]]."""),
+    ("the bytes that went to the checkpoint", """they are the `saved` of [[NameCheckpoint: Save before path saved last]], and
+     `Save` is [[fn command.saved: WasSaved F.creates F.Output.Sink.written F.keeps]]: a file was created at the path, with nothing
+     in it ([[Files, creation]]); these bytes went to it, [[WasSaved: wrote : Appends (written first) (written last) bytes]]
+     ([[Sink]]); and it was kept, which led to the files that the caller has afterwards ([[WasSaved]])."""),
+    ("are a text of a formula over the same variables, each clause of which follows from the run's formula", """[[NameCheckpoint:
+     IsCheckpoint f saved]]: [[IsCheckpoint: text : IsFormulaText bytes formula]], with [[Entails: vars : g.vars ≡ f.vars]] and
+     [[Entails: each : AllByRecursion (Follows f) g.clauses]]. The run's formula is `f`, by [[NameCheckpoint: Read first formula
+     bytes next × IsFormulaText bytes f]], as above."""),
+    ("where each run of a chain read as its formula what the one before had saved", """a premise, of the bytes that were read and
+     saved: then by the [[fn command.saved]] of each run they are [[AreCheckpoints: ((f : Cnf) × IsFormulaText bytes f ×
+     IsCheckpoint f next) × AreCheckpoints next more]]. No clause says what a file gives that was kept, and is opened later."""),
+    ("the last ends with status 0, no assignment satisfies the first formula", """the law [[law files_refute]]: the last run's
+     bytes are `last_file bytes more`, of which the [[fn command.sound]] says [[IsUnsatisfiableText: (f : Cnf) × IsFormulaText
+     bytes f × IsUnsatisfiable f]]; so that holds of the first run's `bytes`. [[law outcomes_refute]] says it at once, of runs as
+     the clause `ends` of `command` has them."""),
+    ("where it ends with status 8, none satisfies it and makes the literals true that the last run assumed", """the law
+     [[law files_refute_under]], with the [[fn command.sound_under]] of the last run; and [[law outcomes_refute_under]]."""),
+]
+
+CHECKPOINTS_ACCOUNT = """Of the machine's files all this is an argument, as with reads: they allow all that `creates` and `keeps` may
+be, and tell nothing of what was written. Take any run, and files that play its calls back: `command` would write the same to
+them."""
+
 AUDIT_LIBRARIES = """## What the libraries define
 
 In short. In full it stands in the module of `clap` that is named (`clap.specs.Words` is `rattle/clap/specs/Words.antt`, beside
@@ -739,6 +778,7 @@ GLOSSES = """
 `AllByRecursion P xs` P of each element
 `AllZip R xs ys` R of the elements at each place of the two lists, which are equally long
 `Any P xs` P of some element
+`Appends old new bs` if `old` is `Some xs`, `new` is `Some ys`, and ys is `xs ++ bs`; of `None` it says nothing
 `App` a command of `clap`: what it takes itself, `top`, and its subcommands, `subs`
 `Append` each use of the argument adds to its values
 `Consumes old new bs` if `old` is `Some xs`, `new` is `Some ys`, and xs is `bs ++ ys`; of `None` it says nothing
@@ -763,6 +803,7 @@ buffer isn't empty; if it is `Err`, what is known is as it was
 `concat xss` the lists, one after the other
 `count_by f xs` how many elements pass the test
 `decimal n` n in decimal, without leading zeros
+`drop n xs` the list without its first n elements
 `fault_of app words` the errors that the command finds in the words, asking for help among them: `[]` if there is none
 `filter f xs` the elements that pass the test
 `fold f a xs` f over the elements, from a on: of x and y it is `f (f a x) y`
@@ -799,6 +840,7 @@ buffer isn't empty; if it is `Err`, what is known is as it was
 `unsigned_abs z` z without its sign
 `usize_max` 2^64 - 1
 `vec_len v` the count of elements
+`WriteAppends old new r buffer` if r is `Ok n`, `Appends` of the first n of the buffer; if it is `Err`, what is known is as it was
 """
 
 # Operators that everybody knows.
@@ -1010,8 +1052,9 @@ RIGHT_PHRASES = [
      [[law serial_outcomes_agree]]."""),
     ("or 7; or 5 or 6, by a fault of the machine", """[[IsExcused: unwritten : (failed : out.failed ≡ true)]];
      [[IsExcused: machine : IsOfMachine fault]], which a stream's file that isn't opened is too."""),
-    ("or 3 or 8, and then it stopped so in these lines", """[[IsExcused: (why : Lost report)]], with
-     [[RightRefutationSays: IsCutOffIn (length ask.right.lines)]], or [[IsHeldUp]] where the streams cite each other."""),
+    ("or 3, 8 or 9, and then it stopped so in these lines", """[[IsExcused: (why : Lost report)]], with
+     [[RightRefutationSays: IsCutOffIn (length ask.right.lines)]], or [[IsHeldUp]] where the streams cite each other; 9 only with a
+     checkpoint that is asked for ([[IsOpen]])."""),
     ("proved over files that tell their bytes", """[[AskForRightRefutation: tells : files.tells path ≡ Some bytes]]. The argument is that
      [of AUDIT](AUDIT.md#status-0), under 'Which reads?'."""),
 ]
@@ -1030,7 +1073,8 @@ As [on AUDIT](AUDIT.md#how-to-read-it); and besides:
 
 CONTRACTS = """## The contracts
 
-What the sentences don't say: the [[fn run.layout+spawn+ring+first]] say what holds where there is no outcome."""
+What the sentences don't say: the [[fn run.layout+spawn+ring+first]] say what holds where there is no outcome, and the
+[[fn run.store+kept+dropped]] what an outcome keeps for a checkpoint."""
 
 CALLS = """The calls of the store by which a pass makes, sees and reads history. Of its others `meet_all` lets passes meet in
 turn, and the rest ask, and change nothing."""
@@ -1070,7 +1114,7 @@ def by_mention(roots, text):
 
 def audit_page():
     """The page on status 0 and 8, with the definitions that each clause takes."""
-    command = Contract("command/src/program.rt: command", ["out", "err", "sound", "sound_under"], commented=False)
+    command = Contract("command/src/program.rt: command", ["out", "err", "sound", "sound_under", "saved"], commented=False)
     arguments = Contract("command/src/arguments.rt: command_with_arguments", ["sound"])
     check = Contract("command/src/program.rt: check_formula", ["sound"])
     guarantee = sentence("The guarantee:").split(". ")[0].split("; ")
@@ -1078,13 +1122,19 @@ def audit_page():
     placed = {}
     first = top_down(by_mention(command.named_by(["sound"]) + [rust_type("command", "Files")], sound[1]), placed)
     more = top_down(by_mention(command.named_by(["sound_under"]), under[1]), placed)
-    things = [command, *first, *more]
+    chained = phrase_by_phrase(sentence("Runs can be chained."), CHECKPOINT_PHRASES)
+    kept = [part_of(rust_type("command", "Files"), "creation"), rust_type("lrup_text", "Sink")]
+    laws = [Law(f"checkpoint/src/laws.rt: {name}") for name in "files_refute files_refute_under".split()]
+    last = top_down(by_mention(command.named_by(["saved"]) + kept + of_all(laws), chained[1]), placed)
+    things = [command, *first, *more, *laws, *last]
     page = Page("AUDIT.md", [
         AUDIT_TOP, sound[0], SIGNATURE, command, "Phrase by phrase:", sound[1], ACCOUNT,
         AUDIT_HOW.replace("{count}", str(len(definitions_of(first)))).replace("{twins}", twins(things)), *first,
         STATUS_8_TOP, *under, f"{len(definitions_of(more))} definitions more.", *more,
+        CHECKPOINTS_TOP, *chained, CHECKPOINTS_ACCOUNT, *laws, f"{len(definitions_of(last))} definitions more.", *last,
         AUDIT_LIBRARIES, libraries(things, []), TRUST], cited=[arguments, check, Law("command_line/src/laws.rt: plain_words"),
-        Law("dimacs/src/laws.rt: one_formula")])
+        Law("dimacs/src/laws.rt: one_formula"), Law("outcome_laws/src/laws.rt: outcomes_refute"),
+        Law("outcome_laws/src/laws.rt: outcomes_refute_under")])
     page.sound = first
     return page
 

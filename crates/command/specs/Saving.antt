@@ -11,12 +11,12 @@ use Rattle.checkpoint.specs.declared.saving.SaveFault.TheVariants as saves
 use Rattle.command.specs.Commands.{Text}
 
 -- with a path a file was created there, with nothing in it; without one there is none
-abbrev pub IsCreated : {F W : Type 0} → (F → Text → W → F → Type 0) → (W → Option (List ℕ)) → F
-    → Option Text → Option W → F → Type 0
-IsCreated creates written before None None after = after ≡ before
-IsCreated creates written before (Some path) (Some output) after =
+abbrev pub CreatesCheckpoint : {F W : Type 0} → (F → Text → W → F → Type 0)
+    → (W → Option (List ℕ)) → F → Option Text → Option W → F → Type 0
+CreatesCheckpoint creates written before None None after = after ≡ before
+CreatesCheckpoint creates written before (Some path) (Some output) after =
     creates before path output after × ForSome (written output) (λ all. all ≡ [])
-IsCreated creates written before path output after = ⊥
+CreatesCheckpoint creates written before path output after = ⊥
 
 -- the file that a checkpoint is written to, if there is one: with 'unsatisfiable' there is nothing to be written
 abbrev pub to_write : {W : Type 0} → Verdict → Option W → Option W
@@ -25,19 +25,19 @@ to_write verdict output = output
 
 -- What a run of a formula, with this verdict, made of the file, if there is one: with 'unsatisfiable' nothing; else there is one to be
 -- kept, to which a checkpoint was written, or a fault.
-abbrev pub IsWritten : {W : Type 0} → (W → Option (List ℕ)) → Cnf → Verdict → Option W
+abbrev pub WritesCheckpoint : {W : Type 0} → (W → Option (List ℕ)) → Cnf → Verdict → Option W
     → Result (Option W) SaveFault → Type 0
-IsWritten written f verdict None saved = saved ≡ Ok None
-IsWritten written f Unsatisfiable (Some first) saved = saved ≡ Ok None
-IsWritten written f verdict (Some first) (Ok None) = ⊥
-IsWritten written f verdict (Some first) (Ok (Some last)) =
+WritesCheckpoint written f verdict None saved = saved ≡ Ok None
+WritesCheckpoint written f Unsatisfiable (Some first) saved = saved ≡ Ok None
+WritesCheckpoint written f verdict (Some first) (Ok None) = ⊥
+WritesCheckpoint written f verdict (Some first) (Ok (Some last)) =
     (bytes : List ℕ) × Appends (written first) (written last) bytes × IsCheckpoint f bytes
-IsWritten written f verdict (Some first) (Err fault) = Unit {0}
+WritesCheckpoint written f verdict (Some first) (Err fault) = Unit {0}
 
 -- what was to be kept was kept, or that failed; else the files stay as they are
-abbrev pub IsKept : {F W : Type 0} → (F → W → F → Type 0) → F → Result (Option W) SaveFault
+abbrev pub KeepsCheckpoint : {F W : Type 0} → (F → W → F → Type 0) → F → Result (Option W) SaveFault
     → Option SaveFault → F → Type 0
-IsKept keeps before (Ok None) unsaved after = (unsaved ≡ None) × (after ≡ before)
-IsKept keeps before (Ok (Some last)) None after = keeps before last after
-IsKept keeps before (Ok (Some last)) (Some fault) after = fault ≡ saves.Unwritten
-IsKept keeps before (Err fault) unsaved after = (unsaved ≡ Some fault) × (after ≡ before)
+KeepsCheckpoint keeps before (Ok None) unsaved after = (unsaved ≡ None) × (after ≡ before)
+KeepsCheckpoint keeps before (Ok (Some last)) None after = keeps before last after
+KeepsCheckpoint keeps before (Ok (Some last)) (Some fault) after = fault ≡ saves.Unwritten
+KeepsCheckpoint keeps before (Err fault) unsaved after = (unsaved ≡ Some fault) × (after ≡ before)

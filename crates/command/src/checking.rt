@@ -14,7 +14,7 @@ ghost use Rattle.command.specs.Commands.{AreAssumed, AreChecked, AreOpened, IsAs
 ghost use Rattle.command.specs.Commands.{IsFileCause, IsOpenCause, IsOutcome, IsRunCause, Text, WasRead, WasReadIn};
 ghost use Rattle.command.specs.Commands.{IsCreateCause, LeavesCheckpoint, assumed_at, checkpoint_at, files_view, from_first};
 ghost use Rattle.command.specs.Commands.{path_of, readers_view, terms_on};
-ghost use Rattle.command.specs.Saving.{IsCreated, IsKept, IsWritten, to_write};
+ghost use Rattle.command.specs.Saving.{CreatesCheckpoint, KeepsCheckpoint, WritesCheckpoint, to_write};
 ghost use Rattle.command.specs.Faults.{of_cube_file};
 ghost use Rattle.stream_check.specs.Setting.{max_tries};
 
@@ -287,8 +287,8 @@ fn create_checkpoint<F: Files>(
     files: &mut F,
     path: Option<&str>,
 ) -> Result<Option<F::Output>, CommandFault>
-    ensures created { IfOk result (λ output. IsCreated F.creates F.Output.Sink.written files.old
-        (path_of path.entry) output files.new) }
+    ensures created { IfOk result (λ output. CreatesCheckpoint F.creates F.Output.Sink.written
+        files.old (path_of path.entry) output files.new) }
     ensures running { IfOk result (λ output.
         ForSome output (λ sink. F.Output.Sink.has_failed sink ≡ false)) }
     ensures cause { IfErr result (IsCreateCause (F.may_refuse_new files.old) (path_of path.entry)) }
@@ -308,7 +308,7 @@ fn keep_checkpoint<F: Files>(
     files: &mut F,
     saved: Result<Option<F::Output>, SaveFault>,
 ) -> Option<SaveFault>
-    ensures { IsKept F.keeps files.old saved result files.new }
+    ensures { KeepsCheckpoint F.keeps files.old saved result files.new }
 {
     match saved {
         Ok(None) => None,
@@ -354,8 +354,8 @@ fn check_streams<T: Threads + Wait + Sync, C: Clock + Sync, F: Files>(
     ensures checked { let terms = terms_on setup.now (length readers.items) in
         IfOk result (λ found. AreChecked (readers_view F.Input.Source) setup.now.serial
         setup.now.formula.now terms readers.items found.reports.items found.verdict) }
-    ensures written { IfOk result (λ found. IsWritten F.Output.Sink.written setup.now.formula.now
-        found.verdict output found.saved) }
+    ensures written { IfOk result (λ found. WritesCheckpoint F.Output.Sink.written
+        setup.now.formula.now found.verdict output found.saved) }
     ensures cause { let terms = terms_on setup.now (length readers.items) in
         IfErr result (IsRunCause setup.now.serial terms.layout) }
 {
@@ -381,14 +381,20 @@ fn check_serially<W: Wait, C: Clock + Sync, F: Files>(
     ensures checked { let terms = terms_on setup.now (length readers.items) in
         IfOk result (λ found. AreChecked (readers_view F.Input.Source) true
         setup.now.formula.now terms readers.items found.reports.items found.verdict) }
-    ensures written { IfOk result (λ found. IsWritten F.Output.Sink.written setup.now.formula.now
-        found.verdict output found.saved) }
+    ensures written { IfOk result (λ found. WritesCheckpoint F.Output.Sink.written
+        setup.now.formula.now found.verdict output found.saved) }
     ensures cause { let terms = terms_on setup.now (length readers.items) in
         IfErr result (IsRunCause true terms.layout) }
 {
     let gates = turn_gates(alloc, clock, watched, readers.len())?;
     let outcome = run_serial(
-        wait, alloc, setup.formula, setup.cube, setup.options, readers, gates,
+        wait,
+        alloc,
+        setup.formula,
+        setup.cube,
+        setup.options,
+        readers,
+        gates,
     )?;
     let SerialOutcome {
         reports,
@@ -426,14 +432,20 @@ fn check_in_threads<T: Threads + Wait + Sync, C: Clock + Sync, F: Files>(
     ensures checked { let terms = terms_on setup.now (length readers.items) in
         IfOk result (λ found. AreChecked (readers_view F.Input.Source) false
         setup.now.formula.now terms readers.items found.reports.items found.verdict) }
-    ensures written { IfOk result (λ found. IsWritten F.Output.Sink.written setup.now.formula.now
-        found.verdict output found.saved) }
+    ensures written { IfOk result (λ found. WritesCheckpoint F.Output.Sink.written
+        setup.now.formula.now found.verdict output found.saved) }
     ensures cause { let terms = terms_on setup.now (length readers.items) in
         IfErr result (IsRunCause false terms.layout) }
 {
     let gates = thread_gates(alloc, clock, watched, readers.len())?;
     let outcome = run(
-        threads, alloc, setup.formula, setup.cube, setup.options, readers, gates,
+        threads,
+        alloc,
+        setup.formula,
+        setup.cube,
+        setup.options,
+        readers,
+        gates,
     )?;
     let Outcome {
         reports,

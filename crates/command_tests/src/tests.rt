@@ -16,6 +16,7 @@ use watched::{Ear, Told};
 mod arguments;
 mod assumptions;
 mod changing;
+mod checkpoints;
 mod devices;
 mod faults;
 mod readings;

@@ -58,5 +58,13 @@ fn main(rt: HostRuntime) -> ExitCode {
     let mut out = Writing::new(rt.stdout());
     let mut err = Writing::new(rt.stderr());
     let arguments = env::args(&rt);
-    command_with_arguments(&rt, &rt, rt.alloc(), arguments, &mut files, &mut out, &mut err)
+    command_with_arguments(
+        &rt,
+        &rt,
+        rt.alloc(),
+        arguments,
+        &mut files,
+        &mut out,
+        &mut err,
+    )
 }

@@ -5,3 +5,4 @@ mod OutcomeLemmas
 mod StatusLemmas
 mod RightLemmas
 mod SerialLemmas
+mod RefutingLemmas

@@ -371,7 +371,6 @@ module _ (one_formula : OneFormula) (no_fault : NoFormulaFault) (alike : SameWor
           | inr last ↦ elim last.3 [ inl opens ↦ opens | inr more ↦ elim more [ inl runs ↦ runs | inr create ↦ create.3 ] ]
         ]
       ]
-
   of_machine words ask faults.NotCreated cause = tt
   of_machine words ask (faults.NotSaved fault) cause =
       elim cause.2 [

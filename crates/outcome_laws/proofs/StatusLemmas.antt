@@ -11,7 +11,7 @@ use Rattle.command.specs.declared.fault.CommandFault.{CommandFault}
 use Rattle.command.specs.declared.fault.CommandFault.TheVariants as faults
 use Rattle.outcome_laws.specs.Laws.{Status0HasACommandLine}
 
-refuted : (failed : Bool) (unsaved : Option SaveFault) (verdict : Verdict) → 0 ≡ report_status failed unsaved verdict → verdict ≡ Unsatisfiable
+pub refuted : (failed : Bool) (unsaved : Option SaveFault) (verdict : Verdict) → 0 ≡ report_status failed unsaved verdict → verdict ≡ Unsatisfiable
 refuted true unsaved verdict is = absurd (let no : 0 ≡ 7 = is in cc)
 refuted false (Some fault) verdict is = absurd (let no : 0 ≡ 9 = is in cc)
 refuted false None Unsatisfiable is = refl

@@ -2,3 +2,4 @@ pub mod Outcomes
 pub mod Laws
 pub mod Right
 pub mod Serial
+pub mod Refuting

@@ -1,9 +1,11 @@
 //! Laws of outcomes. Each function does nothing; its contract is the law.
 ghost use Rattle.command.specs.Commands.{files_view};
+ghost use Rattle.outcome_laws.specs.Refuting.{OutcomesRefute, OutcomesRefuteUnder};
 ghost use Rattle.outcome_laws.specs.Right.{RightOrderSays, RightRefutationSays};
 ghost use Rattle.outcome_laws.specs.Serial.{RightTurnsSay, SerialOutcomesAgree};
 ghost use Rattle.outcome_laws.specs.Laws.{NoCubeJudgesAlike, SameBytesSayTheSame, SameWordsAskAlike, OutcomesAgree, Status0HasACommandLine};
 
+use checkpoint::laws::{files_refute, files_refute_under};
 use command::Files;
 use dimacs::laws::{formula_or_fault, one_formula};
 use run_laws::groups::{same_bytes_agree, serial_run};
@@ -107,4 +109,19 @@ pub fn right_turns_say<F: Files>(files: &F)
     same_words_ask_alike();
     right_by_turns();
     right_empty();
+}
+
+/// Where runs of the program follow one another, each on the checkpoint that the one before it saved, and the last one ends with
+/// status 0, what the first one read is a text of a formula that no assignment satisfies: the clause `ends` of `command` says so.
+pub fn outcomes_refute<F: Files>(_files: &F)
+    ensures { OutcomesRefute (files_view F.Files F.Input.Source F.Output.Sink) }
+{
+    files_refute();
+}
+
+/// Where the last one ends with status 8, no assignment makes the literals that it assumed true besides.
+pub fn outcomes_refute_under<F: Files>(_files: &F)
+    ensures { OutcomesRefuteUnder (files_view F.Files F.Input.Source F.Output.Sink) }
+{
+    files_refute_under();
 }

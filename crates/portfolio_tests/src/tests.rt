@@ -254,7 +254,7 @@ fn found_under<'a, T: Threads + Wait + Sync>(
     }
 }
 
-/// The wanted text goes to paper that takes all of it at once, and byte by byte.
+/// The wanted text goes to paper that takes 512 bytes of it at once, and byte by byte.
 fn writes_text(
     rt: &impl Abort,
     alloc: Global,
@@ -262,7 +262,7 @@ fn writes_text(
     verdict: Verdict,
     text: &str,
 ) -> Result<(), Fail> {
-    for (most, writes) in [(usize::MAX, text.len().div_ceil(512)), (1, text.len())] {
+    for (most, writes) in [(512, text.len().div_ceil(512)), (1, text.len())] {
         let mut paper = Paper::new(alloc, most, 0);
         write_report(reports, verdict, &mut paper)?;
         same(rt, paper.bytes.as_slice(), text.as_bytes());
@@ -415,7 +415,7 @@ fn sinks_that_fail(rt: HostRuntime) -> Result<(), Fail> {
     Ok(())
 }
 
-/// 64 lines of 75 or 76 bytes fill the buffer again and again.
+/// 64 lines of 75 or 76 bytes fill the buffer, and break at any write.
 #[test]
 fn long_reports(rt: HostRuntime) -> Result<(), Fail> {
     let most = u64::MAX;
@@ -430,7 +430,7 @@ fn long_reports(rt: HostRuntime) -> Result<(), Fail> {
     text.push_str("s UNKNOWN\n")?;
     writes_text(&rt, rt.alloc(), &reports, Verdict::Unknown, text.as_str())?;
     for fails_at in 1..=text.len().div_ceil(512) {
-        let mut paper = Paper::new(rt.alloc(), usize::MAX, fails_at);
+        let mut paper = Paper::new(rt.alloc(), 512, fails_at);
         let wrote = write_report(&reports, Verdict::Unknown, &mut paper);
         same(&rt, (wrote, paper.failed()), (Err(WriteFault), true));
         same(&rt, paper.writes, fails_at);

@@ -2,7 +2,7 @@ use Rattle.std.proofs.Common.{◌∙◌, true, length, Option, Result, sym, subs
 use Rattle.command.specs.Commands.{IsRunCause, terms_on}
 use Rattle.command.proofs.CheckingLemmas.{err_given, has_layout, run_cause}
 use Rattle.checkpoint.specs.declared.saving.SaveFault.{SaveFault}
-use Rattle.command.specs.Saving.{IsWritten}
+use Rattle.command.specs.Saving.{WritesCheckpoint}
 use Rattle.command.proofs.SavingLemmas.{written_err, written_none, written_ok}
 use Rattle.command.proofs.checking.check_serially.Goals.{in-None, in-Some+in-Ok, in-Some+in-Err}
 use Rattle.command.proofs.checking.check_serially.Goals as goal
@@ -35,10 +35,10 @@ returns-clause-written g c =
     let written = g.F.Output.Sink.written in
     let formula = c.args.setup.now.formula.now in
     let outcome = c.in_ok-outcome.outcome in
-    let Written : Result (Option W) SaveFault → Type 0 = λ saved. IsWritten written formula outcome.verdict c.args.output saved in
+    let Written : Result (Option W) SaveFault → Type 0 = λ saved. WritesCheckpoint written formula outcome.verdict c.args.output saved in
     elim c.match-to_write.branch [
       | in-None w ↦ subst Written (sym w.saved-is) (written_none written formula outcome.verdict c.args.output (sym c.to_write.ensures ∙ w.in-None.is))
       | in-Some+in-Ok w ↦ subst Written (sym w.saved-is) (written_ok written formula outcome.verdict c.args.output w.in-Some.sink w.save_plain.new.sink
-        (sym c.to_write.ensures ∙ w.in-Some.is) (rw c.in_ok-outcome.ensures.kept.0 at w.in-Ok.ensures.checkpoint))
+          (sym c.to_write.ensures ∙ w.in-Some.is) (rw c.in_ok-outcome.ensures.kept.0 at w.in-Ok.ensures.checkpoint))
       | in-Some+in-Err w ↦ subst Written (sym w.saved-is) (written_err written formula outcome.verdict c.args.output w.in-Some.sink w.in-Err.fault (sym c.to_write.ensures ∙ w.in-Some.is))
     ]

@@ -1,0 +1,89 @@
+//! Formulas at the limits, and one clause beyond.
+ghost use Rattle.std.specs.Prelude.{◌≡◌, false};
+ghost use Rattle.lrup_model.specs.Layout.{IsStream};
+
+use super::{same, save_formula};
+use checkpoint::{SaveFault, save_clips};
+use dimacs::parse;
+use lrup_model::{ClauseMap, Fetched, Formula, Layout, PlainMap};
+use lrup_text::Sink;
+use std::alloc::Global;
+use std::fmt::Write;
+use std::test::Fail;
+use test_support::Paper;
+
+/// Saves the formula's first clause so many times.
+fn save_copies<M: ClauseMap>(
+    alloc: Global,
+    desk: &mut M,
+    layout: &Layout,
+    count: usize,
+    paper: &mut Paper,
+) -> Result<Result<(), SaveFault>, Fail>
+    requires layout { layout.now ≡ (M.place desk.old).caller.layout }
+    requires running { paper.old.failed ≡ false }
+{
+    if !desk.covers(1) {
+        return Err("no identity".into());
+    }
+    let Fetched::Live(clip) = desk.fetch(1) else {
+        return Err("no clause".into());
+    };
+    let copies = vec![in alloc; clip; count]?;
+    Ok(save_clips(desk, &copies, layout.vars(), paper))
+}
+
+/// The same, at the first desk.
+fn save_copies_at_first(
+    alloc: Global,
+    map: &mut PlainMap,
+    layout: &Layout,
+    count: usize,
+    paper: &mut Paper,
+) -> Result<Result<(), SaveFault>, Fail>
+    requires layout { layout.now ≡ map.old.layout }
+    requires stream { IsStream layout.now 1 }
+    requires running { paper.old.failed ≡ false }
+{
+    save_copies(alloc, &mut map.desk(1), layout, count, paper)
+}
+
+/// As many clauses as a formula may have come to the first write, which fails here; one more doesn't.
+#[test]
+fn clauses_have_a_limit(rt: HostRuntime) -> Result<(), Fail> {
+    let most = Formula::MAX_CLAUSES as usize;
+    for (count, wanted, writes) in [
+        (most, SaveFault::Unwritten, 1usize),
+        (most + 1, SaveFault::TooLarge, 0),
+    ] {
+        let formula = parse(rt.alloc(), b"p cnf 1 1\n1 0\n")?;
+        let layout = Layout::new(1, 1, 1, 1, 0, 0)?;
+        if !layout.fits(&formula) {
+            return Err("no layout".into());
+        }
+        let mut map = PlainMap::open(rt.alloc(), &formula, &layout)?;
+        let _ = layout.streams();
+        let mut paper = Paper::new(rt.alloc(), 1_000, 1);
+        let saved = save_copies_at_first(rt.alloc(), &mut map, &layout, count, &mut paper)?;
+        same(&rt, (saved, paper.writes), (Err(wanted), writes));
+        same(&rt, paper.bytes.len(), 0);
+    }
+    Ok(())
+}
+
+/// A clause of as many literals as a formula's may have.
+#[test]
+fn the_longest_clause_is_saved(rt: HostRuntime) -> Result<(), Fail> {
+    let mut text = String::new(rt.alloc());
+    text.push_str("p cnf 1048575 1\n")?;
+    for variable in 1..=Formula::MAX_CLAUSE_LITERALS {
+        write!(text, "{variable} ")?;
+    }
+    text.push_str("0\n")?;
+    let formula = parse(rt.alloc(), text.as_bytes())?;
+    let mut paper = Paper::new(rt.alloc(), usize::MAX, 0);
+    let saved = save_formula(rt.alloc(), &formula, &mut paper)?;
+    same(&rt, (saved, paper.failed()), (Ok(()), false));
+    same(&rt, paper.bytes.as_slice(), text.as_bytes());
+    Ok(())
+}

@@ -1,0 +1,378 @@
+//! Runs that are asked for a checkpoint: what is created, written and kept, and what is said where it wasn't.
+ghost use Rattle.std.specs.Prelude.{None, true};
+
+use super::*;
+use std::sync::atomic::{AtomicU64, Ordering};
+
+/// A file that was created: nothing of it shows before it is kept, but how many bytes it took.
+#[derive(Drop)]
+struct Page<'a> {
+    path: &'a str,
+    text: Paper,
+    taken: &'a AtomicU64,
+}
+
+impl Sink for Page<'_> {
+    ghost written = { λ _. None };
+
+    ghost has_failed = { λ p. p.text.failed };
+
+    fn write(&mut self, bytes: &[u8]) -> Result<usize, WriteFault> {
+        let count = self.text.write(bytes)?;
+        self.taken.fetch_add(count as u64, Ordering::SeqCst);
+        Ok(count)
+    }
+
+    fn failed(&self) -> bool {
+        self.text.failed()
+    }
+}
+
+/// What a folder does, where a checkpoint is asked for.
+#[derive(Clone, Copy)]
+struct Manner {
+    /// Something is at its path already.
+    is_there: bool,
+    /// There is no memory for it.
+    is_full: bool,
+    /// Which write of it fails, from 1 on; 0 for none. Each takes at most seven bytes.
+    fails_at: usize,
+    /// Its keeping fails.
+    is_lost: bool,
+}
+
+/// One in which all goes well.
+const WELL: Manner = Manner {
+    is_there: false,
+    is_full: false,
+    fails_at: 0,
+    is_lost: false,
+};
+
+/// Files of a shelf, and a place for a checkpoint. What was done is told in order: a path for an opening, `+` before it for a
+/// creation, `=` for a keeping, each followed by a space.
+#[derive(Drop)]
+struct Folder<'a> {
+    alloc: Global,
+    shelf: Shelf<'a>,
+    manner: Manner,
+    taken: &'a AtomicU64,
+    kept: Vec<u8>,
+}
+
+/// The one path that may be created.
+const PATH: &str = "ck";
+
+impl Folder<'_> {
+    fn tell(&mut self, sign: char, path: &str) -> Result<(), OpenFault> {
+        let told = &mut self.shelf.opened;
+        if told.push(sign).is_err() || told.push_str(path).is_err() || told.push(' ').is_err() {
+            return Err(OpenFault::Memory);
+        }
+        Ok(())
+    }
+}
+
+impl<'a> Files for Folder<'a> {
+    type Input = OpenFile<'a>;
+
+    type Output = Page<'a>;
+
+    type Watcher = Nowhere;
+
+    ghost tells = { λ _ _. None };
+
+    ghost may_refuse = { λ _ _. true };
+
+    ghost may_refuse_new = { λ _ _. true };
+
+    fn open(&mut self, path: &str) -> Result<OpenFile<'a>, OpenFault> {
+        self.shelf.open(path)
+    }
+
+    fn create(&mut self, path: &str) -> Result<Page<'a>, OpenFault> {
+        self.tell('+', path)?;
+        if self.manner.is_full {
+            return Err(OpenFault::Memory);
+        }
+        if self.manner.is_there || path != PATH {
+            return Err(OpenFault::NotOpened);
+        }
+        Ok(Page {
+            path: PATH,
+            text: Paper::new(self.alloc, 7, self.manner.fails_at),
+            taken: self.taken,
+        })
+    }
+
+    fn keep(&mut self, output: Page<'a>) -> Result<(), WriteFault> {
+        let Page {
+            path,
+            text,
+            taken: _,
+        } = output;
+        if self.tell('=', path).is_err() || self.manner.is_lost {
+            return Err(WriteFault);
+        }
+        self.kept = text.bytes;
+        Ok(())
+    }
+
+    fn watcher(&self) -> Nowhere {
+        Nowhere
+    }
+}
+
+/// What a run ends with: its status, standard output and standard error.
+type Ends<'a> = (u8, &'a str, &'a str);
+
+/// What became of the checkpoint: what was done to the files, the bytes that were kept, and how many were written.
+type Left<'a> = (&'a str, &'a str, u64);
+
+/// The run of these words over these files, whose report fails at such a write if any, ends so and leaves this.
+fn assert_leaves<T: Threads + Wait + Sync + Clock + Abort>(
+    rt: &T,
+    alloc: Global,
+    words: &[&str],
+    shelf: Shelf<'_>,
+    manner: Manner,
+    out_fails_at: usize,
+    ends: Ends<'_>,
+    left: Left<'_>,
+) {
+    let taken = AtomicU64::new(0);
+    let mut files = Folder {
+        alloc,
+        shelf,
+        manner,
+        taken: &taken,
+        kept: Vec::new(alloc),
+    };
+    let mut out = Paper::new(alloc, 7, out_fails_at);
+    let mut err = Paper::new(alloc, 7, 0);
+    let status = command(rt, rt, alloc, words, &mut files, &mut out, &mut err);
+    let (wanted, report, said) = ends;
+    let wrote = (status, out.bytes.as_slice(), err.bytes.as_slice());
+    same(
+        rt,
+        (words, wrote),
+        (words, (wanted, report.as_bytes(), said.as_bytes())),
+    );
+    let (done, kept, count) = left;
+    let found = (files.shelf.opened.as_str(), files.kept.as_slice());
+    same(rt, (words, found), (words, (done, kept.as_bytes())));
+    same(rt, (words, taken.load(Ordering::SeqCst)), (words, count));
+}
+
+/// The four clauses without the first, and the clause that the stream adds.
+const LESS: &str = "p cnf 2 4
+c id 2
+-1 2 0
+c id 3
+1 -2 0
+c id 4
+-1 -2 0
+c id 5
+2 0
+";
+
+/// All of them: each stands at the place of its identity.
+const ALL: &str = "p cnf 2 5\n1 2 0\n-1 2 0\n1 -2 0\n-1 -2 0\n2 0\n";
+
+/// Adds a clause, and drops the first.
+const DROPS: &str = "5 2 0 1 2 0\n7 d 1 0\n";
+
+const UNKNOWN: &str = "c stream 1: 1 added, 1 deleted, ended\ns UNKNOWN\n";
+
+/// A run over the four clauses, where all goes well: its words but for the option of turns, its streams, and what is wanted.
+#[derive(Clone, Copy)]
+struct Row<'a> {
+    words: &'a [&'a str],
+    streams: &'a [&'a str],
+    ends: Ends<'a>,
+    left: Left<'a>,
+}
+
+/// The row, with two threads for each stream and on one thread.
+fn assert_row<T: Threads + Wait + Sync + Clock + Abort>(
+    rt: &T,
+    alloc: Global,
+    row: &Row<'_>,
+) -> Result<(), Fail> {
+    for option in ["--tries=1000", "--serial"] {
+        let mut words = vec![in alloc; option]?;
+        words.extend_from_slice(row.words)?;
+        let mut shelf = shelf_of(alloc, FOUR, row.streams)?;
+        shelf.entries.push(Entry {
+            path: "a",
+            text: "-2 0\n",
+            fails_at: 0,
+        })?;
+        assert_leaves(rt, alloc, &words, shelf, WELL, 0, row.ends, row.left);
+    }
+    Ok(())
+}
+
+const TWO_STREAMS: &str = "c stream 1: 1 added, 1 deleted, ended
+c stream 2: 0 added, 0 deleted, ended
+s UNKNOWN
+";
+
+const BOTH_DROP: &str = "c stream 1: 1 added, 1 deleted, ended
+c stream 2: 0 added, 1 deleted, ended
+s UNKNOWN
+";
+
+const UNDER: &str = "c stream 1: 1 added, 1 deleted, ended\ns UNSATISFIABLE UNDER ASSUMPTIONS\n";
+
+const REFUTED: &str = "c stream 1: 2 added, 0 deleted, ended\ns UNSATISFIABLE\n";
+
+#[test]
+fn checkpoints_of_runs(rt: HostRuntime) -> Result<(), Fail> {
+    for row in [
+        Row {
+            words: &["f", "1"],
+            streams: &[DROPS],
+            ends: (3, UNKNOWN, ""),
+            left: ("f 1 ", "", 0),
+        },
+        Row {
+            words: &["--checkpoint", "ck", "f", "1"],
+            streams: &[DROPS],
+            ends: (3, UNKNOWN, ""),
+            left: ("f 1 +ck =ck ", LESS, 64),
+        },
+        Row {
+            words: &["f", "1", "2", "--checkpoint=ck"],
+            streams: &[DROPS, ""],
+            ends: (3, TWO_STREAMS, ""),
+            left: ("f 1 2 +ck =ck ", ALL, 42),
+        },
+        Row {
+            words: &["f", "1", "2", "--checkpoint", "ck"],
+            streams: &[DROPS, "6 d 1 0\n"],
+            ends: (3, BOTH_DROP, ""),
+            left: ("f 1 2 +ck =ck ", LESS, 64),
+        },
+        Row {
+            words: &["--checkpoint", "ck", "--assume", "a", "f", "1"],
+            streams: &[DROPS],
+            ends: (8, UNDER, ""),
+            left: ("f a 1 +ck =ck ", LESS, 64),
+        },
+        Row {
+            words: &["--checkpoint", "ck", "f", "1"],
+            streams: &["5 2 0 1 2 0\n6 0 5 3 4 0\n"],
+            ends: (0, REFUTED, ""),
+            left: ("f 1 +ck ", "", 0),
+        },
+    ] {
+        assert_row(&rt, rt.alloc(), &row)?;
+    }
+    Ok(())
+}
+
+/// The run over the four clauses and a stream that drops the first, where the folder has this manner.
+fn assert_unsaved<T: Threads + Wait + Sync + Clock + Abort>(
+    rt: &T,
+    alloc: Global,
+    manner: Manner,
+    out_fails_at: usize,
+    ends: Ends<'_>,
+    left: Left<'_>,
+) -> Result<(), Fail> {
+    for option in ["--tries=1000", "--serial"] {
+        let words = [option, "--checkpoint", "ck", "f", "1"];
+        let shelf = shelf_of(alloc, FOUR, &[DROPS])?;
+        assert_leaves(rt, alloc, &words, shelf, manner, out_fails_at, ends, left);
+    }
+    Ok(())
+}
+
+/// No stream is checked then.
+#[test]
+fn checkpoints_that_are_not_created(rt: HostRuntime) -> Result<(), Fail> {
+    let there = Manner {
+        is_there: true,
+        ..WELL
+    };
+    let full = Manner {
+        is_full: true,
+        ..WELL
+    };
+    for (manner, status, said) in [
+        (there, 5, "lrupd: cannot create checkpoint\n"),
+        (full, 6, "lrupd: out of memory\n"),
+    ] {
+        let ends = (status, "", said);
+        assert_unsaved(&rt, rt.alloc(), manner, 0, ends, ("f 1 +ck ", "", 0))?;
+    }
+    Ok(())
+}
+
+const UNWRITTEN: &str = "lrupd: checkpoint not written\n";
+
+/// The checkpoint fails at its first, second, .. and last write, and isn't kept; or at its keeping.
+#[test]
+fn checkpoints_that_are_not_written(rt: HostRuntime) -> Result<(), Fail> {
+    for fails_at in 1..=LESS.len().div_ceil(7) {
+        let manner = Manner { fails_at, ..WELL };
+        let left = ("f 1 +ck ", "", (fails_at as u64 - 1) * 7);
+        assert_unsaved(&rt, rt.alloc(), manner, 0, (9, UNKNOWN, UNWRITTEN), left)?;
+    }
+    let lost = Manner {
+        is_lost: true,
+        ..WELL
+    };
+    let left = ("f 1 +ck =ck ", "", 64);
+    assert_unsaved(&rt, rt.alloc(), lost, 0, (9, UNKNOWN, UNWRITTEN), left)
+}
+
+/// The checkpoint is kept, or not; the status tells of the report, and standard error of both.
+#[test]
+fn checkpoints_without_a_report(rt: HostRuntime) -> Result<(), Fail> {
+    let unreported = "lrupd: cannot write report\n";
+    let left = ("f 1 +ck =ck ", LESS, 64);
+    assert_unsaved(&rt, rt.alloc(), WELL, 1, (7, "", unreported), left)?;
+    let broken = Manner {
+        fails_at: 1,
+        ..WELL
+    };
+    let both = "lrupd: checkpoint not written\nlrupd: cannot write report\n";
+    assert_unsaved(
+        &rt,
+        rt.alloc(),
+        broken,
+        1,
+        (7, "", both),
+        ("f 1 +ck ", "", 0),
+    )
+}
+
+/// A standard error that fails in the line on the checkpoint says no more, and changes no status.
+#[test]
+fn checkpoints_whose_fault_is_not_said(rt: HostRuntime) -> Result<(), Fail> {
+    for (out_fails_at, status) in [(0, 9), (1, 7)] {
+        let taken = AtomicU64::new(0);
+        let mut files = Folder {
+            alloc: rt.alloc(),
+            shelf: shelf_of(rt.alloc(), FOUR, &[DROPS])?,
+            manner: Manner {
+                fails_at: 1,
+                ..WELL
+            },
+            taken: &taken,
+            kept: Vec::new(rt.alloc()),
+        };
+        let mut out = Paper::new(rt.alloc(), 7, out_fails_at);
+        let mut err = Paper::new(rt.alloc(), 7, 2);
+        let words = ["--checkpoint", "ck", "f", "1"];
+        let ended = command(&rt, &rt, rt.alloc(), &words, &mut files, &mut out, &mut err);
+        same(
+            &rt,
+            (ended, err.bytes.as_slice()),
+            (status, b"lrupd: ".as_slice()),
+        );
+    }
+    Ok(())
+}

@@ -1,0 +1,74 @@
+-- Runs of the program one after the other.
+use Rattle.std.proofs.Common.{◌≡◌, ◌∙◌, ℕ, Bool, true, false, List, [], ◌∷◌, Option, None, Some, refl, sym, subst}
+use Rattle.lrup_model.specs.Cube.{CubeValue, IsUnsatisfiableUnder}
+use Rattle.lrup_model.specs.Formula.{Cnf}
+use Rattle.dimacs.specs.FormulaText.{IsFormulaText}
+use Rattle.portfolio.specs.declared.outcome.Verdict.{Verdict}
+use Rattle.portfolio.specs.declared.outcome.Verdict.TheVariants.{Unsatisfiable, UnsatisfiableUnder, Unknown}
+use Rattle.checkpoint.specs.Checkpoints.{AreCheckpoints, FilesRefute, FilesRefuteUnder, IsCheckpoint, IsUnsatisfiableText, IsUnsatisfiableTextUnder, last_file}
+use Rattle.checkpoint.specs.declared.saving.SaveFault.{SaveFault}
+use Rattle.command.specs.Commands.{FilesView, LeavesCheckpoint, Text, checkpoint_at, report_status}
+use Rattle.outcome_laws.specs.Refuting.{AreRuns, IsRunOn, OutcomesRefute, OutcomesRefuteUnder, saved_by, saved_bytes}
+use Rattle.outcome_laws.proofs.StatusLemmas.{refuted}
+
+-- what was saved is a checkpoint
+is_saved : (files : FilesView) (path : Option Text) (f : Cnf) (verdict : Verdict) (unsaved : Option SaveFault) (before after : files.State)
+    (leaves : LeavesCheckpoint files path f verdict unsaved before after) (saved : List ℕ) → saved_bytes files path f verdict unsaved before after leaves ≡ Some saved → IsCheckpoint f saved
+is_saved files None f verdict unsaved before after leaves saved is = absurd (let no : None ≡ Some saved = is in cc)
+is_saved files (Some path) f Unsatisfiable unsaved before after leaves saved is = absurd (let no : None ≡ Some saved = is in cc)
+is_saved files (Some path) f UnsatisfiableUnder None before after leaves saved is = let same : leaves.0 ≡ saved = cc in subst (IsCheckpoint f) same leaves.2
+is_saved files (Some path) f UnsatisfiableUnder (Some fault) before after leaves saved is = absurd (let no : None ≡ Some saved = is in cc)
+is_saved files (Some path) f Unknown None before after leaves saved is = let same : leaves.0 ≡ saved = cc in subst (IsCheckpoint f) same leaves.2
+is_saved files (Some path) f Unknown (Some fault) before after leaves saved is = absurd (let no : None ≡ Some saved = is in cc)
+
+-- what a run read is a text of its formula
+is_read : (files : FilesView) (bytes : List ℕ) (status : ℕ) (run : IsRunOn files bytes status) → IsFormulaText bytes run.ends.outcome.formula
+is_read files bytes status run = subst (λ (b : List ℕ). IsFormulaText b run.ends.outcome.formula) run.read run.ends.outcome.is_formula.2
+
+module _ {F : Type 0} (view : F → FilesView) (IsLast : F → List ℕ → Type 0) where
+  -- the runs' files are a chain of checkpoints, with such a last one
+  are_checkpoints : (bytes : List ℕ) (more : List (List ℕ)) → AreRuns view IsLast bytes more → AreCheckpoints bytes more
+  are_checkpoints bytes [] runs = tt
+  are_checkpoints bytes (next ∷ more) runs =
+      let files = view runs.0.0 in
+      let run = runs.0.2 in
+      let o = run.ends.outcome in (
+        (
+          o.formula,
+          is_read files bytes runs.0.1 run,
+          is_saved files (checkpoint_at o.given) o.formula run.ends.verdict run.ends.unsaved o.last run.after run.ends.checkpoint next runs.0.3,
+        ),
+        are_checkpoints next more runs.1,
+      )
+
+  last_run : (bytes : List ℕ) (more : List (List ℕ)) → AreRuns view IsLast bytes more → (first : F) × IsLast first (last_file bytes more)
+  last_run bytes [] runs = runs
+  last_run bytes (next ∷ more) runs = last_run next more runs.1
+
+under : (failed : Bool) (unsaved : Option SaveFault) (verdict : Verdict) → 8 ≡ report_status failed unsaved verdict → verdict ≡ UnsatisfiableUnder
+under true unsaved verdict is = absurd (let no : Path ℕ 8 7 = is in cc)
+under false (Some fault) verdict is = absurd (let no : Path ℕ 8 9 = is in cc)
+under false None Unsatisfiable is = absurd (let no : Path ℕ 8 0 = is in cc)
+under false None UnsatisfiableUnder is = refl
+under false None Unknown is = absurd (let no : Path ℕ 8 3 = is in cc)
+
+pub outcomes_refute : FilesRefute → {F : Type 0} (view : F → FilesView) → OutcomesRefute view
+outcomes_refute files_refute {F} view bytes more runs =
+    let IsLast : F → List ℕ → Type 0 = λ first last. IsRunOn (view first) last 0 in
+    let last = last_run view IsLast bytes more runs in
+    let run = last.1 in
+    let found = run.ends in
+    let text : IsUnsatisfiableText (last_file bytes more) =
+    (found.outcome.formula, is_read (view last.0) (last_file bytes more) 0 run, found.outcome.checked.sound (refuted run.out.failed found.unsaved found.verdict found.status_is)) in
+    files_refute bytes more (are_checkpoints view IsLast bytes more runs) text
+
+pub outcomes_refute_under : FilesRefuteUnder → {F : Type 0} (view : F → FilesView) → OutcomesRefuteUnder view
+outcomes_refute_under files_refute {F} view cube bytes more runs =
+    let IsLast : F → List ℕ → Type 0 = λ first last. (run : IsRunOn (view first) last 8) × (run.ends.outcome.cube ≡ cube) in
+    let last = last_run view IsLast bytes more runs in
+    let run = last.1.0 in
+    let found = run.ends in
+    let refuted : IsUnsatisfiableUnder found.outcome.formula cube =
+    subst (λ (c : CubeValue). IsUnsatisfiableUnder found.outcome.formula c) last.1.1 (found.outcome.checked.sound_under (under run.out.failed found.unsaved found.verdict found.status_is)) in
+    let text : IsUnsatisfiableTextUnder cube (last_file bytes more) = (found.outcome.formula, is_read (view last.0) (last_file bytes more) 8 run, refuted) in
+    files_refute cube bytes more (are_checkpoints view IsLast bytes more runs) text

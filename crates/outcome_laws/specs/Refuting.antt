@@ -1,0 +1,57 @@
+-- Runs of the program one after the other, each on what the one before it saved (this project's own).
+use Rattle.std.specs.Prelude.{◌≡◌, ℕ, List, [], ◌∷◌, Option, None, Some}
+use Rattle.lrup_model.specs.Cube.{CubeValue}
+use Rattle.lrup_model.specs.Formula.{Cnf}
+use Rattle.portfolio.specs.declared.outcome.Verdict.{Verdict}
+use Rattle.portfolio.specs.declared.outcome.Verdict.TheVariants.{Unsatisfiable}
+use Rattle.checkpoint.specs.Checkpoints.{IsUnsatisfiableText, IsUnsatisfiableTextUnder}
+use Rattle.checkpoint.specs.declared.saving.SaveFault.{SaveFault}
+use Rattle.command.specs.Commands.{EndsWithReport, FilesView, LeavesCheckpoint, SinkChange, Text, checkpoint_at}
+
+-- A run ended with a report and this status, and these bytes were read of its FORMULA.
+pub record IsRunOn (files : FilesView) (bytes : List ℕ) (status : ℕ) : Type 0 where
+  pub words : List Text
+  pub after : files.State
+  pub out : SinkChange
+  pub err : SinkChange
+  pub ends : EndsWithReport files words after out err status
+  pub read : ends.outcome.is_formula.0 ≡ bytes
+
+-- the bytes that were saved as a checkpoint, if there is one
+abbrev pub saved_bytes : (files : FilesView) (path : Option Text) (f : Cnf) (verdict : Verdict)
+    (unsaved : Option SaveFault) (before after : files.State)
+    → LeavesCheckpoint files path f verdict unsaved before after → Option (List ℕ)
+saved_bytes files None f verdict unsaved before after leaves = None
+saved_bytes files (Some path) f Unsatisfiable unsaved before after leaves = None
+saved_bytes files (Some path) f verdict None before after leaves = Some leaves.0
+saved_bytes files (Some path) f verdict (Some fault) before after leaves = None
+
+-- the same, of a run
+abbrev pub saved_by : (files : FilesView) (bytes : List ℕ) (status : ℕ)
+    → IsRunOn files bytes status → Option (List ℕ)
+saved_by files bytes status run =
+    let o = run.ends.outcome in
+    saved_bytes files (checkpoint_at o.given) o.formula run.ends.verdict run.ends.unsaved o.last
+    run.after run.ends.checkpoint
+
+-- Runs over files as they were before each: the first read these bytes, each further one what the one before it saved, and the last
+-- one is as wanted.
+abbrev pub AreRuns : {F : Type 0} → (F → FilesView) → (F → List ℕ → Type 0) → List ℕ
+    → List (List ℕ) → Type 0
+AreRuns {F = F} view IsLast bytes [] = (first : F) × IsLast first bytes
+AreRuns {F = F} view IsLast bytes (next ∷ more) =
+    ((first : F) × (status : ℕ) × (run : IsRunOn (view first) bytes status)
+    × (saved_by (view first) bytes status run ≡ Some next)) × AreRuns view IsLast next more
+
+-- Where the last of such runs ended with status 0, what the first one read is a text of a formula that no assignment satisfies.
+abbrev pub OutcomesRefute : {F : Type 0} → (F → FilesView) → Type 0
+OutcomesRefute view = (bytes : List ℕ) (more : List (List ℕ))
+    → AreRuns view (λ first last. IsRunOn (view first) last 0) bytes more
+    → IsUnsatisfiableText bytes
+
+-- Where it ended with status 8, under these assumed literals, no assignment makes them true besides.
+abbrev pub OutcomesRefuteUnder : {F : Type 0} → (F → FilesView) → Type 0
+OutcomesRefuteUnder view = (cube : CubeValue) (bytes : List ℕ) (more : List (List ℕ))
+    → AreRuns view
+    (λ first last. (run : IsRunOn (view first) last 8) × (run.ends.outcome.cube ≡ cube)) bytes more
+    → IsUnsatisfiableTextUnder cube bytes
