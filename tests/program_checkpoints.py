@@ -82,6 +82,7 @@ def formulas() -> Iterator[Named]:
                      formula="c a comment\nc id 7\np  cnf\t3 2\n1\nc within\n2 0 -3\r\n0\nc id 9\n")
     yield from saved("a checkpoint", 3, [NOTHING], [""], SAVED_DROPPING.replace("c id 2\n", "").replace("c id 3\n", "")
                      .replace("c id 4\n", "").replace("c id 5\n", ""), formula=SAVED_DROPPING)
+    yield from saved("a checkpoint, and what refutes it", 0, [ADDED], ["5 0 4 2 3 0\n"], "", formula=SAVED_DROPPING)
     yield from saved("a literal twice", 3, [NOTHING], [""], "p cnf 2 1\n2 0\n", formula="p cnf 2 1\n2 2 2 0\n")
     yield from saved("a tautology", 3, [NOTHING], [""], "p cnf 2 2\n1 -1 0\n2 0\n", formula="p cnf 2 2\n1 -1 0\n2 0\n")
     yield from saved("the largest variable", 3, [NOTHING], [""], "p cnf 16777215 1\n-16777215 0\n",

@@ -275,7 +275,8 @@ def sweep(machine: Machine, given: Input, kind: str, how: str) -> Tuple[int, Lis
         wrong.append(f"{given.name}, nothing of this kind is ever refused: {refuse}")
     if kind == "allocate" and given.dropped and not any(answer in given.dropped for answer in answers):
         wrong.append(f"{given.name}, the growth for a dropped identity is never refused")
-    if ample.saved and (kind == "allocate" or how in ERRORS_OF_WRITES) and not any(NOT_WRITTEN[:-1] in cause for cause in causes):
+    fails = kind == "allocate" or kind == "write" and how not in SHORT
+    if ample.saved and fails and not any(NOT_WRITTEN[:-1] in cause for cause in causes):
         wrong.append(f"{given.name}, the saving is never refused: {kind} {how}")
     if kind in ["thread", "create", "sync"] and number - 1 != calls(kind, ample, given):
         wrong.append(f"{given.name}, {number - 1} calls refused, not {calls(kind, ample, given)}: {kind}")
