@@ -4,7 +4,7 @@
     chain.py RUNS FOLDER FORMULA STREAM... -- LRUPD [OPTION]...
 
 The lines are put in an order in which each comes after those that derive what it cites, and before those that retire that; this
-order is cut into RUNS pieces. In a checkpoint a clause has its place as its new identity, and a comment 'c id' tells the old one
+order is cut into RUNS pieces, at least 1. In a checkpoint a clause has its place as its new identity, and a comment 'c id' tells the old one
 where that was another: so each piece is renumbered. FOLDER, a new one, gets the streams and checkpoints of all runs. The status
 is that of the last run, which is the first one of which a stream doesn't end well.
 
@@ -17,7 +17,7 @@ from collections import Counter
 from pathlib import Path
 from typing import Dict, List, NamedTuple, Tuple
 
-NOWHERE = 10 ** 18 - 1  # the identity of no clause
+NOWHERE = 10 ** 18 - 1  # the identity of no clause: cited for one that no stream derived, or that a checkpoint doesn't have
 
 
 class Line(NamedTuple):
@@ -69,12 +69,12 @@ def renumbered(line: Line, now: Dict[int, int]) -> str:
 def pieces(lines: List[Line], now: Dict[int, int], count: int, streams: int) -> List[str]:
     """The texts of the streams of a run whose formula has so many clauses. The new clauses get their identities in it."""
     identities = [iter(range(count + number, NOWHERE, streams)) for number in range(1, streams + 1)]
-    texts = [""] * streams
+    texts: List[List[str]] = [[] for _ in range(streams)]
     for line in lines:
         if line.kind == "a":
             now[line.identity] = next(identities[line.stream])
-        texts[line.stream] += renumbered(line, now)
-    return texts
+        texts[line.stream].append(renumbered(line, now))
+    return ["".join(text) for text in texts]
 
 
 def carried_over(checkpoint: Path, now: Dict[int, int]) -> Tuple[Dict[int, int], int]:
@@ -91,11 +91,14 @@ def carried_over(checkpoint: Path, now: Dict[int, int]) -> Tuple[Dict[int, int],
 
 
 def main() -> int:
-    if "--" not in sys.argv[5:-1]:
+    if "--" not in sys.argv[5:-1] or not sys.argv[1].isdigit() or int(sys.argv[1]) < 1:
         sys.exit(__doc__)
     at = sys.argv.index("--")
     runs, folder, formula, names, lrupd = int(sys.argv[1]), Path(sys.argv[2]), sys.argv[3], sys.argv[4:at], sys.argv[at + 1:]
-    folder.mkdir()
+    try:
+        folder.mkdir()
+    except OSError as error:
+        sys.exit(f"chain.py: cannot make the folder: {error}")
     order = in_order([[read_line(number, text) for text in Path(name).open()] for number, name in enumerate(names)])
     count = int(next(text for text in Path(formula).open() if text.startswith("p")).split()[3])
     now = {identity: identity for identity in range(1, count + 1)}
