@@ -545,6 +545,44 @@ fn texts_are_written(rt: HostRuntime) -> Result<(), Fail> {
     Ok(())
 }
 
+/// Puts numbers where one more digit begins, and literals, and flushes.
+fn put_edges<W: Sink>(rt: &impl Abort, buffer: &mut WriteBuffer, sink: &mut W) -> Result<(), Fail> {
+    for number in [
+        9,
+        10,
+        99,
+        100,
+        999,
+        1_000,
+        9_999,
+        10_000,
+        99_999_999,
+        100_000_000,
+        u64::MAX,
+    ] {
+        holds(rt, !sink.failed());
+        buffer.put_number(number, sink)?;
+        buffer.put(b" ", sink)?;
+    }
+    for literal in [
+        0,
+        1,
+        -1,
+        -10,
+        9_999,
+        -10_000,
+        16_777_215,
+        -16_777_215,
+        100_000_000,
+        i64::MIN,
+    ] {
+        holds(rt, !sink.failed());
+        buffer.put_literal(literal, sink)?;
+    }
+    holds(rt, !sink.failed());
+    Ok(buffer.flush(sink)?)
+}
+
 /// Numbers where one more digit begins, and literals, from the front of a buffer on and over its end.
 #[test]
 fn numbers_are_written(rt: HostRuntime) -> Result<(), Fail> {
@@ -555,37 +593,7 @@ fn numbers_are_written(rt: HostRuntime) -> Result<(), Fail> {
         let mut sink = Writing::new(Vec::new(rt.alloc()));
         let mut buffer = WriteBuffer::new();
         buffer.put(&front, &mut sink)?;
-        for number in [
-            9,
-            10,
-            99,
-            100,
-            999,
-            1_000,
-            9_999,
-            10_000,
-            99_999_999,
-            100_000_000,
-            u64::MAX,
-        ] {
-            buffer.put_number(number, &mut sink)?;
-            buffer.put(b" ", &mut sink)?;
-        }
-        for literal in [
-            0,
-            1,
-            -1,
-            -10,
-            9_999,
-            -10_000,
-            16_777_215,
-            -16_777_215,
-            100_000_000,
-            i64::MIN,
-        ] {
-            buffer.put_literal(literal, &mut sink)?;
-        }
-        buffer.flush(&mut sink)?;
+        put_edges(&rt, &mut buffer, &mut sink)?;
         let written = sink.into_inner();
         let (before, after) = written.as_slice().split_at(front.len().min(written.len()));
         same(&rt, (held, before), (held, front.as_slice()));
