@@ -1,5 +1,5 @@
 //! Files that tell their bytes, and what status 0 says of them.
-ghost use Rattle.std.specs.Prelude.{◌≡◌, [], ◌∷◌, IsTrue, Some, codes, cond, false, length, nat_eq};
+ghost use Rattle.std.specs.Prelude.{◌≡◌, [], ◌∷◌, IsTrue, Some, codes, cond, false, length, nat_eq, true};
 ghost use Rattle.command_line.specs.CommandLine.{IsCommandLineOf};
 ghost use Rattle.command_line.specs.declared.words.CommandLine.{CommandLine};
 ghost use Rattle.dimacs.specs.FormulaText.{IsFormulaText};
