@@ -349,30 +349,42 @@ fn checkpoints_without_a_report(rt: HostRuntime) -> Result<(), Fail> {
     )
 }
 
+/// The first write of the checkpoint fails, and so does standard error, in what is said of that.
+fn assert_not_said<T: Threads + Wait + Sync + Clock + Abort>(
+    rt: &T,
+    alloc: Global,
+    shelf: Shelf<'_>,
+    out_fails_at: usize,
+    status: u8,
+) {
+    let taken = AtomicU64::new(0);
+    let mut files = Folder {
+        alloc,
+        shelf,
+        manner: Manner {
+            fails_at: 1,
+            ..WELL
+        },
+        taken: &taken,
+        kept: Vec::new(alloc),
+    };
+    let mut out = Paper::new(alloc, 7, out_fails_at);
+    let mut err = Paper::new(alloc, 7, 2);
+    let words = ["--checkpoint", "ck", "f", "1"];
+    let ended = command(rt, rt, alloc, &words, &mut files, &mut out, &mut err);
+    same(
+        rt,
+        (ended, err.bytes.as_slice()),
+        (status, b"lrupd: ".as_slice()),
+    );
+}
+
 /// A standard error that fails in the line on the checkpoint says no more, and changes no status.
 #[test]
 fn checkpoints_whose_fault_is_not_said(rt: HostRuntime) -> Result<(), Fail> {
     for (out_fails_at, status) in [(0, 9), (1, 7)] {
-        let taken = AtomicU64::new(0);
-        let mut files = Folder {
-            alloc: rt.alloc(),
-            shelf: shelf_of(rt.alloc(), FOUR, &[DROPS])?,
-            manner: Manner {
-                fails_at: 1,
-                ..WELL
-            },
-            taken: &taken,
-            kept: Vec::new(rt.alloc()),
-        };
-        let mut out = Paper::new(rt.alloc(), 7, out_fails_at);
-        let mut err = Paper::new(rt.alloc(), 7, 2);
-        let words = ["--checkpoint", "ck", "f", "1"];
-        let ended = command(&rt, &rt, rt.alloc(), &words, &mut files, &mut out, &mut err);
-        same(
-            &rt,
-            (ended, err.bytes.as_slice()),
-            (status, b"lrupd: ".as_slice()),
-        );
+        let shelf = shelf_of(rt.alloc(), FOUR, &[DROPS])?;
+        assert_not_said(&rt, rt.alloc(), shelf, out_fails_at, status);
     }
     Ok(())
 }
@@ -390,28 +402,39 @@ fn may_end(ran: &Ran, kept: &[u8]) -> bool {
     }
 }
 
+/// A run with this option ends as one may that was refused memory.
+fn assert_may_end<T: Threads + Wait + Sync + Clock + Abort>(
+    rt: &T,
+    alloc: Global,
+    option: &str,
+    shelf: Shelf<'_>,
+) {
+    let taken = AtomicU64::new(0);
+    let mut files = Folder {
+        alloc,
+        shelf,
+        manner: WELL,
+        taken: &taken,
+        kept: Vec::new(alloc),
+    };
+    let mut out = Paper::new(alloc, 7, 0);
+    let mut err = Paper::new(alloc, 7, 0);
+    let words = [option, "--checkpoint", "ck", "f", "1"];
+    let status = command(rt, rt, alloc, &words, &mut files, &mut out, &mut err);
+    let ran = Ran {
+        out: out.bytes,
+        err: err.bytes,
+        status,
+    };
+    same(rt, (status, may_end(&ran, &files.kept)), (status, true));
+}
+
 /// To be run with each allocation failing in turn. Where a stream has no memory for what it drops, it stops, and the first clause stays.
 #[test]
 fn memory_that_runs_out(rt: HostRuntime) -> Result<(), Fail> {
     for option in ["--tries=1000", "--serial"] {
-        let taken = AtomicU64::new(0);
-        let mut files = Folder {
-            alloc: rt.alloc(),
-            shelf: shelf_of(rt.alloc(), FOUR, &[DROPS])?,
-            manner: WELL,
-            taken: &taken,
-            kept: Vec::new(rt.alloc()),
-        };
-        let mut out = Paper::new(rt.alloc(), 7, 0);
-        let mut err = Paper::new(rt.alloc(), 7, 0);
-        let words = [option, "--checkpoint", "ck", "f", "1"];
-        let status = command(&rt, &rt, rt.alloc(), &words, &mut files, &mut out, &mut err);
-        let ran = Ran {
-            out: out.bytes,
-            err: err.bytes,
-            status,
-        };
-        same(&rt, (status, may_end(&ran, &files.kept)), (status, true));
+        let shelf = shelf_of(rt.alloc(), FOUR, &[DROPS])?;
+        assert_may_end(&rt, rt.alloc(), option, shelf);
     }
     Ok(())
 }

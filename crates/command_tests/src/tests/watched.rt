@@ -1,7 +1,7 @@
 //! Runs that tell what goes on, on sinks of the tests' own.
 ghost use Rattle.std.specs.Prelude.{None, false};
 
-use super::{FOUR, same, shelf_of};
+use super::{FOUR, Shelf, same, shelf_of};
 use command::command;
 use lrup_text::{Sink, WriteFault};
 use std::alloc::Global;
@@ -88,17 +88,30 @@ const WORDS: [(&[&str], u64); 4] = [
 ];
 
 /// The run of these words ends as ever, and so many streams are told of, by one write each.
-fn tells<T: Threads + Wait + Sync + Clock + Abort>(
+fn assert_told<T: Threads + Wait + Sync + Clock + Abort>(
     rt: &T,
     alloc: Global,
     words: &[&str],
+    shelf: Shelf<'_>,
     watched: u64,
-) -> Result<(), Fail> {
+) {
     let told = Told::new();
-    let mut files = shelf_of(alloc, FOUR, &STREAMS)?;
+    let Shelf {
+        entries,
+        opened,
+        most,
+        is_full,
+        told: _,
+    } = shelf;
+    let mut files = Shelf {
+        entries,
+        opened,
+        most,
+        is_full,
+        told: Some(&told),
+    };
     let mut out = Paper::new(alloc, 7, 0);
     let mut err = Paper::new(alloc, 7, 0);
-    files.told = Some(&told);
     let status = command(rt, rt, alloc, words, &mut files, &mut out, &mut err);
     let wrote = (out.bytes.as_slice(), err.bytes.len(), status);
     same(rt, (words, wrote), (words, (REPORT.as_bytes(), 0, 3)));
@@ -107,13 +120,13 @@ fn tells<T: Threads + Wait + Sync + Clock + Abort>(
         (words, told.counts()),
         (words, (watched, watched, watched)),
     );
-    Ok(())
 }
 
 #[test]
 fn with_the_flag_each_stream_is_told_of(rt: HostRuntime) -> Result<(), Fail> {
     for (words, watched) in WORDS {
-        tells(&rt, rt.alloc(), words, watched)?;
+        let shelf = shelf_of(rt.alloc(), FOUR, &STREAMS)?;
+        assert_told(&rt, rt.alloc(), words, shelf, watched);
     }
     Ok(())
 }
