@@ -1,4 +1,4 @@
-//! What the tests of several crates use of checkers at the map of one thread.
+//! Checkers at the map of one thread, for the tests of several crates.
 #![tactic(auto)]
 
 mod opened;

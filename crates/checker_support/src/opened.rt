@@ -13,7 +13,7 @@ use stream_check::Checker;
 use stream_check::laws::ready_new;
 use test_support::four_clauses;
 
-/// The map of the four clauses, with so many identities and so much room for each stream.
+/// The map of the four clauses, for `streams` streams, each with `lines` identities and room for `room` literals.
 pub fn open_map(alloc: Global, streams: u64, lines: u64, room: u64) -> Result<PlainMap, Fail>
     ensures opened { IfOk result IsPlainOpened }
     ensures formula { IfOk result (λ map. formula_of map ≡ four) }

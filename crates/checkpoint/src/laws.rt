@@ -11,12 +11,12 @@ pub fn entails_itself()
     ensures { EntailsItself }
 {}
 
-/// What is entailed by a formula that is entailed is entailed.
+/// What an entailed formula entails is entailed.
 pub fn entails_onward()
     ensures { EntailsOnward }
 {}
 
-/// A formula that entails one which no assignment satisfies is satisfied by none.
+/// A formula that entails an unsatisfiable one is unsatisfiable.
 pub fn refutes_back()
     ensures { RefutesBack }
 {}

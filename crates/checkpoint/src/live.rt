@@ -1,4 +1,4 @@
-//! Which clauses are live at a clause map, and wanted.
+//! The clauses that are live at a clause map, and wanted.
 ghost use Rattle.std.specs.Prelude.{◌≡◌, ◌≤◌, ◌++◌, ℕ, Bool, List, IfOk, length};
 ghost use Rattle.std.specs.List.{AllByRecursion};
 ghost use Rattle.lrup_model.specs.Layout.{last_identity};
@@ -10,11 +10,11 @@ ghost use Rattle.checkpoint.specs.Live.{Entry, clauses_of, entries_of, fetches, 
 use lrup_model::{ClauseMap, Clip, Fetched, Id};
 use std::alloc::{AllocError, Global};
 
-/// Which of the clauses that are live go into a checkpoint.
+/// Says which live clauses go into a checkpoint.
 pub trait Wanted {
     ghost wants: { Self → ℕ → Bool };
 
-    /// Does the clause under this identity?
+    /// Whether the clause under this identity does.
     fn wants(&self, id: Id) -> bool
         ensures { result ≡ wants self.now id };
 }

@@ -10,8 +10,8 @@ ghost use Rattle.checkpoint.specs.Printing.{clause_line, entry_text, formula_tex
 use lrup_model::{ClauseMap, Clip, Id, Lit};
 use lrup_text::{Sink, WriteBuffer, WriteFault};
 
-/// Writes the formula over the variables 1 to `vars` whose clauses are those of the clips, in order, and their identities where
-/// they aren't the places. After a fault, what went out is a beginning of its text. At the map it is no event.
+/// Writes the formula over the variables 1 to `vars` whose clauses are those of the clips, in order, each with its identity where
+/// that isn't its place. After a fault, what went out is a beginning of its text. At the map it is no event.
 pub fn write_formula<M: ClauseMap, W: Sink>(
     map: &mut M,
     clips: &[Clip],
@@ -34,7 +34,7 @@ pub fn write_formula<M: ClauseMap, W: Sink>(
     buffer.flush(sink)
 }
 
-/// Puts the header of a formula of so many variables and clauses.
+/// Puts the header of a formula of `vars` variables and `count` clauses.
 fn put_header<W: Sink>(
     buffer: &mut WriteBuffer,
     vars: u32,

@@ -53,14 +53,14 @@ impl Store {
         Ok((Store { row, layout }, passes))
     }
 
-    /// Is this an identity: 1 to the last?
+    /// Whether this is an identity: 1 to the last.
     pub fn covers(&self, id: Id) -> bool
         ensures { IsTrue result ↔ IsIdentity self.now.layout id }
     {
         self.layout.covers(id)
     }
 
-    /// Is this identity the pass's own?
+    /// Whether this identity is the pass's own.
     pub fn owns(&self, pass: &Pass, id: Id) -> bool
         requires { store_of pass.now ≡ self.now }
         ensures { IsTrue result ↔ Owns pass.now.view.caller.layout pass.now.view.caller.stream id }
@@ -68,7 +68,7 @@ impl Store {
         self.layout.owner(id) == Owner::Stream(pass.stream())
     }
 
-    /// What is left of the pass's room, in literals.
+    /// The room that the pass has left, in literals.
     pub fn room(&self, pass: &Pass) -> u64
         requires { store_of pass.now ≡ self.now }
         ensures { result ≡ (pass_place pass.now.view).room }

@@ -138,7 +138,7 @@ read_cause files words given line faults.CubeUnread cause = absurd cause
 read_cause files words given line (faults.CubeRefused fault) cause = absurd cause
 read_cause files words given line (faults.NotOpened stream) cause = absurd cause
 read_cause files words given line (faults.Layout fault) cause = absurd cause
-read_cause files words given line (faults.NotStarted stream) cause = absurd cause
+read_cause files words given line (faults.Spawn stream) cause = absurd cause
 read_cause files words given line (faults.Ring stream) cause = absurd cause
 read_cause files words given line faults.Memory cause = tt
 read_cause files words given line faults.Unwritten cause = absurd cause
@@ -154,7 +154,7 @@ assume_cause files words given f next line at path same faults.CubeUnread cause 
 assume_cause files words given f next line at path same (faults.CubeRefused fault) cause = (given, line, inr (f, next, at, inl (subst (λ (o : Option Text). IsAssumeCause files f.vars next o (faults.CubeRefused fault)) (sym same) cause)))
 assume_cause files words given f next line at path same (faults.NotOpened stream) cause = absurd cause
 assume_cause files words given f next line at path same (faults.Layout fault) cause = absurd cause
-assume_cause files words given f next line at path same (faults.NotStarted stream) cause = absurd cause
+assume_cause files words given f next line at path same (faults.Spawn stream) cause = absurd cause
 assume_cause files words given f next line at path same (faults.Ring stream) cause = absurd cause
 assume_cause files words given f next line at path same faults.Memory cause = tt
 assume_cause files words given f next line at path same faults.Unwritten cause = absurd cause
@@ -175,7 +175,7 @@ open_cause files words given f cube next later line at assumed faults.CubeUnread
 open_cause files words given f cube next later line at assumed (faults.CubeRefused fault) cause = absurd cause
 open_cause files words given f cube next later line at assumed (faults.NotOpened stream) cause = (given, line, inr (f, next, at, inr (cube, later, assumed, inl cause)))
 open_cause files words given f cube next later line at assumed (faults.Layout fault) cause = absurd cause
-open_cause files words given f cube next later line at assumed (faults.NotStarted stream) cause = absurd cause
+open_cause files words given f cube next later line at assumed (faults.Spawn stream) cause = absurd cause
 open_cause files words given f cube next later line at assumed (faults.Ring stream) cause = absurd cause
 open_cause files words given f cube next later line at assumed faults.Memory cause = tt
 open_cause files words given f cube next later line at assumed faults.Unwritten cause = absurd cause
@@ -191,7 +191,7 @@ line_cause files words given f cube next later line at assumed faults.CubeUnread
 line_cause files words given f cube next later line at assumed (faults.CubeRefused fault) cause = absurd cause
 line_cause files words given f cube next later line at assumed (faults.NotOpened stream) cause = absurd cause
 line_cause files words given f cube next later line at assumed (faults.Layout fault) cause = (given, line, inr (f, next, at, inr (cube, later, assumed, inr (inl cause))))
-line_cause files words given f cube next later line at assumed (faults.NotStarted stream) cause = (given, line, inr (f, next, at, inr (cube, later, assumed, inr (inl cause))))
+line_cause files words given f cube next later line at assumed (faults.Spawn stream) cause = (given, line, inr (f, next, at, inr (cube, later, assumed, inr (inl cause))))
 line_cause files words given f cube next later line at assumed (faults.Ring stream) cause = (given, line, inr (f, next, at, inr (cube, later, assumed, inr (inl cause))))
 line_cause files words given f cube next later line at assumed faults.Memory cause = tt
 line_cause files words given f cube next later line at assumed faults.Unwritten cause = absurd cause
@@ -219,17 +219,25 @@ open_moved opens may later_may first paths later_paths may_stays paths_are fault
 pub create_cause : (files : FilesView) (words : List Text) (given : CommandLine) (f : Cnf) (cube : CubeValue) (next later : files.State) → IsCommandLineOf words given
     → IsFormulaAt files given.formula.now f next → AreAssumed (WasReadIn files) f.vars next (assumed_at given) cube later
     → (readers : List files.Reader) (last : files.State) → AreOpened files.opens later given.streams readers last
-    → (fault : CommandFault) → IsCreateCause files.may_refuse_new (checkpoint_at given) fault → IsCause files words fault
-create_cause files words given f cube next later line at assumed readers last opened (faults.Usage text) cause = absurd cause
-create_cause files words given f cube next later line at assumed readers last opened faults.Unread cause = absurd cause
-create_cause files words given f cube next later line at assumed readers last opened (faults.Refused fault) cause = absurd cause
-create_cause files words given f cube next later line at assumed readers last opened faults.CubeUnread cause = absurd cause
-create_cause files words given f cube next later line at assumed readers last opened (faults.CubeRefused fault) cause = absurd cause
-create_cause files words given f cube next later line at assumed readers last opened (faults.NotOpened stream) cause = absurd cause
-create_cause files words given f cube next later line at assumed readers last opened (faults.Layout fault) cause = absurd cause
-create_cause files words given f cube next later line at assumed readers last opened (faults.NotStarted stream) cause = absurd cause
-create_cause files words given f cube next later line at assumed readers last opened (faults.Ring stream) cause = absurd cause
-create_cause files words given f cube next later line at assumed readers last opened faults.Memory cause = tt
-create_cause files words given f cube next later line at assumed readers last opened faults.Unwritten cause = absurd cause
-create_cause files words given f cube next later line at assumed readers last opened faults.NotCreated cause = (given, line, inr (f, next, at, inr (cube, later, assumed, inr (inr (readers, last, opened, cause)))))
-create_cause files words given f cube next later line at assumed readers last opened (faults.NotSaved fault) cause = absurd cause
+    → ((other : LayoutFault) → IsFault (layout_at given f) other → ⊥) → (fault : CommandFault) → IsCreateCause files.may_refuse_new (checkpoint_at given) fault → IsCause files words fault
+create_cause files words given f cube next later line at assumed readers last opened layout (faults.Usage text) cause = absurd cause
+create_cause files words given f cube next later line at assumed readers last opened layout faults.Unread cause = absurd cause
+create_cause files words given f cube next later line at assumed readers last opened layout (faults.Refused fault) cause = absurd cause
+create_cause files words given f cube next later line at assumed readers last opened layout faults.CubeUnread cause = absurd cause
+create_cause files words given f cube next later line at assumed readers last opened layout (faults.CubeRefused fault) cause = absurd cause
+create_cause files words given f cube next later line at assumed readers last opened layout (faults.NotOpened stream) cause = absurd cause
+create_cause files words given f cube next later line at assumed readers last opened layout (faults.Layout fault) cause = absurd cause
+create_cause files words given f cube next later line at assumed readers last opened layout (faults.Spawn stream) cause = absurd cause
+create_cause files words given f cube next later line at assumed readers last opened layout (faults.Ring stream) cause = absurd cause
+create_cause files words given f cube next later line at assumed readers last opened layout faults.Memory cause = tt
+create_cause files words given f cube next later line at assumed readers last opened layout faults.Unwritten cause = absurd cause
+create_cause files words given f cube next later line at assumed readers last opened layout faults.NotCreated cause = (given, line, inr (f, next, at, inr (cube, later, assumed, inr (inr (readers, last, opened, layout, cause)))))
+create_cause files words given f cube next later line at assumed readers last opened layout (faults.NotSaved fault) cause = absurd cause
+
+-- so a layout that was found is that of the command line
+pub layout_moved : (files : FilesView) (given : CommandLine) (f : Cnf) (options : OptionsValue) (readers : List files.Reader)
+    → options ≡ options_of given → map files.reading.left readers ≡ map files.tells given.streams
+    → ((fault : LayoutFault) → IsFault (layout_of options f (length readers)) fault → ⊥) → (fault : LayoutFault) → IsFault (layout_at given f) fault → ⊥
+layout_moved files given f options readers options_are entries_are =
+    let count = same_count _ _ readers given.streams entries_are in
+    subst (λ (p : LayoutValue). (fault : LayoutFault) → IsFault p fault → ⊥) (same_layout options f given (length readers) options_are count)

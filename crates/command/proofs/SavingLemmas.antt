@@ -56,7 +56,7 @@ module _ (files : FilesView) (f : Cnf) where
       → LeavesCheckpoint files (Some path) f verdict unsaved before after
   leaves_of path Unsatisfiable before next after first saved unsaved created written kept =
       let none = none_kept next after saved unsaved written kept in
-      (none.0, (first, subst (λ (s : files.State). files.creates before path first s) (sym none.1) created.0))
+      (none.0, (first, subst (λ (s : files.State). files.creates before path first s) (sym none.1) created.0, created.1))
   leaves_of path UnsatisfiableUnder before next after first (Ok None) unsaved created written kept = absurd written
   leaves_of path UnsatisfiableUnder before next after first (Ok (Some last)) None created written kept =
       (written.0, record { first = first; next = next; created = created.0; empty = created.1; last = last; wrote = written.1; kept = kept }, written.2)

@@ -9,7 +9,7 @@ use Rattle.checkpoint.specs.Checkpoints.{IsCheckpoint}
 use Rattle.checkpoint.specs.declared.saving.SaveFault.{SaveFault}
 use Rattle.command_line.specs.CommandLine.{AskToSave}
 use Rattle.command.specs.Commands.{EndsWithFault, EndsWithReport, FilesView, IsAssumeCause, IsCause, SinkChange, Text, assumed_at, checkpoint_at, report_status}
-use Rattle.command.specs.Commands.{LeavesCheckpoint, NameCheckpoint, WasReadIn, WasSavedIn}
+use Rattle.command.specs.Commands.{LeavesCheckpoint, NameCheckpoint, WasLeftEmpty, WasReadIn, WasSavedIn}
 use Rattle.command.specs.Faults.{status_of}
 use Rattle.command.specs.declared.fault.CommandFault.{CommandFault}
 use Rattle.command.specs.declared.fault.CommandFault.TheVariants as faults
@@ -52,7 +52,7 @@ module _ (files : FilesView) where
     | inl read ↦ read
     | inr later ↦ elim later.3 [
       | inl assume ↦ never_assumed later.0.vars later.1 (assumed_at cause.0) assume
-      | inr last ↦ elim last.3 [ inl opens ↦ opens | inr more ↦ elim more [ inl runs ↦ runs | inr create ↦ create.3 ] ]
+      | inr last ↦ elim last.3 [ inl opens ↦ opens | inr more ↦ elim more [ inl runs ↦ runs | inr create ↦ create.4 ] ]
     ]
   ]
 
@@ -67,7 +67,7 @@ module _ (files : FilesView) where
   not_7 words (faults.Layout layouts.TooManyClauses) cause is = let no : Path ℕ 4 7 = is in cc
   not_7 words (faults.Layout layouts.BadStreamCount) cause is = let no : Path ℕ 2 7 = is in cc
   not_7 words (faults.Layout layouts.RowTooLong) cause is = let no : Path ℕ 2 7 = is in cc
-  not_7 words (faults.NotStarted stream) cause is = let no : Path ℕ 6 7 = is in cc
+  not_7 words (faults.Spawn stream) cause is = let no : Path ℕ 6 7 = is in cc
   not_7 words (faults.Ring stream) cause is = let no : Path ℕ 6 7 = is in cc
   not_7 words faults.Memory cause is = let no : Path ℕ 6 7 = is in cc
   not_7 words faults.Unwritten cause is = never_unwritten words cause
@@ -103,7 +103,7 @@ no_fault (faults.Layout layouts.TooManyVariables) is = neither 4 (λ e. cc) (λ 
 no_fault (faults.Layout layouts.TooManyClauses) is = neither 4 (λ e. cc) (λ e. cc) is
 no_fault (faults.Layout layouts.BadStreamCount) is = neither 2 (λ e. cc) (λ e. cc) is
 no_fault (faults.Layout layouts.RowTooLong) is = neither 2 (λ e. cc) (λ e. cc) is
-no_fault (faults.NotStarted stream) is = neither 6 (λ e. cc) (λ e. cc) is
+no_fault (faults.Spawn stream) is = neither 6 (λ e. cc) (λ e. cc) is
 no_fault (faults.Ring stream) is = neither 6 (λ e. cc) (λ e. cc) is
 no_fault faults.Memory is = neither 6 (λ e. cc) (λ e. cc) is
 no_fault faults.Unwritten is = neither 7 (λ e. cc) (λ e. cc) is
@@ -134,3 +134,36 @@ module _ (files : FilesView) where
       (read.0, saved.0, (given.formula.now, assumed_at given, outcome.formula, outcome.next, outcome.last, ask_for words given outcome.command_line, read.1, read.2, saved.1, saved.2))
   ends_saved words after out err status (inr fault) path ask is =
       absurd (no_fault fault.fault (subst (λ (n : ℕ). (n ≡ 3) ⊎ (n ≡ 8)) fault.status_is is))
+
+-- With status 0 none was written.
+
+no_zero : (fault : CommandFault) → status_of fault ≡ 0 → ⊥
+no_zero (faults.Usage text) is = let no : Path ℕ 2 0 = is in cc
+no_zero faults.Unread is = let no : Path ℕ 5 0 = is in cc
+no_zero (faults.Refused fault) is = let no : Path ℕ 4 0 = is in cc
+no_zero faults.CubeUnread is = let no : Path ℕ 5 0 = is in cc
+no_zero (faults.CubeRefused fault) is = let no : Path ℕ 4 0 = is in cc
+no_zero (faults.NotOpened stream) is = let no : Path ℕ 5 0 = is in cc
+no_zero (faults.Layout layouts.TooManyVariables) is = let no : Path ℕ 4 0 = is in cc
+no_zero (faults.Layout layouts.TooManyClauses) is = let no : Path ℕ 4 0 = is in cc
+no_zero (faults.Layout layouts.BadStreamCount) is = let no : Path ℕ 2 0 = is in cc
+no_zero (faults.Layout layouts.RowTooLong) is = let no : Path ℕ 2 0 = is in cc
+no_zero (faults.Spawn stream) is = let no : Path ℕ 6 0 = is in cc
+no_zero (faults.Ring stream) is = let no : Path ℕ 6 0 = is in cc
+no_zero faults.Memory is = let no : Path ℕ 6 0 = is in cc
+no_zero faults.Unwritten is = let no : Path ℕ 7 0 = is in cc
+no_zero faults.NotCreated is = let no : Path ℕ 5 0 = is in cc
+no_zero (faults.NotSaved fault) is = let no : Path ℕ 9 0 = is in cc
+
+pub ends_empty : (files : FilesView) (words : List Text) (after : files.State) (out err : SinkChange) (status : ℕ)
+    → EndsWithReport files words after out err status ⊎ EndsWithFault files words out err status
+    → (path : Text) → AskToSave words path → status ≡ 0 → WasLeftEmpty files.creates files.written path after
+ends_empty files words after out err status (inl report) path ask is =
+    let outcome = report.outcome in
+    let asked : checkpoint_at outcome.given ≡ Some path = outcome.command_line.said.checkpoint ∙ ask.path_is in
+    let refuted = zero_is out.failed report.unsaved report.verdict (sym report.status_is ∙ is) in
+    let leaves = subst (λ (o : Option Text). LeavesCheckpoint files o outcome.formula report.verdict report.unsaved outcome.last after) asked report.checkpoint in
+    let created = subst (λ (verdict : Verdict). LeavesCheckpoint files (Some path) outcome.formula verdict report.unsaved outcome.last after) refuted leaves in
+    let left = created.1 in
+    (outcome.last, left.0, left.1, left.2)
+ends_empty files words after out err status (inr fault) path ask is = absurd (no_zero fault.fault (sym fault.status_is ∙ is))

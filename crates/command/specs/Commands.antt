@@ -77,6 +77,14 @@ pub record WasSaved {F W : Type 0} (creates : F → Text → W → F → Type 0)
   pub wrote : Appends (written first) (written last) bytes
   pub kept : keeps next last after
 
+-- The last that was done to the files was that one was created at the path. Where its device tells
+-- its bytes, nothing went to it.
+abbrev pub WasLeftEmpty : {F W : Type 0} → (F → Text → W → F → Type 0) → (W → Option (List ℕ))
+    → Text → F → Type 0
+WasLeftEmpty {F = F} {W = W} creates written path last =
+    (before : F) × (output : W) × creates before path output last
+    × ForSome (written output) (λ all. all ≡ [])
+
 -- The words ask for a formula. The bytes that were read of the file at its path, the first to be
 -- opened, are a text of it, and those that were saved at this path, as the last thing done to the
 -- files, are a checkpoint of it.
@@ -250,14 +258,17 @@ pub record IsOutcome (files : FilesView) (words : List Text) (reports : List Rep
       readers reports verdict
 
 -- What a run of a formula, with this verdict, leaves as its checkpoint, and why that wasn't saved, if it wasn't. Without a path:
--- nothing. With 'unsatisfiable': a file that was created. Else the file was created, written and kept; or it was created, and the fault
--- says why it wasn't saved: only where a write or the keeping failed may anything more have been done to the files.
+-- nothing. With 'unsatisfiable': a file that was created, with nothing in it. Else the file was created, written and kept; or it
+-- was created, and the fault says why it wasn't saved: only where a write or the keeping failed may anything more have been done to
+-- the files.
 abbrev pub LeavesCheckpoint : (files : FilesView) → Option Text → Cnf → Verdict
     → Option SaveFault → files.State → files.State → Type 0
 LeavesCheckpoint files None f verdict unsaved before after =
     (unsaved ≡ None) × (after ≡ before)
 LeavesCheckpoint files (Some path) f Unsatisfiable unsaved before after =
-    (unsaved ≡ None) × ((output : files.Output) × files.creates before path output after)
+    (unsaved ≡ None)
+    × ((output : files.Output) × files.creates before path output after
+    × ForSome (files.written output) (λ all. all ≡ []))
 LeavesCheckpoint files (Some path) f verdict None before after =
     (bytes : List ℕ) × WasSavedIn files before path bytes after × IsCheckpoint f bytes
 LeavesCheckpoint files (Some path) f verdict (Some fault) before after =
@@ -344,7 +355,7 @@ IsCreateCause may_refuse_new asked fault = ⊥
 -- why streams weren't checked: there is no layout; or there is one, and a thread wasn't started, or what it sent had no end
 abbrev pub IsRunCause : Bool → LayoutValue → CommandFault → Type 0
 IsRunCause serial p (faults.Layout fault) = IsFault p fault
-IsRunCause serial p (faults.NotStarted stream) =
+IsRunCause serial p (faults.Spawn stream) =
     (serial ≡ false) × IsStream p stream × ((fault : LayoutFault) → IsFault p fault → ⊥)
 IsRunCause serial p (faults.Ring stream) =
     (serial ≡ false) × IsStream p stream × ((fault : LayoutFault) → IsFault p fault → ⊥)
@@ -352,7 +363,8 @@ IsRunCause serial p faults.Memory = Unit {0}
 IsRunCause serial p fault = ⊥
 
 -- the cause of a fault of the formula; or, of a formula that was read, of a fault of the assumed literals; or, of both that were read,
--- of a fault of the opening of the streams or of the run; or, of streams that were opened, of a fault of the checkpoint's creation
+-- of a fault of the opening of the streams or of the run; or, of streams that were opened and have a layout, of a fault of the
+-- checkpoint's creation
 abbrev pub IsCauseAt : FilesView → CommandLine → CommandFault → Type 0
 IsCauseAt files given fault =
     IsReadCause files given.formula.now fault
@@ -364,6 +376,7 @@ IsCauseAt files given fault =
     ⊎ (IsRunCause given.serial (layout_at given f) fault
     ⊎ ((readers : List files.Reader) × (last : files.State)
     × AreOpened files.opens later given.streams readers last
+    × ((other : LayoutFault) → IsFault (layout_at given f) other → ⊥)
     × IsCreateCause files.may_refuse_new (checkpoint_at given) fault))))))
 
 -- Why there is no outcome, by the words and the files.

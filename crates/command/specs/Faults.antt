@@ -45,7 +45,7 @@ of_cube_file fault = fault
 abbrev pub of_run : RunFault → CommandFault
 of_run (runs.Layout fault) = faults.Layout fault
 of_run runs.Memory = faults.Memory
-of_run (runs.Spawn stream) = faults.NotStarted stream
+of_run (runs.Spawn stream) = faults.Spawn stream
 of_run (runs.Ring stream) = faults.Ring stream
 
 -- The status.
@@ -63,7 +63,7 @@ status_of faults.CubeUnread = 5
 status_of (faults.CubeRefused fault) = 4
 status_of (faults.NotOpened stream) = 5
 status_of (faults.Layout fault) = layout_status fault
-status_of (faults.NotStarted stream) = 6
+status_of (faults.Spawn stream) = 6
 status_of (faults.Ring stream) = 6
 status_of faults.Memory = 6
 status_of faults.Unwritten = 7
@@ -104,7 +104,7 @@ cause_text faults.CubeUnread = codes "cannot read assumptions"
 cause_text (faults.CubeRefused fault) = cube_fault_text fault
 cause_text (faults.NotOpened stream) = codes "cannot open stream " ++ decimal stream
 cause_text (faults.Layout fault) = layout_fault_text fault
-cause_text (faults.NotStarted stream) = codes "worker " ++ decimal stream ++ codes " not started"
+cause_text (faults.Spawn stream) = codes "worker " ++ decimal stream ++ codes " not started"
 cause_text (faults.Ring stream) = codes "ring of stream " ++ decimal stream
 cause_text faults.Memory = codes "out of memory"
 cause_text faults.Unwritten = codes "cannot write report"

@@ -47,7 +47,7 @@ pub fn command_with_arguments<
         exit_status result ≡ 0
         → IsOkAnd arguments (λ given.
         NameUnsatisfiable _ read files.old (words_after_name given)) }
-    // With status 8 no assignment makes it and every literal of the assumed ones' file true.
+    // With status 8 no assignment makes it and every literal of the assumptions' file true.
     ensures sound_under { let read = WasRead F.opens F.Input.Source.reads (F.tells files.old) in
         exit_status result ≡ 8
         → IsOkAnd arguments (λ given.
@@ -130,7 +130,7 @@ fn after_name(alloc: Global, arguments: Args) -> Result<Vec<String>, AllocError>
     arguments.skip(1).collect(alloc)
 }
 
-/// The arguments, as they are read.
+/// The arguments as words.
 fn words_of<'a>(alloc: Global, arguments: &'a [String]) -> Result<Vec<&'a str>, AllocError>
     ensures { IfOk result (λ words. texts words.items ≡ map string_bytes arguments.now) }
 {

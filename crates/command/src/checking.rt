@@ -9,6 +9,8 @@ ghost use Rattle.dimacs.specs.FormulaText.{IsFormulaText};
 ghost use Rattle.lrup_model.specs.Cube.{CubeValue, IsUnsatisfiableUnder};
 ghost use Rattle.lrup_model.specs.Entailment.{IsUnsatisfiable};
 ghost use Rattle.lrup_model.specs.Formula.{Cnf};
+ghost use Rattle.lrup_model.specs.Layout.{IsFault};
+ghost use Rattle.lrup_model.specs.declared.layout.LayoutFault.{LayoutFault};
 ghost use Rattle.lrup_text.specs.Reads.{GaveAll};
 ghost use Rattle.command.specs.Commands.{AreAssumed, AreChecked, AreOpened, IsAssumeCause, IsCause, IsFailedRead};
 ghost use Rattle.command.specs.Commands.{IsFileCause, IsOpenCause, IsOutcome, IsRunCause, Text, WasRead, WasReadIn};
@@ -24,7 +26,7 @@ use checkpoint::SaveFault;
 use command_line::{CommandLine, read_words};
 use dimacs::DimacsFault;
 use lrup_model::{Cube, Formula};
-use lrup_text::{Source, WriteFault, read_cube};
+use lrup_text::{PIECE, Source, WriteFault, read_cube};
 use portfolio::{
     Options, Outcome, Pause, SerialOutcome, TurnWatch, Verdict, Watch, run, run_serial, save_live,
     save_plain,
@@ -35,15 +37,12 @@ use std::thread::Threads;
 use std::time::Clock;
 use stream_check::Report;
 
-/// How many bytes of a file are read at a time, at most.
-const PIECE: usize = 1 << 16;
-
 /// What a run found, and what it made of its checkpoint.
 #[derive(Drop)]
 pub struct RunResult {
-    /// What is said of each stream, in order.
+    /// The report of each stream, in order.
     pub reports: Vec<Report>,
-    /// What the reports come to.
+    /// The verdict of the reports.
     pub verdict: Verdict,
     /// Why the checkpoint wasn't saved, where one was to be.
     pub unsaved: Option<SaveFault>,
@@ -80,8 +79,8 @@ pub fn read_asked<'a, W: Wait, F: Files>(
     Ok(Asked { line, formula })
 }
 
-/// Parses the formula, reads the assumed literals, opens the streams, creates the checkpoint's file if there is to be one, checks the
-/// streams, and saves the checkpoint unless one of them refuted the formula. It blocks while a file does.
+/// Parses the formula, reads the assumed literals, opens the streams, finds their layout, creates the checkpoint's file if there is to
+/// be one, checks the streams, and saves the checkpoint unless one of them refuted the formula. It blocks while a file does.
 pub fn check_asked<T: Threads + Wait + Sync, C: Clock + Sync, F: Files>(
     threads: &T,
     clock: &C,
@@ -119,13 +118,14 @@ pub fn check_asked<T: Threads + Wait + Sync, C: Clock + Sync, F: Files>(
     let cube = read_assumed(threads, alloc, files, line.assume, &formula)?;
     let options = Options::new(line.tries, line.lines, line.room).unwrap();
     let readers = open_streams(alloc, files, line.streams.as_slice())?;
-    let output = create_checkpoint(files, line.checkpoint)?;
     let setup = Setup {
         formula: &formula,
         cube: &cube,
         options,
         serial: line.serial,
     };
+    find_layout(&setup, readers.len())?;
+    let output = create_checkpoint(files, line.checkpoint)?;
     let watched = line.watch.then_some(&*files);
     let checked = check_streams(threads, clock, alloc, &setup, watched, readers, output)?;
     let Checked {
@@ -226,7 +226,7 @@ fn read_file<W: Wait, F: Files>(
     read_all(wait, alloc, &mut source, PIECE)
 }
 
-/// Reads a source to its end, at most so many bytes at a time.
+/// Reads a source to its end, at most `most` bytes at a time.
 fn read_all<W: Wait, S: Source>(
     wait: &W,
     alloc: Global,
@@ -282,6 +282,19 @@ fn open_streams<F: Files>(
     Ok(readers)
 }
 
+/// Refuses streams that have no layout, before a file is created that would be left empty.
+fn find_layout(setup: &Setup<'_>, streams: usize) -> Result<(), CommandFault>
+    ensures found { let terms = terms_on setup.now streams in
+        IfOk result (λ _. (fault : LayoutFault) → IsFault terms.layout fault → ⊥) }
+    ensures cause { let terms = terms_on setup.now streams in
+        IfErr result (IsRunCause setup.now.serial terms.layout) }
+{
+    match setup.options.check_layout(setup.formula, streams) {
+        Ok(()) => Ok(()),
+        Err(fault) => Err(CommandFault::Layout(fault)),
+    }
+}
+
 /// Creates the checkpoint's file, if there is to be one.
 fn create_checkpoint<F: Files>(
     files: &mut F,
@@ -303,7 +316,7 @@ fn create_checkpoint<F: Files>(
     }
 }
 
-/// Keeps the checkpoint's file, where a checkpoint was written to it, and says why it wasn't kept.
+/// Keeps the checkpoint's file, where a checkpoint was written to it, and returns why the saving failed, if it did.
 fn keep_checkpoint<F: Files>(
     files: &mut F,
     saved: Result<Option<F::Output>, SaveFault>,
@@ -320,7 +333,7 @@ fn keep_checkpoint<F: Files>(
     }
 }
 
-/// What streams are checked by, and whether by turns on one thread.
+/// The terms by which streams are checked, and whether by turns on one thread.
 #[derive(Clone, Copy)]
 struct Setup<'a> {
     formula: &'a Formula,
@@ -482,7 +495,7 @@ fn to_write<W: Drop>(verdict: Verdict, output: Option<W>) -> Option<W>
     }
 }
 
-/// A gate for each of so many streams that are checked in threads. Where they are watched, each tells on a watcher of its own.
+/// A gate for each of `count` streams that are checked in threads. Where they are watched, each reports on a watcher of its own.
 fn thread_gates<'a, C: Clock + Sync, F: Files>(
     alloc: Global,
     clock: &'a C,
@@ -499,7 +512,7 @@ fn thread_gates<'a, C: Clock + Sync, F: Files>(
     Ok(gates)
 }
 
-/// Such gates of streams that are checked by turns.
+/// Such gates for streams that are checked by turns.
 fn turn_gates<'a, C: Clock + Sync, F: Files>(
     alloc: Global,
     clock: &'a C,

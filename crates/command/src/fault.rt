@@ -30,11 +30,11 @@ pub enum CommandFault {
     CubeRefused(CubeFault),
     /// The file of this stream, from 1 on, wasn't opened.
     NotOpened(u64),
-    /// There is no layout for this formula, the options and so many streams.
+    /// There is no layout for this formula, the options and this number of streams.
     Layout(LayoutFault),
     /// A thread of this stream, from 1 on, couldn't be started.
-    NotStarted(u64),
-    /// The thread that checks this stream, from 1 on, met no end of what its reading thread sent.
+    Spawn(u64),
+    /// The thread that checks this stream, from 1 on, found its reading thread gone before the mark.
     Ring(u64),
     /// Out of memory.
     Memory,
@@ -74,7 +74,7 @@ impl From<OpenFault> for CommandFault {
 
     ghost from_gives = { λ opening fault. fault ≡ of_open opening };
 
-    /// Of the formula's file; `of_cube_file` makes the cube's of it.
+    /// The fault of the formula's file; `of_cube_file` makes the cube's of it.
     fn from(fault: OpenFault) -> CommandFault {
         match fault {
             OpenFault::NotOpened => CommandFault::Unread,
@@ -88,7 +88,7 @@ impl From<ReadFault> for CommandFault {
 
     ghost from_gives = { λ _ fault. fault ≡ Unread };
 
-    /// Of the formula's file; `of_cube_file` makes the cube's of it.
+    /// The fault of the formula's file; `of_cube_file` makes the cube's of it.
     fn from(_fault: ReadFault) -> CommandFault {
         CommandFault::Unread
     }
@@ -129,7 +129,7 @@ impl From<RunFault> for CommandFault {
         match fault {
             RunFault::Layout(fault) => CommandFault::Layout(fault),
             RunFault::Memory => CommandFault::Memory,
-            RunFault::Spawn(stream) => CommandFault::NotStarted(stream),
+            RunFault::Spawn(stream) => CommandFault::Spawn(stream),
             RunFault::Ring(stream) => CommandFault::Ring(stream),
         }
     }
@@ -146,14 +146,13 @@ impl CommandFault {
             CommandFault::Refused(_) | CommandFault::CubeRefused(_) | CommandFault::Layout(_) => 4,
             CommandFault::Unread | CommandFault::CubeUnread | CommandFault::NotOpened(_) => 5,
             CommandFault::NotCreated => 5,
-            CommandFault::NotStarted(_) | CommandFault::Ring(_) | CommandFault::Memory => 6,
+            CommandFault::Spawn(_) | CommandFault::Ring(_) | CommandFault::Memory => 6,
             CommandFault::Unwritten => 7,
             CommandFault::NotSaved(_) => 9,
         }
     }
 
-    /// Writes what is said of the fault, without taking memory. After a fault of the sink, what went out is a beginning of the
-    /// text.
+    /// Writes the fault's text, without taking memory. After a fault of the sink, what went out is a beginning of the text.
     pub fn write<W: Sink>(&self, sink: &mut W) -> Result<(), WriteFault>
         requires running { W.has_failed sink.old ≡ false }
         ensures text { WritesText result (W.written sink.old) (W.written sink.new)
@@ -166,7 +165,7 @@ impl CommandFault {
         }
     }
 
-    /// What the line of the fault says.
+    /// The contents of the fault's line.
     fn cause(&self) -> Cause<'_>
         ensures { cause_bytes result.text.now result.number result.rest.now ≡ cause_text self.now }
     {
@@ -178,7 +177,7 @@ impl CommandFault {
             CommandFault::CubeRefused(fault) => cube_cause(*fault),
             CommandFault::NotOpened(stream) => Cause::numbered(b"cannot open stream ", *stream),
             CommandFault::Layout(fault) => layout_cause(*fault),
-            CommandFault::NotStarted(stream) => Cause {
+            CommandFault::Spawn(stream) => Cause {
                 rest: b" not started",
                 ..Cause::numbered(b"worker ", *stream)
             },
@@ -191,7 +190,7 @@ impl CommandFault {
     }
 }
 
-/// What a line says: a text, a number if there is one, and the rest.
+/// The contents of a line: a text, a number if there is one, and the rest.
 #[derive(Clone, Copy)]
 struct Cause<'a> {
     text: &'a [u8],
@@ -282,7 +281,7 @@ fn save_cause(fault: SaveFault) -> Cause<'static>
     }
 }
 
-/// Writes a line of the program's.
+/// Writes a line, which begins with the program's name.
 fn write_line<W: Sink>(cause: &Cause<'_>, sink: &mut W) -> Result<(), WriteFault>
     requires running { W.has_failed sink.old ≡ false }
     ensures text { WritesText result (W.written sink.old) (W.written sink.new)

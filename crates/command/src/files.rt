@@ -32,7 +32,7 @@ impl From<io::Error> for OpenFault {
     }
 }
 
-/// Files that paths name, and what else of a machine a run writes to.
+/// The files that paths name, and the sinks on which progress is reported.
 pub trait Files {
     /// A file that is open.
     type Input: Source + Send + Drop;
@@ -40,7 +40,7 @@ pub trait Files {
     /// A file that was created.
     type Output: Sink + Drop;
 
-    /// Where the thread of a stream tells what goes on.
+    /// Where the thread of a stream reports its progress.
     type Watcher: Sink + Send + Drop;
 
     /// All bytes of the file at a path, where the device tells them: a file of the machine doesn't. They stay, however often it is

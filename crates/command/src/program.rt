@@ -8,7 +8,7 @@ ghost use Rattle.lrup_model.specs.Formula.{Cnf};
 ghost use Rattle.portfolio.specs.ReportText.{report_text};
 ghost use Rattle.command_line.specs.CommandLine.{AskToSave, HaveFault, IsCommandLineOf};
 ghost use Rattle.command.specs.Commands.{AreAssumed, EndsWithFault, EndsWithReport, NameCheckpoint, NameUnsatisfiable};
-ghost use Rattle.command.specs.Commands.{NameUnsatisfiableUnder, SaysOfReport, SinkTook, Text, WasRead, WasReadIn, WasSaved};
+ghost use Rattle.command.specs.Commands.{NameUnsatisfiableUnder, SaysOfReport, SinkTook, Text, WasLeftEmpty, WasRead, WasReadIn, WasSaved};
 ghost use Rattle.command.specs.Commands.{assumed_at, change, files_view, from_first, report_status};
 ghost use Rattle.command.specs.Faults.{status_of, error_text};
 ghost use Rattle.stream_check.specs.Setting.{max_tries};
@@ -26,12 +26,13 @@ use std::time::Clock;
 
 /// Runs `lrupd` with the words after the program's name, and gives the status that it ends with. In
 /// this order: the words are read, the formula's file is read and parsed, and so is that of the
-/// assumed literals, the streams are opened, the checkpoint's file is created, the streams are
-/// checked, the checkpoint is saved, and the report goes to `out`. There is a checkpoint where the
-/// words have `--checkpoint`, and nothing is saved where the report says `s UNSATISFIABLE`. Where the
-/// saving fails, `err` says why. Where there is no report, `out` gets nothing, and `err` the cause.
-/// Where the report can't be written, `out` has a beginning of it, and `err` says so. Where the words
-/// have `--watch`, it is told what goes on, on a watcher for each stream. It blocks while a file does.
+/// assumed literals, the streams are opened, and where they have a layout the checkpoint's file is
+/// created, the streams are checked, the checkpoint is saved, and the report goes to `out`. There is
+/// a checkpoint where the words have `--checkpoint`, and nothing is saved where the report says
+/// `s UNSATISFIABLE`. Where the saving fails, `err` says why. Where there is no report, `out` gets
+/// nothing, and `err` the cause. Where the report can't be written, `out` has a beginning of it, and
+/// `err` says so. Where the words have `--watch`, progress is reported on a watcher for each stream.
+/// It blocks while a file does.
 ///
 /// | status | where |
 /// |---|---|
@@ -40,7 +41,7 @@ use std::time::Clock;
 /// | 3 | the report says `s UNKNOWN` |
 /// | 4 | the formula or the assumptions were refused for another cause than memory |
 /// | 5 | the file of the formula or of the assumptions wasn't opened or read; a stream's wasn't opened; the checkpoint's wasn't created |
-/// | 6 | out of memory, outside a report and the saving; a worker couldn't be started; a stream's ring gave no mark |
+/// | 6 | out of memory, outside a report and the saving; a thread couldn't be started; a stream's reading thread was gone before its mark |
 /// | 7 | the report couldn't be written |
 /// | 8 | the report says `s UNSATISFIABLE UNDER ASSUMPTIONS` |
 /// | 9 | in place of 3 and 8, where the checkpoint wasn't saved |
@@ -58,7 +59,7 @@ pub fn command<T: Threads + Wait + Sync, C: Clock + Sync, F: Files, O: Sink, E: 
     // What a user relies on: with status 0 the bytes that were read of FORMULA are a text of a formula that no assignment satisfies.
     ensures sound { let read = WasRead F.opens F.Input.Source.reads (F.tells files.old) in
         result ≡ 0 → NameUnsatisfiable _ read files.old (texts words.now) }
-    // With status 8 no assignment makes it and every literal of the assumed ones' file true.
+    // With status 8 no assignment makes it and every literal of the assumptions' file true.
     ensures sound_under { let read = WasRead F.opens F.Input.Source.reads (F.tells files.old) in
         result ≡ 8 → NameUnsatisfiableUnder _ read files.old (texts words.now) }
     // A report of what the words and the files come to, or none and the cause; what goes out; and the status.
@@ -73,6 +74,10 @@ pub fn command<T: Threads + Wait + Sync, C: Clock + Sync, F: Files, O: Sink, E: 
         let save = WasSaved F.creates F.Output.Sink.written F.keeps in
         (path : Text) → AskToSave (texts words.now) path → (result ≡ 3) ⊎ (result ≡ 8)
         → NameCheckpoint read save files.old (texts words.now) path files.new }
+    // With status 0, where the words ask for a checkpoint, none was written: the last that was done to the files was that one was
+    // created there, and nothing went to it.
+    ensures none_saved { (path : Text) → AskToSave (texts words.now) path → result ≡ 0
+        → WasLeftEmpty F.creates F.Output.Sink.written path files.new }
     // Words with a fault have a status of their own, unless memory ran out.
     ensures usage { HaveFault (texts words.now) → (result ≡ 2) ⊎ (result ≡ 6) }
     // So does a report that wasn't written.
@@ -84,9 +89,10 @@ pub fn command<T: Threads + Wait + Sync, C: Clock + Sync, F: Files, O: Sink, E: 
     }
 }
 
-/// Checks the streams against a formula's text, as `command` does with what it has read. In this order: the text is parsed,
-/// and its memory given back, the file of the assumed literals is read and parsed, the streams are opened and checked, a checkpoint is
-/// saved if one is asked for, and the report goes to `out`. The bytes are those of any source, so the clause `sound` knows of no file.
+/// Checks the streams against a formula's text, as `command` does with what it has read. In this order: the text is parsed, and its
+/// memory given back, the file of the assumed literals is read and parsed, the streams are opened, the checkpoint's file is created
+/// if one is asked for, the streams are checked, the checkpoint is saved, and the report goes to `out`. The bytes are those of any
+/// source, so the clause `sound` knows of no file.
 pub fn check_formula<T: Threads + Wait + Sync, C: Clock + Sync, F: Files, O: Sink, E: Sink>(
     threads: &T,
     clock: &C,
@@ -103,7 +109,7 @@ pub fn check_formula<T: Threads + Wait + Sync, C: Clock + Sync, F: Files, O: Sin
     // With status 0 the bytes are a text of a formula that no assignment satisfies.
     ensures sound { result ≡ 0
         → (f : Cnf) × IsFormulaText asked.entry.formula.items f × IsUnsatisfiable f }
-    // With status 8 no assignment makes it and every literal of the assumed ones' file true, which is the next to be opened.
+    // With status 8 no assignment makes it and every literal of the assumptions' file true, which is the next to be opened.
     ensures sound_under { let read = WasRead F.opens F.Input.Source.reads (F.tells files.old) in
         result ≡ 8 → (f : Cnf) × (cube : CubeValue) × (after : F)
         × IsFormulaText asked.entry.formula.items f
@@ -170,7 +176,7 @@ fn written_status(found: &RunResult) -> u8
     }
 }
 
-/// Says a fault, unless the sink has failed, and gives the status.
+/// Reports a fault, unless the sink has failed, and gives the status.
 fn say_next<E: Sink>(fault: &CommandFault, err: &mut E) -> u8
     ensures failed { E.has_failed err.old ≡ true → err.new ≡ err.old }
     ensures said { E.has_failed err.old ≡ false
@@ -184,7 +190,7 @@ fn say_next<E: Sink>(fault: &CommandFault, err: &mut E) -> u8
     say(fault, err)
 }
 
-/// Says a fault, and gives the status, whether that could be written or not.
+/// Reports a fault, and gives the status, whether the fault could be written or not.
 pub fn say<E: Sink>(fault: &CommandFault, err: &mut E) -> u8
     requires err { E.has_failed err.old ≡ false }
     ensures said { SinkTook (change (E.written err.old) (E.written err.new) (E.has_failed err.new))

@@ -1,4 +1,4 @@
-//! What `clap` is told of the command line.
+//! The definition of the command line, for `clap`.
 ghost use Rattle.std.specs.Prelude.{◌≡◌, IfOk, false, true, codes};
 ghost use Rattle.clap.specs.Words.{app_of, new_rule, rule_of};
 ghost use Rattle.command_line.specs.CommandLine.{file_rule, flag_rule, lrupd, number_rule, stream_rule};
@@ -9,13 +9,13 @@ use clap::builder::ValueParser;
 use clap::{Arg, ArgAction, Command};
 use std::alloc::{AllocError, Global};
 
-/// The greatest number of `--tries`.
+/// The greatest value of `--tries`.
 const MAX_TRIES: u64 = 1_000_000;
 
-/// The greatest number of `--lines`.
+/// The greatest value of `--lines`.
 const MAX_LINES: u64 = 268_435_456;
 
-/// The greatest number of `--room`.
+/// The greatest value of `--room`.
 const MAX_ROOM: u64 = 268_435_456;
 
 /// The command, with its arguments.

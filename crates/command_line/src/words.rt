@@ -28,7 +28,7 @@ pub struct CommandLine<'a> {
     pub checkpoint: Option<&'a str>,
     /// Whether one thread checks all streams by turns.
     pub serial: bool,
-    /// Whether it is told, while streams are checked, what goes on.
+    /// Whether to report progress while streams are checked.
     pub watch: bool,
     /// The path of the formula.
     pub formula: &'a str,
@@ -140,7 +140,7 @@ fn option_number(matches: &ArgMatches<'_>, name: &str, default: u64) -> u64
     matches.get_one::<u64>(name).unwrap_or(default)
 }
 
-/// What the words say, by what `clap` found in them.
+/// The command line that the words give, by what `clap` found in them.
 fn command_line<'a>(alloc: Global, matches: &ArgMatches<'a>) -> Result<CommandLine<'a>, AllocError>
     requires { AreWhole (rows_of (found_of matches.now)) }
     ensures { IfOk result (IsSaidBy (rows_of (found_of matches.now))) }
@@ -158,7 +158,7 @@ fn command_line<'a>(alloc: Global, matches: &ArgMatches<'a>) -> Result<CommandLi
     })
 }
 
-/// Do the words have the flag?
+/// Whether the words have the flag.
 fn is_set(matches: &ArgMatches<'_>, name: &str) -> bool
     requires { HasTruth name.now (rows_of (found_of matches.now)) }
     ensures { result ≡ is_set name.now (rows_of (found_of matches.now)) }

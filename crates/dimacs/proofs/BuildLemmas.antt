@@ -12,7 +12,9 @@ use Rattle.lrup_model.specs.ListLemmas.{All-push}
 use Rattle.lrup_model.specs.ClauseLemmas.{All-from_Has, All-Has}
 use Rattle.dimacs.specs.FormulaTokens.{IsWritten, TokensSpell, IsSetOf, AreSetsOf, AreClauses, ended}
 use Rattle.dimacs.specs.FormulaFault.{StandsAt, HasBadNumber, HasLargeVariable, HasMoreClauses, HasLongClause, EndsOpen, EndsEarly}
-use Rattle.dimacs.specs.Places.{IsBuilt, AddsLiteral, AddsClause, IsFirstToken}
+use Rattle.dimacs.specs.Places.{IsBuilt, AddsLiteral, AddsClause}
+use Rattle.dimacs.specs.declared.body.Builder.{Builder}
+use Rattle.dimacs.specs.declared.header.Header.{Header}
 use Rattle.dimacs.proofs.SetLemmas.{Has-push}
 
 abbrev numbers_of : List Token → List (Option ℤ)
@@ -89,160 +91,187 @@ set_push w old new l set added = record {
 
 -- ## the reader's state
 
--- of all tokens these are left; what was made of those before them; and how many clauses are still to come
-pub record Reads (vars count : ℕ) (all left : List Token) (f : Cnf) (clause : List ℤ) (written remaining : ℕ) : Type 0 where
+-- Of all tokens these are left; what the builder has was made of those before them.
+pub record Reads (header : Header) (all left : List Token) (b : Builder) : Type 0 where
   pub before : List Token
   pub split : all ≡ before ++ left
-  pub built : IsBuilt vars count before f clause written
-  pub remaining_is : length f.clauses + remaining ≡ count
+  pub built : IsBuilt header.vars header.clauses before b.formula b.clause b.written
+  pub left_is : length b.formula.clauses + b.left ≡ header.clauses
 
-pub reads_none : (vars count : ℕ) (all : List Token) (f : Cnf) → f ≡ record { vars = vars; clauses = [] } → Reads vars count all all f [] 0 count
-reads_none vars count all f is = record {
+pub reads_none : (header : Header) (all : List Token) (f : Cnf) → f ≡ record { vars = header.vars; clauses = [] }
+    → Reads header all all (record { formula = f; clause = []; written = 0; left = header.clauses })
+reads_none header all f is = record {
   before = [];
   split = refl;
   built = record {
     closed = [];
     begun = [];
-    read = read_none vars count;
+    read = read_none header.vars header.clauses;
     vars_are = ap (λ (x : Cnf). x.vars) is;
     sets = rw is tt;
     set = record { members = λ l. (λ h. h, λ h. h); each_once = tt; order = refl };
     written_is = refl;
     size = omega arith;
   };
-  remaining_is = omega (arith, ap (λ (x : Cnf). length x.clauses) is);
+  left_is = omega (arith, ap (λ (x : Cnf). length x.clauses) is);
 }
 
-pub reads_literal : (vars count : ℕ) (all old new : List Token) (t : Token) (f g : Cnf) (clause clause' : List ℤ) (written written' remaining remaining' : ℕ) (l : ℤ) → Reads vars count all old f clause written remaining → old ≡ t ∷ new → number_of t.text ≡ Some l → IsLiteral vars l → 0 < remaining → written < max_clause_literals → AddsLiteral clause clause' l → written' ≡ written + 1 → g ≡ f → remaining' ≡ remaining → Reads vars count all new g clause' written' remaining'
-reads_literal vars count all old new t f g clause clause' written written' remaining remaining' l h taken is literal room short added written_is same_formula same_left =
+pub reads_literal : {header : Header} {all old new : List Token} {t : Token} {b c : Builder} {l : ℤ} → Reads header all old b
+    → old ≡ t ∷ new → number_of t.text ≡ Some l → IsLiteral header.vars l → 0 < b.left → b.written < max_clause_literals
+    → AddsLiteral b.clause c.clause l → c.written ≡ b.written + 1 → c.formula ≡ b.formula → c.left ≡ b.left → Reads header all new c
+reads_literal {header = header} {new = new} {t = t} {b = b} {c = c} {l = l} h taken is literal room short added written same_formula same_left =
     let built = h.built in
-    let closed_is = length-sets built.closed f.clauses built.sets in record {
+    let closed_is = length-sets built.closed b.formula.clauses built.sets in record {
       before = h.before ++ t ∷ [];
       split = h.split ∙ ap (λ (x : List Token). h.before ++ x) taken ∙ sym (append_assoc h.before (t ∷ []) new);
       built = record {
         closed = built.closed;
         begun = built.begun ++ l ∷ [];
-        read = read_literal vars count h.before t built.closed built.begun l built.read is literal (omega (arith, built.written_is)) (omega (arith, closed_is, h.remaining_is));
+        read = read_literal header.vars header.clauses h.before t built.closed built.begun l built.read is literal
+            (omega (arith, built.written_is)) (omega (arith, closed_is, h.left_is));
         vars_are = ap (λ (x : Cnf). x.vars) same_formula ∙ built.vars_are;
         sets = rw same_formula built.sets;
-        set = set_push built.begun clause clause' l built.set added;
-        written_is = omega (arith, length-append built.begun (l ∷ []), built.written_is, written_is);
-        size = omega (arith, added.size, built.size, written_is);
+        set = set_push built.begun b.clause c.clause l built.set added;
+        written_is = omega (arith, length-append built.begun (l ∷ []), built.written_is, written);
+        size = omega (arith, added.size, built.size, written);
       };
-      remaining_is = omega (arith, h.remaining_is, same_left, ap (λ (x : Cnf). length x.clauses) same_formula);
+      left_is = omega (arith, h.left_is, same_left, ap (λ (x : Cnf). length x.clauses) same_formula);
     }
 
-pub reads_end : (vars count : ℕ) (all old new : List Token) (t : Token) (f g : Cnf) (clause clause' : List ℤ) (written written' remaining remaining' : ℕ) → Reads vars count all old f clause written remaining → old ≡ t ∷ new → number_of t.text ≡ Some (pos 0) → 0 < remaining → AddsClause f g clause → clause' ≡ [] → written' ≡ 0 → remaining' + 1 ≡ remaining → Reads vars count all new g clause' written' remaining'
-reads_end vars count all old new t f g clause clause' written written' remaining remaining' h taken is room added none none_written one_less =
+pub reads_end : {header : Header} {all old new : List Token} {t : Token} {b c : Builder} → Reads header all old b
+    → old ≡ t ∷ new → number_of t.text ≡ Some (pos 0) → 0 < b.left → AddsClause b.formula c.formula b.clause
+    → c.clause ≡ [] → c.written ≡ 0 → c.left + 1 ≡ b.left → Reads header all new c
+reads_end {header = header} {new = new} {t = t} {b = b} {c = c} h taken is room added none none_written one_less =
     let built = h.built in
-    let closed_is = length-sets built.closed f.clauses built.sets in record {
+    let closed_is = length-sets built.closed b.formula.clauses built.sets in record {
       before = h.before ++ t ∷ [];
       split = h.split ∙ ap (λ (x : List Token). h.before ++ x) taken ∙ sym (append_assoc h.before (t ∷ []) new);
       built = record {
         closed = built.closed ++ built.begun ∷ [];
         begun = [];
-        read = read_end vars count h.before t built.closed built.begun built.read is (omega (arith, closed_is, h.remaining_is));
+        read = read_end header.vars header.clauses h.before t built.closed built.begun built.read is (omega (arith, closed_is, h.left_is));
         vars_are = added.0 ∙ built.vars_are;
-        sets = rw added.1 (sets_push built.closed f.clauses built.begun clause built.sets built.set);
+        sets = rw added.1 (sets_push built.closed b.formula.clauses built.begun b.clause built.sets built.set);
         set = rw none (record { members = λ l. (λ x. x, λ x. x); each_once = tt; order = refl });
         written_is = sym none_written;
         size = omega (arith, ap length none);
       };
-      remaining_is = omega (arith, h.remaining_is, one_less, ap length added.1, length-append f.clauses (clause ∷ []));
+      left_is = omega (arith, h.left_is, one_less, ap length added.1, length-append b.formula.clauses (b.clause ∷ []));
     }
 
-pub ends_clause : (vars count : ℕ) (all left : List Token) (f : Cnf) (clause : List ℤ) (written remaining : ℕ) → Reads vars count all left f clause written remaining → IsFormulaClause f.vars clause
-ends_clause vars count all left f clause written remaining h =
+pub ends_clause : {header : Header} {all left : List Token} {b : Builder} → Reads header all left b → IsFormulaClause b.formula.vars b.clause
+ends_clause {header = header} {b = b} h =
     let built = h.built in
-    let literals = All-from_Has (IsLiteral vars) clause (λ l has. All-Has (IsLiteral vars) built.begun l built.read.begun_within.within ((built.set.members l).0 has)) in
-    rw built.vars_are ((record { literals = literals; each_once = built.set.each_once }, omega (arith, built.size, built.written_is, built.read.begun_within.size)))
+    let within = built.read.begun_within.within in
+    let literals = All-from_Has (IsLiteral header.vars) b.clause
+    (λ l has. All-Has (IsLiteral header.vars) built.begun l within ((built.set.members l).0 has)) in
+    rw built.vars_are ((
+      record { literals = literals; each_once = built.set.each_once },
+      omega (arith, built.size, built.written_is, built.read.begun_within.size),
+    ))
 
 -- ## the end, and the faults
 
-read_whole : (vars count : ℕ) (all left : List Token) (f : Cnf) (clause : List ℤ) (written remaining : ℕ) → (h : Reads vars count all left f clause written remaining) → left ≡ [] → TokensSpell vars count all h.built.closed h.built.begun
-read_whole vars count all left f clause written remaining h none =
+read_whole : {header : Header} {all left : List Token} {b : Builder} → (h : Reads header all left b) → left ≡ []
+    → TokensSpell header.vars header.clauses all h.built.closed h.built.begun
+read_whole {all = all} h none =
     let whole : all ≡ h.before = h.split ∙ ap (λ (x : List Token). h.before ++ x) none ∙ append-nil h.before in
     rw whole h.built.read
 
-pub clauses_read : (vars count : ℕ) (all left : List Token) (f g : Cnf) (clause : List ℤ) (written remaining : ℕ) → Reads vars count all left f clause written remaining → left ≡ [] → g ≡ f → written ≡ 0 → remaining ≡ 0 → AreClauses g vars count all
-clauses_read vars count all left f g clause written remaining h none same no_literal no_clause =
-    let built = h.built in
-    let begun_none : built.begun ≡ [] = nil_from_length built.begun (omega (arith, built.written_is)) in
-    let whole = read_whole vars count all left f clause written remaining h none in
+-- no literal was written of the clause begun
+none_begun : {header : Header} {all left : List Token} {b : Builder} → (h : Reads header all left b) → b.written ≡ 0 → h.built.begun ≡ []
+none_begun h none = nil_from_length h.built.begun (omega (arith, h.built.written_is))
+
+closed_whole : {header : Header} {all left : List Token} {b : Builder} → (h : Reads header all left b) → left ≡ [] → b.written ≡ 0
+    → TokensSpell header.vars header.clauses all h.built.closed []
+closed_whole {header = header} {all = all} h none no_literal =
+    subst (λ (x : List ℤ). TokensSpell header.vars header.clauses all h.built.closed x) (none_begun h no_literal) (read_whole h none)
+
+pub clauses_read : {header : Header} {all left : List Token} {b : Builder} (f : Cnf) → Reads header all left b → left ≡ []
+    → f ≡ b.formula → b.written ≡ 0 → b.left ≡ 0 → AreClauses f header.vars header.clauses all
+clauses_read f h none same no_literal no_clause =
     rw same (record {
-      written = built.closed;
-      vars_are = built.vars_are;
-      count_is = omega (arith, h.remaining_is);
-      read = subst (λ (x : List ℤ). TokensSpell vars count all built.closed x) begun_none whole;
-      sets = built.sets;
+      written = h.built.closed;
+      vars_are = h.built.vars_are;
+      count_is = omega (arith, h.left_is);
+      read = closed_whole h none no_literal;
+      sets = h.built.sets;
     })
 
-pub ends_open : (vars count : ℕ) (all left : List Token) (f : Cnf) (clause : List ℤ) (written remaining : ℕ) → Reads vars count all left f clause written remaining → left ≡ [] → 0 < written → EndsOpen vars count all
-ends_open vars count all left f clause written remaining h none some = record {
+pub ends_open : {header : Header} {all left : List Token} {b : Builder} → Reads header all left b → left ≡ [] → 0 < b.written
+    → EndsOpen header.vars header.clauses all
+ends_open h none some = record {
   closed = h.built.closed;
   begun = h.built.begun;
-  read = read_whole vars count all left f clause written remaining h none;
+  read = read_whole h none;
   fault = omega (arith, h.built.written_is);
 }
 
-pub ends_early : (vars count : ℕ) (all left : List Token) (f : Cnf) (clause : List ℤ) (written remaining : ℕ) → Reads vars count all left f clause written remaining → left ≡ [] → written ≡ 0 → 0 < remaining → EndsEarly vars count all
-ends_early vars count all left f clause written remaining h none no_literal some =
-    let built = h.built in
-    let begun_none : built.begun ≡ [] = nil_from_length built.begun (omega (arith, built.written_is)) in record {
-      closed = built.closed;
-      read = subst (λ (x : List ℤ). TokensSpell vars count all built.closed x) begun_none (read_whole vars count all left f clause written remaining h none);
-      fault = omega (arith, h.remaining_is, length-sets built.closed f.clauses built.sets);
-    }
+pub ends_early : {header : Header} {all left : List Token} {b : Builder} → Reads header all left b → left ≡ [] → b.written ≡ 0 → 0 < b.left
+    → EndsEarly header.vars header.clauses all
+ends_early {b = b} h none no_literal some = record {
+  closed = h.built.closed;
+  read = closed_whole h none no_literal;
+  fault = omega (arith, h.left_is, length-sets h.built.closed b.formula.clauses h.built.sets);
+}
 
-stands : (vars count : ℕ) (all left : List Token) (f : Cnf) (clause : List ℤ) (written remaining : ℕ) (t : Token) (later : List Token) → (h : Reads vars count all left f clause written remaining) → left ≡ t ∷ later → StandsAt t vars count all h.built.closed h.built.begun
-stands vars count all left f clause written remaining t later h next = record {
+stands : {header : Header} {all left later : List Token} {b : Builder} {t : Token} → (h : Reads header all left b) → left ≡ t ∷ later
+    → StandsAt t header.vars header.clauses all h.built.closed h.built.begun
+stands {later = later} h next = record {
   before = h.before;
   after = later;
   whole = h.split ∙ ap (λ (x : List Token). h.before ++ x) next;
   read = h.built.read;
 }
 
-pub bad_number : (vars count : ℕ) (all left : List Token) (f : Cnf) (clause : List ℤ) (written remaining line : ℕ) (text : List ℕ) (later : List Token) → Reads vars count all left f clause written remaining → IsFirstToken text line left later → number_of text ≡ None → HasBadNumber line vars count all
-bad_number vars count all left f clause written remaining line text later h next none = record {
-  text = text;
+pub bad_number : {header : Header} {all left later : List Token} {b : Builder} {t : Token} → Reads header all left b → left ≡ t ∷ later
+    → number_of t.text ≡ None → HasBadNumber t.line header.vars header.clauses all
+bad_number {t = t} h next none = record {
+  text = t.text;
   closed = h.built.closed;
   begun = h.built.begun;
-  place = stands vars count all left f clause written remaining (record { line = line; text = text }) later h next;
+  place = stands h next;
   fault = none;
 }
 
-pub large_variable : (vars count : ℕ) (all left : List Token) (f : Cnf) (clause : List ℤ) (written remaining line : ℕ) (text : List ℕ) (later : List Token) (z : ℤ) → Reads vars count all left f clause written remaining → IsFirstToken text line left later → number_of text ≡ Some z → vars < nat_abs z → HasLargeVariable line vars count all
-large_variable vars count all left f clause written remaining line text later z h next is large = record {
-  text = text;
+pub large_variable : {header : Header} {all left later : List Token} {b : Builder} {t : Token} {z : ℤ} → Reads header all left b
+    → left ≡ t ∷ later → number_of t.text ≡ Some z → header.vars < nat_abs z → HasLargeVariable t.line header.vars header.clauses all
+large_variable {t = t} {z = z} h next is large = record {
+  text = t.text;
   number = z;
   closed = h.built.closed;
   begun = h.built.begun;
-  place = stands vars count all left f clause written remaining (record { line = line; text = text }) later h next;
+  place = stands h next;
   spelled = is;
   fault = large;
 }
 
-pub more_clauses : (vars count : ℕ) (all left : List Token) (f : Cnf) (clause : List ℤ) (written remaining line : ℕ) (text : List ℕ) (later : List Token) (z : ℤ) → Reads vars count all left f clause written remaining → IsFirstToken text line left later → number_of text ≡ Some z → nat_abs z ≤ vars → remaining ≡ 0 → HasMoreClauses line vars count all
-more_clauses vars count all left f clause written remaining line text later z h next is within none =
+pub more_clauses : {header : Header} {all left later : List Token} {b : Builder} {t : Token} {z : ℤ} → Reads header all left b
+    → left ≡ t ∷ later → number_of t.text ≡ Some z → nat_abs z ≤ header.vars → b.left ≡ 0 → HasMoreClauses t.line header.vars header.clauses all
+more_clauses {header = header} {all = all} {b = b} {t = t} {z = z} h next is within none =
     let built = h.built in
-    let full : length built.closed ≡ count = omega (arith, h.remaining_is, length-sets built.closed f.clauses built.sets) in
-    let begun_none : built.begun ≡ [] = nil_from_length built.begun (⊎_elim (λ e. e) (λ some. absurd (omega (arith, built.read.begun_count some, full))) (eq-zero-or-pos (length built.begun))) in record {
-      text = text;
+    let full : length built.closed ≡ header.clauses = omega (arith, h.left_is, length-sets built.closed b.formula.clauses built.sets) in
+    let no_more : length built.begun ≡ 0 =
+    ⊎_elim (λ e. e) (λ some. absurd (omega (arith, built.read.begun_count some, full))) (eq-zero-or-pos (length built.begun)) in
+    let at : List ℤ → Type 0 = λ x. StandsAt t header.vars header.clauses all built.closed x in record {
+      text = t.text;
       number = z;
       closed = built.closed;
-      place = subst (λ (x : List ℤ). StandsAt (record { line = line; text = text }) vars count all built.closed x) begun_none (stands vars count all left f clause written remaining (record { line = line; text = text }) later h next);
+      place = subst at (nil_from_length built.begun no_more) (stands h next);
       spelled = is;
       within = within;
       fault = full;
     }
 
-pub long_clause : (vars count : ℕ) (all left : List Token) (f : Cnf) (clause : List ℤ) (written remaining line : ℕ) (text : List ℕ) (later : List Token) (l : ℤ) → Reads vars count all left f clause written remaining → IsFirstToken text line left later → number_of text ≡ Some l → IsLiteral vars l → max_clause_literals ≤ written → HasLongClause vars count all
-long_clause vars count all left f clause written remaining line text later l h next is literal long = record {
-  token = record { line = line; text = text };
+pub long_clause : {header : Header} {all left later : List Token} {b : Builder} {t : Token} {l : ℤ} → Reads header all left b
+    → left ≡ t ∷ later → number_of t.text ≡ Some l → IsLiteral header.vars l → max_clause_literals ≤ b.written
+    → HasLongClause header.vars header.clauses all
+long_clause {t = t} {l = l} h next is literal long = record {
+  token = t;
   number = l;
   closed = h.built.closed;
   begun = h.built.begun;
-  place = stands vars count all left f clause written remaining (record { line = line; text = text }) later h next;
+  place = stands h next;
   spelled = is;
   within = literal;
   fault = omega (arith, h.built.written_is, h.built.read.begun_within.size);

@@ -52,7 +52,7 @@ fn next_run(line: &[u8]) -> (&[u8], &[u8])
     split_run(skip_separators(line))
 }
 
-/// The number of a token that spells one, without a sign. One above `MAX_VARIABLE` is given as another one above it.
+/// The number of a token that spells one, without a sign. A number above `MAX_VARIABLE` is given as any number above it.
 fn count(text: &[u8]) -> Option<u32>
     requires { first_run text.now ≡ text.now }
     ensures { MatchOption result (is_count text.now ≡ false) (ReadsCount text.now) }

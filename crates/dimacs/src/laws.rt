@@ -1,4 +1,4 @@
-//! What holds of every file: laws on the words in which `parse` is stated.
+//! Laws of the definitions in which `parse` is stated, which hold of every file.
 ghost use Rattle.std.specs.Prelude.{◌≡◌, ◌↔◌, ℕ, List};
 ghost use Rattle.lrup_model.specs.Formula.{Cnf};
 ghost use Rattle.dimacs.specs.declared.fault.DimacsFault.{DimacsFault};

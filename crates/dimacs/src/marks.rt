@@ -6,7 +6,7 @@ ghost use Rattle.dimacs.specs.Marks.{IsBitSet, MarksAre, all_words};
 use lrup_model::Lit;
 use std::alloc::AllocError;
 
-/// The number of words that has a place for each literal.
+/// The number of words in which each literal has a place.
 const WORDS: usize = 524_288;
 
 /// The place of a literal's mark.
@@ -40,7 +40,7 @@ fn unmark(words: &mut [u64], place: usize)
     words[i] = words[i] & !(1 << (place % 64));
 }
 
-/// Is the literal marked?
+/// Whether the literal is marked.
 pub fn has_mark(words: &[u64], l: Lit) -> bool
     requires { all_words ≤ length words.now }
     ensures { IsTrue result ↔ IsBitSet words.now (code_of l) }

@@ -25,7 +25,7 @@ impl Model for Seat {
 }
 
 impl Seat {
-    /// What is left of the stream's room, in literals.
+    /// The room that the stream has left, in literals.
     #[inline]
     pub fn room(&self) -> u64
         ensures { result ≡ (pass_place self.now.view).room }

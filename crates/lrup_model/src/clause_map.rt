@@ -30,7 +30,7 @@ impl Model for Clip {
 }
 
 impl Clip {
-    /// The clip of these three. A clip is used only where it is known, as those are that a fetch gave.
+    /// The clip of these three. A clip is used only where it is known, as those that a fetch gave are.
     pub fn new(id: Id, len: u32, start: u32) -> Clip
         ensures { result ≡ record { id = id; len = len; start = start } }
     {
@@ -59,7 +59,7 @@ impl Clip {
         self.len / 2 + self.len % 2
     }
 
-    /// Is it a clip of the empty clause?
+    /// Whether it is a clip of the empty clause.
     pub fn is_empty(&self) -> bool
         ensures { IsTrue result ↔ (self.now.len ≡ 0) }
     {
@@ -115,16 +115,16 @@ pub trait ClauseMap {
     fn stream(&self) -> u64
         ensures { result ≡ (place self.now).caller.stream };
 
-    /// Is this an identity: 1 to the last?
+    /// Whether this is an identity: 1 to the last.
     fn covers(&self, id: Id) -> bool
         ensures { IsTrue result ↔ IsIdentity (place self.now).caller.layout id };
 
-    /// Is this identity the caller's own?
+    /// Whether this identity is the caller's own.
     fn owns(&self, id: Id) -> bool
         ensures { IsTrue result
             ↔ Owns (place self.now).caller.layout (place self.now).caller.stream id };
 
-    /// What is left of the caller's room, in literals: a publish with Done takes the clause's length, and nothing gives any back.
+    /// The room that the caller has left, in literals: a publish with Done takes the clause's length, and nothing gives any back.
     fn room(&self) -> u64
         ensures { result ≡ (place self.now).room };
 

@@ -80,7 +80,7 @@ impl Formula {
         self.ends.as_slice().len()
     }
 
-    /// Has the formula no clause?
+    /// Whether the formula has no clause.
     pub fn is_empty(&self) -> bool
         ensures { IsTrue result ↔ (self.now.clauses ≡ []) }
     {
@@ -104,7 +104,7 @@ impl Formula {
     }
 }
 
-/// Where the piece that ends at place `i`, from 0 on, of the ends begins.
+/// Where piece `i`, from 0 on, begins: at the end of the one before it.
 fn start(ends: &[usize], i: usize) -> usize
     requires { i < length ends.now }
     ensures { result ≡ slice_index (0 ∷ ends.now) i }
@@ -112,7 +112,7 @@ fn start(ends: &[usize], i: usize) -> usize
     if i == 0 { 0 } else { ends[i - 1] }
 }
 
-/// The literals of the piece that ends at place `i`, from 0 on, of the ends.
+/// The literals of piece `i`, from 0 on.
 fn part<'a>(literals: &'a [Lit], ends: &[usize], i: usize) -> &'a [Lit]
     requires ends { AreEnds 0 ends.now (length literals.now) }
     requires within { i < length ends.now }
@@ -121,7 +121,7 @@ fn part<'a>(literals: &'a [Lit], ends: &[usize], i: usize) -> &'a [Lit]
     between(literals, start(ends, i), ends[i])
 }
 
-/// The literals from one place to before another.
+/// The literals from the place `from` to the one before `end`.
 fn between(literals: &[Lit], from: usize, end: usize) -> &[Lit]
     requires ordered { from ≤ end }
     requires within { end ≤ length literals.now }

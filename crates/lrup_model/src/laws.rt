@@ -18,7 +18,7 @@ pub fn own_calls_decide()
     ensures { OwnCallsDecide }
 {}
 
-/// Where a stream's own identities above one have nothing, they have nothing after legal events of others.
+/// Where a stream's own identities above some number have nothing, they have nothing after legal events of others.
 pub fn vacant_above_stays()
     ensures { VacantAboveStays }
 {}
@@ -48,7 +48,7 @@ pub fn one_owner()
     ensures { OneOwner }
 {}
 
-/// What clauses that follow show by propagation follows too.
+/// A clause that propagation shows by clauses that follow, follows too.
 pub fn propagation_sound()
     ensures { PropagationSound }
 {}
@@ -93,8 +93,8 @@ pub fn restriction_legal()
     ensures { RestrictionLegal }
 {}
 
-/// What follows from the formula, within a cube, leaves no assignment that makes every clause and every literal of the
-/// cube true.
+/// Where a clause within a cube follows from the formula, no assignment makes every clause of the formula and every literal of
+/// the cube true.
 pub fn within_refutes()
     ensures { WithinRefutes }
 {}
@@ -104,7 +104,7 @@ pub fn empty_cube_refutes()
     ensures { EmptyCubeRefutes }
 {}
 
-/// What is unsatisfiable is so under every cube.
+/// An unsatisfiable formula is so under every cube.
 pub fn under_every_cube()
     ensures { UnderEveryCube }
 {}

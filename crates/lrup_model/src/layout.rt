@@ -116,7 +116,7 @@ impl Layout {
         })
     }
 
-    /// Are the formula's numbers those of this layout?
+    /// Whether the formula's numbers are those of this layout.
     pub fn fits(&self, formula: &Formula) -> bool
         ensures { IsTrue result ↔ Fits self.now formula.now }
     {
@@ -200,7 +200,7 @@ impl Layout {
         1 + self.last_identity() + self.literals as u64 + self.all_room()
     }
 
-    /// Is this an identity: 1 to the last?
+    /// Whether this is an identity: 1 to the last.
     pub fn covers(&self, id: u64) -> bool
         ensures { IsTrue result ↔ IsIdentity self.now id }
     {
@@ -208,7 +208,7 @@ impl Layout {
     }
 }
 
-/// Has the row at most 2^28 words? No sum here leaves 64 bits, whatever the numbers are.
+/// Whether the row has at most 2^28 words. No sum here exceeds 64 bits, whatever the numbers are.
 fn row_fits(clauses: u64, literals: u64, streams: u64, lines: u64, room: u64) -> bool
     requires clauses { clauses ≤ max_clauses }
     requires some_stream { 0 < streams }

@@ -19,5 +19,5 @@ pub use lit::Lit;
 pub use plain_map::{PlainDesk, PlainMap};
 
 /// A clause's identity: the formula's clauses have 1 to `m` in the order of the file, and the streams own those above by
-/// turns. 0 and what is above the last one is outside.
+/// turns. 0 and all above the last one are outside.
 pub type Id = u64;

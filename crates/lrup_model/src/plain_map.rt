@@ -17,7 +17,7 @@ use crate::lit::Lit;
 use std::alloc::{AllocError, Global};
 use std::marker::Model;
 
-/// What stands under an identity, with the place of the clause's first literal and their count. 12 bytes.
+/// What stands under an identity, with the place of the clause's first literal and the count of its literals. 12 bytes.
 #[derive(Clone, Copy)]
 enum Entry {
     Vacant,
@@ -25,7 +25,7 @@ enum Entry {
     Retired { start: u32, len: u32 },
 }
 
-/// The clause map of one thread: an entry an identity, and all literals in one list.
+/// The clause map of one thread: an entry for each identity, and all literals in one list.
 #[derive(Drop)]
 pub struct PlainMap {
     layout: Layout,
@@ -146,7 +146,7 @@ impl PlainMap {
         &self.layout
     }
 
-    /// What is left of the room of the stream at this place in the list of rooms; 0 where there is none.
+    /// The room that the stream at this place in the list of rooms has left; 0 where the list has no such place.
     fn room_at(&self, index: u32) -> u64
         ensures { result ≡ slice_index self.now.free index }
     {
@@ -158,7 +158,7 @@ impl PlainMap {
         requires { IsStream self.old.layout s }
         ensures { IsDesk self.entry s result }
     {
-        // A look at the layout, which has at most 64 streams, tells the proof that the cast below loses nothing.
+        // A look at the layout, which has at most 64 streams, shows the prover that the cast below loses nothing.
         let _ = &self.layout;
         PlainDesk {
             map: self,

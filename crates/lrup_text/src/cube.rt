@@ -9,7 +9,7 @@ ghost use Rattle.lrup_text.specs.Grammar.{IsDigit};
 ghost use Rattle.lrup_text.specs.Rests.{BeforeLiteral, AfterMinus, InLiteral};
 ghost use Rattle.lrup_text.specs.declared.cube.CubeFault.TheVariants.{Memory};
 
-use crate::machine::{MOST_DIGITS, MOST_LITERALS, literal_of};
+use crate::machine::{MAX_DIGITS, MAX_LITERALS, literal_of};
 use lrup_model::{Cube, Lit};
 use std::alloc::{AllocError, Global};
 use thiserror::Error;
@@ -46,12 +46,12 @@ pub fn read_cube(alloc: Global, bytes: &[u8], vars: u32) -> Result<Cube, CubeFau
     ensures cube { IfOk result (IsCubeText vars bytes.now) }
     ensures fault { IfErr result (IsCubeFault vars bytes.now) }
 {
-    let literals = read_literals(alloc, bytes, vars)?;
+    let literals = read_cube_literals(alloc, bytes, vars)?;
     Ok(Cube::of(alloc, &literals)?)
 }
 
 /// Reads the literals of a cube's text, as they are written.
-fn read_literals(alloc: Global, text: &[u8], vars: u32) -> Result<Vec<Lit>, CubeFault>
+fn read_cube_literals(alloc: Global, text: &[u8], vars: u32) -> Result<Vec<Lit>, CubeFault>
     requires { vars ≤ max_variable }
     ensures text { IfOk result (λ literals. IsLiteralsText literals.items text.now) }
     ensures over { IfOk result (λ literals. IsCubeOver vars literals.items) }
@@ -68,7 +68,7 @@ fn read_literals(alloc: Global, text: &[u8], vars: u32) -> Result<Vec<Lit>, Cube
                 Err(CubeFault::Spelling)
             };
         }
-        if count == MOST_LITERALS {
+        if count == MAX_LITERALS {
             return Err(after_most(first));
         }
         let (literal, next) = read_literal(first, after)?;
@@ -113,7 +113,7 @@ fn is_digit(byte: u8) -> bool
     matches!(byte, b'0'..=b'9')
 }
 
-/// Reads a literal, whose first byte is given, and the space after it, and says what is left.
+/// Reads a literal, whose first byte is given, and the space after it, and gives what is left.
 fn read_literal(first: u8, after: &[u8]) -> Result<(i64, &[u8]), CubeFault>
     requires { first ≢ zero_digit }
     ensures literal { IfOk result (λ read. ReadsLiteral (first ∷ after.now) read.0 read.1.now) }
@@ -130,7 +130,7 @@ fn read_literal(first: u8, after: &[u8]) -> Result<(i64, &[u8]), CubeFault>
     Ok((literal_of(false, number), rest))
 }
 
-/// Reads a number and the space after it, and says what is left.
+/// Reads a number and the space after it, and gives what is left.
 fn read_number(text: &[u8]) -> Result<(u64, &[u8]), CubeFault>
     ensures number { IfOk result (λ read. BeginsWithNumber text.now read.0 read.1.now) }
     ensures fault { IfErr result (IsRestFault (AfterMinus true) text.now) }
@@ -144,7 +144,7 @@ fn read_number(text: &[u8]) -> Result<(u64, &[u8]), CubeFault>
     read_digits(first, after)
 }
 
-/// Reads a number, whose first digit is given, and the space after it, and says what is left.
+/// Reads a number, whose first digit is given, and the space after it, and gives what is left.
 fn read_digits(first: u8, after: &[u8]) -> Result<(u64, &[u8]), CubeFault>
     requires low { 49 ≤ first }
     requires high { first ≤ 57 }
@@ -161,7 +161,7 @@ fn read_digits(first: u8, after: &[u8]) -> Result<(u64, &[u8]), CubeFault>
         if !is_digit(byte) {
             return Err(CubeFault::Spelling);
         }
-        if digits == MOST_DIGITS {
+        if digits == MAX_DIGITS {
             return Err(CubeFault::TooLong);
         }
         number = number * 10 + u64::from(byte - b'0');
@@ -171,7 +171,7 @@ fn read_digits(first: u8, after: &[u8]) -> Result<(u64, &[u8]), CubeFault>
     Err(CubeFault::Spelling)
 }
 
-/// The literals that are kept with one more, unless it is out of range, or memory ran out.
+/// The literals kept so far and one more, unless it is out of range, or memory ran out.
 fn with_literal(
     kept: Result<Vec<Lit>, CubeFault>,
     literal: i64,

@@ -6,6 +6,9 @@ ghost use Rattle.std.specs.Result.{result_ok};
 use std::io;
 use thiserror::Error;
 
+/// The most bytes that one read of a stream or of a formula's file asks for.
+pub const PIECE: usize = 65_536;
+
 /// A read failed.
 #[derive(Clone, Copy, Debug, PartialEq, Eq, Error)]
 #[error("read failed")]
@@ -37,7 +40,7 @@ pub trait Source {
     /// it. A source that doesn't say allows any.
     ghost reads: { Self → ℕ → Option (List ℕ) → Self → Type 0 } = { λ _ _ _ _. Unit {0} };
 
-    /// Reads bytes into the front of a buffer, and says how many. 0 bytes into a buffer that isn't empty are the end.
+    /// Reads bytes into the front of a buffer, and returns how many. 0 bytes into a buffer that isn't empty are the end.
     ///
     /// A fault reads nothing, and there is no read after it.
     fn read(&mut self, buffer: &mut [u8]) -> Result<usize, ReadFault>
@@ -61,7 +64,7 @@ pub trait Sink {
     /// Whether a write has failed.
     ghost has_failed: { Self → Bool };
 
-    /// Writes bytes from the front of a slice, and says how many: at least one, where the slice isn't empty.
+    /// Writes bytes from the front of a slice, and returns how many: at least one, where the slice isn't empty.
     ///
     /// A fault writes nothing, and there is no write after it.
     fn write(&mut self, bytes: &[u8]) -> Result<usize, WriteFault>

@@ -2,7 +2,7 @@
 ghost use Rattle.std.specs.Prelude.{◌≡◌, ◌<◌, ◌≤◌, ◌+◌, get_or, length, IfSome};
 ghost use Rattle.lrup_text.specs.Kernel.{EndsLine, EndsWord, ReadsNumber, ReadsLiterals, ReadsItems, ReadsList, ReadsClause, IsWhole};
 
-use crate::machine::{MOST_DIGITS, literal_of};
+use crate::machine::{MAX_DIGITS, literal_of};
 
 const SPACE: u8 = b' ';
 
@@ -158,7 +158,7 @@ fn read_number(text: &[u8], start: usize) -> Option<(u64, usize)>
             .wrapping_add(u64::from(text[end] - ZERO));
         end += 1;
     }
-    if end - start > MOST_DIGITS {
+    if end - start > MAX_DIGITS {
         return None;
     }
     Some((number, end))
@@ -166,7 +166,7 @@ fn read_number(text: &[u8], start: usize) -> Option<(u64, usize)>
 
 /// Reads literals, with the space after each, to the places from `first` on, as many as there are.
 ///
-/// Says how many places are taken then, and how far the text was read.
+/// Returns how many places are taken then, and how far the text was read.
 #[inline(always)]
 pub fn read_literals(text: &[u8], start: usize, out: &mut [i64], first: usize) -> (usize, usize)
     requires ends { EndsWord text.now }
@@ -194,7 +194,7 @@ pub fn read_literals(text: &[u8], start: usize, out: &mut [i64], first: usize) -
 
 /// Reads numbers, with the space after each, to the places from `first` on, as many as there are.
 ///
-/// Says how many places are taken then, and how far the text was read.
+/// Returns how many places are taken then, and how far the text was read.
 #[inline(always)]
 pub fn read_items(text: &[u8], start: usize, out: &mut [u64], first: usize) -> (usize, usize)
     requires ends { EndsWord text.now }

@@ -1,4 +1,4 @@
-//! The laws of lines and streams. No function here does anything: its clause is the law.
+//! Laws of lines and streams. Each function does nothing; its contract is the law.
 ghost use Rattle.lrup_text.specs.Laws.{
   OneText,
   OneLine,
@@ -35,7 +35,7 @@ pub fn no_text_begins_another()
     ensures { NoTextBegins }
 {}
 
-/// Bytes begin with the text of one line at most, and what follows it is the same.
+/// Bytes begin with the text of at most one line, and what follows it is the same.
 pub fn bytes_begin_with_one_line()
     ensures { OneFirstLine }
 {}
@@ -80,12 +80,12 @@ pub fn a_text_has_one_fault()
     ensures { OneFault }
 {}
 
-/// No bytes may still become a line.
+/// The empty text may still become a line.
 pub fn no_bytes_may_become_a_line()
     ensures { EmptyPending }
 {}
 
-/// No bytes are cut into no lines.
+/// The empty text is cut into no lines.
 pub fn no_bytes_have_no_lines()
     ensures { EmptyCut }
 {}

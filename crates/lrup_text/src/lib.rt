@@ -14,8 +14,9 @@ mod reader;
 mod writer;
 
 pub use cube::{CubeFault, read_cube};
-pub use device::{ReadFault, Reading, Sink, Source, StreamEnd, WriteFault, Writing};
-use machine::{MOST_IDENTITIES, MOST_LITERALS, MOST_NUMBER};
+pub use device::{PIECE, ReadFault, Reading, Sink, Source, StreamEnd, WriteFault, Writing};
+pub use machine::MAX_LITERALS;
+use machine::{MAX_IDENTITIES, MAX_NUMBER};
 pub use reader::{End, Fed, LineReader, ReaderTurn};
 use thiserror::Error;
 pub use writer::{WriteBuffer, write_all, write_line};
@@ -60,13 +61,13 @@ impl Line<'_> {
 fn is_stream_number(number: u64) -> bool
     ensures { IsTrue result ↔ IsStreamNumber number }
 {
-    number > 0 && number <= MOST_NUMBER
+    number > 0 && number <= MAX_NUMBER
 }
 
 fn are_few_literals(lits: &[i64]) -> bool
     ensures { IsTrue result ↔ AreFew 65535 IsStreamLiteral lits.now }
 {
-    lits.len() <= MOST_LITERALS
+    lits.len() <= MAX_LITERALS
         && lits
             .iter()
             .all(|literal| is_stream_number(literal.unsigned_abs()))
@@ -75,7 +76,7 @@ fn are_few_literals(lits: &[i64]) -> bool
 fn are_few_identities(ids: &[u64]) -> bool
     ensures { IsTrue result ↔ AreFew 65536 IsStreamNumber ids.now }
 {
-    ids.len() <= MOST_IDENTITIES && ids.iter().all(|id| is_stream_number(*id))
+    ids.len() <= MAX_IDENTITIES && ids.iter().all(|id| is_stream_number(*id))
 }
 
 /// Why a text is no line.

@@ -12,13 +12,13 @@ use memchr::{memchr, memrchr};
 use std::alloc::{AllocError, Global};
 
 /// The most digits of a number.
-pub const MOST_DIGITS: usize = 18;
+pub const MAX_DIGITS: usize = 18;
 /// The greatest number of that many digits.
-pub const MOST_NUMBER: u64 = 999_999_999_999_999_999;
-/// The most literals of an addition.
-pub const MOST_LITERALS: usize = 65_535;
+pub const MAX_NUMBER: u64 = 999_999_999_999_999_999;
+/// The most literals of an addition or of an import.
+pub const MAX_LITERALS: usize = 65_535;
 /// The most hints of an addition, and the most identities of a deletion.
-pub const MOST_IDENTITIES: usize = 65_536;
+pub const MAX_IDENTITIES: usize = 65_536;
 
 /// What may come next in a line.
 #[derive(Clone, Copy)]
@@ -93,12 +93,12 @@ pub struct BytesRead {
 }
 
 impl PartialLine {
-    /// Nothing of a line, with all memory that a line can need.
+    /// A line of which nothing was read, with all memory that it can need.
     pub fn new(alloc: Global) -> Result<PartialLine, AllocError>
         ensures { IfOk result (λ line. IsPartialLine line × (pending line ≡ [])) }
     {
-        let literals = zero_literals(alloc, MOST_LITERALS)?;
-        let identities = zero_identities(alloc, MOST_IDENTITIES)?;
+        let literals = zero_literals(alloc, MAX_LITERALS)?;
+        let identities = zero_identities(alloc, MAX_IDENTITIES)?;
         Ok(PartialLine {
             place: Place::Start,
             imports: false,
@@ -163,7 +163,7 @@ impl PartialLine {
         }
     }
 
-    /// Reads a line that is whole in the piece, where none was begun, and says how many bytes it has.
+    /// Reads a line that is whole in the piece, where none was begun, and returns how many bytes it has.
     ///
     /// `None` says nothing of the piece. Nothing was read then.
     fn read_at_once(&mut self, piece: &[u8]) -> Option<usize>
@@ -184,7 +184,7 @@ impl PartialLine {
         }
     }
 
-    /// Reads a line that is whole in a slice, and says whether it did. Where it didn't, nothing was read.
+    /// Reads a line that is whole in a slice, and returns whether it did. Where it didn't, nothing was read.
     fn read_whole(&mut self, line: &[u8]) -> bool
         requires reads { IsPartialLine self.old }
         requires start { self.old.place ≡ Place.Start }
@@ -231,7 +231,7 @@ impl PartialLine {
         }
     }
 
-    /// Reads literals or items that are whole in the front of a piece, and says how many bytes they have.
+    /// Reads literals or items that are whole in the front of a piece, and returns how many bytes they have.
     fn read_ahead(&mut self, piece: &[u8]) -> usize
         requires { IsPartialLine self.old }
         ensures { ReadsAhead self.old piece.now result self.new }
@@ -335,7 +335,7 @@ impl PartialLine {
         ensures { ReadsByte self.old byte result self.new }
     {
         match byte {
-            b'0'..=b'9' if self.digits < MOST_DIGITS => {
+            b'0'..=b'9' if self.digits < MAX_DIGITS => {
                 self.extend_number(byte);
                 ByteStep::More
             }
@@ -391,11 +391,11 @@ impl PartialLine {
                 self.place = Place::Import;
                 ByteStep::More
             }
-            b'-' if self.literal_count < MOST_LITERALS => {
+            b'-' if self.literal_count < MAX_LITERALS => {
                 self.place = Place::Minus;
                 ByteStep::More
             }
-            b'1'..=b'9' if self.literal_count < MOST_LITERALS => {
+            b'1'..=b'9' if self.literal_count < MAX_LITERALS => {
                 self.negative = false;
                 self.begin_number(byte);
                 self.place = Place::Literal;
@@ -428,7 +428,7 @@ impl PartialLine {
         ensures { ReadsByte self.old byte result self.new }
     {
         match byte {
-            b'0'..=b'9' if self.digits < MOST_DIGITS => {
+            b'0'..=b'9' if self.digits < MAX_DIGITS => {
                 self.extend_number(byte);
                 ByteStep::More
             }
@@ -467,7 +467,7 @@ impl PartialLine {
                 self.place = Place::LineEnd;
                 ByteStep::More
             }
-            b'1'..=b'9' if self.identity_count == MOST_IDENTITIES => {
+            b'1'..=b'9' if self.identity_count == MAX_IDENTITIES => {
                 ByteStep::Refused(LineFault::TooLong)
             }
             b'1'..=b'9' => {
@@ -486,7 +486,7 @@ impl PartialLine {
         ensures { ReadsByte self.old byte result self.new }
     {
         match byte {
-            b'0'..=b'9' if self.digits < MOST_DIGITS => {
+            b'0'..=b'9' if self.digits < MAX_DIGITS => {
                 self.extend_number(byte);
                 ByteStep::More
             }
@@ -516,14 +516,14 @@ impl PartialLine {
     }
 }
 
-/// So many places for literals.
+/// `count` places for literals.
 fn zero_literals(alloc: Global, count: usize) -> Result<Vec<i64>, AllocError>
     ensures { IfOk result (λ v. length v.items ≡ count) }
 {
     vec![in alloc; 0; count]
 }
 
-/// So many places for identities.
+/// `count` places for identities.
 fn zero_identities(alloc: Global, count: usize) -> Result<Vec<u64>, AllocError>
     ensures { IfOk result (λ v. length v.items ≡ count) }
 {

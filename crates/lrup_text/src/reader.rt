@@ -28,7 +28,7 @@ pub enum ReaderTurn<'a> {
     Fault(LineFault),
 }
 
-/// What the end of a stream is.
+/// How a stream ends.
 #[derive(Clone, Copy, Debug, PartialEq, Eq)]
 pub enum End {
     /// The stream ended after its last line.
@@ -100,7 +100,7 @@ impl LineReader {
         }
     }
 
-    /// Says what it is that the stream ends here. After `Clean` it may still go on.
+    /// How the stream ends, if it ends here. After `Clean` it may still go on.
     pub fn end(&mut self) -> End
         ensures { ReaderEnds self.old result self.new }
     {

@@ -107,7 +107,7 @@ impl Word {
     }
 }
 
-/// Writes a byte of a text at its place, and tells the next place.
+/// Writes a byte of a text at its place, and returns the next place.
 #[inline]
 fn write_byte(bytes: &mut [u8], at: usize, byte: u8) -> usize
     requires { at < length bytes.old }
@@ -240,7 +240,7 @@ impl WriteBuffer {
         write_all(&self.bytes[..len], sink)
     }
 
-    /// Is there room for a number, with its sign and a space?
+    /// Whether there is room for a number, with its sign and a space.
     #[inline]
     fn has_room(&self) -> bool
         ensures { IsTrue result ↔ (length self.now + 22 ≤ 4096) }

@@ -154,7 +154,7 @@ machine_status faults.CubeUnread is = inl refl
 machine_status (faults.CubeRefused fault) is = absurd is
 machine_status (faults.NotOpened stream) is = inl refl
 machine_status (faults.Layout fault) is = absurd is
-machine_status (faults.NotStarted stream) is = inr refl
+machine_status (faults.Spawn stream) is = inr refl
 machine_status (faults.Ring stream) is = inr refl
 machine_status faults.Memory is = inr refl
 machine_status faults.Unwritten is = absurd is
@@ -319,7 +319,7 @@ module _ (one_formula : OneFormula) (no_fault : NoFormulaFault) (alike : SameWor
   of_machine words ask faults.Unread cause = tt
   of_machine words ask faults.CubeUnread cause = tt
   of_machine words ask (faults.NotOpened stream) cause = tt
-  of_machine words ask (faults.NotStarted stream) cause = tt
+  of_machine words ask (faults.Spawn stream) cause = tt
   of_machine words ask (faults.Ring stream) cause = tt
   of_machine words ask faults.Memory cause = tt
   of_machine words ask (faults.Refused fault) cause =
@@ -328,7 +328,7 @@ module _ (one_formula : OneFormula) (no_fault : NoFormulaFault) (alike : SameWor
         | inl read ↦ not_refused cause.0.formula.now ask.text ask.formula fault (ap files.tells same.2 ∙ ask.told) ask.is_text read
         | inr later ↦ elim later.3 [
           | inl assume ↦ no_usage later.1 (assumed_at cause.0) later.0.vars fault assume
-          | inr last ↦ elim last.3 [ inl opens ↦ opens | inr more ↦ elim more [ inl runs ↦ runs | inr create ↦ create.3 ] ]
+          | inr last ↦ elim last.3 [ inl opens ↦ opens | inr more ↦ elim more [ inl runs ↦ runs | inr create ↦ create.4 ] ]
         ]
       ]
   of_machine words ask (faults.CubeRefused fault) cause =
@@ -341,7 +341,7 @@ module _ (one_formula : OneFormula) (no_fault : NoFormulaFault) (alike : SameWor
               not_assumed ask.formula.vars later.1 (assumed_at ask.given) fault ask.assumptions
               (subst (λ (p : Option Text). IsAssumeCause files ask.formula.vars later.1 p (faults.CubeRefused fault)) assumed
               (subst (λ (f : Cnf). IsAssumeCause files f.vars later.1 (assumed_at cause.0) (faults.CubeRefused fault)) formulas assume))
-          | inr last ↦ elim last.3 [ inl opens ↦ opens | inr more ↦ elim more [ inl runs ↦ runs | inr create ↦ create.3 ] ]
+          | inr last ↦ elim last.3 [ inl opens ↦ opens | inr more ↦ elim more [ inl runs ↦ runs | inr create ↦ create.4 ] ]
         ]
       ]
   of_machine words ask (faults.Layout fault) cause =
@@ -351,7 +351,7 @@ module _ (one_formula : OneFormula) (no_fault : NoFormulaFault) (alike : SameWor
           | inl assume ↦ no_layout later.1 (assumed_at cause.0) later.0.vars fault assume
           | inr last ↦ elim last.3 [
             | inl opens ↦ opens
-            | inr (inr create) ↦ create.3
+            | inr (inr create) ↦ create.4
             | inr (inl runs) ↦
                 let same = alike words ask.given cause.0 ask.command_line cause.1 in
                 let formulas = formula_at words ask cause.0 later.0 later.1 cause.1 later.2 in
@@ -368,7 +368,7 @@ module _ (one_formula : OneFormula) (no_fault : NoFormulaFault) (alike : SameWor
         | inl read ↦ read
         | inr later ↦ elim later.3 [
           | inl assume ↦ never_unwritten later.1 (assumed_at cause.0) later.0.vars assume
-          | inr last ↦ elim last.3 [ inl opens ↦ opens | inr more ↦ elim more [ inl runs ↦ runs | inr create ↦ create.3 ] ]
+          | inr last ↦ elim last.3 [ inl opens ↦ opens | inr more ↦ elim more [ inl runs ↦ runs | inr create ↦ create.4 ] ]
         ]
       ]
   of_machine words ask faults.NotCreated cause = tt
@@ -377,7 +377,7 @@ module _ (one_formula : OneFormula) (no_fault : NoFormulaFault) (alike : SameWor
         | inl read ↦ read
         | inr later ↦ elim later.3 [
           | inl assume ↦ never_unsaved later.1 (assumed_at cause.0) later.0.vars fault assume
-          | inr last ↦ elim last.3 [ inl opens ↦ opens | inr more ↦ elim more [ inl runs ↦ runs | inr create ↦ create.3 ] ]
+          | inr last ↦ elim last.3 [ inl opens ↦ opens | inr more ↦ elim more [ inl runs ↦ runs | inr create ↦ create.4 ] ]
         ]
       ]
 

@@ -32,7 +32,7 @@ no_fault faults.CubeUnread is = let no : 0 ≡ 5 = is in cc
 no_fault (faults.CubeRefused fault) is = let no : 0 ≡ 4 = is in cc
 no_fault (faults.NotOpened stream) is = let no : 0 ≡ 5 = is in cc
 no_fault (faults.Layout fault) is = no_layout fault is
-no_fault (faults.NotStarted stream) is = let no : 0 ≡ 6 = is in cc
+no_fault (faults.Spawn stream) is = let no : 0 ≡ 6 = is in cc
 no_fault (faults.Ring stream) is = let no : 0 ≡ 6 = is in cc
 no_fault faults.Memory is = let no : 0 ≡ 6 = is in cc
 no_fault faults.Unwritten is = let no : 0 ≡ 7 = is in cc

@@ -12,15 +12,15 @@ use run_laws::groups::{same_bytes_agree, serial_run};
 use run_laws::right::{right_begins, right_empty, together_begins};
 use run_laws::turns::{bytes_decide, right_by_turns};
 
-/// What a stream is judged by under a cube, it is judged by without one, and its report says the same, but of clauses within the
-/// cube.
+/// What a stream is judged by under a cube, it is judged by without one too, and its report says the same, but of clauses within
+/// the cube.
 pub fn no_cube_judges_alike()
     ensures { NoCubeJudgesAlike }
 {}
 
-/// In two runs of one formula, by one layout and so many tries, a stream that cites within itself has reports that say the same, but
-/// of clauses within a cube, where the readers have the same bytes left at first: unless memory ran out or a read failed. Whatever
-/// the cubes and the other streams are, and whichever runs have threads.
+/// In two runs of one formula, with one layout and the same tries, a stream that cites within itself has reports that say the same,
+/// but of clauses within a cube, where the readers have the same bytes left at first, unless memory ran out or a read failed:
+/// whatever the cubes and the other streams are, and whichever runs have threads.
 pub fn same_bytes_say_the_same()
     ensures { SameBytesSayTheSame }
 {
@@ -34,7 +34,7 @@ pub fn same_words_ask_alike()
 {}
 
 /// In two outcomes of the program, over files that stand before the runs, a stream that cites within itself has the same line: where
-/// the options and the number of streams are the same, and the files of the formula and of the stream tell the same bytes. Unless a
+/// the options and the number of streams are the same, and the files of the formula and of the stream tell the same bytes, unless a
 /// report of the stream is of memory or of a failed read.
 pub fn outcomes_agree<F: Files, G: Files>(files: &F, others: &G)
     ensures { let view = files_view F.Files F.Input.Source F.Output.Sink files.now in
@@ -84,8 +84,8 @@ pub fn right_order_says<F: Files>(files: &F)
 }
 
 /// In two outcomes of the program on one thread, over files that stand before the runs, the reports are the same: where the options
-/// and the assumed literals are the same, and the files of the formula and of each stream tell the same bytes. Unless some report is
-/// of memory or of a failed read.
+/// and the assumed literals are the same, and the files of the formula and of each stream tell the same bytes, unless some report
+/// is of memory or of a failed read.
 pub fn serial_outcomes_agree<F: Files, G: Files>(files: &F, others: &G)
     ensures { let view = files_view F.Files F.Input.Source F.Output.Sink files.now in
         let other = files_view G.Files G.Input.Source G.Output.Sink others.now in

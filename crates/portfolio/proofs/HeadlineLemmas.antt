@@ -26,6 +26,7 @@ use Rattle.portfolio.specs.declared.outcome.RunFault.{RunFault}
 use Rattle.portfolio.specs.declared.outcome.RunFault.TheVariants.{Layout, Memory}
 use Rattle.portfolio.specs.declared.outcome.Verdict.{Verdict}
 use Rattle.portfolio.specs.declared.outcome.Verdict.TheVariants.{Unsatisfiable, UnsatisfiableUnder, Unknown}
+use Rattle.portfolio.specs.Dropping.{HasDropped, HaveDropped}
 use Rattle.portfolio.specs.Outcomes.{verdict_of}
 use Rattle.runs.specs.StreamLemmas.{IsJudgedBy}
 use Rattle.runs.specs.Headline.{HaveOneHistory, AreJudgedIn, WereJudged, seen_by}
@@ -33,6 +34,8 @@ use Rattle.stream_threads.specs.Jobs.{JobsValue, FoundValue, CanBegin, Finishes,
 use Rattle.lrup_text.specs.ReadOut.{SourceView}
 use Rattle.runs.specs.Readings.{AreRead, IsStreamOf}
 use Rattle.runs.specs.Streams.{Stream, tellings, IsTold, JudgesStream, StandsOnStreams, TermsValue, setting_of}
+use Rattle.run_laws.specs.GroupLaws.{EarlyIsDecided}
+use Rattle.portfolio.proofs.DroppingLemmas.{job_drops}
 use Rattle.portfolio.proofs.EmptyLemmas.{sound}
 
 -- ---- the layout
@@ -66,7 +69,7 @@ opened_from store f s (p ∷ ps) each =
     )
 
 -- each stream's pass stands at its place
-pub are_opened : (store : StoreValue) (f : Cnf) (p : LayoutValue) (ps : List PassValue) → length ps ≡ p.streams
+are_opened : (store : StoreValue) (f : Cnf) (p : LayoutValue) (ps : List PassValue) → length ps ≡ p.streams
     → ((s : ℕ) (pass : PassValue) → IsStream p s → slice_get ps (s - 1) ≡ Some pass → IsOpened store f s pass) → AreOpened store f 1 ps
 are_opened store f p ps count each = opened_from store f 1 ps (λ k pass at.
     let within : k < length ps = slice_get_within ps k pass at in
@@ -144,7 +147,7 @@ module _ {S : Type 0} (view : SourceView S) where
   AreReady store f terms s (e ∷ es) (j ∷ js) = IsReady store f terms s e j × AreReady store f terms (s + 1) es js
   AreReady store f terms s _ _ = ⊥
 
-  pub are_ready : (store : StoreValue) (f : Cnf) (terms : TermsValue) (s : ℕ) (firsts : List S) (ps : List PassValue) (js : List (JobsValue S))
+  are_ready : (store : StoreValue) (f : Cnf) (terms : TermsValue) (s : ℕ) (firsts : List S) (ps : List PassValue) (js : List (JobsValue S))
       → AreJobs terms s firsts ps js → AreOpened store f s ps → AreReady store f terms s firsts js
   are_ready store f terms s [] [] [] all opened = tt
   are_ready store f terms s [] [] (j ∷ js) all opened = absurd all
@@ -155,6 +158,15 @@ module _ {S : Type 0} (view : SourceView S) where
     record { reader_is = all.0.reader_is; checker = all.0.checker; opened = subst (IsOpened store f s) (sym all.0.pass) opened.0 },
     are_ready store f terms (s + 1) es ps js all.1 opened.1,
   )
+
+  -- the same of a run's jobs, at the passes that its store has opened
+  pub run_ready : {store : StoreValue} {f : Cnf} {terms made : TermsValue} {n : ℕ} (firsts : List S) (passes : List PassValue) (js : List (JobsValue S))
+      → n ≡ length passes → n ≡ terms.layout.streams
+      → ((s : ℕ) (pass : PassValue) → IsStream terms.layout s → slice_get passes (s - 1) ≡ Some pass → IsOpened store f s pass)
+      → made ≡ terms → AreJobs made 1 firsts passes js → AreReady store f terms 1 firsts js
+  run_ready {store = store} {f = f} {terms = terms} firsts passes js are count opened same jobs =
+      are_ready store f terms 1 firsts passes js (subst (λ (t : TermsValue). AreJobs t 1 firsts passes js) same jobs)
+      (are_opened store f terms.layout passes (sym are ∙ count) opened)
 
   -- the first byte may be taken where nothing was called yet
   ready_can : (f : Cnf) (terms : TermsValue) (store : StoreValue) (s : ℕ) (first : S) (j : JobsValue S)
@@ -292,56 +304,60 @@ module _ {S : Type 0} (view : SourceView S) where
 
   -- ---- the reports
 
-  -- The streams that the readers told, and that their reads gave, by which the reports hold.
+  -- The streams that the readers told, and that their reads gave, by which the reports and the dropped identities hold.
   pub record Judged (terms : TermsValue) (s : ℕ) (firsts : List S) (fs : List (FoundValue S)) (vs : List View) : Type 0 where
     pub streams : List Stream
     pub out : AllByRecursion (λ stream. IsSome stream.end) streams
     pub told : AllZip IsTold (tellings view firsts (map (λ x. x.reader) fs)) streams
     pub judged : AreJudgedBy terms s streams vs (map (λ x. x.report) fs)
     pub read : AreRead S view.reads firsts (map (λ x. x.reader) fs) streams
+    pub dropped : HaveDropped terms s streams (map (λ x. x.report) fs) (map (λ x. x.dropped.ids) fs)
 
-  pub judged_by : (f : Cnf) (terms : TermsValue) (store : StoreValue) → store.layout ≡ terms.layout
+  pub judged_by : EarlyIsDecided → (f : Cnf) (terms : TermsValue) (store : StoreValue) → store.layout ≡ terms.layout
       → (s : ℕ) (firsts : List S) (js : List (JobsValue S)) (fs : List (FoundValue S)) (vs : List View)
       → AreReady store f terms s firsts js → AllFinish view js fs → AreMet (views (map (λ x. x.pass) fs)) vs → Judged terms s firsts fs vs
-  judged_by f terms store same s [] [] [] [] ready all met = record { streams = []; out = tt; told = tt; judged = tt; read = tt }
-  judged_by f terms store same s [] [] [] (v ∷ vs) ready all met = absurd met
-  judged_by f terms store same s [] [] (x ∷ fs) vs ready all met = absurd all
-  judged_by f terms store same s [] (j ∷ js) fs vs ready all met = absurd ready
-  judged_by f terms store same s (e ∷ es) [] fs vs ready all met = absurd ready
-  judged_by f terms store same s (e ∷ es) (j ∷ js) [] vs ready all met = absurd all
-  judged_by f terms store same s (e ∷ es) (j ∷ js) (x ∷ fs) [] ready all met = absurd met
-  judged_by f terms store same s (e ∷ es) (j ∷ js) (x ∷ fs) (v ∷ vs) ready all met =
+  judged_by law f terms store same s [] [] [] [] ready all met = record { streams = []; out = tt; told = tt; judged = tt; read = tt; dropped = tt }
+  judged_by law f terms store same s [] [] [] (v ∷ vs) ready all met = absurd met
+  judged_by law f terms store same s [] [] (x ∷ fs) vs ready all met = absurd all
+  judged_by law f terms store same s [] (j ∷ js) fs vs ready all met = absurd ready
+  judged_by law f terms store same s (e ∷ es) [] fs vs ready all met = absurd ready
+  judged_by law f terms store same s (e ∷ es) (j ∷ js) [] vs ready all met = absurd all
+  judged_by law f terms store same s (e ∷ es) (j ∷ js) (x ∷ fs) [] ready all met = absurd met
+  judged_by law f terms store same s (e ∷ es) (j ∷ js) (x ∷ fs) (v ∷ vs) ready all met =
       let here = ready.0 in
       let fresh = subst (λ (n : ℕ). Leaves j.checker.setting [] [] (checker_state j.checker n)) (opened_room f terms.layout store s j.pass same here.opened) here.checker.left in
       let one = all.0.judged fresh in
       let of = subst (λ (r : S). IsStreamOf view r x.reader one.0) here.reader_is one.2 in
       let calls = (ends f terms.layout store s j x v same here.opened all.0 met.0 met.1).mine in
       let judged = subst (λ (c : Setting). JudgesStream c one.0 all.0.blocks x.report) here.checker.setting one.3 in
-      let more = judged_by f terms store same (s + 1) es js fs vs ready.1 all.1 met.2 in
+      let dropped = subst (λ (c : Setting). HasDropped c one.0.bytes x.report x.dropped.ids) here.checker.setting
+      (job_drops law j.checker (pass_place j.pass.view).room one.0.bytes all.0.blocks x.report x.dropped.ids fresh one.4) in
+      let more = judged_by law f terms store same (s + 1) es js fs vs ready.1 all.1 met.2 in
       record {
         streams = one.0 ∷ more.streams;
         out = (one.1, more.out);
         told = (of.0, more.told);
         judged = ((all.0.blocks, calls, judged), more.judged);
         read = (of.1, more.read);
+        dropped = (dropped, more.dropped);
       }
 
   -- Of the first streams alone, whose passes have met: one legal history has the events by which each is judged.
-  pub were_judged : (f : Cnf) (terms : TermsValue) (store : StoreValue) → store.layout ≡ terms.layout
+  pub were_judged : EarlyIsDecided → (f : Cnf) (terms : TermsValue) (store : StoreValue) → store.layout ≡ terms.layout
       → (firsts : List S) (js : List (JobsValue S)) (fs : List (FoundValue S)) (vs : List View)
       → AreReady store f terms 1 firsts js → AllFinish view js fs → AreMet (views (map (λ x. x.pass) fs)) vs → HaveMet vs → WereJudged view f terms firsts
-  were_judged f terms store same [] [] [] vs ready all met one = record {
+  were_judged law f terms store same [] [] [] vs ready all met one = record {
     history = [];
     legal = record { events = tt; room = λ s. omega arith };
     lasts = [];
     reports = [];
     judged = record { streams = []; are_told = tt; judged = (tt, tt, tt) };
   }
-  were_judged f terms store same [] [] (x ∷ fs) vs ready all met one = absurd all
-  were_judged f terms store same [] (j ∷ js) fs vs ready all met one = absurd ready
-  were_judged f terms store same (e ∷ es) [] fs vs ready all met one = absurd ready
-  were_judged f terms store same (e ∷ es) (j ∷ js) fs vs ready all met one =
-      let so = judged_by f terms store same 1 (e ∷ es) (j ∷ js) fs vs ready all met in
+  were_judged law f terms store same [] [] (x ∷ fs) vs ready all met one = absurd all
+  were_judged law f terms store same [] (j ∷ js) fs vs ready all met one = absurd ready
+  were_judged law f terms store same (e ∷ es) [] fs vs ready all met one = absurd ready
+  were_judged law f terms store same (e ∷ es) (j ∷ js) fs vs ready all met one =
+      let so = judged_by law f terms store same 1 (e ∷ es) (j ∷ js) fs vs ready all met in
       let calls = have_calls f terms store one.0 same 1 (e ∷ es) (j ∷ js) fs vs ready all met one.1 in
       record {
         history = one.0;
@@ -356,12 +372,13 @@ module _ {S : Type 0} (view : SourceView S) where
       }
 
   -- the same in the words of the lists that are given back, and of the one history
-  pub judged_so : (f : Cnf) (terms wanted : TermsValue) (firsts lasts : List S) (reports : List Report) (fs : List (FoundValue S)) (vs : List View)
+  pub judged_so : (f : Cnf) (terms wanted : TermsValue) (firsts lasts : List S) (reports : List Report) (dropped : List (List ℕ)) (fs : List (FoundValue S)) (vs : List View)
       → Judged terms 1 firsts fs vs → terms ≡ wanted → HaveOneHistory f wanted.layout (seen_by vs) vs
-      → lasts ≡ map (λ x. x.reader) fs → reports ≡ map (λ x. x.report) fs
+      → lasts ≡ map (λ x. x.reader) fs → reports ≡ map (λ x. x.report) fs → dropped ≡ map (λ x. x.dropped.ids) fs
       → StandsOnStreams (tellings view firsts lasts)
-      (λ streams. AllByRecursion (λ stream. IsSome stream.end) streams × AreJudgedIn wanted (λ s. true) (seen_by vs) 1 streams reports × AreRead S view.reads firsts lasts streams)
-  judged_so f terms wanted firsts lasts reports fs vs j same one readers said =
+      (λ streams. AllByRecursion (λ stream. IsSome stream.end) streams × AreJudgedIn wanted (λ s. true) (seen_by vs) 1 streams reports × AreRead S view.reads firsts lasts streams
+      × HaveDropped wanted 1 streams reports dropped)
+  judged_so f terms wanted firsts lasts reports dropped fs vs j same one readers said gone =
       let judged : AreJudgedBy wanted 1 j.streams vs (map (λ x. x.report) fs) =
       subst (λ (t : TermsValue). AreJudgedBy t 1 j.streams vs (map (λ x. x.report) fs)) same j.judged in
       record {
@@ -371,6 +388,7 @@ module _ {S : Type 0} (view : SourceView S) where
           j.out,
           rw said (judged_in wanted (seen_by vs) 1 j.streams vs (map (λ x. x.report) fs) judged (mine_at f wanted.layout vs one)),
           subst (λ (ls : List S). AreRead S view.reads firsts ls j.streams) (sym readers) j.read,
+          rw gone (rw said (subst (λ (t : TermsValue). HaveDropped t 1 j.streams (map (λ x. x.report) fs) (map (λ x. x.dropped.ids) fs)) same j.dropped)),
         );
       }
 

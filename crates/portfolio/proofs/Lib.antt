@@ -1,5 +1,6 @@
 pub mod EmptyLemmas
 pub mod CubeLemmas
+pub mod DroppingLemmas
 pub mod HeadlineLemmas
 pub mod JoiningLemmas
 pub mod ReportLines

@@ -26,6 +26,9 @@ use Rattle.stream_check.specs.Laws.{ReadyBeside}
 use Rattle.portfolio.proofs.EmptyLemmas.{sound_in_order}
 use Rattle.portfolio.proofs.RoundLemmas.{tagged, within-tagged, events_more, blocks_more, blocks_beside, round_opened, round_turned, round_passed, round_over}
 use Rattle.portfolio.proofs.WorkingLemmas.{not_over}
+use Rattle.portfolio.proofs.DroppingLemmas.{read_drops}
+use Rattle.portfolio.specs.Dropping.{AreDroppedBy, HaveDropped}
+use Rattle.run_laws.specs.GroupLaws.{EarlyIsDecided}
 use Rattle.portfolio.specs.Outcomes.{OptionsValue, layout_of}
 use Rattle.lrup_text.specs.ReadOut.{SourceView}
 use Rattle.runs.specs.Readings.{AreRead, IsStreamOf}
@@ -333,30 +336,36 @@ module _ {S : Type 0} (view : SourceView S) where
   -- a worker that is over tells of its stream
   told_over : (o : Option Ending) (ending : Ending) (first : S) (w : WorkerValue S) (free : ℕ) (blocks : List History) → o ≡ Some ending → WorksBy view o first w free blocks
       → (stream : Stream) × IsStreamOf view first w.reader stream × JudgesStream w.checker.setting stream blocks (report_of_tally w.checker.tally ending)
+      × (IsSome stream.end → AreDroppedBy w.checker.setting stream.bytes w.checker.dropped)
   told_over o ending first w free blocks is works = let at : WorksBy view (Some ending) first w free blocks = subst (λ e. WorksBy view e first w free blocks) is works in at
 
-  -- each stream is what its reader told, and is judged by its blocks
-  pub streams_over : (terms : TermsValue) (blocks : List Block) (m : Plain) (k : ℕ) (firsts : List S) (ws : List (WorkerValue S)) (reports : List Report)
+  -- each stream is what its reader told, is judged by its blocks, and has dropped what its lines drop
+  pub streams_over : EarlyIsDecided → (terms : TermsValue) (blocks : List Block) (m : Plain) (k : ℕ) (firsts : List S) (ws : List (WorkerValue S)) (reports : List Report)
       → AreWorking view terms blocks m k firsts ws → HaveReports ws reports
       → (streams : List Stream) × AllZip IsTold (tellings view firsts (map (λ w. w.reader) ws)) streams × AreRead S view.reads firsts (map (λ w. w.reader) ws) streams × AreJudged terms (λ s. true) (λ s events. events ≡ blocks_of s blocks) k streams reports
-  streams_over terms blocks m k [] [] [] working have = ([], tt, tt, tt)
-  streams_over terms blocks m k [] [] (r ∷ reports) working have = absurd have
-  streams_over terms blocks m k [] (w ∷ ws) reports working have = absurd working
-  streams_over terms blocks m k (first ∷ firsts) [] reports working have = absurd working
-  streams_over terms blocks m k (first ∷ firsts) (w ∷ ws) [] working have = absurd have
-  streams_over terms blocks m k (first ∷ firsts) (w ∷ ws) (r ∷ reports) working have =
-      let others = streams_over terms blocks m (k + 1) firsts ws reports working.1 have.1 in
+      × HaveDropped terms k streams reports (map (λ w. w.checker.dropped) ws)
+  streams_over law terms blocks m k [] [] [] working have = ([], tt, tt, tt, tt)
+  streams_over law terms blocks m k [] [] (r ∷ reports) working have = absurd have
+  streams_over law terms blocks m k [] (w ∷ ws) reports working have = absurd working
+  streams_over law terms blocks m k (first ∷ firsts) [] reports working have = absurd working
+  streams_over law terms blocks m k (first ∷ firsts) (w ∷ ws) [] working have = absurd have
+  streams_over law terms blocks m k (first ∷ firsts) (w ∷ ws) (r ∷ reports) working have =
+      let others = streams_over law terms blocks m (k + 1) firsts ws reports working.1 have.1 in
       let told = told_over w.checker.ending have.0.0 first w (free_at m k) (blocks_of k blocks) have.0.1 working.0.works in
       let judged : JudgesStream (setting_of terms k) told.0 (blocks_of k blocks) r =
       subst (λ (c : Setting). JudgesStream c told.0 (blocks_of k blocks) r) working.0.setting
       (subst (λ (x : Report). JudgesStream w.checker.setting told.0 (blocks_of k blocks) x) (sym have.0.2) told.2) in
-      (told.0 ∷ others.0, (told.1.0, others.1), (told.1.1, others.2), (λ all. (blocks_of k blocks, refl, judged), others.3))
+      let drops : IsSome told.0.end → AreDroppedBy (setting_of terms k) told.0.bytes w.checker.dropped =
+      subst (λ (c : Setting). IsSome told.0.end → AreDroppedBy c told.0.bytes w.checker.dropped) working.0.setting told.3 in
+      let dropped = read_drops law (setting_of terms k) told.0 (blocks_of k blocks) r w.checker.dropped judged drops in
+      (told.0 ∷ others.0, (told.1.0, others.1), (told.1.1, others.2), (λ all. (blocks_of k blocks, refl, judged), others.3), (dropped, others.4))
 
   -- the reports have an order of lines, by turns
-  pub ordered_over : (f : Cnf) (terms : TermsValue) (firsts : List S) (m : Plain) (ws : List (WorkerValue S)) (reports : List Report) → Runs view f terms firsts 0 m ws → HaveReports ws reports
+  pub ordered_over : EarlyIsDecided → (f : Cnf) (terms : TermsValue) (firsts : List S) (m : Plain) (ws : List (WorkerValue S)) (reports : List Report) → Runs view f terms firsts 0 m ws → HaveReports ws reports
       → (streams : List Stream) × AllZip IsTold (tellings view firsts (map (λ w. w.reader) ws)) streams × AreRead S view.reads firsts (map (λ w. w.reader) ws) streams × IsOrderedByTurns f terms streams reports
-  ordered_over f terms firsts m ws reports runs have =
-      let streams = streams_over terms runs.blocks m 1 firsts ws reports runs.workers_are have in (
+      × HaveDropped terms 1 streams reports (map (λ w. w.checker.dropped) ws)
+  ordered_over law f terms firsts m ws reports runs have =
+      let streams = streams_over law terms runs.blocks m 1 firsts ws reports runs.workers_are have in (
         streams.0,
         streams.1,
         streams.2,
@@ -369,6 +378,7 @@ module _ {S : Type 0} (view : SourceView S) where
           };
           turns = runs.in_round.turns;
         },
+        streams.4,
       )
 
 -- where one of the reports says 'empty', no assignment makes every clause of the formula true
@@ -388,21 +398,22 @@ pub sound_over : (f : Cnf) (terms : TermsValue) (streams : List Stream) (reports
 sound_over f terms streams reports ordered some = sound_among f terms ordered.blocks 1 streams reports ordered.legal ordered.judged some
 
 -- the whole run: opened, gone on with, and over
-pub run_ordered : {S : Type 0} (view : SourceView S) (f : Cnf) (terms wanted : TermsValue) (firsts lasts : List S) (m n : Plain) (us vs ws xs : List (WorkerValue S)) (reports : List Report)
+pub run_ordered : {S : Type 0} (law : EarlyIsDecided) (view : SourceView S) (f : Cnf) (terms wanted : TermsValue) (firsts lasts : List S) (m n : Plain) (us vs ws xs : List (WorkerValue S)) (reports : List Report) (dropped : List (List ℕ))
     → IsOpened f terms.layout m → terms ≡ wanted → length firsts ≡ terms.layout.streams → AreStarted view terms 1 firsts us
-    → vs ≡ us → GoesOn view 0 m vs 0 n ws → xs ≡ ws → HaveReports xs reports → lasts ≡ map (λ w. w.reader) xs
+    → vs ≡ us → GoesOn view 0 m vs 0 n ws → xs ≡ ws → HaveReports xs reports → lasts ≡ map (λ w. w.reader) xs → dropped ≡ map (λ w. w.checker.dropped) xs
     → StandsOnStreams (tellings view firsts lasts)
-    (λ streams. IsOrderedByTurns f wanted streams reports × AreRead S view.reads firsts lasts streams)
-run_ordered {S} view f terms wanted firsts lasts m n us vs ws xs reports opened same count started same_start goes same_end have readers =
+    (λ streams. IsOrderedByTurns f wanted streams reports × AreRead S view.reads firsts lasts streams × HaveDropped wanted 1 streams reports dropped)
+run_ordered {S} law view f terms wanted firsts lasts m n us vs ws xs reports dropped opened same count started same_start goes same_end have readers gone =
     let begun : Runs view f terms firsts 0 m vs = subst (Runs view f terms firsts 0 m) (sym same_start) (runs_opened view f terms m opened firsts us count started) in
     let ended : Runs view f terms firsts 0 n xs = subst (Runs view f terms firsts 0 n) (sym same_end) (goes f terms firsts begun) in
-    let ordered = ordered_over view f terms firsts n xs reports ended have in
+    let ordered = ordered_over view law f terms firsts n xs reports ended have in
     record {
       streams = ordered.0;
       are_told = subst (λ (ls : List S). AllZip IsTold (tellings view firsts ls) ordered.0) (sym readers) ordered.1;
       judged = (
         subst (λ (t : TermsValue). IsOrderedByTurns f t ordered.0 reports) same ordered.3,
         subst (λ (ls : List S). AreRead S view.reads firsts ls ordered.0) (sym readers) ordered.2,
+        subst (λ (t : TermsValue). HaveDropped t 1 ordered.0 reports dropped) same (subst (HaveDropped terms 1 ordered.0 reports) (sym gone) ordered.4),
       );
     }
 

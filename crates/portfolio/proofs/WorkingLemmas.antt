@@ -14,13 +14,14 @@ use Rattle.stream_check.specs.Setting.{Setting}
 use Rattle.stream_check.specs.Judging.{JudgesBlocks}
 use Rattle.stream_check.specs.declared.progress.CheckTurn.{CheckTurn}
 use Rattle.stream_check.specs.declared.progress.CheckTurn.TheVariants as turns
-use Rattle.stream_check.specs.Leaving.{Leaves}
+use Rattle.stream_check.specs.Leaving.{Leaves, LeavesGoing}
 use Rattle.stream_check.specs.CheckerValue.{report_of_tally, CheckerValue}
-use Rattle.stream_check.specs.Checker.{AreBlocksOf, state_by, checker_state, LeavesOn, EndsBy, Ends, ReportsEnd}
+use Rattle.stream_check.specs.Checker.{AreBlocksOf, holding_of, state_by, checker_state, LeavesOn, EndsBy, Ends, ReportsEnd}
 use Rattle.lrup_text.specs.ReadLemmas.{gave_more}
 use Rattle.lrup_text.specs.ReadOut.{EndsSo, IsLastRead, SourceView}
 use Rattle.lrup_text.specs.Reads.{Gave}
 use Rattle.runs.specs.StreamLemmas.{judged_out}
+use Rattle.portfolio.specs.Dropping.{AreDroppedBy}
 use Rattle.portfolio.specs.Working.{AreBlocksOfTurn, WorkerValue, WorksBy, Works, WorksOn}
 
 -- ---- going on
@@ -35,7 +36,7 @@ not_over over ending is going = none_of ending (λ some. let yes : over ≡ true
 
 -- ---- what is judged so for both ends is judged so for each
 
-either_end : (c : Setting) (bytes : List ℕ) (blocks : List History) (report : Report) (end : StreamEnd)
+pub either_end : (c : Setting) (bytes : List ℕ) (blocks : List History) (report : Report) (end : StreamEnd)
     → JudgesBlocks c bytes stream_ends.Ended blocks report → JudgesBlocks c bytes stream_ends.Failed blocks report → JudgesBlocks c bytes end blocks report
 either_end c bytes blocks report stream_ends.Ended at_end at_failure = at_end
 either_end c bytes blocks report stream_ends.Failed at_end at_failure = at_failure
@@ -53,6 +54,15 @@ turn_blocks turns.Over (Some ending) blocks ends over are = are
 pub over_without : (ending : Option Ending) → IsSome ending → AreBlocksOfTurn ending []
 over_without None over = absurd (let none : false ≡ true = over in cc)
 over_without (Some ending) over = omega arith
+
+-- ---- what is dropped
+
+-- what a checker that isn't over has dropped, its lines drop
+pub going_drops : (c : Setting) (v : CheckerValue) (room : ℕ) (bytes : List ℕ) (blocks : List History)
+    → v.ending ≡ None → Leaves c bytes blocks (checker_state v room) → AreDroppedBy c bytes v.dropped
+going_drops c v room bytes blocks going leaves =
+    let left : LeavesGoing c bytes blocks (holding_of v room) = subst (λ (e : Option Ending). Leaves c bytes blocks (state_by v room e)) going leaves in
+    record { lines = left.lines; rest = v.pending; cut = left.cut; are = left.standing.gone }
 
 -- ---- a worker's steps
 
@@ -94,7 +104,9 @@ module _ {S : Type 0} (view : SourceView S) where
       let all : here.0 ++ unread ≡ here.0 = ap (λ (t : List ℕ). here.0 ++ t) none ∙ append-nil here.0 in
       let given : Consumes (view.left first) (view.left old) here.0 = subst (Consumes (view.left first) (view.left old)) all here.1 in
       let gave : Gave S view.reads first here.0 old = subst (λ (t : List ℕ). Gave S view.reads first t old) all here.2 in
-      let same : u.setting ≡ v.setting = (subst (λ e. EndsBy e end v u) going ends).0 in
+      let ended : EndsBy None end v u = subst (λ e. EndsBy e end v u) going ends in
+      let same : u.setting ≡ v.setting = ended.0 in
+      let drops : AreDroppedBy v.setting here.0 v.dropped = going_drops v.setting v room here.0 before going here.3 in
       let judged = reports here.0 before room here.3 in
       let report = report_of_tally u.tally judged.0 in
       subst (λ e. WorksBy view e first (worker_of new rest u) room (before ++ [])) (sym judged.1)
@@ -110,6 +122,7 @@ module _ {S : Type 0} (view : SourceView S) where
         ),
         judged_out u.setting here.0 [] end before report
             (subst (λ (c : Setting). JudgesBlocks c here.0 end before report) (sym same) judged.2),
+        λ out. subst (λ (c : Setting). AreDroppedBy c here.0 u.dropped) (sym same) (subst (AreDroppedBy v.setting here.0) (sym ended.4) drops),
       ))
 
   -- the bytes so far left the checker so, and it is over or not
@@ -123,6 +136,7 @@ module _ {S : Type 0} (view : SourceView S) where
     record { bytes = bytes; unneeded = rest; end = None },
     (record { consumes = given; ends = running; needed = λ out. absurd (let no : false ≡ true = out in cc) }, gave),
     λ end may. either_end v.setting bytes blocks (report_of_tally v.tally ending) end leaves.0 leaves.1,
+    λ out. absurd (let no : false ≡ true = out in cc),
   )
 
   -- what the checker took of the bytes that were read

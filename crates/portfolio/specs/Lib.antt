@@ -3,3 +3,4 @@ pub mod ReportText
 pub mod Turns
 pub mod Working
 pub mod Saving
+pub mod Dropping

@@ -1,5 +1,5 @@
 -- One stream at work: its reader, its checker, and what was read and isn't checked yet (this project's own).
-use Rattle.std.specs.Prelude.{◌≡◌, ◌≤◌, ◌<◌, ◌++◌, ℕ, Bool, false, List, [], length, Option, None, Some}
+use Rattle.std.specs.Prelude.{◌≡◌, ◌≤◌, ◌<◌, ◌++◌, ℕ, Bool, false, List, [], length, Option, None, Some, IsSome}
 use Rattle.std.specs.Io.KnownBytes.{Consumes}
 use Rattle.lrup_model.specs.Event.{History}
 use Rattle.stream_check.specs.declared.report.Ending.{Ending}
@@ -10,6 +10,7 @@ use Rattle.lrup_text.specs.ReadOut.{SourceView}
 use Rattle.lrup_text.specs.Reads.{Gave}
 use Rattle.runs.specs.Readings.{IsStreamOf}
 use Rattle.runs.specs.Streams.{Stream, JudgesStream, TermsValue, setting_of}
+use Rattle.portfolio.specs.Dropping.{AreDroppedBy}
 
 -- the reader, the bytes read and not checked yet, and the checker
 pub record WorkerValue (S : Type 0) : Type 0 where
@@ -26,9 +27,11 @@ WorksBy {S} view None first w free blocks =
 WorksBy {S} view (Some ending) first w free blocks =
     (stream : Stream) × IsStreamOf view first w.reader stream
     × JudgesStream w.checker.setting stream blocks (report_of_tally w.checker.tally ending)
+    × (IsSome stream.end → AreDroppedBy w.checker.setting stream.bytes w.checker.dropped)
 
 -- What the worker's stream has come to by these blocks of events, where its reader was the first before any read and so much room
--- is left now: the bytes checked so far leave the checker as it is, or the stream is judged as the checker's report says.
+-- is left now: the bytes checked so far leave the checker as it is; or the stream is judged as the checker's report says, and where it
+-- was read to its end, its lines drop what the checker dropped.
 abbrev pub Works : {S : Type 0} → SourceView S → S → WorkerValue S → ℕ → List History → Type 0
 Works view first w free blocks = WorksBy view w.checker.ending first w free blocks
 

@@ -1,6 +1,7 @@
-//! What a run is asked for.
+//! The options of a run.
 ghost use Rattle.std.specs.Prelude.{◌≡◌, ◌≤◌, ◌<◌, ◌↔◌, IsNone, IfSome, IfOk, IfErr};
 ghost use Rattle.lrup_model.specs.Layout.{IsLayout, IsFault, Fits};
+ghost use Rattle.lrup_model.specs.declared.layout.LayoutFault.{LayoutFault};
 ghost use Rattle.portfolio.specs.Outcomes.{layout_of};
 ghost use Rattle.stream_check.specs.Setting.{max_tries};
 
@@ -34,7 +35,7 @@ impl Options {
     /// The greatest number of tries.
     pub const MAX_TRIES: u64 = Checker::MAX_TRIES;
 
-    /// So many tries of a vacant hint after the first, and for each stream so many identities and room for so many literals.
+    /// A vacant hint is fetched again up to `tries` times, and each stream has `lines` identities and room for `room` literals.
     /// None exactly where there are more than 1,000,000 tries.
     pub fn new(tries: u64, lines: u64, room: u64) -> Option<Options>
         ensures none { IsNone result ↔ (max_tries < tries) }
@@ -55,7 +56,19 @@ impl Options {
         self.tries
     }
 
-    /// The layout of a formula and so many streams.
+    /// Whether there is a layout of a formula and `streams` streams.
+    pub fn check_layout(&self, formula: &Formula, streams: usize) -> Result<(), LayoutFault>
+        ensures none { IfOk result (λ _. (fault : LayoutFault)
+            → IsFault (layout_of self.now formula.now streams) fault → ⊥) }
+        ensures fault { IfErr result (IsFault (layout_of self.now formula.now streams)) }
+    {
+        match self.layout(formula, streams) {
+            Ok(_) => Ok(()),
+            Err(fault) => Err(fault),
+        }
+    }
+
+    /// The layout of a formula and `streams` streams.
     pub(crate) fn layout(&self, formula: &Formula, streams: usize) -> Result<Layout, LayoutFault>
         ensures layout { IfOk result (λ layout. (layout ≡ layout_of self.now formula.now streams)
             × IsLayout layout × Fits layout formula.now) }

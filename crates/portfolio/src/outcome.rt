@@ -1,4 +1,4 @@
-//! What a run says in the end.
+//! The outcome of a run.
 ghost use Rattle.std.specs.Prelude.{◌≡◌};
 ghost use Rattle.portfolio.specs.Outcomes.{verdict_of};
 
@@ -47,7 +47,7 @@ pub enum RunFault {
     /// A thread of this stream, from 1 on, couldn't be started. No stream was read.
     #[error("worker {0} not started")]
     Spawn(u64),
-    /// The thread that checks this stream, the first such one from 1 on, met no end of what its reading thread sent.
+    /// The thread that checks this stream, the first such one from 1 on, found its reading thread gone before the mark.
     #[error("ring of stream {0}")]
     Ring(u64),
 }
@@ -75,9 +75,9 @@ impl From<AllocError> for RunFault {
 /// What a run on one thread found.
 #[derive(Drop)]
 pub struct SerialOutcome<R: Drop> {
-    /// What is said of each stream, in order.
+    /// The report of each stream, in order.
     pub reports: Vec<Report>,
-    /// What the reports come to.
+    /// The verdict of the reports.
     pub verdict: Verdict,
     /// The map of all clauses.
     pub map: PlainMap,
@@ -90,9 +90,9 @@ pub struct SerialOutcome<R: Drop> {
 /// What a run with threads found.
 #[derive(Drop)]
 pub struct Outcome<R: Drop> {
-    /// What is said of each stream, in order.
+    /// The report of each stream, in order.
     pub reports: Vec<Report>,
-    /// What the reports come to.
+    /// The verdict of the reports.
     pub verdict: Verdict,
     /// The streams' passes, in order. All have seen the one history.
     pub passes: Vec<Pass>,

@@ -39,7 +39,7 @@ fn verdict_text(verdict: Verdict) -> &'static [u8]
     }
 }
 
-/// Puts what is said of a stream, after some words.
+/// Puts a stream's report, after some words.
 fn put_stream<W: Sink>(
     buffer: &mut WriteBuffer,
     words: &[u8],
@@ -60,7 +60,7 @@ fn put_stream<W: Sink>(
     buffer.put(b"\n", sink)
 }
 
-/// Writes how a stream is judged that is over, by one write where the sink takes all.
+/// Writes how a stream that is over is judged, by one write where the sink takes all.
 pub fn write_over<W: Sink>(stream: u64, report: &Report, sink: &mut W) -> Result<(), WriteFault>
     requires { W.has_failed sink.old ≡ false }
     ensures text { WritesText result (W.written sink.old) (W.written sink.new)

@@ -1,4 +1,4 @@
-//! What is live after a run, saved.
+//! Saves what is live after a run.
 ghost use Rattle.std.specs.Prelude.{◌≡◌, ◌↔◌, ◌<◌, Err, IfOk, IsTrue, List, ℕ, false, vec_len};
 ghost use Rattle.std.specs.Io.KnownBytes.{Appends};
 ghost use Rattle.lrup_model.specs.Event.{History, Reply};

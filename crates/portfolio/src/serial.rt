@@ -10,6 +10,7 @@ ghost use Rattle.lrup_model.specs.Plain.{PlainMoves, formula_of, free_at, plain_
 ghost use Rattle.stream_check.specs.Checker.{IsReadyAt};
 ghost use Rattle.stream_check.specs.Judging.{joined};
 ghost use Rattle.run_laws.specs.Groups.{AreIsolated, HaveReportsAlone};
+ghost use Rattle.portfolio.specs.Dropping.{HaveDropped};
 ghost use Rattle.portfolio.specs.Outcomes.{layout_of, terms_of, verdict_of};
 ghost use Rattle.lrup_text.specs.ReadOut.{source_view};
 ghost use Rattle.runs.specs.Readings.{AreRead};
@@ -23,7 +24,7 @@ use crate::outcome::{RunFault, SerialOutcome, Verdict};
 use crate::worker::Worker;
 use lrup_model::{Cube, Formula, PlainMap};
 use lrup_text::Source;
-use run_laws::groups::{alone_has_one_report, serial_isolated};
+use run_laws::groups::{alone_has_one_report, early_is_decided, serial_isolated};
 use runs::Terms;
 use std::alloc::{AllocError, Global};
 use std::sync::Wait;
@@ -51,12 +52,15 @@ pub fn run_serial<W: Wait, R: Source + Drop, G: Gate + Drop>(
     ensures no_spawn { (stream : ℕ) → result ≢ Err (RunFault.Spawn stream) }
     ensures no_ring { (stream : ℕ) → result ≢ Err (RunFault.Ring stream) }
     // Each stream is what its reader told, and what the reader's reads gave, and the reports have an
-    // order of lines, which is by turns.
+    // order of lines, which is by turns. Where a report says that its stream ended, or that a read
+    // failed, the stream dropped just what its lines drop.
     ensures ordered { let terms = terms_of options cube.now formula.now (length readers.items) in
         IfOk result (λ outcome. StandsOnStreams
         (tellings (source_view R.left R.has_failed R.reads) readers.items outcome.readers.items)
         (λ streams. IsOrderedByTurns formula.now terms streams outcome.reports.items
-        × AreRead _ R.reads readers.items outcome.readers.items streams)) }
+        × AreRead _ R.reads readers.items outcome.readers.items streams
+        × HaveDropped terms 1 streams outcome.reports.items
+        (map (λ d. d.ids) outcome.dropped.items))) }
     // Groups of streams are isolated: the reports of a closed set of streams, where none tells that
     // memory ran out, are such as the set alone may have.
     ensures isolated { let terms = terms_of options cube.now formula.now (length readers.items) in
@@ -82,6 +86,7 @@ pub fn run_serial<W: Wait, R: Source + Drop, G: Gate + Drop>(
     ensures sound_under { IfOk result (λ outcome. outcome.verdict ≡ Verdict.UnsatisfiableUnder
         → IsUnsatisfiableUnder formula.now cube.now) }
 {
+    early_is_decided();
     serial_isolated();
     alone_has_one_report();
     let layout = options.layout(formula, readers.len())?;
@@ -196,7 +201,7 @@ fn turn_at_desk<W: Wait, R: Source + Drop, G: Gate + Drop>(
     worker.turn(wait, &mut map.desk(s));
 }
 
-/// What is said of the streams, which are over.
+/// The outcome of the streams, which are over.
 fn outcome_of<R: Source + Drop, G: Gate + Drop>(
     plain: PlainMap,
     workers: Vec<Worker<R, G>>,

@@ -10,6 +10,7 @@ ghost use Rattle.clause_store.specs.Passes.{AreOf, HaveMet, store_of, views};
 ghost use Rattle.lrup_text.specs.ReadOut.{source_view};
 ghost use Rattle.runs.specs.Readings.{AreRead};
 ghost use Rattle.runs.specs.Headline.{AreJudgedIn, HaveOneHistory, WereJudged, seen_by};
+ghost use Rattle.portfolio.specs.Dropping.{HaveDropped};
 ghost use Rattle.portfolio.specs.Outcomes.{layout_of, terms_of, verdict_of};
 ghost use Rattle.runs.specs.Streams.{StandsOnStreams, tellings};
 ghost use Rattle.run_laws.specs.Groups.{AreIsolated, HaveReportsAlone};
@@ -20,7 +21,7 @@ use crate::outcome::{Outcome, RunFault, Verdict};
 use clause_store::{Pass, Store};
 use lrup_model::{Cube, Formula, Layout};
 use lrup_text::Source;
-use run_laws::groups::{alone_has_one_report, run_isolated};
+use run_laws::groups::{alone_has_one_report, early_is_decided, run_isolated};
 use run_laws::orders::run_serializable;
 use runs::Terms;
 use std::alloc::{AllocError, Global};
@@ -62,14 +63,17 @@ pub fn run<T: Threads + Wait + Sync, R: Source + Send + Drop, G: Gate + Send + D
         HaveOneHistory formula.now (layout_of options formula.now (length readers.items))
         (seen_by passes) passes) }
     // Each stream is what its reader told, and what the reader's reads gave, to its end or to the read
-    // that failed, and its report is the judgement of its bytes and its events of that history.
+    // that failed, and its report is the judgement of its bytes and its events of that history. Where
+    // that says that it ended, or that a read failed, it dropped just what its lines drop.
     ensures reports { let terms = terms_of options cube.now formula.now (length readers.items) in
         IfOk result (λ outcome. StandsOnStreams
         (tellings (source_view R.left R.has_failed R.reads) readers.items outcome.readers.items)
         (λ streams. AllByRecursion (λ stream. IsSome stream.end) streams
         × AreJudgedIn terms (λ s. true) (seen_by (views outcome.passes.items)) 1
         streams outcome.reports.items
-        × AreRead _ R.reads readers.items outcome.readers.items streams)) }
+        × AreRead _ R.reads readers.items outcome.readers.items streams
+        × HaveDropped terms 1 streams outcome.reports.items
+        (map (λ d. d.ids) outcome.dropped.items))) }
     // Groups of streams are isolated: the reports of a closed set of streams, where none tells that
     // memory ran out, are such as the set alone may have.
     ensures isolated { let terms = terms_of options cube.now formula.now (length readers.items) in
@@ -104,6 +108,7 @@ pub fn run<T: Threads + Wait + Sync, R: Source + Send + Drop, G: Gate + Send + D
     ensures sound_under { IfOk result (λ outcome. outcome.verdict ≡ Verdict.UnsatisfiableUnder
         → IsUnsatisfiableUnder formula.now cube.now) }
 {
+    early_is_decided();
     run_isolated();
     alone_has_one_report();
     run_serializable();
@@ -129,7 +134,7 @@ pub fn run<T: Threads + Wait + Sync, R: Source + Send + Drop, G: Gate + Send + D
     }
 }
 
-/// Lists, still empty, of what a run gathers of its streams.
+/// Lists, still empty, for what a run gathers of its streams.
 #[derive(Drop)]
 struct Lists<R: Source + Drop, G: Gate + Drop> {
     room: Room<R, G>,
@@ -139,7 +144,7 @@ struct Lists<R: Source + Drop, G: Gate + Drop> {
     dropped: Vec<Dropped>,
 }
 
-/// Lists with room for so many streams.
+/// Lists with room for `count` streams.
 fn lists_for<R: Source + Drop, G: Gate + Drop>(
     alloc: Global,
     count: usize,
@@ -163,7 +168,7 @@ fn lists_for<R: Source + Drop, G: Gate + Drop>(
     })
 }
 
-/// What is said of the streams, whose threads have ended. All passes meet.
+/// The outcome of the streams, whose threads have ended. All passes meet.
 fn outcome_of<R: Source + Drop>(
     store: Store,
     layout: Layout,

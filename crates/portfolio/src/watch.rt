@@ -5,35 +5,35 @@ use lrup_text::Sink;
 use std::time::{Clock, Instant};
 use stream_check::{Gate, Report};
 
-/// The clock is looked at after so many publishes: a power of two, so that no division is made.
+/// How many publishes lie between two looks at the clock: a power of two, so that no division is made.
 const PUBLISHES: u64 = 64;
 
-/// It is looked at again after so many attempts of a hint, likewise.
+/// How many attempts of a hint lie between two looks, likewise.
 const ATTEMPTS: u64 = 1_024;
 
-/// How long a hint is looked up before it is told, in seconds.
+/// How long a hint is looked up before that is reported, in seconds.
 const WAIT: u64 = 1;
 
-/// How long a stream adds clauses before their count is told, in seconds.
+/// How long a stream adds clauses before their count is reported, in seconds.
 const INTERVAL: u64 = 10;
 
-/// Tells of one stream, on its sink, what goes on. A clock that fails leaves out the lines that want the time; after a write that
-/// fails nothing more is told.
-// What it does is cold: a run that isn't watched has a test in its place, and no more.
+/// Reports the progress of one stream on its sink. A clock that fails leaves out the lines that need the time; after a write that
+/// fails nothing more is reported.
+// Its methods are cold: a run that isn't watched has a test in their place, and no more.
 #[derive(Drop)]
 struct Teller<C: Clock + Drop, S: Sink + Drop> {
     clock: C,
     sink: S,
     /// How many clauses were published.
     added: u64,
-    /// When their count was told last, or the clock was looked at first.
+    /// When their count was reported last, or the clock was looked at first.
     counted: Option<Instant>,
-    /// When a hint was looked up again first. None where its waiting isn't told any more.
+    /// When a hint was first looked up again. None where its waiting isn't reported any more.
     asked: Option<Instant>,
 }
 
 impl<C: Clock + Drop, S: Sink + Drop> Teller<C, S> {
-    /// One that tells on the sink, if there is one.
+    /// One that reports on the sink, if there is a sink.
     fn over(clock: C, sink: Option<S>) -> Option<Teller<C, S>> {
         let sink = sink?;
         Some(Teller {
@@ -50,7 +50,7 @@ impl<C: Clock + Drop, S: Sink + Drop> Teller<C, S> {
         Instant::now(&self.clock).ok()
     }
 
-    /// Counts a clause, and tells at times how many there are.
+    /// Counts a clause, and reports at times how many there are.
     #[cold]
     #[inline(never)]
     fn count(&mut self, stream: u64) {
@@ -60,7 +60,7 @@ impl<C: Clock + Drop, S: Sink + Drop> Teller<C, S> {
         }
     }
 
-    /// Tells how many clauses the stream has added, where that is long ago.
+    /// Reports how many clauses the stream has added, where the last such report is long ago.
     fn tell_count(&mut self, stream: u64) {
         let Some(now) = self.now() else {
             return;
@@ -89,7 +89,7 @@ impl<C: Clock + Drop, S: Sink + Drop> Teller<C, S> {
         }
     }
 
-    /// Tells that the stream waits for an identity, where it has for long enough.
+    /// Reports that the stream waits for an identity, where it has waited for long enough.
     fn tell_wait(&mut self, stream: u64, id: Id) {
         let (Some(asked), Some(now)) = (self.asked, self.now()) else {
             return;
@@ -103,7 +103,7 @@ impl<C: Clock + Drop, S: Sink + Drop> Teller<C, S> {
         }
     }
 
-    /// Tells that the stream is over, and how it is judged.
+    /// Reports that the stream is over, and how it is judged.
     #[cold]
     #[inline(never)]
     fn tell_over(&mut self, stream: u64, report: &Report) {
@@ -113,10 +113,10 @@ impl<C: Clock + Drop, S: Sink + Drop> Teller<C, S> {
     }
 }
 
-/// A gate that tells on a sink, while a stream is checked, what goes on: that the stream is over, and how it is judged; that a hint
+/// A gate that reports progress on a sink while a stream is checked: that the stream is over, and how it is judged; that a hint
 /// has been looked up again for a second; and every ten seconds how many clauses were added, if there are more. For its waiting it
 /// holds another gate. Without a sink it is that gate: so a run has one type of gate, watched or not, and its checkers are compiled
-/// once, with what they call in place.
+/// once, with what they call inlined.
 #[derive(Drop)]
 pub struct Watch<G: Gate + Drop, C: Clock + Drop, S: Sink + Drop> {
     gate: G,
@@ -124,7 +124,7 @@ pub struct Watch<G: Gate + Drop, C: Clock + Drop, S: Sink + Drop> {
 }
 
 impl<G: Gate + Drop, C: Clock + Drop, S: Sink + Drop> Watch<G, C, S> {
-    /// The gate of one stream, before its first line. Without a sink nothing is told.
+    /// The gate of one stream, before its first line. Without a sink nothing is reported.
     pub fn new(gate: G, clock: C, sink: Option<S>) -> Watch<G, C, S> {
         Watch {
             gate,
@@ -160,15 +160,15 @@ impl<G: Gate + Drop, C: Clock + Drop, S: Sink + Drop> Gate for Watch<G, C, S> {
     }
 }
 
-/// The gate of a stream that is checked by turns, and never waits, since no other stream publishes meanwhile. It tells likewise, but
-/// for the waits. A call before each fetch would cost each hint some instructions.
+/// The gate of a stream that is checked by turns, and never waits, since no other stream publishes meanwhile. It reports likewise,
+/// but for the waits. A call before each fetch would cost each hint some instructions.
 #[derive(Drop)]
 pub struct TurnWatch<C: Clock + Drop, S: Sink + Drop> {
     teller: Option<Teller<C, S>>,
 }
 
 impl<C: Clock + Drop, S: Sink + Drop> TurnWatch<C, S> {
-    /// The gate of one stream, before its first line. Without a sink nothing is told.
+    /// The gate of one stream, before its first line. Without a sink nothing is reported.
     pub fn new(clock: C, sink: Option<S>) -> TurnWatch<C, S> {
         TurnWatch {
             teller: Teller::over(clock, sink),

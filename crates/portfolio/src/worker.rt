@@ -10,15 +10,12 @@ ghost use Rattle.stream_check.specs.Judging.{joined};
 ghost use Rattle.portfolio.specs.Working.{AreBlocksOfTurn, IsStarted, WorksOn};
 
 use lrup_model::ClauseMap;
-use lrup_text::{Source, StreamEnd};
+use lrup_text::{PIECE, Source, StreamEnd};
 use runs::Terms;
 use std::alloc::{AllocError, Global};
 use std::marker::Model;
 use std::sync::Wait;
 use stream_check::{CheckTurn, Checker, Dropped, Gate, Report};
-
-/// The most bytes that one read asks for.
-const PIECE: usize = 65_536;
 
 /// A stream's reader, its gate and its checker, and a buffer of what was read.
 #[derive(Drop)]
@@ -72,7 +69,7 @@ impl<R: Source + Drop, G: Gate + Drop> Worker<R, G> {
         })
     }
 
-    /// Is nothing more taken?
+    /// Whether nothing more is taken.
     pub fn is_over(&self) -> bool
         ensures { IsTrue result ↔ IsSome self.now.checker.ending }
     {
@@ -133,7 +130,7 @@ impl<R: Source + Drop, G: Gate + Drop> Worker<R, G> {
         }
     }
 
-    /// Lets the checker take of the bytes that were read.
+    /// Lets the checker take bytes that were read.
     fn feed<M: ClauseMap>(&mut self, map: &mut M) -> CheckTurn
         requires ready { IsReadyAt self.old.checker (M.place map.old) }
         requires going { self.old.checker.ending ≡ None }
@@ -152,7 +149,7 @@ impl<R: Source + Drop, G: Gate + Drop> Worker<R, G> {
         progress.turn
     }
 
-    /// What is said of the stream, its reader, and the identities that it dropped.
+    /// The stream's report, its reader, and the identities that it dropped.
     pub fn into_parts(self) -> (Report, R, Dropped)
         requires { IsSome self.checker.ending }
         ensures report { IfSome self.checker.ending (λ ending.

@@ -26,7 +26,7 @@ pub enum Step {
     NotUnit,
 }
 
-/// What is left of a clause by the literals that are read.
+/// What is left of a clause, by the literals that were read.
 #[derive(Clone, Copy, Debug, PartialEq, Eq)]
 enum Left {
     /// All literals are false.
@@ -110,7 +110,7 @@ impl Marks {
         self.trail.first(self.clause_len)
     }
 
-    /// Is a clause taken up, and was every hint since unit?
+    /// Whether a clause is taken up, and every hint since was unit.
     #[inline]
     pub fn ready(&self) -> bool
         ensures { result ≡ self.now.ready }
@@ -150,8 +150,8 @@ impl Marks {
         }
     }
 
-    /// Are the literals of the clip's clause those of the list, in which a literal may repeat, and stand beside its
-    /// complement? It reads the clause once. No clause is taken up then.
+    /// Whether the literals of the clip's clause are those of the list, in which a literal may repeat, and stand beside its
+    /// complement. It reads the clause once. No clause is taken up afterwards.
     pub fn same<M: ClauseMap>(&mut self, map: &mut M, clip: &Clip, lits: &[Lit]) -> bool
         requires known { IsKnown (M.place map.old) clip.now }
         requires follow { AllFollow (M.place map.old) }
@@ -173,7 +173,7 @@ impl Marks {
     }
 }
 
-/// What is left of the clause. It stops reading where more than one literal is.
+/// What is left of the clause. It stops reading where more than one literal is left.
 fn rest_of<M: ClauseMap>(falses: &Trail, map: &mut M, clip: &Clip) -> Left
     requires known { IsKnown (M.place map.old) clip.now }
     requires follow { AllFollow (M.place map.old) }
@@ -196,7 +196,7 @@ fn rest_of<M: ClauseMap>(falses: &Trail, map: &mut M, clip: &Clip) -> Left
     Left::Nothing
 }
 
-/// What is left of the clause, where of its first pairs, so many, just this literal is.
+/// What is left of the clause, where just `lit` is left of its first `pairs` pairs.
 fn rest_after<M: ClauseMap>(falses: &Trail, map: &mut M, clip: &Clip, pairs: u32, lit: Lit) -> Left
     requires known { IsKnown (M.place map.old) clip.now }
     requires follow { AllFollow (M.place map.old) }
@@ -216,7 +216,7 @@ fn rest_after<M: ClauseMap>(falses: &Trail, map: &mut M, clip: &Clip, pairs: u32
     Left::One(lit)
 }
 
-/// Are both literals false, or is the one, if there is no other?
+/// Whether both literals are false, or the one, if there is no other.
 #[inline]
 fn are_false(falses: &Trail, first: Lit, second: &Option<Lit>) -> bool
     requires first { IsLiteral falses.now.vars first }

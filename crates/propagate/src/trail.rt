@@ -32,7 +32,7 @@ impl Model for Trail {
 }
 
 impl Trail {
-    /// No literal is false. All memory is taken here.
+    /// A trail on which no literal is false. All memory is taken here.
     pub fn new(alloc: Global, vars: u32) -> Result<Trail, AllocError>
         ensures { IfOk result (λ t. t ≡ record { vars = vars; literals = [] }) }
     {
@@ -44,7 +44,7 @@ impl Trail {
         })
     }
 
-    /// Is the literal false?
+    /// Whether the literal is false.
     #[inline]
     pub fn has(&self, lit: Lit) -> bool
         requires { IsLiteral self.now.vars lit }
@@ -92,7 +92,7 @@ impl Trail {
         self.literals.clear();
     }
 
-    /// Are the literals of the clip's clause those of the list? No literal is false before, nor then.
+    /// Whether the literals of the clip's clause are those of the list. No literal is false before, nor afterwards.
     pub fn same<M: ClauseMap>(&mut self, map: &mut M, clip: &Clip, literals: &[Lit]) -> bool
         requires empty { self.old.literals ≡ [] }
         requires known { IsKnown (M.place map.old) clip.now }
@@ -116,7 +116,7 @@ impl Trail {
         self.literals.len()
     }
 
-    /// The first false literals.
+    /// The first `count` false literals.
     #[inline]
     pub fn first(&self, count: usize) -> &[Lit]
         requires { count ≤ length self.now.literals }
@@ -139,7 +139,7 @@ fn unmark(marks: &mut [bool], literals: &[Lit])
     }
 }
 
-/// Are the literals of the clip's clause, none of which has a mark, those of the list? It leaves no mark that wasn't there.
+/// Whether the literals of the clip's clause, none of which has a mark, are those of the list. It leaves no mark that wasn't there.
 fn is_same<M: ClauseMap>(marks: &mut [bool], map: &mut M, clip: &Clip, literals: &[Lit]) -> bool
     requires known { IsKnown (M.place map.old) clip.now }
     requires follow { AllFollow (M.place map.old) }
@@ -169,7 +169,7 @@ fn mark_all(marks: &mut [bool], literals: &[Lit])
     }
 }
 
-/// Has one of these literals a mark?
+/// Whether one of these literals has a mark.
 fn any_marked(marks: &[bool], literals: &[Lit]) -> bool
     requires { HaveMarks marks.now literals.now }
     ensures { IsTrue result ↔ ((l : ℤ) × Has literals.now l × IsMarked marks.now l) }
@@ -182,7 +182,7 @@ fn any_marked(marks: &[bool], literals: &[Lit]) -> bool
     false
 }
 
-/// Takes the marks of the clip's clause away, up to a literal that has none: had each of them a mark?
+/// Takes the marks of the clip's clause away, up to a literal that has none, and returns whether each had one.
 fn take_clause<M: ClauseMap>(marks: &mut [bool], map: &mut M, clip: &Clip) -> bool
     requires known { IsKnown (M.place map.old) clip.now }
     requires follow { AllFollow (M.place map.old) }
@@ -205,7 +205,7 @@ fn take_clause<M: ClauseMap>(marks: &mut [bool], map: &mut M, clip: &Clip) -> bo
 }
 
 /// Takes away the mark of the next literal, or those of the next two, of a clause that has each once, and whose literals before
-/// them were marked: were these, too?
+/// them were marked, and returns whether these were marked too.
 #[inline]
 fn take_pair(marks: &mut [bool], first: Lit, second: Option<Lit>) -> bool
     requires first { code_of first < length marks.old }
@@ -227,7 +227,7 @@ fn take_pair(marks: &mut [bool], first: Lit, second: Option<Lit>) -> bool
         }
 }
 
-/// Takes the mark of a literal away, and changes no other: had it one?
+/// Takes the mark of a literal away, changes no other, and returns whether it had one.
 #[inline]
 fn take_mark(marks: &mut [bool], lit: Lit) -> bool
     requires { code_of lit < length marks.old }

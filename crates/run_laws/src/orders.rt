@@ -58,7 +58,7 @@ pub fn all_ordered()
     good_exactly_if();
 }
 
-/// The premise on what is found live is the same by events.
+/// The premise on what is found live says the same by events as by the last state.
 pub fn kept_by_events()
     ensures { KeptByEvents }
 {}
@@ -78,7 +78,7 @@ pub fn shared_stays()
     deleted_retired();
 }
 
-/// What the lines of some bytes cite or delete, those of all bytes that begin with them do.
+/// What the lines of some bytes cite or delete, those of all bytes that begin with them cite or delete too.
 pub fn beginnings_cite()
     ensures { BeginningsCite }
 {

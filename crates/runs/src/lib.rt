@@ -1,5 +1,5 @@
-//! What a run over several streams has told and judged: the definitions, for the crates that promise runs and for laws of runs;
-//! and what its streams are all checked by.
+//! What a run over several streams has read and judged: the definitions, for the crates that promise runs and for laws of runs;
+//! and the terms by which all its streams are checked.
 #![tactic(auto)]
 
 mod terms;

@@ -1,4 +1,4 @@
-//! What the streams of a run are all checked by.
+//! The terms by which all streams of a run are checked.
 ghost use Rattle.std.specs.Prelude.{◌≡◌, ◌≤◌};
 ghost use Rattle.stream_check.specs.Setting.{max_tries};
 

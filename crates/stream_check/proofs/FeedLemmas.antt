@@ -23,7 +23,7 @@ use Rattle.stream_check.specs.declared.fault.Fault.TheVariants as faults
 use Rattle.stream_check.specs.declared.report.Ending.TheVariants as endings
 use Rattle.stream_check.specs.declared.report.Ending.{Ending}
 use Rattle.stream_check.specs.declared.report.Report.{Report}
-use Rattle.stream_check.specs.declared.held.Held.{Held}
+use Rattle.stream_check.specs.declared.stream_state.StreamState.{StreamState}
 use Rattle.stream_check.specs.Setting.{Setting, side_of, is_shared}
 use Rattle.stream_check.specs.Standing.{is_among}
 use Rattle.stream_check.specs.Judging.{ending_at, JudgesBlocks}
@@ -48,7 +48,7 @@ pub not_over : {A : Type 0} (old : Option Ending) (ending : Ending) → old ≡ 
 not_over old ending none some = absurd (let e : None ≡ Some ending = sym none ∙ some in cc)
 
 -- a line is taken
-pub feeds_line : (h n : Held) (read : List ℕ) (r : ReaderState) (used : List ℕ) (blocks : List History) (free left : ℕ) (ending : Option Ending) → ending ≡ None → r ≡ Ok []
+pub feeds_line : (h n : StreamState) (read : List ℕ) (r : ReaderState) (used : List ℕ) (blocks : List History) (free left : ℕ) (ending : Option Ending) → ending ≡ None → r ≡ Ok []
     → LeavesOn h.setting (Going (hold h read free)) used blocks (Going (hold n [] left))
     → LeavesOn h.setting (checker_state (value_of h read ending) free) used blocks (checker_state (value_of n (read_of r) ending) left)
 feeds_line h n read r used blocks free left ending none reads leaves =
@@ -56,7 +56,7 @@ feeds_line h n read r used blocks free left ending none reads leaves =
     (subst (λ (text : List ℕ). LeavesOn h.setting (Going (hold h read free)) used blocks (Going (hold n text left))) (sym (ap read_of reads)) leaves)
 
 -- the front of a line is taken
-pub feeds_more : (h : Held) (read : List ℕ) (r : ReaderState) (piece : List ℕ) (used free : ℕ) (ending : Option Ending) → ending ≡ None → r ≡ Ok (read ++ piece) → used ≡ length piece → IsPending (read ++ piece)
+pub feeds_more : (h : StreamState) (read : List ℕ) (r : ReaderState) (piece : List ℕ) (used free : ℕ) (ending : Option Ending) → ending ≡ None → r ≡ Ok (read ++ piece) → used ≡ length piece → IsPending (read ++ piece)
     → LeavesOn h.setting (checker_state (value_of h read ending) free) (take used piece) [] (checker_state (value_of h (read_of r) ending) free)
 feeds_more h read r piece used free ending none reads all pending =
     subst (λ (o : Option Ending). LeavesOn h.setting (checker_state (value_of h read o) free) (take used piece) [] (checker_state (value_of h (read_of r) o) free)) (sym none)
@@ -91,7 +91,7 @@ line_cut bytes pending used lines line text cut = record {
 
 -- What a checker asks of its parts, call after call
 
-pub ready_inside : (h : Held) (read : List ℕ) (ending : Option Ending) (v : CheckerValue) (p : Place) → value_of h read ending ≡ v → IsReadyAt v p → IsReady h p
+pub ready_inside : (h : StreamState) (read : List ℕ) (ending : Option Ending) (v : CheckerValue) (p : Place) → value_of h read ending ≡ v → IsReadyAt v p → IsReady h p
 ready_inside h read ending v p is ready =
     let same = subst (λ (w : CheckerValue). IsReadyAt w p) (sym is) ready in
     record { at = same.at; vacant = same.vacant }
@@ -107,7 +107,7 @@ pub reads_on : (r : ReaderState) (read : List ℕ) → r ≡ Ok read → r ≡ O
 reads_on r read e = e ∙ ap (λ (b : List ℕ). Ok b) (sym (ap read_of e))
 
 -- the reading ends
-pub feeds_over : (h : Held) (read used : List ℕ) (blocks : List History) (free : ℕ) (ending : Option Ending) (report : Report) → ending ≡ None
+pub feeds_over : (h : StreamState) (read used : List ℕ) (blocks : List History) (free : ℕ) (ending : Option Ending) (report : Report) → ending ≡ None
     → LeavesOn h.setting (Going (hold h read free)) used blocks (Over report) → LeavesOn h.setting (checker_state (value_of h read ending) free) used blocks (Over report)
 feeds_over h read used blocks free ending report none leaves = subst (λ (o : Option Ending). LeavesOn h.setting (checker_state (value_of h read o) free) used blocks (Over report)) (sym none) leaves
 
@@ -158,7 +158,7 @@ none_gone : (s : Bool) → false ≡ (s && false)
 none_gone true = refl
 none_gone false = refl
 
-pub new_left : FreshLeft → (layout : LayoutValue) (cube : CubeValue) (stream tries : ℕ) (h : Held) (r : ReaderState) → h.setting ≡ record { layout = layout; cube = cube; stream = stream; tries = tries } → h.last ≡ layout.clauses → h.dropped.ids ≡ [] → h.retired ≡ 0 → h.added ≡ 0
+pub new_left : FreshLeft → (layout : LayoutValue) (cube : CubeValue) (stream tries : ℕ) (h : StreamState) (r : ReaderState) → h.setting ≡ record { layout = layout; cube = cube; stream = stream; tries = tries } → h.last ≡ layout.clauses → h.dropped.ids ≡ [] → h.retired ≡ 0 → h.added ≡ 0
     → h.empty ≡ false → h.within ≡ false → h.line ≡ 1 → r ≡ Ok [] → IsNew layout cube stream tries (value_of h (read_of r) None)
 new_left law layout cube stream tries h r setting last dropped retired added empty within line reads =
     let c : Setting = h.setting in

@@ -15,9 +15,9 @@ use Rattle.lrup_model.specs.declared.clause_map.Retired.TheVariants as retiring
 use Rattle.lrup_text.specs.Lines.{StreamLine, Addition, Deletion, Import}
 use Rattle.lrup_model.specs.Distinct.{distinct}
 use Rattle.stream_check.specs.declared.fault.Fault.{Fault}
-use Rattle.stream_check.specs.declared.held.Held.{Held}
-use Rattle.stream_check.specs.declared.deletion.LineStop.{LineStop}
-use Rattle.stream_check.specs.declared.deletion.LineStop.TheVariants as stops
+use Rattle.stream_check.specs.declared.stream_state.StreamState.{StreamState}
+use Rattle.stream_check.specs.declared.line_stop.LineStop.{LineStop}
+use Rattle.stream_check.specs.declared.line_stop.LineStop.TheVariants as stops
 use Rattle.stream_check.specs.Setting.{Setting, side_of, is_shared}
 use Rattle.stream_check.specs.Standing.{Standing, capped, is_among, is_within}
 use Rattle.stream_check.specs.Verdicts.{Good, Bad}
@@ -42,7 +42,7 @@ vacant_on : (p q : Place) (es : History) (last : ℕ) → Tells p q es → ((j :
 vacant_on p q es last tells stays vacant j theirs above =
     let mine = own_before p q es j tells theirs in tells.own j mine ∙ stays j (vacant j mine above)
 
-pub ready_fetches : (h : Held) (p q : Place) (es : History) → Tells p q es → AllByRecursion IsFetch es → IsReady h p → IsReady h q
+pub ready_fetches : (h : StreamState) (p q : Place) (es : History) → Tells p q es → AllByRecursion IsFetch es → IsReady h p → IsReady h q
 ready_fetches h p q es tells quiet ready = record {
   at = still_at h.setting p q es ready.at tells;
   vacant = vacant_on p q es h.last tells (λ j none. ap (λ (m : State). m j) (run-fetches p.own es quiet) ∙ none) ready.vacant;
@@ -74,7 +74,7 @@ pub room_retires : (p q : Place) (es : History) → Tells p q es → AllByRecurs
 room_retires p q es tells quiet = omega (arith, tells.room, spent-retires p.caller.stream es quiet)
 
 -- after the retires of a deletion
-pub ready_retires : (old new : Held) (p q : Place) (es : History) → Tells p q es → AllByRecursion IsRetire es → new.setting ≡ old.setting → new.last ≡ old.last → IsReady old p → IsReady new q
+pub ready_retires : (old new : StreamState) (p q : Place) (es : History) → Tells p q es → AllByRecursion IsRetire es → new.setting ≡ old.setting → new.last ≡ old.last → IsReady old p → IsReady new q
 ready_retires old new p q es tells quiet setting last ready = record {
   at = subst (λ (c : Setting). IsPlaceOf c q) (sym setting) (still_at old.setting p q es ready.at tells);
   vacant = subst (IsVacantAbove q) (sym last) (vacant_on p q es old.last tells (λ j none. run-retires-absent p.own es j quiet none) ready.vacant);
@@ -85,7 +85,7 @@ ready_retires old new p q es tells quiet setting last ready = record {
 published_run : (m : State) (fetches : History) (c : Setting) (id : ℕ) (lits : List ℤ) → AllByRecursion IsFetch fetches → run m (fetches ++ published_by c id lits ∷ []) ≡ put m id (live (distinct lits))
 published_run m fetches c id lits quiet = run-append m fetches (published_by c id lits ∷ []) ∙ ap (λ (n : State). put n id (live (distinct lits))) (run-fetches m fetches quiet)
 
-pub ready_publish : (old new : Held) (p q : Place) (es : History) (id : ℕ) (lits : List ℤ) → Tells p q es → MakesEvents old.setting id lits es (Ok tt) → new.setting ≡ old.setting → new.last ≡ id → old.last < id
+pub ready_publish : (old new : StreamState) (p q : Place) (es : History) (id : ℕ) (lits : List ℤ) → Tells p q es → MakesEvents old.setting id lits es (Ok tt) → new.setting ≡ old.setting → new.last ≡ id → old.last < id
     → IsReady old p → IsReady new q
 ready_publish old new p q es id lits tells made setting last above ready =
     let c = old.setting in
@@ -100,7 +100,7 @@ ready_publish old new p q es id lits tells made setting last above ready =
           owned j theirs ∙ put-other p.own id (live (distinct lits)) j other ∙ ready.vacant j (own_before p q es j tells theirs) (omega (arith, over, above));
     }
 
-pub room_publish : (old : Held) (p q : Place) (es : History) (id : ℕ) (lits : List ℤ) → IsPlaceOf old.setting p → Tells p q es → MakesEvents old.setting id lits es (Ok tt) → q.room ≡ p.room - length (distinct lits)
+pub room_publish : (old : StreamState) (p q : Place) (es : History) (id : ℕ) (lits : List ℤ) → IsPlaceOf old.setting p → Tells p q es → MakesEvents old.setting id lits es (Ok tt) → q.room ≡ p.room - length (distinct lits)
 room_publish old p q es id lits at tells made =
     let e : Event = published_by old.setting id lits in
     let one : spent p.caller.stream (e ∷ []) ≡ length (distinct lits) = spent_one p.caller.stream e (sym at.stream) in
@@ -125,7 +125,7 @@ empty_is b [] is = is
 empty_is b (l ∷ lits) is = is ∙ eqb-suc-zero (length lits) ∙ sym (ap (λ x. x || false) (eqb-suc-zero _))
 
 -- what a good addition changes
-pub record Adds (old new : Held) (id : ℕ) (is_empty within_cube : Bool) : Type 0 where
+pub record Adds (old new : StreamState) (id : ℕ) (is_empty within_cube : Bool) : Type 0 where
   pub last : new.last ≡ id
   pub added : new.added ≡ old.added + 1
   pub empty : new.empty ≡ (old.empty || is_empty)
@@ -134,7 +134,7 @@ pub record Adds (old new : Held) (id : ℕ) (is_empty within_cube : Bool) : Type
   pub dropped : new.dropped ≡ old.dropped
   pub retired : new.retired ≡ old.retired
 
-pub takes_addition : (old new : Held) (free left : ℕ) (id : ℕ) (lits : List ℤ) (hints : List ℕ) (es : History) (is_empty within_cube : Bool) → Adds old new id is_empty within_cube
+pub takes_addition : (old new : StreamState) (free left : ℕ) (id : ℕ) (lits : List ℤ) (hints : List ℕ) (es : History) (is_empty within_cube : Bool) → Adds old new id is_empty within_cube
     → is_empty ≡ (length lits == 0) → within_cube ≡ is_within old.setting.cube (distinct lits) → left ≡ free - length (distinct lits)
     → JudgesAddition old.setting (standing_at old free) id lits hints es Good → TakesBy old free new left (Addition id lits hints) es (Ok tt)
 takes_addition old new free left id lits hints es is_empty within_cube adds is within room judged =
@@ -156,7 +156,7 @@ takes_addition old new free left id lits hints es is_empty within_cube adds is w
     )
 
 -- what a good line changes that adds nothing
-pub record Counts (mid new : Held) : Type 0 where
+pub record Counts (mid new : StreamState) : Type 0 where
   pub line : new.line ≡ min (mid.line + 1) (2 ^ 64 - 1)
   pub last : new.last ≡ mid.last
   pub added : new.added ≡ mid.added
@@ -165,7 +165,7 @@ pub record Counts (mid new : Held) : Type 0 where
   pub dropped : new.dropped ≡ mid.dropped
   pub retired : new.retired ≡ mid.retired
 
-pub takes_deletion : (old mid new : Held) (free left : ℕ) (lead : ℕ) (ids : List ℕ) (es : History) (count : ℕ) → KeepsLines old mid → Counts mid new → deleted_at mid ≡ capped (deleted_at old + count) → left ≡ free
+pub takes_deletion : (old mid new : StreamState) (free left : ℕ) (lead : ℕ) (ids : List ℕ) (es : History) (count : ℕ) → KeepsLines old mid → Counts mid new → deleted_at mid ≡ capped (deleted_at old + count) → left ≡ free
     → Deletes old.setting old.dropped.ids mid.dropped.ids ids es count (Ok tt) → TakesBy old free new left (Deletion lead ids) es (Ok tt)
 takes_deletion old mid new free left lead ids es count kept counts more room deletes =
     let line : StreamLine = Deletion lead ids in (
@@ -186,7 +186,7 @@ takes_deletion old mid new free left lead ids es count kept counts more room del
       },
     )
 
-pub takes_import : (old new : Held) (free left : ℕ) (id : ℕ) (lits : List ℤ) (es : History) → Counts old new → left ≡ free
+pub takes_import : (old new : StreamState) (free left : ℕ) (id : ℕ) (lits : List ℤ) (es : History) → Counts old new → left ≡ free
     → JudgesImport old.setting (standing_at old free) id lits es Good → TakesBy old free new left (Import id lits) es (Ok tt)
 takes_import old new free left id lits es counts room judged =
     let line : StreamLine = Import id lits in (
@@ -208,7 +208,7 @@ takes_import old new free left id lits es counts room judged =
     )
 
 -- the same place, for what is held with one line more
-pub still_ready : (mid new : Held) (q : Place) → new.setting ≡ mid.setting → new.last ≡ mid.last → IsReady mid q → IsReady new q
+pub still_ready : (mid new : StreamState) (q : Place) → new.setting ≡ mid.setting → new.last ≡ mid.last → IsReady mid q → IsReady new q
 still_ready mid new q setting last ready = record {
   at = subst (λ (c : Setting). IsPlaceOf c q) (sym setting) ready.at;
   vacant = subst (IsVacantAbove q) (sym last) ready.vacant;
@@ -216,20 +216,20 @@ still_ready mid new q setting last ready = record {
 
 -- What is held after a line that stopped
 
-pub deletes_more : (old mid : Held) (count : ℕ) → KeepsLines old mid → deleted_at mid ≡ capped (deleted_at old + count) → DeletesMore old mid count
+pub deletes_more : (old mid : StreamState) (count : ℕ) → KeepsLines old mid → deleted_at mid ≡ capped (deleted_at old + count) → DeletesMore old mid count
 deletes_more old mid count kept more = record { added = kept.added; deleted = more; empty = kept.empty; within = kept.within; line = kept.line }
 
-pub stops_deletion : (old mid : Held) (free left : ℕ) (lead : ℕ) (ids : List ℕ) (es : History) (count : ℕ) (stop : LineStop) → KeepsLines old mid → deleted_at mid ≡ capped (deleted_at old + count)
+pub stops_deletion : (old mid : StreamState) (free left : ℕ) (lead : ℕ) (ids : List ℕ) (es : History) (count : ℕ) (stop : LineStop) → KeepsLines old mid → deleted_at mid ≡ capped (deleted_at old + count)
     → Deletes old.setting old.dropped.ids mid.dropped.ids ids es count (Err stop) → TakesBy old free mid left (Deletion lead ids) es (Err stop)
 stops_deletion old mid free left lead ids es count (stops.Bad fault) kept more deletes = (count, deletes, deletes_more old mid count kept more)
 stops_deletion old mid free left lead ids es count stops.Memory kept more deletes =
     (lead, ids, deletes.0, refl, deletes.2, deletes_more old mid (length deletes.0) kept (omega (arith, more, deletes.1)))
 
-pub stops_addition : (old : Held) (free left : ℕ) (id : ℕ) (lits : List ℤ) (hints : List ℕ) (es : History) (fault : Fault)
+pub stops_addition : (old : StreamState) (free left : ℕ) (id : ℕ) (lits : List ℤ) (hints : List ℕ) (es : History) (fault : Fault)
     → JudgesAddition old.setting (standing_at old free) id lits hints es (Bad 0 fault) → TakesBy old free old left (Addition id lits hints) es (Err (stops.Bad fault))
 stops_addition old free left id lits hints es fault judged = (0, judged, record { added = refl; deleted = omega arith; empty = refl; within = refl; line = refl })
 
-pub stops_import : (old : Held) (free left : ℕ) (id : ℕ) (lits : List ℤ) (es : History) (fault : Fault)
+pub stops_import : (old : StreamState) (free left : ℕ) (id : ℕ) (lits : List ℤ) (es : History) (fault : Fault)
     → JudgesImport old.setting (standing_at old free) id lits es (Bad 0 fault) → TakesBy old free old left (Import id lits) es (Err (stops.Bad fault))
 stops_import old free left id lits es fault judged = (0, judged, record { added = refl; deleted = omega arith; empty = refl; within = refl; line = refl })
 

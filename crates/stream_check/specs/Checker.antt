@@ -16,7 +16,7 @@ use Rattle.stream_check.specs.declared.fault.Fault.{Fault}
 use Rattle.stream_check.specs.declared.fault.Fault.TheVariants as faults
 use Rattle.stream_check.specs.declared.report.Ending.{Ending}
 use Rattle.stream_check.specs.declared.report.Ending.TheVariants as endings
-use Rattle.stream_check.specs.declared.held.Held.{Held}
+use Rattle.stream_check.specs.declared.stream_state.StreamState.{StreamState}
 use Rattle.stream_check.specs.declared.progress.CheckTurn.{CheckTurn}
 use Rattle.stream_check.specs.declared.progress.CheckTurn.TheVariants as turns
 use Rattle.stream_check.specs.Setting.{Setting}
@@ -29,18 +29,18 @@ use Rattle.stream_check.specs.Checking.{IsPlaceOf}
 use Rattle.stream_check.specs.CheckerValue.{Tally, report_of_tally, CheckerValue}
 
 -- what the good lines so far leave, where so much room is left
-abbrev pub standing_at : Held → ℕ → Standing
+abbrev pub standing_at : StreamState → ℕ → Standing
 standing_at h free = record { last = h.last; free = free; gone = is_among h.dropped.ids }
 
 -- how many identities were deleted
-abbrev pub deleted_at : Held → ℕ
+abbrev pub deleted_at : StreamState → ℕ
 deleted_at h = capped (h.retired + length h.dropped.ids)
 
-abbrev pub tally_at : Held → Tally
+abbrev pub tally_at : StreamState → Tally
 tally_at h = record { added = h.added; deleted = deleted_at h; empty = h.empty; within = h.within }
 
 -- what only a good line changes
-pub record KeepsLines (old new : Held) : Type 0 where
+pub record KeepsLines (old new : StreamState) : Type 0 where
   pub setting : new.setting ≡ old.setting
   pub last : new.last ≡ old.last
   pub added : new.added ≡ old.added
@@ -81,7 +81,7 @@ read_of (Ok read) = read
 read_of (Err fault) = []
 
 -- a checker of these parts
-abbrev pub value_of : Held → List ℕ → Option Ending → CheckerValue
+abbrev pub value_of : StreamState → List ℕ → Option Ending → CheckerValue
 value_of h pending ending = record {
   setting = h.setting;
   tally = tally_at h;

@@ -16,8 +16,8 @@ use Rattle.stream_check.specs.declared.fault.Fault.{Fault}
 use Rattle.stream_check.specs.declared.fault.Fault.TheVariants as faults
 use Rattle.stream_check.specs.declared.setting.Side.{Side}
 use Rattle.stream_check.specs.declared.setting.Side.TheVariants as sides
-use Rattle.stream_check.specs.declared.deletion.LineStop.{LineStop}
-use Rattle.stream_check.specs.declared.deletion.LineStop.TheVariants as stops
+use Rattle.stream_check.specs.declared.line_stop.LineStop.{LineStop}
+use Rattle.stream_check.specs.declared.line_stop.LineStop.TheVariants as stops
 use Rattle.stream_check.specs.Setting.{Setting, side_of, is_shared}
 use Rattle.stream_check.specs.Standing.{is_among}
 use Rattle.stream_check.specs.Verdicts.{LineVerdict, Good, Bad, Test}

@@ -5,9 +5,9 @@ use Rattle.lrup_model.specs.Place.{Place, IsVacantAbove}
 use Rattle.lrup_text.specs.Lines.{StreamLine, Deletion}
 use Rattle.stream_check.specs.declared.report.Ending.{Ending}
 use Rattle.stream_check.specs.declared.report.Ending.TheVariants as endings
-use Rattle.stream_check.specs.declared.held.Held.{Held}
-use Rattle.stream_check.specs.declared.deletion.LineStop.{LineStop}
-use Rattle.stream_check.specs.declared.deletion.LineStop.TheVariants as stops
+use Rattle.stream_check.specs.declared.stream_state.StreamState.{StreamState}
+use Rattle.stream_check.specs.declared.line_stop.LineStop.{LineStop}
+use Rattle.stream_check.specs.declared.line_stop.LineStop.TheVariants as stops
 use Rattle.stream_check.specs.Standing.{capped, is_among}
 use Rattle.stream_check.specs.Verdicts.{Good, Bad}
 use Rattle.stream_check.specs.Deletions.{StopsDeletion}
@@ -17,17 +17,17 @@ use Rattle.stream_check.specs.Checking.{IsPlaceOf}
 use Rattle.stream_check.specs.Checker.{standing_at, tally_at, deleted_at}
 
 -- what is held, with this text read of the next line, where so much room is left
-abbrev pub hold : Held → List ℕ → ℕ → Holding
+abbrev pub hold : StreamState → List ℕ → ℕ → Holding
 hold h pending free =
     record { tally = tally_at h; standing = standing_at h free; pending = pending; line = h.line }
 
 -- the place is one where the next line can be checked
-pub record IsReady (h : Held) (p : Place) : Type 0 where
+pub record IsReady (h : StreamState) (p : Place) : Type 0 where
   pub at : IsPlaceOf h.setting p
   pub vacant : IsVacantAbove p h.last
 
 -- so many identities more were deleted, and nothing else was counted
-pub record DeletesMore (old new : Held) (count : ℕ) : Type 0 where
+pub record DeletesMore (old new : StreamState) (count : ℕ) : Type 0 where
   pub added : new.added ≡ old.added
   pub deleted : deleted_at new ≡ capped (deleted_at old + count)
   pub empty : new.empty ≡ old.empty
@@ -35,7 +35,7 @@ pub record DeletesMore (old new : Held) (count : ℕ) : Type 0 where
   pub line : new.line ≡ old.line
 
 -- what the events of one line came to
-abbrev pub TakesBy : Held → ℕ → Held → ℕ → StreamLine → History
+abbrev pub TakesBy : StreamState → ℕ → StreamState → ℕ → StreamLine → History
     → Result (Unit {0}) LineStop → Type 0
 TakesBy old free new left line es (Ok _) =
     JudgesLine old.setting (standing_at old free) line es Good

@@ -14,14 +14,12 @@ ghost use Rattle.stream_check.specs.Checker.{standing_at, AdmitsBy};
 
 use crate::fault::Fault;
 use crate::gate::Gate;
-use crate::held::Held;
 use crate::hints::try_hints;
+use crate::stream_state::StreamState;
 use lrup_model::{ClauseMap, Id, Lit, Published};
+use lrup_text::MAX_LITERALS;
 use propagate::Marks;
 use std::alloc::{AllocError, Global};
-
-/// The most literals that a line may have.
-const MAX_LITERALS: usize = 65_535;
 
 /// The buffers of a stream's additions and imports. They are made once, and no line takes memory.
 #[derive(Drop)]
@@ -50,23 +48,23 @@ impl Buffers {
     /// The tests of an addition that ask the map for no clause, in their order. The clause is taken up where all hold.
     fn admit<M: ClauseMap>(
         &mut self,
-        held: &Held,
+        state: &StreamState,
         map: &M,
         id: Id,
         lits: &[i64],
     ) -> Result<(), Fault>
-        requires at { IsPlaceOf held.now.setting (M.place map.now) }
-        requires variables { held.now.setting.layout.vars ≡ self.old.vars }
+        requires at { IsPlaceOf state.now.setting (M.place map.now) }
+        requires variables { state.now.setting.layout.vars ≡ self.old.vars }
         requires count { length lits.now ≤ max_line_literals }
         requires nonzero { AllByRecursion IsStreamLiteral lits.now }
         ensures vars { self.new.vars ≡ self.old.vars }
-        ensures admitted { let standing = standing_at held.now (M.place map.now).room in
-            AdmitsBy held.now.setting standing id lits.now self.new.marks result }
+        ensures admitted { let standing = standing_at state.now (M.place map.now).room in
+            AdmitsBy state.now.setting standing id lits.now self.new.marks result }
     {
-        if !map.owns(id) || id <= held.last {
+        if !map.owns(id) || id <= state.last() {
             return Err(Fault::Identity);
         }
-        if !read_literals(&mut self.literals, lits, self.vars) {
+        if !make_literals(&mut self.literals, lits, self.vars) {
             return Err(Fault::Literal);
         }
         if self.marks.begin(&self.literals).is_err() {
@@ -88,29 +86,29 @@ impl Buffers {
     /// Checks an addition, and publishes its clause where it has no fault.
     pub fn add<M: ClauseMap, G: Gate>(
         &mut self,
-        held: &Held,
+        state: &StreamState,
         map: &mut M,
         gate: &mut G,
         id: Id,
         lits: &[i64],
         hints: &[Id],
     ) -> Result<(), Fault>
-        requires at { IsPlaceOf held.now.setting (M.place map.old) }
-        requires variables { held.now.setting.layout.vars ≡ self.old.vars }
-        requires tries { held.now.setting.tries < 2 ^ 63 }
-        requires vacant { IsVacantAbove (M.place map.old) held.now.last }
+        requires at { IsPlaceOf state.now.setting (M.place map.old) }
+        requires variables { state.now.setting.layout.vars ≡ self.old.vars }
+        requires tries { state.now.setting.tries < 2 ^ 63 }
+        requires vacant { IsVacantAbove (M.place map.old) state.now.last }
         requires count { length lits.now ≤ max_line_literals }
         requires nonzero { AllByRecursion IsStreamLiteral lits.now }
         ensures vars { self.new.vars ≡ self.old.vars }
         ensures clause { OnOk result (self.new.marks.clause ≡ distinct lits.now) }
-        ensures judged { let standing = standing_at held.now (M.place map.old).room in
+        ensures judged { let standing = standing_at state.now (M.place map.old).room in
             (es : History) × M.moves map.old map.new es
-            × MakesEvents held.now.setting id lits.now es result
-            × JudgesAddition held.now.setting standing id lits.now hints.now es
+            × MakesEvents state.now.setting id lits.now es result
+            × JudgesAddition state.now.setting standing id lits.now hints.now es
             (line_verdict result) }
     {
-        self.admit(held, map, id, lits)?;
-        try_hints(held, map, gate, &mut self.marks, hints)?;
+        self.admit(state, map, id, lits)?;
+        try_hints(state, map, gate, &mut self.marks, hints)?;
         match map.publish(id, self.marks.clause()) {
             Published::Done => {
                 gate.after_publish(map.stream(), id);
@@ -122,7 +120,7 @@ impl Buffers {
 }
 
 /// Makes literals of the numbers of a line. False where one is no literal over the variables 1 to `vars`.
-pub fn read_literals(literals: &mut Vec<Lit>, numbers: &[i64], vars: u32) -> bool
+pub fn make_literals(literals: &mut Vec<Lit>, numbers: &[i64], vars: u32) -> bool
     requires room { length numbers.now ≤ vec_capacity literals.old }
     requires variables { vars ≤ max_variable }
     ensures literals { OnTrue result (literals.new.items ≡ numbers.now) }

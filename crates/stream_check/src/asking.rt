@@ -10,12 +10,12 @@ ghost use Rattle.stream_check.specs.Checking.{IsPlaceOf, Gives, IsFetch, LooksUp
 
 use crate::fault::Fault;
 use crate::gate::Gate;
-use crate::held::Held;
 use crate::setting::Setting;
+use crate::stream_state::StreamState;
 use lrup_model::{ClauseMap, Clip, Fetched, Id};
 
-/// Fetches an identity that was vacant again, until the reply isn't vacant, and so many times at most.
-// Where it or `ask` is called and doesn't stand in place, each reply goes back through memory, also where there is no second fetch.
+/// Fetches an identity that was vacant again, until the reply isn't vacant, and at most `most` times.
+// Where it or `ask` isn't inlined, each reply goes back through memory, also where there is no second fetch.
 #[inline(always)]
 fn fetch_again<M: ClauseMap, G: Gate>(most: u64, map: &mut M, gate: &mut G, id: Id) -> Fetched
     requires identity { IsIdentity (M.place map.old).caller.layout id }
@@ -60,21 +60,22 @@ fn ask<M: ClauseMap, G: Gate>(setting: &Setting, map: &mut M, gate: &mut G, hint
 /// The clause of a hint or of an import's identity; a fault where the stream dropped it, or where the map has none.
 #[inline(always)]
 pub fn look_up<M: ClauseMap, G: Gate>(
-    held: &Held,
+    state: &StreamState,
     map: &mut M,
     gate: &mut G,
     id: Id,
 ) -> Result<Clip, Fault>
-    requires at { IsPlaceOf held.now.setting (M.place map.old) }
-    requires tries { held.now.setting.tries < 2 ^ 63 }
+    requires at { IsPlaceOf state.now.setting (M.place map.old) }
+    requires tries { state.now.setting.tries < 2 ^ 63 }
     ensures looked { (es : History) × M.moves map.old map.new es × AllByRecursion IsFetch es
-        × LooksUp held.now.setting (is_among held.now.dropped.ids) id (M.place map.new) es result }
+        × LooksUp state.now.setting (is_among state.now.dropped.ids) id (M.place map.new)
+        es result }
     ensures gives { IfOk result (λ clip. Gives (M.place map.new) (Fetched.Live clip)) }
 {
-    if held.dropped.has(id) {
+    if state.has_dropped(id) {
         return Err(Fault::Dropped(id));
     }
-    match ask(&held.setting, map, gate, id) {
+    match ask(&state.setting, map, gate, id) {
         Fetched::Vacant => Err(Fault::Missing(id)),
         Fetched::Retired => Err(Fault::Retired(id)),
         Fetched::Live(clip) => Ok(clip),

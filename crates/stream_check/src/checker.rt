@@ -12,12 +12,12 @@ use crate::addition::Buffers;
 use crate::dropped::Dropped;
 use crate::fault::Fault;
 use crate::gate::Gate;
-use crate::held::Held;
 use crate::laws::{fresh_left, good_line_taken};
 use crate::line::take_line;
 use crate::progress::{CheckTurn, Progress};
 use crate::report::{Ending, Report};
 use crate::setting::Setting;
+use crate::stream_state::StreamState;
 use lrup_model::{ClauseMap, Cube, Layout};
 use lrup_text::{End, LineReader, ReaderTurn};
 use std::alloc::{AllocError, Global};
@@ -28,7 +28,7 @@ use std::marker::Model;
 /// Once it is over nothing changes it.
 #[derive(Drop)]
 pub struct Checker {
-    held: Held,
+    state: StreamState,
     buffers: Buffers,
     reader: LineReader,
     ending: Option<Ending>,
@@ -41,16 +41,16 @@ impl Model for Checker {
 
     ghost use Rattle.stream_check.specs.Checker.{value_of, read_of, IsSound};
 
-    ghost view = { λ c. value_of c.held (read_of c.reader) c.ending };
+    ghost view = { λ c. value_of c.state (read_of c.reader) c.ending };
 
-    ghost invariant = { λ c. IsSound c.held.setting c.buffers.vars c.reader c.ending };
+    ghost invariant = { λ c. IsSound c.state.setting c.buffers.vars c.reader c.ending };
 }
 
 impl Checker {
     /// The greatest number of tries.
     pub const MAX_TRIES: u64 = 1_000_000;
 
-    /// A checker of stream `stream`, from 1 on, before its first byte, which says also whether a clause is within the cube. A
+    /// A checker of stream `stream`, from 1 on, before its first byte, which also says whether a clause is within the cube. A
     /// hint of another stream is fetched again while it is vacant, up to `tries` times, at most 1,000,000. All memory is taken
     /// here, also for a copy of the cube, but for the identities that the stream drops.
     pub fn new(
@@ -67,7 +67,7 @@ impl Checker {
         fresh_left();
         let setting = Setting::new(layout, cube.try_clone()?, stream, tries);
         Ok(Checker {
-            held: Held::new(alloc, setting),
+            state: StreamState::new(alloc, setting),
             buffers: Buffers::new(alloc, layout.vars())?,
             reader: LineReader::new(alloc)?,
             ending: None,
@@ -111,26 +111,26 @@ impl Checker {
                 turn: CheckTurn::More,
             },
             ReaderTurn::Line(line) => {
-                match take_line(&mut self.held, &mut self.buffers, map, gate, line) {
+                match take_line(&mut self.state, &mut self.buffers, map, gate, line) {
                     Ok(()) => Progress {
                         used,
                         turn: CheckTurn::Line,
                     },
                     Err(stop) => {
-                        self.ending = Some(stop.ending(self.held.line));
+                        self.ending = Some(stop.ending(self.state.line()));
                         self.tell(gate, used)
                     }
                 }
             }
             ReaderTurn::Fault(fault) => {
-                self.ending = Some(Ending::Bad(self.held.line, Fault::Text(fault)));
+                self.ending = Some(Ending::Bad(self.state.line(), Fault::Text(fault)));
                 self.tell(gate, used)
             }
         }
     }
 
-    /// Tells the gate how the stream is judged, which is over through so many bytes. Where the compiler knows that this is rare,
-    /// lines before it are faster.
+    /// Tells the gate how the stream, which is over, is judged. `used` bytes of the piece were used. Where the compiler knows that
+    /// this is rare, lines before it are faster.
     #[cold]
     #[inline(never)]
     fn tell<G: Gate>(&self, gate: &mut G, used: usize) -> Progress
@@ -154,7 +154,7 @@ impl Checker {
         }
         self.ending = Some(match self.reader.end() {
             End::Clean => Ending::Ended,
-            End::Fault(fault) => Ending::Bad(self.held.line, Fault::Text(fault)),
+            End::Fault(fault) => Ending::Bad(self.state.line(), Fault::Text(fault)),
         });
     }
 
@@ -166,44 +166,37 @@ impl Checker {
         if self.ending.is_some() {
             return;
         }
-        self.ending = Some(Ending::ReadFailed(self.held.line));
+        self.ending = Some(Ending::ReadFailed(self.state.line()));
     }
 
     /// The stream whose lines are checked, from 1 on.
     pub fn stream(&self) -> u64
         ensures { result ≡ self.now.setting.stream }
     {
-        self.held.setting.stream()
+        self.state.setting.stream()
     }
 
-    /// Is nothing more taken?
+    /// Whether nothing more is taken.
     pub fn is_over(&self) -> bool
         ensures { IsTrue result ↔ IsSome self.now.ending }
     {
         self.ending.is_some()
     }
 
-    /// What is said of the stream.
+    /// The stream's report.
     pub fn report(&self) -> Report
         requires { IsSome self.now.ending }
         ensures { IfSome self.now.ending (λ ending.
             result ≡ report_of_tally self.now.tally ending) }
     {
-        Report {
-            added: self.held.added,
-            deleted: self.held.retired.saturating_add(self.held.dropped.count()),
-            empty: self.held.empty,
-            within: self.held.within,
-            ending: self.ending.unwrap(),
-        }
+        self.state.report(self.ending.unwrap())
     }
 
     /// The identities of the formula and of other streams that the stream dropped.
     pub fn into_dropped(self) -> Dropped
         ensures { result.ids ≡ self.dropped }
     {
-        let Checker { held, .. } = self;
-        let Held { dropped, .. } = held;
-        dropped
+        let Checker { state, .. } = self;
+        state.into_dropped()
     }
 }

@@ -31,14 +31,14 @@ impl Dropped {
         }
     }
 
-    /// Did the stream drop this identity?
+    /// Whether the stream dropped this identity.
     pub fn has(&self, id: Id) -> bool
         ensures { result ≡ is_among self.now.ids id }
     {
         self.ids.contains(&id)
     }
 
-    /// Keeps one identity more. Where there is no memory for it, nothing changes; where there is room, none is wanted.
+    /// Keeps one more identity. Where there is no memory for it, nothing changes; where there is room, it takes none.
     pub(crate) fn add(&mut self, id: Id) -> Result<(), AllocError>
         requires { is_among self.old.ids id ≡ false }
         ensures members { OnOk result

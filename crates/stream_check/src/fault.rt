@@ -21,7 +21,7 @@ pub enum Fault {
     Tautology,
     /// The stream has no room left for the clause.
     NoRoom,
-    /// The stream deleted this hint, or identity of an import, which isn't its own, in a line before.
+    /// The stream deleted this hint, or identity of an import, which isn't its own, in an earlier line.
     Dropped(Id),
     /// Nothing was published under this hint or identity of an import, or the hint is no identity.
     Missing(Id),

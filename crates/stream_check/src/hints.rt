@@ -9,7 +9,7 @@ ghost use Rattle.std.specs.List.{AllByRecursion};
 use crate::asking::look_up;
 use crate::fault::Fault;
 use crate::gate::Gate;
-use crate::held::Held;
+use crate::stream_state::StreamState;
 use lrup_model::{ClauseMap, Id};
 use propagate::{Marks, Step};
 
@@ -25,26 +25,26 @@ fn excess(left: &[Id]) -> Result<(), Fault>
 
 /// Tries the hints one after the other: each but the last has to be unit, and the last a conflict.
 pub fn try_hints<M: ClauseMap, G: Gate>(
-    held: &Held,
+    state: &StreamState,
     map: &mut M,
     gate: &mut G,
     marks: &mut Marks,
     hints: &[Id],
 ) -> Result<(), Fault>
-    requires at { IsPlaceOf held.now.setting (M.place map.old) }
-    requires tries { held.now.setting.tries < 2 ^ 63 }
+    requires at { IsPlaceOf state.now.setting (M.place map.old) }
+    requires tries { state.now.setting.tries < 2 ^ 63 }
     requires ready { IsTrue marks.old.ready }
-    requires variables { held.now.setting.layout.vars ≤ marks.old.vars }
+    requires variables { state.now.setting.layout.vars ≤ marks.old.vars }
     requires consistent { ¬ IsTautology marks.old.falses }
     ensures shown { let formula = (M.place map.old).caller.formula in
         (es : History) × M.moves map.old map.new es × AllByRecursion IsFetch es
-        × Shows held.now.setting (is_among held.now.dropped.ids) formula marks.old.falses
+        × Shows state.now.setting (is_among state.now.dropped.ids) formula marks.old.falses
         hints.now es result }
     ensures kept { KeepsClause marks.old marks.new }
 {
     let mut left = hints;
     'hints: while let Some((hint, rest)) = left.split_first() {
-        let clip = look_up(held, map, gate, *hint)?;
+        let clip = look_up(state, map, gate, *hint)?;
         match marks.hint(map, &clip) {
             Step::Unit => left = rest,
             Step::Conflict => return excess(rest),

@@ -8,40 +8,40 @@ ghost use Rattle.stream_check.specs.Imports.{JudgesImport};
 ghost use Rattle.stream_check.specs.Checking.{IsPlaceOf, IsFetch, line_verdict};
 ghost use Rattle.stream_check.specs.Checker.{standing_at};
 
-use crate::addition::{Buffers, read_literals};
+use crate::addition::{Buffers, make_literals};
 use crate::asking::look_up;
 use crate::fault::Fault;
 use crate::gate::Gate;
-use crate::held::Held;
+use crate::stream_state::StreamState;
 use lrup_model::{ClauseMap, Id};
 
 impl Buffers {
     /// Compares an import with the clause of its identity, which is fetched as a hint is.
     pub fn import<M: ClauseMap, G: Gate>(
         &mut self,
-        held: &Held,
+        state: &StreamState,
         map: &mut M,
         gate: &mut G,
         id: Id,
         lits: &[i64],
     ) -> Result<(), Fault>
-        requires at { IsPlaceOf held.now.setting (M.place map.old) }
-        requires variables { held.now.setting.layout.vars ≡ self.old.vars }
-        requires tries { held.now.setting.tries < 2 ^ 63 }
+        requires at { IsPlaceOf state.now.setting (M.place map.old) }
+        requires variables { state.now.setting.layout.vars ≡ self.old.vars }
+        requires tries { state.now.setting.tries < 2 ^ 63 }
         requires count { length lits.now ≤ max_line_literals }
         requires nonzero { AllByRecursion IsStreamLiteral lits.now }
         ensures vars { self.new.vars ≡ self.old.vars }
-        ensures judged { let standing = standing_at held.now (M.place map.old).room in
+        ensures judged { let standing = standing_at state.now (M.place map.old).room in
             (es : History) × M.moves map.old map.new es × AllByRecursion IsFetch es
-            × JudgesImport held.now.setting standing id lits.now es (line_verdict result) }
+            × JudgesImport state.now.setting standing id lits.now es (line_verdict result) }
     {
-        if !held.setting.shares(id) {
+        if !state.setting.shares(id) {
             return Err(Fault::Identity);
         }
-        if !read_literals(&mut self.literals, lits, self.vars) {
+        if !make_literals(&mut self.literals, lits, self.vars) {
             return Err(Fault::Literal);
         }
-        let clip = look_up(held, map, gate, id)?;
+        let clip = look_up(state, map, gate, id)?;
         if !self.marks.same(map, &clip, &self.literals) {
             return Err(Fault::Differs(id));
         }

@@ -7,7 +7,7 @@ use lrup_text::laws::{
     texts_are_lines,
 };
 
-/// No bytes and no blocks leave a checker fresh.
+/// Without bytes and blocks a checker stays fresh.
 pub fn fresh_left()
     ensures { FreshLeft }
 {
@@ -58,7 +58,7 @@ pub fn either_end()
     ensures { EitherEnd }
 {}
 
-/// Where the read failed and the report doesn't tell so, it is right for either end and whatever follows.
+/// Where the read failed and the report doesn't say so, it is right for either end and whatever follows.
 pub fn decided_before_failure()
     ensures { DecidedBeforeFailure }
 {}

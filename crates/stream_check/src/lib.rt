@@ -9,14 +9,15 @@ mod deletion;
 mod dropped;
 mod fault;
 mod gate;
-mod held;
 mod hints;
 mod import;
 pub mod laws;
 mod line;
+mod line_stop;
 mod progress;
 mod report;
 mod setting;
+mod stream_state;
 
 pub use checker::Checker;
 pub use dropped::Dropped;

@@ -1,4 +1,4 @@
-//! What is said of a stream in the end.
+//! How a stream is judged in the end.
 use crate::fault::Fault;
 
 /// How a stream ended. A line is named by its number, from 1 on, which stays at 2^64 - 1 once it is there.
@@ -14,7 +14,7 @@ pub enum Ending {
     Memory(u64),
 }
 
-/// What is said of a stream in the end.
+/// How a stream is judged in the end.
 #[derive(Clone, Copy, Debug, PartialEq, Eq)]
 pub struct Report {
     /// The good additions.

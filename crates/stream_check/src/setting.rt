@@ -1,4 +1,4 @@
-//! Whose lines are checked.
+//! The stream whose lines are checked, and the terms of the checking.
 ghost use Rattle.std.specs.Prelude.{◌≡◌, ◌↔◌, IsTrue};
 ghost use Rattle.lrup_model.specs.Layout.{IsIdentity};
 ghost use Rattle.stream_check.specs.Setting.{side_of, is_shared, tries_on};
@@ -99,14 +99,14 @@ impl Setting {
         }
     }
 
-    /// Is this an identity: 1 to the last?
+    /// Whether this is an identity: 1 to the last.
     pub fn covers(&self, id: Id) -> bool
         ensures { IsTrue result ↔ IsIdentity self.now.layout id }
     {
         0 < id && id <= self.last
     }
 
-    /// Is it the formula's or another stream's?
+    /// Whether it is the formula's or another stream's.
     pub fn shares(&self, id: Id) -> bool
         ensures { result ≡ is_shared (side_of self.now id) }
     {

@@ -77,3 +77,11 @@ closes end v u report reports told bytes blocks free leaves =
     let judged = reports bytes blocks free leaves in
     let same : report ≡ report_of_tally u.tally judged.0 = subst (λ (e : Option Ending). IfSome e (λ ending. report ≡ report_of_tally u.tally ending)) judged.1 told in
     subst (JudgesBlocks v.setting bytes end blocks) (sym same) judged.2
+
+-- where it was over before, its ending stays
+pub stays_over : (end : StreamEnd) (v u : CheckerValue) (report : Report) → Ends end v u → IfSome u.ending (λ ending. report ≡ report_of_tally u.tally ending)
+    → (ending : Ending) → v.ending ≡ Some ending → report.ending ≡ ending
+stays_over end v u report ends told ending is =
+    let same : u ≡ v = subst (λ (o : Option Ending). EndsBy o end v u) is ends in
+    let at : u.ending ≡ Some ending = ap (λ (w : CheckerValue). w.ending) same ∙ is in
+    ap (λ (r : Report). r.ending) (subst (λ (o : Option Ending). IfSome o (λ its. report ≡ report_of_tally u.tally its)) at told)

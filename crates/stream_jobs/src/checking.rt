@@ -1,33 +1,35 @@
 //! The job of the thread that checks a stream.
-ghost use Rattle.std.specs.Prelude.{◌≡◌, ◌<◌, ◌≤◌, ℕ, List, [], false, length, vec_len, IfOk, IfErr, IfSome, IsSome};
+ghost use Rattle.std.specs.Prelude.{◌≡◌, ◌<◌, ◌≤◌, ℕ, List, [], Some, false, length, vec_len, IfOk, IfErr, IfSome, IsSome};
 ghost use Rattle.lrup_model.specs.Event.{History};
 ghost use Rattle.lrup_model.specs.Layout.{IsStream};
 ghost use Rattle.rtrb.specs.Ring.{received, SameConsumer};
+ghost use Rattle.stream_check.specs.declared.report.Ending.{Ending};
 ghost use Rattle.stream_check.specs.Checker.{IsNew, IsReadyAt, LeavesOn, checker_state};
 ghost use Rattle.stream_check.specs.Judging.{joined, JudgesBlocks};
 ghost use Rattle.stream_check.specs.Leaving.{Leaves};
 ghost use Rattle.stream_jobs.specs.Judged.{JudgesAtMark};
 ghost use Rattle.stream_ring.specs.Items.{EndsAtMark};
 
+use crate::start::wait_for_start;
 use lrup_model::ClauseMap;
-use lrup_text::StreamEnd;
+use lrup_text::{PIECE, StreamEnd};
 use rtrb::Consumer;
 use runs::Terms;
 use std::alloc::{AllocError, Global};
 use std::sync::{OnceLock, OnceToken, Wait};
 use stream_check::laws::over_stays;
 use stream_check::{CheckTurn, Checker, Dropped, Gate, Report};
-use stream_ring::{Received, Receiver, told};
+use stream_ring::{Received, Receiver};
 
 /// The most items that are popped, and the most bytes that are fed, at once.
-const POPPED: usize = 65_536;
+const POPPED: usize = PIECE;
 
-/// What a checking thread is given: a stream's checker and its gate, and its end of the ring, of which nothing was received yet.
+/// What a checking thread is given: a stream's checker and its gate, and its end of the ring, from which nothing was received yet.
 #[derive(Drop)]
 pub struct CheckingJob<G: Gate + Drop> {
     /// The stream's checker, before its first byte.
     pub checker: Checker,
-    /// What is told of its fetches and publishes.
+    /// The stream's gate, called before its fetches and after its publishes.
     pub gate: G,
     /// The end of the ring from which its bytes come.
     pub receiver: Receiver,
@@ -37,15 +39,15 @@ pub struct CheckingJob<G: Gate + Drop> {
     ghost nothing: { received receiver.consumer ≡ [] },
 }
 
-/// What a checking thread gives back: what is said of the stream, or nothing where no mark came, what the stream dropped, and its
-/// end of the ring.
+/// What a checking thread gives back: the stream's report, or none where no mark came, what the stream dropped, and its end of the
+/// ring.
 #[derive(Drop)]
 pub struct Checked {
-    /// How the stream is judged. None where the other end was gone before a mark came.
+    /// The stream's report. None where the other end was gone before a mark came.
     pub report: Option<Report>,
     /// The identities that the stream dropped.
     pub dropped: Dropped,
-    /// Where all was received, up to the mark.
+    /// The end from which all was received, up to the mark.
     pub consumer: Consumer<u16>,
 }
 
@@ -78,8 +80,8 @@ impl<G: Gate + Drop> CheckingJob<G> {
     }
 }
 
-/// Waits for the start signal, and then checks what is received, up to the mark; after a bad line the rest is received and nothing more is
-/// said of it. Where it says to leave, nothing is received, and the signal's token is the answer. It blocks while the ring is
+/// Waits for the start signal, and then checks what is received, up to the mark; after a bad line the rest is received, and doesn't
+/// change the report. Where the signal says to leave, nothing is received, and its token is the answer. It blocks while the ring is
 /// empty.
 pub fn check_when_told<'a, W: Wait, G: Gate + Drop, M: ClauseMap>(
     wait: &W,
@@ -95,7 +97,7 @@ pub fn check_when_told<'a, W: Wait, G: Gate + Drop, M: ClauseMap>(
         × JudgesAtMark job.checker (M.place map.old).room (received checked.consumer)
         blocks checked.dropped.ids report)) }
 {
-    let token = told(wait, signal);
+    let token = wait_for_start(wait, signal);
     if !*signal.value(&token) {
         return Err(token);
     }
@@ -122,7 +124,7 @@ pub fn check_when_told<'a, W: Wait, G: Gate + Drop, M: ClauseMap>(
     })
 }
 
-/// Checks what is received, up to the mark, and says how the stream is judged. None where no mark came.
+/// Checks what is received, up to the mark, and returns the stream's report. None where no mark came.
 fn judge<W: Wait, G: Gate, M: ClauseMap>(
     wait: &W,
     checker: &mut Checker,
@@ -143,30 +145,34 @@ fn judge<W: Wait, G: Gate, M: ClauseMap>(
         blocks checker.new.dropped report) }
 {
     let end = check_received(wait, checker, gate, receiver, items, bytes, map)?;
-    Some(settle(checker, gate, end))
+    Some(finish_and_notify_gate(checker, gate, end))
 }
 
-/// Takes the end of the stream, or a read that failed, and says how the stream is judged; to the gate too, where it wasn't over before.
-fn settle<G: Gate>(checker: &mut Checker, gate: &mut G, end: StreamEnd) -> Report
+/// Finishes the checker, and says how the stream is judged; to the gate too, where it wasn't over before.
+fn finish_and_notify_gate<G: Gate>(checker: &mut Checker, gate: &mut G, end: StreamEnd) -> Report
     ensures judges { (bytes : List ℕ) (blocks : List History) (free : ℕ)
         → Leaves checker.old.setting bytes blocks (checker_state checker.old free)
         → JudgesBlocks checker.old.setting bytes end blocks result }
     ensures dropped { checker.new.dropped ≡ checker.old.dropped }
+    // One that was over keeps its ending.
+    ensures over { (ending : Ending) → checker.old.ending ≡ Some ending → result.ending ≡ ending }
 {
     let was_over = checker.is_over();
-    let report = close(checker, end);
+    let report = finish_checker(checker, end);
     if !was_over {
         gate.when_over(checker.stream(), &report);
     }
     report
 }
 
-/// Takes the end of the stream, or a read that failed, and says how the stream is judged.
-fn close(checker: &mut Checker, end: StreamEnd) -> Report
+/// Lets the checker take the end of the stream, or a read that failed, and says how the stream is judged.
+fn finish_checker(checker: &mut Checker, end: StreamEnd) -> Report
     ensures judges { (bytes : List ℕ) (blocks : List History) (free : ℕ)
         → Leaves checker.old.setting bytes blocks (checker_state checker.old free)
         → JudgesBlocks checker.old.setting bytes end blocks result }
     ensures dropped { checker.new.dropped ≡ checker.old.dropped }
+    // One that was over keeps its ending.
+    ensures over { (ending : Ending) → checker.old.ending ≡ Some ending → result.ending ≡ ending }
 {
     match end {
         StreamEnd::Ended => checker.end(),
@@ -175,7 +181,7 @@ fn close(checker: &mut Checker, end: StreamEnd) -> Report
     checker.report()
 }
 
-/// Checks what is received, up to the mark, and says which end that tells. None where no mark came.
+/// Checks what is received, up to the mark, and returns the end that the mark stands for. None where no mark came.
 fn check_received<W: Wait, G: Gate, M: ClauseMap>(
     wait: &W,
     checker: &mut Checker,

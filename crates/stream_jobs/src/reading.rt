@@ -4,14 +4,12 @@ ghost use Rattle.lrup_text.specs.ReadOut.{source_view};
 ghost use Rattle.rtrb.specs.Ring.{sent, SameProducer};
 ghost use Rattle.stream_ring.specs.Items.{SendsAll};
 
-use lrup_text::Source;
+use crate::start::wait_for_start;
+use lrup_text::{PIECE, Source};
 use rtrb::Producer;
 use std::alloc::{AllocError, Global};
 use std::sync::{OnceLock, OnceToken, Wait};
-use stream_ring::{Sender, told};
-
-/// The most bytes that one read asks for.
-const PIECE: usize = 65_536;
+use stream_ring::Sender;
 
 /// The most items that are pushed at once.
 const PUSHED: usize = 4_096;
@@ -19,7 +17,7 @@ const PUSHED: usize = 4_096;
 /// What a reading thread is given: a reader that hasn't failed, and its end of the ring, into which nothing was sent yet.
 #[derive(Drop)]
 pub struct ReadingJob<R: Source + Drop> {
-    /// What tells the stream's bytes.
+    /// The stream's reader.
     pub reader: R,
     /// The end of the ring into which they go.
     pub sender: Sender,
@@ -35,7 +33,7 @@ pub struct ReadingJob<R: Source + Drop> {
 pub struct Sent<R: Source + Drop> {
     /// The reader, at its end or after a read that failed.
     pub reader: R,
-    /// Where all that it told was sent, and one mark.
+    /// The end into which all that the reader told was sent, and one mark.
     pub producer: Producer<u16>,
 }
 
@@ -58,8 +56,8 @@ impl<R: Source + Drop> ReadingJob<R> {
     }
 }
 
-/// Waits for the start signal, and then reads all and sends it, and one mark. Where it says to leave, nothing is read, and the signal's
-/// token is the answer. It blocks while the reader does, or while the ring is full.
+/// Waits for the start signal, and then reads all and sends it, and one mark. Where the signal says to leave, nothing is read, and
+/// its token is the answer. It blocks while the reader does, or while the ring is full.
 pub fn read_when_told<'a, W: Wait, R: Source + Drop>(
     wait: &W,
     signal: &'a OnceLock<bool>,
@@ -70,7 +68,7 @@ pub fn read_when_told<'a, W: Wait, R: Source + Drop>(
     ensures sent { IfOk result (λ s. SendsAll _ (source_view R.left R.has_failed R.reads)
         job.reader s.reader (sent s.producer)) }
 {
-    let token = told(wait, signal);
+    let token = wait_for_start(wait, signal);
     if !*signal.value(&token) {
         return Err(token);
     }

@@ -23,6 +23,7 @@ use stream_check::laws::ready_new;
 use stream_check::{Ending, Fault, Gate, Report};
 use stream_jobs::{
     Checked, CheckingJob, ReadingJob, Sent, check_when_told, jobs, meet, read_when_told,
+    wait_for_start,
 };
 use test_support::Pieces;
 
@@ -323,6 +324,28 @@ fn reads_and_checks_on_one_thread(rt: HostRuntime) -> Result<(), Fail> {
     };
     same(&rt, said, Some(wanted));
     same(&rt, counters.late.load(Ordering::SeqCst), 0);
+    Ok(())
+}
+
+/// Both wait for the signal, which comes after a pause.
+#[test]
+fn both_see_the_signal(rt: HostRuntime) -> Result<(), Fail> {
+    for round in 0..200u64 {
+        let signal = OnceLock::new();
+        let wanted = round % 2 == 0;
+        let (first, second) = join(
+            &rt,
+            || *signal.value(&wait_for_start(&rt, &signal)),
+            || {
+                if round % 3 > 0 {
+                    pause(&rt);
+                }
+                let _ = signal.set(&rt, wanted);
+                *signal.value(&wait_for_start(&rt, &signal))
+            },
+        );
+        same(&rt, (round, first, second), (round, wanted, wanted));
+    }
     Ok(())
 }
 

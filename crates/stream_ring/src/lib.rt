@@ -2,8 +2,6 @@
 #![tactic(auto)]
 
 mod blocks;
-mod ends;
-mod start;
+mod channel;
 
-pub use ends::{Received, Receiver, Sender, came_through, ring};
-pub use start::told;
+pub use channel::{Received, Receiver, Sender, came_through, ring};

@@ -6,12 +6,12 @@ use lrup_text::{ReadFault, Source, StreamEnd};
 use std::alloc::{AllocError, Global};
 use std::fmt;
 use std::process::Abort;
+use std::sync::Wait;
 use std::sync::atomic::{AtomicU64, Ordering};
-use std::sync::{OnceLock, Wait};
 use std::test::Fail;
 use std::thread::{self, Threads, join, yield_now};
 use std::time::{Clock, Duration};
-use stream_ring::{Received, Receiver, Sender, came_through, ring, told};
+use stream_ring::{Received, Receiver, Sender, came_through, ring};
 
 /// Stops the test where two values differ: an assertion that is proved once for all tests.
 fn same<T: PartialEq + fmt::Debug + Drop>(rt: &impl Abort, value: T, wanted: T) {
@@ -482,28 +482,6 @@ fn a_sender_that_goes_wakes_the_receiver(rt: HostRuntime) -> Result<(), Fail> {
         };
         let (_, came) = join(&rt, || go(&rt, sender, count), || hear(&rt, hearing));
         same(&rt, came, (Heard { count, wrong: 0 }, None));
-    }
-    Ok(())
-}
-
-/// Both wait for the signal, which comes after a pause.
-#[test]
-fn both_see_the_signal(rt: HostRuntime) -> Result<(), Fail> {
-    for round in 0..200u64 {
-        let signal = OnceLock::new();
-        let wanted = round % 2 == 0;
-        let (first, second) = join(
-            &rt,
-            || *signal.value(&told(&rt, &signal)),
-            || {
-                if round % 3 > 0 {
-                    pause(&rt);
-                }
-                let _ = signal.set(&rt, wanted);
-                *signal.value(&told(&rt, &signal))
-            },
-        );
-        same(&rt, (round, first, second), (round, wanted, wanted));
     }
     Ok(())
 }

@@ -68,6 +68,7 @@ pub record Finishes {S : Type 0} (view : SourceView S) (jobs : JobsValue S)
       → (stream : Stream) × IsSome stream.end × IsStreamOf view jobs.reader found.reader stream
       × JudgesStream jobs.checker.setting stream blocks found.report
       × DropsBy jobs.checker (pass_place jobs.pass.view).room stream.bytes blocks found.dropped.ids
+      found.report
 
 -- what was found of each stream, in order
 abbrev pub AllFinish : {S : Type 0} → SourceView S → List (JobsValue S) → List (FoundValue S)

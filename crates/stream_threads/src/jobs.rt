@@ -5,8 +5,8 @@ ghost use Rattle.lrup_model.specs.Layout.{IsStream};
 ghost use Rattle.stream_check.specs.Checker.{IsNew};
 ghost use Rattle.stream_threads.specs.Jobs.{AreJobs};
 
-use crate::ends::{CheckTask, CheckedPass, ReadTask};
 use crate::joining::StreamResult;
+use crate::tasks::{CheckTask, CheckedPass, ReadTask};
 use clause_store::Pass;
 use lrup_text::Source;
 use runs::Terms;
@@ -16,13 +16,12 @@ use std::thread::PromisedHandle;
 use stream_check::Gate;
 use stream_jobs::{CheckingJob, ReadingJob, Sent, jobs};
 
-/// Why threads didn't find something of each stream.
+/// Why threads found nothing of some stream.
 #[derive(Drop)]
 pub enum ThreadFault<R: Source + Drop> {
     /// A thread of this stream, from 1 on, couldn't be started. No reader was read.
     Spawn(u64),
-    /// The threads were started, and the checking thread of the stream behind these was the first that met no mark. This is what
-    /// was found of the streams before it.
+    /// The threads were started. This is what was found of the streams before the first one whose checking thread met no mark.
     Ring(Vec<StreamResult<R>>),
 }
 
@@ -76,7 +75,7 @@ impl<R: Source + Drop, G: Gate + Drop> StreamJobs<R, G> {
     }
 }
 
-/// The jobs of all streams, in order: as many gates and passes as readers are wanted.
+/// The jobs of all streams, in order. There have to be as many gates and passes as readers.
 pub fn jobs_of<R: Source + Drop, G: Gate + Drop>(
     alloc: Global,
     terms: &Terms<'_>,

@@ -7,9 +7,9 @@ ghost use Rattle.stream_ring.specs.Items.{SendsAll};
 ghost use Rattle.stream_threads.specs.Faults.{IsFaultWithin, IsFirstFault, IsRingBehind};
 ghost use Rattle.stream_threads.specs.Jobs.{AllEnd, AllFinish, CanBegin, Finishes, FoundValue, JobsValue, JudgesAtPass};
 
-use crate::ends::CheckedPass;
 use crate::jobs::{HalfStarted, Started, StreamJobs, ThreadFault};
 use crate::starting::{start_all_checking, start_all_reading};
+use crate::tasks::CheckedPass;
 use clause_store::{Pass, Store};
 use lrup_text::Source;
 use std::alloc::{AllocError, Global};
@@ -46,7 +46,7 @@ impl<R: Source + Drop> Model for StreamResult<R> {
     } };
 }
 
-/// Room for what is gathered of so many streams.
+/// Room for what is gathered of a number of streams.
 #[derive(Drop)]
 pub struct Room<R: Source + Drop, G: Gate + Drop> {
     halves: Vec<HalfStarted<R, G>>,
@@ -69,7 +69,7 @@ impl<R: Source + Drop, G: Gate + Drop> Model for Room<R, G> {
 }
 
 impl<R: Source + Drop, G: Gate + Drop> Room<R, G> {
-    /// Room for so many streams.
+    /// Room for `count` streams.
     pub fn new(alloc: Global, count: usize) -> Result<Room<R, G>, AllocError>
         ensures { IfOk result (λ room. room ≡ count) }
     {
@@ -138,7 +138,7 @@ fn join_all<T: Threads, R: Source + Drop, G: Gate + Drop>(
     ends
 }
 
-/// What was found of all streams; or, where of some nothing was, what was found of those before the first of them.
+/// What was found of all streams; or, where nothing was found of some, what was found of those before the first of these.
 fn all_found<R: Source + Drop>(
     ends: Vec<Option<StreamResult<R>>>,
     mut found: Vec<StreamResult<R>>,
@@ -204,7 +204,7 @@ fn start_and_join<
 
 /// Reads and checks all streams, each in two threads of its own, until all have ended. No reader is read before all threads have
 /// been started; where one can't be, those that were leave at once. It blocks while a reader does. A fault of a ring has what was
-/// found of the streams before the first of which nothing was.
+/// found of the streams before the first of which nothing was found.
 pub fn check_all<T: Threads + Wait + Sync, R: Source + Send + Drop, G: Gate + Send + Drop>(
     threads: &T,
     store: &Store,

@@ -1,10 +1,10 @@
 //! Two threads for each stream of a run, one that reads it and one that checks it, at one store of clauses.
 #![tactic(auto)]
 
-mod ends;
 mod jobs;
 mod joining;
 mod starting;
+mod tasks;
 
 pub use jobs::{StreamJobs, ThreadFault, jobs_of};
 pub use joining::{Room, StreamResult, check_all};

@@ -3,8 +3,8 @@ ghost use Rattle.std.specs.Prelude.{◌≡◌, ◌<◌, ◌≤◌, [], IfErr, If
 ghost use Rattle.std.specs.List.{AllByRecursion};
 ghost use Rattle.stream_threads.specs.Jobs.{CanBegin};
 
-use crate::ends::{CheckTask, ReadTask, check, read};
 use crate::jobs::{HalfStarted, Started, StreamJobs};
+use crate::tasks::{CheckTask, ReadTask, check, read};
 use clause_store::Store;
 use lrup_text::Source;
 use std::snapshot::Snapshot;

@@ -4,7 +4,7 @@ ghost use Rattle.std.specs.Prelude.{◌≡◌, [], Some, false};
 use lrup_text::{ReadFault, Sink, Source, WriteFault};
 use std::alloc::Global;
 
-/// A text that comes so many bytes a read, at least one, until a read of some number, from 1 on, fails.
+/// A text of which a read gives at most `most` bytes, at least one, until read number `fails_at`, from 1 on, fails.
 #[derive(Drop)]
 pub struct Pieces<'a> {
     /// What no read has given yet.
@@ -62,7 +62,7 @@ impl Source for Pieces<'_> {
     }
 }
 
-/// A sink that accepts at most so many bytes a write, at least one, until a write of some number, from 1 on, fails.
+/// A sink that takes at most `most` bytes a write, at least one, until write number `fails_at`, from 1 on, fails.
 #[derive(Drop)]
 pub struct Paper {
     /// What was written.

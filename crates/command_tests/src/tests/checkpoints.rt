@@ -289,9 +289,16 @@ fn assert_unsaved<T: Threads + Wait + Sync + Clock + Abort>(
     Ok(())
 }
 
-/// No stream is checked then.
+/// No stream is checked then. Where the row would be too long none is asked for.
 #[test]
 fn checkpoints_that_are_not_created(rt: HostRuntime) -> Result<(), Fail> {
+    let too_long = Row {
+        words: &["--room", "268435456", "--checkpoint", "ck", "f", "1"],
+        streams: &[DROPS],
+        ends: (2, "", "lrupd: row too long\n"),
+        left: ("f 1 ", "", 0),
+    };
+    assert_row(&rt, rt.alloc(), &too_long)?;
     let there = Manner {
         is_there: true,
         ..WELL

@@ -1,8 +1,11 @@
-use Rattle.std.proofs.Common.{◌≡◌, ◌∙◌, Bool, List, map, refl, sym, ap, subst}
+use Rattle.std.proofs.Common.{◌≡◌, ◌∙◌, ℕ, Bool, List, length, map, refl, sym, ap, subst}
 use Rattle.clap.specs.Walk.{texts}
-use Rattle.command.specs.Commands.{AreOpened, IsCause, IsCreateCause, IsFormulaAt, Text, assumed_at, checkpoint_at, files_view, from_first, options_of}
+use Rattle.lrup_model.specs.Layout.{IsFault}
+use Rattle.lrup_model.specs.declared.layout.LayoutFault.{LayoutFault}
+use Rattle.portfolio.specs.Outcomes.{layout_of}
+use Rattle.command.specs.Commands.{AreOpened, IsCause, IsCreateCause, IsFormulaAt, IsRunCause, Text, assumed_at, checkpoint_at, files_view, from_first, options_of}
 use Rattle.command.specs.Faults.{of_formula}
-use Rattle.command.proofs.CheckingLemmas.{assumed_cause, create_cause, err_given, is_outcome, open_cause, open_moved, read_cause, run_cause_of, some_given}
+use Rattle.command.proofs.CheckingLemmas.{assumed_cause, create_cause, err_given, is_outcome, layout_moved, open_cause, open_moved, read_cause, run_cause_of, some_given}
 use Rattle.command.proofs.SavingLemmas.{leaves_checkpoint}
 use Rattle.command.proofs.FileLemmas.{moved_cause, text_cause}
 use Rattle.command.proofs.checking.check_asked.Goals as goal
@@ -44,6 +47,22 @@ returns-in_err-readers-clause-cause g c words first good at =
     err_given c.from_residual-in_err-readers.result _ (IsCause files words)
     (λ other is. subst (IsCause files words) (sym is) cause) c.from_residual-in_err-readers.ensures.1
 
+pub returns-in_err-find_layout-clause-cause : goal.returns-in_err-find_layout-clause-cause
+returns-in_err-find_layout-clause-cause g c words first good at =
+    let files = from_first (files_view g.F.Files g.F.Input.Source g.F.Output.Sink c.args.files.now) first in
+    let line = c.args.asked.line in
+    let formula = c.in_ok-formula.formula in
+    let is_formula : IsFormulaAt files line.formula.now formula c.args.files.now = (c.args.asked.formula.items, at, c.in_ok-formula.ensures.formula) in
+    let count : c.len.result ≡ length c.in_ok-readers.readers.items = c.len.ensures ∙ c.in_ok-readers.readers.ok.0 in
+    let fault = c.in_err-find_layout.field-0.0 in
+    let moved = subst (λ (n : ℕ). IsRunCause line.serial (layout_of c.unwrap-options.result formula n) fault) count c.in_err-find_layout.ensures.cause in
+    let cause = run_cause_of files words line formula c.in_ok-cube.cube c.unwrap-options.result c.in_ok-readers.readers.items c.args.files.now c.read_assumed.new.files good is_formula
+    c.in_ok-cube.ensures.cube (some_given _ c.unwrap-options.ensures c.new.ensures.some)
+    (c.in_ok-readers.ensures.left ∙ ap (λ t. map t (texts c.as_slice.result.now)) c.in_ok-cube.ensures.stays ∙ ap (map (g.F.Files.tells c.args.files.now)) c.as_slice.ensures)
+    fault moved in
+    err_given c.from_residual-in_err-find_layout.result _ (IsCause files words)
+    (λ other is. subst (IsCause files words) (sym is) cause) c.from_residual-in_err-find_layout.ensures.1
+
 pub returns-in_err-output-clause-cause : goal.returns-in_err-output-clause-cause
 returns-in_err-output-clause-cause g c words first good at =
     let files = from_first (files_view g.F.Files g.F.Input.Source g.F.Output.Sink c.args.files.now) first in
@@ -58,7 +77,11 @@ returns-in_err-output-clause-cause g c words first good at =
     let fault = c.in_err-output.field-0.0 in
     let stays = c.in_ok-readers.ensures.stays_refused_new ∙ c.in_ok-cube.ensures.stays_refused_new in
     let moved = subst (λ (may : Text → Bool). IsCreateCause may (checkpoint_at line) fault) stays c.in_err-output.ensures.cause in
-    let cause = create_cause files words line formula c.in_ok-cube.cube c.args.files.now later good is_formula c.in_ok-cube.ensures.cube readers last opened fault moved in
+    let left = c.in_ok-readers.ensures.left ∙ ap (λ t. map t (texts c.as_slice.result.now)) c.in_ok-cube.ensures.stays ∙ ap (map (g.F.Files.tells c.args.files.now)) c.as_slice.ensures in
+    let count : c.len.result ≡ length readers = c.len.ensures ∙ c.in_ok-readers.readers.ok.0 in
+    let found = subst (λ (n : ℕ). (other : LayoutFault) → IsFault (layout_of c.unwrap-options.result formula n) other → ⊥) count c.in_ok-find_layout.ensures.found in
+    let layout = layout_moved files line formula c.unwrap-options.result c.in_ok-readers.readers.items (some_given _ c.unwrap-options.ensures c.new.ensures.some) left found in
+    let cause = create_cause files words line formula c.in_ok-cube.cube c.args.files.now later good is_formula c.in_ok-cube.ensures.cube readers last opened layout fault moved in
     err_given c.from_residual-in_err-output.result _ (IsCause files words)
     (λ other is. subst (IsCause files words) (sym is) cause) c.from_residual-in_err-output.ensures.1
 

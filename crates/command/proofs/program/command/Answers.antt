@@ -2,7 +2,7 @@ use Rattle.std.proofs.Common.{◌⊎◌, ℕ, Bool, List, Option, subst}
 use Rattle.clap.specs.Walk.{texts}
 use Rattle.command.specs.Commands.{EndsWithFault, EndsWithReport, FilesView, Text, WasReadIn, change, files_view}
 use Rattle.command.proofs.CheckingLemmas.{names_unsatisfiable, names_unsatisfiable_under}
-use Rattle.command.proofs.StatusLemmas.{ends_saved, ends_unwritten}
+use Rattle.command.proofs.StatusLemmas.{ends_empty, ends_saved, ends_unwritten}
 use Rattle.command.proofs.program.command.Goals as goal
 
 pub returns-in-Ok-clause-sound : goal.returns-in-Ok-clause-sound
@@ -42,3 +42,6 @@ returns-in-Ok-clause-saved g c = ends_saved _ _ _ _ _ _ (returns-in-Ok-clause-en
 
 pub returns-in-Ok-clause-unwritten : goal.returns-in-Ok-clause-unwritten
 returns-in-Ok-clause-unwritten g c = ends_unwritten _ _ _ _ _ _ (returns-in-Ok-clause-ends g c)
+
+pub returns-in-Ok-clause-none_saved : goal.returns-in-Ok-clause-none_saved
+returns-in-Ok-clause-none_saved g c = ends_empty _ _ _ _ _ _ (returns-in-Ok-clause-ends g c)

@@ -26,31 +26,31 @@ returns-then-not-is_digit-clause-fault c =
     (misspelled read (InLiteral true k n) c.in-Some.field-0-0.now c.in-Some.next.now stands (c.loop-byte.invariant.fits.few, few)
     (λ signed. literal_blocks signed true k n c.in-Some.field-0-0.now (λ low high. let wrong = c.if-not-is_digit.ensures.1 (low, high) in cc) c.if-byte-eq32.false)))
 
-pub returns-then-digits-eq-MOST_DIGITS-clause-fault :
-    goal.returns-then-digits-eq-MOST_DIGITS-clause-fault
-returns-then-digits-eq-MOST_DIGITS-clause-fault c =
+pub returns-then-digits-eq-MAX_DIGITS-clause-fault :
+    goal.returns-then-digits-eq-MAX_DIGITS-clause-fault
+returns-then-digits-eq-MAX_DIGITS-clause-fault c =
     let digit = c.is_digit.ensures.0 c.if-not-is_digit.false in
     digits_fault c.args.first c.args.after.now c.loop-byte.number c.loop-byte.digits c.loop-byte.rest.now TooLong c.loop-byte.invariant
-    (subst (λ k. IsRestFault (InLiteral true k) c.loop-byte.rest.now TooLong) (sym c.if-digits-eq-MOST_DIGITS.true)
+    (subst (λ k. IsRestFault (InLiteral true k) c.loop-byte.rest.now TooLong) (sym c.if-digits-eq-MAX_DIGITS.true)
     (λ read n few stands. subst (λ (t : List ℕ). IsTextFault IsCubeLine (read ++ t) TooLong) (sym c.in-Some.ensures.cases.0)
     (too_long read (InLiteral true 18 n) c.in-Some.field-0-0.now c.in-Some.next.now stands (omega arith, few) (literal_exceeds true n c.in-Some.field-0-0.now few digit))))
 
 pub overflow_mul-number : goal.overflow_mul-number
 overflow_mul-number c =
-    let few : c.loop-byte.digits < 18 = omega (arith, c.loop-byte.invariant.fits.few, c.if-digits-eq-MOST_DIGITS.false) in
+    let few : c.loop-byte.digits < 18 = omega (arith, c.loop-byte.invariant.fits.few, c.if-digits-eq-MAX_DIGITS.false) in
     let digit = c.is_digit.ensures.0 c.if-not-is_digit.false in
     omega (arith, next_fits c.args.first c.args.after.now c.loop-byte.number c.loop-byte.digits c.loop-byte.rest.now c.in-Some.field-0-0.now c.loop-byte.invariant digit few)
 
 pub overflow_add-number : goal.overflow_add-number
 overflow_add-number c =
-    let few : c.loop-byte.digits < 18 = omega (arith, c.loop-byte.invariant.fits.few, c.if-digits-eq-MOST_DIGITS.false) in
+    let few : c.loop-byte.digits < 18 = omega (arith, c.loop-byte.invariant.fits.few, c.if-digits-eq-MAX_DIGITS.false) in
     let digit = c.is_digit.ensures.0 c.if-not-is_digit.false in
     omega (arith, next_fits c.args.first c.args.after.now c.loop-byte.number c.loop-byte.digits c.loop-byte.rest.now c.in-Some.field-0-0.now c.loop-byte.invariant digit few, c.from.ensures)
 
 pub loop-byte-preserved : goal.loop-byte-preserved
 loop-byte-preserved c =
     let digit = c.is_digit.ensures.0 c.if-not-is_digit.false in
-    let few : c.loop-byte.digits < 18 = omega (arith, c.loop-byte.invariant.fits.few, c.if-digits-eq-MOST_DIGITS.false) in
+    let few : c.loop-byte.digits < 18 = omega (arith, c.loop-byte.invariant.fits.few, c.if-digits-eq-MAX_DIGITS.false) in
     let next = c.in-Some.next.now in
     subst (λ d. DigitsSoFar c.args.first c.args.after.now (c.loop-byte.number * 10 + d) (c.loop-byte.digits + 1) next) (sym c.from.ensures)
     (digits_next c.args.first c.args.after.now c.loop-byte.number c.loop-byte.digits c.loop-byte.rest.now next c.in-Some.field-0-0.now c.loop-byte.invariant c.in-Some.ensures.cases.0 digit few)

@@ -13,4 +13,4 @@ loop-end-preserved c =
     (wrapped c.args.text.now c.args.start c.loop-end.number c.loop-end.end c.from.result c.loop-end.invariant c.loop-end-test.true c.if-text-end-le-NINE.true c.from.ensures)
 
 pub returns : goal.returns
-returns c = number_read c.args.text.now c.args.start c.loop-end.number c.loop-end.end c.loop-end.invariant c.if-end-start-gt-MOST_DIGITS.false
+returns c = number_read c.args.text.now c.args.start c.loop-end.number c.loop-end.end c.loop-end.invariant c.if-end-start-gt-MAX_DIGITS.false

@@ -83,9 +83,9 @@ returns-clause-ordered g c =
     let wanted = terms_of c.args.options c.args.cube.now f (length readers) in
     let terms : TermsValue = record { layout = p; cube = c.args.cube.now; tries = c.tries.result } in
     let are : terms ≡ wanted = ap₂ (λ (l : LayoutValue) (n : ℕ). record { layout = l; cube = c.args.cube.now; tries = n }) same c.tries.ensures.tries in
-    run_ordered view f terms wanted readers outcome.readers.items
-    m c.take_turns.new.map started.items c.deref_mut.result.now worked _ outcome.reports.items opened are count (subst (λ (t : TermsValue). AreStarted (source_view g.R.Source.left g.R.Source.has_failed g.R.Source.reads) t 1 c.args.readers.items c.in_ok-workers.workers.items) c.new-terms.ensures c.in_ok-workers.ensures)
-    c.deref_mut.ensures.value c.take_turns.ensures.runs back c.outcome_of.ensures.reports c.outcome_of.ensures.readers
+    run_ordered c.early_is_decided.ensures view f terms wanted readers outcome.readers.items
+    m c.take_turns.new.map started.items c.deref_mut.result.now worked _ outcome.reports.items _ opened are count (subst (λ (t : TermsValue). AreStarted (source_view g.R.Source.left g.R.Source.has_failed g.R.Source.reads) t 1 c.args.readers.items c.in_ok-workers.workers.items) c.new-terms.ensures c.in_ok-workers.ensures)
+    c.deref_mut.ensures.value c.take_turns.ensures.runs back c.outcome_of.ensures.reports c.outcome_of.ensures.readers c.outcome_of.ensures.dropped
 
 -- the law's premise is the layout of the formula and the readers
 pub returns-clause-isolated : goal.returns-clause-isolated

@@ -3,7 +3,7 @@ use Rattle.std.proofs.lemmas.List.{take_more, take_all}
 use Rattle.std.proofs.lemmas.Result.{err_from_is_err_and}
 use Rattle.lrup_model.specs.ListLemmas.{All-append}
 use Rattle.stream_check.specs.Setting.{Setting}
-use Rattle.stream_check.specs.declared.held.Held.{Held}
+use Rattle.stream_check.specs.declared.stream_state.StreamState.{StreamState}
 use Rattle.stream_check.specs.Checking.{IsRetire, DeletesOne, AreDropped}
 use Rattle.stream_check.specs.Checker.{KeepsLines}
 use Rattle.stream_check.proofs.DeleteLemmas.{GoesOn, goes_on, among_ids, stopped_deletion, good_deletion, dropped_more}
@@ -11,7 +11,7 @@ use Rattle.stream_check.proofs.deletion.delete.Goals as goal
 
 pub returns-in_err-delete_one-clause-deleted : goal.returns-in_err-delete_one-clause-deleted
 returns-in_err-delete_one-clause-deleted g c =
-    let old = c.args.held.now in
+    let old = c.args.state.now in
     let s = old.setting in
     let i = c.loop-id.id-index in
     let ids = c.args.ids.now in
@@ -19,8 +19,8 @@ returns-in_err-delete_one-clause-deleted g c =
     let stop = c.in_err-delete_one.field-0.0 in
     let deleted = c.loop-id.invariant.deleted in
     let one = c.in_err-delete_one.ensures.deletes in
-    let deletes : DeletesOne s id c.loop-id.held.dropped.ids c.delete_one.new.held.dropped.ids one.0 (Err stop) =
-    subst (λ (x : Setting). DeletesOne x id c.loop-id.held.dropped.ids c.delete_one.new.held.dropped.ids one.0 (Err stop)) c.loop-id.invariant.kept.setting one.3 in
+    let deletes : DeletesOne s id c.loop-id.state.dropped.ids c.delete_one.new.state.dropped.ids one.0 (Err stop) =
+    subst (λ (x : Setting). DeletesOne x id c.loop-id.state.dropped.ids c.delete_one.new.state.dropped.ids one.0 (Err stop)) c.loop-id.invariant.kept.setting one.3 in
     let count : length (take i ids) ≡ i = omega (arith, length-take i ids, c.loop-id-test.true) in
     let given = err_from_is_err_and c.from_residual.result c.from_residual.ensures.1 in
     rw (given.1, given.2) (
@@ -30,42 +30,42 @@ returns-in_err-delete_one-clause-deleted g c =
       (
         length (take i ids),
         omega (arith, c.in_err-delete_one.ensures.count, c.loop-id.invariant.count, count),
-        stopped_deletion s old.dropped.ids (take i ids) c.loop-id.held.dropped.ids c.delete_one.new.held.dropped.ids id (drop (i + 1) ids) ids deleted.0 one.0 stop (among_ids ids i c.loop-id-test.true) deleted.3 c.loop-id.invariant.dropped deletes,
+        stopped_deletion s old.dropped.ids (take i ids) c.loop-id.state.dropped.ids c.delete_one.new.state.dropped.ids id (drop (i + 1) ids) ids deleted.0 one.0 stop (among_ids ids i c.loop-id-test.true) deleted.3 c.loop-id.invariant.dropped deletes,
       ),
     )
 
-keeps_on : (a b c : Held) → KeepsLines a b → KeepsLines b c → KeepsLines a c
+keeps_on : (a b c : StreamState) → KeepsLines a b → KeepsLines b c → KeepsLines a c
 keeps_on a b c h k = record { setting = k.setting ∙ h.setting; last = k.last ∙ h.last; added = k.added ∙ h.added; empty = k.empty ∙ h.empty; within = k.within ∙ h.within; line = k.line ∙ h.line }
 
 pub loop-id-preserved : goal.loop-id-preserved
 loop-id-preserved g c =
-    let old = c.args.held.now in
+    let old = c.args.state.now in
     let s = old.setting in
     let i = c.loop-id.id-index in
     let ids = c.args.ids.now in
     let id = get_or ids i 0 in
     let deleted = c.loop-id.invariant.deleted in
     let one = c.in_ok-delete_one.ensures.deletes in
-    let deletes : DeletesOne s id c.loop-id.held.dropped.ids c.delete_one.new.held.dropped.ids one.0 (Ok tt) =
-    subst (λ (x : Setting). DeletesOne x id c.loop-id.held.dropped.ids c.delete_one.new.held.dropped.ids one.0 (Ok tt)) c.loop-id.invariant.kept.setting one.3 in
+    let deletes : DeletesOne s id c.loop-id.state.dropped.ids c.delete_one.new.state.dropped.ids one.0 (Ok tt) =
+    subst (λ (x : Setting). DeletesOne x id c.loop-id.state.dropped.ids c.delete_one.new.state.dropped.ids one.0 (Ok tt)) c.loop-id.invariant.kept.setting one.3 in
     let more : take (i + 1) ids ≡ take i ids ++ id ∷ [] = take_more ids i 0 c.loop-id-test.true in
     record {
-      kept = keeps_on old c.loop-id.held c.delete_one.new.held c.loop-id.invariant.kept c.delete_one.ensures.kept;
+      kept = keeps_on old c.loop-id.state c.delete_one.new.state c.loop-id.invariant.kept c.delete_one.ensures.kept;
       count = omega (arith, c.in_ok-delete_one.ensures.count, c.loop-id.invariant.count);
-      dropped = subst (λ (js : List ℕ). AreDropped s old.dropped.ids js c.delete_one.new.held.dropped.ids) (sym more)
-          (dropped_more s old.dropped.ids (take i ids) c.loop-id.held.dropped.ids c.delete_one.new.held.dropped.ids id one.0 c.loop-id.invariant.dropped deletes);
+      dropped = subst (λ (js : List ℕ). AreDropped s old.dropped.ids js c.delete_one.new.state.dropped.ids) (sym more)
+          (dropped_more s old.dropped.ids (take i ids) c.loop-id.state.dropped.ids c.delete_one.new.state.dropped.ids id one.0 c.loop-id.invariant.dropped deletes);
       deleted = (
         deleted.0 ++ one.0,
         g.met.M.ClauseMap.moves_append c.args.map.now c.loop-id.map c.delete_one.new.map deleted.0 one.0 deleted.1 one.1,
         All-append IsRetire deleted.0 one.0 deleted.2 one.2,
         subst (λ (js : List ℕ). GoesOn s old.dropped.ids js (deleted.0 ++ one.0)) (sym more)
-            (goes_on s old.dropped.ids (take i ids) c.loop-id.held.dropped.ids c.delete_one.new.held.dropped.ids id deleted.0 one.0 deleted.3 c.loop-id.invariant.dropped deletes),
+            (goes_on s old.dropped.ids (take i ids) c.loop-id.state.dropped.ids c.delete_one.new.state.dropped.ids id deleted.0 one.0 deleted.3 c.loop-id.invariant.dropped deletes),
       );
     }
 
 pub returns-clause-deleted : goal.returns-clause-deleted
 returns-clause-deleted g c =
-    let old = c.args.held.now in
+    let old = c.args.state.now in
     let s = old.setting in
     let i = c.loop-id.id-index in
     let ids = c.args.ids.now in
@@ -81,7 +81,7 @@ returns-clause-deleted g c =
         (
           good_deletion s old.dropped.ids (take i ids) ids deleted.0 whole deleted.3,
           count,
-          subst (λ (js : List ℕ). AreDropped s old.dropped.ids js c.loop-id.held.dropped.ids) whole c.loop-id.invariant.dropped,
+          subst (λ (js : List ℕ). AreDropped s old.dropped.ids js c.loop-id.state.dropped.ids) whole c.loop-id.invariant.dropped,
         ),
       ),
     )

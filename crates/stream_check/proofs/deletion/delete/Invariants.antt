@@ -11,11 +11,11 @@ use Rattle.stream_check.proofs.deletion.delete.Given as goal
 abbrev pub invariant-loop-id : goal.invariant-loop-id
 invariant-loop-id g l =
     let earlier = take l.id-index l.ids in
-    let old = l.initial.held in
+    let old = l.initial.state in
     record {
-      kept : KeepsLines old l.held;
-      count : deleted_at l.held ≡ capped (deleted_at old + l.id-index);
-      dropped : AreDropped old.setting old.dropped.ids earlier l.held.dropped.ids;
+      kept : KeepsLines old l.state;
+      count : deleted_at l.state ≡ capped (deleted_at old + l.id-index);
+      dropped : AreDropped old.setting old.dropped.ids earlier l.state.dropped.ids;
       deleted : (es : History) × g.M.ClauseMap.moves l.initial.map l.map es × AllByRecursion IsRetire es
           × ((more : List ℕ) (rest : History) (v : LineVerdict)
           → JudgesDeletion old.setting (is_among old.dropped.ids) earlier more rest v

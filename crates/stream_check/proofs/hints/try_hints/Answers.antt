@@ -18,10 +18,10 @@ hints-init g c = record {
 
 pub hints-preserved : goal.hints-preserved
 hints-preserved g c =
-    let s = c.args.held.now.setting in
+    let s = c.args.state.now.setting in
     let p = g.M.ClauseMap.place c.args.map.now in
     let q = g.M.ClauseMap.place c.look_up.new.map in
-    let gone : ℕ → Bool = is_among c.args.held.now.dropped.ids in
+    let gone : ℕ → Bool = is_among c.args.state.now.dropped.ids in
     let led = c.hints.invariant.led in
     let looked = c.in_ok-clip.ensures.looked in
     let gives = c.in_ok-clip.ensures.gives in
@@ -45,10 +45,10 @@ hints-preserved g c =
 
 pub returns-in-Conflict-clause-shown : goal.returns-in-Conflict-clause-shown
 returns-in-Conflict-clause-shown g c =
-    let s = c.args.held.now.setting in
+    let s = c.args.state.now.setting in
     let p = g.M.ClauseMap.place c.args.map.now in
     let q = g.M.ClauseMap.place c.look_up.new.map in
-    let gone : ℕ → Bool = is_among c.args.held.now.dropped.ids in
+    let gone : ℕ → Bool = is_among c.args.state.now.dropped.ids in
     let led = c.hints.invariant.led in
     let looked = c.in_ok-clip.ensures.looked in
     let gives = c.in_ok-clip.ensures.gives in
@@ -67,10 +67,10 @@ returns-in-Conflict-clause-shown g c =
 
 pub returns-in-NotUnit-clause-shown : goal.returns-in-NotUnit-clause-shown
 returns-in-NotUnit-clause-shown g c =
-    let s = c.args.held.now.setting in
+    let s = c.args.state.now.setting in
     let p = g.M.ClauseMap.place c.args.map.now in
     let q = g.M.ClauseMap.place c.look_up.new.map in
-    let gone : ℕ → Bool = is_among c.args.held.now.dropped.ids in
+    let gone : ℕ → Bool = is_among c.args.state.now.dropped.ids in
     let led = c.hints.invariant.led in
     let looked = c.in_ok-clip.ensures.looked in
     let step = c.in-NotUnit.ensures.step in
@@ -85,10 +85,10 @@ returns-in-NotUnit-clause-shown g c =
 
 pub returns-in_err-clip-clause-shown : goal.returns-in_err-clip-clause-shown
 returns-in_err-clip-clause-shown g c =
-    let s = c.args.held.now.setting in
+    let s = c.args.state.now.setting in
     let f = (g.M.ClauseMap.place c.args.map.now).caller.formula in
     let q = g.M.ClauseMap.place c.look_up.new.map in
-    let gone : ℕ → Bool = is_among c.args.held.now.dropped.ids in
+    let gone : ℕ → Bool = is_among c.args.state.now.dropped.ids in
     let led = c.hints.invariant.led in
     let looked = c.in_err-clip.ensures.looked in
     let given = err_from_is_err_and c.from_residual.result c.from_residual.ensures.1 in (
@@ -100,8 +100,8 @@ returns-in_err-clip-clause-shown g c =
 
 pub returns-clause-shown : goal.returns-clause-shown
 returns-clause-shown g c =
-    let s = c.args.held.now.setting in
+    let s = c.args.state.now.setting in
     let f = (g.M.ClauseMap.place c.args.map.now).caller.formula in
-    let gone : ℕ → Bool = is_among c.args.held.now.dropped.ids in
+    let gone : ℕ → Bool = is_among c.args.state.now.dropped.ids in
     let led = c.hints.invariant.led in
     (led.0, led.1, led.2, shows_none s gone f c.args.marks.now.falses c.args.hints.now c.hints.marks.falses c.hints.left.now led.0 c.in_default.ensures.cases led.4)

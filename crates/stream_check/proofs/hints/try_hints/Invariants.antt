@@ -19,8 +19,8 @@ invariant-hints g l =
       led : (es : History) × g.M.ClauseMap.moves l.initial.map l.map es × AllByRecursion IsFetch es
           × ((ds : List Clause) × AllByRecursion (IsDerived f) ds × Leads l.initial.marks.falses ds l.marks.falses)
           × ((e : Event) (rest : History) (v : LineVerdict)
-          → JudgesHints l.held.setting (is_among l.held.dropped.ids) e l.marks.falses l.left rest v
-          → JudgesHints l.held.setting (is_among l.held.dropped.ids) e l.initial.marks.falses l.hints (es ++ rest) v);
+          → JudgesHints l.state.setting (is_among l.state.dropped.ids) e l.marks.falses l.left rest v
+          → JudgesHints l.state.setting (is_among l.state.dropped.ids) e l.initial.marks.falses l.hints (es ++ rest) v);
     }
 
 abbrev pub decreases-hints : goal.decreases-hints

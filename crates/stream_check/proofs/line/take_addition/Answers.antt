@@ -12,18 +12,18 @@ returns-in_err-add-clause-taken g c =
     let q = g.M.ClauseMap.place c.add.new.map in
     let judged = c.in_err-add.ensures.judged in
     let given = err_from_is_err_and c.from_residual.result c.from_residual.ensures.1 in
-    rw (given.1, given.2) (judged.0, judged.1, stops_addition c.args.held.now p.room q.room c.args.id c.args.lits.now c.args.hints.now judged.0 c.in_err-add.field-0.0 judged.3)
+    rw (given.1, given.2) (judged.0, judged.1, stops_addition c.args.state.now p.room q.room c.args.id c.args.lits.now c.args.hints.now judged.0 c.in_err-add.field-0.0 judged.3)
 
 pub returns-in_err-add-clause-ready : goal.returns-in_err-add-clause-ready
 returns-in_err-add-clause-ready g c =
     let p = g.M.ClauseMap.place c.args.map.now in
     let q = g.M.ClauseMap.place c.add.new.map in
     let judged = c.in_err-add.ensures.judged in
-    ready_fetches c.args.held.now p q judged.0 (g.met.M.ClauseMap.moves_tells c.args.map.now c.add.new.map judged.0 judged.1) judged.2 c.requires.ready
+    ready_fetches c.args.state.now p q judged.0 (g.met.M.ClauseMap.moves_tells c.args.map.now c.add.new.map judged.0 judged.1) judged.2 c.requires.ready
 
 pub returns-clause-taken : goal.returns-clause-taken
 returns-clause-taken g c =
-    let old = c.args.held.now in
+    let old = c.args.state.now in
     let new = c.take_addition.new.self in
     let p = g.M.ClauseMap.place c.args.map.now in
     let q = g.M.ClauseMap.place c.add.new.map in
@@ -37,7 +37,7 @@ returns-clause-taken g c =
 
 pub returns-clause-ready : goal.returns-clause-ready
 returns-clause-ready g c =
-    let old = c.args.held.now in
+    let old = c.args.state.now in
     let p = g.M.ClauseMap.place c.args.map.now in
     let q = g.M.ClauseMap.place c.add.new.map in
     let judged = c.in_ok-add.ensures.judged in

@@ -1,4 +1,4 @@
-use Rattle.std.proofs.Common.{sym, ap, subst}
+use Rattle.std.proofs.Common.{List, ℕ, sym, ap, subst}
 use Rattle.lrup_model.specs.Pass.{pass_place}
 use Rattle.lrup_text.specs.ReadOut.{source_view}
 use Rattle.runs.specs.Readings.{IsStreamOf}
@@ -22,6 +22,6 @@ returns-clause-judged g c jobs sent checked =
             met.1,
             subst (λ r. IsStreamOf (source_view g.R.Source.left g.R.Source.has_failed g.R.Source.reads) jobs.reader r met.0) same met.2,
             met.3,
-            subst (DropsBy jobs.checker (pass_place jobs.pass.view).room met.0.bytes e.blocks) dropped met.4,
+            subst (λ (ids : List ℕ). DropsBy jobs.checker (pass_place jobs.pass.view).room met.0.bytes e.blocks ids c.in_ok-report.report) dropped met.4,
           );
     }

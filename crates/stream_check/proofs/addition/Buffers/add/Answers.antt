@@ -22,8 +22,8 @@ returns-in_err-admit-clause-judged g c =
 pub returns-in_err-try_hints-clause-judged : goal.returns-in_err-try_hints-clause-judged
 returns-in_err-try_hints-clause-judged g c =
     let p = g.M.ClauseMap.place c.args.map.now in
-    let s = c.args.held.now.setting in
-    let st : Standing = standing_at c.args.held.now p.room in
+    let s = c.args.state.now.setting in
+    let st : Standing = standing_at c.args.state.now p.room in
     let admitted = c.in_ok-admit.ensures.admitted in
     let shown = c.in_err-try_hints.ensures.shown in
     let fault = c.in_err-try_hints.field-0.0 in
@@ -48,7 +48,7 @@ pub publish-requires-clause-owns : goal.publish-requires-clause-owns
 publish-requires-clause-owns g c =
     let p = g.M.ClauseMap.place c.args.map.now in
     let q = g.M.ClauseMap.place c.try_hints.new.map in
-    let s = c.args.held.now.setting in
+    let s = c.args.state.now.setting in
     let shown = c.in_ok-try_hints.ensures.shown in
     let tells = g.met.M.ClauseMap.moves_tells c.args.map.now c.try_hints.new.map shown.0 shown.1 in
     owns_at s q c.args.id (still_at s p q shown.0 c.requires.at tells) c.in_ok-admit.ensures.admitted.0.owns
@@ -57,8 +57,8 @@ pub publish-requires-clause-clause : goal.publish-requires-clause-clause
 publish-requires-clause-clause g c =
     let p = g.M.ClauseMap.place c.args.map.now in
     let q = g.M.ClauseMap.place c.try_hints.new.map in
-    let s = c.args.held.now.setting in
-    let st : Standing = standing_at c.args.held.now p.room in
+    let s = c.args.state.now.setting in
+    let st : Standing = standing_at c.args.state.now p.room in
     let admits = c.in_ok-admit.ensures.admitted.0 in
     let shown = c.in_ok-try_hints.ensures.shown in
     let tells = g.met.M.ClauseMap.moves_tells c.args.map.now c.try_hints.new.map shown.0 shown.1 in
@@ -71,8 +71,8 @@ pub publish-requires-clause-room : goal.publish-requires-clause-room
 publish-requires-clause-room g c =
     let p = g.M.ClauseMap.place c.args.map.now in
     let q = g.M.ClauseMap.place c.try_hints.new.map in
-    let s = c.args.held.now.setting in
-    let st : Standing = standing_at c.args.held.now p.room in
+    let s = c.args.state.now.setting in
+    let st : Standing = standing_at c.args.state.now p.room in
     let admits = c.in_ok-admit.ensures.admitted.0 in
     let shown = c.in_ok-try_hints.ensures.shown in
     let tells = g.met.M.ClauseMap.moves_tells c.args.map.now c.try_hints.new.map shown.0 shown.1 in
@@ -87,7 +87,7 @@ unreachable-requires g c =
     let shown = c.in_ok-try_hints.ensures.shown in
     let tells = g.met.M.ClauseMap.moves_tells c.args.map.now c.try_hints.new.map shown.0 shown.1 in
     let done : c.publish.result ≡ publishing.Done =
-    c.publish.ensures.done.1 (still_vacant c.args.held.now.setting p q shown.0 c.args.held.now.last c.args.id c.requires.at tells shown.2 c.requires.vacant admits.owns admits.above) in
+    c.publish.ensures.done.1 (still_vacant c.args.state.now.setting p q shown.0 c.args.state.now.last c.args.id c.requires.at tells shown.2 c.requires.vacant admits.owns admits.above) in
     let taken = c.in-Taken.is in
     cc
 
@@ -95,8 +95,8 @@ pub returns-clause-judged : goal.returns-clause-judged
 returns-clause-judged g c =
     let p = g.M.ClauseMap.place c.args.map.now in
     let q = g.M.ClauseMap.place c.try_hints.new.map in
-    let s = c.args.held.now.setting in
-    let st : Standing = standing_at c.args.held.now p.room in
+    let s = c.args.state.now.setting in
+    let st : Standing = standing_at c.args.state.now p.room in
     let admitted = c.in_ok-admit.ensures.admitted in
     let shown = c.in_ok-try_hints.ensures.shown in
     let tells = g.met.M.ClauseMap.moves_tells c.args.map.now c.try_hints.new.map shown.0 shown.1 in

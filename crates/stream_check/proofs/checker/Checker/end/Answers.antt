@@ -1,6 +1,8 @@
-use Rattle.std.proofs.Common.{◌≡◌, ◌∙◌, Some, refl, sym, ap, subst}
+use Rattle.std.proofs.Common.{◌≡◌, ◌∙◌, ℕ, Some, refl, sym, ap, subst}
 use Rattle.lrup_text.specs.declared.device.StreamEnd.TheVariants as stream_ends
+use Rattle.stream_check.specs.declared.fault.Fault.TheVariants as faults
 use Rattle.stream_check.specs.declared.report.Ending.{Ending}
+use Rattle.stream_check.specs.declared.report.Ending.TheVariants as endings
 use Rattle.stream_check.specs.Judging.{ending_at}
 use Rattle.stream_check.specs.CheckerValue.{CheckerValue}
 use Rattle.stream_check.specs.Checker.{read_of, value_of, Ends, ReportsEnd}
@@ -22,12 +24,12 @@ returns-then-is_some-clause-reports c =
 
 pub returns-clause-ends : goal.returns-clause-ends
 returns-clause-ends c =
-    let h = c.self.inside.held in
+    let h = c.self.inside.state in
     let r = c.self.inside.reader in
     let none = none_of c.self.inside.ending (sym c.is_some.ensures ∙ c.if-is_some.false) in
     let says : c.match-end.self ≡ ending_at stream_ends.Ended (read_of r) h.line = elim c.match-end.branch [
       | in-Clean w ↦ w.self-is ∙ sym (ended_clean r h.line (subst (λ (e : End). feeding.ReaderEnds r e c.end.new.self) w.in-Clean.is c.end.ensures).0)
-      | in-Fault w ↦ w.self-is ∙ sym (ended_fault r c.end.new.self h.line w.in-Fault.fault (c.self.invariant.reads none) (subst (λ (e : End). feeding.ReaderEnds r e c.end.new.self) w.in-Fault.is c.end.ensures))
+      | in-Fault w ↦ w.self-is ∙ ap (λ (n : ℕ). endings.Bad n (faults.Text w.in-Fault.fault)) w.line.ensures ∙ sym (ended_fault r c.end.new.self h.line w.in-Fault.fault (c.self.invariant.reads none) (subst (λ (e : End). feeding.ReaderEnds r e c.end.new.self) w.in-Fault.is c.end.ensures))
     ] in
     let old = value_of h (read_of r) c.self.inside.ending in
     let new = value_of h (read_of c.end.new.self) (Some c.match-end.self) in
@@ -35,12 +37,12 @@ returns-clause-ends c =
 
 pub returns-clause-reports : goal.returns-clause-reports
 returns-clause-reports c =
-    let h = c.self.inside.held in
+    let h = c.self.inside.state in
     let r = c.self.inside.reader in
     let none = none_of c.self.inside.ending (sym c.is_some.ensures ∙ c.if-is_some.false) in
     let says : c.match-end.self ≡ ending_at stream_ends.Ended (read_of r) h.line = elim c.match-end.branch [
       | in-Clean w ↦ w.self-is ∙ sym (ended_clean r h.line (subst (λ (e : End). feeding.ReaderEnds r e c.end.new.self) w.in-Clean.is c.end.ensures).0)
-      | in-Fault w ↦ w.self-is ∙ sym (ended_fault r c.end.new.self h.line w.in-Fault.fault (c.self.invariant.reads none) (subst (λ (e : End). feeding.ReaderEnds r e c.end.new.self) w.in-Fault.is c.end.ensures))
+      | in-Fault w ↦ w.self-is ∙ ap (λ (n : ℕ). endings.Bad n (faults.Text w.in-Fault.fault)) w.line.ensures ∙ sym (ended_fault r c.end.new.self h.line w.in-Fault.fault (c.self.invariant.reads none) (subst (λ (e : End). feeding.ReaderEnds r e c.end.new.self) w.in-Fault.is c.end.ensures))
     ] in
     let old = value_of h (read_of r) c.self.inside.ending in
     let new = value_of h (read_of c.end.new.self) (Some c.match-end.self) in

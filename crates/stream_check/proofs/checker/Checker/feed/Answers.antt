@@ -11,7 +11,7 @@ use Rattle.stream_check.specs.declared.report.Ending.TheVariants as endings
 use Rattle.stream_check.specs.Leaving.{Going, Over}
 use Rattle.stream_check.specs.CheckerValue.{report_of_tally, CheckerValue}
 use Rattle.stream_check.specs.Checker.{read_of, value_of, checker_state, tally_at, LeavesOn}
-use Rattle.stream_check.specs.Taking.{hold}
+use Rattle.stream_check.specs.Taking.{hold, ending_of}
 use Rattle.stream_check.specs.ReportLemmas.{leaves_still}
 use Rattle.stream_check.proofs.TakeLemmas.{leaves_good, leaves_stopped, leaves_refused}
 use Rattle.stream_check.proofs.FeedLemmas.{some_of, none_of, feeds_line, feeds_more, front_cut, line_cut, feeds_over}
@@ -30,7 +30,7 @@ returns-then-is_some-clause-turn g c =
 pub returns-in-NeedMore-clause-left : goal.returns-in-NeedMore-clause-left
 returns-in-NeedMore-clause-left g c =
     let p = g.M.ClauseMap.place c.args.map.now in
-    let h = c.self.inside.held in
+    let h = c.self.inside.state in
     let r = c.self.inside.reader in
     let new = c.feed-fed.follows.lender-at-none in
     let read = read_of r in
@@ -69,8 +69,8 @@ pub returns-in-Ok-clause-left : goal.returns-in-Ok-clause-left
 returns-in-Ok-clause-left g c =
     let p = g.M.ClauseMap.place c.args.map.now in
     let q = g.M.ClauseMap.place c.take_line.new.map in
-    let h = c.self.inside.held in
-    let n = c.take_line.new.held in
+    let h = c.self.inside.state in
+    let n = c.take_line.new.state in
     let r = c.self.inside.reader in
     let new = c.feed-fed.follows.lender-at-none in
     let read = read_of r in
@@ -105,8 +105,8 @@ pub returns-in-Err-clause-left : goal.returns-in-Err-clause-left
 returns-in-Err-clause-left g c =
     let p = g.M.ClauseMap.place c.args.map.now in
     let q = g.M.ClauseMap.place c.take_line.new.map in
-    let h = c.self.inside.held in
-    let n = c.take_line.new.held in
+    let h = c.self.inside.state in
+    let n = c.take_line.new.state in
     let r = c.self.inside.reader in
     let read = read_of r in
     let piece = c.args.piece.now in
@@ -116,7 +116,7 @@ returns-in-Err-clause-left g c =
     let gives : Feeds (Ok read) piece used (turns.Line line) = subst (λ (s : ReaderState). Feeds s piece used (turns.Line line)) (c.self.invariant.reads none) (subst (λ (t : ReaderTurn). Feeds r piece used t) c.in-Line.is c.feed-fed.ensures.gives) in
     let taken = c.in-Err.ensures.taken in
     let stopped : LeavesOn h.setting (Going (hold h read p.room)) (take used piece) (taken.0 ∷ []) (Over (report_of_tally (tally_at n) c.ending.result)) =
-    subst (λ (e : Ending). LeavesOn h.setting (Going (hold h read p.room)) (take used piece) (taken.0 ∷ []) (Over (report_of_tally (tally_at n) e))) (sym c.ending.ensures)
+    subst (λ (e : Ending). LeavesOn h.setting (Going (hold h read p.room)) (take used piece) (taken.0 ∷ []) (Over (report_of_tally (tally_at n) e))) (sym (c.ending.ensures ∙ ap (λ (k : ℕ). ending_of k c.in-Err.stop) c.line.ensures))
     (leaves_stopped h n p.room q.room read (take used piece) (line_of line) taken.0 c.in-Err.stop gives.2 taken.2) in
     let left = feeds_over h read (take used piece) (taken.0 ∷ []) p.room c.self.inside.ending (report_of_tally (tally_at n) c.ending.result) none stopped in
     rw c.tell.ensures (
@@ -140,16 +140,18 @@ returns-in-Err-clause-turn g c =
 pub returns-in-Fault-clause-left : goal.returns-in-Fault-clause-left
 returns-in-Fault-clause-left g c =
     let p = g.M.ClauseMap.place c.args.map.now in
-    let h = c.self.inside.held in
+    let h = c.self.inside.state in
     let r = c.self.inside.reader in
     let read = read_of r in
     let piece = c.args.piece.now in
     let used = c.feed-fed.result.used in
     let fault = c.in-Fault.fault in
-    let report = report_of_tally (tally_at h) (endings.Bad h.line (faults.Text fault)) in
+    let report = report_of_tally (tally_at h) (endings.Bad c.line-in-Fault.result (faults.Text fault)) in
     let none = none_of c.self.inside.ending (sym c.is_some.ensures ∙ c.if-is_some.false) in
     let gives : Feeds (Ok read) piece used (turns.Fault fault) = subst (λ (s : ReaderState). Feeds s piece used (turns.Fault fault)) (c.self.invariant.reads none) (subst (λ (t : ReaderTurn). Feeds r piece used t) c.in-Fault.is c.feed-fed.ensures.gives) in
-    let left = feeds_over h read (take used piece) [] p.room c.self.inside.ending report none (leaves_refused h p.room read (take used piece) fault gives.2) in
+    let left = feeds_over h read (take used piece) [] p.room c.self.inside.ending report none
+    (subst (λ (n : ℕ). LeavesOn h.setting (Going (hold h read p.room)) (take used piece) [] (Over (report_of_tally (tally_at h) (endings.Bad n (faults.Text fault))))) (sym c.line-in-Fault.ensures)
+    (leaves_refused h p.room read (take used piece) fault gives.2)) in
     rw c.tell-in-Fault.ensures (
       [],
       g.met.M.ClauseMap.moves_none c.args.map.now,
@@ -159,7 +161,7 @@ returns-in-Fault-clause-left g c =
 
 pub returns-in-Fault-clause-turn : goal.returns-in-Fault-clause-turn
 returns-in-Fault-clause-turn g c =
-    let h = c.self.inside.held in
+    let h = c.self.inside.state in
     let r = c.self.inside.reader in
     let piece = c.args.piece.now in
     let used = c.feed-fed.result.used in
@@ -167,4 +169,4 @@ returns-in-Fault-clause-turn g c =
     let none = none_of c.self.inside.ending (sym c.is_some.ensures ∙ c.if-is_some.false) in
     let gives : Feeds (Ok (read_of r)) piece used (turns.Fault fault) = subst (λ (s : ReaderState). Feeds s piece used (turns.Fault fault)) (c.self.invariant.reads none) (subst (λ (t : ReaderTurn). Feeds r piece used t) c.in-Fault.is c.feed-fed.ensures.gives) in
     let text : IsRefused (c.args.self.now.pending ++ take used piece) fault = subst (λ (b : List ℕ). IsRefused (b ++ take used piece) fault) (ap (λ (v : CheckerValue). v.pending) c.self.view_is) gives.2 in
-    rw c.tell-in-Fault.ensures (endings.Bad h.line (faults.Text fault), refl, λ going. inr (h.line, fault, refl, text))
+    rw c.tell-in-Fault.ensures (endings.Bad c.line-in-Fault.result (faults.Text fault), refl, λ going. inr (c.line-in-Fault.result, fault, refl, text))

@@ -1,4 +1,4 @@
-use Rattle.std.proofs.Common.{◌∙◌, Some, refl, sym, ap, subst}
+use Rattle.std.proofs.Common.{◌∙◌, ℕ, Some, refl, sym, ap, subst}
 use Rattle.stream_check.specs.declared.report.Ending.TheVariants as endings
 use Rattle.lrup_text.specs.declared.device.StreamEnd.TheVariants as stream_ends
 use Rattle.stream_check.specs.CheckerValue.{CheckerValue}
@@ -18,18 +18,18 @@ returns-then-is_some-clause-reports c =
 
 pub returns-clause-ends : goal.returns-clause-ends
 returns-clause-ends c =
-    let h = c.self.inside.held in
+    let h = c.self.inside.state in
     let r = c.self.inside.reader in
     let none = none_of c.self.inside.ending (sym c.is_some.ensures ∙ c.if-is_some.false) in
     let old = value_of h (read_of r) c.self.inside.ending in
-    let new = value_of h (read_of r) (Some (endings.ReadFailed h.line)) in
-    subst (λ (v : CheckerValue). Ends stream_ends.Failed v new) c.self.view_is (ends_now stream_ends.Failed old new none refl refl refl refl refl)
+    let new = value_of h (read_of r) (Some (endings.ReadFailed c.line.result)) in
+    subst (λ (v : CheckerValue). Ends stream_ends.Failed v new) c.self.view_is (ends_now stream_ends.Failed old new none refl refl (ap (λ (n : ℕ). Some (endings.ReadFailed n)) c.line.ensures) refl refl)
 
 pub returns-clause-reports : goal.returns-clause-reports
 returns-clause-reports c =
-    let h = c.self.inside.held in
+    let h = c.self.inside.state in
     let r = c.self.inside.reader in
     let none = none_of c.self.inside.ending (sym c.is_some.ensures ∙ c.if-is_some.false) in
     let old = value_of h (read_of r) c.self.inside.ending in
-    let new = value_of h (read_of r) (Some (endings.ReadFailed h.line)) in
-    subst (λ (v : CheckerValue). ReportsEnd stream_ends.Failed v new) c.self.view_is (reports_now stream_ends.Failed old new none refl refl)
+    let new = value_of h (read_of r) (Some (endings.ReadFailed c.line.result)) in
+    subst (λ (v : CheckerValue). ReportsEnd stream_ends.Failed v new) c.self.view_is (reports_now stream_ends.Failed old new none refl (ap (λ (n : ℕ). Some (endings.ReadFailed n)) c.line.ensures))

@@ -1,0 +1,37 @@
+//! Why a line ends its stream.
+ghost use Rattle.std.specs.Prelude.{◌≡◌};
+ghost use Rattle.stream_check.specs.Taking.{ending_of};
+
+use crate::fault::Fault;
+use crate::report::Ending;
+
+/// Why a line wasn't taken as a good one.
+#[derive(Clone, Copy)]
+pub enum LineStop {
+    /// It is bad.
+    Bad(Fault),
+    /// There was no memory to keep an identity that it drops.
+    Memory,
+}
+
+impl From<Fault> for LineStop {
+    ghost use Rattle.stream_check.specs.declared.line_stop.LineStop.TheVariants.{Bad};
+
+    ghost from_gives = { λ fault stop. stop ≡ Bad fault };
+
+    fn from(fault: Fault) -> LineStop {
+        LineStop::Bad(fault)
+    }
+}
+
+impl LineStop {
+    /// How the stream ends where the line of this number stopped so.
+    pub fn ending(self, line: u64) -> Ending
+        ensures { result ≡ ending_of line self }
+    {
+        match self {
+            LineStop::Bad(fault) => Ending::Bad(line, fault),
+            LineStop::Memory => Ending::Memory(line),
+        }
+    }
+}

@@ -1,0 +1,175 @@
+//! What a checker keeps of the good lines.
+ghost use Rattle.std.specs.Prelude.{◌≡◌, ◌≤◌, ◌<◌, ◌^◌, ◌+◌, ◌-◌, ◌||◌, min, [], false, length, IsErrOf};
+ghost use Rattle.stream_check.specs.Checking.{DropsShared, counted};
+ghost use Rattle.stream_check.specs.Standing.{capped, is_among};
+
+use crate::dropped::Dropped;
+use crate::fault::Fault;
+use crate::line_stop::LineStop;
+use crate::report::{Ending, Report};
+use crate::setting::Setting;
+use lrup_model::Id;
+use std::alloc::Global;
+
+/// What a checker keeps of the good lines, and whose they are.
+#[derive(Drop)]
+pub struct StreamState {
+    /// Whose lines they are. It never changes.
+    pub setting: Setting,
+    /// The last identity that was added; with none, the last of the formula.
+    last: Id,
+    dropped: Dropped,
+    /// How many of the stream's own identities were retired, which stays at 2^64 - 1.
+    retired: u64,
+    /// How many clauses were added.
+    added: u64,
+    /// Whether one of them was empty.
+    empty: bool,
+    /// Whether one of them was within the cube.
+    within: bool,
+    /// The number of the next line, which stays at 2^64 - 1.
+    line: u64,
+    ghost few_added: { added ≤ last },
+    ghost small: { last < 2 ^ 63 },
+}
+
+impl StreamState {
+    /// Before the first line.
+    pub fn new(alloc: Global, setting: Setting) -> StreamState
+        ensures setting { result.setting ≡ setting }
+        ensures last { result.last ≡ setting.layout.clauses }
+        ensures dropped { result.dropped.ids ≡ [] }
+        ensures retired { result.retired ≡ 0 }
+        ensures added { result.added ≡ 0 }
+        ensures empty { result.empty ≡ false }
+        ensures within { result.within ≡ false }
+        ensures line { result.line ≡ 1 }
+    {
+        StreamState {
+            last: u64::from(setting.clauses()),
+            setting,
+            dropped: Dropped::new(alloc),
+            retired: 0,
+            added: 0,
+            empty: false,
+            within: false,
+            line: 1,
+        }
+    }
+
+    /// The last identity that was added; with none, the last of the formula.
+    pub fn last(&self) -> Id
+        ensures { result ≡ self.now.last }
+    {
+        self.last
+    }
+
+    /// The number of the next line, which stays at 2^64 - 1.
+    pub fn line(&self) -> u64
+        ensures { result ≡ self.now.line }
+    {
+        self.line
+    }
+
+    /// Whether the stream dropped this identity.
+    pub fn has_dropped(&self, id: Id) -> bool
+        ensures { result ≡ is_among self.now.dropped.ids id }
+    {
+        self.dropped.has(id)
+    }
+
+    /// Counts a good addition of this identity, which may be of the empty clause, or of one within the cube.
+    pub fn take_addition(&mut self, id: Id, is_empty: bool, is_within: bool)
+        requires above { self.old.last < id }
+        requires small { id < 2 ^ 63 }
+        ensures last { self.new.last ≡ id }
+        ensures added { self.new.added ≡ self.old.added + 1 }
+        ensures empty { self.new.empty ≡ (self.old.empty || is_empty) }
+        ensures within { self.new.within ≡ (self.old.within || is_within) }
+        ensures line { self.new.line ≡ min (self.old.line + 1) (2 ^ 64 - 1) }
+        ensures setting { self.new.setting ≡ self.old.setting }
+        ensures dropped { self.new.dropped ≡ self.old.dropped }
+        ensures retired { self.new.retired ≡ self.old.retired }
+    {
+        self.added += 1;
+        self.last = id;
+        self.empty = self.empty || is_empty;
+        self.within = self.within || is_within;
+        self.line = self.line.saturating_add(1);
+    }
+
+    /// Counts a good line that adds nothing: a deletion, or an import.
+    pub fn count_line(&mut self)
+        ensures line { self.new.line ≡ min (self.old.line + 1) (2 ^ 64 - 1) }
+        ensures last { self.new.last ≡ self.old.last }
+        ensures added { self.new.added ≡ self.old.added }
+        ensures empty { self.new.empty ≡ self.old.empty }
+        ensures within { self.new.within ≡ self.old.within }
+        ensures setting { self.new.setting ≡ self.old.setting }
+        ensures dropped { self.new.dropped ≡ self.old.dropped }
+        ensures retired { self.new.retired ≡ self.old.retired }
+    {
+        self.line = self.line.saturating_add(1);
+    }
+
+    /// Counts an own identity that was retired. The count stays at 2^64 - 1.
+    pub fn count_retired(&mut self)
+        ensures retired { self.new.retired ≡ capped (self.old.retired + 1) }
+        ensures dropped { self.new.dropped ≡ self.old.dropped }
+        ensures setting { self.new.setting ≡ self.old.setting }
+        ensures last { self.new.last ≡ self.old.last }
+        ensures added { self.new.added ≡ self.old.added }
+        ensures empty { self.new.empty ≡ self.old.empty }
+        ensures within { self.new.within ≡ self.old.within }
+        ensures line { self.new.line ≡ self.old.line }
+    {
+        self.retired = self.retired.saturating_add(1);
+    }
+
+    /// Drops an identity that isn't the stream's own. It is looked for first, so that one that was dropped before never wants
+    /// memory.
+    pub fn drop_shared(&mut self, id: Id) -> Result<(), LineStop>
+        ensures drops { DropsShared id self.old.dropped.ids self.new.dropped.ids result }
+        ensures count { length self.new.dropped.ids ≡ length self.old.dropped.ids + counted result }
+        ensures spare { IsErrOf result LineStop.Memory → self.old.dropped.spare ≡ 0 }
+        ensures retired { self.new.retired ≡ self.old.retired }
+        ensures setting { self.new.setting ≡ self.old.setting }
+        ensures last { self.new.last ≡ self.old.last }
+        ensures added { self.new.added ≡ self.old.added }
+        ensures empty { self.new.empty ≡ self.old.empty }
+        ensures within { self.new.within ≡ self.old.within }
+        ensures line { self.new.line ≡ self.old.line }
+    {
+        if self.dropped.has(id) {
+            return Err(LineStop::Bad(Fault::NotLive(id)));
+        }
+        self.dropped.add(id).map_err(|_| LineStop::Memory)
+    }
+
+    /// The report of the stream where it ends so.
+    pub fn report(&self, ending: Ending) -> Report
+        ensures { result ≡ record {
+          added = self.now.added;
+          deleted = capped (self.now.retired + length self.now.dropped.ids);
+          empty = self.now.empty;
+          within = self.now.within;
+          ending = ending;
+        } }
+    {
+        Report {
+            added: self.added,
+            deleted: self.retired.saturating_add(self.dropped.count()),
+            empty: self.empty,
+            within: self.within,
+            ending,
+        }
+    }
+
+    /// The identities of the formula and of other streams that the stream dropped.
+    pub fn into_dropped(self) -> Dropped
+        ensures { result ≡ self.dropped }
+    {
+        let StreamState { dropped, .. } = self;
+        dropped
+    }
+}

@@ -1,0 +1,26 @@
+use Rattle.std.proofs.Common.{List, [], ℕ, Some, refl, sym, subst, append-nil}
+use Rattle.std.specs.Io.KnownBytes.{Consumes}
+use Rattle.lrup_text.specs.declared.device.StreamEnd.{StreamEnd}
+use Rattle.stream_check.specs.Judging.{JudgesBlocks}
+use Rattle.runs.specs.StreamLemmas.{judged_out}
+use Rattle.stream_jobs.specs.Judged.{DropsBy}
+use Rattle.stream_jobs.proofs.pair.meet.Goals as goal
+
+pub returns-clause-judged : goal.returns-clause-judged
+returns-clause-judged g c first v room blocks ids report sent marked fresh =
+    let same = c.came_through.ensures sent.bytes marked.bytes sent.end marked.end sent.sent marked.marked in (
+      record { bytes = sent.bytes; unneeded = []; end = Some sent.end },
+      refl,
+      (
+        record {
+          consumes = subst (Consumes _ _) (sym (append-nil sent.bytes)) sent.told;
+          ends = sent.ends;
+          needed = λ out. refl;
+        },
+        sent.read,
+      ),
+      judged_out v.setting sent.bytes [] sent.end blocks report
+          (subst (λ (end : StreamEnd). JudgesBlocks v.setting sent.bytes end blocks report) same.1
+          (subst (λ (bytes : List ℕ). JudgesBlocks v.setting bytes marked.end blocks report) same.0 (marked.judged fresh))),
+      subst (λ (bytes : List ℕ). DropsBy v room bytes blocks ids report) same.0 marked.dropped,
+    )

@@ -1,0 +1,70 @@
+//! The two jobs of a stream before their threads start, and what came of them after both have ended.
+ghost use Rattle.std.specs.Prelude.{◌≡◌, ℕ, List, [], false, IfOk, IsSome};
+ghost use Rattle.lrup_model.specs.Event.{History};
+ghost use Rattle.lrup_model.specs.Layout.{IsStream};
+ghost use Rattle.lrup_text.specs.ReadOut.{source_view};
+ghost use Rattle.rtrb.specs.Ring.{sent, received, IsPair};
+ghost use Rattle.runs.specs.Readings.{IsStreamOf};
+ghost use Rattle.runs.specs.Streams.{Stream, JudgesStream};
+ghost use Rattle.stream_check.specs.declared.report.Report.{Report};
+ghost use Rattle.stream_check.specs.Checker.{IsNew, checker_state};
+ghost use Rattle.stream_check.specs.CheckerValue.{CheckerValue};
+ghost use Rattle.stream_check.specs.Leaving.{Leaves};
+ghost use Rattle.stream_jobs.specs.Judged.{DropsBy, JudgesAtMark};
+ghost use Rattle.stream_ring.specs.Items.{SendsAll};
+
+use crate::checking::{Checked, CheckingJob};
+use crate::reading::{ReadingJob, Sent};
+use lrup_text::{PIECE, Source};
+use runs::Terms;
+use std::alloc::{AllocError, Global};
+use stream_check::Gate;
+use stream_ring::{came_through, ring};
+
+/// The items of a ring, two bytes each: as many as a read gives bytes.
+const CAPACITY: usize = PIECE;
+
+/// The two jobs of stream `stream`, from 1 on, at the two ends of one ring. All memory is taken here, but for the identities that
+/// the stream drops.
+pub fn jobs<R: Source + Drop, G: Gate + Drop>(
+    alloc: Global,
+    reader: R,
+    gate: G,
+    stream: u64,
+    terms: &Terms<'_>,
+) -> Result<(ReadingJob<R>, CheckingJob<G>), AllocError>
+    requires running { R.has_failed reader ≡ false }
+    requires stream { IsStream terms.now.layout stream }
+    ensures pair { IfOk result (λ both.
+        IsPair both.0.sender.producer both.1.receiver.consumer) }
+    ensures reader { IfOk result (λ both. both.0.reader ≡ reader) }
+    ensures gate { IfOk result (λ both. both.1.gate ≡ gate) }
+    ensures checker { IfOk result (λ both. let t = terms.now in
+        IsNew t.layout t.cube stream t.tries both.1.checker) }
+{
+    let (sender, receiver) = ring(alloc, CAPACITY)?;
+    let reading = ReadingJob::new(alloc, reader, sender)?;
+    let checking = CheckingJob::new(alloc, receiver, gate, stream, terms)?;
+    Ok((reading, checking))
+}
+
+/// What both threads gave back, in one thread again: the stream that was judged is what its reader told and its reads gave, to its
+/// end or to the read that failed.
+pub fn meet<R: Source + Drop>(sent: &mut Sent<R>, checked: &mut Checked)
+    requires { IsPair sent.old.producer checked.old.consumer }
+    ensures reader { sent.new.reader ≡ sent.old.reader }
+    ensures report { checked.new.report ≡ checked.old.report }
+    ensures dropped { checked.new.dropped ≡ checked.old.dropped }
+    ensures judged { (first : R) (v : CheckerValue) (room : ℕ)
+        (blocks : List History) (ids : List ℕ) (report : Report)
+        → SendsAll _ (source_view R.left R.has_failed R.reads) first sent.old.reader
+        (Rattle.rtrb.specs.Ring.sent sent.old.producer)
+        → JudgesAtMark v room (received checked.old.consumer) blocks ids report
+        → Leaves v.setting [] [] (checker_state v room)
+        → (stream : Stream) × IsSome stream.end
+        × IsStreamOf (source_view R.left R.has_failed R.reads) first sent.old.reader stream
+        × JudgesStream v.setting stream blocks report
+        × DropsBy v room stream.bytes blocks ids report }
+{
+    came_through(&mut sent.producer, &mut checked.consumer);
+}

@@ -1,0 +1,21 @@
+use Rattle.std.proofs.Common.{arith, rules}
+use Rattle.std.proofs.KnownBytes.{Consumes-trans}
+use Rattle.std.proofs.lemmas.Grind.{common_steps}
+use Rattle.std.proofs.lemmas.List.{length-take-le}
+use Rattle.lrup_text.specs.ReadLemmas.{gave_more}
+use Rattle.stream_ring.proofs.channel.Sender.send_all.Goals as goal
+
+pub loop-preserved : goal.loop-preserved
+loop-preserved g c =
+    let read = c.in-Ok.ensures in
+    let given = length-take-le _ _ read.bound in
+    let test = c.in-Ok.count-test in
+    record {
+      next = (tt, tt);
+      ring = search rules;
+      working = read.failed;
+      room = search rules;
+      small = grind (arith, common_steps);
+      told = rw c.push_bytes.ensures.sent (Consumes-trans _ _ _ _ _ c.loop.invariant.told read.bytes.0);
+      gave = gave_more _ g.R.Source.reads _ _ _ _ _ _ _ c.loop.invariant.gave read.reads (omega (arith, given)) c.push_bytes.ensures.sent;
+    }

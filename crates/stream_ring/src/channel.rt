@@ -1,0 +1,268 @@
+//! The two ends of a ring, and what each thread does at its own.
+ghost use Rattle.std.specs.Prelude.{◌≡◌, ◌<◌, ◌≤◌, ℕ, List, [], ◌++◌, ◌∷◌, false, length, take, map, All, IfOk};
+ghost use Rattle.rtrb.specs.Ring.{sent, received, SameProducer, SameConsumer, IsPair};
+ghost use Rattle.lrup_text.specs.ReadOut.{EndsSo, source_view};
+ghost use Rattle.stream_ring.specs.Items.{EndsAtMark, IsSentOf, SendsAll, byte_of, end_told};
+
+use crate::blocks::{narrow, widen};
+use crossbeam_utils::Backoff;
+use crossbeam_utils::sync::{Parker, Unparker};
+use lrup_text::{Source, StreamEnd};
+use rtrb::{Consumer, Producer, RingBuffer};
+use std::alloc::{AllocError, Global};
+use std::sync::Wait;
+
+/// The item after the last byte of a stream that ended. Bytes are 0 to 255.
+const END: u16 = 256;
+
+/// The item after the last byte of a stream whose read failed.
+const FAILURE: u16 = 257;
+
+/// Wakes the thread of the other end, and once more as it is dropped.
+struct Bell(Unparker);
+
+impl Bell {
+    fn ring(&self) {
+        self.0.unpark();
+    }
+}
+
+impl Drop for Bell {
+    fn drop(self) {
+        let Bell(unparker) = self;
+        unparker.unpark();
+    }
+}
+
+/// The end of a reading thread. The producer is dropped before the bell, so that the thread that the bell wakes finds it gone.
+#[derive(Drop)]
+pub struct Sender {
+    pub producer: Producer<u16>,
+    full: Parker,
+    came: Bell,
+}
+
+/// The end of a checking thread. The consumer is dropped before the bell.
+#[derive(Drop)]
+pub struct Receiver {
+    pub consumer: Consumer<u16>,
+    empty: Parker,
+    room: Bell,
+}
+
+/// What a checking thread received.
+#[derive(Clone, Copy, Debug, PartialEq, Eq)]
+pub enum Received {
+    /// This many bytes, and more may come.
+    Bytes(usize),
+    /// This many bytes, and then the mark of this end: nothing more comes.
+    Mark(usize, StreamEnd),
+    /// Nothing: the other end is gone, and there was no mark.
+    Gone,
+}
+
+/// The two ends of a ring of `capacity` items.
+pub fn ring(alloc: Global, capacity: usize) -> Result<(Sender, Receiver), AllocError>
+    ensures pair { IfOk result (λ r. IsPair r.0.producer r.1.consumer) }
+    ensures sent { IfOk result (λ r. sent r.0.producer ≡ []) }
+    ensures received { IfOk result (λ r. received r.1.consumer ≡ []) }
+{
+    let (producer, consumer) = RingBuffer::new(alloc, capacity)?;
+    let full = Parker::new(alloc)?;
+    let empty = Parker::new(alloc)?;
+    let room = Bell(full.unparker().clone()?);
+    let came = Bell(empty.unparker().clone()?);
+    let sender = Sender {
+        producer,
+        full,
+        came,
+    };
+    let receiver = Receiver {
+        consumer,
+        empty,
+        room,
+    };
+    Ok((sender, receiver))
+}
+
+impl Sender {
+    /// The producer alone. The other end is woken once more.
+    pub fn into_producer(self) -> Producer<u16>
+        ensures { result ≡ self.producer }
+    {
+        let Sender { producer, .. } = self;
+        producer
+    }
+
+    /// Pushes all items, and sleeps while the ring is full.
+    fn push_all<W: Wait>(&mut self, wait: &W, items: &[u16])
+        ensures ring { SameProducer self.old.producer self.new.producer }
+        ensures sent { sent self.new.producer ≡ sent self.old.producer ++ items.now }
+    {
+        let backoff = Backoff::new();
+        let mut rest = items;
+        for _ in wait.forever() {
+            if rest.is_empty() {
+                return;
+            }
+            let (pushed, left) = self.producer.push_partial_slice(rest);
+            if !pushed.is_empty() {
+                self.came.ring();
+                backoff.reset();
+            } else if backoff.is_completed() {
+                self.full.park(wait);
+            } else {
+                backoff.snooze();
+            }
+            rest = left;
+        }
+        unreachable!()
+    }
+
+    /// Pushes bytes, in slices of at most as many as `items` has room for.
+    fn push_bytes<W: Wait>(&mut self, wait: &W, bytes: &[u8], items: &mut [u16])
+        requires { 0 < length items.old }
+        ensures ring { SameProducer self.old.producer self.new.producer }
+        ensures sent { sent self.new.producer ≡ sent self.old.producer ++ bytes.now }
+        ensures small { All (λ b. b < 256) bytes.now }
+        ensures room { length items.new ≡ length items.old }
+    {
+        let mut rest = bytes;
+        for _ in wait.forever() {
+            if rest.is_empty() {
+                return;
+            }
+            let count = rest.len().min(items.len());
+            let (front, back) = rest.split_at(count);
+            widen(front, &mut items[..count]);
+            self.push_all(wait, &items[..count]);
+            rest = back;
+        }
+        unreachable!()
+    }
+
+    /// Reads a source to its end or until it fails, and sends what was read and then one mark. The answer is the end that it came
+    /// to. `piece` is what a read fills, `items` what is pushed at once.
+    pub fn send_all<W: Wait, R: Source>(
+        &mut self,
+        wait: &W,
+        reader: &mut R,
+        piece: &mut [u8],
+        items: &mut [u16],
+    ) -> StreamEnd
+        requires running { R.has_failed reader.old ≡ false }
+        requires fresh { sent self.old.producer ≡ [] }
+        requires room { (0 < length piece.old) × (0 < length items.old) }
+        ensures ring { SameProducer self.old.producer self.new.producer }
+        ensures ends { EndsSo result (R.left reader.new) (R.has_failed reader.new) }
+        ensures sent { SendsAll _ (source_view R.left R.has_failed R.reads) reader.old reader.new
+            (sent self.new.producer) }
+    {
+        for _ in wait.forever() {
+            match reader.read(piece) {
+                Ok(0) => {
+                    self.push_all(wait, &[END]);
+                    return StreamEnd::Ended;
+                }
+                Ok(count) => self.push_bytes(wait, &piece[..count], items),
+                Err(_) => {
+                    self.push_all(wait, &[FAILURE]);
+                    return StreamEnd::Failed;
+                }
+            }
+        }
+        unreachable!()
+    }
+}
+
+impl Receiver {
+    /// The consumer alone. The other end is woken once more.
+    pub fn into_consumer(self) -> Consumer<u16>
+        ensures { result ≡ self.consumer }
+    {
+        let Receiver { consumer, .. } = self;
+        consumer
+    }
+
+    /// Pops at least one item, and sleeps while there is none. 0 where the other end is gone.
+    fn pop_some<W: Wait>(&mut self, wait: &W, items: &mut [u16]) -> usize
+        requires { 0 < length items.old }
+        ensures ring { SameConsumer self.old.consumer self.new.consumer }
+        ensures room { (result ≤ length items.new) × (length items.new ≡ length items.old) }
+        ensures received { received self.new.consumer
+            ≡ received self.old.consumer ++ take result items.new }
+    {
+        let backoff = Backoff::new();
+        let mut gone = false;
+        for _ in wait.forever() {
+            let count = self.consumer.pop_partial_slice(items);
+            if count > 0 {
+                self.room.ring();
+                return count;
+            }
+            if gone {
+                return 0;
+            }
+            gone = self.consumer.is_abandoned();
+            if gone {
+                continue;
+            }
+            if backoff.is_completed() {
+                self.empty.park(wait);
+            } else {
+                backoff.snooze();
+            }
+        }
+        unreachable!()
+    }
+
+    /// Receives what there is, and sleeps while there is nothing. The bytes are the first ones of `bytes`; `items` is what is
+    /// popped at once.
+    pub fn receive<W: Wait>(&mut self, wait: &W, items: &mut [u16], bytes: &mut [u8]) -> Received
+        requires some { 0 < length items.old }
+        requires room { length items.old ≡ length bytes.old }
+        ensures ring { SameConsumer self.old.consumer self.new.consumer }
+        ensures items { length items.new ≡ length items.old }
+        ensures room { length bytes.new ≡ length bytes.old }
+        ensures bytes { (count : ℕ) → result ≡ Received.Bytes count →
+            (count ≤ length bytes.new) × (map byte_of (received self.new.consumer)
+            ≡ map byte_of (received self.old.consumer) ++ take count bytes.new) }
+        ensures mark { (count : ℕ) (end : StreamEnd) → result ≡ Received.Mark count end →
+            (count ≤ length bytes.new) × EndsAtMark
+            (map byte_of (received self.old.consumer) ++ take count bytes.new)
+            end (received self.new.consumer) }
+    {
+        let count = self.pop_some(wait, items);
+        if count == 0 {
+            return Received::Gone;
+        }
+        let last = items[count - 1];
+        narrow(&items[..count], &mut bytes[..count]);
+        if last < END {
+            return Received::Bytes(count);
+        }
+        Received::Mark(count - 1, end_of(last))
+    }
+}
+
+/// The end that a mark stands for.
+fn end_of(mark: u16) -> StreamEnd
+    ensures { result ≡ end_told mark }
+{
+    if mark == FAILURE {
+        StreamEnd::Failed
+    } else {
+        StreamEnd::Ended
+    }
+}
+
+/// Both ends in one thread again, after what was received ended at a mark: the bytes and the mark are those that were sent.
+pub fn came_through(producer: &mut Producer<u16>, consumer: &mut Consumer<u16>)
+    requires { IsPair producer.old consumer.old }
+    ensures { (bytes came : List ℕ) (sent_end end : StreamEnd)
+        → IsSentOf bytes sent_end (sent producer.old)
+        → EndsAtMark came end (received consumer.old)
+        → (came ≡ bytes) × (end ≡ sent_end) }
+{
+    consumer.slots_beside(producer);
+}
